@@ -1,0 +1,3 @@
+//! soon
+#![tactic(auto)]
+fn main() {}

@@ -1,0 +1,12 @@
+// Why a get finds nothing.
+
+/// The cause of a miss.
+#[derive(Clone, Copy, Debug, PartialEq, Eq)]
+pub enum MissCause {
+    /// No tier has the key.
+    Absent,
+    /// The device failed while the key was looked up.
+    Fault,
+    /// A page read back was not the page that was expected there.
+    Damaged,
+}

@@ -1,0 +1,16 @@
+//! Recorded calls, their history, and the certificate that spells an order of them.
+#![tactic(auto)]
+
+mod act;
+mod act_ref;
+mod call;
+mod call_ref;
+mod certificate;
+mod history;
+
+pub use act::Act;
+pub use act_ref::ActRef;
+pub use call::Call;
+pub use call_ref::CallRef;
+pub use certificate::Certificate;
+pub use history::History;
