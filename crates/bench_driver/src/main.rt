@@ -1,3 +1,67 @@
-//! soon
+//! The program: scripts of a cache, answered and judged.
 #![tactic(auto)]
-fn main() {}
+
+mod command;
+mod config_line;
+mod line_read;
+mod lines;
+mod recording;
+mod replies;
+mod script;
+mod script_fault;
+mod script_lane;
+mod scripted;
+mod turn;
+mod words;
+
+use script::run_script;
+use script_fault::ScriptFault;
+use scripted::Scripted;
+use std::io::{BufWriter, Write};
+use std::process::ExitCode;
+use std::rt::Env;
+use std::{env, io};
+
+#[cfg(test)]
+mod tests;
+
+/// The page size of the program, in bytes.
+const PAGE: usize = 4096;
+
+fn main(rt: HostRuntime) -> ExitCode {
+    if !asks_for_script(&rt) {
+        return ExitCode::from(2);
+    }
+    match script_of_input(&rt) {
+        Ok(Scripted::Ended) => ExitCode::from(0),
+        Ok(Scripted::BadLine | Scripted::BadConfig) => ExitCode::from(2),
+        Err(fault) => {
+            let _ = eprintln!(rt; "{fault}");
+            ExitCode::from(3)
+        }
+    }
+}
+
+/// Whether the program's words are the one word `script`.
+fn asks_for_script(rt: &(impl Env + AllocGlobal)) -> bool {
+    let Ok(mut words) = env::args(rt) else {
+        return false;
+    };
+    let _program = words.next();
+    match words.next() {
+        Some(word) => word.as_str() == "script" && words.next().is_none(),
+        None => false,
+    }
+}
+
+/// Runs the script of standard input, and writes its replies to standard output.
+fn script_of_input(rt: &(impl Input + Print + AllocGlobal)) -> Result<Scripted, ScriptFault> {
+    let Ok(mut writer) = BufWriter::new(rt.alloc(), io::writer(rt)) else {
+        return Err(ScriptFault::OutOfMemory);
+    };
+    let scripted = run_script::<PAGE, _, _>(rt.alloc(), &mut rt.reader(), &mut writer);
+    match writer.flush() {
+        Ok(()) => scripted,
+        Err(_) => Err(ScriptFault::WriteFault),
+    }
+}

@@ -1,0 +1,10 @@
+pub mod Deeds
+pub mod Latest
+pub mod Current
+pub mod Orders
+pub mod Acceptance
+pub mod Faults
+pub mod Values
+pub mod Laws
+pub mod FaultText
+pub mod VerdictLine

@@ -1,2 +1,23 @@
-//! soon
+//! The checker of recorded histories: whether an order that a certificate spells makes every hit true.
+//!
+//! A history is linearized (Herlihy and Wing 1990) by an order of its calls that agrees with their
+//! recorded times. Such an order is lawful for a cache, which may forget but never invent, where each
+//! hit reads its key's latest put that was not since removed.
 #![tactic(auto)]
+
+mod acceptance;
+mod fault;
+mod laws;
+mod places;
+mod values;
+mod verdict;
+mod verdict_line;
+
+pub use acceptance::check;
+pub use fault::Fault;
+pub use laws::{latest_is_current, lawful_grows};
+pub use verdict::Verdict;
+pub use verdict_line::verdict_line_of;
+
+#[cfg(test)]
+mod tests;

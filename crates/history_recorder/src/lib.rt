@@ -1,2 +1,23 @@
-//! soon
+//! A lane of the cache whose calls are recorded as they are answered.
 #![tactic(auto)]
+
+mod got;
+mod lane;
+mod noted;
+mod open_fault;
+mod pair;
+mod pairs;
+mod record_fault;
+mod record_put_fault;
+mod stored;
+
+pub use got::Got;
+pub use lane::{MAX_CALLS, RecordedLane};
+pub use noted::Noted;
+pub use open_fault::OpenFault;
+pub use record_fault::RecordFault;
+pub use record_put_fault::RecordPutFault;
+pub use stored::Stored;
+
+#[cfg(test)]
+mod tests;

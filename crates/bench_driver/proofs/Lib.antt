@@ -1,0 +1,4 @@
+pub mod Numerals
+pub mod LineSoFar
+pub mod OwnHistory
+pub mod Session

@@ -1,0 +1,29 @@
+-- The words and numbers of a script's lines.
+use Rattle.std.specs.Prelude.{ℕ, ◌+◌, ◌-◌, ◌*◌, ◌^◌, Bool, ◌&&◌, ◌||◌, not, List, [], ◌∷◌, length, fold, slice_index, nat_lt, nat_le, ◌==◌, if◌then◌else◌, Option, Some, None}
+use Rattle.std.specs.List.{slice_split, list_all}
+
+-- one or more bytes from 33 to 126
+abbrev pub is_word : List ℕ → Bool
+is_word bytes = not (length bytes == 0) && list_all (λ b. nat_le 33 b && nat_le b 126) bytes
+
+-- decimal digits and nothing else
+abbrev pub are_digits : List ℕ → Bool
+are_digits bytes = list_all (λ b. nat_le 48 b && nat_le b 57) bytes
+
+-- the words of a line, which one space each parts; none where a part is no word
+abbrev pub words_of : List ℕ → Option (List (List ℕ))
+words_of line =
+    let parts = slice_split (λ b. b == 32) line in
+    if list_all is_word parts then Some parts else None
+
+-- decimal digits without a leading zero, or 0 itself
+abbrev pub is_numeral : List ℕ → Bool
+is_numeral word = are_digits word && not (length word == 0) && (not (slice_index word 0 == 48) || (length word == 1))
+
+-- what digits write
+abbrev pub value_of : List ℕ → ℕ
+value_of digits = fold (λ n digit. 10 * n + (digit - 48)) 0 digits
+
+-- the number below 2 ^ 32 that the word writes; none where it writes none
+abbrev pub number_of : List ℕ → Option ℕ
+number_of word = if is_numeral word && nat_lt (value_of word) (2 ^ 32) then Some (value_of word) else None

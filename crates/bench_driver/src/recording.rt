@@ -1,0 +1,9 @@
+// A script's calls as a history with its certificate.
+use trace_file::{Certificate, History};
+
+/// A history and the certificate of its order.
+#[derive(Debug, Drop)]
+pub struct Recording {
+    pub history: History,
+    pub certificate: Certificate,
+}

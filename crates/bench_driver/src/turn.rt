@@ -1,0 +1,9 @@
+// Whether a script goes on behind a line.
+use crate::scripted::Scripted;
+
+/// Whether a script goes on behind a line.
+#[derive(Clone, Copy, Debug, PartialEq, Eq)]
+pub enum Turn {
+    GoesOn,
+    Ends(Scripted),
+}

@@ -1,0 +1,6 @@
+-- The two lemmas on the fold.
+use Rattle.certificate_checker.proofs.LatestLemmas.{latest_found, latest_is}
+use Rattle.certificate_checker.proofs.laws.latest_is_current.Goals as goal
+
+pub returns : goal.returns
+returns c = λ deeds key value. (latest_found key value deeds, latest_is key value deeds)

@@ -1,0 +1,48 @@
+// The check of a history and its certificate.
+ghost use Rattle.std.specs.Prelude.{◌≡◌, ◌↔◌, IfOk};
+ghost use Rattle.certificate_checker.specs.Acceptance.{IsAccepted};
+ghost use Rattle.certificate_checker.specs.Faults.{IsFirstFault, IsFirstOrNone};
+
+use crate::fault::Fault;
+use crate::places::{bad_interval, first_fault_of_places};
+use crate::verdict::Verdict;
+use std::alloc::{AllocError, Global};
+use trace_file::{Certificate, History};
+
+/// Accepts exactly the pairs whose certificate spells an agreeing, lawful order of the history, and
+/// answers the first fault of any other pair.
+///
+/// It makes one pass, in time and memory linear in the number of calls, and copies no key and no value.
+/// `AllocError` comes where memory was refused.
+pub fn check(
+    alloc: Global,
+    history: &History,
+    certificate: &Certificate,
+) -> Result<Verdict, AllocError>
+    ensures accepted { IfOk result (λ v.
+        (v ≡ Verdict.Accepted) ↔ IsAccepted history.now certificate.now) }
+    ensures rejected { IfOk result (λ v. (fault : Fault) →
+        v ≡ Verdict.Rejected fault → IsFirstFault history.now certificate.now fault) }
+{
+    Ok(match first_fault(alloc, history, certificate)? {
+        None => Verdict::Accepted,
+        Some(fault) => Verdict::Rejected(fault),
+    })
+}
+
+/// The first fault, if there is one.
+fn first_fault(
+    alloc: Global,
+    history: &History,
+    certificate: &Certificate,
+) -> Result<Option<Fault>, AllocError>
+    ensures { IfOk result (λ found. IsFirstOrNone history.now certificate.now found) }
+{
+    if let Some(position) = bad_interval(history) {
+        return Ok(Some(Fault::BadInterval { position }));
+    }
+    if certificate.len() != history.len() {
+        return Ok(Some(Fault::WrongCount));
+    }
+    first_fault_of_places(alloc, history, certificate)
+}

@@ -1,0 +1,55 @@
+// The one pass over the places of a certificate.
+ghost use Rattle.std.specs.Prelude.{◌≡◌, ◌<◌, IfOk};
+ghost use Rattle.certificate_checker.specs.Faults.{IsFirstBadInterval, IsFirstOfPlaces};
+
+use crate::fault::Fault;
+use crate::values::{allows, note};
+use std::alloc::{AllocError, Global};
+use std::collections::HashMap;
+use trace_file::{Certificate, History};
+
+/// The position of the first call that ends before it starts.
+pub(crate) fn bad_interval(history: &History) -> Option<usize>
+    ensures { IsFirstBadInterval history.now result }
+{
+    for position in 0..history.len() {
+        let call = history.at(position);
+        if call.end < call.start {
+            return Some(position);
+        }
+    }
+    None
+}
+
+/// The first fault of the places in order.
+pub(crate) fn first_fault_of_places(
+    alloc: Global,
+    history: &History,
+    certificate: &Certificate,
+) -> Result<Option<Fault>, AllocError>
+    ensures { IfOk result (λ found. IsFirstOfPlaces history.now certificate.now found) }
+{
+    let mut seen = vec![in alloc; false; history.len()]?;
+    let mut greatest_start = 0;
+    let mut values: HashMap<&[u8], &[u8]> = HashMap::new(alloc);
+    for place in 0..certificate.len() {
+        let position = certificate.at(place) as usize;
+        if position >= history.len() {
+            return Ok(Some(Fault::NotAPlace { place }));
+        }
+        if seen[position] {
+            return Ok(Some(Fault::Repeated { place }));
+        }
+        seen[position] = true;
+        let call = history.at(position);
+        if call.end < greatest_start {
+            return Ok(Some(Fault::OutOfOrder { place }));
+        }
+        greatest_start = greatest_start.max(call.start);
+        if !allows(&values, call) {
+            return Ok(Some(Fault::WrongHit { place }));
+        }
+        note(&mut values, call)?;
+    }
+    Ok(None)
+}

@@ -1,0 +1,44 @@
+// The latest values of all keys, as one pass over the calls knows them.
+ghost use Rattle.std.specs.Prelude.{◌≡◌, ◌↔◌, IsTrue, Some, OnOk, List, ℕ};
+ghost use Rattle.trace_file.specs.Lent.{call_shown};
+ghost use Rattle.certificate_checker.specs.Deeds.{deed_of};
+ghost use Rattle.certificate_checker.specs.Current.{after_deed};
+ghost use Rattle.certificate_checker.specs.Values.{value_at, IsAllowed};
+
+use std::alloc::AllocError;
+use std::collections::HashMap;
+use trace_file::{ActRef, CallRef};
+
+/// Notes in the map what a call writes.
+pub(crate) fn note<'a>(
+    values: &mut HashMap<&'a [u8], &'a [u8]>,
+    call: CallRef<'a>,
+) -> Result<(), AllocError>
+    ensures { OnOk result ((key : List ℕ) → value_at values.new key
+        ≡ after_deed key (value_at values.old key) (deed_of (call_shown call.entry))) }
+{
+    match call.act {
+        ActRef::Put(value) => {
+            values.insert(call.key, value)?;
+        }
+        ActRef::Remove => {
+            values.remove(call.key);
+        }
+        ActRef::Hit(_) | ActRef::Miss => {}
+    }
+    Ok(())
+}
+
+/// Whether a call, where it is a hit, has the value that the map has for its key.
+pub(crate) fn allows<'a>(values: &HashMap<&'a [u8], &'a [u8]>, call: CallRef<'a>) -> bool
+    ensures { IsTrue result
+        ↔ IsAllowed (value_at values.now call.entry.key.now) (call_shown call.entry).act }
+{
+    match call.act {
+        ActRef::Hit(value) => match values.get(call.key) {
+            Some(found) => *found == value,
+            None => false,
+        },
+        ActRef::Put(_) | ActRef::Remove | ActRef::Miss => true,
+    }
+}

@@ -1,0 +1,34 @@
+// The line that tells a verdict.
+ghost use Rattle.std.specs.Prelude.{◌≡◌, IfOk, string_bytes};
+ghost use Rattle.certificate_checker.specs.VerdictLine.{verdict_line, TellsVerdict};
+
+use crate::acceptance::check;
+use crate::verdict::Verdict;
+use std::alloc::{AllocError, Global};
+use trace_file::{Certificate, History};
+
+/// The line that tells the verdict on a history and its certificate, without a line feed:
+/// `accepted N calls`, or `rejected` with the first fault. `AllocError` comes where memory was refused.
+pub fn verdict_line_of(
+    alloc: Global,
+    history: &History,
+    certificate: &Certificate,
+) -> Result<String, AllocError>
+    ensures { IfOk result (λ line. TellsVerdict history.now certificate.now (string_bytes line)) }
+{
+    let verdict = check(alloc, history, certificate)?;
+    match told(alloc, verdict, history.len()) {
+        Ok(line) => Ok(line),
+        Err(refused) => Err(refused),
+    }
+}
+
+/// The line of a verdict on so many calls.
+fn told(alloc: Global, verdict: Verdict, calls: usize) -> Result<String, AllocError>
+    ensures { IfOk result (λ line. string_bytes line ≡ verdict_line verdict calls) }
+{
+    match verdict {
+        Verdict::Accepted => format!(in alloc; "accepted {calls} calls"),
+        Verdict::Rejected(fault) => format!(in alloc; "rejected {fault}"),
+    }
+}

@@ -1,0 +1,239 @@
+// A lane whose calls are recorded.
+ghost use Rattle.std.specs.Prelude.{◌≡◌, ◌↔◌, ◌<◌, ◌≤◌, ◌++◌, ◌∷◌, [], All, length, IfOk, OnOk, OnErr, IsErrOf, IfErr, slice_get, Some, None, MatchResult};
+ghost use Rattle.record_pages.specs.Sizes.{IsPageSize, object_size, room};
+ghost use Rattle.record_pages.specs.Table.{first_faulty};
+
+use crate::got::Got;
+use crate::noted::Noted;
+use crate::open_fault::OpenFault;
+use crate::pair::Pair;
+use crate::pairs::{put_first, raise, value_of};
+use crate::record_fault::RecordFault;
+use crate::record_put_fault::RecordPutFault;
+use crate::stored::Stored;
+use record_pages::{Answer, Config, Key, MissCause, Tier, Value, is_too_large};
+use std::alloc::{AllocError, Global};
+use std::marker::Model;
+use trace_file::Act;
+
+/// The most calls that a lane records.
+pub const MAX_CALLS: usize = 16777216;
+
+/// A lane of the cache, with a record of its calls in the order in which they were done.
+///
+/// Until the tiers below memory are there it keeps its objects in memory alone, serves a configuration
+/// of one lane, and loses what memory pushes out.
+#[derive(Drop)]
+pub struct RecordedLane<const PAGE: usize> {
+    capacity: usize,
+    pairs: Vec<Pair>,
+    calls: Vec<Noted>,
+}
+
+impl<const PAGE: usize> Model for RecordedLane<PAGE> {
+    ghost use Rattle.history_recorder.specs.Lane.{Lane, IsRecorded};
+
+    ghost Value = { Lane };
+
+    ghost view = { λ a. record {
+      state = record { capacity = a.capacity; memory = a.pairs.items };
+      calls = a.calls.items;
+    } };
+
+    ghost invariant = { λ a. IsRecorded (record {
+      state = record { capacity = a.capacity; memory = a.pairs.items };
+      calls = a.calls.items;
+    }) };
+}
+
+impl<const PAGE: usize> RecordedLane<PAGE> {
+    ghost use Rattle.history_recorder.specs.LaneState.{opening, get_step, put_step};
+    ghost use Rattle.history_recorder.specs.Lane.{IsRecorded, act_of, last_point};
+
+    /// An empty lane of this configuration, which has one lane.
+    pub fn open(alloc: Global, config: &Config, lane: u32) -> Result<RecordedLane<PAGE>, OpenFault>
+        requires one { config.now.lanes ≡ 1 }
+        requires lane { lane < config.now.lanes }
+        ensures ok { IfOk result (λ opened. opened ≡ record { state = opening config.now; calls = [] }) }
+        ensures serves { OnOk result (IsPageSize PAGE × (first_faulty config.now ≡ None)) }
+        ensures config { IfErr result (λ fault. (field : Field) →
+            fault ≡ OpenFault.ConfigFault field → first_faulty config.now ≡ Some field) }
+        ensures page { IsErrOf result OpenFault.WrongPage
+            ↔ ((first_faulty config.now ≡ None) × (IsPageSize PAGE → ⊥)) }
+    {
+        let layout = config.check()?;
+        if PAGE < 256 || PAGE > 4096 {
+            return Err(OpenFault::WrongPage);
+        }
+        Ok(RecordedLane {
+            capacity: layout.memory as usize,
+            pairs: Vec::new(alloc),
+            calls: Vec::new(alloc),
+        })
+    }
+
+    /// How many calls were recorded.
+    pub fn len(&self) -> usize
+        ensures count { result ≡ length self.now.calls }
+        ensures recorded { IsRecorded self.now }
+    {
+        self.calls.len()
+    }
+
+    /// Whether no call was recorded.
+    pub fn is_empty(&self) -> bool
+        ensures { IsTrue result ↔ (self.now.calls ≡ []) }
+    {
+        self.calls.is_empty()
+    }
+
+    /// The call that was recorded at a position, counted from 0.
+    pub fn at(&self, position: usize) -> &Noted
+        requires { position < length self.now.calls }
+        ensures { slice_get self.now.calls position ≡ Some result.now }
+    {
+        &self.calls[position]
+    }
+
+    /// The point of the last call, or 0 before the first.
+    pub fn last_point(&self) -> u64
+        ensures value { result ≡ last_point self.now.calls }
+        ensures greatest { All (λ n. n.point ≤ result) self.now.calls }
+    {
+        match self.calls.last() {
+            Some(noted) => noted.point,
+            None => 0,
+        }
+    }
+
+    /// Answers a get and records it. A value found in memory comes to the front.
+    ///
+    /// A refused get leaves the lane as it was: `HistoryFull` at `MAX_CALLS` calls, else `OutOfMemory`.
+    pub fn get(
+        &mut self,
+        caller: u16,
+        start: u64,
+        point: u64,
+        key: &Key,
+    ) -> Result<Got, RecordFault>
+        requires start { start < point }
+        requires rises { All (λ n. n.point < point) self.old.calls }
+        ensures answer { IfOk result (λ got.
+            got.answer ≡ (get_step key.now self.old.state).reply) }
+        ensures noted { IfOk result (λ got. got.noted ≡ record {
+          caller = caller;
+          start = start;
+          point = point;
+          key = key.now;
+          act = act_of got.answer;
+        }) }
+        ensures after { IfOk result (λ got. self.new ≡ record {
+          state = (get_step key.now self.old.state).state;
+          calls = self.old.calls ++ got.noted ∷ [];
+        }) }
+        ensures full { IsErrOf result RecordFault.HistoryFull ↔ (16777216 ≤ length self.old.calls) }
+        ensures err { OnErr result (self.new ≡ self.old) }
+    {
+        if self.calls.len() >= MAX_CALLS {
+            return Err(RecordFault::HistoryFull);
+        }
+        self.calls.reserve(1)?;
+        let answer = answer_from(value_of(&self.pairs, key))?;
+        let noted = Noted {
+            caller,
+            start,
+            point,
+            key: key.try_clone()?,
+            act: act_from(&answer)?,
+        };
+        let copy = noted.try_clone()?;
+        raise(&mut self.pairs, key);
+        self.calls.push(noted).unwrap();
+        Ok(Got {
+            answer,
+            noted: copy,
+        })
+    }
+
+    /// Puts a value and records it. The admission word is not read until there is a tier below memory.
+    ///
+    /// A refused put leaves the lane as it was, so an older value of the key stays: `TooLarge` where the
+    /// object does not fit on a page, else `HistoryFull` at `MAX_CALLS` calls, else `OutOfMemory`.
+    pub fn put(
+        &mut self,
+        caller: u16,
+        start: u64,
+        point: u64,
+        key: Key,
+        value: Value,
+        word: u32,
+    ) -> Result<Stored, RecordPutFault>
+        requires start { start < point }
+        requires rises { All (λ n. n.point < point) self.old.calls }
+        ensures pushed { IfOk result (λ stored. stored.pushed
+            ≡ (put_step (record { key = key; value = value }) word self.old.state).reply) }
+        ensures noted { IfOk result (λ stored. stored.noted ≡ record {
+          caller = caller;
+          start = start;
+          point = point;
+          key = key;
+          act = Act.Put value;
+        }) }
+        ensures after { IfOk result (λ stored. self.new ≡ record {
+          state = (put_step (record { key = key; value = value }) word self.old.state).state;
+          calls = self.old.calls ++ stored.noted ∷ [];
+        }) }
+        ensures large { IsErrOf result RecordPutFault.TooLarge ↔ (room PAGE < object_size key value) }
+        ensures full { IsErrOf result RecordPutFault.HistoryFull
+            ↔ ((object_size key value ≤ room PAGE) × (16777216 ≤ length self.old.calls)) }
+        ensures err { OnErr result (self.new ≡ self.old) }
+    {
+        let _unread = word;
+        if is_too_large::<PAGE>(&key, &value) {
+            return Err(RecordPutFault::TooLarge);
+        }
+        if self.calls.len() >= MAX_CALLS {
+            return Err(RecordPutFault::HistoryFull);
+        }
+        self.calls.reserve(1)?;
+        let noted = Noted {
+            caller,
+            start,
+            point,
+            key: key.try_clone()?,
+            act: Act::Put(value.try_clone()?),
+        };
+        let copy = noted.try_clone()?;
+        let pushed = put_first(&mut self.pairs, self.capacity, Pair { key, value })?;
+        self.calls.push(noted).unwrap();
+        Ok(Stored {
+            pushed,
+            noted: copy,
+        })
+    }
+}
+
+ghost use Rattle.std.specs.Prelude.{option_map, IsTrue};
+ghost use Rattle.record_pages.specs.declared.field.Field.{Field};
+ghost use Rattle.history_recorder.specs.LaneState.{answer_by};
+ghost use Rattle.history_recorder.specs.Lane.{act_of};
+
+/// The answer by what memory has of the key.
+fn answer_from(found: Option<&Value>) -> Result<Answer, AllocError>
+    ensures { IfOk result (λ answer. answer ≡ answer_by (option_map (λ v. v.now) found.entry)) }
+{
+    match found {
+        Some(value) => Ok(Answer::Hit(value.try_clone()?, Tier::Memory)),
+        None => Ok(Answer::Miss(MissCause::Absent)),
+    }
+}
+
+/// What is recorded of an answer.
+fn act_from(answer: &Answer) -> Result<Act, AllocError>
+    ensures { IfOk result (λ act. act ≡ act_of answer.now) }
+{
+    match answer {
+        Answer::Hit(value, _) => Ok(Act::Hit(value.try_clone()?)),
+        Answer::Miss(_) => Ok(Act::Miss),
+    }
+}

@@ -1,0 +1,25 @@
+// Why a recorded call is refused.
+ghost use Rattle.std.specs.Prelude.{◌≡◌};
+ghost use Rattle.history_recorder.specs.declared.record_fault.RecordFault.TheVariants.{OutOfMemory};
+
+use std::alloc::AllocError;
+use thiserror::Error;
+
+/// Why a call was refused. It is in no history, and the lane is as it was.
+#[derive(Clone, Copy, Debug, PartialEq, Eq, Error)]
+pub enum RecordFault {
+    /// The lane has recorded `MAX_CALLS` calls.
+    #[error("the history is full")]
+    HistoryFull,
+    /// Memory was refused.
+    #[error("out of memory")]
+    OutOfMemory,
+}
+
+impl From<AllocError> for RecordFault {
+    ghost from_gives = { λ _ e. e ≡ OutOfMemory };
+
+    fn from(_fault: AllocError) -> RecordFault {
+        RecordFault::OutOfMemory
+    }
+}
