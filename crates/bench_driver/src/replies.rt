@@ -123,7 +123,8 @@ fn verdict_reply<const PAGE: usize>(
     let recording = lane.recording(alloc)?;
     let line = verdict_line_of(alloc, &recording.history, &recording.certificate)?;
     append(text, line.as_bytes())?;
-    append(text, b"\n")
+    text.push(b'\n')?;
+    Ok(())
 }
 
 /// Answers a command: it changes the lane, and appends the reply to the text.

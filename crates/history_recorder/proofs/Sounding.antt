@@ -75,9 +75,9 @@ module _ (lane : Lane) (recorded : IsRecorded lane) (n : Noted) (start : n.start
       let differ = filter_passes (λ (p : Pair). not (bytes_eq p.key pair.key)) lane.state.memory in
       let old = All-filter (λ (p : Pair). not (bytes_eq p.key pair.key)) (IsCurrent deeds) lane.state.memory recorded.sound in
       let others : All (IsCurrent (deeds ++ deed_noted n ∷ [])) (without pair.key lane.state.memory) = λ k d within.
-          let p = get_or (without pair.key lane.state.memory) k d in
-          let other = differ k d within in
-          stays deeds (deed_noted n) p (λ same w. let is : bytes_eq p.key pair.key ≡ true = (bytes_decides p.key pair.key).1 (sym same ∙ at) in let both : not true ≡ true = ap not (sym is) ∙ other in cc) (old k d within) in
+      let p = get_or (without pair.key lane.state.memory) k d in
+      let other = differ k d within in
+      stays deeds (deed_noted n) p (λ same w. let is : bytes_eq p.key pair.key ≡ true = (bytes_decides p.key pair.key).1 (sym same ∙ at) in let both : not true ≡ true = ap not (sym is) ∙ other in cc) (old k d within) in
       recorded_with (with_first lane.state.capacity pair lane.state.memory) (All-take (IsCurrent (deeds ++ deed_noted n ∷ [])) lane.state.capacity (entered pair lane.state.memory) (All-cons (IsCurrent (deeds ++ deed_noted n ∷ [])) pair (without pair.key lane.state.memory) first others)) (λ value hit. let both : Put pair.value ≡ Hit value = sym put ∙ hit in cc)
 
   -- the pair that memory has of a key
