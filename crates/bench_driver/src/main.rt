@@ -29,10 +29,16 @@ mod tests;
 const PAGE: usize = 4096;
 
 fn main(rt: HostRuntime) -> ExitCode {
-    if !asks_for_script(&rt) {
-        return ExitCode::from(2);
+    match asks_for_script(&rt) {
+        Ok(true) => ended(&rt, script_of_input(&rt)),
+        Ok(false) => ExitCode::from(2),
+        Err(_) => ended(&rt, Err(ScriptFault::OutOfMemory)),
     }
-    match script_of_input(&rt) {
+}
+
+/// The exit status of a script. A fault is told on standard error.
+fn ended(rt: &impl Eprint, scripted: Result<Scripted, ScriptFault>) -> ExitCode {
+    match scripted {
         Ok(Scripted::Ended) => ExitCode::from(0),
         Ok(Scripted::BadLine | Scripted::BadConfig) => ExitCode::from(2),
         Err(fault) => {
@@ -42,15 +48,13 @@ fn main(rt: HostRuntime) -> ExitCode {
     }
 }
 
-/// Whether the program's words are the one word `script`.
-fn asks_for_script(rt: &(impl Env + AllocGlobal)) -> bool {
-    let Ok(mut words) = env::args(rt) else {
-        return false;
-    };
+/// Whether the program's words are the one word `script`. Reading them may find no memory.
+fn asks_for_script(rt: &(impl Env + AllocGlobal)) -> io::Result<bool> {
+    let mut words = env::args(rt)?;
     let _program = words.next();
     match words.next() {
-        Some(word) => word.as_str() == "script" && words.next().is_none(),
-        None => false,
+        Some(word) => Ok(word.as_str() == "script" && words.next().is_none()),
+        None => Ok(false),
     }
 }
 
