@@ -1,6 +1,6 @@
 -- What is read of a page is spelled so, and what is spelled so is read.
-use Rattle.std.proofs.Common.{◌≡◌, ℕ, ◌+◌, ◌-◌, ◌^◌, ◌<◌, ◌≤◌, Bool, true, false, cond, eqb, ltb, List, [], ◌++◌, length, replicate, Option, Some, None, refl, sym, ap, subst, ◌∙◌, append_assoc, arith, lit<}
-use Rattle.std.specs.Prelude.{IfSome, All}
+use Rattle.std.proofs.Common.{◌≡◌, ℕ, ◌+◌, ◌-◌, ◌^◌, ◌≤◌, Bool, true, false, cond, eqb, ltb, List, ◌++◌, length, replicate, Option, Some, None, refl, sym, ap, subst, ◌∙◌, append_assoc, arith, lit<}
+use Rattle.std.specs.Prelude.{All}
 use Rattle.std.specs.Int.{w16, w32, w64, to_be_bytes}
 use Rattle.std.proofs.lemmas.Bool.{eqb-true, ltb-false, le-ltb}
 use Rattle.std.proofs.lemmas.List.{length-append}
@@ -8,7 +8,7 @@ use Rattle.std.proofs.lemmas.List.Elements.{All-from_recursion, recursion_from_A
 use Rattle.record_pages.specs.Recs.{Rec, IsRecord, sizes}
 use Rattle.record_pages.specs.PageText.{records_text, body_text, padded_to, set_head, log_head, set_page_text, log_page_text, SetPageParts, LogPageParts, IsSetPage, IsLogPage, SpellsSetPage, SpellsLogPage, SetPageTextsDiffer, LogPageTextsDiffer}
 use Rattle.record_pages.specs.Reading.{◌>>=◌, number_at, records_at, body_at, all_zero, set_page_at, log_page_at}
-use Rattle.record_pages.proofs.FrontLaws.{IsBytes, bind_some, guard_some, guard_some-then, some_is, Takes, Takes-then, wide16, wide32, wide64, number_takes, number_again, zeros_from, zeros_are}
+use Rattle.record_pages.proofs.FrontLaws.{IsBytes, bind_some, guard_some-then, some_is, Takes, Takes-then, wide16, wide32, wide64, number_takes, number_again, zeros_from, zeros_are}
 use Rattle.record_pages.proofs.RecordLaws.{records_take, records_again, length-records_text}
 
 -- ---- behind the head

@@ -1,15 +1,15 @@
 -- The records that are read are the records that were spelled, and what was spelled is read again.
-use Rattle.std.proofs.Common.{◌≡◌, ℕ, zero, suc, ◌+◌, ◌-◌, ◌^◌, ◌<◌, ◌≤◌, true, false, cond, eqb, ltb, List, [], ◌∷◌, ◌++◌, length, take, drop, replicate, Option, Some, None, refl, sym, ap, subst, ◌∙◌, append_assoc, arith, lit<}
-use Rattle.std.specs.Prelude.{◌||◌, ◌&&◌, IfSome, is_some}
+use Rattle.std.proofs.Common.{◌≡◌, ℕ, zero, suc, ◌+◌, ◌^◌, ◌<◌, ◌≤◌, true, false, cond, eqb, ltb, List, [], ◌∷◌, ◌++◌, length, take, drop, Option, Some, None, refl, sym, ap, subst, ◌∙◌, append_assoc, arith}
+use Rattle.std.specs.Prelude.{◌||◌, is_some}
 use Rattle.std.specs.Option.{option_map_or}
 use Rattle.std.proofs.lemmas.List.Sums.{sum_by-cons}
 use Rattle.std.specs.List.{AllByRecursion}
 use Rattle.std.specs.Int.{w16, to_be_bytes}
-use Rattle.std.proofs.lemmas.Bool.{eqb-true, eqb-false, ltb-false, ltb-true, or_parts, or_from, ne_eqb, le-ltb, lt-ltb, and_parts}
+use Rattle.std.proofs.lemmas.Bool.{eqb-false, ltb-false, or_parts, or_from, ne_eqb, le-ltb}
 use Rattle.std.proofs.lemmas.List.{take_at, drop_at, take-append-drop, length-append, length-take, length-drop}
 use Rattle.record_pages.specs.Recs.{Rec, rec, IsRecord, size, sizes}
 use Rattle.record_pages.specs.PageText.{record_text, records_text}
-use Rattle.record_pages.specs.Reading.{◌>>=◌, number_at, byte_at, is_bad, record_at, records_at, records_of, all_zero}
+use Rattle.record_pages.specs.Reading.{◌>>=◌, number_at, byte_at, is_bad, record_at, records_at, records_of}
 use Rattle.record_pages.proofs.FrontLaws.{IsBytes, IsBytes-drop, bind_some, guard_some, some_is, Takes, Takes-then, wide16, number_takes, number_again, byte_takes}
 
 -- the tests of a record that does not pass the end

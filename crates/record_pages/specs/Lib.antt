@@ -8,3 +8,4 @@ pub mod Lent
 pub mod PageText
 pub mod Reading
 pub mod Walking
+pub mod Making

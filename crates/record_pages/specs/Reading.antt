@@ -1,5 +1,5 @@
 -- A page read from left to right, field by field.
-use Rattle.std.specs.Prelude.{ℕ, zero, suc, List, [], ◌∷◌, length, take, drop, ◌+◌, Option, Some, None, option_and_then, nat_lt, ◌==◌, ◌||◌, if◌then◌else◌, Bool, not}
+use Rattle.std.specs.Prelude.{ℕ, zero, suc, List, [], ◌∷◌, length, take, drop, ◌+◌, Option, Some, None, option_and_then, nat_lt, ◌==◌, ◌||◌, if◌then◌else◌, Bool}
 use Rattle.std.specs.List.{list_all}
 use Rattle.std.specs.Option.{option_map_or}
 use Rattle.std.specs.Int.{Width, w16, w32, w64, byte_len, from_be_bytes}

@@ -2,6 +2,7 @@
 ghost use Rattle.std.specs.Prelude.{◌≡◌};
 
 use crate::key::Key;
+use crate::object::RECORD_OVERHEAD;
 use crate::prediction::Prediction;
 use crate::record_ref::RecordRef;
 use crate::value::Value;
@@ -18,8 +19,15 @@ pub struct Record {
 }
 
 impl Record {
-    ghost use Rattle.record_pages.specs.Recs.{IsRecord};
+    ghost use Rattle.record_pages.specs.Recs.{IsRecord, size};
     ghost use Rattle.record_pages.specs.Lent.{record_shown};
+
+    /// How many bytes it takes on a page.
+    pub fn size(&self) -> usize
+        ensures { result ≡ size self.now }
+    {
+        RECORD_OVERHEAD + self.key.bytes().len() + self.value.bytes().len()
+    }
 
     /// The record, lent.
     pub fn lent(&self) -> RecordRef<'_>

@@ -2,6 +2,7 @@
 ghost use Rattle.std.specs.Prelude.{◌≡◌, IfOk};
 
 use crate::key::Key;
+use crate::object::RECORD_OVERHEAD;
 use crate::prediction::Prediction;
 use crate::record::Record;
 use crate::value::Value;
@@ -18,7 +19,7 @@ pub struct RecordRef<'a> {
     pub prediction: u8,
 }
 
-ghost use Rattle.record_pages.specs.Recs.{IsRecord, rec};
+ghost use Rattle.record_pages.specs.Recs.{IsRecord, rec, size};
 ghost use Rattle.record_pages.specs.Lent.{record_shown};
 
 impl<'a> RecordRef<'a> {
@@ -32,6 +33,14 @@ impl<'a> RecordRef<'a> {
             value: value.bytes(),
             prediction: prediction.get(),
         }
+    }
+
+    /// How many bytes it takes on a page.
+    pub fn size(self) -> usize
+        requires { IsRecord (record_shown self) }
+        ensures { result ≡ size (record_shown self.entry) }
+    {
+        RECORD_OVERHEAD + self.key.len() + self.value.len()
     }
 
     /// A copy of the record with bytes of its own, or `AllocError` where memory was refused.
