@@ -9,3 +9,4 @@ pub mod PageText
 pub mod Reading
 pub mod Walking
 pub mod Making
+pub mod Looking

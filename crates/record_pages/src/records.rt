@@ -6,7 +6,9 @@ ghost use Rattle.record_pages.specs.Recs.{Rec, IsRecord};
 ghost use Rattle.record_pages.specs.Lent.{record_shown};
 ghost use Rattle.record_pages.specs.Reading.{record_at, records_at, records_of, body_at};
 ghost use Rattle.record_pages.specs.Walking.{StepsOverRecord};
+ghost use Rattle.record_pages.specs.Looking.{first_with, found_shown};
 
+use crate::found::Found;
 use crate::front::{byte_at, is_zero, u16_at};
 use crate::key::Key;
 use crate::object::MAX_RECORDS;
@@ -49,6 +51,20 @@ impl<'a> Records<'a> {
             }
         }
         self.next()
+    }
+
+    /// The first of the records that has this key, or nothing where none has it.
+    pub fn find_key(mut self, key: &[u8]) -> Option<Found<'a>>
+        ensures value { option_map found_shown result ≡ first_with key.now self.entry }
+        ensures lawful { IfSome result (λ f. IsRecord (record_shown f.lent)) }
+    {
+        for slot in 0..self.len() {
+            let lent = self.next()?;
+            if lent.key == key {
+                return Some(Found { slot, lent });
+            }
+        }
+        None
     }
 
     // The same walk once more.
