@@ -1,16 +1,16 @@
 -- The records that are read are the records that were spelled, and what was spelled is read again.
-use Rattle.std.proofs.Common.{◌≡◌, ℕ, zero, suc, ◌+◌, ◌^◌, ◌<◌, ◌≤◌, true, false, cond, eqb, ltb, List, [], ◌∷◌, ◌++◌, length, take, drop, Option, Some, None, refl, sym, ap, subst, ◌∙◌, append_assoc, arith}
+use Rattle.std.proofs.Common.{◌≡◌, ℕ, zero, suc, ◌+◌, ◌^◌, ◌<◌, ◌≤◌, true, false, cond, eqb, ltb, get_or, Bool, List, [], ◌∷◌, ◌++◌, length, take, drop, Option, Some, None, refl, sym, ap, subst, ◌∙◌, append_assoc, arith}
 use Rattle.std.specs.Prelude.{◌||◌, is_some}
 use Rattle.std.specs.Option.{option_map_or}
 use Rattle.std.proofs.lemmas.List.Sums.{sum_by-cons}
 use Rattle.std.specs.List.{AllByRecursion}
-use Rattle.std.specs.Int.{w16, to_be_bytes}
+use Rattle.std.specs.Int.{w16, to_be_bytes, from_be_bytes}
 use Rattle.std.proofs.lemmas.Bool.{eqb-false, ltb-false, or_parts, or_from, ne_eqb, le-ltb}
 use Rattle.std.proofs.lemmas.List.{take_at, drop_at, take-append-drop, length-append, length-take, length-drop}
 use Rattle.record_pages.specs.Recs.{Rec, rec, IsRecord, size, sizes}
 use Rattle.record_pages.specs.PageText.{record_text, records_text}
 use Rattle.record_pages.specs.Reading.{◌>>=◌, number_at, byte_at, is_bad, record_at, records_at, records_of}
-use Rattle.record_pages.proofs.FrontLaws.{IsBytes, IsBytes-drop, bind_some, guard_some, some_is, Takes, Takes-then, wide16, number_takes, number_again, byte_takes}
+use Rattle.record_pages.proofs.FrontLaws.{IsBytes, IsBytes-drop, IsBytes-take, bind_some, guard_some, some_is, Takes, Takes-then, wide16, number_takes, number_again, byte_takes}
 
 -- the tests of a record that does not pass the end
 pub record IsGood (k v p : ℕ) (rest : List ℕ) : Type 0 where
@@ -122,3 +122,64 @@ unfolding records_text
 length-records_text [] = refl
 length-records_text (r ∷ rs) =
     omega (arith, length-records_text rs, length-append (record_text r) (records_text rs), length-record_text r, sum_by-cons size r rs)
+
+-- ---- a record that is known to be there
+
+-- the lengths and the prediction that four bytes at the front give
+abbrev pub key_len_of : List ℕ → ℕ
+key_len_of bytes = get_or (take 4 bytes) 0 0
+
+abbrev pub value_len_of : List ℕ → ℕ
+value_len_of bytes = from_be_bytes w16 (get_or (take 4 bytes) 1 0 ∷ get_or (take 4 bytes) 2 0 ∷ [])
+
+abbrev pub prediction_of : List ℕ → ℕ
+prediction_of bytes = get_or (take 4 bytes) 3 0
+
+-- what lies at the front where a record is there
+pub record Lies (bytes : List ℕ) : Type 0 where
+  pub long : 4 ≤ length bytes
+  pub good : IsGood (key_len_of bytes) (value_len_of bytes) (prediction_of bytes) (drop 4 bytes)
+  pub is : record_at bytes ≡ Some (body (key_len_of bytes) (value_len_of bytes) (prediction_of bytes) (drop 4 bytes))
+
+guarded : {A : Type 0} (b : Bool) (x : A) → is_some (cond b None (Some x)) ≡ true → b ≡ false
+guarded true x e = absurd cc
+guarded false x e = refl
+
+pub lies : (bytes : List ℕ) → is_some (record_at bytes) ≡ true → Lies bytes
+unfolding record_at
+lies [] e = absurd cc
+lies (k ∷ []) e = absurd cc
+lies (k ∷ h ∷ []) e = absurd cc
+lies (k ∷ h ∷ l ∷ []) e = absurd cc
+lies (k ∷ h ∷ l ∷ p ∷ rest) e =
+    let v = from_be_bytes w16 (h ∷ l ∷ []) in
+    let long : ltb (length (h ∷ l ∷ p ∷ rest)) 2 ≡ false = le-ltb (length (h ∷ l ∷ p ∷ rest)) 2 (omega arith) in
+    let passed : is_some (cond (is_bad k v p rest) None (Some (body k v p rest))) ≡ true = rw long at e in
+    let fine = guarded (is_bad k v p rest) (body k v p rest) passed in
+    record { long = omega arith; good = good_from k v p rest fine; is = rw (long, fine) refl }
+
+-- the parts that are cut from bytes where a record lies
+pub record Cut (bytes front back key after value rest : List ℕ) (v : ℕ) : Type 0 where
+  pub front_is : front ≡ take 4 bytes
+  pub back_is : back ≡ drop 4 bytes
+  pub v_is : v ≡ from_be_bytes w16 (get_or front 1 0 ∷ get_or front 2 0 ∷ [])
+  pub key_is : key ≡ take (get_or front 0 0) back
+  pub after_is : after ≡ drop (get_or front 0 0) back
+  pub value_is : value ≡ take v after
+  pub rest_is : rest ≡ drop v after
+
+pub cut_value : (bytes front back key after value rest : List ℕ) (v : ℕ) → is_some (record_at bytes) ≡ true → Cut bytes front back key after value rest v → record_at bytes ≡ Some (rec key value (get_or front 3 0), rest)
+cut_value bytes front back key after value rest v there c =
+    rw (c.rest_is, c.value_is, c.key_is, c.after_is, c.v_is, c.back_is, c.front_is) (lies bytes there).is
+
+pub cut_lawful : (bytes front back key after value rest : List ℕ) (v : ℕ) → IsBytes bytes → is_some (record_at bytes) ≡ true → Cut bytes front back key after value rest v → IsRecord (rec key value (get_or front 3 0))
+cut_lawful bytes front back key after value rest v fits there c =
+    let good : IsGood (get_or front 0 0) v (get_or front 3 0) back = rw (c.v_is, c.back_is, c.front_is) (lies bytes there).good in
+    let small : get_or front 0 0 < 256 = rw c.front_is (IsBytes-take 4 bytes fits 0) in
+    let key_len : length key ≡ get_or front 0 0 = omega (arith, ap length c.key_is, length-take (get_or front 0 0) back, good.whole) in
+    let value_len : length value ≤ v = omega (arith, ap length c.value_is, length-take v after) in
+    record {
+      key = (omega (arith, key_len, good.some), omega (arith, key_len, small));
+      value = omega (arith, value_len, good.value);
+      pred = good.prediction;
+    }

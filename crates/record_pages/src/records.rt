@@ -1,5 +1,5 @@
 // A walk over the records of a page.
-ghost use Rattle.std.specs.Prelude.{◌≡◌, ℕ, List, length, true, IfSome, is_some, slice_get};
+ghost use Rattle.std.specs.Prelude.{◌≡◌, ℕ, List, length, true, IfSome, Some, is_some, slice_get};
 ghost use Rattle.std.specs.Option.{option_map};
 ghost use Rattle.std.specs.Iterator.{item_count};
 ghost use Rattle.record_pages.specs.Recs.{Rec, IsRecord};
@@ -90,9 +90,7 @@ impl<'a> Iterator for Records<'a> {
         if self.left == 0 {
             return None;
         }
-        let Some((record, rest)) = record_at(self.rest) else {
-            return None;
-        };
+        let (record, rest) = record_there(self.rest);
         self.left -= 1;
         self.rest = rest;
         Some(record)
@@ -163,4 +161,22 @@ fn record_at(bytes: &[u8]) -> Option<(RecordRef<'_>, &[u8])>
         prediction,
     };
     Some((record, rest))
+}
+
+// The record at the front, which is there, and the bytes behind it. Nothing is tested again.
+fn record_there(bytes: &[u8]) -> (RecordRef<'_>, &[u8])
+    requires { is_some (record_at bytes.now) ≡ true }
+    ensures value { record_at bytes.now ≡ Some (record_shown result.0, result.1.now) }
+    ensures lawful { IsRecord (record_shown result.0) }
+{
+    let (front, rest) = bytes.split_at(4);
+    let value_len = u16::from_be_bytes([front[1], front[2]]);
+    let (key, rest) = rest.split_at(front[0] as usize);
+    let (value, rest) = rest.split_at(value_len as usize);
+    let record = RecordRef {
+        key,
+        value,
+        prediction: front[3],
+    };
+    (record, rest)
 }

@@ -218,3 +218,19 @@ fn at_most_64_records(rt: HostRuntime) -> Result<(), Fail> {
     assert!(rt; !fits::<4096>(&records));
     Ok(())
 }
+
+// Two records of one key: the look-up takes the first, and a key that no record has is not found.
+#[test]
+fn first_record_of_a_key(rt: HostRuntime) -> Result<(), Fail> {
+    let mut writer = SetPageWriter::<256>::new();
+    for (key, value) in [(b"ab", b"1"), (b"cd", b"2"), (b"cd", b"3")] {
+        let next = record(rt.alloc(), key, value, 6)?;
+        assert!(rt; writer.fits(next.lent()));
+        writer.push(next.lent());
+    }
+    let found = writer.records().find_key(b"cd").ok_or("a record")?;
+    assert_eq!(rt; found.slot, 1);
+    assert_eq!(rt; found.lent.value, b"2".as_slice());
+    assert!(rt; writer.records().find_key(b"c").is_none());
+    Ok(())
+}
