@@ -10,7 +10,7 @@ use Rattle.record_pages.specs.declared.found.Found.{Found}
 abbrev pub has_key : List ℕ → Rec → Bool
 has_key key r = pointwise nat_eq r.key key
 
--- the first record from here on that has this key, behind its slot, where the first of all has this one
+-- the first record that has this key, behind its slot, where the first of all has this slot
 abbrev pub first_from : ℕ → List ℕ → List Rec → Option (ℕ × Rec)
 first_from slot key rs = find (λ x. has_key key x.1) (enumerate_from slot rs)
 

@@ -4,7 +4,7 @@ use Rattle.std.specs.List.{flat_map}
 use Rattle.std.specs.Int.{w16, w32, w64, to_be_bytes}
 use Rattle.record_pages.specs.Recs.{Rec, IsRecord, sizes}
 
--- the text of a record: the length of its key, that of its value, its prediction, its key, its value
+-- a record: the length of its key, that of its value, its prediction, its key, its value
 abbrev pub record_text : Rec → List ℕ
 record_text r =
     (length r.key ∷ []) ++ (to_be_bytes w16 (length r.value) ++ ((r.pred ∷ []) ++ (r.key ++ r.value)))

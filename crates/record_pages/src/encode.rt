@@ -1,7 +1,7 @@
 // Records that are written onto a page all at once.
 ghost use Rattle.std.specs.Prelude.{◌≡◌, IsTrue};
 ghost use Rattle.record_pages.specs.Sizes.{IsPageSize};
-ghost use Rattle.record_pages.specs.Recs.{fit, sizes};
+ghost use Rattle.record_pages.specs.Recs.{fit};
 ghost use Rattle.record_pages.specs.PageText.{set_page_text, log_page_text, SpellsSetPage, SpellsLogPage};
 
 use crate::object::{MAX_RECORDS, PAGE_OVERHEAD};

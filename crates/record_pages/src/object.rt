@@ -1,5 +1,5 @@
 // The size of an object on a page, and which objects are too large.
-ghost use Rattle.std.specs.Prelude.{◌≡◌, ◌<◌, ◌≤◌, ◌-◌, ◌↔◌, IsTrue};
+ghost use Rattle.std.specs.Prelude.{◌<◌, ◌↔◌, IsTrue};
 ghost use Rattle.record_pages.specs.Sizes.{object_size, room};
 
 use crate::key::Key;

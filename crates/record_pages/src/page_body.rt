@@ -1,5 +1,5 @@
 // The records of a page in the making, in the bytes that they take on a page, without a header.
-ghost use Rattle.std.specs.Prelude.{◌≡◌, ◌≤◌, ◌+◌, [], ◌∷◌, ◌++◌, List, IsTrue, length, take, All};
+ghost use Rattle.std.specs.Prelude.{◌≡◌, ◌+◌, [], ◌∷◌, ◌++◌, List, IsTrue, length, All};
 ghost use Rattle.record_pages.specs.Recs.{Rec, IsRecord, size, sizes, fit};
 ghost use Rattle.record_pages.specs.Lent.{record_shown};
 ghost use Rattle.record_pages.specs.PageText.{records_text};

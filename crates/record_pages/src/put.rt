@@ -1,5 +1,5 @@
 // The texts of a page, written into its bytes from left to right.
-ghost use Rattle.std.specs.Prelude.{◌≡◌, ◌<◌, ◌≤◌, ◌+◌, ◌-◌, ◌++◌, length, replicate, take, All};
+ghost use Rattle.std.specs.Prelude.{◌≡◌, ◌≤◌, ◌+◌, ◌-◌, ◌++◌, length, replicate, take, All};
 ghost use Rattle.std.specs.Int.{w16, to_be_bytes};
 ghost use Rattle.record_pages.specs.Recs.{IsRecord, size, sizes};
 ghost use Rattle.record_pages.specs.Lent.{record_shown};
@@ -25,7 +25,8 @@ pub(crate) fn put(into: &mut [u8], at: usize, bytes: &[u8]) -> usize
 pub(crate) fn put_record(into: &mut [u8], at: usize, lent: RecordRef<'_>) -> usize
     requires lawful { IsRecord (record_shown lent) }
     requires room { at + size (record_shown lent) ≤ length into.old }
-    ensures text { take result into.new ≡ take at into.old ++ record_text (record_shown lent.entry) }
+    ensures text { take result into.new
+        ≡ take at into.old ++ record_text (record_shown lent.entry) }
     ensures end { result ≡ at + size (record_shown lent.entry) }
 {
     let key = lent.key;

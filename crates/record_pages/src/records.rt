@@ -1,5 +1,5 @@
 // A walk over the records of a page.
-ghost use Rattle.std.specs.Prelude.{◌≡◌, ℕ, List, length, true, IfSome, Some, is_some, slice_get};
+ghost use Rattle.std.specs.Prelude.{◌≡◌, ◌↔◌, [], IsTrue, List, length, true, IfSome, Some, is_some, slice_get};
 ghost use Rattle.std.specs.Option.{option_map};
 ghost use Rattle.std.specs.Iterator.{item_count};
 ghost use Rattle.record_pages.specs.Recs.{Rec, IsRecord};
@@ -38,6 +38,13 @@ impl<'a> Records<'a> {
         ensures { result ≡ length self.now }
     {
         self.left as usize
+    }
+
+    /// Whether no record is left.
+    pub fn is_empty(&self) -> bool
+        ensures { IsTrue result ↔ (self.now ≡ []) }
+    {
+        self.len() == 0
     }
 
     /// The record that lies so many places on, or nothing where there are fewer.
@@ -124,7 +131,8 @@ pub(crate) fn body_at(bytes: &[u8]) -> Option<Records<'_>>
 // The bytes behind so many records.
 #[tactic(auto, unfolding(crate::specs::Reading::records_at))]
 fn after_records(count: u16, bytes: &[u8]) -> Option<&[u8]>
-    ensures { option_map (λ x. x.now) result ≡ option_map (λ x. x.1) (records_at count bytes.now) }
+    ensures { option_map (λ x. x.now) result
+        ≡ option_map (λ x. x.1) (records_at count bytes.now) }
 {
     let mut rest = bytes;
     for _ in 0..count {

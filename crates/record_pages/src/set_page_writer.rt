@@ -1,5 +1,5 @@
 // A set page in the making.
-ghost use Rattle.std.specs.Prelude.{◌≡◌, ◌≤◌, ◌↔◌, [], ◌∷◌, ◌++◌, List, IsTrue, length, All};
+ghost use Rattle.std.specs.Prelude.{◌≡◌, ◌↔◌, [], ◌∷◌, ◌++◌, List, IsTrue, length, All};
 ghost use Rattle.record_pages.specs.Sizes.{IsPageSize};
 ghost use Rattle.record_pages.specs.Recs.{Rec, IsRecord, fit};
 ghost use Rattle.record_pages.specs.Lent.{record_shown};

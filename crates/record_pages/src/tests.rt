@@ -87,7 +87,7 @@ fn is_refused<const PAGE: usize>(front: &[u8], at: usize, byte: u8) -> bool
     SetPage::read(&page).is_none() && LogPage::read(&page).is_none()
 }
 
-// Each reason for which a page is refused, on a page with this front whose count ends before `body`.
+// Each reason for which a page is refused, on a page whose header ends before `body`.
 fn refusals<const PAGE: usize>(rt: &impl Abort, front: &[u8], body: usize)
     requires small { (0 < body) × (body < 64) }
     requires page_size { IsPageSize PAGE }
