@@ -1,5 +1,5 @@
 // The size of an object on a page, and which objects are too large.
-ghost use Rattle.std.specs.Prelude.{◌≡◌, ◌<◌, ◌≤◌, ◌-◌, ◌↔◌, IsTrue};
+ghost use Rattle.std.specs.Prelude.{◌<◌, ◌↔◌, IsTrue};
 ghost use Rattle.record_pages.specs.Sizes.{object_size, room};
 
 use crate::key::Key;
@@ -10,6 +10,9 @@ pub const RECORD_OVERHEAD: usize = 4;
 
 /// How many bytes of a page no record may take.
 pub const PAGE_OVERHEAD: usize = 18;
+
+/// The most records of a page.
+pub const MAX_RECORDS: usize = 64;
 
 /// Whether the object is too large for a page of `PAGE` bytes.
 pub fn is_too_large<const PAGE: usize>(key: &Key, value: &Value) -> bool

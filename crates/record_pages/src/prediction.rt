@@ -1,5 +1,5 @@
 // How soon a record is predicted to be asked for again.
-ghost use Rattle.std.specs.Prelude.{◌≡◌, ◌≤◌, ◌<◌, ℕ, IsSome, IfSome, ◌↔◌};
+ghost use Rattle.std.specs.Prelude.{◌≡◌, ◌≤◌, ℕ, IsSome, IfSome, ◌↔◌};
 
 use std::marker::Model;
 
