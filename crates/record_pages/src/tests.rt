@@ -118,28 +118,23 @@ fn pages_that_are_refused(rt: HostRuntime) -> Result<(), Fail> {
     Ok(())
 }
 
-// A value that is too long by one byte is refused on a page with room for it; the longest is not.
+// A value of 2,048 bytes is read and one of 2,049 is refused; a value may end at the page's last
+// byte, and none passes it.
 #[test]
-fn longest_value(rt: HostRuntime) -> Result<(), Fail> {
+fn longest_values(rt: HostRuntime) -> Result<(), Fail> {
     let mut front = SET_ROW;
     front[19] = 0x08;
     front[20] = 0x00;
     let longest = page_of::<4096>(&front);
-    let read = SetPage::read(&longest).ok_or("a value of 2,048 bytes")?;
-    let first = read.records().at(0).ok_or("a record")?;
-    assert_eq!(rt; first.value.len(), 2048);
+    let page = SetPage::read(&longest).ok_or("a value of 2,048 bytes")?;
+    assert_eq!(rt; page.records().at(0).ok_or("a record")?.value.len(), 2048);
     front[20] = 0x01;
     assert!(rt; SetPage::read(&page_of::<4096>(&front)).is_none());
-    Ok(())
-}
 
-// A record whose value ends at the last byte of the page is read, and one byte past it is refused.
-#[test]
-fn record_past_the_end(rt: HostRuntime) -> Result<(), Fail> {
     let mut front = LOG_ROW;
     front[18] = 235;
-    let read = page_of::<256>(&front);
-    let page = LogPage::read(&read).ok_or("a value up to the last byte")?;
+    let to_the_end = page_of::<256>(&front);
+    let page = LogPage::read(&to_the_end).ok_or("a value up to the last byte")?;
     assert_eq!(rt; page.records().at(0).ok_or("a record")?.value.len(), 235);
     front[18] = 236;
     assert!(rt; LogPage::read(&page_of::<256>(&front)).is_none());
@@ -232,5 +227,27 @@ fn first_record_of_a_key(rt: HostRuntime) -> Result<(), Fail> {
     assert_eq!(rt; found.slot, 1);
     assert_eq!(rt; found.lent.value, b"2".as_slice());
     assert!(rt; writer.records().find_key(b"c").is_none());
+    Ok(())
+}
+
+// The limits of keys, values and objects, and copies of them.
+#[test]
+fn limits_of_keys_and_values(rt: HostRuntime) -> Result<(), Fail> {
+    let alloc = rt.alloc();
+    assert!(rt; matches!(Key::new(alloc, &[0x61; 256]), Err(KeyFault::KeyTooLong)));
+    assert!(rt; matches!(Key::new(alloc, &[]), Err(KeyFault::KeyEmpty)));
+    assert!(rt;
+        matches!(
+            Value::new(alloc, &[0x78; 2049]),
+            Err(ValueFault::ValueTooLong)
+        )
+    );
+    let longest = Value::new(alloc, &[0x78; 2048])?;
+    assert!(rt; longest.try_clone()? == longest);
+    let key = Key::new(alloc, b"a")?;
+    assert!(rt; key.try_clone()? == key);
+    assert!(rt; !is_too_large::<256>(&key, &Value::new(alloc, &[0x78; 233])?));
+    assert!(rt; is_too_large::<256>(&key, &Value::new(alloc, &[0x78; 234])?));
+    assert!(rt; Prediction::new(8).is_none());
     Ok(())
 }

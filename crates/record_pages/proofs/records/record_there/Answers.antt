@@ -1,4 +1,4 @@
-use Rattle.std.proofs.Common.{get_or, take, drop, arith}
+use Rattle.std.proofs.Common.{drop, arith}
 use Rattle.std.proofs.lemmas.List.{length-drop}
 use Rattle.record_pages.proofs.RecordLaws.{key_len_of, lies, Cut, cut_value, cut_lawful}
 use Rattle.record_pages.proofs.records.record_there.Goals as goal
