@@ -1,15 +1,13 @@
 -- Filters as sets of bits.
-use Rattle.std.proofs.Common.{◌≡◌, ℕ, zero, suc, ◌+◌, ◌*◌, ◌/◌, ◌%◌, ◌^◌, ◌<◌, Bool, true, false, ◌&&◌, ◌||◌, List, [], ◌∷◌, ◌++◌, length, get_or, take, eqb, ltb, bit_and, bit_or, append_assoc, append-nil, refl, sym, ap, subst, ◌∙◌, arith}
+use Rattle.std.proofs.Common.{◌≡◌, ℕ, zero, suc, ◌*◌, ◌/◌, ◌%◌, ◌^◌, ◌<◌, Bool, true, false, ◌&&◌, ◌||◌, List, [], ◌∷◌, ◌++◌, length, get_or, eqb, ltb, bit_and, bit_or, append_assoc, append-nil, refl, sym, ap, subst, ◌∙◌}
 use Rattle.std.proofs.Math.ListN.{set}
 use Rattle.std.proofs.lemmas.Bool.{lt-ltb, eq-eqb, eqb-true, false≢true, and_right, and_from, and_parts, or_left, or_right}
-use Rattle.std.proofs.lemmas.Bool.Decides.{nat_tests}
 use Rattle.std.proofs.lemmas.List.Folds.{list_any-append}
 use Rattle.std.proofs.lemmas.Nat.Bits.{bit_at-zero, shr_and_one}
-use Rattle.std.specs.Int.{bit_at}
-use Rattle.std.specs.List.{list_all, list_any, concat}
+use Rattle.std.specs.List.{list_any, concat}
 use Rattle.std.specs.Ordering.{nat_cmp}
 use Rattle.std.specs.Cmp.{nat_cmp_total}
-use Rattle.std.specs.FinSet.{FinSet, empty, contains, insert, union, from_list, contains-empty, contains-union}
+use Rattle.std.specs.FinSet.{FinSet, empty, contains, insert, from_list, contains-empty, contains-union}
 use Rattle.bloom.specs.Filter.{has_bit, set_bits, with_bits, admits, filter_of}
 use Rattle.bloom.proofs.BitLaws.{same_numbers, contains-insert_nat, contains-set_bits, has_bit-set}
 

@@ -1,5 +1,6 @@
 //! A filter admits what was added, and not what asks for other bits.
 use super::*;
+use std::test::Fail;
 
 #[test]
 fn a_filter_admits_what_was_added(rt: HostRuntime) {
@@ -16,4 +17,14 @@ fn a_filter_admits_what_was_added(rt: HostRuntime) {
     assert!(rt; filter.may_hold([140, 232, 255 - 23, 59]));
     filter.clear();
     assert!(rt; !filter.may_hold(first));
+}
+
+#[test]
+fn filters_of_a_list_are_apart(rt: HostRuntime) -> Result<(), Fail> {
+    let mut filters = vec![in rt.alloc(); Filter::empty(); 3]?;
+    assert_eq!(rt; filters.len(), 3);
+    filters[1].add([1, 2, 3, 4]);
+    assert!(rt; filters[1].may_hold([1, 2, 3, 4]));
+    assert!(rt; !filters[0].may_hold([1, 2, 3, 4]));
+    Ok(())
 }

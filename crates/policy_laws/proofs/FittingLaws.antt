@@ -1,12 +1,12 @@
 -- What fits of candidates that stand by rank.
-use Rattle.std.proofs.Common.{◌≡◌, ℕ, suc, ◌+◌, ◌-◌, ◌<◌, ◌≤◌, Bool, true, false, ◌&&◌, cond, leb, ltb, List, [], ◌∷◌, length, map, ◌⊎◌, ◌↔◌, inl, inr, ⊎_elim, refl, sym, ap, subst, ◌∙◌, arith}
-use Rattle.std.proofs.lemmas.Bool.{cond_both, false≢true, and_parts, and_from, and_cases, ltb-true, leb-true, ltb-false, leb-false, lt-ltb, le-leb, cond-true, cond-false, false_from_ne_true}
+use Rattle.std.proofs.Common.{◌≡◌, ℕ, suc, ◌+◌, ◌-◌, ◌<◌, ◌≤◌, Bool, true, false, ◌&&◌, leb, ltb, List, [], ◌∷◌, length, ◌↔◌, inl, inr, ⊎_elim, refl, sym, ap, subst, ◌∙◌, arith}
+use Rattle.std.proofs.lemmas.Bool.{cond_both, false≢true, and_parts, and_from, ltb-true, leb-true, lt-ltb, le-leb, cond-true, cond-false, false_from_ne_true}
 use Rattle.std.proofs.lemmas.List.Sums.{sum_by-cons}
-use Rattle.std.specs.List.{AllByRecursion, sum_by, filter}
+use Rattle.std.specs.List.{AllByRecursion}
 use Rattle.policy_laws.specs.declared.candidate.Candidate.{Candidate}
 use Rattle.policy_laws.specs.Rank.{rank_before, kept_before, fitting}
 use Rattle.policy_laws.proofs.OrderLaws.{before_itself, before_chain}
-use Rattle.policy_laws.proofs.ListLaws.{total, Pairs, Among, Ranks, Differ, All_map, All_among}
+use Rattle.policy_laws.proofs.ListLaws.{total, Pairs, Among, Ranks, All_among}
 
 -- a candidate is next where it fits
 abbrev fits : ℕ → ℕ → Candidate → Bool

@@ -1,12 +1,11 @@
 -- Lists of candidates that stand by rank, and what fits of them.
-use Rattle.std.proofs.Common.{◌≡◌, ◌≢◌, ℕ, zero, suc, ◌+◌, ◌-◌, ◌<◌, ◌≤◌, Bool, true, false, ◌&&◌, cond, leb, ltb, List, [], ◌∷◌, ◌++◌, length, ◌⊎◌, inl, inr, ⊎_elim, refl, sym, ap, subst, ◌∙◌, Some, None, unwrap_or, not, take, get_or, arith}
-use Rattle.std.proofs.lemmas.Bool.{cond_both, cases_Bool, false≢true, and_parts, and_from, ltb-true, leb-true, lt-ltb, le-leb, ltb-false, cond-true, cond-false}
-use Rattle.std.proofs.lemmas.Bool.Decides.{nat_tests}
+use Rattle.std.proofs.Common.{◌≡◌, ℕ, suc, ◌+◌, ◌<◌, ◌≤◌, true, false, ltb, List, [], ◌∷◌, length, ◌⊎◌, inl, inr, ⊎_elim, refl, sym, ap, subst, ◌∙◌, Some, None, unwrap_or, not, take, get_or, arith}
+use Rattle.std.proofs.lemmas.Bool.{cond_both, cases_Bool, ltb-true, ltb-false, cond-true, cond-false}
 use Rattle.std.proofs.lemmas.List.Sums.{sum_by-cons, fold_more}
 use Rattle.std.specs.List.{AllByRecursion, sum_by, fold, insert, position, position_or_len}
 use Rattle.policy_laws.specs.declared.candidate.Candidate.{Candidate}
-use Rattle.policy_laws.specs.Rank.{rank_before, placed_in, by_rank, fitting}
-use Rattle.policy_laws.proofs.OrderLaws.{before_itself, before_chain, before_other}
+use Rattle.policy_laws.specs.Rank.{rank_before, placed_in, by_rank}
+use Rattle.policy_laws.proofs.OrderLaws.{before_chain, before_other}
 
 -- the bytes of candidates
 abbrev pub total : List Candidate → ℕ

@@ -1,8 +1,8 @@
 -- What candidates that are kept by rank meet.
-use Rattle.std.proofs.Common.{◌≡◌, ◌≢◌, ℕ, zero, suc, ◌+◌, ◌-◌, ◌<◌, ◌≤◌, Bool, true, false, List, [], ◌∷◌, ◌++◌, length, map, get_or, All, AllPairs, ◌⊎◌, ◌↔◌, inl, inr, ⊎_elim, refl, sym, ap, subst, ◌∙◌, Some, Result, Ok, Err, IfOk, zero-add, add-zero, arith}
+use Rattle.std.proofs.Common.{◌≡◌, ◌≢◌, ℕ, zero, suc, ◌+◌, ◌<◌, ◌≤◌, List, [], ◌∷◌, length, map, get_or, AllPairs, ◌↔◌, inl, inr, ⊎_elim, refl, sym, ap, subst, ◌∙◌, Some, Result, Ok, Err, IfOk, zero-add, add-zero, arith}
 use Rattle.std.proofs.lemmas.List.{length-map}
 use Rattle.std.proofs.lemmas.Option.{slice_get_within}
-use Rattle.std.proofs.lemmas.List.Elements.{recursion_from_All, All-from_recursion, All-map, All-weaker}
+use Rattle.std.proofs.lemmas.List.Elements.{recursion_from_All, All-from_recursion, All-map}
 use Rattle.std.proofs.lemmas.List.Kept.{AllPairs-cons}
 use Rattle.std.proofs.lemmas.List.Sums.{sum_by-cons}
 use Rattle.std.specs.List.{AllByRecursion, Contains, sum_by, slice_get, enumerate_from}
@@ -12,9 +12,9 @@ use Rattle.policy_laws.specs.declared.job.Job.{Job}
 use Rattle.policy_laws.specs.declared.candidate.Candidate.{Candidate}
 use Rattle.policy_laws.specs.declared.choice.Choice.{Choice}
 use Rattle.policy_laws.specs.Laws.{IsLawful, AllFit, size_at}
-use Rattle.policy_laws.specs.Rank.{rank_before, FitsBehind, IsKeptByRank, KeepsByRank, choice_of, by_rank, fitting, candidates_by, plan_by_rank}
-use Rattle.policy_laws.proofs.ListLaws.{total, Pairs, Among, Ranks, Differ, All_among, All_map, All-ranked_from, among-ranked_from, length-ranked_from, total-ranked_from, Pairs_differ-ranked_from, Pairs_ranks-ranked_from, Apart-none}
-use Rattle.policy_laws.proofs.FittingLaws.{Fits, All-fitting, Pairs-fitting, total-fitting, length-fitting, all_fitting, exactly_fitting}
+use Rattle.policy_laws.specs.Rank.{FitsBehind, KeepsByRank, choice_of, by_rank, fitting, candidates_by, plan_by_rank}
+use Rattle.policy_laws.proofs.ListLaws.{total, Pairs, Among, Ranks, Differ, All_map, All-ranked_from, among-ranked_from, length-ranked_from, total-ranked_from, Pairs_differ-ranked_from, Pairs_ranks-ranked_from, Apart-none}
+use Rattle.policy_laws.proofs.FittingLaws.{All-fitting, Pairs-fitting, total-fitting, length-fitting, all_fitting, exactly_fitting}
 
 -- ---- the words of lists and their recursions
 

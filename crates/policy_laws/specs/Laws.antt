@@ -1,5 +1,5 @@
 -- What each plan of a policy meets.
-use Rattle.std.specs.Prelude.{◌≡◌, ◌≢◌, ℕ, ◌<◌, ◌≤◌, List, length, map, sum_by, slice_get, All, AllPairs, Contains}
+use Rattle.std.specs.Prelude.{◌≢◌, ℕ, ◌<◌, ◌≤◌, List, length, map, sum_by, slice_get, All, AllPairs, Contains}
 use Rattle.std.specs.Option.{option_map_or}
 use Rattle.policy_laws.specs.declared.item.Item.{Item}
 use Rattle.policy_laws.specs.declared.job.Job.{Job}

@@ -1,11 +1,10 @@
 -- The farthest of items, one after the other.
-use Rattle.std.proofs.Common.{◌≡◌, ℕ, ◌+◌, ◌<◌, ◌≤◌, Bool, true, false, not, ◌&&◌, cond, List, [], ◌∷◌, ◌++◌, length, take, get_or, map, max, All, refl, sym, ap, subst, ◌∙◌, arith}
+use Rattle.std.proofs.Common.{◌≡◌, ℕ, ◌+◌, ◌<◌, ◌≤◌, cond, List, [], ◌∷◌, ◌++◌, length, take, get_or, map, max, All, refl, sym, ap, subst, ◌∙◌, arith}
 use Rattle.std.proofs.lemmas.Bool.{cond_both, cond-true, cond-false, OnTrue_at, OnTrue_from}
 use Rattle.std.proofs.lemmas.List.{map-append, append-nil}
 use Rattle.std.proofs.lemmas.List.Elements.{filter_more, All-more, All-weaker}
 use Rattle.std.proofs.lemmas.List.Sums.{fold-append}
-use Rattle.std.specs.Bool.{OnTrue}
-use Rattle.std.specs.List.{filter, fold}
+use Rattle.std.specs.List.{filter}
 use Rattle.policy_laws.specs.declared.item.Item.{Item}
 use Rattle.policy_laws.specs.declared.candidate.Candidate.{Candidate}
 use Rattle.policy_laws.specs.Rank.{candidates_by}

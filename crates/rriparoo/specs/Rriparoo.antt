@@ -2,7 +2,6 @@
 use Rattle.std.specs.Prelude.{ℕ, List}
 use Rattle.policy_laws.specs.declared.item.Item.{Item}
 use Rattle.policy_laws.specs.declared.job.Job.{Job}
-use Rattle.policy_laws.specs.declared.rank.Rank.{Rank}
 use Rattle.policy_laws.specs.declared.candidate.Candidate.{Candidate}
 use Rattle.policy_laws.specs.declared.choice.Choice.{Choice}
 use Rattle.policy_laws.specs.Rank.{candidates_by, plan_by_rank}

@@ -1,5 +1,5 @@
 -- The plan is the one that keeps the candidates by rank.
-use Rattle.std.proofs.Common.{◌≡◌, sym, subst, arith}
+use Rattle.std.proofs.Common.{sym, subst, arith}
 use Rattle.std.proofs.lemmas.Grind.{common_steps}
 use Rattle.policy_laws.specs.Rank.{KeepsByRank}
 use Rattle.policy_laws.proofs.RankLaws.{keeps_by_rank}

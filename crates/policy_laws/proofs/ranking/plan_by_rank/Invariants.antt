@@ -1,5 +1,5 @@
 use Rattle.std.proofs.Common.{◌≡◌, ◌-◌, ◌++◌, length, map, drop}
-use Rattle.policy_laws.specs.Rank.{by_rank, fitting, choice_of, plan_by_rank}
+use Rattle.policy_laws.specs.Rank.{fitting, choice_of, plan_by_rank}
 use Rattle.policy_laws.proofs.ranking.plan_by_rank.Given as goal
 
 -- what was kept so far, and what fits of the rest into what is left, is the plan
