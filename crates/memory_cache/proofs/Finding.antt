@@ -1,6 +1,6 @@
 -- What the map finds and takes out is what the list of pairs says.
-use Rattle.std.proofs.Common.{◌≡◌, ◌≢◌, ◌<◌, ◌≤◌, ◌+◌, ℕ, Bool, true, false, not, List, [], ◌∷◌, length, map, get_or, Option, Some, None, sym, ap, ◌∙◌, refl, subst, inl, inr, arith, zero, suc}
-use Rattle.std.specs.Prelude.{AllPairs, slice_get, option_map, IsSome}
+use Rattle.std.proofs.Common.{◌≡◌, ◌≢◌, ◌<◌, ◌+◌, ℕ, false, List, [], ◌∷◌, length, map, Some, None, sym, ap, ◌∙◌, refl, subst, inl, inr, arith, zero, suc}
+use Rattle.std.specs.Prelude.{AllPairs, slice_get, option_map}
 use Rattle.std.specs.List.{AllByRecursion, IsDistinct}
 use Rattle.std.specs.Map.{keys_of, lookup, lookup_entry, remove_entry}
 use Rattle.std.specs.Str.{bytes_eq}

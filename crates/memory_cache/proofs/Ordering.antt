@@ -1,9 +1,9 @@
 -- The order of the pairs after a get and after a put, and the pair that a put pushes out.
-use Rattle.std.proofs.Common.{◌≡◌, ◌<◌, ◌≤◌, ◌-◌, ◌+◌, ℕ, Bool, true, false, List, [], ◌∷◌, length, map, take, Option, Some, None, sym, ap, ◌∙◌, refl, subst, inl, inr, arith, suc}
+use Rattle.std.proofs.Common.{◌≡◌, ◌<◌, ◌≤◌, ◌-◌, ℕ, true, List, ◌∷◌, length, map, take, Option, Some, None, sym, ap, ◌∙◌, refl, arith, suc}
 use Rattle.std.specs.Prelude.{slice_get, option_map, if◌then◌else◌}
 use Rattle.std.specs.Option.{option_map_or}
 use Rattle.std.specs.List.{IsDistinct}
-use Rattle.std.specs.Map.{keys_of, lookup, lookup_entry, remove_entry}
+use Rattle.std.specs.Map.{keys_of, lookup_entry, remove_entry}
 use Rattle.std.specs.Str.{bytes_eq}
 use Rattle.std.specs.Cmp.Lexicographic.{bytes_decides}
 use Rattle.std.proofs.lemmas.List.{take-map, take_all, length-map}
@@ -12,7 +12,7 @@ use Rattle.lru.specs.LruCache.{LruCache, lru_cache, promoted, put_entries, displ
 use Rattle.memory_cache.specs.declared.pair.Pair.{Pair}
 use Rattle.memory_cache.specs.MemoryList.{holding, without, entered, to_front, to_front_by, after_get, after_put, pushed_out}
 use Rattle.memory_cache.specs.Entries.{pair_of, memory_of, is_first}
-use Rattle.memory_cache.proofs.Finding.{Entry, IsAbsent, absent, found_key, one_fewer, other_at, pair_found, removed, value_of_entry, without_absent}
+use Rattle.memory_cache.proofs.Finding.{Entry, absent, found_key, one_fewer, other_at, pair_found, removed, value_of_entry, without_absent}
 
 -- ---- a get
 

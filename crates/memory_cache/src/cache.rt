@@ -74,6 +74,7 @@ impl MemoryCache {
         ensures* raised { sem 𝓛 (EndsAs self.entry (after_get key.now self.old)) }
         ensures value { option_copied result ≡ value_in key.now self.old.pairs }
     {
+        // That no key stands twice is known from the length.
         let _held = self.objects.len();
         self.objects.get(key)
     }

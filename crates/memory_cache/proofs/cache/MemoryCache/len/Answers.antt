@@ -1,4 +1,4 @@
-use Rattle.std.proofs.Common.{◌≤◌, length, ap, subst, sym, arith}
+use Rattle.std.proofs.Common.{subst, arith}
 use Rattle.std.proofs.lemmas.List.{length-map}
 use Rattle.memory_cache.specs.MemoryList.{IsBounded}
 use Rattle.memory_cache.specs.Entries.{pair_of, memory_of}
