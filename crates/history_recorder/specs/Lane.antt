@@ -1,5 +1,5 @@
 -- A lane with its record, and what is true of every lane.
-use Rattle.std.specs.Prelude.{◌≡◌, ℕ, ◌-◌, ◌<◌, ◌≤◌, List, All, AllPairs, map, length, slice_get, Option, Some, None}
+use Rattle.std.specs.Prelude.{◌≡◌, ℕ, ◌-◌, ◌<◌, ◌≤◌, List, All, AllPairs, map, length, slice_get, Some}
 use Rattle.std.specs.Option.{option_map_or}
 use Rattle.record_pages.specs.declared.answer.Answer.{Answer}
 use Rattle.record_pages.specs.declared.answer.Answer.TheVariants as answers
@@ -31,7 +31,7 @@ act_of (answers.Miss cause) = Miss
 
 -- a lane is sound: each pair that a get may show is what its key has after the recorded calls
 abbrev pub IsSound : Lane → Type 0
-IsSound lane = All (λ p. current (deeds_of lane) p.key ≡ Some p.value) lane.state.memory
+IsSound lane = All (λ p. current (deeds_of lane) p.key ≡ Some p.value) lane.state.memory.pairs
 
 -- what is true of every lane
 pub record IsRecorded (lane : Lane) : Type 0 where

@@ -1,3 +1,2 @@
-pub mod MemoryList
 pub mod LaneState
 pub mod Lane

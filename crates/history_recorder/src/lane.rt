@@ -4,14 +4,15 @@ ghost use Rattle.record_pages.specs.Sizes.{IsPageSize, object_size, room};
 ghost use Rattle.record_pages.specs.Table.{first_faulty};
 
 use crate::got::Got;
+use crate::lane_memory::LaneMemory;
 use crate::noted::Noted;
 use crate::open_fault::OpenFault;
-use crate::pair::Pair;
-use crate::pairs::{put_first, raise, value_of};
 use crate::record_fault::RecordFault;
 use crate::record_put_fault::RecordPutFault;
+use crate::removed::Removed;
 use crate::stored::Stored;
-use record_pages::{Answer, Config, Key, MissCause, Tier, Value, is_too_large};
+use memory_cache::Pair;
+use record_pages::{Answer, Config, Key, MissCause, Pushed, Tier, Value, is_too_large};
 use std::alloc::{AllocError, Global};
 use std::marker::Model;
 use trace_file::Act;
@@ -22,11 +23,10 @@ pub const MAX_CALLS: usize = 16777216;
 /// A lane of the cache, with a record of its calls in the order in which they were done.
 ///
 /// Until the tiers below memory are there it keeps its objects in memory alone, serves a configuration
-/// of one lane, and loses what memory pushes out.
+/// of one lane, and loses what memory pushes out. It takes no memory before its first call.
 #[derive(Drop)]
 pub struct RecordedLane<const PAGE: usize> {
-    capacity: usize,
-    pairs: Vec<Pair>,
+    memory: LaneMemory,
     calls: Vec<Noted>,
 }
 
@@ -35,19 +35,16 @@ impl<const PAGE: usize> Model for RecordedLane<PAGE> {
 
     ghost Value = { Lane };
 
-    ghost view = { λ a. record {
-      state = record { capacity = a.capacity; memory = a.pairs.items };
-      calls = a.calls.items;
-    } };
+    ghost view = { λ a. record { state = record { memory = a.memory }; calls = a.calls.items } };
 
     ghost invariant = { λ a. IsRecorded (record {
-      state = record { capacity = a.capacity; memory = a.pairs.items };
+      state = record { memory = a.memory };
       calls = a.calls.items;
     }) };
 }
 
 impl<const PAGE: usize> RecordedLane<PAGE> {
-    ghost use Rattle.history_recorder.specs.LaneState.{opening, get_step, put_step};
+    ghost use Rattle.history_recorder.specs.LaneState.{opening, get_step, put_step, remove_step, forget_step};
     ghost use Rattle.history_recorder.specs.Lane.{IsRecorded, act_of, last_point};
 
     /// An empty lane of this configuration, which has one lane.
@@ -66,8 +63,7 @@ impl<const PAGE: usize> RecordedLane<PAGE> {
             return Err(OpenFault::WrongPage);
         }
         Ok(RecordedLane {
-            capacity: layout.memory as usize,
-            pairs: Vec::new(alloc),
+            memory: LaneMemory::new(alloc, layout.memory),
             calls: Vec::new(alloc),
         })
     }
@@ -138,7 +134,7 @@ impl<const PAGE: usize> RecordedLane<PAGE> {
             return Err(RecordFault::HistoryFull);
         }
         self.calls.reserve(1)?;
-        let answer = answer_from(value_of(&self.pairs, key))?;
+        let answer = answer_from(self.memory.peek(key))?;
         let noted = Noted {
             caller,
             start,
@@ -147,7 +143,7 @@ impl<const PAGE: usize> RecordedLane<PAGE> {
             act: act_from(&answer)?,
         };
         let copy = noted.try_clone()?;
-        raise(&mut self.pairs, key);
+        self.memory.raise(key);
         self.calls.push(noted).unwrap();
         Ok(Got {
             answer,
@@ -204,18 +200,75 @@ impl<const PAGE: usize> RecordedLane<PAGE> {
             act: Act::Put(value.try_clone()?),
         };
         let copy = noted.try_clone()?;
-        let pushed = put_first(&mut self.pairs, self.capacity, Pair { key, value })?;
+        let Ok(out) = self.memory.put(key, value) else {
+            return Err(RecordPutFault::OutOfMemory);
+        };
         self.calls.push(noted).unwrap();
         Ok(Stored {
-            pushed,
+            pushed: fate_of(&out),
             noted: copy,
         })
+    }
+
+    /// Takes the key's pair out, if there is one, and records the removal.
+    ///
+    /// A refused removal leaves the lane as it was, so a value of the key stays: `HistoryFull` at
+    /// `MAX_CALLS` calls, else `OutOfMemory`.
+    pub fn remove(
+        &mut self,
+        caller: u16,
+        start: u64,
+        point: u64,
+        key: &Key,
+    ) -> Result<Removed, RecordFault>
+        requires start { start < point }
+        requires rises { All (λ n. n.point < point) self.old.calls }
+        ensures noted { IfOk result (λ removed. removed.noted ≡ record {
+          caller = caller;
+          start = start;
+          point = point;
+          key = key.now;
+          act = Act.Remove;
+        }) }
+        ensures after { IfOk result (λ removed. self.new ≡ record {
+          state = (remove_step key.now self.old.state).state;
+          calls = self.old.calls ++ removed.noted ∷ [];
+        }) }
+        ensures full { IsErrOf result RecordFault.HistoryFull ↔ (16777216 ≤ length self.old.calls) }
+        ensures err { OnErr result (self.new ≡ self.old) }
+    {
+        if self.calls.len() >= MAX_CALLS {
+            return Err(RecordFault::HistoryFull);
+        }
+        self.calls.reserve(1)?;
+        let noted = Noted {
+            caller,
+            start,
+            point,
+            key: key.try_clone()?,
+            act: Act::Remove,
+        };
+        let copy = noted.try_clone()?;
+        self.memory.remove(key);
+        self.calls.push(noted).unwrap();
+        Ok(Removed { noted: copy })
+    }
+
+    /// Takes the key's pair out, if there is one, as a cache may at any time. That is no call of the
+    /// history, and needs no memory.
+    pub fn forget(&mut self, key: &Key)
+        ensures after { self.new ≡ record {
+          state = (forget_step key.now self.old.state).state;
+          calls = self.old.calls;
+        } }
+    {
+        self.memory.remove(key);
     }
 }
 
 ghost use Rattle.std.specs.Prelude.{option_map, IsTrue};
 ghost use Rattle.record_pages.specs.declared.field.Field.{Field};
-ghost use Rattle.history_recorder.specs.LaneState.{answer_by};
+ghost use Rattle.history_recorder.specs.LaneState.{answer_by, fate_of};
 ghost use Rattle.history_recorder.specs.Lane.{act_of};
 
 /// The answer by what memory has of the key.
@@ -235,5 +288,15 @@ fn act_from(answer: &Answer) -> Result<Act, AllocError>
     match answer {
         Answer::Hit(value, _) => Ok(Act::Hit(value.try_clone()?)),
         Answer::Miss(_) => Ok(Act::Miss),
+    }
+}
+
+/// What becomes of the pair that left memory.
+fn fate_of(out: &Option<Pair>) -> Pushed
+    ensures { result ≡ fate_of out.now }
+{
+    match out {
+        Some(_) => Pushed::Declined,
+        None => Pushed::Nobody,
     }
 }

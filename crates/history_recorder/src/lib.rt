@@ -3,12 +3,12 @@
 
 mod got;
 mod lane;
+mod lane_memory;
 mod noted;
 mod open_fault;
-mod pair;
-mod pairs;
 mod record_fault;
 mod record_put_fault;
+mod removed;
 mod stored;
 
 pub use got::Got;
@@ -17,6 +17,7 @@ pub use noted::Noted;
 pub use open_fault::OpenFault;
 pub use record_fault::RecordFault;
 pub use record_put_fault::RecordPutFault;
+pub use removed::Removed;
 pub use stored::Stored;
 
 #[cfg(test)]

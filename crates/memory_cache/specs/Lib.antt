@@ -1,0 +1,3 @@
+pub mod MemoryList
+pub mod Entries
+pub mod Lending

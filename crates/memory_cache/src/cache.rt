@@ -1,0 +1,129 @@
+// The objects in memory, the most recent first.
+ghost use Rattle.std.specs.Prelude.{◌≡◌, ◌≤◌, ◌↔◌, [], length, option_copied, IfOk, IfErr, OnOk, OnErr, IsSome, IsOk, IsTrue};
+ghost use Rattle.std.specs.Borrow.{sem};
+ghost use Rattle.memory_cache.specs.MemoryList.{IsBounded, value_in, empty, after_put, pushed_out, after_get, after_remove};
+
+use crate::pair::Pair;
+use lru::LruCache;
+use record_pages::{Key, Value};
+use std::alloc::{AllocError, AllocFailed, Global};
+use std::marker::Model;
+use std::num::NonZeroUsize;
+
+/// A bounded number of objects, each under its key, in the order of their last use.
+///
+/// Its memory grows with the objects that it holds, and not with its capacity.
+#[derive(Drop)]
+pub struct MemoryCache {
+    objects: LruCache<Key, Value>,
+}
+
+impl Model for MemoryCache {
+    ghost use Rattle.memory_cache.specs.MemoryList.{MemoryList};
+    ghost use Rattle.memory_cache.specs.Entries.{memory_of};
+
+    ghost Value = { MemoryList };
+
+    ghost view = { λ m. memory_of m.objects };
+}
+
+impl MemoryCache {
+    ghost use Rattle.memory_cache.specs.Lending.{EndsAs};
+
+    /// An empty memory for so many objects, or `AllocError` where memory was refused.
+    pub fn open(alloc: Global, capacity: u32) -> Result<MemoryCache, AllocError>
+        requires { 1 ≤ capacity }
+        ensures { IfOk result (λ memory. memory ≡ empty capacity) }
+    {
+        let most = NonZeroUsize::new(capacity as usize).unwrap();
+        let objects = LruCache::sparse(alloc, most)?;
+        Ok(MemoryCache { objects })
+    }
+
+    /// How many objects are held.
+    pub fn len(&self) -> usize
+        ensures count { result ≡ length self.now.pairs }
+        ensures bounded { IsBounded self.now }
+    {
+        self.objects.len()
+    }
+
+    /// Whether no object is held.
+    pub fn is_empty(&self) -> bool
+        ensures { IsTrue result ↔ (self.now.pairs ≡ []) }
+    {
+        self.objects.is_empty()
+    }
+
+    /// The most objects that may be held.
+    pub fn capacity(&self) -> usize
+        ensures { result ≡ self.now.capacity }
+    {
+        self.objects.cap().get()
+    }
+
+    /// The value of a key, whose pair stays in its place.
+    pub fn peek(&self, key: &Key) -> Option<&Value>
+        ensures { option_copied result ≡ value_in key.now self.now.pairs }
+    {
+        self.objects.peek(key)
+    }
+
+    /// The value of a key, whose pair comes to the front.
+    pub fn get(&mut self, key: &Key) -> Option<&Value>
+        ensures* raised { sem 𝓛 (EndsAs self.entry (after_get key.now self.old)) }
+        ensures value { option_copied result ≡ value_in key.now self.old.pairs }
+    {
+        // That no key stands twice is known from the length.
+        let _held = self.objects.len();
+        self.objects.get(key)
+    }
+
+    /// Puts a value first, in place of an older one of its key. Gives the pair of another key that had
+    /// to leave for it.
+    ///
+    /// Where memory was refused the pair comes back and nothing has changed: an older value of the key
+    /// stays. That cannot be where the key has a value.
+    pub fn put(&mut self, key: Key, value: Value) -> Result<Option<Pair>, Pair>
+        ensures out { IfOk result (λ out.
+            out ≡ pushed_out (record { key = key; value = value }) self.old) }
+        ensures after { OnOk result
+            (self.new ≡ after_put (record { key = key; value = value }) self.old) }
+        ensures handed_back { IfErr result (λ pair. pair ≡ record { key = key; value = value }) }
+        ensures err { OnErr result (self.new ≡ self.old) }
+        ensures replaces { IsSome (value_in key self.old.pairs) → IsOk result }
+    {
+        let _held = self.objects.len();
+        match self.objects.push(key, value) {
+            Ok(Some((key, value))) => Ok(unless_first(&self.objects, Pair { key, value })),
+            Ok(None) => Ok(None),
+            Err(
+                AllocFailed {
+                    value: (key, value),
+                },
+            ) => Err(Pair { key, value }),
+        }
+    }
+
+    /// Takes the key's pair out and gives its value.
+    pub fn remove(&mut self, key: &Key) -> Option<Value>
+        ensures value { result ≡ value_in key.now self.old.pairs }
+        ensures after { self.new ≡ after_remove key.now self.old }
+    {
+        let _held = self.objects.len();
+        self.objects.pop(key)
+    }
+}
+
+ghost use Rattle.std.specs.Prelude.{if◌then◌else◌};
+ghost use Rattle.memory_cache.specs.Entries.{is_first};
+
+/// The pair that left, unless it is the older one of the key that is first now.
+fn unless_first(objects: &LruCache<Key, Value>, left: Pair) -> Option<Pair>
+    ensures { result ≡ (if is_first left.key objects.now.entries then None else Some left) }
+{
+    match objects.peek_mru() {
+        Some((first, _)) if *first == left.key => None,
+        _ => Some(left),
+    }
+}
