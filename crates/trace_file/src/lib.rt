@@ -6,7 +6,9 @@ mod act_ref;
 mod call;
 mod call_ref;
 mod certificate;
+mod entry;
 mod history;
+mod kind;
 
 pub use act::Act;
 pub use act_ref::ActRef;
