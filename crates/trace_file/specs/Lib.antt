@@ -1,3 +1,6 @@
 pub mod Calls
+pub mod Given
 pub mod Lent
+pub mod Reading
 pub mod Stored
+pub mod Text
