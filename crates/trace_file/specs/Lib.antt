@@ -3,4 +3,5 @@ pub mod Given
 pub mod Lent
 pub mod Reading
 pub mod Stored
+pub mod Stream
 pub mod Text
