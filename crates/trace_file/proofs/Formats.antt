@@ -9,6 +9,7 @@ use Rattle.trace_file.specs.declared.stop.Stop.{Stop}
 use Rattle.trace_file.specs.declared.stop.Stop.TheVariants.{Short, Fault}
 use Rattle.trace_file.specs.declared.trace_fault.TraceFault.{TraceFault}
 use Rattle.trace_file.specs.Reading.{Place, place, Read, ◌>>=◌, bytes_at, number_at, first_at, byte_at, many_at}
+use Rattle.trace_file.specs.Stream.{in_front}
 
 abbrev pub IsBytes : List ℕ → Type 0
 IsBytes bytes = (i : ℕ) → get_or bytes i 0 < 256
@@ -37,11 +38,6 @@ guard_ok false d x y e = (refl, cc)
 pub not_short : {A : Type 0} (b : Bool) (x : A) (f : TraceFault) → ◌≡◌ {A = Result A Stop} (cond b (Err Short) (Ok x)) (Err (Fault f)) → ⊥
 not_short true x f e = cc
 not_short false x f e = cc
-
--- what was read before, in front of what is read
-abbrev pub in_front : {A : Type 0} → List A → Read (List A) → Read (List A)
-in_front xs (Ok others) = Ok (xs ++ others.0, others.1)
-in_front xs (Err d) = Err d
 
 -- a last step that only puts a value in front meets no fault
 not_last : {A : Type 0} (r : Read (List A)) (x : A) (f : TraceFault) → in_front (x ∷ []) r ≡ Err (Fault f) → r ≡ Err (Fault f)
@@ -121,7 +117,6 @@ pure_format {A} y = record {
 module _ {A B : Type 0} (read : Place → Read A) (text : A → List ℕ) (lawful : A → Type 0)
     (read' : ℕ → A → Place → Read B) (text' : B → List ℕ) (lawful' : A → B → Type 0) (back : B → A)
     (first : IsFormat read text lawful) (second : (at : ℕ) (x : A) → IsFormat (read' at x) text' (lawful' x)) (only : (x : A) (y : B) → lawful x → lawful' x y → back y ≡ x) where
-
   abbrev both : Place → Read B
   both p = read p >>= λ x. read' p.at x.0 x.1
 
@@ -269,7 +264,7 @@ first_takes : (at : ℕ) (bytes : List ℕ) (n : ℕ) (q : Place) → IsBytes by
 first_takes at [] n q fits e = absurd cc
 first_takes at (b ∷ rest) n q fits e =
     subst (λ (z : ℕ × Place). Takes (place at (b ∷ rest)) (z.0 ∷ []) z.1 × (z.0 < 256)) (ok_is (b, place (at + 1) rest) (n, q) e)
-        (record { parts = refl; at = refl; rest_fits = λ i. fits (suc i) }, fits 0)
+    (record { parts = refl; at = refl; rest_fits = λ i. fits (suc i) }, fits 0)
 
 first_stays : (at : ℕ) (bytes : List ℕ) (f : TraceFault) (more : List ℕ) → first_at at bytes ≡ Err (Fault f) → first_at at (bytes ++ more) ≡ Err (Fault f)
 first_stays at [] f more e = absurd cc
@@ -282,8 +277,10 @@ byte_format = record { takes = takes'; again = again'; stays = stays' }
   where
     takes' : (p : Place) (n : ℕ) (q : Place) → IsBytes p.bytes → byte_at p ≡ Ok (n, q) → Takes p (n ∷ []) q × (n < 256)
     takes' p n q fits e = first_takes p.at p.bytes n q fits e
+
     again' : (at n : ℕ) (rest : List ℕ) → n < 256 → byte_at (place at ((n ∷ []) ++ rest)) ≡ Ok (n, place (at + 1) rest)
     again' at n rest lt = refl
+
     stays' : (p : Place) (f : TraceFault) (more : List ℕ) → IsBytes p.bytes → byte_at p ≡ Err (Fault f) → byte_at (longer p more) ≡ Err (Fault f)
     stays' p f more fits e = first_stays p.at p.bytes f more e
 
@@ -293,11 +290,11 @@ put_nothing : {A : Type 0} (r : Read (List A)) → in_front [] r ≡ r
 put_nothing (Ok others) = refl
 put_nothing (Err d) = refl
 
-first_in_front : {A : Type 0} (x : A) (r : Read (List A)) → ◌>>=◌ {B = List A × Place} r (λ others. Ok (x ∷ others.0, others.1)) ≡ in_front (x ∷ []) r
+pub first_in_front : {A : Type 0} (x : A) (r : Read (List A)) → ◌>>=◌ {B = List A × Place} r (λ others. Ok (x ∷ others.0, others.1)) ≡ in_front (x ∷ []) r
 first_in_front x (Ok others) = refl
 first_in_front x (Err d) = refl
 
-put_in_front : {A : Type 0} (xs ys : List A) (r : Read (List A)) → in_front xs (in_front ys r) ≡ in_front (xs ++ ys) r
+pub put_in_front : {A : Type 0} (xs ys : List A) (r : Read (List A)) → in_front xs (in_front ys r) ≡ in_front (xs ++ ys) r
 put_in_front xs ys (Ok others) = ap (λ zs. Ok (zs, others.1)) (sym (append_assoc xs ys others.0))
 put_in_front xs ys (Err d) = refl
 

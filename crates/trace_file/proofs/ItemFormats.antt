@@ -25,8 +25,8 @@ pub key_format : IsFormat key_at key_text IsKey
 unfolding key_at
 key_format =
     same_lawful (then_format byte_at (λ n. n ∷ []) (λ n. n < 256)
-        (λ at len p. cond (eqb len 0) (Err (Fault (BadKey at))) (bytes_at len p)) (λ key. key) (λ len key. (eqb len 0 ≡ false) × (length key ≡ len)) length
-        byte_format (λ at len. guard_format (bytes_format len) (eqb len 0) (BadKey at)) (λ len key h k. k.1))
+    (λ at len p. cond (eqb len 0) (Err (Fault (BadKey at))) (bytes_at len p)) (λ key. key) (λ len key. (eqb len 0 ≡ false) × (length key ≡ len)) length
+    byte_format (λ at len. guard_format (bytes_format len) (eqb len 0) (BadKey at)) (λ len key h k. k.1))
     IsKey
     (λ key h. let some = eqb-false (length key) 0 h.1.0 in (omega (arith, some), omega (arith, h.0)))
     (λ key is. (omega (arith, is.1), (ne_eqb (length key) 0 (λ e. omega (arith, is.0, e)), refl)))
@@ -35,8 +35,8 @@ pub value_format : IsFormat value_at value_text IsValue
 unfolding value_at
 value_format =
     same_lawful (then_format (number_at w16) (to_be_bytes w16) (λ n. n < 2 ^ 16)
-        (λ at len p. cond (ltb 2048 len) (Err (Fault (BadValue at))) (bytes_at len p)) (λ value. value) (λ len value. (ltb 2048 len ≡ false) × (length value ≡ len)) length
-        (number_format w16 (2 ^ 16) wide16) (λ at len. guard_format (bytes_format len) (ltb 2048 len) (BadValue at)) (λ len value h k. k.1))
+    (λ at len p. cond (ltb 2048 len) (Err (Fault (BadValue at))) (bytes_at len p)) (λ value. value) (λ len value. (ltb 2048 len ≡ false) × (length value ≡ len)) length
+    (number_format w16 (2 ^ 16) wide16) (λ at len. guard_format (bytes_format len) (ltb 2048 len) (BadValue at)) (λ len value h k. k.1))
     IsValue
     (λ value h. ltb-false 2048 (length value) h.1.0)
     (λ value is. (omega (arith, is), (le-ltb 2048 (length value) is, refl)))
@@ -92,8 +92,8 @@ kind_format : IsFormat kind_at kind_text (λ _. Unit {0})
 unfolding kind_at
 kind_format =
     same_lawful (then_format byte_at (λ n. n ∷ []) (λ n. n < 256)
-        (λ at b p. or_fault (kind_of b) (BadKind at) p) (λ _. []) (λ b kind. kind_of b ≡ Some kind) kind_number
-        byte_format (λ at b. option_format (BadKind at) (kind_of b)) (λ b kind h k. number_is b kind k))
+    (λ at b p. or_fault (kind_of b) (BadKind at) p) (λ _. []) (λ b kind. kind_of b ≡ Some kind) kind_number
+    byte_format (λ at b. option_format (BadKind at) (kind_of b)) (λ b kind h k. number_is b kind k))
     (λ _. Unit {0})
     (λ kind h. tt)
     (λ kind h. kind_again kind)
@@ -339,7 +339,7 @@ pub header_format : IsFormat header_at header_text (λ n. n ≤ most_calls)
 unfolding header_at header_text
 header_format =
     same_lawful (then_format magic_at (λ bytes. bytes) IsMagic (λ at bytes p. count_at p) (to_be_bytes w32) (λ bytes n. n ≤ most_calls) (λ n. magic)
-        magic_format (λ at bytes. count_format) (λ bytes n h k. sym h))
+    magic_format (λ at bytes. count_format) (λ bytes n h k. sym h))
     (λ n. n ≤ most_calls)
     (λ n h. h.1)
     (λ n h. (refl, h))

@@ -1,4 +1,6 @@
+pub mod Countings
 pub mod Formats
 pub mod ItemFormats
 pub mod StoreLaws
+pub mod Takings
 pub mod TraceLaws

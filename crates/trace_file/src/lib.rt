@@ -12,8 +12,11 @@ mod history;
 mod items;
 mod kind;
 mod stop;
+mod taken;
+mod taking;
 mod trace;
 mod trace_fault;
+mod trace_reader;
 
 pub use act::Act;
 pub use act_ref::ActRef;
@@ -23,3 +26,4 @@ pub use certificate::Certificate;
 pub use history::History;
 pub use trace::Trace;
 pub use trace_fault::TraceFault;
+pub use trace_reader::TraceReader;
