@@ -1,6 +1,7 @@
 pub mod Countings
 pub mod Formats
 pub mod ItemFormats
+pub mod ReaderLaws
 pub mod StoreLaws
 pub mod Takings
 pub mod TraceLaws

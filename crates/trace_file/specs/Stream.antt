@@ -1,5 +1,5 @@
 -- A stream of bytes that may go on, as far as it was taken apart.
-use Rattle.std.specs.Prelude.{◌≡◌, ◌≢◌, ℕ, ◌+◌, ◌-◌, ◌<◌, ◌≤◌, ◌^◌, List, [], ◌++◌, length, All, Option, Some, None, Result, Ok, Err, ◌==◌, if◌then◌else◌}
+use Rattle.std.specs.Prelude.{◌≡◌, ◌≢◌, ℕ, ◌+◌, ◌-◌, ◌<◌, ◌≤◌, ◌^◌, List, [], ◌++◌, length, All, Bool, false, Option, Some, None, Result, Ok, Err, ◌==◌, if◌then◌else◌}
 use Rattle.std.specs.List.{flat_map}
 use Rattle.trace_file.specs.declared.call.Call.{Call}
 use Rattle.trace_file.specs.declared.stop.Stop.{Stop}
@@ -9,7 +9,7 @@ use Rattle.trace_file.specs.declared.trace.Trace.{Trace}
 use Rattle.trace_file.specs.declared.trace_fault.TraceFault.{TraceFault}
 use Rattle.trace_file.specs.declared.trace_fault.TraceFault.TheVariants.{OutOfMemory}
 use Rattle.trace_file.specs.Calls.{IsCall}
-use Rattle.trace_file.specs.Reading.{Place, place, Read, ◌>>=◌, call_at, position_at, many_at, end_at, trace_at, outcome_of}
+use Rattle.trace_file.specs.Reading.{Place, place, Read, ◌>>=◌, call_at, position_at, many_at, end_at, trace_at, outcome_of, first_fault_of}
 use Rattle.trace_file.specs.Text.{most_calls, call_text, position_text, header_text}
 
 -- a history and a certificate
@@ -70,10 +70,14 @@ abbrev pub IsTaken : Option ℕ → List Call → List ℕ → Type 0
 IsTaken None history certificate = (history ≡ []) × (certificate ≡ [])
 IsTaken (Some count) history certificate = IsCounted count history certificate
 
+-- whether all positions that the header counts were taken, so all calls too
+abbrev pub whole : Option ℕ → List ℕ → Bool
+whole None certificate = false
+whole (Some count) certificate = length certificate == count
+
 -- what is known with no further byte: the pair, once it is whole
 abbrev pub standing : Option ℕ → List Call → List ℕ → Result Trace Stop
-standing None history certificate = Err Short
-standing (Some count) history certificate = if length certificate == count then Ok (pair_of history certificate) else Err Short
+standing count history certificate = if whole count certificate then Ok (pair_of history certificate) else Err Short
 
 -- taking went on from one place to another, and what is read behind is the same
 pub record GoesOn (count : ℕ) (old_calls : List Call) (old_positions : List ℕ) (p : Place) (calls : List Call) (positions : List ℕ) (q : Place) : Type 0 where
@@ -116,6 +120,28 @@ pub record IsReading (taken : Taken) (at : ℕ) (pending : List ℕ) : Type 0 wh
   pub at_is : at ≡ length (text_so_far taken.count taken.history taken.certificate)
   pub are_bytes : All (λ byte. byte < 256) (text_so_far taken.count taken.history taken.certificate ++ pending)
   pub stands : trace_at (place 0 (text_so_far taken.count taken.history taken.certificate ++ pending)) ≡ standing taken.count taken.history taken.certificate
+
+-- what taking of further bytes starts from
+pub record StartsOn (taken : Taken) (at : ℕ) (pending : List ℕ) : Type 0 where
+  pub small : at < 2 ^ 40
+  pub taken_is : IsTaken taken.count taken.history taken.certificate
+  pub at_is : at ≡ length (text_so_far taken.count taken.history taken.certificate)
+  pub are_bytes : All (λ byte. byte < 256) (text_so_far taken.count taken.history taken.certificate ++ pending)
+
+-- the stream is the same, and now its standing is known
+pub record Keeps (old : Taken) (old_pending : List ℕ) (taken : Taken) (at : ℕ) (pending : List ℕ) : Type 0 where
+  pub small : at < 2 ^ 40
+  pub reading : IsReading taken at pending
+  pub same : text_so_far taken.count taken.history taken.certificate ++ pending ≡ text_so_far old.count old.history old.certificate ++ old_pending
+
+-- the fault is the first one of the stream, whatever follows, want of memory aside
+abbrev pub FaultIn : List ℕ → TraceFault → Type 0
+FaultIn stream fault = fault ≢ OutOfMemory → (more : List ℕ) → first_fault_of (stream ++ more) ≡ Some fault
+
+-- what a reader of pieces keeps: its offset is below the length of the longest trace, and with no fault it knows its stream
+pub record IsReader (taken : Taken) (at : ℕ) (pending : List ℕ) (fault : Option TraceFault) : Type 0 where
+  pub small : at < 2 ^ 40
+  pub reading : fault ≡ None → IsReading taken at pending
 
 -- the stream that was fed
 abbrev pub stream_of : Taken → List ℕ → List ℕ

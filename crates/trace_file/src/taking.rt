@@ -2,8 +2,8 @@
 ghost use Rattle.std.specs.Prelude.{◌≡◌, ◌≤◌, ◌<◌, ◌-◌, ◌+◌, ℕ, List, length, IfOk, IfErr, OnErr, OnOk, Some, None, [], All};
 ghost use Rattle.std.specs.Option.{option_map};
 ghost use Rattle.trace_file.specs.Given.{shown};
-ghost use Rattle.trace_file.specs.Reading.{call_at, position_at, many_at};
-ghost use Rattle.trace_file.specs.Stream.{in_front, TakesItems, FailsAs, IsTaken, Opens, Advances, read_behind, text_so_far, counted_text, counted_at, IsCounted, Settles};
+ghost use Rattle.trace_file.specs.Reading.{call_at, position_at, many_at, at_end};
+ghost use Rattle.trace_file.specs.Stream.{in_front, TakesItems, FailsAs, IsTaken, Opens, Advances, read_behind, text_so_far, counted_text, counted_at, IsCounted, Settles, whole, standing};
 ghost use Rattle.trace_file.specs.Text.{call_text, position_text};
 
 use crate::certificate::Certificate;
@@ -12,6 +12,7 @@ use crate::history::History;
 use crate::items::{call, header, position};
 use crate::stop::Stop;
 use crate::taken::Taken;
+use crate::trace::Trace;
 use crate::trace_fault::TraceFault;
 use std::alloc::Global;
 
@@ -103,6 +104,34 @@ impl Taken {
             history: History::new(alloc),
             certificate: Certificate::new(alloc),
         }
+    }
+
+    /// Whether all calls and positions that the header counts were taken.
+    fn is_whole(&self) -> bool
+        ensures { result ≡ whole self.now.count self.now.certificate }
+    {
+        match self.count {
+            Some(count) => self.certificate.len() == count as usize,
+            None => false,
+        }
+    }
+
+    /// What was taken as a trace, if it is whole; else the stream ended too early, after so many bytes.
+    pub(crate) fn ended(self, fed: u64) -> Result<Trace, TraceFault>
+        ensures { result ≡ at_end fed (standing self.count self.history self.certificate) }
+    {
+        if !self.is_whole() {
+            return Err(TraceFault::Truncated { at: fed });
+        }
+        let Taken {
+            count: _,
+            history,
+            certificate,
+        } = self;
+        Ok(Trace {
+            history,
+            certificate,
+        })
     }
 
     /// Takes the header, once it is whole, and answers the count and the place behind it.

@@ -1,5 +1,5 @@
 // Reading a trace that comes in pieces.
-ghost use Rattle.std.specs.Prelude.{◌≡◌, ◌≢◌, ◌++◌, ◌-◌, ◌+◌, ◌<◌, ◌≤◌, ◌^◌, [], Ok, Some, None, List, ℕ, length, drop, IfOk, IfErr, OnOk, vec_len};
+ghost use Rattle.std.specs.Prelude.{◌≡◌, ◌≢◌, ◌++◌, ◌-◌, ◌+◌, ◌<◌, ◌≤◌, ◌^◌, [], Ok, Err, Some, None, List, ℕ, length, drop, IfOk, IfErr, OnOk, vec_len};
 
 use crate::cursor::Cursor;
 use crate::taken::Taken;
@@ -25,16 +25,16 @@ pub struct TraceReader {
 }
 
 impl Model for TraceReader {
-    ghost use Rattle.std.specs.Prelude.{◌≡◌, None, List, ℕ, Result};
+    ghost use Rattle.std.specs.Prelude.{List, ℕ, Result};
     ghost use Rattle.trace_file.specs.declared.trace_fault.TraceFault.{TraceFault};
 
     ghost Value = { Result (List ℕ) TraceFault };
 
-    ghost use Rattle.trace_file.specs.Stream.{IsReading, stream_of, fed_of};
+    ghost use Rattle.trace_file.specs.Stream.{IsReader, stream_of, fed_of};
 
     ghost view = { λ r. fed_of r.fault (stream_of r.taken r.pending.items) };
 
-    ghost invariant = { λ r. r.fault ≡ None → IsReading r.taken r.at r.pending.items };
+    ghost invariant = { λ r. IsReader r.taken r.at r.pending.items r.fault };
 }
 
 impl TraceReader {
@@ -70,22 +70,103 @@ impl TraceReader {
             pending,
             fault,
         } = self;
-        if let Some(fault) = fault {
-            return Err(fault);
-        }
-        let Taken {
-            count,
-            history,
-            certificate,
-        } = taken;
-        match count {
-            Some(count) if certificate.len() == count as usize => Ok(Trace {
-                history,
-                certificate,
-            }),
-            _ => Err(TraceFault::Truncated {
-                at: at + pending.len() as u64,
-            }),
+        match fault {
+            Some(fault) => Err(fault),
+            None => match taken.ended(at + pending.len() as u64) {
+                Ok(trace) => Ok(trace),
+                Err(fault) => Err(fault),
+            },
         }
     }
+
+    /// Takes the next piece of the stream, of any length.
+    ///
+    /// It answers the first fault of the stream so far, or `OutOfMemory`; after either the reader
+    /// answers the same from then on.
+    pub fn feed(&mut self, piece: &[u8]) -> Result<(), TraceFault>
+        ensures ok { IfOk self.old (λ stream. OnOk result (self.new ≡ Ok (stream ++ piece.now))) }
+        ensures no_fault { IfOk self.old (λ stream.
+            OnOk result (first_fault_of (stream ++ piece.now) ≡ None)) }
+
+        // The fault is that of the stream so far, whatever follows it.
+        ensures first { IfOk self.old (λ stream. IfErr result (λ fault. fault ≢ TraceFault.OutOfMemory →
+            (more : List ℕ) → first_fault_of (stream ++ piece.now ++ more) ≡ Some fault)) }
+        ensures failed { IfErr result (λ fault. self.new ≡ Err fault) }
+        ensures failed_before { IfErr self.old (λ fault. result ≡ Err fault) }
+    {
+        let mut rest = piece;
+        loop {
+            let len = rest.len().min(PIECE);
+            let (chunk, behind) = rest.split_at(len);
+            match self.take(chunk) {
+                Ok(()) => {}
+                Err(fault) => return Err(fault),
+            }
+            rest = behind;
+            if rest.is_empty() {
+                return Ok(());
+            }
+        }
+    }
+
+    /// The same for one piece, which it copies whole.
+    fn take(&mut self, piece: &[u8]) -> Result<(), TraceFault>
+        ensures ok { IfOk self.old (λ stream. OnOk result (self.new ≡ Ok (stream ++ piece.now))) }
+        ensures no_fault { IfOk self.old (λ stream.
+            OnOk result (first_fault_of (stream ++ piece.now) ≡ None)) }
+        ensures first { IfOk self.old (λ stream. IfErr result (λ fault. fault ≢ TraceFault.OutOfMemory →
+            (more : List ℕ) → first_fault_of (stream ++ piece.now ++ more) ≡ Some fault)) }
+        ensures failed { IfErr result (λ fault. self.new ≡ Err fault) }
+        ensures failed_before { IfErr self.old (λ fault. result ≡ Err fault) }
+    {
+        match self.fault {
+            Some(fault) => return Err(fault),
+            None => {}
+        }
+        let Ok(()) = self.pending.extend_from_slice(piece) else {
+            self.fault = Some(TraceFault::OutOfMemory);
+            return Err(TraceFault::OutOfMemory);
+        };
+        match advance(&mut self.taken, self.at, &mut self.pending) {
+            Ok(at) => {
+                self.at = at;
+                Ok(())
+            }
+            Err(fault) => {
+                self.fault = Some(fault);
+                Err(fault)
+            }
+        }
+    }
+}
+
+ghost use Rattle.trace_file.specs.Reading.{place, trace_at};
+ghost use Rattle.trace_file.specs.Stream.{IsReading, stream_of, StartsOn, FaultIn, Keeps};
+
+/// Takes as much as is whole of the pending bytes, and answers the offset of those that are left.
+fn advance(taken: &mut Taken, at: u64, pending: &mut Vec<u8>) -> Result<u64, TraceFault>
+    requires { StartsOn taken.old at pending.old.items }
+    ensures ok { IfOk result (λ at. Keeps taken.old pending.old.items taken.new at pending.new.items) }
+    ensures err { IfErr result (λ fault. FaultIn (stream_of taken.old pending.old.items) fault) }
+{
+    let cursor = Cursor::new(at, pending.as_slice());
+    match taken.take(cursor) {
+        Ok(rest) => {
+            let at = rest.at;
+            let left = rest.bytes.len();
+            keep_last(pending, left);
+            Ok(at)
+        }
+        Err(fault) => Err(fault),
+    }
+}
+
+/// Keeps the last so many bytes.
+fn keep_last(bytes: &mut Vec<u8>, count: usize)
+    requires { count ≤ length bytes.old.items }
+    ensures { bytes.new.items ≡ drop (length bytes.old.items - count) bytes.old.items }
+{
+    let start = bytes.len() - count;
+    bytes.copy_within(start.., 0);
+    bytes.truncate(count);
 }
