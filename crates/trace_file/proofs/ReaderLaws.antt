@@ -2,7 +2,7 @@
 use Rattle.std.proofs.Common.{◌≡◌, ◌≢◌, ℕ, zero, suc, ◌+◌, ◌-◌, ◌*◌, ◌^◌, ◌<◌, ◌≤◌, Bool, true, false, cond, List, [], ◌∷◌, ◌++◌, length, drop, Option, Some, None, Result, Ok, Err, refl, sym, ap, subst, ◌∙◌, append_assoc, arith, All}
 use Rattle.std.specs.List.{flat_map, AllByRecursion}
 use Rattle.std.specs.Int.{w16, w32, w64, to_be_bytes}
-use Rattle.std.proofs.lemmas.List.{length-append, drop_at, drop-drop}
+use Rattle.std.proofs.lemmas.List.{append-nil, length-append, drop_at, drop-drop}
 use Rattle.std.proofs.lemmas.List.Elements.{All-nil, All-append, recursion_from_All}
 use Rattle.trace_file.specs.declared.act.Act.{Act}
 use Rattle.trace_file.specs.declared.act.Act.TheVariants.{Put, Remove, Hit, Miss}
@@ -20,7 +20,7 @@ use Rattle.trace_file.specs.Stream.{pair_of, FailsAs, counted_text, IsCounted, t
 use Rattle.trace_file.specs.Text.{most_calls, act_text, call_text, position_text, header_text}
 use Rattle.trace_file.proofs.TraceLaws.{goes_on, stopped_at_header, trace_stays}
 use Rattle.trace_file.proofs.Takings.{bytes_from_All}
-use Rattle.std.specs.Prelude.{IfOk}
+use Rattle.std.specs.Prelude.{IfOk, IfErr}
 
 -- ---- how long a text can be
 
@@ -79,11 +79,11 @@ reader_of_nothing = record {
 
 -- ---- the end
 
-pub finishes : (taken : Taken) (at : ℕ) (pending : List ℕ) (self : Result (List ℕ) TraceFault) → fed_of None (stream_of taken pending) ≡ self → IsReading taken at pending
-    → at_end (at + length pending) (standing taken.count taken.history taken.certificate) ≡ finished self
+pub finishes : (taken : Taken) (at len : ℕ) (pending : List ℕ) (self : Result (List ℕ) TraceFault) → fed_of None (stream_of taken pending) ≡ self → IsReading taken at pending → len ≡ length pending
+    → at_end (at + len) (standing taken.count taken.history taken.certificate) ≡ finished self
 unfolding outcome_of
-finishes taken at pending self view is =
-    let n : at + length pending ≡ length (stream_of taken pending) = omega (arith, is.at_is, length-append (text_so_far taken.count taken.history taken.certificate) pending) in
+finishes taken at len pending self view is len-is =
+    let n : at + len ≡ length (stream_of taken pending) = omega (arith, is.at_is, length-append (text_so_far taken.count taken.history taken.certificate) pending) in
     ap (λ (m : ℕ). at_end m (standing taken.count taken.history taken.certificate)) n
     ∙ ap (at_end (length (stream_of taken pending))) (sym is.stands)
     ∙ ap finished view
@@ -162,3 +162,72 @@ no_fault_now self old pending piece now t at kept view grown keeps =
     let text = text_so_far old.count old.history old.certificate in
     let same : (text ++ pending) ++ piece ≡ stream_of t kept = append_assoc text pending piece ∙ ap (λ (s : List ℕ). text ++ s) (sym grown) ∙ sym keeps.same in
     subst (λ (r : Result (List ℕ) TraceFault). IfOk r (λ stream. first_fault_of (stream ++ piece) ≡ None)) view (ap first_fault_of same ∙ no_fault t at kept keeps.reading)
+
+-- ---- pieces of pieces
+
+-- after these bytes more
+abbrev pub Follows : Result (List ℕ) TraceFault → List ℕ → Result (List ℕ) TraceFault → Type 0
+Follows (Ok stream) front now = now ≡ Ok (stream ++ front)
+Follows (Err fault) front now = now ≡ Err fault
+
+-- so much of a piece was fed
+pub record FedSoFar (initial now : Result (List ℕ) TraceFault) (piece rest : List ℕ) : Type 0 where
+  pub front : List ℕ
+  pub split : piece ≡ front ++ rest
+  pub follows : Follows initial front now
+
+pub fed_none : (initial : Result (List ℕ) TraceFault) (piece : List ℕ) → FedSoFar initial initial piece piece
+fed_none initial piece = record { front = []; split = refl; follows = follows_none initial }
+  where
+    follows_none : (r : Result (List ℕ) TraceFault) → Follows r [] r
+    follows_none (Ok s) = ap (λ (t : List ℕ). Ok t) (sym (append-nil s))
+    follows_none (Err f) = refl
+
+follows_more : (initial now new : Result (List ℕ) TraceFault) (front chunk : List ℕ) → Follows initial front now → IfOk now (λ s. new ≡ Ok (s ++ chunk)) → IfErr now (λ f. ⊥) → Follows initial (front ++ chunk) new
+follows_more (Ok s) now new front chunk follows ok good =
+    subst (λ (r : Result (List ℕ) TraceFault). IfOk r (λ s. new ≡ Ok (s ++ chunk))) follows ok ∙ ap (λ (t : List ℕ). Ok t) (append_assoc s front chunk)
+follows_more (Err f) now new front chunk follows ok good = absurd (subst (λ (r : Result (List ℕ) TraceFault). IfErr r (λ f. ⊥)) follows good)
+
+pub fed_more : (initial now new : Result (List ℕ) TraceFault) (piece rest chunk behind : List ℕ) → FedSoFar initial now piece rest → rest ≡ chunk ++ behind
+    → IfOk now (λ s. new ≡ Ok (s ++ chunk)) → IfErr now (λ f. ⊥) → FedSoFar initial new piece behind
+fed_more initial now new piece rest chunk behind fed cut ok good = record {
+  front = fed.front ++ chunk;
+  split = fed.split ∙ ap (λ (r : List ℕ). fed.front ++ r) cut ∙ sym (append_assoc fed.front chunk behind);
+  follows = follows_more initial now new fed.front chunk fed.follows ok good;
+}
+
+-- all of a piece was fed
+all_fed : (initial now : Result (List ℕ) TraceFault) (piece front : List ℕ) → piece ≡ front → Follows initial front now → IfOk initial (λ s. now ≡ Ok (s ++ piece))
+all_fed (Ok s) now piece front same follows = follows ∙ ap (λ (t : List ℕ). Ok (s ++ t)) (sym same)
+all_fed (Err f) now piece front same follows = tt
+
+pub fed_all : (initial now : Result (List ℕ) TraceFault) (piece : List ℕ) → FedSoFar initial now piece [] → IfOk initial (λ s. now ≡ Ok (s ++ piece))
+fed_all initial now piece fed = all_fed initial now piece fed.front (fed.split ∙ append-nil fed.front) fed.follows
+
+-- a fault in a part of a piece
+in_part : (initial now : Result (List ℕ) TraceFault) (fault : TraceFault) (front chunk behind piece : List ℕ) → Follows initial front now → piece ≡ front ++ (chunk ++ behind)
+    → IfOk now (λ s. FaultIn (s ++ chunk) fault) → IfOk initial (λ s. FaultIn (s ++ piece) fault)
+in_part (Ok s) now fault front chunk behind piece follows split at = λ known more.
+    let here = subst (λ (r : Result (List ℕ) TraceFault). IfOk r (λ s. FaultIn (s ++ chunk) fault)) follows at in
+    let same : ((s ++ front) ++ chunk) ++ (behind ++ more) ≡ (s ++ piece) ++ more =
+    append_assoc (s ++ front) chunk (behind ++ more)
+    ∙ append_assoc s front (chunk ++ (behind ++ more))
+    ∙ ap (λ (t : List ℕ). s ++ (front ++ t)) (sym (append_assoc chunk behind more))
+    ∙ ap (λ (t : List ℕ). s ++ t) (sym (append_assoc front (chunk ++ behind) more))
+    ∙ ap (λ (t : List ℕ). s ++ (t ++ more)) (sym split)
+    ∙ sym (append_assoc s piece more) in
+    ap first_fault_of (sym same) ∙ here known (behind ++ more)
+in_part (Err f) now fault front chunk behind piece follows split at = tt
+
+pub fault_in_part : (initial now : Result (List ℕ) TraceFault) (fault : TraceFault) (piece rest chunk behind : List ℕ) → FedSoFar initial now piece rest → rest ≡ chunk ++ behind
+    → IfOk now (λ s. FaultIn (s ++ chunk) fault) → IfOk initial (λ s. FaultIn (s ++ piece) fault)
+fault_in_part initial now fault piece rest chunk behind fed cut at =
+    in_part initial now fault fed.front chunk behind piece fed.follows (fed.split ∙ ap (λ (r : List ℕ). fed.front ++ r) cut) at
+
+before_by : (initial now : Result (List ℕ) TraceFault) (front : List ℕ) (result : Result (Unit {0}) TraceFault) → Follows initial front now → IfErr now (λ f. result ≡ Err f) → IfErr initial (λ f. result ≡ Err f)
+before_by (Ok s) now front result follows at = tt
+before_by (Err f) now front result follows at = subst (λ (r : Result (List ℕ) TraceFault). IfErr r (λ g. result ≡ Err g)) follows at
+
+-- a fault that was answered before
+pub failed_before : (initial now : Result (List ℕ) TraceFault) (piece rest : List ℕ) (result : Result (Unit {0}) TraceFault) → FedSoFar initial now piece rest → IfErr now (λ f. result ≡ Err f) → IfErr initial (λ f. result ≡ Err f)
+failed_before initial now piece rest result fed at = before_by initial now fed.front result fed.follows at
