@@ -17,8 +17,8 @@ use Rattle.record_pages.specs.Bounded.{IsValue}
 use Rattle.trace_file.specs.Calls.{IsCall, value_of}
 use Rattle.trace_file.specs.Reading.{Place, place, ◌>>=◌, bytes_at, magic_at, header_at, trace_at, at_end, outcome_of, first_fault_of, met}
 use Rattle.trace_file.specs.Stream.{pair_of, FailsAs, counted_text, IsCounted, text_so_far, read_behind, IsTaken, whole, standing, Advances, IsReading, IsReader, StartsOn, Keeps, FaultIn, stream_of, fed_of, finished}
-use Rattle.trace_file.specs.Text.{most_calls, act_text, call_text, position_text, header_text}
-use Rattle.trace_file.proofs.TraceLaws.{goes_on, stopped_at_header, trace_stays}
+use Rattle.trace_file.specs.Text.{IsTrace, most_calls, act_text, call_text, position_text, header_text}
+use Rattle.trace_file.proofs.TraceLaws.{goes_on, stopped_at_header, trace_takes, trace_stays}
 use Rattle.trace_file.proofs.Takings.{bytes_from_All}
 use Rattle.std.specs.Prelude.{IfOk, IfErr}
 
@@ -64,7 +64,7 @@ text_len (Some n) h c is =
 
 -- ---- a new reader
 
-nothing_there : trace_at (place 0 []) ≡ Err Short
+pub nothing_there : trace_at (place 0 []) ≡ Err Short
 unfolding header_at magic_at
 nothing_there = stopped_at_header (place 0 []) Short short
   where
@@ -87,6 +87,31 @@ finishes taken at len pending self view is len-is =
     ap (λ (m : ℕ). at_end m (standing taken.count taken.history taken.certificate)) n
     ∙ ap (at_end (length (stream_of taken pending))) (sym is.stands)
     ∙ ap finished view
+
+ended_ok : (n : ℕ) (r : Result Trace Stop) (t : Trace) → at_end n r ≡ Ok t → r ≡ Ok t
+ended_ok n (Ok u) t e = cc
+ended_ok n (Err Short) t e = absurd cc
+ended_ok n (Err (Fault f)) t e = absurd cc
+
+-- what is handed out is the trace that was fed
+pub finishes_trace : (taken : Taken) (at len : ℕ) (pending : List ℕ) (self : Result (List ℕ) TraceFault) (t : Trace) → fed_of None (stream_of taken pending) ≡ self → IsReading taken at pending
+    → Ok t ≡ at_end (at + len) (standing taken.count taken.history taken.certificate) → IfOk self (λ stream. IsTrace stream t.history t.certificate)
+finishes_trace taken at len pending self t view is e =
+    let read : trace_at (place 0 (stream_of taken pending)) ≡ Ok t = is.stands ∙ ended_ok (at + len) (standing taken.count taken.history taken.certificate) t (sym e) in
+    subst (λ (r : Result (List ℕ) TraceFault). IfOk r (λ stream. IsTrace stream t.history t.certificate)) view
+        (trace_takes 0 (stream_of taken pending) t (bytes_from_All (stream_of taken pending) is.are_bytes) read)
+
+cut_by : (w : Bool) (trace : Trace) (n : ℕ) (f : TraceFault) → Err f ≡ at_end n (cond w (Ok trace) (Err Short)) → f ≡ Truncated n
+cut_by true trace n f e = absurd cc
+cut_by false trace n f e = cc
+
+-- a stream that ends too early is cut at its end
+pub finishes_cut : (taken : Taken) (at len : ℕ) (pending : List ℕ) (self : Result (List ℕ) TraceFault) (f : TraceFault) → fed_of None (stream_of taken pending) ≡ self → IsReading taken at pending → len ≡ length pending
+    → Err f ≡ at_end (at + len) (standing taken.count taken.history taken.certificate) → IfOk self (λ stream. f ≡ Truncated (length stream))
+finishes_cut taken at len pending self f view is len-is e =
+    let n : at + len ≡ length (stream_of taken pending) = omega (arith, is.at_is, length-append (text_so_far taken.count taken.history taken.certificate) pending) in
+    let cut = cut_by (whole taken.count taken.certificate) (pair_of taken.history taken.certificate) (at + len) f e in
+    subst (λ (r : Result (List ℕ) TraceFault). IfOk r (λ stream. f ≡ Truncated (length stream))) view (cut ∙ ap (λ (m : ℕ). Truncated m) n)
 
 -- ---- further bytes
 

@@ -12,10 +12,11 @@ use Rattle.trace_file.specs.declared.trace.Trace.{Trace}
 use Rattle.trace_file.specs.declared.trace_fault.TraceFault.{TraceFault}
 use Rattle.trace_file.specs.declared.trace_fault.TraceFault.TheVariants.{Truncated, TrailingBytes}
 use Rattle.trace_file.specs.Calls.{IsCall}
+use Rattle.trace_file.specs.Outcome.{IsOfText}
 use Rattle.trace_file.specs.Reading.{Place, place, Read, ◌>>=◌, call_at, position_at, header_at, many_at, end_at, trace_at, at_end, outcome_of, met, first_fault_of}
 use Rattle.trace_file.specs.Stream.{pair_of, in_front, counted_text, counted_at, IsCounted}
 use Rattle.trace_file.specs.Text.{most_calls, call_text, position_text, header_text, trace_text, IsPair, IsTrace}
-use Rattle.trace_file.proofs.Formats.{IsBytes, bind_ok, bind_err, Stopped, at_first, at_second, ok_is, longer, Takes, Takes-then, IsFormat, read-longer, many_before, many_format}
+use Rattle.trace_file.proofs.Formats.{IsBytes, same_fault, bind_ok, bind_err, Stopped, at_first, at_second, ok_is, longer, Takes, Takes-then, IsFormat, read-longer, many_before, many_format}
 use Rattle.trace_file.proofs.ItemFormats.{call_format, position_format, header_format}
 
 abbrev after_calls : ℕ → List Call × Place → Result Trace Stop
@@ -191,4 +192,35 @@ trace_stays p f more fits e =
           | at_second c e' g ↦
               ap (λ (r : Read (List Call)). r >>= after_calls n) (read-longer (many_format call_format n) p c.0 c.1 more fits e')
               ∙ positions_stay n c.0 c.1 f more ((many_format call_format n).takes p c.0 c.1 fits e').0.rest_fits g
+        ]
+
+-- ---- which faults there are
+
+end_by : (b : Bool) (t : Trace) (at : ℕ) (f : TraceFault) → ◌≡◌ {A = Result Trace Stop} (cond b (Ok t) (Err (Fault (TrailingBytes at)))) (Err (Fault f)) → IsOfText f
+end_by true t at f e = absurd cc
+end_by false t at f e = subst IsOfText (same_fault (TrailingBytes at) f e) tt
+
+end_is : (t : Trace) (p : Place) (f : TraceFault) → end_at t p ≡ Err (Fault f) → IsOfText f
+unfolding end_at
+end_is t p f e = end_by (eqb (length p.bytes) 0) t p.at f e
+
+pub trace_kind : (p : Place) (f : TraceFault) → trace_at p ≡ Err (Fault f) → IsOfText f
+unfolding trace_at
+trace_kind p f e =
+    elim (bind_err (header_at p) after_header (Fault f) e) [
+      | at_first e' ↦ header_format.kind p f e'
+      | at_second n e' g ↦ calls_kind n.0 n.1 f g
+    ]
+  where
+    positions_kind : (n : ℕ) (cs : List Call) (p : Place) (f : TraceFault) → after_calls n (cs, p) ≡ Err (Fault f) → IsOfText f
+    positions_kind n cs p f e =
+        elim (bind_err (many_at position_at n p) (λ q. end_at (pair_of cs q.0) q.1) (Fault f) e) [
+          | at_first e' ↦ (many_format position_format n).kind p f e'
+          | at_second q e' g ↦ end_is (pair_of cs q.0) q.1 f g
+        ]
+    calls_kind : (n : ℕ) (p : Place) (f : TraceFault) → after_header (n, p) ≡ Err (Fault f) → IsOfText f
+    calls_kind n p f e =
+        elim (bind_err (many_at call_at n p) (after_calls n) (Fault f) e) [
+          | at_first e' ↦ (many_format call_format n).kind p f e'
+          | at_second c e' g ↦ positions_kind n c.0 c.1 f g
         ]

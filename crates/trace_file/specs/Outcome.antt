@@ -5,6 +5,12 @@ use Rattle.trace_file.specs.declared.trace_fault.TraceFault.{TraceFault}
 use Rattle.trace_file.specs.declared.trace_fault.TraceFault.TheVariants.{BadMagic, TooMany, BadKind, BadKey, BadValue, Truncated, TrailingBytes, ReadFault, OutOfMemory}
 use Rattle.trace_file.specs.Reading.{outcome_of, first_fault_of}
 
+-- a fault of the bytes themselves: neither of the reader nor of memory
+abbrev pub IsOfText : TraceFault → Type 0
+IsOfText (ReadFault at) = ⊥
+IsOfText OutOfMemory = ⊥
+IsOfText fault = Unit {0}
+
 -- this fault is answered for these bytes: the first one of the whole input; or a failed read behind so many bytes, which have no fault; or want of memory
 abbrev pub IsFaultOf : List ℕ → TraceFault → Type 0
 IsFaultOf bytes (ReadFault at) = (at ≤ length bytes) × (first_fault_of (take at bytes) ≡ None)

@@ -40,6 +40,7 @@ impl Model for TraceReader {
 impl TraceReader {
     ghost use Rattle.trace_file.specs.Reading.{first_fault_of, outcome_of};
     ghost use Rattle.trace_file.specs.Stream.{finished};
+    ghost use Rattle.trace_file.specs.Text.{IsTrace};
 
     /// The reader of a stream of which nothing was fed yet. It takes no memory.
     pub fn new(alloc: Global) -> TraceReader
@@ -62,7 +63,13 @@ impl TraceReader {
 
     /// What the stream is, if it ends here. It takes no memory.
     pub fn finish(self) -> Result<Trace, TraceFault>
-        ensures { result ≡ finished self }
+        ensures exact { result ≡ finished self }
+
+        // It is the trace that was fed, or was cut short.
+        ensures trace { IfOk result (λ trace. IfOk self (λ stream.
+            IsTrace stream trace.history trace.certificate)) }
+        ensures cut { IfErr result (λ fault. IfOk self (λ stream.
+            fault ≡ TraceFault.Truncated (length stream))) }
     {
         let TraceReader {
             taken,
