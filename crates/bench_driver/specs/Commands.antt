@@ -3,7 +3,7 @@ use Rattle.std.specs.Prelude.{◌≡◌, ℕ, Bool, ◌&&◌, List, [], ◌∷�
 use Rattle.std.specs.Str.{bytes_eq}
 use Rattle.bench_driver.specs.Words.{words_of, number_of}
 use Rattle.bench_driver.specs.declared.command.Command.{Command}
-use Rattle.bench_driver.specs.declared.command.Command.TheVariants.{Put, Get, Verdict}
+use Rattle.bench_driver.specs.declared.command.Command.TheVariants.{Put, Get, Remove, Forget, Verdict}
 
 -- that many words, and this is the first
 abbrev pub is_named : List (List ℕ) → ℕ → List ℕ → Bool
@@ -17,9 +17,9 @@ key_of word = if nat_lt 0 (length word) && nat_le (length word) 255 then Some wo
 abbrev pub value_of : List ℕ → Option (List ℕ)
 value_of word = if bytes_eq word (codes "-") then Some [] else (if nat_le (length word) 2048 then Some word else None)
 
--- get KEY
-abbrev pub get_of : List (List ℕ) → Option Command
-get_of words = option_map Get (key_of (slice_index_or words 1 []))
+-- get KEY, remove KEY or forget KEY, by what is to be done with the key
+abbrev pub at_key : (List ℕ → Command) → List (List ℕ) → Option Command
+at_key command words = option_map command (key_of (slice_index_or words 1 []))
 
 -- the put of these words
 abbrev pub put_words : List ℕ → List ℕ → List ℕ → Option Command
@@ -30,12 +30,14 @@ put_words key value word =
 abbrev pub put_of : List (List ℕ) → Option Command
 put_of words = put_words (slice_index_or words 1 []) (slice_index_or words 2 []) (slice_index_or words 3 [])
 
--- put KEY VALUE WORD, get KEY or verdict
+-- put KEY VALUE WORD, get KEY, remove KEY, forget KEY or verdict
 abbrev pub command_of_words : List (List ℕ) → Option Command
 command_of_words words =
     if is_named words 1 (codes "verdict") then Some Verdict
-    else (if is_named words 2 (codes "get") then get_of words
-    else (if is_named words 4 (codes "put") then put_of words else None))
+    else (if is_named words 2 (codes "get") then at_key Get words
+    else (if is_named words 2 (codes "remove") then at_key Remove words
+    else (if is_named words 2 (codes "forget") then at_key Forget words
+    else (if is_named words 4 (codes "put") then put_of words else None))))
 
 -- the command that a line spells, if it spells one
 abbrev pub command_of : List ℕ → Option Command

@@ -5,3 +5,4 @@ pub mod Configs
 pub mod Own
 pub mod Replies
 pub mod Script
+pub mod CommandLine

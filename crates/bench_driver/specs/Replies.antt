@@ -10,10 +10,10 @@ use Rattle.record_pages.specs.Sizes.{object_size}
 use Rattle.trace_file.specs.declared.act.Act.TheVariants as acts
 use Rattle.certificate_checker.specs.declared.verdict.Verdict.TheVariants.{Accepted}
 use Rattle.certificate_checker.specs.VerdictLine.{verdict_line}
-use Rattle.history_recorder.specs.LaneState.{get_step, put_step}
+use Rattle.history_recorder.specs.LaneState.{get_step, put_step, remove_step, forget_step}
 use Rattle.history_recorder.specs.Lane.{Lane, act_of}
 use Rattle.bench_driver.specs.declared.command.Command.{Command}
-use Rattle.bench_driver.specs.declared.command.Command.TheVariants.{Put, Get, Verdict}
+use Rattle.bench_driver.specs.declared.command.Command.TheVariants.{Put, Get, Remove, Forget, Verdict}
 use Rattle.bench_driver.specs.Own.{after_call}
 
 -- an empty value is printed as -
@@ -58,5 +58,11 @@ reply_to room lane (Get key) =
     reply (answer_text (get_step key lane.state).reply)
     (after_call lane (get_step key lane.state).state key (act_of (get_step key lane.state).reply))
     else reply (codes "history full") lane
+reply_to room lane (Remove key) =
+    if nat_lt (length lane.calls) 16777216 then
+    reply (codes "removed") (after_call lane (remove_step key lane.state).state key acts.Remove)
+    else reply (codes "history full") lane
+reply_to room lane (Forget key) =
+    reply (codes "forgotten") (record { state = (forget_step key lane.state).state; calls = lane.calls })
 -- every verdict of a script is an accepted line
 reply_to room lane Verdict = reply (verdict_line Accepted (length lane.calls)) lane

@@ -13,6 +13,10 @@ pub enum Command {
     Put(Key, Value, u32),
     /// Asks for a key.
     Get(Key),
+    /// Removes a key.
+    Remove(Key),
+    /// Has the cache forget a key, which is no call of the history.
+    Forget(Key),
     /// Asks for the verdict on the calls so far.
     Verdict,
 }
@@ -48,16 +52,6 @@ fn value(alloc: Global, word: &[u8]) -> Result<Option<Value>, AllocError>
     }
 }
 
-/// The get that two words spell.
-fn get_command(alloc: Global, key_word: &[u8]) -> Result<Option<Command>, AllocError>
-    ensures { IfOk result (λ command. command ≡ option_map Command.Get (key_of key_word.now)) }
-{
-    match key(alloc, key_word)? {
-        Some(key) => Ok(Some(Command::Get(key))),
-        None => Ok(None),
-    }
-}
-
 /// The put that four words spell.
 fn put_command(
     alloc: Global,
@@ -86,7 +80,11 @@ fn command_of_words(alloc: Global, words: &[&[u8]]) -> Result<Option<Command>, A
     if is_named(words, 1, b"verdict") {
         Ok(Some(Command::Verdict))
     } else if is_named(words, 2, b"get") {
-        get_command(alloc, words[1])
+        Ok(key(alloc, words[1])?.map(Command::Get))
+    } else if is_named(words, 2, b"remove") {
+        Ok(key(alloc, words[1])?.map(Command::Remove))
+    } else if is_named(words, 2, b"forget") {
+        Ok(key(alloc, words[1])?.map(Command::Forget))
     } else if is_named(words, 4, b"put") {
         put_command(alloc, words[1], words[2], words[3])
     } else {

@@ -2,7 +2,11 @@
 #![tactic(auto)]
 
 mod command;
+mod command_line;
 mod config_line;
+mod file_name;
+mod line;
+mod line_fault;
 mod line_read;
 mod lines;
 mod recording;

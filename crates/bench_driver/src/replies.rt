@@ -111,6 +111,39 @@ fn put_reply<const PAGE: usize>(
     }
 }
 
+/// A removal of a script.
+fn remove_reply<const PAGE: usize>(
+    lane: &mut ScriptLane<PAGE>,
+    key: &Key,
+    text: &mut Vec<u8>,
+) -> Result<(), AllocError>
+    ensures text { OnOk result (text.new.items
+        ≡ text.old.items ++ (reply_to (room PAGE) lane.old (Command.Remove key.now)).text) }
+    ensures lane { OnOk result (lane.new
+        ≡ (reply_to (room PAGE) lane.old (Command.Remove key.now)).lane) }
+{
+    match lane.remove(key) {
+        Ok(_) => append(text, b"removed\n"),
+        Err(RecordFault::HistoryFull) => append(text, b"history full\n"),
+        Err(RecordFault::OutOfMemory) => Err(AllocError),
+    }
+}
+
+/// A forgetting of a script.
+fn forget_reply<const PAGE: usize>(
+    lane: &mut ScriptLane<PAGE>,
+    key: &Key,
+    text: &mut Vec<u8>,
+) -> Result<(), AllocError>
+    ensures text { OnOk result (text.new.items
+        ≡ text.old.items ++ (reply_to (room PAGE) lane.old (Command.Forget key.now)).text) }
+    ensures lane { OnOk result (lane.new
+        ≡ (reply_to (room PAGE) lane.old (Command.Forget key.now)).lane) }
+{
+    lane.forget(key);
+    append(text, b"forgotten\n")
+}
+
 /// The verdict on a script's calls so far.
 fn verdict_reply<const PAGE: usize>(
     alloc: Global,
@@ -141,6 +174,8 @@ pub(crate) fn answer_command<const PAGE: usize>(
     match command {
         Command::Put(key, value, word) => put_reply(lane, key, value, word, text),
         Command::Get(key) => get_reply(lane, &key, text),
+        Command::Remove(key) => remove_reply(lane, &key, text),
+        Command::Forget(key) => forget_reply(lane, &key, text),
         Command::Verdict => verdict_reply(alloc, lane, text),
     }
 }

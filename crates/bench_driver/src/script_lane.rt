@@ -2,13 +2,15 @@
 ghost use Rattle.std.specs.Prelude.{◌≡◌, ◌↔◌, ◌<◌, ◌≤◌, [], length, IfOk, OnErr, IsErrOf, None, Some, MatchResult};
 ghost use Rattle.record_pages.specs.Sizes.{IsPageSize, object_size, room};
 ghost use Rattle.certificate_checker.specs.Acceptance.{IsAccepted};
-ghost use Rattle.history_recorder.specs.LaneState.{opening, get_step, put_step};
+ghost use Rattle.history_recorder.specs.LaneState.{opening, get_step, put_step, remove_step, forget_step};
 ghost use Rattle.history_recorder.specs.Lane.{act_of};
 ghost use Rattle.bench_driver.specs.Configs.{faulty};
 ghost use Rattle.bench_driver.specs.Own.{after_call, own_history, own_certificate};
 
 use crate::recording::Recording;
-use history_recorder::{Got, OpenFault, RecordFault, RecordPutFault, RecordedLane, Stored};
+use history_recorder::{
+    Got, OpenFault, RecordFault, RecordPutFault, RecordedLane, Removed, Stored,
+};
 use record_pages::{Config, Field, Key, Value};
 use std::alloc::{AllocError, Global};
 use std::marker::Model;
@@ -86,6 +88,30 @@ impl<const PAGE: usize> ScriptLane<PAGE> {
             Ok(stored) => Ok(stored),
             Err(fault) => Err(fault),
         }
+    }
+
+    /// Removes a key as the script's next call. A refused call takes no number.
+    pub fn remove(&mut self, key: &Key) -> Result<Removed, RecordFault>
+        ensures after { IfOk result (λ _. self.new ≡ after_call self.old
+            (remove_step key.now self.old.state).state key.now Act.Remove) }
+        ensures full { IsErrOf result RecordFault.HistoryFull ↔ (16777216 ≤ length self.old.calls) }
+        ensures err { OnErr result (self.new ≡ self.old) }
+    {
+        let count = self.lane.len() as u64;
+        match self.lane.remove(0, 3 * count + 1, 3 * count + 2, key) {
+            Ok(removed) => Ok(removed),
+            Err(fault) => Err(fault),
+        }
+    }
+
+    /// Has the lane forget a key. It is no call of the script's history.
+    pub fn forget(&mut self, key: &Key)
+        ensures { self.new ≡ record {
+          state = (forget_step key.now self.old.state).state;
+          calls = self.old.calls;
+        } }
+    {
+        self.lane.forget(key);
     }
 
     /// The calls so far as a history, with the certificate of their order. The pair is accepted.

@@ -1,0 +1,11 @@
+// What the command line asks for.
+use crate::file_name::FileName;
+
+/// What the words of the command line ask for.
+#[derive(Debug, Drop)]
+pub enum Line {
+    /// The script of standard input is to be answered.
+    Script,
+    /// The trace in this file is to be judged.
+    Check(FileName),
+}
