@@ -15,7 +15,10 @@ mod verdict_line;
 
 pub use acceptance::check;
 pub use fault::Fault;
-pub use laws::{latest_is_current, lawful_grows};
+pub use laws::{
+    accepted_has_no_fault, accepted_or_faulty, first_fault_is_one, lanes_are_accepted,
+    latest_is_current, lawful_grows, layout_exists, layout_is_one,
+};
 pub use verdict::Verdict;
 pub use verdict_line::verdict_line_of;
 
