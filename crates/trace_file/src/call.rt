@@ -1,5 +1,8 @@
 // A recorded call.
+ghost use Rattle.std.specs.Prelude.{◌≡◌};
+
 use crate::act::Act;
+use crate::call_ref::CallRef;
 use record_pages::Key;
 
 /// One call of a history: who made it, when it started and ended, at which key, and what it did.
@@ -15,4 +18,19 @@ pub struct Call {
     pub key: Key,
     /// What it did.
     pub act: Act,
+}
+
+impl Call {
+    ghost use Rattle.trace_file.specs.Calls.{IsCall};
+    ghost use Rattle.trace_file.specs.Lent.{call_shown};
+
+    /// The call, lent.
+    pub fn lent(&self) -> CallRef<'_>
+        ensures call { call_shown result ≡ self.now }
+        ensures lawful { IsCall (call_shown result) }
+    {
+        let key = self.key.bytes();
+        let act = self.act.lent();
+        CallRef::new(self.caller, self.start, self.end, key, act)
+    }
 }

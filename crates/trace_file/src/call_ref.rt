@@ -1,4 +1,6 @@
 // A call of a history, lent.
+ghost use Rattle.std.specs.Prelude.{◌≡◌};
+
 use crate::act_ref::ActRef;
 
 /// One call of a history, with the bytes of its key and value lent by the history.
@@ -14,4 +16,32 @@ pub struct CallRef<'a> {
     pub key: &'a [u8],
     /// What it did.
     pub act: ActRef<'a>,
+}
+
+impl<'a> CallRef<'a> {
+    ghost use Rattle.record_pages.specs.Bounded.{IsKey, IsValue};
+    ghost use Rattle.trace_file.specs.Calls.{IsCall, value_of};
+    ghost use Rattle.trace_file.specs.Lent.{act_shown, call_shown};
+
+    /// The call with these parts.
+    pub fn new(caller: u16, start: u64, end: u64, key: &'a [u8], act: ActRef<'a>) -> CallRef<'a>
+        requires key { IsKey key.now }
+        requires value { IsValue (value_of (act_shown act)) }
+        ensures call { call_shown result ≡ record {
+          caller = caller;
+          start = start;
+          end = end;
+          key = key.now;
+          act = act_shown act.entry;
+        } }
+        ensures lawful { IsCall (call_shown result) }
+    {
+        CallRef {
+            caller,
+            start,
+            end,
+            key,
+            act,
+        }
+    }
 }

@@ -1,29 +1,38 @@
 // Recorded calls in the order in which they were recorded.
-ghost use Rattle.std.specs.Prelude.{◌≡◌, ◌<◌, [], ◌∷◌, ◌++◌, ◌↔◌, IsTrue, List, Some, length, OnOk, OnErr, slice_get};
+ghost use Rattle.std.specs.Prelude.{◌≡◌, ◌+◌, ◌<◌, ◌≤◌, [], ◌∷◌, ◌++◌, ◌↔◌, All, IsTrue, List, ℕ, Some, length, OnOk, OnErr, slice_get, take, drop};
 
-use crate::act::Act;
 use crate::act_ref::ActRef;
 use crate::call::Call;
 use crate::call_ref::CallRef;
+use crate::entry::Entry;
+use crate::kind::Kind;
 use std::alloc::{AllocError, Global};
 use std::marker::Model;
 
 /// Recorded calls, in the order in which they were recorded.
+///
+/// The bytes of all keys and values lie in one store.
 #[derive(Debug, Drop)]
 pub struct History {
-    calls: Vec<Call>,
+    entries: Vec<Entry>,
+    store: Vec<u8>,
 }
 
 impl Model for History {
-    ghost use Rattle.std.specs.Prelude.{List};
+    ghost use Rattle.std.specs.Prelude.{All, List, length};
     ghost use Rattle.trace_file.specs.declared.call.Call.{Call};
 
     ghost Value = { List Call };
 
-    ghost view = { λ h. h.calls.items };
+    ghost use Rattle.trace_file.specs.Stored.{calls_in, LiesIn};
+
+    ghost view = { λ h. calls_in h.store.items h.entries.items };
+
+    ghost invariant = { λ h. All (LiesIn (length h.store.items)) h.entries.items };
 }
 
 impl History {
+    ghost use Rattle.trace_file.specs.Calls.{IsCall};
     ghost use Rattle.trace_file.specs.Lent.{call_shown};
 
     /// The history with no calls. It takes no memory.
@@ -31,22 +40,24 @@ impl History {
         ensures { result ≡ [] }
     {
         History {
-            calls: Vec::new(alloc),
+            entries: Vec::new(alloc),
+            store: Vec::new(alloc),
         }
     }
 
     /// How many calls there are.
     pub fn len(&self) -> usize
-        ensures { result ≡ length self.now }
+        ensures count { result ≡ length self.now }
+        ensures calls { All IsCall self.now }
     {
-        self.calls.len()
+        self.entries.len()
     }
 
     /// Whether there are no calls.
     pub fn is_empty(&self) -> bool
         ensures { IsTrue result ↔ (self.now ≡ []) }
     {
-        self.calls.is_empty()
+        self.entries.is_empty()
     }
 
     /// Records a call after the others, or leaves the history as it was where memory is refused.
@@ -54,36 +65,63 @@ impl History {
         ensures ok { OnOk result (self.new ≡ self.old ++ call ∷ []) }
         ensures err { OnErr result (self.new ≡ self.old) }
     {
-        self.calls.push(call)?;
+        self.push_ref(&call.lent())
+    }
+
+    /// Records a lent call after the others, or leaves the history as it was where memory is refused.
+    pub fn push_ref(&mut self, call: &CallRef<'_>) -> Result<(), AllocError>
+        requires { IsCall (call_shown call.now) }
+        ensures ok { OnOk result (self.new ≡ self.old ++ call_shown call.now ∷ []) }
+        ensures err { OnErr result (self.new ≡ self.old) }
+    {
+        let offset = self.store.len();
+        let value = call.act.value();
+        let entry = Entry {
+            start: call.start,
+            end: call.end,
+            offset,
+            caller: call.caller,
+            value_len: value.len() as u16,
+            key_len: call.key.len() as u8,
+            kind: call.act.kind(),
+        };
+        self.store.extend_from_slice(call.key)?;
+        self.store.extend_from_slice(value)?;
+        self.entries.push(entry)?;
         Ok(())
     }
 
     /// The call at a position, lent.
     pub fn at(&self, position: usize) -> CallRef<'_>
         requires { position < length self.now }
-        ensures { slice_get self.now position ≡ Some (call_shown result) }
+        ensures call { slice_get self.now position ≡ Some (call_shown result) }
+        ensures lawful { IsCall (call_shown result) }
     {
-        let call = &self.calls[position];
+        let entry = self.entries[position];
+        let key_end = entry.offset + entry.key_len as usize;
+        let value_end = key_end + entry.value_len as usize;
+        let store = self.store.as_slice();
         CallRef {
-            caller: call.caller,
-            start: call.start,
-            end: call.end,
-            key: call.key.bytes(),
-            act: lent(&call.act),
+            caller: entry.caller,
+            start: entry.start,
+            end: entry.end,
+            key: &store[entry.offset..key_end],
+            act: lent(entry.kind, &store[key_end..value_end]),
         }
     }
 }
 
 ghost use Rattle.trace_file.specs.Lent.{act_shown};
+ghost use Rattle.trace_file.specs.Stored.{act_of};
 
-/// An act, lent.
-fn lent(act: &Act) -> ActRef<'_>
-    ensures { act_shown result ≡ act.now }
+/// The act of a kind, with the bytes of its value where it has one.
+pub(crate) fn lent(kind: Kind, value: &[u8]) -> ActRef<'_>
+    ensures { act_shown result ≡ act_of kind value.now }
 {
-    match act {
-        Act::Put(value) => ActRef::Put(value.bytes()),
-        Act::Remove => ActRef::Remove,
-        Act::Hit(value) => ActRef::Hit(value.bytes()),
-        Act::Miss => ActRef::Miss,
+    match kind {
+        Kind::Put => ActRef::Put(value),
+        Kind::Remove => ActRef::Remove,
+        Kind::Hit => ActRef::Hit(value),
+        Kind::Miss => ActRef::Miss,
     }
 }

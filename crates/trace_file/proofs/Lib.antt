@@ -1,0 +1,4 @@
+pub mod Formats
+pub mod ItemFormats
+pub mod StoreLaws
+pub mod TraceLaws

@@ -1,0 +1,21 @@
+-- What a call of a history is.
+use Rattle.std.specs.Prelude.{ℕ, ◌<◌, ◌^◌, List, []}
+use Rattle.record_pages.specs.Bounded.{IsKey, IsValue}
+use Rattle.trace_file.specs.declared.act.Act.{Act}
+use Rattle.trace_file.specs.declared.act.Act.TheVariants.{Put, Remove, Hit, Miss}
+use Rattle.trace_file.specs.declared.call.Call.{Call}
+
+-- the bytes of the value that an act speaks of, none where it speaks of none
+abbrev pub value_of : Act → List ℕ
+value_of (Put value) = value
+value_of Remove = []
+value_of (Hit value) = value
+value_of Miss = []
+
+-- the numbers, the key and the value of a call are in their ranges
+pub record IsCall (call : Call) : Type 0 where
+  pub caller : call.caller < 2 ^ 16
+  pub start : call.start < 2 ^ 64
+  pub end : call.end < 2 ^ 64
+  pub key : IsKey call.key
+  pub value : IsValue (value_of call.act)

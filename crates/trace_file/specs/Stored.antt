@@ -1,0 +1,43 @@
+-- How the calls of a history lie in one store of bytes.
+use Rattle.std.specs.Prelude.{ℕ, ◌+◌, ◌<◌, ◌≤◌, ◌^◌, List, length, take, drop, map, All}
+use Rattle.trace_file.specs.declared.act.Act.{Act}
+use Rattle.trace_file.specs.declared.act.Act.TheVariants as acts
+use Rattle.trace_file.specs.declared.call.Call.{Call}
+use Rattle.trace_file.specs.declared.entry.Entry.{Entry}
+use Rattle.trace_file.specs.declared.kind.Kind.{Kind}
+use Rattle.trace_file.specs.declared.kind.Kind.TheVariants.{Put, Remove, Hit, Miss}
+
+-- so many bytes of a store, from a place on
+abbrev pub part : ℕ → ℕ → List ℕ → List ℕ
+part offset len store = take len (drop offset store)
+
+-- the act of a kind, with its value where it has one
+abbrev pub act_of : Kind → List ℕ → Act
+act_of Put value = acts.Put value
+act_of Remove value = acts.Remove
+act_of Hit value = acts.Hit value
+act_of Miss value = acts.Miss
+
+-- the call that an entry stands for
+unfoldable pub call_in : List ℕ → Entry → Call
+call_in store e = record {
+  caller = e.caller;
+  start = e.start;
+  end = e.end;
+  key = part e.offset e.key_len store;
+  act = act_of e.kind (part (e.offset + e.key_len) e.value_len store);
+}
+
+-- the calls that entries stand for, in their order
+abbrev pub calls_in : List ℕ → List Entry → List Call
+calls_in store entries = map (call_in store) entries
+
+-- an entry of a store of so many bytes: its parts lie in it, with lawful lengths
+pub record LiesIn (size : ℕ) (e : Entry) : Type 0 where
+  pub caller : e.caller < 2 ^ 16
+  pub start : e.start < 2 ^ 64
+  pub end : e.end < 2 ^ 64
+  pub some_key : 0 < e.key_len
+  pub key : e.key_len ≤ 255
+  pub value : e.value_len ≤ 2048
+  pub room : e.offset + e.key_len + e.value_len ≤ size
