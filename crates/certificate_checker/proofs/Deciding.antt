@@ -1,6 +1,6 @@
 -- Each fault is there or not, and so a pair is accepted or has a first fault.
-use Rattle.std.proofs.Common.{◌≡◌, ℕ, ◌<◌, ◌≤◌, zero, suc, eqb, ltb, Option, Some, None, List, length, take, refl, sym, subst, arith, inl, inr, ◌⊎◌, map}
-use Rattle.std.specs.Prelude.{IsSomeAnd, slice_get, Any, Contains}
+use Rattle.std.proofs.Common.{◌≡◌, ℕ, ◌<◌, ◌≤◌, zero, suc, eqb, ltb, Option, Some, None, List, length, take, refl, sym, subst, ap, ◌∙◌, arith, inl, inr, ◌⊎◌, map}
+use Rattle.std.specs.Prelude.{◌==◌, if◌then◌else◌, IsSomeAnd, slice_get, Any, Contains}
 use Rattle.std.specs.List.{list_any}
 use Rattle.std.proofs.lemmas.Bool.{cases_Bool, cases_eq, cases_lt}
 use Rattle.std.proofs.lemmas.List.Folds.{Any-from_list_any, list_any-from_Any}
@@ -16,8 +16,9 @@ use Rattle.certificate_checker.specs.Orders.{Precedes}
 use Rattle.certificate_checker.specs.Latest.{IsLatest}
 use Rattle.certificate_checker.specs.Current.{current}
 use Rattle.certificate_checker.specs.Acceptance.{IsAccepted}
-use Rattle.certificate_checker.specs.Faults.{HasFault, IsFirstFault, IsRight, IsBefore, IsFirstOfPlaces, tested_at, moment, earlier_calls, call_at}
+use Rattle.certificate_checker.specs.Faults.{HasFault, IsFirstFault, IsRight, IsBefore, IsFirstOfPlaces, tested_at, moment, earlier_calls, call_at, Moment}
 use Rattle.certificate_checker.proofs.Lookups.{contains_from_any, any_from_contains}
+use Rattle.certificate_checker.proofs.Laying.{cases_before}
 use Rattle.certificate_checker.proofs.Passing.{nothing_at, none_before}
 use Rattle.certificate_checker.proofs.Accepting.{told, accepted}
 
@@ -184,3 +185,47 @@ module _ (h : List Call) (c : List ℕ) where
       | inr count ↦ by_places (good_intervals good) count
     ]
   ]
+
+-- ---- one first fault
+
+before_or_same : (a b : Moment) → IsBefore a b ⊎ (IsBefore b a ⊎ (a ≡ b))
+before_or_same a b = elim (cases_before a.round b.round) [
+  | inl less ↦ inl (inl less)
+  | inr rounds ↦ elim rounds [
+    | inl round ↦ elim (cases_before a.place b.place) [
+      | inl less ↦ inl (inr (round, inl less))
+      | inr places ↦ elim places [
+        | inl place ↦ elim (cases_before a.test b.test) [
+          | inl less ↦ inl (inr (round, inr (place, less)))
+          | inr tests ↦ elim tests [
+            | inl test ↦ inr (inr (λ i. moment (round i) (place i) (test i)))
+            | inr more ↦ inr (inl (inr (sym round, inr (sym place, more))))
+          ]
+        ]
+        | inr more ↦ inr (inl (inr (sym round, inl more)))
+      ]
+    ]
+    | inr more ↦ inr (inl (inl more))
+  ]
+]
+
+-- the fault that is tested at a moment
+abbrev tested : Moment → Fault
+tested m = if m.round == 1 then BadInterval m.place else (if m.round == 2 then WrongCount else (if m.test == 1 then NotAPlace m.place else (if m.test == 2 then Repeated m.place else (if m.test == 3 then OutOfOrder m.place else WrongHit m.place))))
+
+tested_again : (fault : Fault) → tested (tested_at fault) ≡ fault
+tested_again (BadInterval position) = refl
+tested_again WrongCount = refl
+tested_again (NotAPlace place) = refl
+tested_again (Repeated place) = refl
+tested_again (OutOfOrder place) = refl
+tested_again (WrongHit place) = refl
+
+pub one_first_fault : (h : List Call) (c : List ℕ) (one other : Fault) → IsFirstFault h c one → IsFirstFault h c other → one ≡ other
+one_first_fault h c one other a b = elim (before_or_same (tested_at one) (tested_at other)) [
+  | inl less ↦ absurd (b.first one less a.found)
+  | inr rest ↦ elim rest [
+    | inl less ↦ absurd (a.first other less b.found)
+    | inr same ↦ sym (tested_again one) ∙ ap tested same ∙ tested_again other
+  ]
+]

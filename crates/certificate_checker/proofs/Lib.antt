@@ -8,3 +8,4 @@ pub mod Laying
 pub mod LaneLemmas
 pub mod Layouts
 pub mod Deciding
+pub mod Judging

@@ -7,6 +7,8 @@ use Rattle.certificate_checker.specs.declared.fault.Fault.{Fault}
 use Rattle.certificate_checker.specs.Acceptance.{IsAccepted}
 use Rattle.certificate_checker.specs.Deeds.{Deed}
 use Rattle.certificate_checker.specs.Faults.{IsFirstFault}
+use Rattle.certificate_checker.specs.declared.judged.Judged.{Judged}
+use Rattle.certificate_checker.specs.Judgements.{IsVerdictLineOf}
 use Rattle.certificate_checker.specs.Lanes.{Done, calls_of, PointsRise, IsLane, AreApart, IsLaidOut}
 use Rattle.certificate_checker.specs.Latest.{IsLatest, IsLawful}
 use Rattle.certificate_checker.specs.Current.{current}
@@ -65,3 +67,15 @@ FirstFaultIsOne =
     → IsFirstFault history certificate one
     → IsFirstFault history certificate other
     → one ≡ other
+
+-- any bytes have a verdict line
+abbrev pub VerdictLineExists : Type 0
+VerdictLineExists = (bytes : List ℕ) → (judged : Judged) × (line : List ℕ) × IsVerdictLineOf bytes judged line
+
+-- and they have one
+abbrev pub VerdictLineIsOne : Type 0
+VerdictLineIsOne =
+    (bytes : List ℕ) (judged other : Judged) (line another : List ℕ)
+    → IsVerdictLineOf bytes judged line
+    → IsVerdictLineOf bytes other another
+    → (judged ≡ other) × (line ≡ another)

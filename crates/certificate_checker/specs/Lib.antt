@@ -9,3 +9,4 @@ pub mod Lanes
 pub mod Laws
 pub mod FaultText
 pub mod VerdictLine
+pub mod Judgements

@@ -1,5 +1,5 @@
 // Laws of the definitions, for those who record a history.
-ghost use Rattle.certificate_checker.specs.Laws.{LatestIsCurrent, LawfulGrows, LanesAreAccepted, LayoutExists, LayoutIsOne, AcceptedOrFaulty, AcceptedHasNoFault, FirstFaultIsOne};
+ghost use Rattle.certificate_checker.specs.Laws.{LatestIsCurrent, LawfulGrows, LanesAreAccepted, LayoutExists, LayoutIsOne, AcceptedOrFaulty, AcceptedHasNoFault, FirstFaultIsOne, VerdictLineExists, VerdictLineIsOne};
 
 /// A value is a key's latest exactly where the lossy map of the deeds has it.
 pub fn latest_is_current()
@@ -39,4 +39,14 @@ pub fn accepted_has_no_fault()
 /// A pair has at most one first fault.
 pub fn first_fault_is_one()
     ensures { FirstFaultIsOne }
+{}
+
+/// Any bytes have a verdict line.
+pub fn verdict_line_exists()
+    ensures { VerdictLineExists }
+{}
+
+/// Bytes have at most one verdict line, and it says what they are judged to be.
+pub fn verdict_line_is_one()
+    ensures { VerdictLineIsOne }
 {}
