@@ -8,7 +8,9 @@ use Rattle.std.proofs.lemmas.Nat.{be_bytes_2, be_bytes_4, be_bytes_8, from_be_by
 use Rattle.trace_file.specs.declared.stop.Stop.{Stop}
 use Rattle.trace_file.specs.declared.stop.Stop.TheVariants.{Short, Fault}
 use Rattle.trace_file.specs.declared.trace_fault.TraceFault.{TraceFault}
+use Rattle.trace_file.specs.Outcome.{IsOfText}
 use Rattle.trace_file.specs.Reading.{Place, place, Read, ◌>>=◌, bytes_at, number_at, first_at, byte_at, many_at}
+use Rattle.trace_file.specs.Stream.{in_front}
 
 abbrev pub IsBytes : List ℕ → Type 0
 IsBytes bytes = (i : ℕ) → get_or bytes i 0 < 256
@@ -38,15 +40,13 @@ pub not_short : {A : Type 0} (b : Bool) (x : A) (f : TraceFault) → ◌≡◌ {
 not_short true x f e = cc
 not_short false x f e = cc
 
--- what was read before, in front of what is read
-abbrev pub in_front : {A : Type 0} → List A → Read (List A) → Read (List A)
-in_front xs (Ok others) = Ok (xs ++ others.0, others.1)
-in_front xs (Err d) = Err d
-
 -- a last step that only puts a value in front meets no fault
 not_last : {A : Type 0} (r : Read (List A)) (x : A) (f : TraceFault) → in_front (x ∷ []) r ≡ Err (Fault f) → r ≡ Err (Fault f)
 not_last (Ok others) x f e = absurd cc
 not_last (Err d) x f e = cc
+
+pub same_fault : {A : Type 0} (d f : TraceFault) → ◌≡◌ {A = Result A Stop} (Err (Fault d)) (Err (Fault f)) → d ≡ f
+same_fault d f e = cc
 
 -- what stopped two steps
 pub data Stopped {A B : Type 0} (r : Result A Stop) (f : A → Result B Stop) (d : Stop) : Type 0 where
@@ -81,6 +81,7 @@ pub record IsFormat {A : Type 0} (read : Place → Read A) (text : A → List �
   pub takes : (p : Place) (x : A) (q : Place) → IsBytes p.bytes → read p ≡ Ok (x, q) → Takes p (text x) q × lawful x
   pub again : (at : ℕ) (x : A) (rest : List ℕ) → lawful x → read (place at (text x ++ rest)) ≡ Ok (x, place (at + length (text x)) rest)
   pub stays : (p : Place) (f : TraceFault) (more : List ℕ) → IsBytes p.bytes → read p ≡ Err (Fault f) → read (longer p more) ≡ Err (Fault f)
+  pub kind : (p : Place) (f : TraceFault) → read p ≡ Err (Fault f) → IsOfText f
 
 module _ {A : Type 0} {read : Place → Read A} {text : A → List ℕ} {lawful : A → Type 0} (format : IsFormat read text lawful) where
   -- what was read stays, whatever follows
@@ -96,6 +97,7 @@ module _ {A : Type 0} {read : Place → Read A} {text : A → List ℕ} {lawful 
     takes = λ p x q fits e. ((format.takes p x q fits e).0, to x (format.takes p x q fits e).1);
     again = λ at x rest h. format.again at x rest (from x h);
     stays = format.stays;
+    kind = format.kind;
   }
 
   -- another wording of the text
@@ -104,6 +106,7 @@ module _ {A : Type 0} {read : Place → Read A} {text : A → List ℕ} {lawful 
     takes = λ p x q fits e. let t = format.takes p x q fits e in (subst (λ (b : List ℕ). Takes p b q) (same x t.1) t.0, t.1);
     again = λ at x rest h. subst (λ (b : List ℕ). read (place at (b ++ rest)) ≡ Ok (x, place (at + length b) rest)) (same x h) (format.again at x rest h);
     stays = format.stays;
+    kind = format.kind;
   }
 
 -- a value that takes no bytes
@@ -115,13 +118,13 @@ pure_format {A} y = record {
       (subst (λ (r : Place). Takes p [] r) (ap (λ (z : A × Place). z.1) same) nothing, ap (λ (z : A × Place). z.0) same);
   again = λ at x rest h. let n : at ≡ at + 0 = omega arith in ap (λ (z : A). Ok (z, place at rest)) h ∙ ap (λ (m : ℕ). Ok (x, place m rest)) n;
   stays = λ p f more fits e. absurd cc;
+  kind = λ p f e. absurd cc;
 }
 
 -- one format behind another: what the second reads says what the first read
 module _ {A B : Type 0} (read : Place → Read A) (text : A → List ℕ) (lawful : A → Type 0)
     (read' : ℕ → A → Place → Read B) (text' : B → List ℕ) (lawful' : A → B → Type 0) (back : B → A)
     (first : IsFormat read text lawful) (second : (at : ℕ) (x : A) → IsFormat (read' at x) text' (lawful' x)) (only : (x : A) (y : B) → lawful x → lawful' x y → back y ≡ x) where
-
   abbrev both : Place → Read B
   both p = read p >>= λ x. read' p.at x.0 x.1
 
@@ -159,8 +162,15 @@ module _ {A B : Type 0} (read : Place → Read A) (text : A → List ℕ) (lawfu
             ∙ (second p.at x.0).stays x.1 f more (first.takes p x.0 x.1 fits e').0.rest_fits g
       ]
 
+  then_kind : (p : Place) (f : TraceFault) → both p ≡ Err (Fault f) → IsOfText f
+  then_kind p f e =
+      elim (bind_err (read p) (λ x. read' p.at x.0 x.1) (Fault f) e) [
+        | at_first e' ↦ first.kind p f e'
+        | at_second x e' g ↦ (second p.at x.0).kind x.1 f g
+      ]
+
   pub then_format : IsFormat (λ p. read p >>= λ x. read' p.at x.0 x.1) (λ y. text (back y) ++ text' y) (λ y. lawful (back y) × lawful' (back y) y)
-  then_format = record { takes = then_takes; again = then_again; stays = then_stays }
+  then_format = record { takes = then_takes; again = then_again; stays = then_stays; kind = then_kind }
 
 -- a test before a format
 module _ {A : Type 0} {read : Place → Read A} {text : A → List ℕ} {lawful : A → Type 0} (format : IsFormat read text lawful) where
@@ -172,11 +182,16 @@ module _ {A : Type 0} {read : Place → Read A} {text : A → List ℕ} {lawful 
   guard_stays true d p f more fits e = cc
   guard_stays false d p f more fits e = format.stays p f more fits e
 
-  pub guard_format : (b : Bool) (d : TraceFault) → IsFormat (λ p. cond b (Err (Fault d)) (read p)) text (λ x. (b ≡ false) × lawful x)
-  guard_format b d = record {
+  guard_kind : (b : Bool) (d : TraceFault) → IsOfText d → (p : Place) (f : TraceFault) → cond b (Err (Fault d)) (read p) ≡ Err (Fault f) → IsOfText f
+  guard_kind true d is p f e = subst IsOfText (same_fault d f e) is
+  guard_kind false d is p f e = format.kind p f e
+
+  pub guard_format : (b : Bool) (d : TraceFault) → IsOfText d → IsFormat (λ p. cond b (Err (Fault d)) (read p)) text (λ x. (b ≡ false) × lawful x)
+  guard_format b d of_text = record {
     takes = guard_takes b d;
     again = λ at x rest h. ap (λ (c : Bool). cond c (Err (Fault d)) (read (place at (text x ++ rest)))) h.0 ∙ format.again at x rest h.1;
     stays = guard_stays b d;
+    kind = guard_kind b d of_text;
   }
 
 -- ---- bytes and numbers
@@ -205,6 +220,7 @@ bytes_format n = record {
   takes = λ p x q fits e. let t = bytes_takes n p x q fits e in (t.0, t.1.1);
   again = bytes_again n;
   stays = λ p f more fits e. absurd (not_short (ltb (length p.bytes) n) (take n p.bytes, place (p.at + n) (drop n p.bytes)) f e);
+  kind = λ p f e. absurd (not_short (ltb (length p.bytes) n) (take n p.bytes, place (p.at + n) (drop n p.bytes)) f e);
 }
 
 -- numbers of a width
@@ -262,28 +278,42 @@ module _ (w : Width) (limit : ℕ) (wide : IsWide w limit) where
         | at_second x e' g ↦ absurd cc
       ]
 
+  number_kind : (p : Place) (f : TraceFault) → number_at w p ≡ Err (Fault f) → IsOfText f
+  unfolding number_at
+  number_kind p f e =
+      elim (bind_err (bytes_at (byte_len w) p) (λ b. Ok (from_be_bytes w b.0, b.1)) (Fault f) e) [
+        | at_first e' ↦ (bytes_format (byte_len w)).kind p f e'
+        | at_second x e' g ↦ absurd cc
+      ]
+
   pub number_format : IsFormat (number_at w) (to_be_bytes w) (λ n. n < limit)
-  number_format = record { takes = number_takes; again = number_again; stays = number_stays }
+  number_format = record { takes = number_takes; again = number_again; stays = number_stays; kind = number_kind }
 
 first_takes : (at : ℕ) (bytes : List ℕ) (n : ℕ) (q : Place) → IsBytes bytes → first_at at bytes ≡ Ok (n, q) → Takes (place at bytes) (n ∷ []) q × (n < 256)
 first_takes at [] n q fits e = absurd cc
 first_takes at (b ∷ rest) n q fits e =
     subst (λ (z : ℕ × Place). Takes (place at (b ∷ rest)) (z.0 ∷ []) z.1 × (z.0 < 256)) (ok_is (b, place (at + 1) rest) (n, q) e)
-        (record { parts = refl; at = refl; rest_fits = λ i. fits (suc i) }, fits 0)
+    (record { parts = refl; at = refl; rest_fits = λ i. fits (suc i) }, fits 0)
 
 first_stays : (at : ℕ) (bytes : List ℕ) (f : TraceFault) (more : List ℕ) → first_at at bytes ≡ Err (Fault f) → first_at at (bytes ++ more) ≡ Err (Fault f)
 first_stays at [] f more e = absurd cc
 first_stays at (b ∷ rest) f more e = absurd cc
 
+first_kind : (at : ℕ) (bytes : List ℕ) (f : TraceFault) → first_at at bytes ≡ Err (Fault f) → IsOfText f
+first_kind at [] f e = absurd cc
+first_kind at (b ∷ rest) f e = absurd cc
+
 -- one byte
 pub byte_format : IsFormat byte_at (λ n. n ∷ []) (λ n. n < 256)
 unfolding byte_at
-byte_format = record { takes = takes'; again = again'; stays = stays' }
+byte_format = record { takes = takes'; again = again'; stays = stays'; kind = λ p f e. first_kind p.at p.bytes f e }
   where
     takes' : (p : Place) (n : ℕ) (q : Place) → IsBytes p.bytes → byte_at p ≡ Ok (n, q) → Takes p (n ∷ []) q × (n < 256)
     takes' p n q fits e = first_takes p.at p.bytes n q fits e
+
     again' : (at n : ℕ) (rest : List ℕ) → n < 256 → byte_at (place at ((n ∷ []) ++ rest)) ≡ Ok (n, place (at + 1) rest)
     again' at n rest lt = refl
+
     stays' : (p : Place) (f : TraceFault) (more : List ℕ) → IsBytes p.bytes → byte_at p ≡ Err (Fault f) → byte_at (longer p more) ≡ Err (Fault f)
     stays' p f more fits e = first_stays p.at p.bytes f more e
 
@@ -293,11 +323,11 @@ put_nothing : {A : Type 0} (r : Read (List A)) → in_front [] r ≡ r
 put_nothing (Ok others) = refl
 put_nothing (Err d) = refl
 
-first_in_front : {A : Type 0} (x : A) (r : Read (List A)) → ◌>>=◌ {B = List A × Place} r (λ others. Ok (x ∷ others.0, others.1)) ≡ in_front (x ∷ []) r
+pub first_in_front : {A : Type 0} (x : A) (r : Read (List A)) → ◌>>=◌ {B = List A × Place} r (λ others. Ok (x ∷ others.0, others.1)) ≡ in_front (x ∷ []) r
 first_in_front x (Ok others) = refl
 first_in_front x (Err d) = refl
 
-put_in_front : {A : Type 0} (xs ys : List A) (r : Read (List A)) → in_front xs (in_front ys r) ≡ in_front (xs ++ ys) r
+pub put_in_front : {A : Type 0} (xs ys : List A) (r : Read (List A)) → in_front xs (in_front ys r) ≡ in_front (xs ++ ys) r
 put_in_front xs ys (Ok others) = ap (λ zs. Ok (zs, others.1)) (sym (append_assoc xs ys others.0))
 put_in_front xs ys (Err d) = refl
 
@@ -357,6 +387,15 @@ module _ {A : Type 0} {item : Place → Read A} {text : A → List ℕ} {lawful 
             ∙ ap (in_front (x.0 ∷ [])) (many_stay n x.1 f more (format.takes p x.0 x.1 fits e').0.rest_fits (not_last (many_at item n x.1) x.0 f (sym (first_in_front x.0 (many_at item n x.1)) ∙ g)))
       ]
 
+  many_kind : (n : ℕ) (p : Place) (f : TraceFault) → many_at item n p ≡ Err (Fault f) → IsOfText f
+  unfolding many_at
+  many_kind zero p f e = absurd cc
+  many_kind (suc n) p f e =
+      elim (bind_err (item p) (λ first. many_at item n first.1 >>= λ others. Ok (first.0 ∷ others.0, others.1)) (Fault f) e) [
+        | at_first e' ↦ format.kind p f e'
+        | at_second x e' g ↦ many_kind n x.1 f (not_last (many_at item n x.1) x.0 f (sym (first_in_front x.0 (many_at item n x.1)) ∙ g))
+      ]
+
   -- so many items
   pub many_format : (n : ℕ) → IsFormat (many_at item n) (flat_map text) (AreItems n)
-  many_format n = record { takes = many_take n; again = many_again n; stays = many_stay n }
+  many_format n = record { takes = many_take n; again = many_again n; stays = many_stay n; kind = many_kind n }

@@ -15,9 +15,10 @@ use Rattle.trace_file.specs.declared.stop.Stop.TheVariants.{Short, Fault}
 use Rattle.trace_file.specs.declared.trace_fault.TraceFault.{TraceFault}
 use Rattle.trace_file.specs.declared.trace_fault.TraceFault.TheVariants.{BadMagic, TooMany, BadKind, BadKey, BadValue}
 use Rattle.trace_file.specs.Calls.{IsCall, value_of}
+use Rattle.trace_file.specs.Outcome.{IsOfText}
 use Rattle.trace_file.specs.Reading.{Place, place, Read, ◌>>=◌, bytes_at, number_at, byte_at, or_fault, kind_of, kind_at, key_at, value_at, act_at, call_at, position_at, first_difference, unless_differs, magic_at, count_at, header_at}
 use Rattle.trace_file.specs.Text.{magic, most_calls, kind_byte, key_text, value_text, act_text, call_text, header_text}
-use Rattle.trace_file.proofs.Formats.{IsBytes, ok_is, longer, Takes, IsFormat, same_lawful, same_text, pure_format, then_format, guard_format, bytes_format, wide16, wide32, wide64, number_format, byte_format}
+use Rattle.trace_file.proofs.Formats.{IsBytes, ok_is, same_fault, longer, Takes, IsFormat, same_lawful, same_text, pure_format, then_format, guard_format, bytes_format, wide16, wide32, wide64, number_format, byte_format}
 
 -- ---- a key, a value
 
@@ -25,8 +26,8 @@ pub key_format : IsFormat key_at key_text IsKey
 unfolding key_at
 key_format =
     same_lawful (then_format byte_at (λ n. n ∷ []) (λ n. n < 256)
-        (λ at len p. cond (eqb len 0) (Err (Fault (BadKey at))) (bytes_at len p)) (λ key. key) (λ len key. (eqb len 0 ≡ false) × (length key ≡ len)) length
-        byte_format (λ at len. guard_format (bytes_format len) (eqb len 0) (BadKey at)) (λ len key h k. k.1))
+    (λ at len p. cond (eqb len 0) (Err (Fault (BadKey at))) (bytes_at len p)) (λ key. key) (λ len key. (eqb len 0 ≡ false) × (length key ≡ len)) length
+    byte_format (λ at len. guard_format (bytes_format len) (eqb len 0) (BadKey at) tt) (λ len key h k. k.1))
     IsKey
     (λ key h. let some = eqb-false (length key) 0 h.1.0 in (omega (arith, some), omega (arith, h.0)))
     (λ key is. (omega (arith, is.1), (ne_eqb (length key) 0 (λ e. omega (arith, is.0, e)), refl)))
@@ -35,8 +36,8 @@ pub value_format : IsFormat value_at value_text IsValue
 unfolding value_at
 value_format =
     same_lawful (then_format (number_at w16) (to_be_bytes w16) (λ n. n < 2 ^ 16)
-        (λ at len p. cond (ltb 2048 len) (Err (Fault (BadValue at))) (bytes_at len p)) (λ value. value) (λ len value. (ltb 2048 len ≡ false) × (length value ≡ len)) length
-        (number_format w16 (2 ^ 16) wide16) (λ at len. guard_format (bytes_format len) (ltb 2048 len) (BadValue at)) (λ len value h k. k.1))
+    (λ at len p. cond (ltb 2048 len) (Err (Fault (BadValue at))) (bytes_at len p)) (λ value. value) (λ len value. (ltb 2048 len ≡ false) × (length value ≡ len)) length
+    (number_format w16 (2 ^ 16) wide16) (λ at len. guard_format (bytes_format len) (ltb 2048 len) (BadValue at) tt) (λ len value h k. k.1))
     IsValue
     (λ value h. ltb-false 2048 (length value) h.1.0)
     (λ value is. (omega (arith, is), (le-ltb 2048 (length value) is, refl)))
@@ -78,11 +79,16 @@ module _ {A : Type 0} (d : TraceFault) where
   option_stays (Some y) p f more e = absurd cc
   option_stays None p f more e = cc
 
-  option_format : (o : Option A) → IsFormat (or_fault o d) (λ _. []) (λ x. o ≡ Some x)
-  option_format o = record {
+  option_kind : IsOfText d → (o : Option A) (p : Place) (f : TraceFault) → or_fault o d p ≡ Err (Fault f) → IsOfText f
+  option_kind is (Some y) p f e = absurd cc
+  option_kind is None p f e = subst IsOfText (same_fault d f e) is
+
+  option_format : IsOfText d → (o : Option A) → IsFormat (or_fault o d) (λ _. []) (λ x. o ≡ Some x)
+  option_format is o = record {
     takes = option_takes o;
     again = λ at x rest h. let n : at ≡ at + 0 = omega arith in ap (λ (z : Option A). or_fault z d (place at rest)) h ∙ ap (λ (m : ℕ). Ok (x, place m rest)) n;
     stays = λ p f more fits e. option_stays o p f more e;
+    kind = option_kind is o;
   }
 
 abbrev kind_text : Kind → List ℕ
@@ -92,8 +98,8 @@ kind_format : IsFormat kind_at kind_text (λ _. Unit {0})
 unfolding kind_at
 kind_format =
     same_lawful (then_format byte_at (λ n. n ∷ []) (λ n. n < 256)
-        (λ at b p. or_fault (kind_of b) (BadKind at) p) (λ _. []) (λ b kind. kind_of b ≡ Some kind) kind_number
-        byte_format (λ at b. option_format (BadKind at) (kind_of b)) (λ b kind h k. number_is b kind k))
+    (λ at b p. or_fault (kind_of b) (BadKind at) p) (λ _. []) (λ b kind. kind_of b ≡ Some kind) kind_number
+    byte_format (λ at b. option_format (BadKind at) tt (kind_of b)) (λ b kind h k. number_is b kind k))
     (λ _. Unit {0})
     (λ kind h. tt)
     (λ kind h. kind_again kind)
@@ -303,6 +309,10 @@ module _ (at : ℕ) (m : List ℕ) where
   differs_stays None p f more e = absurd cc
   differs_stays (Some i) p f more e = cc
 
+  differs_kind : (o : Option ℕ) (p : Place) (f : TraceFault) → unless_differs o at (m, p) ≡ Err (Fault f) → IsOfText f
+  differs_kind None p f e = absurd cc
+  differs_kind (Some i) p f e = subst IsOfText (same_fault (BadMagic (at + i)) f e) tt
+
   differs_format : (o : Option ℕ) → IsFormat (λ p. unless_differs o at (m, p)) (λ _. []) (λ x. (o ≡ None) × (m ≡ x))
   differs_format o = record {
     takes = differs_takes o;
@@ -310,6 +320,7 @@ module _ (at : ℕ) (m : List ℕ) where
         let n : start ≡ start + 0 = omega arith in
         ap (λ (z : Option ℕ). unless_differs z at (m, place start rest)) h.0 ∙ ap (λ (y : List ℕ). Ok (y, place start rest)) h.1 ∙ ap (λ (i : ℕ). Ok (x, place i rest)) n;
     stays = λ p f more fits e. differs_stays o p f more e;
+    kind = differs_kind o;
   }
 
 abbrev IsMagic : List ℕ → Type 0
@@ -330,7 +341,7 @@ unfolding count_at
 count_format =
     let counted = then_format (number_at w32) (to_be_bytes w32) (λ n. n < 2 ^ 32)
     (λ at n p. cond (ltb most_calls n) (Err (Fault (TooMany at))) (Ok (n, p))) (λ _. []) (λ n m. (ltb most_calls n ≡ false) × (n ≡ m)) (λ n. n)
-    (number_format w32 (2 ^ 32) wide32) (λ at n. guard_format (pure_format n) (ltb most_calls n) (TooMany at)) (λ n m h k. sym k.1) in
+    (number_format w32 (2 ^ 32) wide32) (λ at n. guard_format (pure_format n) (ltb most_calls n) (TooMany at) tt) (λ n m h k. sym k.1) in
     same_lawful (same_text counted (to_be_bytes w32) (λ n h. append-nil (to_be_bytes w32 n))) (λ n. n ≤ most_calls)
     (λ n h. ltb-false most_calls n h.1.0)
     (λ n le. (omega (arith, le), (le-ltb most_calls n le, refl)))
@@ -339,7 +350,7 @@ pub header_format : IsFormat header_at header_text (λ n. n ≤ most_calls)
 unfolding header_at header_text
 header_format =
     same_lawful (then_format magic_at (λ bytes. bytes) IsMagic (λ at bytes p. count_at p) (to_be_bytes w32) (λ bytes n. n ≤ most_calls) (λ n. magic)
-        magic_format (λ at bytes. count_format) (λ bytes n h k. sym h))
+    magic_format (λ at bytes. count_format) (λ bytes n h k. sym h))
     (λ n. n ≤ most_calls)
     (λ n h. h.1)
     (λ n h. (refl, h))

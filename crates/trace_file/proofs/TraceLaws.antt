@@ -12,10 +12,11 @@ use Rattle.trace_file.specs.declared.trace.Trace.{Trace}
 use Rattle.trace_file.specs.declared.trace_fault.TraceFault.{TraceFault}
 use Rattle.trace_file.specs.declared.trace_fault.TraceFault.TheVariants.{Truncated, TrailingBytes}
 use Rattle.trace_file.specs.Calls.{IsCall}
+use Rattle.trace_file.specs.Outcome.{IsOfText}
 use Rattle.trace_file.specs.Reading.{Place, place, Read, ◌>>=◌, call_at, position_at, header_at, many_at, end_at, trace_at, at_end, outcome_of, met, first_fault_of}
-use Rattle.trace_file.specs.Stream.{pair_of, counted_text, counted_at, IsCounted}
+use Rattle.trace_file.specs.Stream.{pair_of, in_front, counted_text, counted_at, IsCounted}
 use Rattle.trace_file.specs.Text.{most_calls, call_text, position_text, header_text, trace_text, IsPair, IsTrace}
-use Rattle.trace_file.proofs.Formats.{IsBytes, bind_ok, bind_err, Stopped, at_first, at_second, ok_is, longer, Takes, Takes-then, IsFormat, read-longer, in_front, many_before, many_format}
+use Rattle.trace_file.proofs.Formats.{IsBytes, same_fault, bind_ok, bind_err, Stopped, at_first, at_second, ok_is, longer, Takes, Takes-then, IsFormat, read-longer, many_before, many_format}
 use Rattle.trace_file.proofs.ItemFormats.{call_format, position_format, header_format}
 
 abbrev after_calls : ℕ → List Call × Place → Result Trace Stop
@@ -58,6 +59,19 @@ trace_takes at bytes t fits e =
       as_many = t2.1.0 ∙ sym t1.1.0;
     } in
     subst (λ (u : Trace). IsTrace bytes u.history u.certificate) end.1 (record { pair = pair; text = spelled })
+
+-- what stops the header stops the whole
+pub stopped_at_header : (p : Place) (d : Stop) → header_at p ≡ Err d → trace_at p ≡ Err d
+unfolding trace_at
+stopped_at_header p d e = ap (λ (r : Read ℕ). r >>= after_header) e
+
+-- with no call and no position taken, what is behind the header is all that is read
+pub behind_header : (n : ℕ) (p q : Place) → header_at p ≡ Ok (n, q) → trace_at p ≡ counted_at n [] [] q
+unfolding trace_at counted_at
+behind_header n p q e =
+    let z : n ≡ n - 0 = omega arith in
+    ap (λ (r : Read ℕ). r >>= after_header) e
+    ∙ ap (λ (i : ℕ). many_at call_at i q >>= λ c. many_at position_at i c.1 >>= λ x. end_at (pair_of c.0 x.0) x.1) z
 
 -- ---- going on behind what was taken
 
@@ -148,6 +162,7 @@ end_stays t p f more e = by_test (eqb (length p.bytes) 0) (eqb (length (p.bytes 
   where
     longer_still : eqb (length p.bytes) 0 ≡ false → eqb (length (p.bytes ++ more)) 0 ≡ false
     longer_still b = ne_eqb (length (p.bytes ++ more)) 0 (λ z. let some = eqb-false (length p.bytes) 0 b in omega (arith, some, z, length-append p.bytes more))
+
     by_test : (b c : Bool) (d : TraceFault) → (b ≡ false → c ≡ false) → ◌≡◌ {A = Result Trace Stop} (cond b (Ok t) (Err (Fault d))) (Err (Fault f)) → ◌≡◌ {A = Result Trace Stop} (cond c (Ok t) (Err (Fault d))) (Err (Fault f))
     by_test true c d still e = absurd cc
     by_test false c d still e = ap (λ (x : Bool). cond x (Ok t) (Err (Fault d))) (still refl) ∙ e
@@ -169,6 +184,7 @@ trace_stays p f more fits e =
           | at_first e' ↦ ap (λ (r : Read (List ℕ)). r >>= last) ((many_format position_format n).stays p f more fits e')
           | at_second q e' g ↦ ap (λ (r : Read (List ℕ)). r >>= last) (read-longer (many_format position_format n) p q.0 q.1 more fits e') ∙ end_stays (pair_of cs q.0) q.1 f more g
         ]
+
     calls_stay : (n : ℕ) (p : Place) (f : TraceFault) (more : List ℕ) → IsBytes p.bytes → after_header (n, p) ≡ Err (Fault f) → after_header (n, longer p more) ≡ Err (Fault f)
     calls_stay n p f more fits e =
         elim (bind_err (many_at call_at n p) (after_calls n) (Fault f) e) [
@@ -176,4 +192,35 @@ trace_stays p f more fits e =
           | at_second c e' g ↦
               ap (λ (r : Read (List Call)). r >>= after_calls n) (read-longer (many_format call_format n) p c.0 c.1 more fits e')
               ∙ positions_stay n c.0 c.1 f more ((many_format call_format n).takes p c.0 c.1 fits e').0.rest_fits g
+        ]
+
+-- ---- which faults there are
+
+end_by : (b : Bool) (t : Trace) (at : ℕ) (f : TraceFault) → ◌≡◌ {A = Result Trace Stop} (cond b (Ok t) (Err (Fault (TrailingBytes at)))) (Err (Fault f)) → IsOfText f
+end_by true t at f e = absurd cc
+end_by false t at f e = subst IsOfText (same_fault (TrailingBytes at) f e) tt
+
+end_is : (t : Trace) (p : Place) (f : TraceFault) → end_at t p ≡ Err (Fault f) → IsOfText f
+unfolding end_at
+end_is t p f e = end_by (eqb (length p.bytes) 0) t p.at f e
+
+pub trace_kind : (p : Place) (f : TraceFault) → trace_at p ≡ Err (Fault f) → IsOfText f
+unfolding trace_at
+trace_kind p f e =
+    elim (bind_err (header_at p) after_header (Fault f) e) [
+      | at_first e' ↦ header_format.kind p f e'
+      | at_second n e' g ↦ calls_kind n.0 n.1 f g
+    ]
+  where
+    positions_kind : (n : ℕ) (cs : List Call) (p : Place) (f : TraceFault) → after_calls n (cs, p) ≡ Err (Fault f) → IsOfText f
+    positions_kind n cs p f e =
+        elim (bind_err (many_at position_at n p) (λ q. end_at (pair_of cs q.0) q.1) (Fault f) e) [
+          | at_first e' ↦ (many_format position_format n).kind p f e'
+          | at_second q e' g ↦ end_is (pair_of cs q.0) q.1 f g
+        ]
+    calls_kind : (n : ℕ) (p : Place) (f : TraceFault) → after_header (n, p) ≡ Err (Fault f) → IsOfText f
+    calls_kind n p f e =
+        elim (bind_err (many_at call_at n p) (after_calls n) (Fault f) e) [
+          | at_first e' ↦ (many_format call_format n).kind p f e'
+          | at_second c e' g ↦ positions_kind n c.0 c.1 f g
         ]

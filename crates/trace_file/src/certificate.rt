@@ -1,5 +1,5 @@
 // The order that a history is claimed to have.
-ghost use Rattle.std.specs.Prelude.{◌≡◌, ◌<◌, [], ◌∷◌, ◌++◌, ◌↔◌, IsTrue, ℕ, List, Some, length, OnOk, OnErr, slice_get};
+ghost use Rattle.std.specs.Prelude.{◌≡◌, ◌<◌, ◌^◌, [], ◌∷◌, ◌++◌, ◌↔◌, All, IsTrue, ℕ, List, Some, length, OnOk, OnErr, slice_get};
 
 use std::alloc::{AllocError, Global};
 use std::marker::Model;
@@ -16,6 +16,8 @@ impl Model for Certificate {
     ghost Value = { List ℕ };
 
     ghost view = { λ c. c.positions.items };
+
+    ghost invariant = { λ c. All (λ position. position < 2 ^ 32) c.positions.items };
 }
 
 impl Certificate {
@@ -30,7 +32,8 @@ impl Certificate {
 
     /// How many places there are.
     pub fn len(&self) -> usize
-        ensures { result ≡ length self.now }
+        ensures count { result ≡ length self.now }
+        ensures positions { All (λ position. position < 2 ^ 32) self.now }
     {
         self.positions.len()
     }

@@ -1,5 +1,5 @@
 // A place in the bytes of a trace, and the fields that are read there.
-ghost use Rattle.std.specs.Prelude.{◌≡◌, ◌+◌, ◌<◌, ◌^◌, length};
+ghost use Rattle.std.specs.Prelude.{◌≡◌, ◌+◌, ◌<◌, ◌^◌, All, IfOk, length};
 
 use crate::stop::Stop;
 
@@ -9,16 +9,26 @@ pub(crate) struct Cursor<'a> {
     pub(crate) at: u64,
     pub(crate) bytes: &'a [u8],
     ghost fits: { at + length bytes.now < 2 ^ 64 },
+    ghost are_bytes: { All (λ byte. byte < 256) bytes.now },
 }
 
 impl<'a> Cursor<'a> {
+    /// The place at this offset.
+    pub(crate) fn new(at: u64, bytes: &'a [u8]) -> Cursor<'a>
+        requires { at + length bytes.now < 2 ^ 64 }
+        ensures { shown result ≡ place at bytes.now }
+    {
+        Cursor { at, bytes }
+    }
+
     ghost use Rattle.std.specs.Int.{w16, w32, w64};
     ghost use Rattle.trace_file.specs.Given.{Gives, shown};
-    ghost use Rattle.trace_file.specs.Reading.{bytes_at, byte_at, number_at};
+    ghost use Rattle.trace_file.specs.Reading.{place, bytes_at, byte_at, number_at};
 
     /// So many bytes.
     pub(crate) fn bytes(self, count: usize) -> Result<(&'a [u8], Cursor<'a>), Stop>
-        ensures { Gives (λ x. (x.0.now, shown x.1)) result (bytes_at count (shown self.entry)) }
+        ensures read { Gives (λ x. (x.0.now, shown x.1)) result (bytes_at count (shown self.entry)) }
+        ensures len { IfOk result (λ x. length x.0.now ≡ count) }
     {
         if self.bytes.len() < count {
             return Err(Stop::Short);

@@ -1,10 +1,11 @@
 // The items of a trace, read field by field.
 ghost use Rattle.std.specs.Prelude.{◌≡◌, ◌≤◌, length, IfOk};
 ghost use Rattle.std.specs.Option.{option_map};
-ghost use Rattle.trace_file.specs.Calls.{IsCall};
+ghost use Rattle.record_pages.specs.Bounded.{IsKey, IsValue};
+ghost use Rattle.trace_file.specs.Calls.{IsCall, value_of};
 ghost use Rattle.trace_file.specs.Given.{Gives, shown};
 ghost use Rattle.trace_file.specs.Lent.{act_shown, call_shown};
-ghost use Rattle.trace_file.specs.Reading.{kind_of, kind_at, key_at, value_at, act_at, call_at, first_difference, magic_at, count_at, header_at};
+ghost use Rattle.trace_file.specs.Reading.{kind_of, kind_at, key_at, value_at, act_at, call_at, first_difference, magic_at, count_at, header_at, position_at};
 ghost use Rattle.trace_file.specs.Text.{magic};
 
 use crate::act_ref::ActRef;
@@ -13,6 +14,7 @@ use crate::cursor::Cursor;
 use crate::kind::Kind;
 use crate::stop::Stop;
 use crate::trace_fault::TraceFault;
+use record_pages::Value;
 
 /// The bytes that each trace begins with.
 pub(crate) const MAGIC: [u8; 8] = *b"KGTRACE1";
@@ -46,29 +48,34 @@ fn kind(cursor: Cursor<'_>) -> Result<(Kind, Cursor<'_>), Stop>
 
 #[tactic(auto, unfolding(crate::specs::Reading::key_at))]
 fn key(cursor: Cursor<'_>) -> Result<(&[u8], Cursor<'_>), Stop>
-    ensures { Gives (λ x. (x.0.now, shown x.1)) result (key_at (shown cursor.entry)) }
+    ensures read { Gives (λ x. (x.0.now, shown x.1)) result (key_at (shown cursor.entry)) }
+    ensures lawful { IfOk result (λ x. IsKey x.0.now) }
 {
     let (len, behind) = cursor.byte()?;
     if len == 0 {
         return Err(Stop::Fault(TraceFault::BadKey { at: cursor.at }));
     }
-    behind.bytes(len as usize)
+    let (key, behind) = behind.bytes(len as usize)?;
+    Ok((key, behind))
 }
 
 #[tactic(auto, unfolding(crate::specs::Reading::value_at))]
 fn value(cursor: Cursor<'_>) -> Result<(&[u8], Cursor<'_>), Stop>
-    ensures { Gives (λ x. (x.0.now, shown x.1)) result (value_at (shown cursor.entry)) }
+    ensures read { Gives (λ x. (x.0.now, shown x.1)) result (value_at (shown cursor.entry)) }
+    ensures lawful { IfOk result (λ x. IsValue x.0.now) }
 {
     let (len, behind) = cursor.number16()?;
-    if len > 2048 {
+    if len as usize > Value::MAX_LEN {
         return Err(Stop::Fault(TraceFault::BadValue { at: cursor.at }));
     }
-    behind.bytes(len as usize)
+    let (value, behind) = behind.bytes(len as usize)?;
+    Ok((value, behind))
 }
 
 #[tactic(auto, unfolding(crate::specs::Reading::act_at))]
 fn act(kind: Kind, cursor: Cursor<'_>) -> Result<(ActRef<'_>, Cursor<'_>), Stop>
-    ensures { Gives (λ x. (act_shown x.0, shown x.1)) result (act_at kind (shown cursor.entry)) }
+    ensures read { Gives (λ x. (act_shown x.0, shown x.1)) result (act_at kind (shown cursor.entry)) }
+    ensures lawful { IfOk result (λ x. IsValue (value_of (act_shown x.0))) }
 {
     match kind {
         Kind::Put => {
@@ -87,7 +94,8 @@ fn act(kind: Kind, cursor: Cursor<'_>) -> Result<(ActRef<'_>, Cursor<'_>), Stop>
 /// The call that begins here.
 #[tactic(auto, unfolding(crate::specs::Reading::call_at))]
 pub(crate) fn call(cursor: Cursor<'_>) -> Result<(CallRef<'_>, Cursor<'_>), Stop>
-    ensures { Gives (λ x. (call_shown x.0, shown x.1)) result (call_at (shown cursor.entry)) }
+    ensures read { Gives (λ x. (call_shown x.0, shown x.1)) result (call_at (shown cursor.entry)) }
+    ensures lawful { IfOk result (λ x. IsCall (call_shown x.0)) }
 {
     let (kind, behind) = kind(cursor)?;
     let (caller, behind) = behind.number16()?;
@@ -95,14 +103,7 @@ pub(crate) fn call(cursor: Cursor<'_>) -> Result<(CallRef<'_>, Cursor<'_>), Stop
     let (end, behind) = behind.number64()?;
     let (key, behind) = key(behind)?;
     let (act, behind) = act(kind, behind)?;
-    let call = CallRef {
-        caller,
-        start,
-        end,
-        key,
-        act,
-    };
-    Ok((call, behind))
+    Ok((CallRef::new(caller, start, end, key, act), behind))
 }
 
 /// Where these bytes differ from the magic first.
@@ -147,4 +148,11 @@ pub(crate) fn header(cursor: Cursor<'_>) -> Result<(u32, Cursor<'_>), Stop>
 {
     let (_, behind) = magic(cursor)?;
     count(behind)
+}
+
+/// The position that stands here.
+pub(crate) fn position(cursor: Cursor<'_>) -> Result<(u32, Cursor<'_>), Stop>
+    ensures { Gives (λ x. (x.0, shown x.1)) result (position_at (shown cursor.entry)) }
+{
+    cursor.number32()
 }

@@ -1,0 +1,179 @@
+// Taking the items of a trace from the bytes of a stream, as many as are whole.
+ghost use Rattle.std.specs.Prelude.{◌≡◌, ◌≤◌, ◌<◌, ◌-◌, ◌+◌, ℕ, List, length, IfOk, IfErr, OnErr, OnOk, Some, None, [], All};
+ghost use Rattle.std.specs.Option.{option_map};
+ghost use Rattle.trace_file.specs.Given.{shown};
+ghost use Rattle.trace_file.specs.Reading.{call_at, position_at, many_at, at_end};
+ghost use Rattle.trace_file.specs.Stream.{in_front, TakesItems, FailsAs, IsTaken, Opens, Advances, read_behind, text_so_far, counted_text, counted_at, IsCounted, Settles, whole, standing};
+ghost use Rattle.trace_file.specs.Text.{call_text, position_text};
+
+use crate::certificate::Certificate;
+use crate::cursor::Cursor;
+use crate::history::History;
+use crate::items::{call, header, position};
+use crate::stop::Stop;
+use crate::taken::Taken;
+use crate::trace::Trace;
+use crate::trace_fault::TraceFault;
+use std::alloc::Global;
+
+/// Takes the calls that are whole, up to so many, and answers the place behind them.
+fn take_calls<'a>(
+    history: &mut History,
+    count: u32,
+    cursor: Cursor<'a>,
+) -> Result<Cursor<'a>, TraceFault>
+    requires { length history.old ≤ count }
+    ensures ok { IfOk result (λ rest. TakesItems call_at call_text count history.old history.new (shown cursor.entry) (shown rest)) }
+    ensures err { IfErr result (λ fault. FailsAs fault (in_front history.old (many_at call_at (count - length history.old) (shown cursor.entry)))) }
+{
+    let mut rest = cursor;
+    while history.len() < count as usize {
+        match call(rest) {
+            Ok((next, behind)) => {
+                let Ok(()) = history.push_ref(&next) else {
+                    return Err(TraceFault::OutOfMemory);
+                };
+                rest = behind;
+            }
+            Err(Stop::Short) => return Ok(rest),
+            Err(Stop::Fault(fault)) => return Err(fault),
+        }
+    }
+    Ok(rest)
+}
+
+/// Takes the positions that are whole, up to so many, and answers the place behind them.
+fn take_positions<'a>(
+    certificate: &mut Certificate,
+    count: u32,
+    cursor: Cursor<'a>,
+) -> Result<Cursor<'a>, TraceFault>
+    requires { length certificate.old ≤ count }
+    ensures ok { IfOk result (λ rest. TakesItems position_at position_text count certificate.old certificate.new (shown cursor.entry) (shown rest)) }
+    ensures err { IfErr result (λ fault. FailsAs fault (in_front certificate.old (many_at position_at (count - length certificate.old) (shown cursor.entry)))) }
+{
+    let mut rest = cursor;
+    while certificate.len() < count as usize {
+        match position(rest) {
+            Ok((next, behind)) => {
+                let Ok(()) = certificate.push(next) else {
+                    return Err(TraceFault::OutOfMemory);
+                };
+                rest = behind;
+            }
+            Err(Stop::Short) => return Ok(rest),
+            Err(Stop::Fault(fault)) => return Err(fault),
+        }
+    }
+    Ok(rest)
+}
+
+/// Takes the calls and then the positions that are whole, up to so many of each.
+fn take_counted<'a>(
+    history: &mut History,
+    certificate: &mut Certificate,
+    count: u32,
+    cursor: Cursor<'a>,
+) -> Result<Cursor<'a>, TraceFault>
+    requires counted { IsCounted count history.old certificate.old }
+    requires at { cursor.at ≡ length (counted_text count history.old certificate.old) }
+    ensures ok { IfOk result (λ rest. Settles count history.old certificate.old (shown cursor.entry) history.new certificate.new (shown rest)) }
+    ensures err { IfErr result (λ fault. FailsAs fault (counted_at count history.old certificate.old (shown cursor.entry))) }
+{
+    let rest = take_calls(history, count, cursor)?;
+    if history.len() < count as usize {
+        return Ok(rest);
+    }
+    let rest = take_positions(certificate, count, rest)?;
+    if certificate.len() < count as usize {
+        return Ok(rest);
+    }
+    if !rest.bytes.is_empty() {
+        return Err(TraceFault::TrailingBytes { at: rest.at });
+    }
+    Ok(rest)
+}
+
+impl Taken {
+    /// Nothing was taken yet. It takes no memory.
+    pub(crate) fn new(alloc: Global) -> Taken
+        ensures { result ≡ record { count = None; history = []; certificate = [] } }
+    {
+        Taken {
+            count: None,
+            history: History::new(alloc),
+            certificate: Certificate::new(alloc),
+        }
+    }
+
+    /// Whether all calls and positions that the header counts were taken.
+    fn is_whole(&self) -> bool
+        ensures { result ≡ whole self.now.count self.now.certificate }
+    {
+        match self.count {
+            Some(count) => self.certificate.len() == count as usize,
+            None => false,
+        }
+    }
+
+    /// What was taken as a trace, if it is whole; else the stream ended too early, after so many bytes.
+    pub(crate) fn ended(self, fed: u64) -> Result<Trace, TraceFault>
+        ensures { result ≡ at_end fed (standing self.count self.history self.certificate) }
+    {
+        if !self.is_whole() {
+            return Err(TraceFault::Truncated { at: fed });
+        }
+        let Taken {
+            count: _,
+            history,
+            certificate,
+        } = self;
+        Ok(Trace {
+            history,
+            certificate,
+        })
+    }
+
+    /// Takes the header, once it is whole, and answers the count and the place behind it.
+    fn take_header<'a>(
+        &mut self,
+        cursor: Cursor<'a>,
+    ) -> Result<Option<(u32, Cursor<'a>)>, TraceFault>
+        requires taken { IsTaken self.old.count self.old.history self.old.certificate }
+        requires at { cursor.at ≡ length (text_so_far self.old.count self.old.history self.old.certificate) }
+        ensures ok { IfOk result (λ opened. Opens self.old self.new (shown cursor.entry) (option_map (λ x. (x.0, shown x.1)) opened)) }
+        ensures err { IfErr result (λ fault. FailsAs fault (read_behind self.old.count self.old.history self.old.certificate (shown cursor.entry))) }
+    {
+        match self.count {
+            Some(count) => Ok(Some((count, cursor))),
+            None => match header(cursor) {
+                Ok((count, behind)) => {
+                    self.count = Some(count);
+                    Ok(Some((count, behind)))
+                }
+                Err(Stop::Short) => Ok(None),
+                Err(Stop::Fault(fault)) => Err(fault),
+            },
+        }
+    }
+
+    /// Takes as much as is whole of the bytes behind what was taken, and answers the place behind it.
+    ///
+    /// After a fault nothing is said of what was taken.
+    pub(crate) fn take<'a>(&mut self, cursor: Cursor<'a>) -> Result<Cursor<'a>, TraceFault>
+        requires taken { IsTaken self.old.count self.old.history self.old.certificate }
+        requires at { cursor.at ≡ length (text_so_far self.old.count self.old.history self.old.certificate) }
+        ensures ok { IfOk result (λ rest. Advances self.old self.new (shown cursor.entry) (shown rest)) }
+        ensures err { IfErr result (λ fault. FailsAs fault (read_behind self.old.count self.old.history self.old.certificate (shown cursor.entry))) }
+    {
+        match self.take_header(cursor)? {
+            Some((count, rest)) => {
+                match take_counted(&mut self.history, &mut self.certificate, count, rest) {
+                    Ok(rest) => Ok(rest),
+                    Err(fault) => Err(fault),
+                }
+            }
+            None => Ok(cursor),
+        }
+    }
+}
