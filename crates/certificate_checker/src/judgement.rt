@@ -1,6 +1,6 @@
 // Judging the trace that a reader gives.
 ghost use Rattle.std.specs.Prelude.{◌≡◌, ◌≢◌, ◌++◌, List, ℕ, IfOk, IfErr, OnOk, OnErr, IsErrOf, Err, codes, string_bytes};
-ghost use Rattle.std.specs.Io.KnownBytes.{Appends, Keeps};
+ghost use Rattle.std.specs.Io.KnownBytes.{Appends, IsAtEnd, Keeps};
 ghost use Rattle.certificate_checker.specs.Judgements.{IsTold, IsLineOn, WroteLine};
 ghost use Rattle.certificate_checker.specs.VerdictLine.{bad_trace_line};
 
@@ -33,6 +33,8 @@ pub fn judge<R: Read, W: Write>(
 ) -> Result<Judged, JudgeFault>
     ensures line { IfOk result (λ judged. WroteLine
         (R.remaining reader.old) judged (W.contents writer.old) (W.contents writer.new)) }
+    ensures end { IfOk result (λ judged. judged ≢ Judged.BadTrace
+        → IsAtEnd (R.remaining reader.new)) }
     ensures memory { IfErr result (λ fault. fault ≡ JudgeFault.OutOfMemory
         → Keeps (W.contents writer.old) (W.contents writer.new)) }
 {
@@ -45,7 +47,8 @@ pub fn judge<R: Read, W: Write>(
 
 /// The judgement on what a reader gives.
 fn judgement_of<R: Read>(alloc: Global, reader: &mut R) -> Result<Judgement, AllocError>
-    ensures { IfOk result (λ j. (line : List ℕ)
+    ensures end { IfOk result (λ j. j.judged ≢ Judged.BadTrace → IsAtEnd (R.remaining reader.new)) }
+    ensures line { IfOk result (λ j. (line : List ℕ)
         × IsLineOn (R.remaining reader.old) j.judged line
         × (string_bytes j.line ≡ line ++ codes "\n")) }
 {

@@ -24,10 +24,13 @@ pub use judged::Judged;
 pub use judgement::judge;
 pub use laws::{
     accepted_has_no_fault, accepted_or_faulty, first_fault_is_one, lanes_are_accepted,
-    latest_is_current, lawful_grows, layout_exists, layout_is_one, verdict_line_exists, verdict_line_is_one,
+    latest_is_current, lawful_grows, layout_exists, layout_is_one, verdict_line_exists,
+    verdict_line_is_one,
 };
 pub use verdict::Verdict;
 pub use verdict_line::verdict_line_of;
 
+#[cfg(test)]
+mod judge_tests;
 #[cfg(test)]
 mod tests;
