@@ -35,7 +35,7 @@ none_any p [] h = tt
 none_any p (x ∷ xs) h = let both = or_none (p x) (list_any p xs) h in (both.0, none_any p xs both.1)
 
 -- what a look-up within a list finds
-found_at : {X : Type 0} (xs : List X) (i : ℕ) → i < length xs → (x : X) × (slice_get xs i ≡ Some x)
+pub found_at : {X : Type 0} (xs : List X) (i : ℕ) → i < length xs → (x : X) × (slice_get xs i ≡ Some x)
 found_at [] i less = absurd (omega arith)
 found_at (x ∷ xs) zero less = (x, refl)
 found_at (x ∷ xs) (suc i) less = found_at xs i (omega arith)
@@ -103,7 +103,7 @@ order_take history (p ∷ ps) have (suc place) =
 
 -- ---- whether a value is the latest can be told
 
-told : (key value : List ℕ) (deeds : List Deed) (computed : Option (List ℕ)) → current deeds key ≡ computed → IsLatest deeds key value ⊎ ¬ IsLatest deeds key value
+pub told : (key value : List ℕ) (deeds : List Deed) (computed : Option (List ℕ)) → current deeds key ≡ computed → IsLatest deeds key value ⊎ ¬ IsLatest deeds key value
 told key value deeds None e = inr (λ l. let is = latest_found key value deeds l in cc)
 told key value deeds (Some v) e = elim (cases_Bool (pointwise nat_eq v value)) [
   | inl same ↦ inl (latest_is key value deeds (e ∙ ap Some ((bytes_decides v value).0 same)))
@@ -116,7 +116,7 @@ told key value deeds (Some v) e = elim (cases_Bool (pointwise nat_eq v value)) [
 ]
 
 -- a mapped list that is split comes from a list that is
-split_map : {X Y : Type 0} (f : X → Y) (xs : List X) (before : List Y) (y : Y) (after : List Y) → map f xs ≡ before ++ y ∷ after → (b : List X) × (x : X) × (a : List X) × (xs ≡ b ++ x ∷ a) × (map f b ≡ before) × (f x ≡ y)
+pub split_map : {X Y : Type 0} (f : X → Y) (xs : List X) (before : List Y) (y : Y) (after : List Y) → map f xs ≡ before ++ y ∷ after → (b : List X) × (x : X) × (a : List X) × (xs ≡ b ++ x ∷ a) × (map f b ≡ before) × (f x ≡ y)
 split_map f [] [] y after e = cc
 split_map f [] (z ∷ before) y after e = cc
 split_map f (x ∷ xs) [] y after e = let same : f x ≡ y = cc in ([], x, xs, refl, refl, same)

@@ -3,3 +3,9 @@ pub mod LatestLemmas
 pub mod Passing
 pub mod Accepting
 pub mod Growing
+pub mod Listing
+pub mod Laying
+pub mod LaneLemmas
+pub mod Layouts
+pub mod Deciding
+pub mod Judging

@@ -36,7 +36,7 @@ pub record Passed (history : List Call) (certificate : List ℕ) (place : ℕ) (
 pub not_at : {X : Type 0} (o : Option X) (P : X → Type 0) (x : X) → o ≡ Some x → ¬ P x → ¬ IsSomeAnd o P
 not_at o P x e n h = let found = some_and o P h in let same : found.0 ≡ x = let e' = found.1 in cc in n (subst P same found.2)
 
-nothing_at : {X : Type 0} {o : Option X} (P : X → Type 0) → o ≡ None → ¬ IsSomeAnd o P
+pub nothing_at : {X : Type 0} {o : Option X} (P : X → Type 0) → o ≡ None → ¬ IsSomeAnd o P
 nothing_at {X} {o} P none h = let found = some_and o P h in let is = found.1 in cc
 
 -- faults of the places: none is tested before the test t of a place whose earlier tests pass

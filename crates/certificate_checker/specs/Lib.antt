@@ -5,6 +5,8 @@ pub mod Orders
 pub mod Acceptance
 pub mod Faults
 pub mod Values
+pub mod Lanes
 pub mod Laws
 pub mod FaultText
 pub mod VerdictLine
+pub mod Judgements

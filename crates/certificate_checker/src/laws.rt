@@ -1,5 +1,5 @@
 // Laws of the definitions, for those who record a history.
-ghost use Rattle.certificate_checker.specs.Laws.{LatestIsCurrent, LawfulGrows};
+ghost use Rattle.certificate_checker.specs.Laws.{LatestIsCurrent, LawfulGrows, LanesAreAccepted, LayoutExists, LayoutIsOne, AcceptedOrFaulty, AcceptedHasNoFault, FirstFaultIsOne, VerdictLineExists, VerdictLineIsOne};
 
 /// A value is a key's latest exactly where the lossy map of the deeds has it.
 pub fn latest_is_current()
@@ -9,4 +9,44 @@ pub fn latest_is_current()
 /// Lawful deeds stay lawful with one more that is no hit, or a hit of its key's current value.
 pub fn lawful_grows()
     ensures { LawfulGrows }
+{}
+
+/// Well recorded lanes, no two of which have a key in common, are accepted as they are laid out.
+pub fn lanes_are_accepted()
+    ensures { LanesAreAccepted }
+{}
+
+/// Any lanes can be laid out.
+pub fn layout_exists()
+    ensures { LayoutExists }
+{}
+
+/// Lanes whose points rise are laid out in one way.
+pub fn layout_is_one()
+    ensures { LayoutIsOne }
+{}
+
+/// A pair is accepted or has a first fault.
+pub fn accepted_or_faulty()
+    ensures { AcceptedOrFaulty }
+{}
+
+/// A pair that is accepted has no first fault.
+pub fn accepted_has_no_fault()
+    ensures { AcceptedHasNoFault }
+{}
+
+/// A pair has at most one first fault.
+pub fn first_fault_is_one()
+    ensures { FirstFaultIsOne }
+{}
+
+/// Any bytes have a verdict line.
+pub fn verdict_line_exists()
+    ensures { VerdictLineExists }
+{}
+
+/// Bytes have at most one verdict line, and it says what they are judged to be.
+pub fn verdict_line_is_one()
+    ensures { VerdictLineIsOne }
 {}

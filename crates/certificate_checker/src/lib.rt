@@ -6,7 +6,11 @@
 #![tactic(auto)]
 
 mod acceptance;
+mod bad_trace;
 mod fault;
+mod judge_fault;
+mod judged;
+mod judgement;
 mod laws;
 mod places;
 mod values;
@@ -15,9 +19,18 @@ mod verdict_line;
 
 pub use acceptance::check;
 pub use fault::Fault;
-pub use laws::{latest_is_current, lawful_grows};
+pub use judge_fault::JudgeFault;
+pub use judged::Judged;
+pub use judgement::judge;
+pub use laws::{
+    accepted_has_no_fault, accepted_or_faulty, first_fault_is_one, lanes_are_accepted,
+    latest_is_current, lawful_grows, layout_exists, layout_is_one, verdict_line_exists,
+    verdict_line_is_one,
+};
 pub use verdict::Verdict;
 pub use verdict_line::verdict_line_of;
 
+#[cfg(test)]
+mod judge_tests;
 #[cfg(test)]
 mod tests;

@@ -24,7 +24,7 @@ pub fn verdict_line_of(
 }
 
 /// The line of a verdict on so many calls.
-fn told(alloc: Global, verdict: Verdict, calls: usize) -> Result<String, AllocError>
+pub(crate) fn told(alloc: Global, verdict: Verdict, calls: usize) -> Result<String, AllocError>
     ensures { IfOk result (λ line. string_bytes line ≡ verdict_line verdict calls) }
 {
     match verdict {

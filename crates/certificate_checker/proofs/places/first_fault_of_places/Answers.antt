@@ -15,19 +15,19 @@ pub returns-then-call-greatest_start : goal.returns-then-call-greatest_start
 returns-then-call-greatest_start c =
     let passed = c.loop-place.invariant in
     let flag = get_or_read c.loop-place.seen.items c.at-position.result c.index.result.now (omega (arith, passed.seen_len)) c.index.ensures false in
-    ends_out_of_order passed c.at-position.result (call_shown c.at-call.result) c.at-position.ensures c.at-call.ensures (sym flag ∙ c.if-index.false) c.if-call-greatest_start.true
+    ends_out_of_order passed c.at-position.result (call_shown c.at-call.result) c.at-position.ensures c.at-call.ensures.call (sym flag ∙ c.if-index.false) c.if-call-greatest_start.true
 
 pub returns-then-not-allows : goal.returns-then-not-allows
 returns-then-not-allows c =
     let passed = c.loop-place.invariant in
     let flag = get_or_read c.loop-place.seen.items c.at-position.result c.index.result.now (omega (arith, passed.seen_len)) c.index.ensures false in
-    ends_wrong_hit passed c.at-position.result (call_shown c.at-call.result) c.at-position.ensures c.at-call.ensures (sym flag ∙ c.if-index.false) c.if-call-greatest_start.false (search rules)
+    ends_wrong_hit passed c.at-position.result (call_shown c.at-call.result) c.at-position.ensures c.at-call.ensures.call (sym flag ∙ c.if-index.false) c.if-call-greatest_start.false (search rules)
 
 pub loop-place-preserved : goal.loop-place-preserved
 loop-place-preserved c =
     let passed = c.loop-place.invariant in
     let flag = get_or_read c.loop-place.seen.items c.at-position.result c.index.result.now (omega (arith, passed.seen_len)) c.index.ensures false in
-    rw c.max-greatest_start.ensures (goes_on c.args.history.now c.args.certificate.now c.loop-place.place c.at-position.result (call_shown c.at-call.result) c.loop-place.seen.items c.loop-place.greatest_start c.loop-place.values c.note.new.values passed c.at-position.ensures c.at-call.ensures (sym flag ∙ c.if-index.false) c.if-call-greatest_start.false (search rules) c.in_ok-note.ensures)
+    rw c.max-greatest_start.ensures (goes_on c.args.history.now c.args.certificate.now c.loop-place.place c.at-position.result (call_shown c.at-call.result) c.loop-place.seen.items c.loop-place.greatest_start c.loop-place.values c.note.new.values passed c.at-position.ensures c.at-call.ensures.call (sym flag ∙ c.if-index.false) c.if-call-greatest_start.false (search rules) c.in_ok-note.ensures)
 
 pub returns : goal.returns
 returns c = ends_well c.loop-place.invariant (omega arith)

@@ -22,4 +22,4 @@ tells history certificate line (Rejected fault) accepted rejected is = record {
 
 pub returns-in-Ok : goal.returns-in-Ok
 returns-in-Ok c =
-    tells c.args.history.now c.args.certificate.now _ c.in_ok-verdict.verdict c.in_ok-verdict.ensures.accepted c.in_ok-verdict.ensures.rejected (c.in-Ok.ensures ∙ ap (verdict_line c.in_ok-verdict.verdict) c.len.ensures)
+    tells c.args.history.now c.args.certificate.now _ c.in_ok-verdict.verdict c.in_ok-verdict.ensures.accepted c.in_ok-verdict.ensures.rejected (c.in-Ok.ensures ∙ ap (verdict_line c.in_ok-verdict.verdict) c.len.ensures.count)

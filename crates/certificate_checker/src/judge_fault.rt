@@ -1,0 +1,25 @@
+// Why a trace was not judged.
+ghost use Rattle.std.specs.Prelude.{◌≡◌};
+ghost use Rattle.certificate_checker.specs.declared.judge_fault.JudgeFault.TheVariants.{OutOfMemory};
+
+use std::alloc::AllocError;
+use thiserror::Error;
+
+/// Why a trace was not judged.
+#[derive(Clone, Copy, Debug, PartialEq, Eq, Error)]
+pub enum JudgeFault {
+    /// Memory was refused. Nothing was written.
+    #[error("out of memory")]
+    OutOfMemory,
+    /// The writer failed. Nothing is said of what it holds.
+    #[error("file fault")]
+    WriteFault,
+}
+
+impl From<AllocError> for JudgeFault {
+    ghost from_gives = { λ _ e. e ≡ OutOfMemory };
+
+    fn from(_refused: AllocError) -> JudgeFault {
+        JudgeFault::OutOfMemory
+    }
+}

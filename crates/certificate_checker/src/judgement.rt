@@ -1,0 +1,105 @@
+// Judging the trace that a reader gives.
+ghost use Rattle.std.specs.Prelude.{◌≡◌, ◌≢◌, ◌++◌, List, ℕ, IfOk, IfErr, OnOk, OnErr, IsErrOf, Err, codes, string_bytes};
+ghost use Rattle.std.specs.Io.KnownBytes.{Appends, IsAtEnd, Keeps};
+ghost use Rattle.certificate_checker.specs.Judgements.{IsTold, IsLineOn, WroteLine};
+ghost use Rattle.certificate_checker.specs.VerdictLine.{bad_trace_line};
+
+use crate::acceptance::check;
+use crate::bad_trace::BadTrace;
+use crate::judge_fault::JudgeFault;
+use crate::judged::Judged;
+use crate::verdict_line::told;
+use std::alloc::{AllocError, Global};
+use std::io::{Read, Write};
+use trace_file::{Trace, TraceFault, read_trace};
+
+/// What was judged, and the line that says it, with its line feed.
+#[derive(Drop)]
+struct Judgement {
+    judged: Judged,
+    line: String,
+}
+
+/// Reads a trace and writes one line that says what it is: the verdict on it, or why it is no trace.
+///
+/// The line is `accepted N calls`, or `rejected` with the first fault of the pair, or `bad trace` with
+/// the first fault of reading and its offset; the answer is the kind of that line. A reader that fails
+/// gives `bad trace ReadFault`. At `OutOfMemory` nothing was written; after `WriteFault` nothing is
+/// said of what the writer holds.
+pub fn judge<R: Read, W: Write>(
+    alloc: Global,
+    reader: &mut R,
+    writer: &mut W,
+) -> Result<Judged, JudgeFault>
+    ensures line { IfOk result (λ judged. WroteLine
+        (R.remaining reader.old) judged (W.contents writer.old) (W.contents writer.new)) }
+    ensures end { IfOk result (λ judged. judged ≢ Judged.BadTrace
+        → IsAtEnd (R.remaining reader.new)) }
+    ensures memory { IfErr result (λ fault. fault ≡ JudgeFault.OutOfMemory
+        → Keeps (W.contents writer.old) (W.contents writer.new)) }
+{
+    let judgement = judgement_of(alloc, reader)?;
+    match write(writer, judgement.line.as_bytes()) {
+        Ok(()) => Ok(judgement.judged),
+        Err(fault) => Err(fault),
+    }
+}
+
+/// The judgement on what a reader gives.
+fn judgement_of<R: Read>(alloc: Global, reader: &mut R) -> Result<Judgement, AllocError>
+    ensures end { IfOk result (λ j. j.judged ≢ Judged.BadTrace → IsAtEnd (R.remaining reader.new)) }
+    ensures line { IfOk result (λ j. (line : List ℕ)
+        × IsLineOn (R.remaining reader.old) j.judged line
+        × (string_bytes j.line ≡ line ++ codes "\n")) }
+{
+    match read_trace(alloc, reader) {
+        Ok(trace) => match on_trace(alloc, &trace) {
+            Ok(judgement) => Ok(judgement),
+            Err(refused) => Err(refused),
+        },
+        Err(fault) => match on_fault(alloc, fault) {
+            Ok(judgement) => Ok(judgement),
+            Err(refused) => Err(refused),
+        },
+    }
+}
+
+/// The judgement on a trace.
+fn on_trace(alloc: Global, trace: &Trace) -> Result<Judgement, AllocError>
+    ensures { IfOk result (λ j. (line : List ℕ) × IsTold trace.now j.judged line
+        × (string_bytes j.line ≡ line ++ codes "\n")) }
+{
+    let verdict = check(alloc, &trace.history, &trace.certificate)?;
+    let line = told(alloc, verdict, trace.history.len())?;
+    Ok(Judgement {
+        judged: Judged::of(verdict),
+        line: format!(in alloc; "{line}\n")?,
+    })
+}
+
+/// The judgement on what is no trace. A trace for which memory was refused gets none.
+fn on_fault(alloc: Global, fault: TraceFault) -> Result<Judgement, AllocError>
+    ensures fault { OnOk result (fault ≢ TraceFault.OutOfMemory) }
+    ensures kind { IfOk result (λ j. j.judged ≡ Judged.BadTrace) }
+    ensures line { IfOk result (λ j. string_bytes j.line ≡ bad_trace_line fault ++ codes "\n") }
+{
+    if let TraceFault::OutOfMemory = fault {
+        return Err(AllocError);
+    }
+    let bad = BadTrace { fault };
+    Ok(Judgement {
+        judged: Judged::BadTrace,
+        line: format!(in alloc; "bad trace {bad}\n")?,
+    })
+}
+
+/// Writes bytes, all of them.
+fn write<W: Write>(writer: &mut W, bytes: &[u8]) -> Result<(), JudgeFault>
+    ensures ok { OnOk result (Appends (W.contents writer.old) (W.contents writer.new) bytes.now) }
+    ensures err { OnErr result (result ≡ Err JudgeFault.WriteFault) }
+{
+    match writer.write_all(bytes) {
+        Ok(()) => Ok(()),
+        Err(_) => Err(JudgeFault::WriteFault),
+    }
+}
