@@ -1,6 +1,6 @@
 // A device in memory.
 ghost use Rattle.std.specs.Prelude.{◌≡◌, ◌<◌, ◌^◌, true, OnOk, IfOk, IsOk, IsTrue, slice_get, replicate, length, List, ℕ};
-ghost use Rattle.page_device.specs.Device.{failures_after, WritesPage, IsKnown};
+ghost use Rattle.page_device.specs.Device.{WritesPage, IsKnown};
 
 use crate::device::PageDevice;
 use crate::device_fault::DeviceFault;
@@ -51,15 +51,10 @@ impl<const PAGE: usize> PageDevice<PAGE> for MemoryDevice<PAGE> {
 
     fn read(&mut self, page: u32, into: &mut [u8; PAGE]) -> Result<(), DeviceFault>
         requires { page < length self.old }
-        ensures pages { length self.new ≡ length self.old }
-        ensures honest { true ≡ true }
-        ensures failures { 0 ≡ failures_after 0 result }
-        ensures same { IsTrue true → slice_get self.new ≡ slice_get self.old }
-        ensures known { IsTrue true → OnOk result (IsKnown (slice_get self.old page) into.new) }
-
-        // It never fails, and a read leaves it as it was.
         ensures ok { IsOk result }
         ensures unchanged { self.new ≡ self.old }
+        ensures same { IsTrue true → slice_get self.new ≡ slice_get self.old }
+        ensures known { IsTrue true → OnOk result (IsKnown (slice_get self.old page) into.new) }
     {
         *into = self.pages[page as usize];
         Ok(())
@@ -67,14 +62,10 @@ impl<const PAGE: usize> PageDevice<PAGE> for MemoryDevice<PAGE> {
 
     fn write(&mut self, page: u32, bytes: &[u8; PAGE]) -> Result<(), DeviceFault>
         requires { page < length self.old }
+        ensures ok { IsOk result }
         ensures pages { length self.new ≡ length self.old }
-        ensures honest { true ≡ true }
-        ensures failures { 0 ≡ failures_after 0 result }
         ensures written { IsTrue true →
             WritesPage (slice_get self.old) (slice_get self.new) page bytes.now result }
-
-        // It never fails.
-        ensures ok { IsOk result }
     {
         self.pages[page as usize] = *bytes;
         Ok(())
