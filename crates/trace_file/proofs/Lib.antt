@@ -3,6 +3,7 @@ pub mod Formats
 pub mod ItemFormats
 pub mod ReaderLaws
 pub mod Readings
+pub mod SendLaws
 pub mod StoreLaws
 pub mod Takings
 pub mod TraceLaws

@@ -15,9 +15,12 @@ mod kind;
 mod stop;
 mod taken;
 mod taking;
+mod text_buffer;
+mod to_writer;
 mod trace;
 mod trace_fault;
 mod trace_reader;
+mod write_trace_fault;
 
 pub use act::Act;
 pub use act_ref::ActRef;
@@ -29,3 +32,4 @@ pub use history::History;
 pub use trace::Trace;
 pub use trace_fault::TraceFault;
 pub use trace_reader::TraceReader;
+pub use write_trace_fault::WriteTraceFault;
