@@ -6,4 +6,5 @@ pub mod Readings
 pub mod SendLaws
 pub mod StoreLaws
 pub mod Takings
+pub mod ToldApart
 pub mod TraceLaws

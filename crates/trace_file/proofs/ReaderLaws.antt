@@ -88,7 +88,7 @@ finishes taken at len pending self view is len-is =
     ∙ ap (at_end (length (stream_of taken pending))) (sym is.stands)
     ∙ ap finished view
 
-ended_ok : (n : ℕ) (r : Result Trace Stop) (t : Trace) → at_end n r ≡ Ok t → r ≡ Ok t
+pub ended_ok : (n : ℕ) (r : Result Trace Stop) (t : Trace) → at_end n r ≡ Ok t → r ≡ Ok t
 ended_ok n (Ok u) t e = cc
 ended_ok n (Err Short) t e = absurd cc
 ended_ok n (Err (Fault f)) t e = absurd cc

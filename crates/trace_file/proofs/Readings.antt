@@ -47,7 +47,7 @@ outcome_by n (Ok t) f e = absurd cc
 outcome_by n (Err Short) f e = absurd cc
 outcome_by n (Err (Fault g)) f e = cc
 
-stopped_by : (r : Result Trace Stop) (f : TraceFault) → met r ≡ Some f → r ≡ Err (Fault f)
+pub stopped_by : (r : Result Trace Stop) (f : TraceFault) → met r ≡ Some f → r ≡ Err (Fault f)
 stopped_by (Ok t) f e = absurd cc
 stopped_by (Err Short) f e = absurd cc
 stopped_by (Err (Fault g)) f e = cc
