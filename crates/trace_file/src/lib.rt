@@ -31,7 +31,11 @@ pub use certificate::Certificate;
 pub use from_reader::read_trace;
 pub use history::History;
 pub use laws::{fault_laws, trace_laws};
+pub use to_writer::write_trace;
 pub use trace::Trace;
 pub use trace_fault::TraceFault;
 pub use trace_reader::TraceReader;
 pub use write_trace_fault::WriteTraceFault;
+
+#[cfg(test)]
+mod tests;
