@@ -249,7 +249,7 @@ impl<const PAGE: usize> RecordedLane<PAGE> {
             act: Act::Remove,
         };
         let copy = noted.try_clone()?;
-        self.memory.remove(key);
+        let _removed = self.memory.remove(key);
         self.calls.push(noted).unwrap();
         Ok(Removed { noted: copy })
     }
@@ -262,7 +262,7 @@ impl<const PAGE: usize> RecordedLane<PAGE> {
           calls = self.old.calls;
         } }
     {
-        self.memory.remove(key);
+        let _forgotten = self.memory.remove(key);
     }
 }
 

@@ -80,12 +80,14 @@ impl LaneMemory {
         Ok(out)
     }
 
-    /// Takes the key's pair out, if there is one.
-    pub(crate) fn remove(&mut self, key: &Key)
-        ensures { self.new ≡ after_remove key.now self.old }
+    /// Takes the key's pair out and gives its value.
+    pub(crate) fn remove(&mut self, key: &Key) -> Option<Value>
+        ensures value { result ≡ value_in key.now self.old.pairs }
+        ensures after { self.new ≡ after_remove key.now self.old }
     {
-        if let Some(cache) = &mut self.cache {
-            let _value = cache.remove(key);
+        match &mut self.cache {
+            Some(cache) => cache.remove(key),
+            None => None,
         }
     }
 }

@@ -54,6 +54,34 @@ fn calls_are_answered_and_recorded(rt: HostRuntime) -> Result<(), Fail> {
     Ok(())
 }
 
+#[test]
+fn a_removed_and_a_forgotten_key_are_missed(rt: HostRuntime) -> Result<(), Fail> {
+    let alloc = rt.alloc();
+    let mut lane = RecordedLane::<256>::open(alloc, &small(), 0)?;
+    let key = Key::new(alloc, b"ax")?;
+    lane.forget(&key);
+    assert_eq!(rt; lane.last_point(), 0);
+    let first = lane.put(0, 1, 2, key.try_clone()?, Value::new(alloc, b"1")?, 0)?;
+    assert_eq!(rt; first.pushed, Pushed::Nobody);
+    assert!(rt; lane.last_point() < 5);
+    let removed = lane.remove(3, 4, 5, &key)?;
+    assert!(rt; matches!(&removed.noted.act, Act::Remove));
+    assert_eq!(rt; removed.noted.caller, 3);
+    assert!(rt; lane.last_point() < 8);
+    let miss = lane.get(0, 7, 8, &key)?;
+    assert!(rt; matches!(&miss.answer, Answer::Miss(MissCause::Absent)));
+    assert!(rt; lane.last_point() < 11);
+    let second = lane.put(0, 10, 11, key.try_clone()?, Value::new(alloc, b"2")?, 0)?;
+    assert_eq!(rt; second.pushed, Pushed::Nobody);
+    lane.forget(&key);
+    assert!(rt; lane.last_point() < 14);
+    let miss = lane.get(0, 13, 14, &key)?;
+    assert!(rt; matches!(&miss.answer, Answer::Miss(MissCause::Absent)));
+    assert_eq!(rt; lane.len(), 5);
+    assert!(rt; matches!(&lane.at(1).act, Act::Remove));
+    Ok(())
+}
+
 fn put_of(alloc: Global, value: usize) -> Result<Option<RecordPutFault>, Fail> {
     let mut lane = RecordedLane::<256>::open(alloc, &small(), 0)?;
     let bytes = vec![in alloc; b'v'; value]?;

@@ -13,4 +13,4 @@ invariant_of-self-2 g c =
     let n : Noted = record { caller = c.args.caller; start = c.args.start; point = c.args.point; key = c.in_ok-try_clone.field-0; act = Remove } in
     let rises = subst (λ (l : Lane). All (λ (m : Noted). m.point < c.args.point) l.calls) (sym c.self.view_is) c.requires.rises in
     let went_in : is_ok c.push.result ≡ true = ap is_ok c.unwrap.ensures in
-    recorded_after_remove lane c.self.invariant n c.requires.start rises (omega arith) c.remove.new.self c.push.new.self.items c.args.key.now c.in_ok-try_clone.ensures refl c.remove.ensures (rw (c.push.ensures.items, went_in, c.reserve.ensures.items) refl)
+    recorded_after_remove lane c.self.invariant n c.requires.start rises (omega arith) c.remove-removed.new.self c.push.new.self.items c.args.key.now c.in_ok-try_clone.ensures refl c.remove-removed.ensures.after (rw (c.push.ensures.items, went_in, c.reserve.ensures.items) refl)
