@@ -3,3 +3,10 @@ pub mod Sizes
 pub mod FieldNames
 pub mod Table
 pub mod Asked
+pub mod Recs
+pub mod Lent
+pub mod PageText
+pub mod Reading
+pub mod Walking
+pub mod Making
+pub mod Looking

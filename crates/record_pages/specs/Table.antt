@@ -1,5 +1,5 @@
 -- The table of a configuration's fields, with the least and the greatest number of each.
-use Rattle.std.specs.Prelude.{◌≡◌, ℕ, ◌<◌, ◌≤◌, List, [], ◌∷◌, Option, Some, None, option_map, find, Bool, not, ◌&&◌, nat_le}
+use Rattle.std.specs.Prelude.{ℕ, List, [], ◌∷◌, Option, option_map, find, Bool, not, ◌&&◌, nat_le}
 use Rattle.record_pages.specs.declared.config.Config.{Config}
 use Rattle.record_pages.specs.declared.field.Field.{Field}
 use Rattle.record_pages.specs.declared.field.Field.TheVariants as fields

@@ -11,6 +11,9 @@ pub const RECORD_OVERHEAD: usize = 4;
 /// How many bytes of a page no record may take.
 pub const PAGE_OVERHEAD: usize = 18;
 
+/// The most records of a page.
+pub const MAX_RECORDS: usize = 64;
+
 /// Whether the object is too large for a page of `PAGE` bytes.
 pub fn is_too_large<const PAGE: usize>(key: &Key, value: &Value) -> bool
     ensures { IsTrue result ↔ (room PAGE < object_size key.now value.now) }

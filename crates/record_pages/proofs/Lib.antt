@@ -1,0 +1,6 @@
+pub mod FrontLaws
+pub mod RecordLaws
+pub mod PageLaws
+pub mod MakingLaws
+pub mod AfterLaws
+pub mod WalkLaws

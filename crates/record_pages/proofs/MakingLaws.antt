@@ -1,0 +1,137 @@
+-- What writes into a page leave there.
+use Rattle.std.proofs.Common.{◌≡◌, ℕ, ◌+◌, ◌-◌, ◌^◌, ◌<◌, ◌≤◌, List, [], ◌∷◌, ◌++◌, length, take, drop, replicate, get_or, Option, Some, true, refl, sym, ap, subst, ◌∙◌, append_assoc, arith}
+use Rattle.std.specs.Prelude.{is_some, IsTrue, All, nat_le}
+use Rattle.std.specs.Option.{option_map_or}
+use Rattle.std.specs.Int.{w16, to_be_bytes}
+use Rattle.std.proofs.lemmas.Bool.{and_parts, and_from, leb-true, le-leb}
+use Rattle.std.proofs.lemmas.List.{append-nil, take-append-drop, length-append, take_more}
+use Rattle.std.proofs.lemmas.List.Concat.{flat_map-append}
+use Rattle.std.proofs.lemmas.List.Elements.{All-nil, All-push, recursion_from_All}
+use Rattle.std.proofs.lemmas.List.Sums.{sum_by_push}
+use Rattle.record_pages.specs.Sizes.{room}
+use Rattle.record_pages.specs.Recs.{Rec, IsRecord, size, sizes, fit}
+use Rattle.record_pages.specs.PageText.{record_text, records_text, body_text, padded_to, set_head, log_head, set_page_text, log_page_text, SpellsSetPage, SpellsLogPage}
+use Rattle.record_pages.specs.Reading.{records_at, records_of}
+use Rattle.record_pages.specs.Making.{HoldsRecords, IsInTheMaking}
+use Rattle.record_pages.proofs.RecordLaws.{records_again, length-records_text}
+
+-- ---- records that fit
+
+-- what fits is within the room, and at most 64
+pub record Fits (page : ℕ) (rs : List Rec) : Type 0 where
+  pub room : sizes rs ≤ room page
+  pub few : length rs ≤ 64
+
+pub fit_parts : (page : ℕ) (rs : List Rec) → IsTrue (fit page rs) → Fits page rs
+fit_parts page rs e =
+    let a = and_parts (nat_le (sizes rs) (room page)) (nat_le (length rs) 64) e in
+    record { room = leb-true _ _ a.0; few = leb-true _ _ a.1 }
+
+pub fit_from : (page : ℕ) (rs : List Rec) → Fits page rs → IsTrue (fit page rs)
+fit_from page rs f = and_from (nat_le (sizes rs) (room page)) (nat_le (length rs) 64) (le-leb _ _ f.room) (le-leb _ _ f.few)
+
+-- ---- texts
+
+pub records_text_push : (rs : List Rec) (r : Rec) → records_text (rs ++ r ∷ []) ≡ records_text rs ++ record_text r
+unfolding records_text
+records_text_push rs r =
+    flat_map-append record_text rs (r ∷ []) ∙ ap (λ (t : List ℕ). records_text rs ++ t) (append-nil (record_text r))
+
+-- ---- records that are written one after the other
+
+-- the first records of a list were written behind what stood before a place
+pub record PutSoFar (xs : List Rec) (i at end : ℕ) (before after : List ℕ) : Type 0 where
+  pub text : take end after ≡ take at before ++ records_text (take i xs)
+  pub end_is : end ≡ at + sizes (take i xs)
+  pub each : All IsRecord (take i xs)
+
+pub put_none : (xs : List Rec) (at : ℕ) (before : List ℕ) → PutSoFar xs 0 at at before before
+unfolding records_text
+put_none xs at before = record { text = sym (append-nil (take at before)); end_is = omega arith; each = All-nil IsRecord }
+
+pub put_more : (xs : List Rec) (i at end : ℕ) (before after : List ℕ) (r : Rec) (end' : ℕ) (after' : List ℕ) → PutSoFar xs i at end before after → i < length xs → r ≡ get_or xs i r → IsRecord r
+    → take end' after' ≡ take end after ++ record_text r → end' ≡ end + size r → PutSoFar xs (i + 1) at end' before after'
+put_more xs i at end before after r end' after' so_far lt is lawful text end'_is =
+    let more : take (i + 1) xs ≡ take i xs ++ r ∷ [] = take_more xs i r lt ∙ ap (λ (q : Rec). take i xs ++ q ∷ []) (sym is) in
+    let told : take end' after' ≡ take at before ++ records_text (take i xs ++ r ∷ []) =
+    text ∙ ap (λ (t : List ℕ). t ++ record_text r) so_far.text ∙ append_assoc (take at before) (records_text (take i xs)) (record_text r)
+    ∙ ap (λ (t : List ℕ). take at before ++ t) (sym (records_text_push (take i xs) r)) in
+    record {
+      text = told ∙ ap (λ (ys : List Rec). take at before ++ records_text ys) (sym more);
+      end_is = omega (arith, end'_is, so_far.end_is, sum_by_push size (take i xs) r, ap sizes more);
+      each = subst (All IsRecord) (sym more) (All-push IsRecord (take i xs) r so_far.each lawful);
+    }
+
+-- ---- a page in the making
+
+pub parsed : (page : ℕ) (bytes : List ℕ) (used count : ℕ) (rs : List Rec) → HoldsRecords page bytes used count rs → records_at count bytes ≡ Some (rs, drop used bytes)
+parsed page bytes used count rs h =
+    ap (λ (n : ℕ). records_at n bytes) h.count_is
+    ∙ ap (records_at (length rs)) (sym (take-append-drop used bytes) ∙ ap (λ (t : List ℕ). t ++ drop used bytes) h.text)
+    ∙ records_again rs (drop used bytes) (recursion_from_All IsRecord rs h.each)
+
+-- the records that a walk over the bytes would meet
+pub shows : (page : ℕ) (bytes : List ℕ) (used count : ℕ) (rs : List Rec) → HoldsRecords page bytes used count rs → records_of count bytes ≡ rs
+shows page bytes used count rs h = ap (λ (o : Option (List Rec × List ℕ)). option_map_or (λ x. x.0) o []) (parsed page bytes used count rs h)
+
+pub is_there : (page : ℕ) (bytes : List ℕ) (used count : ℕ) → IsInTheMaking page bytes used count → is_some (records_at count bytes) ≡ true
+is_there page bytes used count making =
+    ap (λ (o : Option (List Rec × List ℕ)). is_some o) (parsed page bytes used count (records_of count bytes) making)
+
+pub in_the_making : (page : ℕ) (bytes : List ℕ) (used count : ℕ) (rs : List Rec) → HoldsRecords page bytes used count rs → IsInTheMaking page bytes used count
+in_the_making page bytes used count rs h = subst (HoldsRecords page bytes used count) (sym (shows page bytes used count rs h)) h
+
+pub holds_none : (page : ℕ) (bytes : List ℕ) → HoldsRecords page bytes 0 0 []
+unfolding records_text
+holds_none page bytes = record { text = refl; used_is = refl; count_is = refl; each = All-nil IsRecord; fits = fit_from page [] (record { room = omega arith; few = omega arith }) }
+
+-- one record more
+pub holds_push : (page : ℕ) (bytes : List ℕ) (used count : ℕ) (old : List Rec) (r : Rec) (bytes' : List ℕ) (used' : ℕ) → IsInTheMaking page bytes used count → records_of count bytes ≡ old → IsRecord r → IsTrue (fit page (old ++ r ∷ []))
+    → take used' bytes' ≡ take used bytes ++ record_text r → used' ≡ used + size r → HoldsRecords page bytes' used' (count + 1) (old ++ r ∷ [])
+holds_push page bytes used count old r bytes' used' making shown is fits text end =
+    let h : HoldsRecords page bytes used count old = subst (HoldsRecords page bytes used count) shown making in
+    record {
+      text = text ∙ ap (λ (t : List ℕ). t ++ record_text r) h.text ∙ sym (records_text_push old r);
+      used_is = omega (arith, end, h.used_is, sum_by_push size old r);
+      count_is = omega (arith, h.count_is, length-append old (r ∷ []));
+      each = All-push IsRecord old r h.each is;
+      fits = fits;
+    }
+
+-- ---- whole pages
+
+-- a header, records behind it and zeros to the end were written
+pub record Written (page : ℕ) (head new : List ℕ) (rs : List Rec) (at end : ℕ) (first front : List ℕ) : Type 0 where
+  pub first_is : take at first ≡ head ++ to_be_bytes w16 (length rs)
+  pub at_is : at ≡ length head + 2
+  pub front_is : take end front ≡ take at first ++ records_text rs
+  pub end_is : end ≡ at + sizes rs
+  pub new_is : new ≡ take end front ++ replicate (length front - end) 0
+  pub whole : length front ≡ page
+  pub fits : IsTrue (fit page rs)
+  pub each : All IsRecord rs
+
+pub written_text : (page : ℕ) (head new : List ℕ) (rs : List Rec) (at end : ℕ) (first front : List ℕ) → Written page head new rs at end first front → new ≡ padded_to page (head ++ body_text rs)
+written_text page head new rs at end first front w =
+    let text : take end front ≡ head ++ body_text rs = w.front_is ∙ ap (λ (t : List ℕ). t ++ records_text rs) w.first_is ∙ append_assoc head (to_be_bytes w16 (length rs)) (records_text rs) in
+    let len : end ≡ length (head ++ body_text rs) = omega (arith, w.end_is, w.at_is, length-append head (body_text rs), length-records_text rs) in
+    let gap : length front - end ≡ page - length (head ++ body_text rs) = omega (arith, len, w.whole) in
+    w.new_is ∙ ap (λ (t : List ℕ). t ++ replicate (length front - end) 0) text ∙ ap (λ (n : ℕ). (head ++ body_text rs) ++ replicate n 0) gap
+
+pub set_page_written : (page set write : ℕ) (new : List ℕ) (rs : List Rec) (at end : ℕ) (first front : List ℕ) → 18 ≤ page → set < 2 ^ 32 → write < 2 ^ 64 → Written page (set_head set write) new rs at end first front → SpellsSetPage page new (record { set = set; write = write; records = rs })
+unfolding set_page_text
+set_page_written page set write new rs at end first front large set_fits write_fits w =
+    let fits = fit_parts page rs w.fits in
+    record {
+      lawful = record { set_fits = set_fits; write_fits = write_fits; each = w.each; few = fits.few; room = omega (arith, fits.room, large) };
+      text = written_text page (set_head set write) new rs at end first front w;
+    }
+
+pub log_page_written : (page segment number : ℕ) (new : List ℕ) (rs : List Rec) (at end : ℕ) (first front : List ℕ) → 18 ≤ page → segment < 2 ^ 64 → number < 2 ^ 16 → Written page (log_head segment number) new rs at end first front → SpellsLogPage page new (record { segment = segment; page = number; records = rs })
+unfolding log_page_text
+log_page_written page segment number new rs at end first front large segment_fits number_fits w =
+    let fits = fit_parts page rs w.fits in
+    record {
+      lawful = record { segment_fits = segment_fits; page_fits = number_fits; each = w.each; few = fits.few; room = omega (arith, fits.room, large) };
+      text = written_text page (log_head segment number) new rs at end first front w;
+    }

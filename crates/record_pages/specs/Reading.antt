@@ -1,0 +1,79 @@
+-- A page read from left to right, field by field.
+use Rattle.std.specs.Prelude.{ℕ, zero, suc, List, [], ◌∷◌, length, take, drop, ◌+◌, Option, Some, None, option_and_then, nat_lt, ◌==◌, ◌||◌, if◌then◌else◌, Bool}
+use Rattle.std.specs.List.{list_all}
+use Rattle.std.specs.Option.{option_map_or}
+use Rattle.std.specs.Int.{Width, w16, w32, w64, byte_len, from_be_bytes}
+use Rattle.record_pages.specs.Recs.{Rec, rec}
+use Rattle.record_pages.specs.PageText.{SetPageParts, LogPageParts}
+
+infixl 10 ◌>>=◌
+abbrev pub ◌>>=◌ : {A B : Type 0} → Option A → (A → Option B) → Option B
+o >>= f = option_and_then f o
+
+-- the number of this width at the front, and the bytes behind it
+abbrev pub number_at : Width → List ℕ → Option (ℕ × List ℕ)
+number_at w bytes =
+    if nat_lt (length bytes) (byte_len w) then None
+    else Some (from_be_bytes w (take (byte_len w) bytes), drop (byte_len w) bytes)
+
+-- the byte at the front, and the bytes behind it
+abbrev pub byte_at : List ℕ → Option (ℕ × List ℕ)
+byte_at [] = None
+byte_at (b ∷ rest) = Some (b, rest)
+
+-- no record has these lengths and this prediction, or it would pass the end
+abbrev pub is_bad : ℕ → ℕ → ℕ → List ℕ → Bool
+is_bad k v p rest = k == 0 || nat_lt 2048 v || nat_lt 7 p || nat_lt (length rest) (k + v)
+
+-- the record at the front, and the bytes behind it
+unfoldable pub record_at : List ℕ → Option (Rec × List ℕ)
+record_at bytes = do
+  k ← byte_at bytes
+  v ← number_at w16 k.1
+  p ← byte_at v.1
+  if is_bad k.0 v.0 p.0 p.1 then None
+      else Some (rec (take k.0 p.1) (take v.0 (drop k.0 p.1)) p.0, drop v.0 (drop k.0 p.1))
+
+-- so many records at the front, and the bytes behind them
+unfoldable pub records_at : ℕ → List ℕ → Option (List Rec × List ℕ)
+records_at zero bytes = Some ([], bytes)
+records_at (suc n) bytes = do
+  first ← record_at bytes
+  others ← records_at n first.1
+  Some (first.0 ∷ others.0, others.1)
+
+-- so many records at the front, where they are there
+abbrev pub records_of : ℕ → List ℕ → List Rec
+records_of n bytes = option_map_or (λ x. x.0) (records_at n bytes) []
+
+-- only zeros
+abbrev pub all_zero : List ℕ → Bool
+all_zero bytes = list_all (λ b. b == 0) bytes
+
+-- the records of a page whose head was read: a count up to 64, so many records, zeros to the end
+unfoldable pub body_at : List ℕ → Option (List Rec)
+body_at bytes = do
+  count ← number_at w16 bytes
+  if nat_lt 64 count.0 then None else do
+    records ← records_at count.0 count.1
+    if all_zero records.1 then Some records.0 else None
+
+-- what these bytes say as a set page
+unfoldable pub set_page_at : List ℕ → Option SetPageParts
+set_page_at bytes = do
+  magic ← number_at w32 bytes
+  set ← number_at w32 magic.1
+  write ← number_at w64 set.1
+  records ← body_at write.1
+  if magic.0 == 0x4b53_4554 then Some (record { set = set.0; write = write.0; records = records })
+      else None
+
+-- what these bytes say as a log page
+unfoldable pub log_page_at : List ℕ → Option LogPageParts
+log_page_at bytes = do
+  magic ← number_at w32 bytes
+  segment ← number_at w64 magic.1
+  page ← number_at w16 segment.1
+  records ← body_at page.1
+  if magic.0 == 0x4b4c_4f47 then Some (record { segment = segment.0; page = page.0; records = records })
+      else None

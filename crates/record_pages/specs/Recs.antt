@@ -1,0 +1,31 @@
+-- What a record is, and which records fit on a page together.
+use Rattle.std.specs.Prelude.{ℕ, ◌≤◌, List, length, sum_by, Bool, ◌&&◌, nat_le}
+use Rattle.record_pages.specs.Bounded.{IsKey, IsValue}
+use Rattle.record_pages.specs.Sizes.{object_size, room}
+use Rattle.record_pages.specs.declared.record.Record.{Record}
+
+-- a record, as all layers speak of it: its key and its value as lists, its prediction as a number
+abbrev pub Rec : Type 0
+Rec = Record
+
+-- the record with this key, value and prediction
+abbrev pub rec : List ℕ → List ℕ → ℕ → Rec
+rec key value pred = record { key = key; value = value; pred = pred }
+
+-- what a record may be
+pub record IsRecord (r : Rec) : Type 0 where
+  pub key : IsKey r.key
+  pub value : IsValue r.value
+  pub pred : r.pred ≤ 7
+
+-- how many bytes a record takes on a page
+abbrev pub size : Rec → ℕ
+size r = object_size r.key r.value
+
+-- how many bytes records take together
+abbrev pub sizes : List Rec → ℕ
+sizes rs = sum_by size rs
+
+-- whether records fit on a page of this many bytes: within its room, and at most 64
+abbrev pub fit : ℕ → List Rec → Bool
+fit page rs = nat_le (sizes rs) (room page) && nat_le (length rs) 64

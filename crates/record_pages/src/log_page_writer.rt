@@ -1,0 +1,94 @@
+// A log page in the making.
+ghost use Rattle.std.specs.Prelude.{◌≡◌, ◌≤◌, ◌↔◌, [], ◌∷◌, ◌++◌, List, IsTrue, length, All};
+ghost use Rattle.record_pages.specs.Sizes.{IsPageSize};
+ghost use Rattle.record_pages.specs.Recs.{Rec, IsRecord, fit};
+ghost use Rattle.record_pages.specs.Lent.{record_shown};
+ghost use Rattle.record_pages.specs.PageText.{log_page_text, SpellsLogPage};
+
+use crate::page_body::PageBody;
+use crate::put::{put, put_log_header, zero_from};
+use crate::record_ref::RecordRef;
+use crate::records::Records;
+use std::marker::Model;
+
+/// A log page in the making: its records so far, without a header. No call takes memory.
+#[derive(Debug, Drop)]
+pub struct LogPageWriter<const PAGE: usize> {
+    body: PageBody<PAGE>,
+}
+
+impl<const PAGE: usize> Model for LogPageWriter<PAGE> {
+    ghost Value = { List Rec };
+
+    ghost view = { λ w. w.body };
+}
+
+impl<const PAGE: usize> LogPageWriter<PAGE> {
+    /// A page with no records.
+    pub fn new() -> Self
+        ensures { result ≡ [] }
+    {
+        LogPageWriter {
+            body: PageBody::new(),
+        }
+    }
+
+    /// How many records there are.
+    pub fn len(&self) -> usize
+        ensures len { result ≡ length self.now }
+        ensures fits { IsTrue (fit PAGE self.now) }
+        ensures each { All IsRecord self.now }
+    {
+        self.body.len() as usize
+    }
+
+    /// Whether there are no records.
+    pub fn is_empty(&self) -> bool
+        ensures { IsTrue result ↔ (self.now ≡ []) }
+    {
+        self.body.len() == 0
+    }
+
+    /// Whether a record more still fits.
+    pub fn fits(&self, added: RecordRef<'_>) -> bool
+        requires { IsRecord (record_shown added) }
+        ensures { result ≡ fit PAGE (self.now ++ record_shown added.entry ∷ []) }
+    {
+        self.body.fits(added)
+    }
+
+    /// Adds a record behind the others. It has to fit.
+    pub fn push(&mut self, added: RecordRef<'_>)
+        requires lawful { IsRecord (record_shown added) }
+        requires fits { IsTrue (fit PAGE (self.old ++ record_shown added ∷ [])) }
+        ensures { self.new ≡ self.old ++ record_shown added.entry ∷ [] }
+    {
+        self.body.push(added);
+    }
+
+    /// Drops all records.
+    pub fn clear(&mut self)
+        ensures { self.new ≡ [] }
+    {
+        self.body.clear();
+    }
+
+    /// A walk over the records so far.
+    pub fn records(&self) -> Records<'_>
+        ensures { result ≡ self.now }
+    {
+        self.body.records()
+    }
+
+    /// Writes the text of the log page with these records under this header.
+    pub fn text(&self, segment: u64, page_number: u16, page: &mut [u8; PAGE])
+        requires { IsPageSize PAGE }
+        ensures text { page.new ≡ log_page_text PAGE segment page_number self.now }
+        ensures spelled { SpellsLogPage PAGE page.new
+            (record { segment = segment; page = page_number; records = self.now }) }
+    {
+        let at = put_log_header(page, segment, page_number, self.body.len());
+        let at = put(page, at, self.body.text());
+        zero_from(page, at);
+    }
+}

@@ -1,0 +1,93 @@
+// The records of a page in the making, in the bytes that they take on a page, without a header.
+ghost use Rattle.std.specs.Prelude.{◌≡◌, ◌≤◌, ◌+◌, [], ◌∷◌, ◌++◌, List, IsTrue, length, take, All};
+ghost use Rattle.record_pages.specs.Recs.{Rec, IsRecord, size, sizes, fit};
+ghost use Rattle.record_pages.specs.Lent.{record_shown};
+ghost use Rattle.record_pages.specs.PageText.{records_text};
+ghost use Rattle.record_pages.specs.Reading.{records_of};
+ghost use Rattle.record_pages.specs.Making.{IsInTheMaking};
+
+use crate::object::{MAX_RECORDS, PAGE_OVERHEAD};
+use crate::put::put_record;
+use crate::record_ref::RecordRef;
+use crate::records::{Records, records_in};
+use std::marker::Model;
+
+// The records pushed so far, in order.
+#[derive(Debug, Drop)]
+pub(crate) struct PageBody<const PAGE: usize> {
+    bytes: [u8; PAGE],
+    used: usize,
+    count: u16,
+}
+
+impl<const PAGE: usize> Model for PageBody<PAGE> {
+    ghost Value = { List Rec };
+
+    ghost view = { λ b. records_of b.count b.bytes };
+
+    ghost invariant = { λ b. IsInTheMaking PAGE b.bytes b.used b.count };
+}
+
+impl<const PAGE: usize> PageBody<PAGE> {
+    // No records.
+    pub(crate) fn new() -> Self
+        ensures { result ≡ [] }
+    {
+        PageBody {
+            bytes: [0; PAGE],
+            used: 0,
+            count: 0,
+        }
+    }
+
+    // How many records there are.
+    pub(crate) fn len(&self) -> u16
+        ensures len { result ≡ length self.now }
+        ensures fits { IsTrue (fit PAGE self.now) }
+        ensures each { All IsRecord self.now }
+    {
+        self.count
+    }
+
+    // Drops the records.
+    pub(crate) fn clear(&mut self)
+        ensures { self.new ≡ [] }
+    {
+        self.used = 0;
+        self.count = 0;
+    }
+
+    // Whether a record more still fits.
+    pub(crate) fn fits(&self, added: RecordRef<'_>) -> bool
+        requires { IsRecord (record_shown added) }
+        ensures { result ≡ fit PAGE (self.now ++ record_shown added.entry ∷ []) }
+    {
+        let room = PAGE.saturating_sub(PAGE_OVERHEAD) - self.used;
+        added.size() <= room && (self.count as usize) < MAX_RECORDS
+    }
+
+    // Adds a record, which has to fit.
+    pub(crate) fn push(&mut self, added: RecordRef<'_>)
+        requires lawful { IsRecord (record_shown added) }
+        requires fits { IsTrue (fit PAGE (self.old ++ record_shown added ∷ [])) }
+        ensures { self.new ≡ self.old ++ record_shown added.entry ∷ [] }
+    {
+        self.used = put_record(&mut self.bytes, self.used, added);
+        self.count += 1;
+    }
+
+    // The text of the records.
+    pub(crate) fn text(&self) -> &[u8]
+        ensures text { result.now ≡ records_text self.now }
+        ensures size { length result.now ≡ sizes self.now }
+    {
+        &self.bytes[..self.used]
+    }
+
+    // A walk over the records so far.
+    pub(crate) fn records(&self) -> Records<'_>
+        ensures { result ≡ self.now }
+    {
+        records_in(self.count, &self.bytes)
+    }
+}

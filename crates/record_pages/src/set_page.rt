@@ -1,0 +1,78 @@
+// A set page that was read.
+ghost use Rattle.std.specs.Prelude.{◌≡◌, IfSome, Some, length};
+ghost use Rattle.record_pages.specs.PageText.{SetPageParts, SpellsSetPage, SetPageTextsDiffer};
+ghost use Rattle.record_pages.specs.Reading.{set_page_at};
+
+use crate::front::{u32_at, u64_at};
+use crate::records::{Records, body_at};
+use std::marker::Model;
+
+/// The first four bytes of a set page: `KSET`.
+pub(crate) const SET_MAGIC: u32 = 0x4b53_4554;
+
+/// A set page that was read: its header, and its records, which lie in the bytes that were read.
+#[derive(Debug, Drop)]
+pub struct SetPage<'a> {
+    set: u32,
+    write: u64,
+    records: Records<'a>,
+}
+
+impl<'a> Model for SetPage<'a> {
+    ghost Value = { SetPageParts };
+
+    ghost view = { λ p. record { set = p.set; write = p.write; records = p.records } };
+}
+
+impl<'a> SetPage<'a> {
+    /// The set page that these bytes spell, or nothing where they spell none.
+    pub fn read<const PAGE: usize>(bytes: &'a [u8; PAGE]) -> Option<SetPage<'a>>
+        ensures exact { result ≡ set_page_at bytes.entry.now }
+        ensures found { IfSome result (SpellsSetPage PAGE bytes.entry.now) }
+        ensures only { (p : SetPageParts) → SpellsSetPage PAGE bytes.entry.now p → result ≡ Some p }
+        ensures unique { SetPageTextsDiffer PAGE }
+    {
+        set_page_at(bytes)
+    }
+
+    /// The number of its set in the lane.
+    pub fn set(&self) -> u32
+        ensures { result ≡ self.now.set }
+    {
+        self.set
+    }
+
+    /// The number of the write that wrote it.
+    pub fn write(&self) -> u64
+        ensures { result ≡ self.now.write }
+    {
+        self.write
+    }
+
+    /// A walk over its records.
+    pub fn records(&self) -> Records<'a>
+        ensures { result ≡ self.now.records }
+    {
+        self.records.again()
+    }
+}
+
+// The set page, field by field.
+#[tactic(auto, unfolding(crate::specs::Reading::set_page_at))]
+fn set_page_at(bytes: &[u8]) -> Option<SetPage<'_>>
+    ensures exact { result ≡ set_page_at bytes.now }
+    ensures found { IfSome result (SpellsSetPage (length bytes.now) bytes.now) }
+{
+    let (magic, rest) = u32_at(bytes)?;
+    let (set, rest) = u32_at(rest)?;
+    let (write, rest) = u64_at(rest)?;
+    let records = body_at(rest)?;
+    if magic != SET_MAGIC {
+        return None;
+    }
+    Some(SetPage {
+        set,
+        write,
+        records,
+    })
+}
