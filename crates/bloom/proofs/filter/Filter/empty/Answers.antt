@@ -1,0 +1,6 @@
+-- No bit of a zero is one.
+use Rattle.bloom.proofs.FilterLaws.{set_bits-zeros}
+use Rattle.bloom.proofs.filter.Filter.empty.Goals as goal
+
+pub returns : goal.returns
+returns c = set_bits-zeros

@@ -1,0 +1,4 @@
+pub mod OrderLaws
+pub mod ListLaws
+pub mod FittingLaws
+pub mod RankLaws

@@ -1,0 +1,11 @@
+// One kept item of a plan.
+use record_pages::Prediction;
+
+/// An item that is kept, and the prediction that it is written with.
+#[derive(Clone, Copy, Debug, PartialEq, Eq)]
+pub struct Choice {
+    /// The number of the item in its job.
+    pub item: usize,
+    /// Its new prediction.
+    pub prediction: Prediction,
+}

@@ -1,0 +1,29 @@
+//! What a policy of eviction and a policy of admission are, and the plan that keeps items by rank.
+#![tactic(auto)]
+
+mod candidate;
+mod choice;
+mod fifo;
+mod item;
+mod items;
+mod job;
+mod plan;
+mod policy;
+mod pre_flash;
+mod rank;
+mod ranking;
+
+pub use candidate::Candidate;
+pub use choice::Choice;
+pub use fifo::Fifo;
+pub use item::Item;
+pub use items::Items;
+pub use job::Job;
+pub use plan::Plan;
+pub use policy::EvictionPolicy;
+pub use pre_flash::PreFlash;
+pub use rank::Rank;
+pub use ranking::{MAX_KEPT, plan_by_rank};
+
+#[cfg(test)]
+mod tests;

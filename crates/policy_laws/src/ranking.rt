@@ -1,0 +1,54 @@
+// The plan that keeps items by rank.
+ghost use Rattle.std.specs.Prelude.{◌≡◌, ◌≢◌, IfOk, AllPairs, position};
+ghost use Rattle.policy_laws.specs.Rank.{KeepsByRank, by_rank, rank_before, plan_by_rank as plan_of};
+
+use crate::candidate::Candidate;
+use crate::choice::Choice;
+use crate::plan::Plan;
+use std::alloc::{AllocError, Global};
+
+/// The most items that are kept.
+pub const MAX_KEPT: usize = 64;
+
+/// The plan that keeps each candidate that fits beside the kept ones that rank before it: its size and theirs
+/// are within the room, and there are fewer than `MAX_KEPT` of them. `AllocError` where memory was refused.
+pub fn plan_by_rank(alloc: Global, room: u32, candidates: &[Candidate]) -> Result<Plan, AllocError>
+    ensures plan { IfOk result (λ plan. plan ≡ plan_of room candidates.now) }
+    ensures by_rank { AllPairs (λ a b. a.item ≢ b.item) candidates.now →
+        IfOk result (KeepsByRank room candidates.now) }
+{
+    let ranked = in_rank_order(alloc, candidates)?;
+    let mut plan = Plan::new(alloc);
+    let mut left = room;
+    for candidate in &ranked {
+        if candidate.size <= left && plan.len() < MAX_KEPT {
+            left -= candidate.size;
+            plan.push(Choice {
+                item: candidate.item,
+                prediction: candidate.prediction,
+            })?;
+        }
+    }
+    Ok(plan)
+}
+
+// The candidates in rank order.
+fn in_rank_order(alloc: Global, candidates: &[Candidate]) -> Result<Vec<Candidate>, AllocError>
+    ensures { IfOk result (λ ranked. ranked.items ≡ by_rank candidates.now) }
+{
+    let mut ranked = Vec::new(alloc);
+    for candidate in candidates {
+        let place = first_behind(candidate, &ranked).unwrap_or(ranked.len());
+        ranked.insert(place, *candidate)?;
+    }
+    Ok(ranked)
+}
+
+// The first of candidates that stand by rank before which another one ranks.
+fn first_behind(candidate: &Candidate, ranked: &[Candidate]) -> Option<usize>
+    ensures { result ≡ position (rank_before candidate.now) ranked.now }
+{
+    ranked
+        .iter()
+        .position(|other| candidate.ranks_before(other))
+}

@@ -1,0 +1,2 @@
+pub mod Fnv
+pub mod Place

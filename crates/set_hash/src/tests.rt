@@ -1,0 +1,44 @@
+//! The published vectors of the hash, and two places.
+use super::*;
+use record_pages::Config;
+use std::test::Fail;
+
+#[test]
+fn published_vectors_are_met(rt: HostRuntime) {
+    assert_eq!(rt; hash(b""), 0xcbf29ce484222325);
+    assert_eq!(rt; hash(b"a"), 0xaf63dc4c8601ec8c);
+    assert_eq!(rt; hash(b"b"), 0xaf63df4c8601f1a5);
+    assert_eq!(rt; hash(b"foobar"), 0x85944171f73967e8);
+}
+
+#[test]
+fn two_keys_have_their_places(rt: HostRuntime) -> Result<(), Fail> {
+    let config = Config {
+        lanes: 2,
+        sets: 4,
+        memory: 1,
+        segments: 2,
+        segment_pages: 1,
+        entries: 8,
+        threshold: 1,
+        admit: 0,
+    };
+    let layout = config.check()?;
+    let first = Placed {
+        hash: 0xaf63dc4c8601ec8c,
+        lane: 0,
+        set: 2,
+        tag: 0xaf63,
+        probes: [140, 217, 38, 115],
+    };
+    assert_eq!(rt; place(&layout, b"a"), first);
+    let second = Placed {
+        hash: 0x85944171f73967e8,
+        lane: 0,
+        set: 0,
+        tag: 0x8594,
+        probes: [232, 89, 202, 59],
+    };
+    assert_eq!(rt; place(&layout, b"foobar"), second);
+    Ok(())
+}
