@@ -194,3 +194,8 @@ module _ {E : Type 0} (candidate : ℕ → Item → Candidate) (has : HasItems c
       subst (KeepsByRank job.room (candidates_by candidate job.items)) (sym (is ∙ ap (plan_by_rank job.room) are))
       (keeps_by_rank job.room (candidates_by candidate job.items) (pairs_to Differ _ (differ-numbered candidate has 0 job.items)))
   chosen_by_rank (Err e) is = tt
+
+  pub chosen_plan : (result : Result (List Choice) E) → IfOk result (λ plan. plan ≡ plan_by_rank job.room given) →
+      IfOk result (λ plan. plan ≡ plan_by_rank job.room (candidates_by candidate job.items))
+  chosen_plan (Ok plan) is = is ∙ ap (plan_by_rank job.room) are
+  chosen_plan (Err e) is = tt

@@ -1,0 +1,14 @@
+-- The places of a page as the bits of one word.
+use Rattle.std.specs.Prelude.{ℕ, zero, suc, Bool, ◌==◌, if◌then◌else◌}
+use Rattle.std.specs.Int.{bit_at}
+use Rattle.std.specs.Ordering.{nat_cmp}
+use Rattle.std.specs.FinSet.{FinSet, empty, insert}
+
+-- the numbers below n that pass a test
+abbrev pub passing_below : (ℕ → Bool) → ℕ → FinSet nat_cmp
+passing_below test zero = empty
+passing_below test (suc n) = if test n then insert (passing_below test n) n else passing_below test n
+
+-- the numbers of the bits of a word that are one
+unfoldable pub bits_of : ℕ → FinSet nat_cmp
+bits_of word = passing_below (λ place. bit_at word place == 1) 64

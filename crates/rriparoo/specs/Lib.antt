@@ -1,0 +1,3 @@
+pub mod HitBits
+pub mod Ageing
+pub mod Rriparoo
