@@ -9,7 +9,7 @@ use crate::strikes::Strikes;
 use bloom::Filter;
 use record_pages::{Layout, Records};
 use rriparoo::HitBits;
-use set_hash::place;
+use set_hash::{Placed, place};
 use std::marker::Model;
 
 /// What memory notes of one set: its filter, its strikes and its hits.
@@ -50,16 +50,18 @@ impl SetNotes {
     {
         let mut notes = SetNotes::empty();
         for lent in records {
-            notes.admit(place(layout, lent.key).probes);
+            notes.admit(&place(layout, lent.key));
         }
         notes
     }
 
     // Adds a key to the filter.
-    fn admit(&mut self, probes: [u8; 4])
-        ensures { self.new ≡ record self.old { filter = with_bits self.old.filter probes } }
+    fn admit(&mut self, placed: &Placed)
+        requires { placed.now.probes ≡ probes_of placed.now.hash }
+        ensures { self.new ≡ record self.old {
+          filter = with_bits self.old.filter (probes_of placed.now.hash) } }
     {
-        self.filter.add(probes);
+        self.filter.add(placed.probes);
         self.is_filled = true;
     }
 
@@ -70,23 +72,23 @@ impl SetNotes {
         !self.is_filled
     }
 
-    /// Whether a key with this hash can be in the set.
-    pub(crate) fn lets_show(&self, hash: u64, probes: [u8; 4]) -> bool
-        requires { probes ≡ probes_of hash }
-        ensures { result ≡ lets_show self.now hash }
+    /// Whether a key of this place can be in the set.
+    pub(crate) fn lets_show(&self, placed: &Placed) -> bool
+        requires { placed.now.probes ≡ probes_of placed.now.hash }
+        ensures { result ≡ lets_show self.now placed.now.hash }
     {
-        self.filter.may_hold(probes) && !self.strikes.has(hash)
+        self.filter.may_hold(placed.probes) && !self.strikes.has(placed.hash)
     }
 
-    /// Strikes a hash.
-    pub(crate) fn strike(&mut self, hash: u64, probes: [u8; 4])
-        requires { probes ≡ probes_of hash }
-        ensures { self.new ≡ struck self.old hash }
+    /// Strikes a key.
+    pub(crate) fn strike(&mut self, placed: &Placed)
+        requires { placed.now.probes ≡ probes_of placed.now.hash }
+        ensures { self.new ≡ struck self.old placed.now.hash }
     {
-        if !self.filter.may_hold(probes) {
+        if !self.filter.may_hold(placed.probes) {
             return;
         }
-        if !self.strikes.add(hash) {
+        if !self.strikes.add(placed.hash) {
             *self = SetNotes::empty();
         }
     }

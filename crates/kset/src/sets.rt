@@ -8,7 +8,7 @@ ghost use Rattle.record_pages.specs.Recs.{Rec};
 ghost use Rattle.record_pages.specs.PageText.{set_page_text};
 ghost use Rattle.set_hash.specs.Fnv.{fnv1a};
 ghost use Rattle.kset.specs.Notes.{lets_show, notes_of_page};
-ghost use Rattle.kset.specs.Sets.{SetsState, sets_code, set_count, notes_of, opening, struck_in, forgotten, next_write, IsPlaceIn};
+ghost use Rattle.kset.specs.Sets.{SetsState, sets_code, set_count, notes_of, opening, struck_in, hit_in, forgotten, next_write, IsPlaceIn};
 ghost use Rattle.kset.specs.Pages.{AreSpelledOn};
 ghost use Rattle.kset.specs.Shown.{visible_in, visible_from, with_flags};
 ghost use Rattle.kset.specs.Look.{is_fault, faults_after, LookLeaves, LookGives};
@@ -101,7 +101,7 @@ impl<const PAGE: usize> KSet<PAGE> {
             AreSpelledOn PAGE (D.held device.old) self.old →
             AreSpelledOn PAGE (D.held device.new) self.new }
     {
-        if !self.sets[placed.set as usize].lets_show(placed.hash, placed.probes) {
+        if !self.notes(placed.set).lets_show(placed) {
             return Ok(Looked::Absent);
         }
         let mut bytes = [0u8; PAGE];
@@ -112,7 +112,7 @@ impl<const PAGE: usize> KSet<PAGE> {
             Told::Damaged => Ok(Looked::Damaged),
             Told::Absent => Ok(Looked::Absent),
             Told::Found(slot, value) => {
-                self.sets[placed.set as usize].hit(slot);
+                self.hit(placed.set, slot);
                 Ok(Looked::Hit(value))
             }
         }
@@ -127,7 +127,7 @@ impl<const PAGE: usize> KSet<PAGE> {
         ensures spelled { (held : ℕ → Option (List ℕ)) → AreSpelledOn PAGE held self.old →
             AreSpelledOn PAGE held self.new }
     {
-        self.sets[placed.set as usize].strike(placed.hash, placed.probes);
+        self.sets[placed.set as usize].strike(placed);
     }
 
     /// Forgets a set: its filter, its strikes and its hits become empty.
@@ -174,7 +174,7 @@ impl<const PAGE: usize> KSet<PAGE> {
             AreSpelledOn PAGE (D.held device.old) self.old →
             AreSpelledOn PAGE (D.held device.new) self.new }
     {
-        if self.sets[set as usize].is_empty() {
+        if self.notes(set).is_empty() {
             return Ok(SetRead::Records(SetRecords::new(alloc)));
         }
         let mut bytes = [0u8; PAGE];
@@ -186,8 +186,7 @@ impl<const PAGE: usize> KSet<PAGE> {
             self.forget(set);
             return Ok(SetRead::PageLost);
         };
-        let notes = &self.sets[set as usize];
-        let records = visible(alloc, &self.layout, notes, page.records())?;
+        let records = visible(alloc, &self.layout, self.notes(set), page.records())?;
         Ok(SetRead::Records(records))
     }
 
@@ -233,6 +232,23 @@ impl<const PAGE: usize> KSet<PAGE> {
         self.sets[set as usize] = SetNotes::of_page(&self.layout, writer.records());
         Rewritten::Written
     }
+
+    // Notes a hit in a slot of a set.
+    fn hit(&mut self, set: u32, slot: usize)
+        requires set { set < set_count self.old }
+        requires slot { slot < 64 }
+        ensures { self.new ≡ hit_in self.old set slot }
+    {
+        self.sets[set as usize].hit(slot);
+    }
+
+    // What is noted of a set.
+    fn notes(&self, set: u32) -> &SetNotes
+        requires { set < set_count self.now }
+        ensures { result.now ≡ notes_of self.now set }
+    {
+        &self.sets[set as usize]
+    }
 }
 
 // The visible ones of these records, each with whether its slot was hit.
@@ -251,7 +267,7 @@ fn visible(
             unreachable!();
         };
         let placed = place(layout, lent.key);
-        if notes.lets_show(placed.hash, placed.probes) {
+        if notes.lets_show(&placed) {
             let stored = lent.to_record(alloc)?;
             let hit = notes.was_hit(slot);
             visible.push(SetRecord { stored, hit })?;
