@@ -20,7 +20,7 @@ use Rattle.kset.specs.Sets.{SetsState, hit_in}
 use Rattle.kset.specs.Pages.{IsPageOf, records_on}
 use Rattle.kset.specs.Shown.{is_visible, visible_from, first_visible}
 use Rattle.kset.specs.Telling.{page_if_of, Tells}
-use Rattle.kset.proofs.NotesLaws.{some_bit}
+use Rattle.kset.proofs.NotesLaws.{some_bit, lets_show-empty}
 
 -- a record that is found lies among the records
 pub first_within : (key : List ℕ) (slot : ℕ) (rs : List Rec) (x : ℕ × Rec) → first_from slot key rs ≡ Some x → x.0 < slot + length rs
@@ -132,3 +132,19 @@ told_of size count set held bytes key hash notes told hashed shows within paged 
     let has_bit = some_bit notes.filter hash (and_parts _ _ (sym shows)).0 in
     let r = reads_page size count set held bytes within (paged has_bit) known in
     says size set (pages_before count held set) bytes key notes told (sym (shows ∙ ap (lets_show notes) hashed)) r t
+
+-- no record is visible where the filter has no bit
+pub visible_from-empty : (notes : Notes) → notes.filter ≡ empty → (slot : ℕ) (rs : List Rec) → visible_from notes slot rs ≡ []
+visible_from-empty notes none slot [] = refl
+visible_from-empty notes none slot (r ∷ rs) =
+    ap (λ b. cond b ((slot, r) ∷ visible_from notes (slot + 1) rs) (visible_from notes (slot + 1) rs)) (lets_show-empty notes (fnv1a r.key) none)
+    ∙ visible_from-empty notes none (slot + 1) rs
+
+-- a set's page that was read has the records that are known
+pub records_read : (size set : ℕ) (seen : Option (List ℕ)) (bytes : List ℕ) (p : SetPageParts) → ReadsPage size set seen bytes → Some p ≡ page_if_of set (set_page_at bytes) → p.records ≡ records_on seen
+records_read size set seen bytes p r e =
+    ap (λ (o : Option SetPageParts). option_map_or (λ (read : SetPageParts). read.records) o []) (e ∙ r.read) ∙ sym r.seen_records
+
+-- a set's page that is known is read
+pub some_read : (size set : ℕ) (seen : Option (List ℕ)) (bytes : List ℕ) → ReadsPage size set seen bytes → None ≡ page_if_of set (set_page_at bytes) → ⊥
+some_read size set seen bytes r e = let both : None ≡ Some r.page = e ∙ r.read in cc
