@@ -1,0 +1,3 @@
+pub mod NotesLaws
+pub mod PageNotes
+pub mod LookLaws

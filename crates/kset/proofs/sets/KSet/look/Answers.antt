@@ -1,0 +1,47 @@
+use Rattle.std.proofs.Common.{◌≡◌, ℕ, false, sym, ap, subst, refl, ◌∙◌, rules}
+use Rattle.kset.specs.declared.page.Told.{Told}
+use Rattle.kset.specs.Notes.{Notes, lets_show}
+use Rattle.kset.specs.Sets.{notes_of, set_count, hit_in}
+use Rattle.kset.specs.Pages.{page_records}
+use Rattle.kset.specs.Shown.{visible_in}
+use Rattle.kset.proofs.LookLaws.{Says, told_of, hit_gives, first_visible-hidden}
+use Rattle.kset.proofs.sets.KSet.look.Goals as goal
+
+pub returns-then-not-lets_show-clause-gives : goal.returns-then-not-lets_show-clause-gives
+returns-then-not-lets_show-clause-gives g c =
+    let hash = c.args.placed.now.hash in
+    let notes = notes_of c.args.self.now c.args.placed.now.set in
+    let hidden : lets_show notes hash ≡ false = sym (c.if-not-lets_show.ensures ∙ ap (λ (n : Notes). lets_show n hash) c.notes.ensures) in
+    let records = page_records (g.D.PageDevice.held c.args.device.now) c.args.self.now c.args.placed.now.set in
+    λ honest spelled. (first_visible-hidden notes c.args.key.now (sym (ap (lets_show notes) c.requires.hash) ∙ hidden) 0 records, refl)
+
+pub returns-in-Damaged-clause-gives : goal.returns-in-Damaged-clause-gives
+returns-in-Damaged-clause-gives g c =
+    let at = c.args.placed.now in
+    let held = g.D.PageDevice.held c.args.device.now in
+    let shows = c.if-not-lets_show.ensures ∙ ap (λ (n : Notes). lets_show n at.hash) c.notes.ensures in
+    λ honest spelled.
+    subst (λ (t : Told). Says (visible_in held c.args.self.now at.set) c.args.key.now t) c.in-Damaged.is
+    (told_of g.row.PAGE (set_count c.args.self.now) at.set held c.read.new.into c.args.key.now at.hash (notes_of c.args.self.now at.set) c.in_ok-tell.field-0
+      c.requires.hash shows c.requires.place.set (spelled at.set) (c.in-Ok.ensures.known honest) c.in_ok-tell.ensures)
+
+pub returns-in-Absent-clause-gives : goal.returns-in-Absent-clause-gives
+returns-in-Absent-clause-gives g c =
+    let at = c.args.placed.now in
+    let held = g.D.PageDevice.held c.args.device.now in
+    let shows = c.if-not-lets_show.ensures ∙ ap (λ (n : Notes). lets_show n at.hash) c.notes.ensures in
+    λ honest spelled. (
+    subst (λ (t : Told). Says (visible_in held c.args.self.now at.set) c.args.key.now t) c.in-Absent.is
+    (told_of g.row.PAGE (set_count c.args.self.now) at.set held c.read.new.into c.args.key.now at.hash (notes_of c.args.self.now at.set) c.in_ok-tell.field-0
+      c.requires.hash shows c.requires.place.set (spelled at.set) (c.in-Ok.ensures.known honest) c.in_ok-tell.ensures), refl)
+
+pub returns-in-Found-clause-gives : goal.returns-in-Found-clause-gives
+returns-in-Found-clause-gives g c =
+    let at = c.args.placed.now in
+    let held = g.D.PageDevice.held c.args.device.now in
+    let shows = c.if-not-lets_show.ensures ∙ ap (λ (n : Notes). lets_show n at.hash) c.notes.ensures in
+    λ honest spelled. hit_gives (visible_in held c.args.self.now at.set) c.args.key.now c.in-Found.value c.in-Found.slot at.set c.args.self.now _
+    (subst (λ (t : Told). Says (visible_in held c.args.self.now at.set) c.args.key.now t) c.in-Found.is
+    (told_of g.row.PAGE (set_count c.args.self.now) at.set held c.read.new.into c.args.key.now at.hash (notes_of c.args.self.now at.set) c.in_ok-tell.field-0
+      c.requires.hash shows c.requires.place.set (spelled at.set) (c.in-Ok.ensures.known honest) c.in_ok-tell.ensures))
+    c.hit.ensures

@@ -1,0 +1,43 @@
+use Rattle.std.proofs.Common.{◌≡◌, ◌≢◌, ℕ, List, refl, sym, ap, ◌∙◌}
+use Rattle.std.proofs.lemmas.Bool.{false≢true}
+use Rattle.std.specs.FinSet.{empty}
+use Rattle.page_device.specs.Frames.{pages_before}
+use Rattle.record_pages.specs.Recs.{Rec}
+use Rattle.kset.specs.Notes.{Notes}
+use Rattle.kset.specs.Sets.{notes_of, set_count}
+use Rattle.kset.specs.Pages.{page_records}
+use Rattle.kset.specs.Shown.{with_flags, visible_from}
+use Rattle.kset.proofs.LookLaws.{reads_page, records_read, some_read, visible_from-empty}
+use Rattle.kset.proofs.sets.KSet.read_set.Goals as goal
+
+pub returns-then-is_empty-clause-gives : goal.returns-then-is_empty-clause-gives
+returns-then-is_empty-clause-gives g c =
+    let notes = notes_of c.args.self.now c.args.set in
+    let records = page_records (g.D.PageDevice.held c.args.device.now) c.args.self.now c.args.set in
+    let none : notes.filter ≡ empty = sym (ap (λ (n : Notes). n.filter) c.notes.ensures) ∙ c.if-is_empty.ensures.0 refl in
+    λ honest spelled. c.new.ensures ∙ ap (with_flags notes) (sym (visible_from-empty notes none 0 records))
+
+pub returns-in_default-page_of-clause-faults : goal.returns-in_default-page_of-clause-faults
+returns-in_default-page_of-clause-faults g c =
+    let set = c.args.set in
+    let held = g.D.PageDevice.held c.args.device.now in
+    let count = set_count c.args.self.now in
+    let some : (notes_of c.args.self.now set).filter ≢ empty =
+    λ e. false≢true (c.if-is_empty.ensures.1 (ap (λ (n : Notes). n.filter) c.notes.ensures ∙ e)) in
+    λ honest spelled. absurd (some_read g.row.PAGE set (pages_before count held set) c.read.new.into
+      (reads_page g.row.PAGE count set held c.read.new.into c.requires.set (spelled set some) (c.in-Ok.ensures.known honest)) c.in_default-page_of.ensures.page)
+
+pub returns-clause-gives : goal.returns-clause-gives
+returns-clause-gives g c =
+    let set = c.args.set in
+    let held = g.D.PageDevice.held c.args.device.now in
+    let count = set_count c.args.self.now in
+    let notes = notes_of c.args.self.now set in
+    let some : notes.filter ≢ empty =
+    λ e. false≢true (c.if-is_empty.ensures.1 (ap (λ (n : Notes). n.filter) c.notes.ensures ∙ e)) in
+    λ honest spelled.
+    let r = reads_page g.row.PAGE count set held c.read.new.into c.requires.set (spelled set some) (c.in-Ok.ensures.known honest) in
+    c.in_ok-records.ensures
+    ∙ ap (λ (n : Notes). with_flags n (visible_from n 0 c.records.result)) c.notes-2.ensures
+    ∙ ap (λ (rs : List Rec). with_flags notes (visible_from notes 0 rs))
+    (c.records.ensures ∙ records_read g.row.PAGE set (pages_before count held set) c.read.new.into c.in-Some.page r c.in-Some.ensures.page)

@@ -1,0 +1,34 @@
+-- What a look-up in a set answers.
+use Rattle.std.specs.Prelude.{◌≡◌, ◌<◌, ℕ, ◌+◌, ◌%◌, ◌^◌, List, Option, Some, None, IsSomeAnd, Bool, true, false, Result, Ok, Err, if◌then◌else◌}
+use Rattle.std.specs.declared.alloc.AllocError.{AllocError}
+use Rattle.record_pages.specs.Recs.{Rec}
+use Rattle.kset.specs.declared.looked.Looked.{Looked}
+use Rattle.kset.specs.declared.looked.Looked.TheVariants as looked
+use Rattle.kset.specs.Sets.{SetsState, hit_in}
+use Rattle.kset.specs.Shown.{first_visible}
+
+-- the answer is the device's failure
+abbrev pub is_fault : Result Looked AllocError → Bool
+is_fault (Ok looked.Fault) = true
+is_fault _ = false
+
+-- the count of failures, modulo 2^64, after a call that met one, or none
+abbrev pub faults_after : ℕ → Bool → ℕ
+faults_after n fault = if fault then ((n + 1) % 2 ^ 64) else n
+
+-- a hit notes some slot of the page as hit; else nothing changes
+abbrev pub LookLeaves : SetsState → ℕ → Result Looked AllocError → SetsState → Type 0
+LookLeaves old set (Ok (looked.Hit value)) new = (slot : ℕ) × (slot < 64) × (new ≡ hit_in old set slot)
+LookLeaves old set (Ok looked.Absent) new = new ≡ old
+LookLeaves old set (Ok looked.Fault) new = new ≡ old
+LookLeaves old set (Ok looked.Damaged) new = new ≡ old
+LookLeaves old set (Err e) new = new ≡ old
+
+-- A hit is the first visible record of the key, whose slot is noted as hit; absent is a key that no visible record
+-- has; no page is damaged.
+abbrev pub LookGives : List (ℕ × Rec) → List ℕ → SetsState → ℕ → Looked → SetsState → Type 0
+LookGives visible key old set (looked.Hit value) new =
+    IsSomeAnd (first_visible visible key) (λ x. (x.1.value ≡ value) × (new ≡ hit_in old set x.0))
+LookGives visible key old set looked.Absent new = (first_visible visible key ≡ None) × (new ≡ old)
+LookGives visible key old set looked.Fault new = new ≡ old
+LookGives visible key old set looked.Damaged new = ⊥

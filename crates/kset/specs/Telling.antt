@@ -1,0 +1,20 @@
+-- What a page says of a key.
+use Rattle.std.specs.Prelude.{◌≡◌, ◌<◌, ◌==◌, ℕ, List, Option, Some, None, option_and_then, IsSomeAnd, if◌then◌else◌}
+use Rattle.record_pages.specs.PageText.{SetPageParts}
+use Rattle.record_pages.specs.Looking.{first_with}
+use Rattle.kset.specs.declared.page.Told.{Told}
+use Rattle.kset.specs.declared.page.Told.TheVariants as told
+
+-- a page, where it is the page of this set
+abbrev pub page_if_of : ℕ → Option SetPageParts → Option SetPageParts
+page_if_of set read = option_and_then (λ p. if p.set == set then Some p else None) read
+
+-- what a page, where there is one, says of a key
+abbrev pub Tells : List ℕ → Option SetPageParts → Told → Type 0
+Tells key None told.Damaged = Unit {0}
+Tells key None told.Absent = ⊥
+Tells key None (told.Found slot value) = ⊥
+Tells key (Some p) told.Damaged = ⊥
+Tells key (Some p) told.Absent = first_with key p.records ≡ None
+Tells key (Some p) (told.Found slot value) =
+    (slot < 64) × IsSomeAnd (first_with key p.records) (λ x. (x.0 ≡ slot) × (x.1.value ≡ value))

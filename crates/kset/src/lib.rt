@@ -1,0 +1,22 @@
+//! The sets on flash: a page for each set, and in memory its filter, its strikes and its hits.
+#![tactic(auto)]
+
+mod looked;
+mod notes;
+mod page;
+mod rewritten;
+mod set_read;
+mod set_record;
+mod set_records;
+mod sets;
+mod strikes;
+
+pub use looked::Looked;
+pub use rewritten::Rewritten;
+pub use set_read::SetRead;
+pub use set_record::SetRecord;
+pub use set_records::SetRecords;
+pub use sets::KSet;
+
+#[cfg(test)]
+mod tests;

@@ -1,0 +1,111 @@
+// What memory notes of one set.
+ghost use Rattle.std.specs.Prelude.{◌≡◌, ◌≢◌, ◌<◌, ◌↔◌, IsTrue, true, false};
+ghost use Rattle.std.specs.FinSet as set;
+ghost use Rattle.bloom.specs.Filter.{with_bits};
+ghost use Rattle.set_hash.specs.Place.{probes_of};
+ghost use Rattle.kset.specs.Notes.{Notes, notes_code, no_notes, lets_show, struck, with_hit, notes_of_page};
+
+use crate::strikes::Strikes;
+use bloom::Filter;
+use record_pages::{Layout, Records};
+use rriparoo::HitBits;
+use set_hash::{Placed, place};
+use std::marker::Model;
+
+/// What memory notes of one set: its filter, its strikes and its hits.
+#[derive(Debug, Drop)]
+pub(crate) struct SetNotes {
+    filter: Filter,
+    is_filled: bool,
+    strikes: Strikes,
+    hits: HitBits,
+}
+
+impl Model for SetNotes {
+    ghost Value = { Notes };
+
+    ghost coded = { notes_code };
+
+    ghost view = { λ n. record { filter = n.filter; strikes = n.strikes; hits = n.hits } };
+
+    ghost invariant = { λ n. (n.is_filled ≡ false → n.filter ≡ set.empty) × (n.is_filled ≡ true → n.filter ≢ set.empty) };
+}
+
+impl SetNotes {
+    /// Nothing is noted.
+    pub(crate) fn empty() -> SetNotes
+        ensures { result ≡ no_notes }
+    {
+        SetNotes {
+            filter: Filter::empty(),
+            is_filled: false,
+            strikes: Strikes::empty(),
+            hits: HitBits::empty(),
+        }
+    }
+
+    /// What is noted once a page with these records was written.
+    pub(crate) fn of_page(layout: &Layout, records: Records<'_>) -> SetNotes
+        ensures { result ≡ notes_of_page records.entry }
+    {
+        let mut notes = SetNotes::empty();
+        for lent in records {
+            notes.admit(&place(layout, lent.key));
+        }
+        notes
+    }
+
+    // Adds a key to the filter.
+    fn admit(&mut self, placed: &Placed)
+        requires { placed.now.probes ≡ probes_of placed.now.hash }
+        ensures { self.new ≡ record self.old {
+          filter = with_bits self.old.filter (probes_of placed.now.hash) } }
+    {
+        self.filter.add(placed.probes);
+        self.is_filled = true;
+    }
+
+    /// Whether the filter has no bit.
+    pub(crate) fn is_empty(&self) -> bool
+        ensures { IsTrue result ↔ (self.now.filter ≡ set.empty) }
+    {
+        !self.is_filled
+    }
+
+    /// Whether a key of this place can be in the set.
+    pub(crate) fn lets_show(&self, placed: &Placed) -> bool
+        requires { placed.now.probes ≡ probes_of placed.now.hash }
+        ensures { result ≡ lets_show self.now placed.now.hash }
+    {
+        self.filter.may_hold(placed.probes) && !self.strikes.has(placed.hash)
+    }
+
+    /// Strikes a key.
+    pub(crate) fn strike(&mut self, placed: &Placed)
+        requires { placed.now.probes ≡ probes_of placed.now.hash }
+        ensures { self.new ≡ struck self.old placed.now.hash }
+    {
+        if !self.filter.may_hold(placed.probes) {
+            return;
+        }
+        if !self.strikes.add(placed.hash) {
+            *self = SetNotes::empty();
+        }
+    }
+
+    /// Notes a hit.
+    pub(crate) fn hit(&mut self, slot: usize)
+        requires { slot < 64 }
+        ensures { self.new ≡ with_hit self.old slot }
+    {
+        self.hits.set(slot);
+    }
+
+    /// Whether a slot was hit.
+    pub(crate) fn was_hit(&self, slot: usize) -> bool
+        requires { slot < 64 }
+        ensures { result ≡ set.contains self.now.hits slot }
+    {
+        self.hits.has(slot)
+    }
+}

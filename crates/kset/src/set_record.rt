@@ -1,0 +1,11 @@
+// A record of a set.
+use record_pages::Record;
+
+/// A visible record of a set.
+#[derive(Debug, Drop, PartialEq, Eq)]
+pub struct SetRecord {
+    /// The record as it stands on the page.
+    pub stored: Record,
+    /// Whether it was hit since the page was written.
+    pub hit: bool,
+}

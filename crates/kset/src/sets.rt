@@ -1,0 +1,277 @@
+// The sets of a lane.
+ghost use Rattle.std.specs.Prelude.{◌≡◌, ◌≢◌, ◌<◌, ◌≤◌, ◌^◌, ℕ, [], List, Option, IfOk, Ok, Some, IsTrue, length, false};
+ghost use Rattle.std.specs.Bool.{OnTrue, OnFalse};
+ghost use Rattle.std.specs.FinSet as bits;
+ghost use Rattle.page_device.specs.Frames.{pages_from};
+ghost use Rattle.record_pages.specs.Sizes.{IsPageSize};
+ghost use Rattle.record_pages.specs.Recs.{Rec};
+ghost use Rattle.record_pages.specs.PageText.{set_page_text};
+ghost use Rattle.set_hash.specs.Fnv.{fnv1a};
+ghost use Rattle.kset.specs.Notes.{lets_show, notes_of_page};
+ghost use Rattle.kset.specs.Sets.{SetsState, sets_code, set_count, notes_of, opening, struck_in, hit_in, forgotten, next_write, IsPlaceIn};
+ghost use Rattle.kset.specs.Pages.{AreSpelledOn};
+ghost use Rattle.kset.specs.Shown.{visible_in, visible_from, with_flags};
+ghost use Rattle.kset.specs.Look.{is_fault, faults_after, LookLeaves, LookGives};
+ghost use Rattle.kset.specs.ReadSet.{is_lost, ReadLeaves, ReadGives};
+ghost use Rattle.kset.specs.Rewrite.{is_forgotten, after_rewrite};
+
+use crate::looked::Looked;
+use crate::notes::SetNotes;
+use crate::page::{Told, page_of, tell};
+use crate::rewritten::Rewritten;
+use crate::set_read::SetRead;
+use crate::set_record::SetRecord;
+use crate::set_records::SetRecords;
+use page_device::PageDevice;
+use record_pages::{Key, Layout, Records, SetPageWriter};
+use set_hash::{Placed, place};
+use std::alloc::{AllocError, Global};
+use std::marker::Model;
+
+/// The sets of a lane. Each has a page of the device, the one with its number, and in memory a filter over the keys
+/// of that page, up to eight strikes and the hits since the page was written.
+///
+/// The device is lent to each call that needs it. No page from the number of sets on is written.
+#[derive(Debug, Drop)]
+pub struct KSet<const PAGE: usize> {
+    layout: Layout,
+    writes: u64,
+    sets: Vec<SetNotes>,
+}
+
+impl<const PAGE: usize> Model for KSet<PAGE> {
+    ghost Value = { SetsState };
+
+    ghost coded = { sets_code };
+
+    ghost view = { λ k. record { writes = k.writes; notes = k.sets.items } };
+
+    ghost invariant = { λ k. length k.sets.items ≤ 65536 };
+}
+
+impl<const PAGE: usize> KSet<PAGE> {
+    /// The sets of a lane of this layout, all empty, or `AllocError` where memory was refused. All memory that
+    /// strikes, hits and filters need is taken here.
+    pub fn open(alloc: Global, layout: &Layout) -> Result<Self, AllocError>
+        ensures opening { IfOk result (λ k. k ≡ opening layout.now.sets) }
+        ensures spelled { IfOk result (λ k.
+            (held : ℕ → Option (List ℕ)) → AreSpelledOn PAGE held k) }
+    {
+        let mut sets = Vec::with_capacity(alloc, layout.sets as usize)?;
+        for _ in 0..layout.sets {
+            sets.push(SetNotes::empty())?;
+        }
+        Ok(KSet {
+            layout: *layout,
+            writes: 0,
+            sets,
+        })
+    }
+
+    /// The value of the first visible record of a key, whose slot is noted as hit. A key that the filter denies or
+    /// that is struck is absent without a call of the device. `AllocError` and all other answers change nothing.
+    pub fn look<D: PageDevice<PAGE>>(
+        &mut self,
+        alloc: Global,
+        device: &mut D,
+        placed: &Placed,
+        key: &Key,
+    ) -> Result<Looked, AllocError>
+        requires page_size { IsPageSize PAGE }
+        requires room { set_count self.old ≤ D.page_count device.old }
+        requires place { IsPlaceIn self.old placed.now }
+        requires hash { placed.now.hash ≡ fnv1a key.now }
+
+        // On any device.
+        ensures pages { D.page_count device.new ≡ D.page_count device.old }
+        ensures honest { D.honest device.new ≡ D.honest device.old }
+        ensures faults { D.failures device.new
+            ≡ faults_after (D.failures device.old) (is_fault result) }
+        ensures leaves { LookLeaves self.old placed.now.set result self.new }
+        ensures denied { OnFalse (lets_show (notes_of self.old placed.now.set) placed.now.hash)
+            ((result ≡ Ok Looked.Absent) × (device.new ≡ device.old)) }
+
+        // Where it is honest.
+        ensures same { IsTrue (D.honest device.old) → D.held device.new ≡ D.held device.old }
+        ensures gives { IsTrue (D.honest device.old) →
+            AreSpelledOn PAGE (D.held device.old) self.old →
+            IfOk result (λ r. LookGives (visible_in (D.held device.old) self.old placed.now.set)
+              key.now self.old placed.now.set r self.new) }
+        ensures spelled { IsTrue (D.honest device.old) →
+            AreSpelledOn PAGE (D.held device.old) self.old →
+            AreSpelledOn PAGE (D.held device.new) self.new }
+    {
+        if !self.notes(placed.set).lets_show(placed) {
+            return Ok(Looked::Absent);
+        }
+        let mut bytes = [0u8; PAGE];
+        let Ok(()) = device.read(placed.set, &mut bytes) else {
+            return Ok(Looked::Fault);
+        };
+        match tell(alloc, &bytes, placed.set, key)? {
+            Told::Damaged => Ok(Looked::Damaged),
+            Told::Absent => Ok(Looked::Absent),
+            Told::Found(slot, value) => {
+                self.hit(placed.set, slot);
+                Ok(Looked::Hit(value))
+            }
+        }
+    }
+
+    /// Strikes a key: where the filter admits it, its hash joins the strikes of the set. A hash that is there adds
+    /// none, and a ninth distinct one forgets the set.
+    pub fn strike(&mut self, placed: &Placed)
+        requires { IsPlaceIn self.old placed.now }
+        ensures struck { self.new ≡ struck_in self.old placed.now.set placed.now.hash }
+        ensures hidden { lets_show (notes_of self.new placed.now.set) placed.now.hash ≡ false }
+        ensures spelled { (held : ℕ → Option (List ℕ)) → AreSpelledOn PAGE held self.old →
+            AreSpelledOn PAGE held self.new }
+    {
+        self.sets[placed.set as usize].strike(placed);
+    }
+
+    /// Forgets a set: its filter, its strikes and its hits become empty.
+    pub fn forget(&mut self, set: u32)
+        requires { set < set_count self.old }
+        ensures forgotten { self.new ≡ forgotten self.old set }
+        ensures spelled { (held : ℕ → Option (List ℕ)) → AreSpelledOn PAGE held self.old →
+            AreSpelledOn PAGE held self.new }
+    {
+        self.sets[set as usize] = SetNotes::empty();
+    }
+
+    /// The visible records of a set, in page order, each with whether it was hit. Nothing is read where the filter is
+    /// empty. Where the page is lost the set is forgotten; `AllocError` changes nothing.
+    pub fn read_set<D: PageDevice<PAGE>>(
+        &mut self,
+        alloc: Global,
+        device: &mut D,
+        set: u32,
+    ) -> Result<SetRead, AllocError>
+        requires page_size { IsPageSize PAGE }
+        requires room { set_count self.old ≤ D.page_count device.old }
+        requires set { set < set_count self.old }
+
+        // On any device.
+        ensures pages { D.page_count device.new ≡ D.page_count device.old }
+        ensures honest { D.honest device.new ≡ D.honest device.old }
+        ensures fails_only_if_lost { OnFalse (is_lost result)
+            (D.failures device.new ≡ D.failures device.old) }
+        ensures leaves { ReadLeaves self.old set result self.new }
+        ensures unread { (notes_of self.old set).filter ≡ bits.empty →
+            (result ≡ Ok (SetRead.Records [])) × (device.new ≡ device.old) }
+
+        // Where it is honest.
+        ensures same { IsTrue (D.honest device.old) → D.held device.new ≡ D.held device.old }
+        ensures faults { IsTrue (D.honest device.old) →
+            AreSpelledOn PAGE (D.held device.old) self.old →
+            D.failures device.new ≡ faults_after (D.failures device.old) (is_lost result) }
+        ensures gives { IsTrue (D.honest device.old) →
+            AreSpelledOn PAGE (D.held device.old) self.old →
+            IfOk result (ReadGives (with_flags (notes_of self.old set)
+              (visible_in (D.held device.old) self.old set))) }
+        ensures spelled { IsTrue (D.honest device.old) →
+            AreSpelledOn PAGE (D.held device.old) self.old →
+            AreSpelledOn PAGE (D.held device.new) self.new }
+    {
+        if self.notes(set).is_empty() {
+            return Ok(SetRead::Records(SetRecords::new(alloc)));
+        }
+        let mut bytes = [0u8; PAGE];
+        let Ok(()) = device.read(set, &mut bytes) else {
+            self.forget(set);
+            return Ok(SetRead::PageLost);
+        };
+        let Some(page) = page_of(&bytes, set) else {
+            self.forget(set);
+            return Ok(SetRead::PageLost);
+        };
+        let records = visible(alloc, &self.layout, self.notes(set), page.records())?;
+        Ok(SetRead::Records(records))
+    }
+
+    /// Writes the page of a set anew, with the writer's records under its number and the next write number. Where it
+    /// is written the filter holds just those records' keys, and nothing is struck or hit. Where the device fails the
+    /// set is forgotten. Either way the write counts as tried.
+    pub fn rewrite<D: PageDevice<PAGE>>(
+        &mut self,
+        device: &mut D,
+        set: u32,
+        writer: &SetPageWriter<PAGE>,
+    ) -> Rewritten
+        requires page_size { IsPageSize PAGE }
+        requires room { set_count self.old ≤ D.page_count device.old }
+        requires set { set < set_count self.old }
+
+        // On any device.
+        ensures pages { D.page_count device.new ≡ D.page_count device.old }
+        ensures honest { D.honest device.new ≡ D.honest device.old }
+        ensures faults { D.failures device.new
+            ≡ faults_after (D.failures device.old) (is_forgotten result) }
+        ensures leaves { self.new ≡ after_rewrite self.old set writer.now result }
+
+        // Where it is honest.
+        ensures written { IsTrue (D.honest device.old) → OnFalse (is_forgotten result)
+            (D.held device.new set ≡ Some (set_page_text PAGE set (next_write self.old) writer.now)) }
+        ensures others { IsTrue (D.honest device.old) →
+            (p : ℕ) → p ≢ set → D.held device.new p ≡ D.held device.old p }
+        ensures apart { IsTrue (D.honest device.old) →
+            pages_from (set_count self.old) (D.held device.new)
+              ≡ pages_from (set_count self.old) (D.held device.old) }
+        ensures spelled { IsTrue (D.honest device.old) →
+            AreSpelledOn PAGE (D.held device.old) self.old →
+            AreSpelledOn PAGE (D.held device.new) self.new }
+    {
+        self.writes = self.writes.wrapping_add(1);
+        let mut bytes = [0u8; PAGE];
+        writer.text(set, self.writes, &mut bytes);
+        let Ok(()) = device.write(set, &bytes) else {
+            self.forget(set);
+            return Rewritten::Forgotten;
+        };
+        self.sets[set as usize] = SetNotes::of_page(&self.layout, writer.records());
+        Rewritten::Written
+    }
+
+    // Notes a hit in a slot of a set.
+    fn hit(&mut self, set: u32, slot: usize)
+        requires set { set < set_count self.old }
+        requires slot { slot < 64 }
+        ensures { self.new ≡ hit_in self.old set slot }
+    {
+        self.sets[set as usize].hit(slot);
+    }
+
+    // What is noted of a set.
+    fn notes(&self, set: u32) -> &SetNotes
+        requires { set < set_count self.now }
+        ensures { result.now ≡ notes_of self.now set }
+    {
+        &self.sets[set as usize]
+    }
+}
+
+// The visible ones of these records, each with whether its slot was hit.
+fn visible(
+    alloc: Global,
+    layout: &Layout,
+    notes: &SetNotes,
+    mut records: Records<'_>,
+) -> Result<SetRecords, AllocError>
+    requires { length records ≤ 64 }
+    ensures { IfOk result (λ rs. rs ≡ with_flags notes.now (visible_from notes.now 0 records.entry)) }
+{
+    let mut visible = SetRecords::new(alloc);
+    for slot in 0..records.len() {
+        let Some(lent) = records.next() else {
+            unreachable!();
+        };
+        let placed = place(layout, lent.key);
+        if notes.lets_show(&placed) {
+            let stored = lent.to_record(alloc)?;
+            let hit = notes.was_hit(slot);
+            visible.push(SetRecord { stored, hit })?;
+        }
+    }
+    Ok(visible)
+}
