@@ -3,7 +3,7 @@ use Rattle.std.specs.Prelude.{◌≡◌, ℕ, Bool, ◌&&◌, List, [], ◌∷�
 use Rattle.std.specs.Str.{bytes_eq}
 use Rattle.bench_driver.specs.Words.{words_of, number_of}
 use Rattle.bench_driver.specs.declared.command.Command.{Command}
-use Rattle.bench_driver.specs.declared.command.Command.TheVariants.{Put, Get, Remove, Forget, Verdict}
+use Rattle.bench_driver.specs.declared.command.Command.TheVariants.{Put, Get, Remove, Forget, Verdict, Trace}
 
 -- that many words, and this is the first
 abbrev pub is_named : List (List ℕ) → ℕ → List ℕ → Bool
@@ -30,14 +30,15 @@ put_words key value word =
 abbrev pub put_of : List (List ℕ) → Option Command
 put_of words = put_words (slice_index_or words 1 []) (slice_index_or words 2 []) (slice_index_or words 3 [])
 
--- put KEY VALUE WORD, get KEY, remove KEY, forget KEY or verdict
+-- put KEY VALUE WORD, get KEY, remove KEY, forget KEY, verdict or trace
 abbrev pub command_of_words : List (List ℕ) → Option Command
 command_of_words words =
     if is_named words 1 (codes "verdict") then Some Verdict
+    else (if is_named words 1 (codes "trace") then Some Trace
     else (if is_named words 2 (codes "get") then at_key Get words
     else (if is_named words 2 (codes "remove") then at_key Remove words
     else (if is_named words 2 (codes "forget") then at_key Forget words
-    else (if is_named words 4 (codes "put") then put_of words else None))))
+    else (if is_named words 4 (codes "put") then put_of words else None)))))
 
 -- the command that a line spells, if it spells one
 abbrev pub command_of : List ℕ → Option Command

@@ -8,13 +8,15 @@ use Rattle.record_pages.specs.declared.tier.Tier.{Tier}
 use Rattle.record_pages.specs.declared.tier.Tier.TheVariants.{Memory, Log, Set}
 use Rattle.record_pages.specs.Sizes.{object_size}
 use Rattle.trace_file.specs.declared.act.Act.TheVariants as acts
+use Rattle.hex.specs.Hex.{encode_lower}
+use Rattle.trace_file.specs.Text.{trace_text}
 use Rattle.certificate_checker.specs.declared.verdict.Verdict.TheVariants.{Accepted}
 use Rattle.certificate_checker.specs.VerdictLine.{verdict_line}
 use Rattle.history_recorder.specs.LaneState.{get_step, put_step, remove_step, forget_step}
 use Rattle.history_recorder.specs.Lane.{Lane, act_of}
 use Rattle.bench_driver.specs.declared.command.Command.{Command}
-use Rattle.bench_driver.specs.declared.command.Command.TheVariants.{Put, Get, Remove, Forget, Verdict}
-use Rattle.bench_driver.specs.Own.{after_call}
+use Rattle.bench_driver.specs.declared.command.Command.TheVariants.{Put, Get, Remove, Forget, Verdict, Trace}
+use Rattle.bench_driver.specs.Own.{after_call, own_history, own_certificate}
 
 -- an empty value is printed as -
 abbrev pub shown : List ℕ → List ℕ
@@ -66,3 +68,5 @@ reply_to room lane (Forget key) =
     reply (codes "forgotten") (record { state = (forget_step key lane.state).state; calls = lane.calls })
 -- every verdict of a script is an accepted line
 reply_to room lane Verdict = reply (verdict_line Accepted (length lane.calls)) lane
+-- every trace of a script is that of its calls so far, in lower case hexadecimal
+reply_to room lane Trace = reply (encode_lower (trace_text (own_history lane) (own_certificate lane))) lane

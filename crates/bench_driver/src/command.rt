@@ -19,6 +19,8 @@ pub enum Command {
     Forget(Key),
     /// Asks for the verdict on the calls so far.
     Verdict,
+    /// Asks for the trace of the calls so far.
+    Trace,
 }
 
 /// Whether there are so many words, and the first is this one.
@@ -79,6 +81,8 @@ fn command_of_words(alloc: Global, words: &[&[u8]]) -> Result<Option<Command>, A
 {
     if is_named(words, 1, b"verdict") {
         Ok(Some(Command::Verdict))
+    } else if is_named(words, 1, b"trace") {
+        Ok(Some(Command::Trace))
     } else if is_named(words, 2, b"get") {
         Ok(key(alloc, words[1])?.map(Command::Get))
     } else if is_named(words, 2, b"remove") {

@@ -160,6 +160,21 @@ fn verdict_reply<const PAGE: usize>(
     Ok(())
 }
 
+/// The trace of a script's calls so far, in hexadecimal.
+fn trace_reply<const PAGE: usize>(
+    alloc: Global,
+    lane: &ScriptLane<PAGE>,
+    text: &mut Vec<u8>,
+) -> Result<(), AllocError>
+    ensures { OnOk result (text.new.items
+        ≡ text.old.items ++ (reply_to (room PAGE) lane.now Command.Trace).text) }
+{
+    let trace = lane.trace(alloc)?;
+    let line = hex::encode(alloc, trace.as_slice())?;
+    append(text, line.as_bytes())?;
+    append(text, b"\n")
+}
+
 /// Answers a command: it changes the lane, and appends the reply to the text.
 pub(crate) fn answer_command<const PAGE: usize>(
     alloc: Global,
@@ -177,5 +192,6 @@ pub(crate) fn answer_command<const PAGE: usize>(
         Command::Remove(key) => remove_reply(lane, &key, text),
         Command::Forget(key) => forget_reply(lane, &key, text),
         Command::Verdict => verdict_reply(alloc, lane, text),
+        Command::Trace => trace_reply(alloc, lane, text),
     }
 }

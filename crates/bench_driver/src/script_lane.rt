@@ -1,6 +1,7 @@
 // The one lane of a script, whose calls have the script's numbers.
 ghost use Rattle.std.specs.Prelude.{◌≡◌, ◌↔◌, ◌<◌, ◌≤◌, [], length, IfOk, OnErr, IsErrOf, None, Some, MatchResult};
 ghost use Rattle.record_pages.specs.Sizes.{IsPageSize, object_size, room};
+ghost use Rattle.trace_file.specs.Text.{IsTrace};
 ghost use Rattle.certificate_checker.specs.Acceptance.{IsAccepted};
 ghost use Rattle.history_recorder.specs.LaneState.{opening, get_step, put_step, remove_step, forget_step};
 ghost use Rattle.history_recorder.specs.Lane.{act_of};
@@ -14,7 +15,7 @@ use history_recorder::{
 use record_pages::{Config, Field, Key, Value};
 use std::alloc::{AllocError, Global};
 use std::marker::Model;
-use trace_file::{Certificate, History};
+use trace_file::{Certificate, History, WriteTraceFault, write_trace};
 
 /// The lane of a script. Its call number `i`, from 0, has caller 0, start `3i + 1`, point `3i + 2` and
 /// end `3i + 3`.
@@ -120,6 +121,8 @@ impl<const PAGE: usize> ScriptLane<PAGE> {
         ensures history { IfOk result (λ r. r.history ≡ own_history self.now) }
         ensures certificate { IfOk result (λ r. r.certificate ≡ own_certificate self.now) }
         ensures accepted { IfOk result (λ r. IsAccepted r.history r.certificate) }
+        ensures few { IfOk result (λ r. length r.history ≤ 16777216) }
+        ensures as_many { IfOk result (λ r. length r.certificate ≡ length r.history) }
     {
         let mut history = History::new(alloc);
         let mut certificate = Certificate::new(alloc);
@@ -131,6 +134,23 @@ impl<const PAGE: usize> ScriptLane<PAGE> {
             history,
             certificate,
         })
+    }
+
+    /// The trace of the calls so far, which are accepted. `AllocError` comes where memory was refused.
+    pub fn trace(&self, alloc: Global) -> Result<Vec<u8>, AllocError>
+        ensures trace { IfOk result (λ bytes. IsTrace bytes.items
+            (own_history self.now) (own_certificate self.now)) }
+        ensures accepted { IfOk result (λ _. IsAccepted
+            (own_history self.now) (own_certificate self.now)) }
+    {
+        let recording = self.recording(alloc)?;
+        let mut bytes = Vec::new(alloc);
+        match write_trace(&recording.history, &recording.certificate, &mut bytes) {
+            Ok(()) => Ok(bytes),
+            Err(WriteTraceFault::WriteFault) => Err(AllocError),
+            Err(WriteTraceFault::TooMany) => unreachable!(),
+            Err(WriteTraceFault::WrongCount) => unreachable!(),
+        }
     }
 }
 

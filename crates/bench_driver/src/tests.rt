@@ -1,4 +1,7 @@
 // Whole scripts, with the replies that they must get, and readers and writers that fail.
+use crate::command_line::parse_line;
+use crate::line::Line;
+use crate::line_fault::LineFault;
 use crate::script::run_script;
 use crate::script_fault::ScriptFault;
 use crate::scripted::Scripted;
@@ -20,7 +23,7 @@ fn answered(alloc: Global, input: &[u8]) -> Result<(Vec<u8>, Scripted), Fail> {
 
 #[test]
 fn scripts_are_answered(rt: HostRuntime) -> Result<(), Fail> {
-    let table: [(&[u8], &[u8], Scripted); 13] = [
+    let table: [(&[u8], &[u8], Scripted); 15] = [
         (
             b"config 1 1 4 2 1 8 1 65536\nput a 1 0\nget a\nget b\nverdict\n",
             b"ready\nstored\nhit 1 memory\nmiss absent\naccepted 3 calls\n",
@@ -36,6 +39,17 @@ fn scripts_are_answered(rt: HostRuntime) -> Result<(), Fail> {
         (
             b"config 1 1 2 2 1 8 1 0\nput a 1 0\nput b 2 0\nget a\nput c 3 0\nget b\nget a\nget c\n",
             b"ready\nstored\nstored\nhit 1 memory\nstored\nmiss absent\nhit 1 memory\nhit 3 memory\n",
+            Scripted::Ended,
+        ),
+        // what was removed or forgotten is not hit, and a forgetting is no call
+        (
+            b"config 1 1 1 2 1 8 1 65536\nput ax 1 0\nremove ax\nget ax\nput ax 2 0\nforget ax\nget ax\nverdict\n",
+            b"ready\nstored\nremoved\nmiss absent\nstored\nforgotten\nmiss absent\naccepted 5 calls\n",
+            Scripted::Ended,
+        ),
+        (
+            b"config 1 1 1 2 1 8 1 65536\nput a 1 0\ntrace\n",
+            b"ready\nstored\n4b475452414345310000000101000000000000000000010000000000000003016100013100000000\n",
             Scripted::Ended,
         ),
         (
@@ -237,6 +251,40 @@ fn a_writer_may_fail(rt: HostRuntime) {
     let mut input = b"config 1 1 4 2 1 8 1 65536\n".as_slice();
     let given_up = run_script::<4096, &[u8], Broken>(rt.alloc(), &mut input, &mut Broken);
     assert_eq!(rt; given_up, Err(ScriptFault::WriteFault));
+}
+
+/// What the words of a command line ask for: a name for it, and the file where there is one.
+fn asked<'a>(alloc: Global, words: &'a [&'a str]) -> Result<(&'static str, bool), Fail> {
+    match parse_line(alloc, words) {
+        Ok(Line::Script) => Ok(("script", false)),
+        Ok(Line::Check(file)) => Ok(("check", file.as_str() == "a.trace")),
+        Err(LineFault::Usage(text)) => Ok(("usage", text.as_str().contains("Usage"))),
+        Err(LineFault::Help(text)) => Ok(("help", text.as_str().contains("Usage"))),
+        Err(LineFault::OutOfMemory) => Err(Fail::from("memory")),
+    }
+}
+
+#[test]
+fn command_lines_are_read(rt: HostRuntime) -> Result<(), Fail> {
+    let alloc = rt.alloc();
+    assert_eq!(rt; asked(alloc, &["bench", "script"])?, ("script", false));
+    assert_eq!(rt;
+        asked(alloc, &["bench", "check", "a.trace"])?,
+        ("check", true)
+    );
+    assert_eq!(rt; asked(alloc, &["bench"])?, ("usage", true));
+    assert_eq!(rt; asked(alloc, &[])?, ("usage", true));
+    assert_eq!(rt; asked(alloc, &["bench", "check"])?, ("usage", true));
+    assert_eq!(rt;
+        asked(alloc, &["bench", "script", "more"])?,
+        ("usage", true)
+    );
+    assert_eq!(rt;
+        asked(alloc, &["bench", "cheque", "a.trace"])?,
+        ("usage", true)
+    );
+    assert_eq!(rt; asked(alloc, &["bench", "--help"])?, ("help", true));
+    Ok(())
 }
 
 /// The line that a script prints at `verdict` is the line of this call.
