@@ -61,7 +61,7 @@ fitting room number (x ∷ xs) =
     then x ∷ fitting (room - x.size) (number - 1) xs
     else fitting room number xs
 
--- the one plan that lists the kept of all candidates
+-- the plan that lists those of all candidates that fit, by rank
 abbrev pub plan_by_rank : ℕ → List Candidate → List Choice
 plan_by_rank room all = map choice_of (fitting room 64 (by_rank all))
 
