@@ -4,6 +4,7 @@ use record_pages::{Key, Value};
 use std::alloc::Global;
 use std::io;
 use std::io::{Read, Write};
+use std::process::Abort;
 use std::test::Fail;
 
 /// One put of `1` at `a`, from stamp 1 to stamp 3, by caller 0, and its certificate.
@@ -71,10 +72,8 @@ impl Write for Limited {
     }
 }
 
-#[test]
-fn one_put_is_read_and_written_again(rt: HostRuntime) -> Result<(), Fail> {
-    let mut reader = ONE_PUT.as_slice();
-    let trace = read_trace(rt.alloc(), &mut reader)?;
+/// Asserts that the trace is that of `ONE_PUT`, read and written again.
+fn is_one_put(rt: &(impl Abort + AllocGlobal), trace: Trace) -> Result<(), Fail> {
     assert_eq!(rt; trace.history.len(), 1);
     assert_eq!(rt; trace.certificate.len(), 1);
     let call = trace.history.at(0);
@@ -86,6 +85,13 @@ fn one_put_is_read_and_written_again(rt: HostRuntime) -> Result<(), Fail> {
     write_trace(&trace.history, &trace.certificate, &mut written)?;
     assert_eq!(rt; written.as_slice(), ONE_PUT.as_slice());
     Ok(())
+}
+
+#[test]
+fn one_put_is_read_and_written_again(rt: HostRuntime) -> Result<(), Fail> {
+    let mut reader = ONE_PUT.as_slice();
+    let trace = read_trace(rt.alloc(), &mut reader)?;
+    is_one_put(&rt, trace)
 }
 
 #[test]
@@ -129,19 +135,25 @@ fn each_fault_has_its_offset(rt: HostRuntime) {
 
 #[test]
 fn pieces_give_what_the_whole_gives(rt: HostRuntime) -> Result<(), Fail> {
-    for len in [1, 7, 40] {
-        let mut parts = TraceReader::new(rt.alloc());
-        let mut rest = ONE_PUT.as_slice();
-        while !rest.is_empty() {
-            let (piece, behind) = rest.split_at(rest.len().min(len));
-            parts.feed(piece)?;
-            rest = behind;
-        }
-        assert_eq!(rt; parts.bytes_fed(), 40);
-        let trace = parts.finish()?;
-        assert_eq!(rt; trace.history.len(), 1, "in pieces of {len}");
-        assert_eq!(rt; trace.history.at(0).key, b"a".as_slice());
+    let mut by_byte = TraceReader::new(rt.alloc());
+    for at in 0..ONE_PUT.len() {
+        by_byte.feed(&ONE_PUT[at..at + 1])?;
     }
+    assert_eq!(rt; by_byte.bytes_fed(), 40);
+    is_one_put(&rt, by_byte.finish()?)?;
+    let mut in_sevens = TraceReader::new(rt.alloc());
+    in_sevens.feed(&ONE_PUT[..7])?;
+    in_sevens.feed(&ONE_PUT[7..14])?;
+    in_sevens.feed(&ONE_PUT[14..21])?;
+    in_sevens.feed(&ONE_PUT[21..28])?;
+    in_sevens.feed(&ONE_PUT[28..35])?;
+    in_sevens.feed(&ONE_PUT[35..])?;
+    is_one_put(&rt, in_sevens.finish()?)?;
+    Ok(())
+}
+
+#[test]
+fn a_fault_in_pieces_stays(rt: HostRuntime) -> Result<(), Fail> {
     let mut parts = TraceReader::new(rt.alloc());
     parts.feed(&ONE_PUT[..9])?;
     assert_eq!(rt; parts.finish().err(), Some(TraceFault::Truncated { at: 9 }));
