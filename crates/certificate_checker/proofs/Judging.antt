@@ -7,7 +7,7 @@ use Rattle.trace_file.specs.declared.trace_fault.TraceFault.TheVariants.{BadMagi
 use Rattle.trace_file.specs.Reading.{outcome_of, at_end, trace_at, place}
 use Rattle.trace_file.specs.Text.{IsTrace}
 use Rattle.trace_file.proofs.TraceLaws.{trace_again}
-use Rattle.trace_file.specs.Outcome.{IsFaultOf}
+use Rattle.trace_file.specs.Outcome.{IsFaultOf, Leaves}
 use Rattle.certificate_checker.specs.declared.fault.Fault.{Fault}
 use Rattle.certificate_checker.specs.declared.judged.Judged.{Judged}
 use Rattle.certificate_checker.specs.declared.judged.Judged.TheVariants as kinds
@@ -24,32 +24,32 @@ unfolding outcome_of
 trace_outcome bytes t is =
     ap (λ bs. at_end (length bytes) (trace_at (place 0 bs))) is.text ∙ ap (at_end (length bytes)) (trace_again t.history t.certificate is.pair)
 
-pub line_on_trace : (known : Option (List ℕ)) (t : Trace) (judged : Judged) (line : List ℕ) → IfSome known (λ bytes. IsTrace bytes t.history t.certificate) → IsTold t judged line → IsLineOn known judged line
-line_on_trace None t judged line is told = record { read = Ok t; is = told; of_reader = tt }
-line_on_trace (Some bytes) t judged line is told = record {
+pub line_on_trace : (known left : Option (List ℕ)) (t : Trace) (judged : Judged) (line : List ℕ) → IfSome known (λ bytes. IsTrace bytes t.history t.certificate) → IsTold t judged line → IsLineOn known left judged line
+line_on_trace None left t judged line is told = record { read = Ok t; is = told; of_reader = tt }
+line_on_trace (Some bytes) left t judged line is told = record {
   read = Ok t;
   is = told;
   of_reader = inl (subst (λ read. IsJudged read judged line) (sym (trace_outcome bytes t is)) told);
 }
 
 -- the fault of known bytes is their first, or a failed read's
-of_fault : (bytes : List ℕ) (fault : TraceFault) (judged : Judged) (line : List ℕ) → fault ≢ OutOfMemory → IsFaultOf bytes fault → IsJudged (Err fault) judged line → IsVerdictLineOf bytes judged line ⊎ IsFailedReadOf bytes judged line
-of_fault bytes (BadMagic at) judged line other is told = inl (subst (λ read. IsJudged read judged line) (sym is) told)
-of_fault bytes (TooMany at) judged line other is told = inl (subst (λ read. IsJudged read judged line) (sym is) told)
-of_fault bytes (BadKind at) judged line other is told = inl (subst (λ read. IsJudged read judged line) (sym is) told)
-of_fault bytes (BadKey at) judged line other is told = inl (subst (λ read. IsJudged read judged line) (sym is) told)
-of_fault bytes (BadValue at) judged line other is told = inl (subst (λ read. IsJudged read judged line) (sym is) told)
-of_fault bytes (Truncated at) judged line other is told = inl (subst (λ read. IsJudged read judged line) (sym is) told)
-of_fault bytes (TrailingBytes at) judged line other is told = inl (subst (λ read. IsJudged read judged line) (sym is) told)
-of_fault bytes (ReadFault at) judged line other is told = inr (record { at = at; within = is.0; no_fault = is.1; is = told })
-of_fault bytes OutOfMemory judged line other is told = absurd (other refl)
+of_fault : (bytes : List ℕ) (left : Option (List ℕ)) (fault : TraceFault) (judged : Judged) (line : List ℕ) → fault ≢ OutOfMemory → IsFaultOf bytes fault → Leaves (Some bytes) left fault → IsJudged (Err fault) judged line → IsVerdictLineOf bytes judged line ⊎ IsFailedReadOf bytes left judged line
+of_fault bytes left (BadMagic at) judged line other is leaves told = inl (subst (λ read. IsJudged read judged line) (sym is) told)
+of_fault bytes left (TooMany at) judged line other is leaves told = inl (subst (λ read. IsJudged read judged line) (sym is) told)
+of_fault bytes left (BadKind at) judged line other is leaves told = inl (subst (λ read. IsJudged read judged line) (sym is) told)
+of_fault bytes left (BadKey at) judged line other is leaves told = inl (subst (λ read. IsJudged read judged line) (sym is) told)
+of_fault bytes left (BadValue at) judged line other is leaves told = inl (subst (λ read. IsJudged read judged line) (sym is) told)
+of_fault bytes left (Truncated at) judged line other is leaves told = inl (subst (λ read. IsJudged read judged line) (sym is) told)
+of_fault bytes left (TrailingBytes at) judged line other is leaves told = inl (subst (λ read. IsJudged read judged line) (sym is) told)
+of_fault bytes left (ReadFault at) judged line other is leaves told = inr (record { at = at; within = is.0; no_fault = is.1; taken = leaves; is = told })
+of_fault bytes left OutOfMemory judged line other is leaves told = absurd (other refl)
 
-pub line_on_fault : (known : Option (List ℕ)) (fault : TraceFault) (judged : Judged) (line : List ℕ) → fault ≢ OutOfMemory → IfSome known (λ bytes. IsFaultOf bytes fault) → IsJudged (Err fault) judged line → IsLineOn known judged line
-line_on_fault None fault judged line other is told = record { read = Err fault; is = told; of_reader = tt }
-line_on_fault (Some bytes) fault judged line other is told = record {
+pub line_on_fault : (known left : Option (List ℕ)) (fault : TraceFault) (judged : Judged) (line : List ℕ) → fault ≢ OutOfMemory → IfSome known (λ bytes. IsFaultOf bytes fault) → Leaves known left fault → IsJudged (Err fault) judged line → IsLineOn known left judged line
+line_on_fault None left fault judged line other is leaves told = record { read = Err fault; is = told; of_reader = tt }
+line_on_fault (Some bytes) left fault judged line other is leaves told = record {
   read = Err fault;
   is = told;
-  of_reader = of_fault bytes fault judged line other is told;
+  of_reader = of_fault bytes left fault judged line other is leaves told;
 }
 
 -- ---- one verdict line

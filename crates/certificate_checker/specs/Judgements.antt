@@ -1,6 +1,6 @@
 -- What the bytes of a reader are judged to be, and the line that says it.
-use Rattle.std.specs.Prelude.{◌≡◌, ℕ, ◌≤◌, ◌⊎◌, List, ◌++◌, length, take, codes, Option, None, IfSome, Result, Ok, Err}
-use Rattle.std.specs.Io.KnownBytes.{Appends}
+use Rattle.std.specs.Prelude.{◌≡◌, ℕ, ◌≤◌, ◌⊎◌, List, ◌++◌, length, take, codes, Option, Some, None, IfSome, Result, Ok, Err}
+use Rattle.std.specs.Io.KnownBytes.{Appends, Consumes}
 use Rattle.trace_file.specs.declared.trace.Trace.{Trace}
 use Rattle.trace_file.specs.declared.trace_fault.TraceFault.{TraceFault}
 use Rattle.trace_file.specs.declared.trace_fault.TraceFault.TheVariants.{ReadFault}
@@ -39,21 +39,22 @@ IsJudged (Err fault) judged line = (judged ≡ kinds.BadTrace) × (line ≡ bad_
 abbrev pub IsVerdictLineOf : List ℕ → Judged → List ℕ → Type 0
 IsVerdictLineOf bytes judged line = IsJudged (outcome_of bytes) judged line
 
--- the line of a read that failed behind so many of these bytes, which have no fault by themselves
-pub record IsFailedReadOf (bytes : List ℕ) (judged : Judged) (line : List ℕ) : Type 0 where
+-- the line of a read that failed behind so many of these bytes, which have no fault by themselves and were taken from the reader
+pub record IsFailedReadOf (bytes : List ℕ) (left : Option (List ℕ)) (judged : Judged) (line : List ℕ) : Type 0 where
   pub at : ℕ
   pub within : at ≤ length bytes
   pub no_fault : first_fault_of (take at bytes) ≡ None
+  pub taken : Consumes (Some bytes) left (take at bytes)
   pub is : IsJudged (Err (ReadFault at)) judged line
 
 -- the verdict line of some bytes, which are the reader's where those are known; or the line of a failed read in them
-pub record IsLineOn (known : Option (List ℕ)) (judged : Judged) (line : List ℕ) : Type 0 where
+pub record IsLineOn (known left : Option (List ℕ)) (judged : Judged) (line : List ℕ) : Type 0 where
   pub read : Result Trace TraceFault
   pub is : IsJudged read judged line
-  pub of_reader : IfSome known (λ bytes. IsVerdictLineOf bytes judged line ⊎ IsFailedReadOf bytes judged line)
+  pub of_reader : IfSome known (λ bytes. IsVerdictLineOf bytes judged line ⊎ IsFailedReadOf bytes left judged line)
 
 -- the line on a reader's bytes was written, with its line feed
-pub record WroteLine (known : Option (List ℕ)) (judged : Judged) (old new : Option (List ℕ)) : Type 0 where
+pub record WroteLine (known left : Option (List ℕ)) (judged : Judged) (old new : Option (List ℕ)) : Type 0 where
   pub line : List ℕ
-  pub is : IsLineOn known judged line
+  pub is : IsLineOn known left judged line
   pub wrote : Appends old new (line ++ codes "\n")

@@ -31,8 +31,8 @@ pub fn judge<R: Read, W: Write>(
     reader: &mut R,
     writer: &mut W,
 ) -> Result<Judged, JudgeFault>
-    ensures line { IfOk result (λ judged. WroteLine
-        (R.remaining reader.old) judged (W.contents writer.old) (W.contents writer.new)) }
+    ensures line { IfOk result (λ judged. WroteLine (R.remaining reader.old)
+        (R.remaining reader.new) judged (W.contents writer.old) (W.contents writer.new)) }
     ensures end { IfOk result (λ judged. judged ≢ Judged.BadTrace
         → IsAtEnd (R.remaining reader.new)) }
     ensures memory { IfErr result (λ fault. fault ≡ JudgeFault.OutOfMemory
@@ -49,7 +49,7 @@ pub fn judge<R: Read, W: Write>(
 fn judgement_of<R: Read>(alloc: Global, reader: &mut R) -> Result<Judgement, AllocError>
     ensures end { IfOk result (λ j. j.judged ≢ Judged.BadTrace → IsAtEnd (R.remaining reader.new)) }
     ensures line { IfOk result (λ j. (line : List ℕ)
-        × IsLineOn (R.remaining reader.old) j.judged line
+        × IsLineOn (R.remaining reader.old) (R.remaining reader.new) j.judged line
         × (string_bytes j.line ≡ line ++ codes "\n")) }
 {
     match read_trace(alloc, reader) {
