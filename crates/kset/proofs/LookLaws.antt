@@ -8,7 +8,7 @@ use Rattle.std.specs.Cmp.Lexicographic.{same_text}
 use Rattle.page_device.specs.Device.{IsKnown}
 use Rattle.page_device.specs.Frames.{pages_before}
 use Rattle.record_pages.specs.Recs.{Rec}
-use Rattle.record_pages.specs.PageText.{SetPageParts}
+use Rattle.record_pages.specs.PageText.{SetPageParts, SpellsSetPage}
 use Rattle.record_pages.specs.Reading.{set_page_at}
 use Rattle.record_pages.specs.Looking.{has_key, first_from, first_with}
 use Rattle.record_pages.proofs.PageLaws.{set_page_only}
@@ -148,3 +148,10 @@ records_read size set seen bytes p r e =
 -- a set's page that is known is read
 pub some_read : (size set : ℕ) (seen : Option (List ℕ)) (bytes : List ℕ) → ReadsPage size set seen bytes → None ≡ page_if_of set (set_page_at bytes) → ⊥
 some_read size set seen bytes r e = let both : None ≡ Some r.page = e ∙ r.read in cc
+
+-- a set's page that holds the text of some records has these records
+pub written_records : (size old count set : ℕ) (held : ℕ → Option (List ℕ)) (bytes : List ℕ) (p : SetPageParts) → count ≡ old → set < old → held set ≡ Some bytes → SpellsSetPage size bytes p →
+    records_on (pages_before count held set) ≡ p.records
+written_records size old count set held bytes p same within holds spelled =
+    ap records_on (before_is count set held (subst (λ n. set < n) (sym same) within) ∙ holds)
+    ∙ ap (λ (o : Option SetPageParts). option_map_or (λ (read : SetPageParts). read.records) o []) (set_page_only size bytes p spelled)

@@ -5,11 +5,18 @@ use Rattle.kset.specs.declared.set_record.SetRecord.{SetRecord}
 use Rattle.kset.specs.declared.set_read.SetRead.{SetRead}
 use Rattle.kset.specs.declared.set_read.SetRead.TheVariants as reads
 use Rattle.kset.specs.Sets.{SetsState, forgotten}
+use Rattle.kset.specs.Look.{faults_after}
 
 -- the page was lost
 abbrev pub is_lost : Result SetRead AllocError → Bool
 is_lost (Ok reads.PageLost) = true
 is_lost _ = false
+
+-- the device may have failed once where the page was lost, and not else
+abbrev pub FailsOnlyIfLost : ℕ → Result SetRead AllocError → ℕ → Type 0
+FailsOnlyIfLost old (Ok reads.PageLost) new = (failed : Bool) × (new ≡ faults_after old failed)
+FailsOnlyIfLost old (Ok (reads.Records rs)) new = new ≡ old
+FailsOnlyIfLost old (Err e) new = new ≡ old
 
 -- where the page was lost the set is forgotten; else nothing changes
 abbrev pub ReadLeaves : SetsState → ℕ → Result SetRead AllocError → SetsState → Type 0

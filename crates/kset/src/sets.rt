@@ -1,6 +1,7 @@
 // The sets of a lane.
 ghost use Rattle.std.specs.Prelude.{◌≡◌, ◌≢◌, ◌<◌, ◌≤◌, ◌^◌, ℕ, [], List, Option, IfOk, Ok, Some, IsTrue, length, false};
-ghost use Rattle.std.specs.Bool.{OnTrue, OnFalse};
+ghost use Rattle.std.specs.Bool.{OnFalse};
+ghost use Rattle.std.specs.List.{enumerate_from};
 ghost use Rattle.std.specs.FinSet as bits;
 ghost use Rattle.page_device.specs.Frames.{pages_from};
 ghost use Rattle.record_pages.specs.Sizes.{IsPageSize};
@@ -9,10 +10,10 @@ ghost use Rattle.record_pages.specs.PageText.{set_page_text};
 ghost use Rattle.set_hash.specs.Fnv.{fnv1a};
 ghost use Rattle.kset.specs.Notes.{lets_show, notes_of_page};
 ghost use Rattle.kset.specs.Sets.{SetsState, sets_code, set_count, notes_of, opening, struck_in, hit_in, forgotten, next_write, IsPlaceIn};
-ghost use Rattle.kset.specs.Pages.{AreSpelledOn};
+ghost use Rattle.kset.specs.Pages.{AreSpelledOn, page_records};
 ghost use Rattle.kset.specs.Shown.{visible_in, visible_from, with_flags};
 ghost use Rattle.kset.specs.Look.{is_fault, faults_after, LookLeaves, LookGives};
-ghost use Rattle.kset.specs.ReadSet.{is_lost, ReadLeaves, ReadGives};
+ghost use Rattle.kset.specs.ReadSet.{is_lost, FailsOnlyIfLost, ReadLeaves, ReadGives};
 ghost use Rattle.kset.specs.Rewrite.{is_forgotten, after_rewrite};
 
 use crate::looked::Looked;
@@ -88,6 +89,7 @@ impl<const PAGE: usize> KSet<PAGE> {
         ensures faults { D.failures device.new
             ≡ faults_after (D.failures device.old) (is_fault result) }
         ensures leaves { LookLeaves self.old placed.now.set result self.new }
+        ensures sizes { set_count self.new ≡ set_count self.old }
         ensures denied { OnFalse (lets_show (notes_of self.old placed.now.set) placed.now.hash)
             ((result ≡ Ok Looked.Absent) × (device.new ≡ device.old)) }
 
@@ -123,6 +125,7 @@ impl<const PAGE: usize> KSet<PAGE> {
     pub fn strike(&mut self, placed: &Placed)
         requires { IsPlaceIn self.old placed.now }
         ensures struck { self.new ≡ struck_in self.old placed.now.set placed.now.hash }
+        ensures sizes { set_count self.new ≡ set_count self.old }
         ensures hidden { lets_show (notes_of self.new placed.now.set) placed.now.hash ≡ false }
         ensures spelled { (held : ℕ → Option (List ℕ)) → AreSpelledOn PAGE held self.old →
             AreSpelledOn PAGE held self.new }
@@ -134,6 +137,7 @@ impl<const PAGE: usize> KSet<PAGE> {
     pub fn forget(&mut self, set: u32)
         requires { set < set_count self.old }
         ensures forgotten { self.new ≡ forgotten self.old set }
+        ensures sizes { set_count self.new ≡ set_count self.old }
         ensures spelled { (held : ℕ → Option (List ℕ)) → AreSpelledOn PAGE held self.old →
             AreSpelledOn PAGE held self.new }
     {
@@ -155,9 +159,10 @@ impl<const PAGE: usize> KSet<PAGE> {
         // On any device.
         ensures pages { D.page_count device.new ≡ D.page_count device.old }
         ensures honest { D.honest device.new ≡ D.honest device.old }
-        ensures fails_only_if_lost { OnFalse (is_lost result)
-            (D.failures device.new ≡ D.failures device.old) }
+        ensures fails_only_if_lost { FailsOnlyIfLost (D.failures device.old) result
+            (D.failures device.new) }
         ensures leaves { ReadLeaves self.old set result self.new }
+        ensures sizes { set_count self.new ≡ set_count self.old }
         ensures unread { (notes_of self.old set).filter ≡ bits.empty →
             (result ≡ Ok (SetRead.Records [])) × (device.new ≡ device.old) }
 
@@ -209,12 +214,18 @@ impl<const PAGE: usize> KSet<PAGE> {
         ensures faults { D.failures device.new
             ≡ faults_after (D.failures device.old) (is_forgotten result) }
         ensures leaves { self.new ≡ after_rewrite self.old set writer.now result }
+        ensures sizes { set_count self.new ≡ set_count self.old }
 
         // Where it is honest.
-        ensures written { IsTrue (D.honest device.old) → OnFalse (is_forgotten result)
+        ensures text { IsTrue (D.honest device.old) → OnFalse (is_forgotten result)
             (D.held device.new set ≡ Some (set_page_text PAGE set (next_write self.old) writer.now)) }
-        ensures others { IsTrue (D.honest device.old) →
-            (p : ℕ) → p ≢ set → D.held device.new p ≡ D.held device.old p }
+        ensures records { IsTrue (D.honest device.old) → OnFalse (is_forgotten result)
+            (page_records (D.held device.new) self.new set ≡ writer.now) }
+        ensures shown { IsTrue (D.honest device.old) → OnFalse (is_forgotten result)
+            (visible_in (D.held device.new) self.new set ≡ enumerate_from 0 writer.now) }
+        ensures others { IsTrue (D.honest device.old) → (other : ℕ) → other ≢ set →
+            visible_in (D.held device.new) self.new other
+              ≡ visible_in (D.held device.old) self.old other }
         ensures apart { IsTrue (D.honest device.old) →
             pages_from (set_count self.old) (D.held device.new)
               ≡ pages_from (set_count self.old) (D.held device.old) }
