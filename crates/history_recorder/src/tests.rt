@@ -54,15 +54,20 @@ fn calls_are_answered_and_recorded(rt: HostRuntime) -> Result<(), Fail> {
     Ok(())
 }
 
-#[test]
-fn a_removed_and_a_forgotten_key_are_missed(rt: HostRuntime) -> Result<(), Fail> {
-    let alloc = rt.alloc();
+/// A lane with one object, whose put has start 1 and point 2.
+fn with_one(alloc: Global, key: &Key) -> Result<RecordedLane<256>, Fail> {
     let mut lane = RecordedLane::<256>::open(alloc, &small(), 0)?;
+    match lane.put(0, 1, 2, key.try_clone()?, Value::new(alloc, b"1")?, 0) {
+        Ok(_) => Ok(lane),
+        Err(fault) => Err(Fail::from(fault)),
+    }
+}
+
+#[test]
+fn a_removed_key_is_missed(rt: HostRuntime) -> Result<(), Fail> {
+    let alloc = rt.alloc();
     let key = Key::new(alloc, b"ax")?;
-    lane.forget(&key);
-    assert_eq!(rt; lane.last_point(), 0);
-    let first = lane.put(0, 1, 2, key.try_clone()?, Value::new(alloc, b"1")?, 0)?;
-    assert_eq!(rt; first.pushed, Pushed::Nobody);
+    let mut lane = with_one(alloc, &key)?;
     assert!(rt; lane.last_point() < 5);
     let removed = lane.remove(3, 4, 5, &key)?;
     assert!(rt; matches!(&removed.noted.act, Act::Remove));
@@ -70,15 +75,22 @@ fn a_removed_and_a_forgotten_key_are_missed(rt: HostRuntime) -> Result<(), Fail>
     assert!(rt; lane.last_point() < 8);
     let miss = lane.get(0, 7, 8, &key)?;
     assert!(rt; matches!(&miss.answer, Answer::Miss(MissCause::Absent)));
-    assert!(rt; lane.last_point() < 11);
-    let second = lane.put(0, 10, 11, key.try_clone()?, Value::new(alloc, b"2")?, 0)?;
-    assert_eq!(rt; second.pushed, Pushed::Nobody);
-    lane.forget(&key);
-    assert!(rt; lane.last_point() < 14);
-    let miss = lane.get(0, 13, 14, &key)?;
-    assert!(rt; matches!(&miss.answer, Answer::Miss(MissCause::Absent)));
-    assert_eq!(rt; lane.len(), 5);
+    assert_eq!(rt; lane.len(), 3);
     assert!(rt; matches!(&lane.at(1).act, Act::Remove));
+    Ok(())
+}
+
+#[test]
+fn a_forgotten_key_is_missed_and_its_call_stays(rt: HostRuntime) -> Result<(), Fail> {
+    let alloc = rt.alloc();
+    let key = Key::new(alloc, b"ax")?;
+    let mut lane = with_one(alloc, &key)?;
+    lane.forget(&key);
+    lane.forget(&key);
+    assert_eq!(rt; lane.len(), 1);
+    assert!(rt; lane.last_point() < 5);
+    let miss = lane.get(0, 4, 5, &key)?;
+    assert!(rt; matches!(&miss.answer, Answer::Miss(MissCause::Absent)));
     Ok(())
 }
 
