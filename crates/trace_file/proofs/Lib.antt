@@ -3,6 +3,8 @@ pub mod Formats
 pub mod ItemFormats
 pub mod ReaderLaws
 pub mod Readings
+pub mod SendLaws
 pub mod StoreLaws
 pub mod Takings
+pub mod ToldApart
 pub mod TraceLaws

@@ -88,7 +88,7 @@ finishes taken at len pending self view is len-is =
     ∙ ap (at_end (length (stream_of taken pending))) (sym is.stands)
     ∙ ap finished view
 
-ended_ok : (n : ℕ) (r : Result Trace Stop) (t : Trace) → at_end n r ≡ Ok t → r ≡ Ok t
+pub ended_ok : (n : ℕ) (r : Result Trace Stop) (t : Trace) → at_end n r ≡ Ok t → r ≡ Ok t
 ended_ok n (Ok u) t e = cc
 ended_ok n (Err Short) t e = absurd cc
 ended_ok n (Err (Fault f)) t e = absurd cc
@@ -99,7 +99,7 @@ pub finishes_trace : (taken : Taken) (at len : ℕ) (pending : List ℕ) (self :
 finishes_trace taken at len pending self t view is e =
     let read : trace_at (place 0 (stream_of taken pending)) ≡ Ok t = is.stands ∙ ended_ok (at + len) (standing taken.count taken.history taken.certificate) t (sym e) in
     subst (λ (r : Result (List ℕ) TraceFault). IfOk r (λ stream. IsTrace stream t.history t.certificate)) view
-        (trace_takes 0 (stream_of taken pending) t (bytes_from_All (stream_of taken pending) is.are_bytes) read)
+    (trace_takes 0 (stream_of taken pending) t (bytes_from_All (stream_of taken pending) is.are_bytes) read)
 
 cut_by : (w : Bool) (trace : Trace) (n : ℕ) (f : TraceFault) → Err f ≡ at_end n (cond w (Ok trace) (Err Short)) → f ≡ Truncated n
 cut_by true trace n f e = absurd cc

@@ -47,7 +47,7 @@ outcome_by n (Ok t) f e = absurd cc
 outcome_by n (Err Short) f e = absurd cc
 outcome_by n (Err (Fault g)) f e = cc
 
-stopped_by : (r : Result Trace Stop) (f : TraceFault) → met r ≡ Some f → r ≡ Err (Fault f)
+pub stopped_by : (r : Result Trace Stop) (f : TraceFault) → met r ≡ Some f → r ≡ Err (Fault f)
 stopped_by (Ok t) f e = absurd cc
 stopped_by (Err Short) f e = absurd cc
 stopped_by (Err (Fault g)) f e = cc
@@ -125,7 +125,7 @@ module _ {initial now : Option (List ℕ)} {parts : Result (List ℕ) TraceFault
       let at : f ≡ Truncated (length so_far.stream) = subst (λ (r : Result (List ℕ) TraceFault). IfOk r (λ s. f ≡ Truncated (length s))) so_far.fed cut in
       let out : outcome_of so_far.stream ≡ Err (Truncated (length so_far.stream)) = sym (is ∙ ap finished so_far.fed) ∙ ap (λ (g : TraceFault). Err g) at in
       subst (λ (g : TraceFault). IfSome initial (λ bytes. IsFaultOf bytes g)) (sym at)
-          (carried initial so_far.stream (λ bytes. outcome_of bytes ≡ Err (Truncated (length so_far.stream))) (whole_read next took end) out)
+      (carried initial so_far.stream (λ bytes. outcome_of bytes ≡ Err (Truncated (length so_far.stream))) (whole_read next took end) out)
 
   -- a piece had a fault
   pub fault_read : (next : Option (List ℕ)) (f : TraceFault) (chunk : List ℕ) → Consumes now next chunk → IfOk parts (λ s. FaultIn (s ++ chunk) f) → IfSome initial (λ bytes. IsFaultOf bytes f)
@@ -147,4 +147,4 @@ module _ {initial now : Option (List ℕ)} {parts : Result (List ℕ) TraceFault
   pub failed_read : (next : Option (List ℕ)) (at : ℕ) → Keeps now next → IfOk parts (λ s. at ≡ length s) → IfSome initial (λ bytes. IsFaultOf bytes (ReadFault at)) × Leaves initial next (ReadFault at)
   failed_read next at kept at-is =
       behind_front initial next so_far.stream at (Consumes-kept initial now next so_far.stream so_far.consumed kept)
-          (subst (λ (r : Result (List ℕ) TraceFault). IfOk r (λ s. at ≡ length s)) so_far.fed at-is) so_far.faultless
+      (subst (λ (r : Result (List ℕ) TraceFault). IfOk r (λ s. at ≡ length s)) so_far.fed at-is) so_far.faultless

@@ -218,6 +218,7 @@ trace_kind p f e =
           | at_first e' ↦ (many_format position_format n).kind p f e'
           | at_second q e' g ↦ end_is (pair_of cs q.0) q.1 f g
         ]
+
     calls_kind : (n : ℕ) (p : Place) (f : TraceFault) → after_header (n, p) ≡ Err (Fault f) → IsOfText f
     calls_kind n p f e =
         elim (bind_err (many_at call_at n p) (after_calls n) (Fault f) e) [

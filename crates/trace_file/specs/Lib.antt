@@ -3,6 +3,7 @@ pub mod Given
 pub mod Lent
 pub mod Outcome
 pub mod Reading
+pub mod Sending
 pub mod Stored
 pub mod Stream
 pub mod Text

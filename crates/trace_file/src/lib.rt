@@ -12,12 +12,16 @@ mod from_reader;
 mod history;
 mod items;
 mod kind;
+mod laws;
 mod stop;
 mod taken;
 mod taking;
+mod text_buffer;
+mod to_writer;
 mod trace;
 mod trace_fault;
 mod trace_reader;
+mod write_trace_fault;
 
 pub use act::Act;
 pub use act_ref::ActRef;
@@ -26,6 +30,12 @@ pub use call_ref::CallRef;
 pub use certificate::Certificate;
 pub use from_reader::read_trace;
 pub use history::History;
+pub use laws::{fault_laws, trace_laws};
+pub use to_writer::write_trace;
 pub use trace::Trace;
 pub use trace_fault::TraceFault;
 pub use trace_reader::TraceReader;
+pub use write_trace_fault::WriteTraceFault;
+
+#[cfg(test)]
+mod tests;

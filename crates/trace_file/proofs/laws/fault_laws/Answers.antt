@@ -1,0 +1,14 @@
+use Rattle.trace_file.proofs.ToldApart as told
+use Rattle.trace_file.proofs.laws.fault_laws.Goals as goal
+
+pub returns-clause-stays : goal.returns-clause-stays
+returns-clause-stays c = told.stays
+
+pub returns-clause-no_trace : goal.returns-clause-no_trace
+returns-clause-no_trace c = told.no_trace
+
+pub returns-clause-trailing : goal.returns-clause-trailing
+returns-clause-trailing c = told.trailing
+
+pub returns-clause-cut : goal.returns-clause-cut
+returns-clause-cut c = told.cut

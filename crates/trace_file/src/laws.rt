@@ -1,0 +1,44 @@
+// Laws of traces and of their faults, over all histories, certificates and bytes.
+ghost use Rattle.std.specs.Prelude.{◌≡◌, ◌≢◌, ◌↔◌, ◌<◌, ◌++◌, [], Ok, Err, Some, All, List, ℕ, length};
+ghost use Rattle.trace_file.specs.declared.call.Call.{Call};
+ghost use Rattle.trace_file.specs.declared.trace.Trace.{Trace};
+ghost use Rattle.trace_file.specs.declared.trace_fault.TraceFault.{TraceFault};
+ghost use Rattle.trace_file.specs.declared.trace_fault.TraceFault.TheVariants.{Truncated, TrailingBytes};
+ghost use Rattle.trace_file.specs.Reading.{outcome_of, first_fault_of};
+ghost use Rattle.trace_file.specs.Stream.{pair_of};
+ghost use Rattle.trace_file.specs.Text.{IsPair, IsTrace, trace_text};
+
+/// Traces tell their pairs apart: a pair has one text, a text one pair, no text begins another, and
+/// what was written is read back.
+pub fn trace_laws()
+    ensures read_back { (history : List Call) (certificate : List ℕ) → IsPair history certificate →
+        outcome_of (trace_text history certificate) ≡ Ok (pair_of history certificate) }
+    ensures exactly { (bytes : List ℕ) (trace : Trace) → All (λ byte. byte < 256) bytes →
+        ((outcome_of bytes ≡ Ok trace) ↔ IsTrace bytes trace.history trace.certificate) }
+    ensures one_text { (bytes others : List ℕ) (history : List Call) (certificate : List ℕ) →
+        IsTrace bytes history certificate → IsTrace others history certificate → bytes ≡ others }
+    ensures one_pair { (bytes : List ℕ) (history other : List Call) (certificate certificate' : List ℕ) →
+        IsTrace bytes history certificate → IsTrace bytes other certificate' →
+        (history ≡ other) × (certificate ≡ certificate') }
+    ensures no_front { (bytes more : List ℕ) (history other : List Call) (certificate certificate' : List ℕ) →
+        IsTrace bytes history certificate → IsTrace (bytes ++ more) other certificate' → more ≡ [] }
+{}
+
+/// What the faults of bytes say of them.
+pub fn fault_laws()
+    // A fault that was met stays, whatever follows: no trace begins so.
+    ensures stays { (bytes more : List ℕ) (fault : TraceFault) → All (λ byte. byte < 256) bytes →
+        first_fault_of bytes ≡ Some fault → first_fault_of (bytes ++ more) ≡ Some fault }
+    ensures no_trace { (bytes more : List ℕ) (fault : TraceFault) (history : List Call) (certificate : List ℕ) →
+        All (λ byte. byte < 256) bytes → first_fault_of bytes ≡ Some fault →
+        ¬ IsTrace (bytes ++ more) history certificate }
+
+    // Bytes behind a trace are found at its end, and a trace that is cut ends too early.
+    ensures trailing { (history : List Call) (certificate : List ℕ) (more : List ℕ) →
+        IsPair history certificate → more ≢ [] →
+        outcome_of (trace_text history certificate ++ more)
+        ≡ Err (TrailingBytes (length (trace_text history certificate))) }
+    ensures cut { (bytes more : List ℕ) (history : List Call) (certificate : List ℕ) →
+        All (λ byte. byte < 256) bytes → IsTrace (bytes ++ more) history certificate → more ≢ [] →
+        outcome_of bytes ≡ Err (Truncated (length bytes)) }
+{}

@@ -1,0 +1,238 @@
+// Traces in bytes that were made by hand, faults with their offsets, and readers and writers that fail.
+use super::*;
+use record_pages::{Key, Value};
+use std::alloc::Global;
+use std::io;
+use std::io::{Read, Write};
+use std::process::Abort;
+use std::test::Fail;
+
+/// One put of `1` at `a`, from stamp 1 to stamp 3, by caller 0, and its certificate.
+const ONE_PUT: [u8; 40] = [
+    0x4b, 0x47, 0x54, 0x52, 0x41, 0x43, 0x45, 0x31, 0, 0, 0, 1, 1, 0, 0, 0, 0, 0, 0, 0, 0, 0, 1, 0,
+    0, 0, 0, 0, 0, 0, 3, 1, 0x61, 0, 1, 0x31, 0, 0, 0, 0,
+];
+
+/// No call.
+const EMPTY: [u8; 12] = [0x4b, 0x47, 0x54, 0x52, 0x41, 0x43, 0x45, 0x31, 0, 0, 0, 0];
+
+/// The fault that these bytes give.
+fn fault_of(alloc: Global, bytes: &[u8]) -> Option<TraceFault> {
+    let mut reader = bytes;
+    read_trace(alloc, &mut reader).err()
+}
+
+/// A reader that gives at most so many bytes at a time, and fails once before a byte.
+#[derive(Drop)]
+struct Uneven<'a> {
+    bytes: &'a [u8],
+    most: usize,
+    fails_before: usize,
+}
+
+impl Read for Uneven<'_> {
+    fn read(&mut self, buf: &mut [u8]) -> io::Result<usize> {
+        if self.fails_before == 0 {
+            self.fails_before = usize::MAX;
+            return Err(io::Error::from(io::ErrorKind::Interrupted));
+        }
+        let count = self
+            .bytes
+            .len()
+            .min(buf.len())
+            .min(self.most)
+            .min(self.fails_before);
+        let (front, rest) = self.bytes.split_at(count);
+        buf[..count].copy_from_slice(front);
+        self.bytes = rest;
+        self.fails_before -= count;
+        Ok(count)
+    }
+}
+
+/// A writer that takes so many bytes and then fails once.
+#[derive(Drop)]
+struct Limited {
+    room: usize,
+}
+
+impl Write for Limited {
+    fn write(&mut self, buf: &[u8]) -> io::Result<usize> {
+        if self.room == 0 {
+            self.room = usize::MAX;
+            return Err(io::Error::from(io::ErrorKind::Interrupted));
+        }
+        let count = buf.len().min(self.room);
+        self.room -= count;
+        Ok(count)
+    }
+
+    fn flush(&mut self) -> io::Result<()> {
+        Ok(())
+    }
+}
+
+/// Asserts that the trace is that of `ONE_PUT`, read and written again.
+fn is_one_put(rt: &(impl Abort + AllocGlobal), trace: Trace) -> Result<(), Fail> {
+    assert_eq!(rt; trace.history.len(), 1);
+    assert_eq!(rt; trace.certificate.len(), 1);
+    let call = trace.history.at(0);
+    assert_eq!(rt; (call.caller, call.start, call.end), (0, 1, 3));
+    assert_eq!(rt; call.key, b"a".as_slice());
+    assert!(rt; matches!(call.act, ActRef::Put(b"1")));
+    assert_eq!(rt; trace.certificate.at(0), 0);
+    let mut written = Vec::new(rt.alloc());
+    write_trace(&trace.history, &trace.certificate, &mut written)?;
+    assert_eq!(rt; written.as_slice(), ONE_PUT.as_slice());
+    Ok(())
+}
+
+#[test]
+fn one_put_is_read_and_written_again(rt: HostRuntime) -> Result<(), Fail> {
+    let mut reader = ONE_PUT.as_slice();
+    let trace = read_trace(rt.alloc(), &mut reader)?;
+    is_one_put(&rt, trace)
+}
+
+#[test]
+fn a_trace_cut_anywhere_is_truncated_there(rt: HostRuntime) {
+    for len in 0..ONE_PUT.len() {
+        let whole = ONE_PUT.as_slice();
+        let want = Some(TraceFault::Truncated { at: len as u64 });
+        assert_eq!(rt; fault_of(rt.alloc(), &whole[..len]), want, "at {len}");
+    }
+    assert_eq!(rt; fault_of(rt.alloc(), &ONE_PUT), None);
+    assert_eq!(rt; fault_of(rt.alloc(), &EMPTY), None);
+}
+
+#[test]
+fn each_fault_has_its_offset(rt: HostRuntime) {
+    let faults = [
+        (0, 0x4c, TraceFault::BadMagic { at: 0 }),
+        (1, 0, TraceFault::BadMagic { at: 1 }),
+        (2, 0, TraceFault::BadMagic { at: 2 }),
+        (3, 0, TraceFault::BadMagic { at: 3 }),
+        (4, 0, TraceFault::BadMagic { at: 4 }),
+        (5, 0, TraceFault::BadMagic { at: 5 }),
+        (6, 0, TraceFault::BadMagic { at: 6 }),
+        (7, 0x39, TraceFault::BadMagic { at: 7 }),
+        (8, 0x10, TraceFault::TooMany { at: 8 }),
+        (12, 0, TraceFault::BadKind { at: 12 }),
+        (12, 5, TraceFault::BadKind { at: 12 }),
+        (31, 0, TraceFault::BadKey { at: 31 }),
+        (33, 8, TraceFault::BadValue { at: 33 }),
+        (12, 2, TraceFault::TrailingBytes { at: 37 }),
+        (11, 2, TraceFault::BadKind { at: 36 }),
+    ];
+    for (at, byte, want) in faults {
+        let mut bytes = ONE_PUT;
+        if at < bytes.len() {
+            bytes[at] = byte;
+        }
+        assert_eq!(rt; fault_of(rt.alloc(), &bytes), Some(want), "{byte} at {at}");
+    }
+}
+
+#[test]
+fn pieces_give_what_the_whole_gives(rt: HostRuntime) -> Result<(), Fail> {
+    let mut by_byte = TraceReader::new(rt.alloc());
+    for at in 0..ONE_PUT.len() {
+        by_byte.feed(&ONE_PUT[at..at + 1])?;
+    }
+    assert_eq!(rt; by_byte.bytes_fed(), 40);
+    is_one_put(&rt, by_byte.finish()?)?;
+    let mut in_sevens = TraceReader::new(rt.alloc());
+    in_sevens.feed(&ONE_PUT[..7])?;
+    in_sevens.feed(&ONE_PUT[7..14])?;
+    in_sevens.feed(&ONE_PUT[14..21])?;
+    in_sevens.feed(&ONE_PUT[21..28])?;
+    in_sevens.feed(&ONE_PUT[28..35])?;
+    in_sevens.feed(&ONE_PUT[35..])?;
+    is_one_put(&rt, in_sevens.finish()?)?;
+    Ok(())
+}
+
+#[test]
+fn a_fault_in_pieces_stays(rt: HostRuntime) -> Result<(), Fail> {
+    let mut parts = TraceReader::new(rt.alloc());
+    parts.feed(&ONE_PUT[..9])?;
+    assert_eq!(rt; parts.finish().err(), Some(TraceFault::Truncated { at: 9 }));
+    let mut parts = TraceReader::new(rt.alloc());
+    parts.feed(&EMPTY)?;
+    let trailing = TraceFault::TrailingBytes { at: 12 };
+    assert_eq!(rt; parts.feed(&[0]), Err(trailing));
+    assert_eq!(rt; parts.feed(&[]), Err(trailing));
+    assert_eq!(rt; parts.finish().err(), Some(trailing));
+    Ok(())
+}
+
+#[test]
+fn a_failed_read_is_not_tried_again(rt: HostRuntime) {
+    for (most, fails_before, want) in [
+        (4096, 0, Some(TraceFault::ReadFault { at: 0 })),
+        (4096, 20, Some(TraceFault::ReadFault { at: 20 })),
+        (1, 40, Some(TraceFault::ReadFault { at: 40 })),
+        (1, usize::MAX, None),
+    ] {
+        let mut reader = Uneven {
+            bytes: ONE_PUT.as_slice(),
+            most,
+            fails_before,
+        };
+        let result = read_trace(rt.alloc(), &mut reader).err();
+        assert_eq!(rt; result, want, "before byte {fails_before}");
+    }
+}
+
+#[test]
+fn a_write_that_fails_is_a_write_fault(rt: HostRuntime) -> Result<(), Fail> {
+    let mut reader = ONE_PUT.as_slice();
+    let mut trace = read_trace(rt.alloc(), &mut reader)?;
+    for (room, want) in [
+        (0, Err(WriteTraceFault::WriteFault)),
+        (39, Err(WriteTraceFault::WriteFault)),
+        (41, Ok(())),
+    ] {
+        let mut writer = Limited { room };
+        let result = write_trace(&trace.history, &trace.certificate, &mut writer);
+        assert_eq!(rt; result, want, "with room for {room}");
+    }
+    trace.certificate.push(0)?;
+    let mut written = Vec::new(rt.alloc());
+    let result = write_trace(&trace.history, &trace.certificate, &mut written);
+    assert_eq!(rt; result, Err(WriteTraceFault::WrongCount));
+    assert!(rt; written.is_empty());
+    Ok(())
+}
+
+#[test]
+fn calls_of_each_kind_come_back(rt: HostRuntime) -> Result<(), Fail> {
+    let mut history = History::new(rt.alloc());
+    let mut certificate = Certificate::new(rt.alloc());
+    for number in 0..4000u32 {
+        let value = Value::new(rt.alloc(), [(number % 256) as u8; 2048].as_slice())?;
+        let act = match number % 4 {
+            0 => Act::Put(value),
+            1 => Act::Remove,
+            2 => Act::Hit(value),
+            _ => Act::Miss,
+        };
+        history.push(Call {
+            caller: 7,
+            start: u64::from(number),
+            end: u64::from(number) + 1,
+            key: Key::new(rt.alloc(), [b'k'; 255].as_slice())?,
+            act,
+        })?;
+        certificate.push(number)?;
+    }
+    let mut written = Vec::new(rt.alloc());
+    write_trace(&history, &certificate, &mut written)?;
+    let mut reader = written.as_slice();
+    let trace = read_trace(rt.alloc(), &mut reader)?;
+    assert_eq!(rt; trace.history.len(), 4000);
+    let mut again = Vec::new(rt.alloc());
+    write_trace(&trace.history, &trace.certificate, &mut again)?;
+    assert!(rt; again.as_slice() == written.as_slice());
+    Ok(())
+}
