@@ -1,5 +1,5 @@
 -- The line on a reader's bytes, by what was read of them; and that bytes have one verdict line.
-use Rattle.std.proofs.Common.{◌≡◌, ◌≢◌, ℕ, List, ◌++◌, length, take, Option, Some, None, Result, Ok, Err, refl, sym, ap, ◌∙◌, subst, inl, inr, ◌⊎◌}
+use Rattle.std.proofs.Common.{◌≡◌, ◌≢◌, ℕ, List, length, Option, Some, None, Result, Ok, Err, refl, sym, ap, ◌∙◌, subst, inl, inr, ◌⊎◌}
 use Rattle.std.specs.Prelude.{IfSome}
 use Rattle.trace_file.specs.declared.trace.Trace.{Trace}
 use Rattle.trace_file.specs.declared.trace_fault.TraceFault.{TraceFault}
@@ -8,7 +8,6 @@ use Rattle.trace_file.specs.Reading.{outcome_of, at_end, trace_at, place}
 use Rattle.trace_file.specs.Text.{IsTrace}
 use Rattle.trace_file.proofs.TraceLaws.{trace_again}
 use Rattle.trace_file.specs.Outcome.{IsFaultOf, Leaves}
-use Rattle.certificate_checker.specs.declared.fault.Fault.{Fault}
 use Rattle.certificate_checker.specs.declared.judged.Judged.{Judged}
 use Rattle.certificate_checker.specs.declared.judged.Judged.TheVariants as kinds
 use Rattle.certificate_checker.specs.declared.verdict.Verdict.{Verdict}
