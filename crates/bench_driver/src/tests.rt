@@ -1,5 +1,7 @@
 // Whole scripts, with the replies that they must get, and readers and writers that fail.
+use crate::check_status;
 use crate::command_line::parse_line;
+use crate::file_name::FileName;
 use crate::line::Line;
 use crate::line_fault::LineFault;
 use crate::script::run_script;
@@ -284,6 +286,15 @@ fn command_lines_are_read(rt: HostRuntime) -> Result<(), Fail> {
         ("usage", true)
     );
     assert_eq!(rt; asked(alloc, &["bench", "--help"])?, ("help", true));
+    Ok(())
+}
+
+#[test]
+fn what_is_no_file_is_no_trace(rt: HostRuntime) -> Result<(), Fail> {
+    let absent = FileName::new(rt.alloc(), "there is no such file")?;
+    assert_eq!(rt; check_status(&rt, &absent), 3);
+    let folder = FileName::new(rt.alloc(), ".")?;
+    assert_eq!(rt; check_status(&rt, &folder), 2);
     Ok(())
 }
 
