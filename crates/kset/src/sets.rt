@@ -184,12 +184,10 @@ impl<const PAGE: usize> KSet<PAGE> {
         }
         let mut bytes = [0u8; PAGE];
         let Ok(()) = device.read(set, &mut bytes) else {
-            self.forget(set);
-            return Ok(SetRead::PageLost);
+            return Ok(self.lose(set));
         };
         let Some(page) = page_of(&bytes, set) else {
-            self.forget(set);
-            return Ok(SetRead::PageLost);
+            return Ok(self.lose(set));
         };
         let records = visible(alloc, &self.layout, self.notes(set), page.records())?;
         Ok(SetRead::Records(records))
@@ -242,6 +240,18 @@ impl<const PAGE: usize> KSet<PAGE> {
         };
         self.sets[set as usize] = SetNotes::of_page(&self.layout, writer.records());
         Rewritten::Written
+    }
+
+    // Forgets a set whose page was lost.
+    fn lose(&mut self, lost: u32) -> SetRead
+        requires { lost < set_count self.old }
+        ensures lost { result ≡ SetRead.PageLost }
+        ensures forgotten { self.new ≡ forgotten self.old lost }
+        ensures spelled { (held : ℕ → Option (List ℕ)) → AreSpelledOn PAGE held self.old →
+            AreSpelledOn PAGE held self.new }
+    {
+        self.forget(lost);
+        SetRead::PageLost
     }
 
     // Notes a hit in a slot of a set.
