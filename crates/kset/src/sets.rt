@@ -98,7 +98,7 @@ impl<const PAGE: usize> KSet<PAGE> {
         ensures gives { IsTrue (D.honest device.old) →
             AreSpelledOn PAGE (D.held device.old) self.old →
             IfOk result (λ r. LookGives (visible_in (D.held device.old) self.old placed.now.set)
-              key.now self.old placed.now.set r self.new) }
+            key.now self.old placed.now.set r self.new) }
         ensures spelled { IsTrue (D.honest device.old) →
             AreSpelledOn PAGE (D.held device.old) self.old →
             AreSpelledOn PAGE (D.held device.new) self.new }
@@ -174,7 +174,7 @@ impl<const PAGE: usize> KSet<PAGE> {
         ensures gives { IsTrue (D.honest device.old) →
             AreSpelledOn PAGE (D.held device.old) self.old →
             IfOk result (ReadGives (with_flags (notes_of self.old set)
-              (visible_in (D.held device.old) self.old set))) }
+            (visible_in (D.held device.old) self.old set))) }
         ensures spelled { IsTrue (D.honest device.old) →
             AreSpelledOn PAGE (D.held device.old) self.old →
             AreSpelledOn PAGE (D.held device.new) self.new }
@@ -223,10 +223,10 @@ impl<const PAGE: usize> KSet<PAGE> {
             (visible_in (D.held device.new) self.new set ≡ enumerate_from 0 writer.now) }
         ensures others { IsTrue (D.honest device.old) → (other : ℕ) → other ≢ set →
             visible_in (D.held device.new) self.new other
-              ≡ visible_in (D.held device.old) self.old other }
+            ≡ visible_in (D.held device.old) self.old other }
         ensures apart { IsTrue (D.honest device.old) →
             pages_from (set_count self.old) (D.held device.new)
-              ≡ pages_from (set_count self.old) (D.held device.old) }
+            ≡ pages_from (set_count self.old) (D.held device.old) }
         ensures spelled { IsTrue (D.honest device.old) →
             AreSpelledOn PAGE (D.held device.old) self.old →
             AreSpelledOn PAGE (D.held device.new) self.new }

@@ -125,16 +125,22 @@ fn written_records_are_found_until_they_are_struck_or_forgotten(
     assert_eq!(rt; owner.rewrite(&first, &writer), Rewritten::Written);
     is(&rt, found(alloc, &mut owner, b"ax")?, b"1");
     is(&rt, listed(alloc, &mut owner, b"ax")?, b"ax* bx ");
-    is(&rt, told(alloc, owner.strike_and_look(alloc, &second)?)?, b"absent");
+    is(
+        &rt,
+        told(alloc, owner.strike_and_look(alloc, &second)?)?,
+        b"absent",
+    );
     is(&rt, listed(alloc, &mut owner, b"ax")?, b"ax* ");
     owner.forget(&first);
     is(&rt, found(alloc, &mut owner, b"ax")?, b"absent");
     is(&rt, listed(alloc, &mut owner, b"ax")?, b"");
     assert_eq!(rt; owner.rewrite(&first, &writer), Rewritten::Forgotten);
-    assert!(rt; matches!(
-        &owner.rewrite_and_look(alloc, &second, &writer)?,
-        Some(Looked::Hit(_))
-    ));
+    assert!(rt;
+        matches!(
+            &owner.rewrite_and_look(alloc, &second, &writer)?,
+            Some(Looked::Hit(_))
+        )
+    );
     Ok(())
 }
 
@@ -173,7 +179,10 @@ fn a_page_that_is_not_the_sets_is_damaged(rt: HostRuntime) -> Result<(), Fail> {
     let alloc = rt.alloc();
     let mut owner: Owner<BlankDevice, 256> = sets(alloc, BlankDevice(1))?;
     let first = Key::new(alloc, b"ax")?;
-    assert_eq!(rt; owner.rewrite(&first, &page(alloc, &PAIR)?), Rewritten::Written);
+    assert_eq!(rt;
+        owner.rewrite(&first, &page(alloc, &PAIR)?),
+        Rewritten::Written
+    );
     is(&rt, found(alloc, &mut owner, b"ax")?, b"damaged");
     is(&rt, listed(alloc, &mut owner, b"ax")?, b"lost");
     is(&rt, found(alloc, &mut owner, b"ax")?, b"absent");
@@ -200,7 +209,10 @@ fn the_ninth_strike_forgets_the_set(rt: HostRuntime) -> Result<(), Fail> {
     let mut owner: Owner<Fused, 256> = sets(alloc, FuseDevice::one(device(alloc)?, 0))?;
     let writer = page(alloc, &ELEVEN)?;
     assert_eq!(rt; writer.len(), 11);
-    assert_eq!(rt; owner.rewrite(&Key::new(alloc, b"ax")?, &writer), Rewritten::Written);
+    assert_eq!(rt;
+        owner.rewrite(&Key::new(alloc, b"ax")?, &writer),
+        Rewritten::Written
+    );
     for (key, _) in &ELEVEN[..8] {
         owner.strike(&Key::new(alloc, *key)?);
     }
@@ -235,7 +247,10 @@ fn a_strike_goes_by_the_filters_answer(rt: HostRuntime) -> Result<(), Fail> {
     let alloc = rt.alloc();
     let mut owner: Owner<Fused, 256> = sets(alloc, FuseDevice::one(device(alloc)?, 0))?;
     let writer = page(alloc, &ELEVEN)?;
-    assert_eq!(rt; owner.rewrite(&Key::new(alloc, b"ax")?, &writer), Rewritten::Written);
+    assert_eq!(rt;
+        owner.rewrite(&Key::new(alloc, b"ax")?, &writer),
+        Rewritten::Written
+    );
     owner.strike(&false_positive(alloc)?);
     for (key, _) in &ELEVEN[..7] {
         owner.strike(&Key::new(alloc, *key)?);
@@ -251,11 +266,17 @@ fn the_first_of_two_records_with_a_key_is_found(rt: HostRuntime) -> Result<(), F
     let alloc = rt.alloc();
     let mut owner: Owner<Fused, 256> = sets(alloc, FuseDevice::one(device(alloc)?, 0))?;
     let writer = page(alloc, &[(b"ab", b"1"), (b"cd", b"2"), (b"cd", b"3")])?;
-    assert_eq!(rt; owner.rewrite(&Key::new(alloc, b"cd")?, &writer), Rewritten::Written);
+    assert_eq!(rt;
+        owner.rewrite(&Key::new(alloc, b"cd")?, &writer),
+        Rewritten::Written
+    );
     is(&rt, found(alloc, &mut owner, b"cd")?, b"2");
     is(&rt, listed(alloc, &mut owner, b"cd")?, b"ab cd* cd ");
     // A rewriting clears the hits.
-    assert_eq!(rt; owner.rewrite(&Key::new(alloc, b"cd")?, &writer), Rewritten::Written);
+    assert_eq!(rt;
+        owner.rewrite(&Key::new(alloc, b"cd")?, &writer),
+        Rewritten::Written
+    );
     is(&rt, listed(alloc, &mut owner, b"cd")?, b"ab cd cd ");
     Ok(())
 }
@@ -267,7 +288,10 @@ fn the_last_of_64_slots_is_hit(rt: HostRuntime) -> Result<(), Fail> {
     let mut pairs: Vec<(&[u8], &[u8])> = vec![in alloc; (b"a".as_slice(), b"1".as_slice()); 63]?;
     pairs.push((b"b", b"2"))?;
     let last = Key::new(alloc, b"b")?;
-    assert_eq!(rt; owner.rewrite(&last, &page(alloc, &pairs)?), Rewritten::Written);
+    assert_eq!(rt;
+        owner.rewrite(&last, &page(alloc, &pairs)?),
+        Rewritten::Written
+    );
     is(&rt, found(alloc, &mut owner, b"b")?, b"2");
     let SetRead::Records(records) = owner.read(alloc, &last)? else {
         return Err("a lost page".into());

@@ -74,7 +74,7 @@ impl<D: PageDevice<PAGE>, const PAGE: usize> Owner<D, PAGE> {
         requires { IsPageSize PAGE }
         ensures { IsTrue (D.honest self.old.device) →
             pages_from (set_count self.old.sets) (D.held self.new.device)
-              ≡ pages_from (set_count self.old.sets) (D.held self.old.device) }
+            ≡ pages_from (set_count self.old.sets) (D.held self.old.device) }
     {
         let placed = place(&self.layout, key.bytes());
         self.sets.rewrite(&mut self.device, placed.set, writer)
@@ -92,13 +92,11 @@ impl<D: PageDevice<PAGE>, const PAGE: usize> Owner<D, PAGE> {
             IfOk result (IsFoundIn (first_with key.now writer.now)) }
     {
         let placed = place(&self.layout, key.bytes());
-        if self.sets.rewrite(&mut self.device, placed.set, writer) == Rewritten::Forgotten {
+        let Rewritten::Written = self.sets.rewrite(&mut self.device, placed.set, writer) else {
             return Ok(None);
-        }
-        match self.sets.look(alloc, &mut self.device, &placed, key) {
-            Ok(looked) => Ok(Some(looked)),
-            Err(refused) => Err(refused),
-        }
+        };
+        let looked = self.sets.look(alloc, &mut self.device, &placed, key)?;
+        Ok(Some(looked))
     }
 
     /// Strikes a key, and looks it up: it is absent, on any device.
@@ -108,9 +106,6 @@ impl<D: PageDevice<PAGE>, const PAGE: usize> Owner<D, PAGE> {
     {
         let placed = place(&self.layout, key.bytes());
         self.sets.strike(&placed);
-        match self.sets.look(alloc, &mut self.device, &placed, key) {
-            Ok(looked) => Ok(looked),
-            Err(refused) => Err(refused),
-        }
+        self.sets.look(alloc, &mut self.device, &placed, key)
     }
 }
