@@ -1,3 +1,4 @@
 pub mod NotesLaws
 pub mod PageNotes
 pub mod LookLaws
+pub mod OwnerLaws

@@ -1,7 +1,7 @@
 -- What a page says of a key, and what of it is visible.
-use Rattle.std.proofs.Common.{◌≡◌, ◌≢◌, ℕ, ◌+◌, ◌<◌, ◌≤◌, Bool, true, false, ◌&&◌, cond, not, List, [], ◌∷◌, length, Option, Some, None, refl, sym, ap, subst, ◌∙◌, arith}
+use Rattle.std.proofs.Common.{◌≡◌, ◌≢◌, ℕ, ◌+◌, ◌<◌, Bool, true, false, cond, List, [], ◌∷◌, length, Option, Some, None, refl, sym, ap, subst, ◌∙◌, arith}
 use Rattle.std.proofs.lemmas.Bool.{false≢true, and_parts, eq-eqb, lt-ltb}
-use Rattle.std.specs.Prelude.{IsSomeAnd, IfSome}
+use Rattle.std.specs.Prelude.{IsSomeAnd}
 use Rattle.std.specs.Option.{option_map_or}
 use Rattle.std.specs.FinSet.{empty}
 use Rattle.std.specs.Cmp.Lexicographic.{same_text}
@@ -44,14 +44,14 @@ first_visible-shown notes key shows slot (r ∷ rs) =
     let found : Bool → Bool → Option (ℕ × Rec) =
     λ (visible has : Bool). first_visible (cond visible ((slot, r) ∷ visible_from notes (slot + 1) rs) (visible_from notes (slot + 1) rs)) key in
     elim (is_visible notes (slot, r)) as (λ v. is_visible notes (slot, r) ≡ v →
-      first_visible (cond v ((slot, r) ∷ visible_from notes (slot + 1) rs) (visible_from notes (slot + 1) rs)) key
-        ≡ cond (has_key key r) (Some (slot, r)) (first_from (slot + 1) key rs)) [
+    first_visible (cond v ((slot, r) ∷ visible_from notes (slot + 1) rs) (visible_from notes (slot + 1) rs)) key
+    ≡ cond (has_key key r) (Some (slot, r)) (first_from (slot + 1) key rs)) [
       | true ↦ λ _. ap (cond (has_key key r) (Some (slot, r))) later
       | false ↦ λ hidden. elim (has_key key r) as (λ h. has_key key r ≡ h →
-        first_visible (visible_from notes (slot + 1) rs) key ≡ cond h (Some (slot, r)) (first_from (slot + 1) key rs)) [
-        | true ↦ λ has. absurd (false≢true (sym hidden ∙ ap (λ (k : List ℕ). lets_show notes (fnv1a k)) (has_key-true key r has) ∙ shows))
-        | false ↦ λ _. later
-      ] refl
+          first_visible (visible_from notes (slot + 1) rs) key ≡ cond h (Some (slot, r)) (first_from (slot + 1) key rs)) [
+            | true ↦ λ has. absurd (false≢true (sym hidden ∙ ap (λ (k : List ℕ). lets_show notes (fnv1a k)) (has_key-true key r has) ∙ shows))
+            | false ↦ λ _. later
+          ] refl
     ] refl
 
 -- no record of a key that can't show is visible
@@ -61,12 +61,12 @@ first_visible-hidden notes key hidden slot [] = refl
 first_visible-hidden notes key hidden slot (r ∷ rs) =
     let later = first_visible-hidden notes key hidden (slot + 1) rs in
     elim (is_visible notes (slot, r)) as (λ v. is_visible notes (slot, r) ≡ v →
-      first_visible (cond v ((slot, r) ∷ visible_from notes (slot + 1) rs) (visible_from notes (slot + 1) rs)) key ≡ None) [
+    first_visible (cond v ((slot, r) ∷ visible_from notes (slot + 1) rs) (visible_from notes (slot + 1) rs)) key ≡ None) [
       | true ↦ λ visible. elim (has_key key r) as (λ h. has_key key r ≡ h →
-        cond h (Some (slot, r)) (first_visible (visible_from notes (slot + 1) rs) key) ≡ None) [
-        | true ↦ λ has. absurd (false≢true (sym hidden ∙ ap (λ (k : List ℕ). lets_show notes (fnv1a k)) (sym (has_key-true key r has)) ∙ visible))
-        | false ↦ λ _. later
-      ] refl
+          cond h (Some (slot, r)) (first_visible (visible_from notes (slot + 1) rs) key) ≡ None) [
+            | true ↦ λ has. absurd (false≢true (sym hidden ∙ ap (λ (k : List ℕ). lets_show notes (fnv1a k)) (sym (has_key-true key r has)) ∙ visible))
+            | false ↦ λ _. later
+          ] refl
       | false ↦ λ _. later
     ] refl
 

@@ -1,7 +1,6 @@
 -- Filters, strikes and hits as sets of numbers.
-use Rattle.std.proofs.Common.{◌≡◌, ◌≢◌, ℕ, ◌+◌, ◌≤◌, ◌<◌, Bool, true, false, ◌&&◌, ◌||◌, not, cond, List, [], ◌∷◌, ◌++◌, length, take, map, refl, sym, ap, subst, ◌∙◌, arith}
+use Rattle.std.proofs.Common.{◌≡◌, ◌≢◌, ℕ, ◌+◌, ◌≤◌, ◌<◌, Bool, true, false, ◌&&◌, ◌||◌, not, cond, List, [], ◌∷◌, length, take, refl, sym, ap, ◌∙◌, arith}
 use Rattle.std.proofs.lemmas.Bool.{false≢true, and_parts, eq-eqb, eqb-true}
-use Rattle.std.proofs.lemmas.Bool.Decides.{nat_tests}
 use Rattle.std.specs.Prelude.{nat_le}
 use Rattle.std.specs.List.{list_all}
 use Rattle.std.specs.Ordering.{nat_cmp}
@@ -9,13 +8,10 @@ use Rattle.std.specs.Cmp.{nat_cmp_total}
 use Rattle.std.proofs.Math.ListN.{set}
 use Rattle.std.proofs.lemmas.List.{take_more_set, get_or-set_same}
 use Rattle.std.proofs.lemmas.Bool.{le-leb}
-use Rattle.std.specs.FinSet.{FinSet, empty, contains, insert, len, from_list, from_list_push, contains-empty, contains-insert, len-insert, same_set, nat_cmp-IsAntisymmetric}
-use Rattle.bloom.specs.Filter.{admits, with_bits, filter_of}
+use Rattle.std.specs.FinSet.{FinSet, empty, contains, insert, len, from_list, from_list_push, contains-empty, len-insert, nat_cmp-IsAntisymmetric}
+use Rattle.bloom.specs.Filter.{admits}
 use Rattle.bloom.proofs.BitLaws.{same_numbers, contains-insert_nat}
-use Rattle.bloom.proofs.FilterLaws.{filter_of-push}
-use Rattle.set_hash.specs.Fnv.{fnv1a}
 use Rattle.set_hash.specs.Place.{probes_of, probe_of}
-use Rattle.record_pages.specs.Recs.{Rec}
 use Rattle.kset.specs.Notes.{Notes, no_notes, lets_show, struck}
 use Rattle.kset.specs.Sets.{SetsState, set_count, notes_of, with_notes, struck_in}
 
@@ -76,7 +72,7 @@ struck-hidden notes hash =
     let added : Notes = record notes { strikes = insert notes.strikes hash } in
     let there : contains (insert notes.strikes hash) hash ≡ true = contains-insert_nat notes.strikes hash hash ∙ ap (λ b. b || contains notes.strikes hash) (eq-eqb hash hash refl) in
     elim (admits notes.filter (probes_of hash)) as (λ v. admits notes.filter (probes_of hash) ≡ v →
-      lets_show (cond (not v) notes (cond (nat_le (len (insert notes.strikes hash)) 8) added no_notes)) hash ≡ false) [
+    lets_show (cond (not v) notes (cond (nat_le (len (insert notes.strikes hash)) 8) added no_notes)) hash ≡ false) [
       | true ↦ λ _. elim (nat_le (len (insert notes.strikes hash)) 8) as (λ v. lets_show (cond v added no_notes) hash ≡ false) [
         | true ↦ ap (λ b. admits notes.filter (probes_of hash) && not b) there ∙ and-false _
         | false ↦ lets_show-empty no_notes hash refl

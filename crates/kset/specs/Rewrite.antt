@@ -1,5 +1,5 @@
 -- What a rewriting of a set does.
-use Rattle.std.specs.Prelude.{◌≡◌, ℕ, List, Bool, true, false}
+use Rattle.std.specs.Prelude.{ℕ, List, Bool, true, false}
 use Rattle.record_pages.specs.Recs.{Rec}
 use Rattle.kset.specs.declared.rewritten.Rewritten.{Rewritten}
 use Rattle.kset.specs.declared.rewritten.Rewritten.TheVariants as answers

@@ -59,7 +59,8 @@ impl SetNotes {
     fn admit(&mut self, placed: &Placed)
         requires { placed.now.probes ≡ probes_of placed.now.hash }
         ensures { self.new ≡ record self.old {
-          filter = with_bits self.old.filter (probes_of placed.now.hash) } }
+          filter = with_bits self.old.filter (probes_of placed.now.hash);
+        } }
     {
         self.filter.add(placed.probes);
         self.is_filled = true;

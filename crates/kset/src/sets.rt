@@ -98,7 +98,7 @@ impl<const PAGE: usize> KSet<PAGE> {
         ensures gives { IsTrue (D.honest device.old) →
             AreSpelledOn PAGE (D.held device.old) self.old →
             IfOk result (λ r. LookGives (visible_in (D.held device.old) self.old placed.now.set)
-              key.now self.old placed.now.set r self.new) }
+            key.now self.old placed.now.set r self.new) }
         ensures spelled { IsTrue (D.honest device.old) →
             AreSpelledOn PAGE (D.held device.old) self.old →
             AreSpelledOn PAGE (D.held device.new) self.new }
@@ -174,7 +174,7 @@ impl<const PAGE: usize> KSet<PAGE> {
         ensures gives { IsTrue (D.honest device.old) →
             AreSpelledOn PAGE (D.held device.old) self.old →
             IfOk result (ReadGives (with_flags (notes_of self.old set)
-              (visible_in (D.held device.old) self.old set))) }
+            (visible_in (D.held device.old) self.old set))) }
         ensures spelled { IsTrue (D.honest device.old) →
             AreSpelledOn PAGE (D.held device.old) self.old →
             AreSpelledOn PAGE (D.held device.new) self.new }
@@ -184,12 +184,10 @@ impl<const PAGE: usize> KSet<PAGE> {
         }
         let mut bytes = [0u8; PAGE];
         let Ok(()) = device.read(set, &mut bytes) else {
-            self.forget(set);
-            return Ok(SetRead::PageLost);
+            return Ok(self.lose(set));
         };
         let Some(page) = page_of(&bytes, set) else {
-            self.forget(set);
-            return Ok(SetRead::PageLost);
+            return Ok(self.lose(set));
         };
         let records = visible(alloc, &self.layout, self.notes(set), page.records())?;
         Ok(SetRead::Records(records))
@@ -225,10 +223,10 @@ impl<const PAGE: usize> KSet<PAGE> {
             (visible_in (D.held device.new) self.new set ≡ enumerate_from 0 writer.now) }
         ensures others { IsTrue (D.honest device.old) → (other : ℕ) → other ≢ set →
             visible_in (D.held device.new) self.new other
-              ≡ visible_in (D.held device.old) self.old other }
+            ≡ visible_in (D.held device.old) self.old other }
         ensures apart { IsTrue (D.honest device.old) →
             pages_from (set_count self.old) (D.held device.new)
-              ≡ pages_from (set_count self.old) (D.held device.old) }
+            ≡ pages_from (set_count self.old) (D.held device.old) }
         ensures spelled { IsTrue (D.honest device.old) →
             AreSpelledOn PAGE (D.held device.old) self.old →
             AreSpelledOn PAGE (D.held device.new) self.new }
@@ -242,6 +240,18 @@ impl<const PAGE: usize> KSet<PAGE> {
         };
         self.sets[set as usize] = SetNotes::of_page(&self.layout, writer.records());
         Rewritten::Written
+    }
+
+    // Forgets a set whose page was lost.
+    fn lose(&mut self, lost: u32) -> SetRead
+        requires { lost < set_count self.old }
+        ensures lost { result ≡ SetRead.PageLost }
+        ensures forgotten { self.new ≡ forgotten self.old lost }
+        ensures spelled { (held : ℕ → Option (List ℕ)) → AreSpelledOn PAGE held self.old →
+            AreSpelledOn PAGE held self.new }
+    {
+        self.forget(lost);
+        SetRead::PageLost
     }
 
     // Notes a hit in a slot of a set.

@@ -1,8 +1,7 @@
-use Rattle.std.proofs.Common.{◌≡◌, ℕ, List, [], sym, ap, ◌∙◌}
+use Rattle.std.proofs.Common.{◌≡◌, ℕ, sym, ap, ◌∙◌}
 use Rattle.bloom.specs.Filter.{with_bits}
 use Rattle.set_hash.specs.Place.{probes_of}
 use Rattle.set_hash.specs.declared.placed.Placed.{Placed}
-use Rattle.record_pages.specs.Recs.{Rec}
 use Rattle.record_pages.specs.Lent.{record_shown}
 use Rattle.kset.specs.Notes.{Notes}
 use Rattle.kset.proofs.PageNotes.{with_all, with_record, with_all-none}

@@ -1,7 +1,7 @@
-use Rattle.std.proofs.Common.{◌≡◌, ℕ, false, sym, ap, subst, refl, ◌∙◌, rules}
+use Rattle.std.proofs.Common.{◌≡◌, false, sym, ap, subst, refl, ◌∙◌}
 use Rattle.kset.specs.declared.page.Told.{Told}
 use Rattle.kset.specs.Notes.{Notes, lets_show}
-use Rattle.kset.specs.Sets.{notes_of, set_count, hit_in}
+use Rattle.kset.specs.Sets.{notes_of, set_count}
 use Rattle.kset.specs.Pages.{page_records}
 use Rattle.kset.specs.Shown.{visible_in}
 use Rattle.kset.proofs.LookLaws.{Says, told_of, hit_gives, first_visible-hidden}
@@ -23,7 +23,7 @@ returns-in-Damaged-clause-gives g c =
     λ honest spelled.
     subst (λ (t : Told). Says (visible_in held c.args.self.now at.set) c.args.key.now t) c.in-Damaged.is
     (told_of g.row.PAGE (set_count c.args.self.now) at.set held c.read.new.into c.args.key.now at.hash (notes_of c.args.self.now at.set) c.in_ok-tell.field-0
-      c.requires.hash shows c.requires.place.set (spelled at.set) (c.in-Ok.ensures.known honest) c.in_ok-tell.ensures)
+    c.requires.hash shows c.requires.place.set (spelled at.set) (c.in-Ok.ensures.known honest) c.in_ok-tell.ensures)
 
 pub returns-in-Absent-clause-gives : goal.returns-in-Absent-clause-gives
 returns-in-Absent-clause-gives g c =
@@ -31,9 +31,11 @@ returns-in-Absent-clause-gives g c =
     let held = g.D.PageDevice.held c.args.device.now in
     let shows = c.if-not-lets_show.ensures ∙ ap (λ (n : Notes). lets_show n at.hash) c.notes.ensures in
     λ honest spelled. (
-    subst (λ (t : Told). Says (visible_in held c.args.self.now at.set) c.args.key.now t) c.in-Absent.is
-    (told_of g.row.PAGE (set_count c.args.self.now) at.set held c.read.new.into c.args.key.now at.hash (notes_of c.args.self.now at.set) c.in_ok-tell.field-0
-      c.requires.hash shows c.requires.place.set (spelled at.set) (c.in-Ok.ensures.known honest) c.in_ok-tell.ensures), refl)
+      subst (λ (t : Told). Says (visible_in held c.args.self.now at.set) c.args.key.now t) c.in-Absent.is
+          (told_of g.row.PAGE (set_count c.args.self.now) at.set held c.read.new.into c.args.key.now at.hash (notes_of c.args.self.now at.set) c.in_ok-tell.field-0
+          c.requires.hash shows c.requires.place.set (spelled at.set) (c.in-Ok.ensures.known honest) c.in_ok-tell.ensures),
+      refl,
+    )
 
 pub returns-in-Found-clause-gives : goal.returns-in-Found-clause-gives
 returns-in-Found-clause-gives g c =
@@ -43,5 +45,5 @@ returns-in-Found-clause-gives g c =
     λ honest spelled. hit_gives (visible_in held c.args.self.now at.set) c.args.key.now c.in-Found.value c.in-Found.slot at.set c.args.self.now _
     (subst (λ (t : Told). Says (visible_in held c.args.self.now at.set) c.args.key.now t) c.in-Found.is
     (told_of g.row.PAGE (set_count c.args.self.now) at.set held c.read.new.into c.args.key.now at.hash (notes_of c.args.self.now at.set) c.in_ok-tell.field-0
-      c.requires.hash shows c.requires.place.set (spelled at.set) (c.in-Ok.ensures.known honest) c.in_ok-tell.ensures))
+    c.requires.hash shows c.requires.place.set (spelled at.set) (c.in-Ok.ensures.known honest) c.in_ok-tell.ensures))
     c.hit.ensures

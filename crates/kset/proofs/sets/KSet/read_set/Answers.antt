@@ -1,4 +1,4 @@
-use Rattle.std.proofs.Common.{◌≡◌, ◌≢◌, ℕ, List, refl, sym, ap, ◌∙◌}
+use Rattle.std.proofs.Common.{◌≡◌, ◌≢◌, List, refl, sym, ap, ◌∙◌}
 use Rattle.std.proofs.lemmas.Bool.{false≢true}
 use Rattle.std.specs.FinSet.{empty}
 use Rattle.page_device.specs.Frames.{pages_before}
@@ -25,7 +25,7 @@ returns-in_default-page_of-clause-faults g c =
     let some : (notes_of c.args.self.now set).filter ≢ empty =
     λ e. false≢true (c.if-is_empty.ensures.1 (ap (λ (n : Notes). n.filter) c.notes.ensures ∙ e)) in
     λ honest spelled. absurd (some_read g.row.PAGE set (pages_before count held set) c.read.new.into
-      (reads_page g.row.PAGE count set held c.read.new.into c.requires.set (spelled set some) (c.in-Ok.ensures.known honest)) c.in_default-page_of.ensures.page)
+    (reads_page g.row.PAGE count set held c.read.new.into c.requires.set (spelled set some) (c.in-Ok.ensures.known honest)) c.in_default-page_of.ensures.page)
 
 pub returns-clause-gives : goal.returns-clause-gives
 returns-clause-gives g c =

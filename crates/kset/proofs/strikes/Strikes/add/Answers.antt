@@ -1,4 +1,4 @@
-use Rattle.std.proofs.Common.{◌≡◌, ◌≤◌, sym, ap, ◌∙◌, arith}
+use Rattle.std.proofs.Common.{◌≡◌, sym, ap, ◌∙◌, arith}
 use Rattle.std.specs.FinSet.{len}
 use Rattle.kset.proofs.NotesLaws.{insert-known, room-known, room-new, room-none}
 use Rattle.kset.proofs.strikes.Strikes.add.Goals as goal
