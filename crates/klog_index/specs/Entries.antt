@@ -1,0 +1,77 @@
+-- An index as the list of its entries.
+use Rattle.std.specs.Prelude.{◌≡◌, ◌≢◌, ℕ, zero, suc, ◌-◌, ◌<◌, List, [], ◌∷◌, length, Option, MatchOption, Bool, true, false, not, ◌==◌, ◌&&◌, filter, map, All, AllPairs, if◌then◌else◌}
+use Rattle.std.specs.List.{HoldsAt}
+use Rattle.klog_index.specs.declared.place.Place.{Place}
+use Rattle.klog_index.specs.declared.entry.Entry.{Entry}
+
+-- an index: the sets that its entries may belong to, the most entries that it may have, and its entries, newest first
+pub record Entries : Type 0 where
+  pub sets : ℕ
+  pub limit : ℕ
+  pub entries : List Entry
+
+-- two places are one
+abbrev pub is_place : Place → Place → Bool
+is_place p q = p.segment == q.segment && p.page == q.page && p.slot == q.slot
+
+-- the entry is of this set
+abbrev pub is_of : ℕ → Entry → Bool
+is_of set e = e.set == set
+
+-- the entry is of this set and has this tag
+abbrev pub has_tag : ℕ → ℕ → Entry → Bool
+has_tag set tag e = is_of set e && e.tag == tag
+
+-- the entry lies at this place
+abbrev pub is_at : Place → Entry → Bool
+is_at place e = is_place e.place place
+
+-- the entry is of this set and lies at this place
+abbrev pub is_in : ℕ → Place → Entry → Bool
+is_in set place e = is_of set e && is_at place e
+
+-- the entry lies on this page of the segment with this name
+abbrev pub is_on : ℕ → ℕ → Entry → Bool
+is_on segment page e = e.place.segment == segment && e.place.page == page
+
+-- the entries of a set
+abbrev pub of_set : ℕ → List Entry → List Entry
+of_set set es = filter (is_of set) es
+
+-- the entries of a set with a tag
+abbrev pub of_tag : ℕ → ℕ → List Entry → List Entry
+of_tag set tag es = filter (has_tag set tag) es
+
+-- the entries without those of a kind
+abbrev pub without : (Entry → Bool) → List Entry → List Entry
+without is_dropped es = filter (λ e. not (is_dropped e)) es
+
+-- an entry whose prediction is one less, and not below 0
+abbrev pub lowered : Entry → Entry
+lowered e = record e { prediction = e.prediction - 1 }
+
+-- the entries with those of a kind lowered
+abbrev pub with_lowered : (Entry → Bool) → List Entry → List Entry
+with_lowered is_asked es = map (λ e. if is_asked e then lowered e else e) es
+
+-- entry i lowered
+abbrev pub lower_at : ℕ → List Entry → List Entry
+lower_at i [] = []
+lower_at zero (e ∷ es) = lowered e ∷ es
+lower_at (suc i) (e ∷ es) = e ∷ lower_at i es
+
+-- an entry of a kind is at this place of the list, or none is of it
+abbrev pub FindsSlot : (Entry → Bool) → List Entry → Option ℕ → Type 0
+FindsSlot p es found = MatchOption found (All (λ e. p e ≡ false) es) (λ i. (i < length es) × HoldsAt (λ e. p e ≡ true) es i)
+
+-- an index with other entries
+abbrev pub with_entries : Entries → List Entry → Entries
+with_entries index es = record { sets = index.sets; limit = index.limit; entries = es }
+
+-- no two entries lie at one place
+abbrev pub AreApart : List Entry → Type 0
+AreApart es = AllPairs (λ a b. a.place ≢ b.place) es
+
+-- no entry lies at this place
+abbrev pub IsFree : Place → List Entry → Type 0
+IsFree place es = All (λ e. e.place ≢ place) es

@@ -1,0 +1,78 @@
+//! An index with a few entries, by each of its calls.
+ghost use Rattle.std.specs.Prelude.{◌≡◌};
+
+use super::*;
+use record_pages::Prediction;
+use std::alloc::Global;
+use std::test::Fail;
+
+fn place(segment: u16, slot: u8) -> Place
+    ensures { result ≡ record { segment = segment; page = 1; slot = slot } }
+{
+    Place {
+        segment,
+        page: 1,
+        slot,
+    }
+}
+
+// Room for three entries, of which there are two: an older one of segment 257 and a newer one of segment 7.
+fn with_two(alloc: Global) -> Result<LogIndex, Fail> {
+    let six = Prediction::new(6).unwrap();
+    let mut index = LogIndex::open(alloc, 4, 3)?;
+    index.add(2, 9, place(257, 1), six)?;
+    index.add(2, 8, place(7, 0), six)?;
+    Ok(index)
+}
+
+#[test]
+fn entries_stand_newest_first(rt: HostRuntime) -> Result<(), Fail> {
+    let index = with_two(rt.alloc())?;
+    assert_eq!(rt; index.len(), 2);
+    assert!(rt; !index.is_empty());
+    assert!(rt; !index.is_full());
+    assert_eq!(rt; index.count(2), 2);
+    assert_eq!(rt; index.of_set(2, 0).map(|e| e.place), Some(place(7, 0)));
+    assert_eq!(rt; index.of_set(2, 1).map(|e| e.place), Some(place(257, 1)));
+    assert_eq!(rt; index.of_set(2, 2), None);
+    assert_eq!(rt; index.find(2, 9, 0).map(|e| e.place), Some(place(257, 1)));
+    assert_eq!(rt; index.find(2, 9, 1), None);
+    assert_eq!(rt; index.first_of(257).map(|e| e.tag), Some(9));
+    assert_eq!(rt; index.first_of(8), None);
+    Ok(())
+}
+
+#[test]
+fn the_entry_past_the_limit_is_refused(rt: HostRuntime) -> Result<(), Fail> {
+    let one = Prediction::new(1).unwrap();
+    let mut index = LogIndex::open(rt.alloc(), 65536, 1)?;
+    index.add(65535, 65535, place(257, 63), one)?;
+    assert!(rt; index.is_full());
+    assert_eq!(rt; index.add(0, 0, place(0, 0), one), Err(IndexFull));
+    index.lower(place(257, 63));
+    index.lower_in(65535, place(257, 63));
+    assert_eq!(rt;
+        index.find(65535, 65535, 0).map(|e| e.prediction.get()),
+        Some(0)
+    );
+    index.drop_at(place(257, 63));
+    assert!(rt; index.is_empty());
+    Ok(())
+}
+
+#[test]
+fn entries_are_dropped_by_kind(rt: HostRuntime) -> Result<(), Fail> {
+    let mut index = with_two(rt.alloc())?;
+    index.drop_tag(2, 7);
+    index.drop_in(3, place(7, 0));
+    index.drop_page(7, 0);
+    assert_eq!(rt; index.len(), 2);
+    index.drop_in(2, place(7, 0));
+    assert_eq!(rt; index.len(), 1);
+    index.drop_tag(2, 9);
+    assert_eq!(rt; index.len(), 0);
+    let mut index = with_two(rt.alloc())?;
+    index.drop_page(257, 1);
+    assert_eq!(rt; index.of_set(2, 0).map(|e| e.tag), Some(8));
+    Ok(())
+}
