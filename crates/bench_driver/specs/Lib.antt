@@ -6,3 +6,4 @@ pub mod Own
 pub mod Replies
 pub mod Script
 pub mod CommandLine
+pub mod Endings

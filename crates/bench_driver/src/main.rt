@@ -4,6 +4,7 @@
 mod command;
 mod command_line;
 mod config_line;
+mod ending;
 mod file_name;
 mod line;
 mod line_fault;
@@ -18,8 +19,9 @@ mod scripted;
 mod turn;
 mod words;
 
-use certificate_checker::{JudgeFault, Judged, judge};
+use certificate_checker::judge;
 use command_line::parse_line;
+use ending::Ending;
 use file_name::FileName;
 use line::Line;
 use line_fault::LineFault;
@@ -38,20 +40,23 @@ mod tests;
 const PAGE: usize = 4096;
 
 fn main(rt: HostRuntime) -> ExitCode {
-    let status = match asked(&rt) {
-        Ok(Line::Script) => script_status(&rt),
-        Ok(Line::Check(file)) => check_status(&rt, &file),
+    let ending = match asked(&rt) {
+        Ok(Line::Script) => Ending::of_script(script_of_input(&rt)),
+        Ok(Line::Check(file)) => check_of_file(&rt, &file),
         Err(LineFault::Usage(text)) => {
             let _ = eprint!(rt; "{text}");
-            2
+            Ending::BadInput
         }
         Err(LineFault::Help(text)) => {
             let _ = print!(rt; "{text}");
-            0
+            Ending::Done
         }
-        Err(LineFault::OutOfMemory) => fault_status(&rt, "out of memory"),
+        Err(LineFault::OutOfMemory) => Ending::OutOfMemory,
     };
-    ExitCode::from(status)
+    if let Some(message) = ending.message() {
+        let _ = eprintln!(rt; "{message}");
+    }
+    ExitCode::from(ending.status())
 }
 
 /// What the words of the command line ask for.
@@ -70,22 +75,6 @@ fn asked(rt: &(impl Env + AllocGlobal)) -> Result<Line, LineFault> {
     }
 }
 
-/// Tells a fault on standard error, and gives the status that it ends the program with.
-fn fault_status(rt: &impl Eprint, fault: &str) -> u8 {
-    let _ = eprintln!(rt; "{fault}");
-    3
-}
-
-/// Answers the script of standard input on standard output, and gives the program's status.
-fn script_status(rt: &(impl Input + Print + Eprint + AllocGlobal)) -> u8 {
-    match script_of_input(rt) {
-        Ok(Scripted::Ended) => 0,
-        Ok(Scripted::BadLine | Scripted::BadConfig) => 2,
-        Err(ScriptFault::OutOfMemory) => fault_status(rt, "out of memory"),
-        Err(ScriptFault::ReadFault | ScriptFault::WriteFault) => fault_status(rt, "file fault"),
-    }
-}
-
 /// Runs the script of standard input, and writes its replies to standard output.
 fn script_of_input(rt: &(impl Input + Print + AllocGlobal)) -> Result<Scripted, ScriptFault> {
     let Ok(mut writer) = BufWriter::new(rt.alloc(), io::writer(rt)) else {
@@ -98,16 +87,10 @@ fn script_of_input(rt: &(impl Input + Print + AllocGlobal)) -> Result<Scripted, 
     }
 }
 
-/// Judges the trace in a file on standard output, and gives the program's status.
-fn check_status(rt: &(impl Files + Print + Eprint + AllocGlobal), file: &FileName) -> u8 {
-    let Ok(mut reader) = fs::open(rt, file.as_str()) else {
-        return fault_status(rt, "file fault");
-    };
-    match judge(rt.alloc(), &mut reader, &mut io::writer(rt)) {
-        Ok(Judged::Accepted) => 0,
-        Ok(Judged::Rejected) => 1,
-        Ok(Judged::BadTrace) => 2,
-        Err(JudgeFault::OutOfMemory) => fault_status(rt, "out of memory"),
-        Err(JudgeFault::WriteFault) => fault_status(rt, "file fault"),
+/// Judges the trace in a file on standard output, and says how the program ends.
+fn check_of_file(rt: &(impl Files + Print + AllocGlobal), file: &FileName) -> Ending {
+    match fs::open(rt, file.as_str()) {
+        Ok(mut reader) => Ending::of_check(judge(rt.alloc(), &mut reader, &mut io::writer(rt))),
+        Err(_) => Ending::FileFault,
     }
 }

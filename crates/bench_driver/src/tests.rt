@@ -1,6 +1,7 @@
 // Whole scripts, with the replies that they must get, and readers and writers that fail.
-use crate::check_status;
+use crate::check_of_file;
 use crate::command_line::parse_line;
+use crate::ending::Ending;
 use crate::file_name::FileName;
 use crate::line::Line;
 use crate::line_fault::LineFault;
@@ -292,9 +293,9 @@ fn command_lines_are_read(rt: HostRuntime) -> Result<(), Fail> {
 #[test]
 fn what_is_no_file_is_no_trace(rt: HostRuntime) -> Result<(), Fail> {
     let absent = FileName::new(rt.alloc(), "there is no such file")?;
-    assert_eq!(rt; check_status(&rt, &absent), 3);
+    assert_eq!(rt; check_of_file(&rt, &absent), Ending::FileFault);
     let folder = FileName::new(rt.alloc(), ".")?;
-    assert_eq!(rt; check_status(&rt, &folder), 2);
+    assert_eq!(rt; check_of_file(&rt, &folder), Ending::BadInput);
     Ok(())
 }
 
