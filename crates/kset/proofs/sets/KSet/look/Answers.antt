@@ -5,6 +5,9 @@ use Rattle.kset.specs.Sets.{notes_of, set_count}
 use Rattle.kset.specs.Pages.{page_records}
 use Rattle.kset.specs.Shown.{visible_in}
 use Rattle.kset.proofs.LookLaws.{Says, told_of, hit_gives, first_visible-hidden}
+use Rattle.kset.specs.Telling.{page_if_of}
+use Rattle.kset.specs.After.{IsForeign}
+use Rattle.kset.proofs.ShownLaws.{not_foreign}
 use Rattle.kset.proofs.sets.KSet.look.Goals as goal
 
 pub returns-then-not-lets_show-clause-gives : goal.returns-then-not-lets_show-clause-gives
@@ -23,7 +26,7 @@ returns-in-Damaged-clause-gives g c =
     λ honest spelled.
     subst (λ (t : Told). Says (visible_in held c.args.self.now at.set) c.args.key.now t) c.in-Damaged.is
     (told_of g.row.PAGE (set_count c.args.self.now) at.set held c.read.new.into c.args.key.now at.hash (notes_of c.args.self.now at.set) c.in_ok-tell.field-0
-    c.requires.hash shows c.requires.place.set (spelled at.set) (c.in-Ok.ensures.known honest) c.in_ok-tell.ensures)
+    c.requires.hash shows c.requires.place.set (spelled at.set) (c.in-Ok.ensures.known honest) c.in_ok-tell.ensures.tells)
 
 pub returns-in-Absent-clause-gives : goal.returns-in-Absent-clause-gives
 returns-in-Absent-clause-gives g c =
@@ -33,7 +36,7 @@ returns-in-Absent-clause-gives g c =
     λ honest spelled. (
       subst (λ (t : Told). Says (visible_in held c.args.self.now at.set) c.args.key.now t) c.in-Absent.is
           (told_of g.row.PAGE (set_count c.args.self.now) at.set held c.read.new.into c.args.key.now at.hash (notes_of c.args.self.now at.set) c.in_ok-tell.field-0
-          c.requires.hash shows c.requires.place.set (spelled at.set) (c.in-Ok.ensures.known honest) c.in_ok-tell.ensures),
+          c.requires.hash shows c.requires.place.set (spelled at.set) (c.in-Ok.ensures.known honest) c.in_ok-tell.ensures.tells),
       refl,
     )
 
@@ -45,5 +48,9 @@ returns-in-Found-clause-gives g c =
     λ honest spelled. hit_gives (visible_in held c.args.self.now at.set) c.args.key.now c.in-Found.value c.in-Found.slot at.set c.args.self.now _
     (subst (λ (t : Told). Says (visible_in held c.args.self.now at.set) c.args.key.now t) c.in-Found.is
     (told_of g.row.PAGE (set_count c.args.self.now) at.set held c.read.new.into c.args.key.now at.hash (notes_of c.args.self.now at.set) c.in_ok-tell.field-0
-    c.requires.hash shows c.requires.place.set (spelled at.set) (c.in-Ok.ensures.known honest) c.in_ok-tell.ensures))
+    c.requires.hash shows c.requires.place.set (spelled at.set) (c.in-Ok.ensures.known honest) c.in_ok-tell.ensures.tells))
     c.hit.ensures
+
+pub returns-in_err-tell-clause-foreign : goal.returns-in_err-tell-clause-foreign
+returns-in_err-tell-clause-foreign g c =
+    λ honest foreign. absurd (not_foreign c.args.placed.now.set _ c.read.new.into foreign (c.in-Ok.ensures.known honest) c.in_err-tell.ensures.refused)
