@@ -1,8 +1,8 @@
 -- What shows in a set after a call, for the layers above.
 use Rattle.std.proofs.Common.{◌≡◌, ◌≢◌, ℕ, ◌+◌, ◌<◌, Bool, true, false, ◌&&◌, ◌||◌, not, cond, eqb, List, [], ◌∷◌, filter, Option, Some, None, Result, Ok, Err, ⊎_elim, refl, sym, ap, subst, ◌∙◌}
-use Rattle.std.proofs.lemmas.Bool.{cases_eq, eqb-true, false≢true}
+use Rattle.std.proofs.lemmas.Bool.{cases_eq, eqb-true}
 use Rattle.std.proofs.lemmas.List.{length-set, get_or-set_other}
-use Rattle.std.specs.Prelude.{nat_le, IsSome}
+use Rattle.std.specs.Prelude.{nat_le}
 use Rattle.std.specs.FinSet.{contains, insert, len}
 use Rattle.std.specs.declared.alloc.AllocError.{AllocError}
 use Rattle.bloom.specs.Filter.{admits}
@@ -24,7 +24,7 @@ use Rattle.kset.specs.Pages.{page_records, records_on}
 use Rattle.kset.specs.Shown.{is_visible, visible_from, visible_in}
 use Rattle.kset.specs.Look.{LookLeaves}
 use Rattle.kset.specs.ReadSet.{ReadLeaves}
-use Rattle.kset.specs.Telling.{page_if_of}
+use Rattle.kset.specs.Telling.{page_if_of, HasKey}
 use Rattle.kset.specs.After.{is_one_too_many, without_hash, after_strike, after_reading, IsForeign}
 use Rattle.kset.proofs.NotesLaws.{notes_of-with}
 use Rattle.kset.proofs.LookLaws.{visible_from-empty}
@@ -166,8 +166,8 @@ shown-lost held old new set read before within lost leaves =
     ∙ ap (λ (r : SetRead). after_reading (Ok r) before) (sym lost)
 
 -- what was read of a page that is known to be foreign is no page of the set
-pub not_foreign : (set : ℕ) (known : Option (List ℕ)) (bytes : List ℕ) → IsForeign set known → IsKnown known bytes → IsSome (page_if_of set (set_page_at bytes)) → ⊥
-not_foreign set None bytes foreign same some = foreign
-not_foreign set (Some there) bytes foreign same some =
+pub not_foreign : (set : ℕ) (known : Option (List ℕ)) (bytes key : List ℕ) → IsForeign set known → IsKnown known bytes → HasKey key (page_if_of set (set_page_at bytes)) → ⊥
+not_foreign set None bytes key foreign same has = foreign
+not_foreign set (Some there) bytes key foreign same has =
     let none : page_if_of set (set_page_at bytes) ≡ None = ap (λ (b : List ℕ). page_if_of set (set_page_at b)) same ∙ foreign in
-    false≢true (subst (λ (o : Option SetPageParts). IsSome o) none some)
+    subst (λ (o : Option SetPageParts). HasKey key o) none has

@@ -1,5 +1,5 @@
 // The sets of a lane.
-ghost use Rattle.std.specs.Prelude.{◌≡◌, ◌≢◌, ◌<◌, ◌≤◌, ◌^◌, ℕ, [], List, Option, IfOk, Ok, Some, IsTrue, length, false};
+ghost use Rattle.std.specs.Prelude.{◌≡◌, ◌≢◌, ◌<◌, ◌≤◌, ◌^◌, ℕ, [], List, Option, IfOk, OnErr, Ok, Some, IsSome, IsTrue, length, false};
 ghost use Rattle.std.specs.Bool.{OnTrue, OnFalse};
 ghost use Rattle.std.specs.List.{enumerate_from};
 ghost use Rattle.std.specs.FinSet as bits;
@@ -11,7 +11,7 @@ ghost use Rattle.set_hash.specs.Fnv.{fnv1a};
 ghost use Rattle.kset.specs.Notes.{lets_show, notes_of_page};
 ghost use Rattle.kset.specs.Sets.{SetsState, sets_code, set_count, notes_of, opening, struck_in, hit_in, forgotten, next_write, IsPlaceIn};
 ghost use Rattle.kset.specs.Pages.{AreSpelledOn, page_records};
-ghost use Rattle.kset.specs.Shown.{visible_in, visible_from, with_flags};
+ghost use Rattle.kset.specs.Shown.{visible_in, visible_from, first_visible, with_flags};
 ghost use Rattle.kset.specs.Look.{is_fault, faults_after, LookLeaves, LookGives};
 ghost use Rattle.kset.specs.ReadSet.{is_lost, FailsOnlyIfLost, ReadLeaves, ReadGives};
 ghost use Rattle.kset.specs.Rewrite.{is_forgotten, after_rewrite};
@@ -71,7 +71,8 @@ impl<const PAGE: usize> KSet<PAGE> {
     }
 
     /// The value of the first visible record of a key, whose slot is noted as hit. A key that the filter denies or
-    /// that is struck is absent without a call of the device. `AllocError` and all other answers change nothing.
+    /// that is struck is absent without a call of the device. `AllocError` comes only where there is a value to copy;
+    /// it and all other answers change nothing.
     pub fn look<D: PageDevice<PAGE>>(
         &mut self,
         alloc: Global,
@@ -104,6 +105,10 @@ impl<const PAGE: usize> KSet<PAGE> {
             IsForeign placed.now.set (D.held device.old placed.now.set) →
             OnTrue (lets_show (notes_of self.old placed.now.set) placed.now.hash)
             (OnFalse (is_fault result) (result ≡ Ok Looked.Damaged)) }
+        ensures short { IsTrue (D.honest device.old) →
+            AreSpelledOn PAGE (D.held device.old) self.old →
+            OnErr result (IsSome (first_visible
+            (visible_in (D.held device.old) self.old placed.now.set) key.now)) }
         ensures shown { IsTrue (D.honest device.old) → (set : ℕ) →
             visible_in (D.held device.new) self.new set
             ≡ visible_in (D.held device.old) self.old set }
@@ -161,7 +166,8 @@ impl<const PAGE: usize> KSet<PAGE> {
     }
 
     /// The visible records of a set, in page order, each with whether it was hit. Nothing is read where the filter is
-    /// empty. Where the page is lost the set is forgotten; `AllocError` changes nothing.
+    /// empty. Where the page is lost the set is forgotten; `AllocError` changes nothing, and comes only where there is
+    /// a record to copy.
     pub fn read_set<D: PageDevice<PAGE>>(
         &mut self,
         alloc: Global,
@@ -193,6 +199,9 @@ impl<const PAGE: usize> KSet<PAGE> {
             (visible_in (D.held device.old) self.old set))) }
         ensures foreign { IsTrue (D.honest device.old) → IsForeign set (D.held device.old set) →
             (notes_of self.old set).filter ≢ bits.empty → result ≡ Ok SetRead.PageLost }
+        ensures short { IsTrue (D.honest device.old) →
+            AreSpelledOn PAGE (D.held device.old) self.old →
+            OnErr result (visible_in (D.held device.old) self.old set ≢ []) }
         ensures shown { IsTrue (D.honest device.old) → visible_in (D.held device.new) self.new set
             ≡ after_reading result (visible_in (D.held device.old) self.old set) }
         ensures others { IsTrue (D.honest device.old) → (other : ℕ) → other ≢ set →
@@ -307,7 +316,9 @@ fn visible(
     mut records: Records<'_>,
 ) -> Result<SetRecords, AllocError>
     requires { length records ≤ 64 }
-    ensures { IfOk result (λ rs. rs ≡ with_flags notes.now (visible_from notes.now 0 records.entry)) }
+    ensures visible { IfOk result (λ rs.
+        rs ≡ with_flags notes.now (visible_from notes.now 0 records.entry)) }
+    ensures short { OnErr result (visible_from notes.now 0 records.entry ≢ []) }
 {
     let mut visible = SetRecords::new(alloc);
     for slot in 0..records.len() {

@@ -1,10 +1,11 @@
-use Rattle.std.proofs.Common.{◌≡◌, false, sym, ap, subst, refl, ◌∙◌}
+use Rattle.std.proofs.Common.{◌≡◌, false, Result, Ok, Err, sym, ap, subst, refl, ◌∙◌}
+use Rattle.std.specs.Prelude.{OnErr}
 use Rattle.kset.specs.declared.page.Told.{Told}
 use Rattle.kset.specs.Notes.{Notes, lets_show}
 use Rattle.kset.specs.Sets.{notes_of, set_count}
 use Rattle.kset.specs.Pages.{page_records}
 use Rattle.kset.specs.Shown.{visible_in}
-use Rattle.kset.proofs.LookLaws.{Says, told_of, hit_gives, first_visible-hidden}
+use Rattle.kset.proofs.LookLaws.{Says, told_of, hit_gives, first_visible-hidden, visible_has}
 use Rattle.kset.specs.Telling.{page_if_of}
 use Rattle.kset.specs.After.{IsForeign}
 use Rattle.kset.proofs.ShownLaws.{not_foreign}
@@ -53,4 +54,20 @@ returns-in-Found-clause-gives g c =
 
 pub returns-in_err-tell-clause-foreign : goal.returns-in_err-tell-clause-foreign
 returns-in_err-tell-clause-foreign g c =
-    λ honest foreign. absurd (not_foreign c.args.placed.now.set _ c.read.new.into foreign (c.in-Ok.ensures.known honest) c.in_err-tell.ensures.refused)
+    let at = c.args.placed.now in
+    let held = g.D.PageDevice.held c.args.device.now in
+    λ honest foreign. absurd (not_foreign at.set (held at.set) c.read.new.into c.args.key.now foreign (c.in-Ok.ensures.known honest) c.in_err-tell.ensures.refused)
+
+-- what holds at any result holds at a refusal
+on_any : {T E : Type 0} (r : Result T E) (P : Type 0) → P → OnErr r P
+on_any (Ok x) P p = tt
+on_any (Err e) P p = p
+
+pub returns-in_err-tell-clause-short : goal.returns-in_err-tell-clause-short
+returns-in_err-tell-clause-short g c =
+    let at = c.args.placed.now in
+    let held = g.D.PageDevice.held c.args.device.now in
+    let shows = c.if-not-lets_show.ensures ∙ ap (λ (n : Notes). lets_show n at.hash) c.notes.ensures in
+    λ honest spelled. on_any c.from_residual.result _
+    (visible_has g.row.PAGE (set_count c.args.self.now) at.set held c.read.new.into c.args.key.now at.hash (notes_of c.args.self.now at.set)
+    c.requires.hash shows c.requires.place.set (spelled at.set) (c.in-Ok.ensures.known honest) c.in_err-tell.ensures.refused)

@@ -38,7 +38,7 @@ returns-clause-gives g c =
     λ e. false≢true (c.if-is_empty.ensures.1 (ap (λ (n : Notes). n.filter) c.notes.ensures ∙ e)) in
     λ honest spelled.
     let r = reads_page g.row.PAGE count set held c.read.new.into c.requires.set (spelled set some) (c.in-Ok.ensures.known honest) in
-    c.in_ok-records.ensures
+    c.in_ok-records.ensures.visible
     ∙ ap (λ (n : Notes). with_flags n (visible_from n 0 c.records.result)) c.notes-2.ensures
     ∙ ap (λ (rs : List Rec). with_flags notes (visible_from notes 0 rs))
     (c.records.ensures ∙ records_read g.row.PAGE set (pages_before count held set) c.read.new.into c.in-Some.page r c.in-Some.ensures.page)
