@@ -321,9 +321,9 @@ fn the_last_of_64_slots_is_hit(rt: HostRuntime) -> Result<(), Fail> {
 }
 
 // A writing of the set, a look-up of a key and a reading, with their answers in words.
-fn round<D: PageDevice<256>>(
+fn round(
     alloc: Global,
-    owner: &mut Owner<D, 256>,
+    owner: &mut Owner<Fused, 256>,
     key: &[u8],
     answers: &mut Vec<u8>,
 ) -> Result<(), Fail> {
@@ -339,8 +339,8 @@ fn round<D: PageDevice<256>>(
 }
 
 // Two rounds, of six calls of the device where none fails.
-fn script<D: PageDevice<256>>(alloc: Global, device: D) -> Result<Vec<u8>, Fail> {
-    let mut owner: Owner<D, 256> = sets(alloc, device)?;
+fn script(alloc: Global, device: Fused) -> Result<Vec<u8>, Fail> {
+    let mut owner: Owner<Fused, 256> = sets(alloc, device)?;
     let mut answers = Vec::new(alloc);
     round(alloc, &mut owner, b"ax", &mut answers)?;
     round(alloc, &mut owner, b"bx", &mut answers)?;
