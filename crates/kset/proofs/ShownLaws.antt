@@ -1,5 +1,5 @@
 -- What shows in a set after a call, for the layers above.
-use Rattle.std.proofs.Common.{◌≡◌, ◌≢◌, ℕ, ◌+◌, ◌<◌, Bool, true, false, ◌&&◌, ◌||◌, not, cond, eqb, List, [], ◌∷◌, filter, Option, Some, None, Result, Ok, Err, ⊎_elim, refl, sym, ap, subst, ◌∙◌}
+use Rattle.std.proofs.Common.{◌≡◌, ◌≢◌, ℕ, ◌<◌, Bool, true, false, ◌&&◌, ◌||◌, not, cond, eqb, List, [], ◌∷◌, filter, Option, Some, None, Result, Ok, Err, ⊎_elim, refl, sym, ap, subst, ◌∙◌}
 use Rattle.std.proofs.lemmas.Bool.{cases_eq, eqb-true}
 use Rattle.std.proofs.lemmas.List.{length-set, get_or-set_other}
 use Rattle.std.specs.Prelude.{nat_le}
@@ -25,7 +25,7 @@ use Rattle.kset.specs.Shown.{is_visible, visible_from, visible_in}
 use Rattle.kset.specs.Look.{LookLeaves}
 use Rattle.kset.specs.ReadSet.{ReadLeaves}
 use Rattle.kset.specs.Telling.{page_if_of, HasKey}
-use Rattle.kset.specs.After.{is_one_too_many, without_hash, after_strike, after_reading, IsForeign}
+use Rattle.kset.specs.After.{without_hash, after_strike, after_reading, IsForeign}
 use Rattle.kset.proofs.NotesLaws.{notes_of-with}
 use Rattle.kset.proofs.LookLaws.{visible_from-empty}
 

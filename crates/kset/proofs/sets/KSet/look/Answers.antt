@@ -6,8 +6,6 @@ use Rattle.kset.specs.Sets.{notes_of, set_count}
 use Rattle.kset.specs.Pages.{page_records}
 use Rattle.kset.specs.Shown.{visible_in}
 use Rattle.kset.proofs.LookLaws.{Says, told_of, hit_gives, first_visible-hidden, visible_has}
-use Rattle.kset.specs.Telling.{page_if_of}
-use Rattle.kset.specs.After.{IsForeign}
 use Rattle.kset.proofs.ShownLaws.{not_foreign}
 use Rattle.kset.proofs.sets.KSet.look.Goals as goal
 
