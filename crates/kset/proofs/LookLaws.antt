@@ -1,7 +1,7 @@
 -- What a page says of a key, and what of it is visible.
 use Rattle.std.proofs.Common.{◌≡◌, ◌≢◌, ℕ, ◌+◌, ◌<◌, Bool, true, false, cond, List, [], ◌∷◌, length, Option, Some, None, refl, sym, ap, subst, ◌∙◌, arith}
 use Rattle.std.proofs.lemmas.Bool.{false≢true, and_parts, eq-eqb, lt-ltb}
-use Rattle.std.specs.Prelude.{IsSomeAnd}
+use Rattle.std.specs.Prelude.{IsSome, IsSomeAnd}
 use Rattle.std.specs.Option.{option_map_or}
 use Rattle.std.specs.FinSet.{empty}
 use Rattle.std.specs.Cmp.Lexicographic.{same_text}
@@ -19,7 +19,7 @@ use Rattle.kset.specs.Notes.{Notes, lets_show}
 use Rattle.kset.specs.Sets.{SetsState, hit_in}
 use Rattle.kset.specs.Pages.{IsPageOf, records_on}
 use Rattle.kset.specs.Shown.{is_visible, visible_from, first_visible}
-use Rattle.kset.specs.Telling.{page_if_of, Tells}
+use Rattle.kset.specs.Telling.{page_if_of, Tells, HasKey}
 use Rattle.kset.proofs.NotesLaws.{some_bit, lets_show-empty}
 
 -- a record that is found lies among the records
@@ -155,3 +155,16 @@ pub written_records : (size old count set : ℕ) (held : ℕ → Option (List �
 written_records size old count set held bytes p same within holds spelled =
     ap records_on (before_is count set held (subst (λ n. set < n) (sym same) within) ∙ holds)
     ∙ ap (λ (o : Option SetPageParts). option_map_or (λ (read : SetPageParts). read.records) o []) (set_page_only size bytes p spelled)
+
+-- where a page that was read has a key that can show, a visible record has the key
+pub visible_has : (size count set : ℕ) (held : ℕ → Option (List ℕ)) (bytes key : List ℕ) (hash : ℕ) (notes : Notes) → hash ≡ fnv1a key → true ≡ lets_show notes hash →
+    set < count → (notes.filter ≢ empty → IsPageOf size set (pages_before count held set)) → IsKnown (held set) bytes → HasKey key (page_if_of set (set_page_at bytes)) →
+    IsSome (first_visible (visible_from notes 0 (records_on (pages_before count held set))) key)
+visible_has size count set held bytes key hash notes hashed shows within paged known has =
+    let has_bit = some_bit notes.filter hash (and_parts _ _ (sym shows)).0 in
+    let r = reads_page size count set held bytes within (paged has_bit) known in
+    let seen = records_on (pages_before count held set) in
+    let first : first_visible (visible_from notes 0 seen) key ≡ first_with key r.page.records =
+    first_visible-shown notes key (sym (shows ∙ ap (lets_show notes) hashed)) 0 seen ∙ ap (λ (rs : List Rec). first_with key rs) r.seen_records in
+    let at : HasKey key (Some r.page) = subst (λ (o : Option SetPageParts). HasKey key o) r.read has in
+    subst (λ (o : Option (ℕ × Rec)). IsSome o) (sym first) at

@@ -7,3 +7,4 @@ pub mod ReadSet
 pub mod Rewrite
 pub mod Telling
 pub mod Owner
+pub mod After

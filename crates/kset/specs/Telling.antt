@@ -1,5 +1,5 @@
 -- What a page says of a key.
-use Rattle.std.specs.Prelude.{◌≡◌, ◌<◌, ◌==◌, ℕ, List, Option, Some, None, option_and_then, IsSomeAnd, if◌then◌else◌}
+use Rattle.std.specs.Prelude.{◌≡◌, ◌<◌, ◌==◌, ℕ, List, Option, Some, None, option_and_then, IsSome, IsSomeAnd, if◌then◌else◌}
 use Rattle.record_pages.specs.PageText.{SetPageParts}
 use Rattle.record_pages.specs.Looking.{first_with}
 use Rattle.kset.specs.declared.page.Told.{Told}
@@ -18,3 +18,7 @@ Tells key (Some p) told.Damaged = ⊥
 Tells key (Some p) told.Absent = first_with key p.records ≡ None
 Tells key (Some p) (told.Found slot value) =
     (slot < 64) × IsSomeAnd (first_with key p.records) (λ x. (x.0 ≡ slot) × (x.1.value ≡ value))
+
+-- there is a page, and a record of it has the key
+abbrev pub HasKey : List ℕ → Option SetPageParts → Type 0
+HasKey key read = IsSomeAnd read (λ p. IsSome (first_with key p.records))

@@ -1,7 +1,7 @@
 // What a set's page says.
-ghost use Rattle.std.specs.Prelude.{◌≡◌, ◌≤◌, ◌<◌, IfOk, IfSome, length};
+ghost use Rattle.std.specs.Prelude.{◌≡◌, ◌≤◌, ◌<◌, IfOk, OnErr, IfSome, length};
 ghost use Rattle.record_pages.specs.Reading.{set_page_at};
-ghost use Rattle.kset.specs.Telling.{page_if_of, Tells};
+ghost use Rattle.kset.specs.Telling.{page_if_of, Tells, HasKey};
 
 use record_pages::{Key, SetPage, Value};
 use std::alloc::{AllocError, Global};
@@ -29,14 +29,16 @@ pub(crate) fn page_of<const PAGE: usize>(bytes: &[u8; PAGE], set: u32) -> Option
     Some(page)
 }
 
-/// What these bytes say of a key, as the page of this set.
+/// What these bytes say of a key, as the page of this set. Memory is asked for only where a record
+/// has the key.
 pub(crate) fn tell<const PAGE: usize>(
     alloc: Global,
     bytes: &[u8; PAGE],
     set: u32,
     key: &Key,
 ) -> Result<Told, AllocError>
-    ensures { IfOk result (Tells key.now (page_if_of set (set_page_at bytes.now))) }
+    ensures tells { IfOk result (Tells key.now (page_if_of set (set_page_at bytes.now))) }
+    ensures refused { OnErr result (HasKey key.now (page_if_of set (set_page_at bytes.now))) }
 {
     let Some(page) = page_of(bytes, set) else {
         return Ok(Told::Damaged);

@@ -1,6 +1,6 @@
 // The sets of a lane.
-ghost use Rattle.std.specs.Prelude.{◌≡◌, ◌≢◌, ◌<◌, ◌≤◌, ◌^◌, ℕ, [], List, Option, IfOk, Ok, Some, IsTrue, length, false};
-ghost use Rattle.std.specs.Bool.{OnFalse};
+ghost use Rattle.std.specs.Prelude.{◌≡◌, ◌≢◌, ◌<◌, ◌≤◌, ◌^◌, ℕ, [], List, Option, IfOk, OnErr, Ok, Some, IsSome, IsTrue, length, false};
+ghost use Rattle.std.specs.Bool.{OnTrue, OnFalse};
 ghost use Rattle.std.specs.List.{enumerate_from};
 ghost use Rattle.std.specs.FinSet as bits;
 ghost use Rattle.page_device.specs.Frames.{pages_from};
@@ -11,10 +11,11 @@ ghost use Rattle.set_hash.specs.Fnv.{fnv1a};
 ghost use Rattle.kset.specs.Notes.{lets_show, notes_of_page};
 ghost use Rattle.kset.specs.Sets.{SetsState, sets_code, set_count, notes_of, opening, struck_in, hit_in, forgotten, next_write, IsPlaceIn};
 ghost use Rattle.kset.specs.Pages.{AreSpelledOn, page_records};
-ghost use Rattle.kset.specs.Shown.{visible_in, visible_from, with_flags};
+ghost use Rattle.kset.specs.Shown.{visible_in, visible_from, first_visible, with_flags};
 ghost use Rattle.kset.specs.Look.{is_fault, faults_after, LookLeaves, LookGives};
 ghost use Rattle.kset.specs.ReadSet.{is_lost, FailsOnlyIfLost, ReadLeaves, ReadGives};
 ghost use Rattle.kset.specs.Rewrite.{is_forgotten, after_rewrite};
+ghost use Rattle.kset.specs.After.{after_strike, after_reading, IsForeign};
 
 use crate::looked::Looked;
 use crate::notes::SetNotes;
@@ -70,7 +71,8 @@ impl<const PAGE: usize> KSet<PAGE> {
     }
 
     /// The value of the first visible record of a key, whose slot is noted as hit. A key that the filter denies or
-    /// that is struck is absent without a call of the device. `AllocError` and all other answers change nothing.
+    /// that is struck is absent without a call of the device. `AllocError` comes only where there is a value to copy;
+    /// it and all other answers change nothing.
     pub fn look<D: PageDevice<PAGE>>(
         &mut self,
         alloc: Global,
@@ -99,6 +101,17 @@ impl<const PAGE: usize> KSet<PAGE> {
             AreSpelledOn PAGE (D.held device.old) self.old →
             IfOk result (λ r. LookGives (visible_in (D.held device.old) self.old placed.now.set)
             key.now self.old placed.now.set r self.new) }
+        ensures foreign { IsTrue (D.honest device.old) →
+            IsForeign placed.now.set (D.held device.old placed.now.set) →
+            OnTrue (lets_show (notes_of self.old placed.now.set) placed.now.hash)
+            (OnFalse (is_fault result) (result ≡ Ok Looked.Damaged)) }
+        ensures short { IsTrue (D.honest device.old) →
+            AreSpelledOn PAGE (D.held device.old) self.old →
+            OnErr result (IsSome (first_visible
+            (visible_in (D.held device.old) self.old placed.now.set) key.now)) }
+        ensures shown { IsTrue (D.honest device.old) → (set : ℕ) →
+            visible_in (D.held device.new) self.new set
+            ≡ visible_in (D.held device.old) self.old set }
         ensures spelled { IsTrue (D.honest device.old) →
             AreSpelledOn PAGE (D.held device.old) self.old →
             AreSpelledOn PAGE (D.held device.new) self.new }
@@ -127,6 +140,11 @@ impl<const PAGE: usize> KSet<PAGE> {
         ensures struck { self.new ≡ struck_in self.old placed.now.set placed.now.hash }
         ensures sizes { set_count self.new ≡ set_count self.old }
         ensures hidden { lets_show (notes_of self.new placed.now.set) placed.now.hash ≡ false }
+        ensures shown { (held : ℕ → Option (List ℕ)) → visible_in held self.new placed.now.set
+            ≡ after_strike (notes_of self.old placed.now.set) placed.now.hash
+            (visible_in held self.old placed.now.set) }
+        ensures others { (held : ℕ → Option (List ℕ)) → (other : ℕ) → other ≢ placed.now.set →
+            visible_in held self.new other ≡ visible_in held self.old other }
         ensures spelled { (held : ℕ → Option (List ℕ)) → AreSpelledOn PAGE held self.old →
             AreSpelledOn PAGE held self.new }
     {
@@ -138,6 +156,9 @@ impl<const PAGE: usize> KSet<PAGE> {
         requires { set < set_count self.old }
         ensures forgotten { self.new ≡ forgotten self.old set }
         ensures sizes { set_count self.new ≡ set_count self.old }
+        ensures shown { (held : ℕ → Option (List ℕ)) → visible_in held self.new set ≡ [] }
+        ensures others { (held : ℕ → Option (List ℕ)) → (other : ℕ) → other ≢ set →
+            visible_in held self.new other ≡ visible_in held self.old other }
         ensures spelled { (held : ℕ → Option (List ℕ)) → AreSpelledOn PAGE held self.old →
             AreSpelledOn PAGE held self.new }
     {
@@ -145,7 +166,8 @@ impl<const PAGE: usize> KSet<PAGE> {
     }
 
     /// The visible records of a set, in page order, each with whether it was hit. Nothing is read where the filter is
-    /// empty. Where the page is lost the set is forgotten; `AllocError` changes nothing.
+    /// empty. Where the page is lost the set is forgotten; `AllocError` changes nothing, and comes only where there is
+    /// a record to copy.
     pub fn read_set<D: PageDevice<PAGE>>(
         &mut self,
         alloc: Global,
@@ -175,6 +197,16 @@ impl<const PAGE: usize> KSet<PAGE> {
             AreSpelledOn PAGE (D.held device.old) self.old →
             IfOk result (ReadGives (with_flags (notes_of self.old set)
             (visible_in (D.held device.old) self.old set))) }
+        ensures foreign { IsTrue (D.honest device.old) → IsForeign set (D.held device.old set) →
+            (notes_of self.old set).filter ≢ bits.empty → result ≡ Ok SetRead.PageLost }
+        ensures short { IsTrue (D.honest device.old) →
+            AreSpelledOn PAGE (D.held device.old) self.old →
+            OnErr result (visible_in (D.held device.old) self.old set ≢ []) }
+        ensures shown { IsTrue (D.honest device.old) → visible_in (D.held device.new) self.new set
+            ≡ after_reading result (visible_in (D.held device.old) self.old set) }
+        ensures others { IsTrue (D.honest device.old) → (other : ℕ) → other ≢ set →
+            visible_in (D.held device.new) self.new other
+            ≡ visible_in (D.held device.old) self.old other }
         ensures spelled { IsTrue (D.honest device.old) →
             AreSpelledOn PAGE (D.held device.old) self.old →
             AreSpelledOn PAGE (D.held device.new) self.new }
@@ -213,6 +245,8 @@ impl<const PAGE: usize> KSet<PAGE> {
             ≡ faults_after (D.failures device.old) (is_forgotten result) }
         ensures leaves { self.new ≡ after_rewrite self.old set writer.now result }
         ensures sizes { set_count self.new ≡ set_count self.old }
+        ensures lost { OnTrue (is_forgotten result)
+            ((held : ℕ → Option (List ℕ)) → visible_in held self.new set ≡ []) }
 
         // Where it is honest.
         ensures text { IsTrue (D.honest device.old) → OnFalse (is_forgotten result)
@@ -224,6 +258,8 @@ impl<const PAGE: usize> KSet<PAGE> {
         ensures others { IsTrue (D.honest device.old) → (other : ℕ) → other ≢ set →
             visible_in (D.held device.new) self.new other
             ≡ visible_in (D.held device.old) self.old other }
+        ensures elsewhere { IsTrue (D.honest device.old) → (page : ℕ) → page ≢ set →
+            D.held device.new page ≡ D.held device.old page }
         ensures apart { IsTrue (D.honest device.old) →
             pages_from (set_count self.old) (D.held device.new)
             ≡ pages_from (set_count self.old) (D.held device.old) }
@@ -280,7 +316,9 @@ fn visible(
     mut records: Records<'_>,
 ) -> Result<SetRecords, AllocError>
     requires { length records ≤ 64 }
-    ensures { IfOk result (λ rs. rs ≡ with_flags notes.now (visible_from notes.now 0 records.entry)) }
+    ensures visible { IfOk result (λ rs.
+        rs ≡ with_flags notes.now (visible_from notes.now 0 records.entry)) }
+    ensures short { OnErr result (visible_from notes.now 0 records.entry ≢ []) }
 {
     let mut visible = SetRecords::new(alloc);
     for slot in 0..records.len() {

@@ -81,7 +81,7 @@ fn told(alloc: Global, looked: Looked) -> Result<Vec<u8>, AllocError> {
     }
 }
 
-// The keys that a reading lists, each with a star where it was hit.
+// The records that a reading lists: key, value and prediction, with a star where it was hit.
 fn listed<D: PageDevice<PAGE>, const PAGE: usize>(
     alloc: Global,
     owner: &mut Owner<D, PAGE>,
@@ -98,6 +98,10 @@ fn listed<D: PageDevice<PAGE>, const PAGE: usize>(
     for number in 0..records.len() {
         let record = records.at(number).ok_or("a record")?;
         all.extend_from_slice(record.stored.key.bytes())?;
+        all.push(b'=')?;
+        all.extend_from_slice(record.stored.value.bytes())?;
+        all.push(b'/')?;
+        all.push(b'0' + record.stored.pred.get())?;
         if record.hit {
             all.push(b'*')?;
         }
@@ -124,13 +128,13 @@ fn written_records_are_found_until_they_are_struck_or_forgotten(
     let writer = page(alloc, &PAIR)?;
     assert_eq!(rt; owner.rewrite(&first, &writer), Rewritten::Written);
     is(&rt, found(alloc, &mut owner, b"ax")?, b"1");
-    is(&rt, listed(alloc, &mut owner, b"ax")?, b"ax* bx ");
+    is(&rt, listed(alloc, &mut owner, b"ax")?, b"ax=1/6* bx=2/6 ");
     is(
         &rt,
         told(alloc, owner.strike_and_look(alloc, &second)?)?,
         b"absent",
     );
-    is(&rt, listed(alloc, &mut owner, b"ax")?, b"ax* ");
+    is(&rt, listed(alloc, &mut owner, b"ax")?, b"ax=1/6* ");
     owner.forget(&first);
     is(&rt, found(alloc, &mut owner, b"ax")?, b"absent");
     is(&rt, listed(alloc, &mut owner, b"ax")?, b"");
@@ -220,7 +224,11 @@ fn the_ninth_strike_forgets_the_set(rt: HostRuntime) -> Result<(), Fail> {
     owner.strike(&Key::new(alloc, b"ax")?);
     owner.strike(&Key::new(alloc, b"zz")?);
     is(&rt, found(alloc, &mut owner, b"jx")?, b"1");
-    is(&rt, listed(alloc, &mut owner, b"jx")?, b"ix jx* kx ");
+    is(
+        &rt,
+        listed(alloc, &mut owner, b"jx")?,
+        b"ix=1/6 jx=1/6* kx=1/6 ",
+    );
     owner.strike(&Key::new(alloc, b"ix")?);
     is(&rt, found(alloc, &mut owner, b"jx")?, b"absent");
     Ok(())
@@ -271,13 +279,21 @@ fn the_first_of_two_records_with_a_key_is_found(rt: HostRuntime) -> Result<(), F
         Rewritten::Written
     );
     is(&rt, found(alloc, &mut owner, b"cd")?, b"2");
-    is(&rt, listed(alloc, &mut owner, b"cd")?, b"ab cd* cd ");
+    is(
+        &rt,
+        listed(alloc, &mut owner, b"cd")?,
+        b"ab=1/6 cd=2/6* cd=3/6 ",
+    );
     // A rewriting clears the hits.
     assert_eq!(rt;
         owner.rewrite(&Key::new(alloc, b"cd")?, &writer),
         Rewritten::Written
     );
-    is(&rt, listed(alloc, &mut owner, b"cd")?, b"ab cd cd ");
+    is(
+        &rt,
+        listed(alloc, &mut owner, b"cd")?,
+        b"ab=1/6 cd=2/6 cd=3/6 ",
+    );
     Ok(())
 }
 
@@ -301,5 +317,104 @@ fn the_last_of_64_slots_is_hit(rt: HostRuntime) -> Result<(), Fail> {
     assert!(rt; !records.at(62).ok_or("a record")?.hit);
     assert!(rt; records.at(63).ok_or("a record")?.hit);
     assert!(rt; records.at(64).is_none());
+    Ok(())
+}
+
+// A writing of the set, a look-up of a key and a reading, with their answers in words.
+fn round(
+    alloc: Global,
+    owner: &mut Owner<Fused, 256>,
+    key: &[u8],
+    answers: &mut Vec<u8>,
+) -> Result<(), Fail> {
+    let writer = page(alloc, &PAIR)?;
+    match owner.rewrite(&Key::new(alloc, key)?, &writer) {
+        Rewritten::Written => answers.extend_from_slice(b"written ")?,
+        Rewritten::Forgotten => answers.extend_from_slice(b"forgotten ")?,
+    }
+    answers.extend_from_slice(&found(alloc, owner, key)?)?;
+    answers.extend_from_slice(b": ")?;
+    answers.extend_from_slice(&listed(alloc, owner, key)?)?;
+    Ok(())
+}
+
+// Two rounds, of six calls of the device where none fails.
+fn script(alloc: Global, device: Fused) -> Result<Vec<u8>, Fail> {
+    let mut owner: Owner<Fused, 256> = sets(alloc, device)?;
+    let mut answers = Vec::new(alloc);
+    round(alloc, &mut owner, b"ax", &mut answers)?;
+    round(alloc, &mut owner, b"bx", &mut answers)?;
+    Ok(answers)
+}
+
+// What the script answers where the device fails at one call, from the first to the sixth.
+const FAILS_ONCE: [&[u8]; 6] = [
+    b"forgotten absent: written 2: ax=1/6 bx=2/6* ",
+    b"written fault: ax=1/6 bx=2/6 written 2: ax=1/6 bx=2/6* ",
+    b"written 1: lostwritten 2: ax=1/6 bx=2/6* ",
+    b"written 1: ax=1/6* bx=2/6 forgotten absent: ",
+    b"written 1: ax=1/6* bx=2/6 written fault: ax=1/6 bx=2/6 ",
+    b"written 1: ax=1/6* bx=2/6 written 2: lost",
+];
+
+// The same where it fails at all calls from one on.
+const FAILS_FROM: [&[u8]; 6] = [
+    b"forgotten absent: forgotten absent: ",
+    b"written fault: lostforgotten absent: ",
+    b"written 1: lostforgotten absent: ",
+    b"written 1: ax=1/6* bx=2/6 forgotten absent: ",
+    b"written 1: ax=1/6* bx=2/6 written fault: lost",
+    b"written 1: ax=1/6* bx=2/6 written 2: lost",
+];
+
+#[test]
+fn each_call_of_the_device_may_fail(rt: HostRuntime) -> Result<(), Fail> {
+    let alloc = rt.alloc();
+    let all = script(alloc, FuseDevice::one(device(alloc)?, 7))?;
+    is(
+        &rt,
+        all,
+        b"written 1: ax=1/6* bx=2/6 written 2: ax=1/6 bx=2/6* ",
+    );
+    for call in 0..6u8 {
+        let at = u32::from(call) + 1;
+        let once = script(alloc, FuseDevice::one(device(alloc)?, at))?;
+        is(&rt, once, FAILS_ONCE[usize::from(call)]);
+        let from = script(alloc, FuseDevice::from(device(alloc)?, at))?;
+        is(&rt, from, FAILS_FROM[usize::from(call)]);
+    }
+    Ok(())
+}
+
+// With one allocation refused, whichever it is, this test passes or ends with its error: no call that was refused
+// memory changed what the next ones answer.
+#[test]
+fn refused_memory_changes_nothing(rt: HostRuntime) -> Result<(), Fail> {
+    let alloc = rt.alloc();
+    let layout = ONE_SET.check()?;
+    let key = Key::new(alloc, b"bx")?;
+    let writer = page(alloc, &PAIR)?;
+    let opened: Result<Option<Owner<Fused, 256>>, AllocError> = Owner::open(
+        alloc,
+        &layout,
+        FuseDevice::one(device(alloc)?, 0),
+    );
+    let mut owner = match opened {
+        Ok(owner) => owner.ok_or("a device that is large enough")?,
+        Err(AllocError) => sets(alloc, FuseDevice::one(device(alloc)?, 0))?,
+    };
+    assert_eq!(rt; owner.rewrite(&key, &writer), Rewritten::Written);
+    match owner.read(alloc, &key) {
+        Ok(SetRead::Records(records)) => assert_eq!(rt; records.len(), 2),
+        Ok(SetRead::PageLost) => return Err("a lost page".into()),
+        Err(AllocError) => {}
+    }
+    is(&rt, listed(alloc, &mut owner, b"bx")?, b"ax=1/6 bx=2/6 ");
+    match owner.look(alloc, &key) {
+        Ok(looked) => is(&rt, told(alloc, looked)?, b"2"),
+        Err(AllocError) => is(&rt, listed(alloc, &mut owner, b"bx")?, b"ax=1/6 bx=2/6 "),
+    }
+    is(&rt, found(alloc, &mut owner, b"bx")?, b"2");
+    is(&rt, listed(alloc, &mut owner, b"bx")?, b"ax=1/6 bx=2/6* ");
     Ok(())
 }

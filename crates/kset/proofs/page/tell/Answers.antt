@@ -9,8 +9,8 @@ use Rattle.kset.specs.Telling.{Tells}
 use Rattle.kset.proofs.LookLaws.{first_within}
 use Rattle.kset.proofs.page.tell.Goals as goal
 
-pub returns : goal.returns
-returns g c =
+pub returns-clause-tells : goal.returns-clause-tells
+returns-clause-tells g c =
     let key = c.args.key.now in
     let slot = c.in-Some-find_key.found.slot in
     let value = c.in-Ok.value in

@@ -1,10 +1,12 @@
-use Rattle.std.proofs.Common.{◌≡◌, false, sym, ap, subst, refl, ◌∙◌}
+use Rattle.std.proofs.Common.{◌≡◌, false, Result, Ok, Err, sym, ap, subst, refl, ◌∙◌}
+use Rattle.std.specs.Prelude.{OnErr}
 use Rattle.kset.specs.declared.page.Told.{Told}
 use Rattle.kset.specs.Notes.{Notes, lets_show}
 use Rattle.kset.specs.Sets.{notes_of, set_count}
 use Rattle.kset.specs.Pages.{page_records}
 use Rattle.kset.specs.Shown.{visible_in}
-use Rattle.kset.proofs.LookLaws.{Says, told_of, hit_gives, first_visible-hidden}
+use Rattle.kset.proofs.LookLaws.{Says, told_of, hit_gives, first_visible-hidden, visible_has}
+use Rattle.kset.proofs.ShownLaws.{not_foreign}
 use Rattle.kset.proofs.sets.KSet.look.Goals as goal
 
 pub returns-then-not-lets_show-clause-gives : goal.returns-then-not-lets_show-clause-gives
@@ -23,7 +25,7 @@ returns-in-Damaged-clause-gives g c =
     λ honest spelled.
     subst (λ (t : Told). Says (visible_in held c.args.self.now at.set) c.args.key.now t) c.in-Damaged.is
     (told_of g.row.PAGE (set_count c.args.self.now) at.set held c.read.new.into c.args.key.now at.hash (notes_of c.args.self.now at.set) c.in_ok-tell.field-0
-    c.requires.hash shows c.requires.place.set (spelled at.set) (c.in-Ok.ensures.known honest) c.in_ok-tell.ensures)
+    c.requires.hash shows c.requires.place.set (spelled at.set) (c.in-Ok.ensures.known honest) c.in_ok-tell.ensures.tells)
 
 pub returns-in-Absent-clause-gives : goal.returns-in-Absent-clause-gives
 returns-in-Absent-clause-gives g c =
@@ -33,7 +35,7 @@ returns-in-Absent-clause-gives g c =
     λ honest spelled. (
       subst (λ (t : Told). Says (visible_in held c.args.self.now at.set) c.args.key.now t) c.in-Absent.is
           (told_of g.row.PAGE (set_count c.args.self.now) at.set held c.read.new.into c.args.key.now at.hash (notes_of c.args.self.now at.set) c.in_ok-tell.field-0
-          c.requires.hash shows c.requires.place.set (spelled at.set) (c.in-Ok.ensures.known honest) c.in_ok-tell.ensures),
+          c.requires.hash shows c.requires.place.set (spelled at.set) (c.in-Ok.ensures.known honest) c.in_ok-tell.ensures.tells),
       refl,
     )
 
@@ -45,5 +47,25 @@ returns-in-Found-clause-gives g c =
     λ honest spelled. hit_gives (visible_in held c.args.self.now at.set) c.args.key.now c.in-Found.value c.in-Found.slot at.set c.args.self.now _
     (subst (λ (t : Told). Says (visible_in held c.args.self.now at.set) c.args.key.now t) c.in-Found.is
     (told_of g.row.PAGE (set_count c.args.self.now) at.set held c.read.new.into c.args.key.now at.hash (notes_of c.args.self.now at.set) c.in_ok-tell.field-0
-    c.requires.hash shows c.requires.place.set (spelled at.set) (c.in-Ok.ensures.known honest) c.in_ok-tell.ensures))
+    c.requires.hash shows c.requires.place.set (spelled at.set) (c.in-Ok.ensures.known honest) c.in_ok-tell.ensures.tells))
     c.hit.ensures
+
+pub returns-in_err-tell-clause-foreign : goal.returns-in_err-tell-clause-foreign
+returns-in_err-tell-clause-foreign g c =
+    let at = c.args.placed.now in
+    let held = g.D.PageDevice.held c.args.device.now in
+    λ honest foreign. absurd (not_foreign at.set (held at.set) c.read.new.into c.args.key.now foreign (c.in-Ok.ensures.known honest) c.in_err-tell.ensures.refused)
+
+-- what holds at any result holds at a refusal
+on_any : {T E : Type 0} (r : Result T E) (P : Type 0) → P → OnErr r P
+on_any (Ok x) P p = tt
+on_any (Err e) P p = p
+
+pub returns-in_err-tell-clause-short : goal.returns-in_err-tell-clause-short
+returns-in_err-tell-clause-short g c =
+    let at = c.args.placed.now in
+    let held = g.D.PageDevice.held c.args.device.now in
+    let shows = c.if-not-lets_show.ensures ∙ ap (λ (n : Notes). lets_show n at.hash) c.notes.ensures in
+    λ honest spelled. on_any c.from_residual.result _
+    (visible_has g.row.PAGE (set_count c.args.self.now) at.set held c.read.new.into c.args.key.now at.hash (notes_of c.args.self.now at.set)
+    c.requires.hash shows c.requires.place.set (spelled at.set) (c.in-Ok.ensures.known honest) c.in_err-tell.ensures.refused)

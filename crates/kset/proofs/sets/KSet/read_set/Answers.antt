@@ -8,6 +8,7 @@ use Rattle.kset.specs.Sets.{notes_of, set_count}
 use Rattle.kset.specs.Pages.{page_records}
 use Rattle.kset.specs.Shown.{with_flags, visible_from}
 use Rattle.kset.proofs.LookLaws.{reads_page, records_read, some_read, visible_from-empty}
+use Rattle.kset.proofs.ShownLaws.{shown-lost}
 use Rattle.kset.proofs.sets.KSet.read_set.Goals as goal
 
 pub returns-then-is_empty-clause-gives : goal.returns-then-is_empty-clause-gives
@@ -37,7 +38,15 @@ returns-clause-gives g c =
     λ e. false≢true (c.if-is_empty.ensures.1 (ap (λ (n : Notes). n.filter) c.notes.ensures ∙ e)) in
     λ honest spelled.
     let r = reads_page g.row.PAGE count set held c.read.new.into c.requires.set (spelled set some) (c.in-Ok.ensures.known honest) in
-    c.in_ok-records.ensures
+    c.in_ok-records.ensures.visible
     ∙ ap (λ (n : Notes). with_flags n (visible_from n 0 c.records.result)) c.notes-2.ensures
     ∙ ap (λ (rs : List Rec). with_flags notes (visible_from notes 0 rs))
     (c.records.ensures ∙ records_read g.row.PAGE set (pages_before count held set) c.read.new.into c.in-Some.page r c.in-Some.ensures.page)
+
+pub returns-in_default-clause-shown : goal.returns-in_default-clause-shown
+returns-in_default-clause-shown g c =
+    λ honest. shown-lost (g.D.PageDevice.held c.read.new.self) c.args.self.now c.lose.new.self c.args.set c.lose.result _ c.requires.set c.lose.ensures.lost c.lose.ensures.forgotten
+
+pub returns-in_default-page_of-clause-shown : goal.returns-in_default-page_of-clause-shown
+returns-in_default-page_of-clause-shown g c =
+    λ honest. shown-lost (g.D.PageDevice.held c.read.new.self) c.args.self.now c.lose-in_default-page_of.new.self c.args.set c.lose-in_default-page_of.result _ c.requires.set c.lose-in_default-page_of.ensures.lost c.lose-in_default-page_of.ensures.forgotten

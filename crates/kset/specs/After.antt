@@ -1,0 +1,34 @@
+-- What shows in a set after a call.
+use Rattle.std.specs.Prelude.{◌≡◌, ℕ, ◌==◌, ◌&&◌, not, nat_le, Bool, List, [], filter, Option, None, Result, IsSomeAnd, if◌then◌else◌}
+use Rattle.std.specs.FinSet.{insert, len}
+use Rattle.std.specs.declared.alloc.AllocError.{AllocError}
+use Rattle.bloom.specs.Filter.{admits}
+use Rattle.set_hash.specs.Fnv.{fnv1a}
+use Rattle.set_hash.specs.Place.{probes_of}
+use Rattle.record_pages.specs.Recs.{Rec}
+use Rattle.record_pages.specs.Reading.{set_page_at}
+use Rattle.kset.specs.declared.set_read.SetRead.{SetRead}
+use Rattle.kset.specs.Notes.{Notes}
+use Rattle.kset.specs.ReadSet.{is_lost}
+use Rattle.kset.specs.Telling.{page_if_of}
+
+-- a strike of this hash is one too many: the filter admits it, and with it more than eight would be struck
+abbrev pub is_one_too_many : Notes → ℕ → Bool
+is_one_too_many notes hash =
+    admits notes.filter (probes_of hash) && not (nat_le (len (insert notes.strikes hash)) 8)
+
+-- those of these records whose key has another hash
+abbrev pub without_hash : ℕ → List (ℕ × Rec) → List (ℕ × Rec)
+without_hash hash visible = filter (λ x. not (fnv1a x.1.key == hash)) visible
+
+-- what still shows of these records once a hash is struck: nothing where it is one too many, else all with other hashes
+abbrev pub after_strike : Notes → ℕ → List (ℕ × Rec) → List (ℕ × Rec)
+after_strike notes hash visible = if is_one_too_many notes hash then [] else without_hash hash visible
+
+-- what still shows of these records once the set was read: nothing where the page was lost, else all
+abbrev pub after_reading : Result SetRead AllocError → List (ℕ × Rec) → List (ℕ × Rec)
+after_reading result visible = if is_lost result then [] else visible
+
+-- the bytes of a page are known, and they are no page of this set
+abbrev pub IsForeign : ℕ → Option (List ℕ) → Type 0
+IsForeign set known = IsSomeAnd known (λ bytes. page_if_of set (set_page_at bytes) ≡ None)
