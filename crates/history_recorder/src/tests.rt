@@ -24,9 +24,7 @@ fn small() -> Config
 ghost use Rattle.std.specs.Prelude.{◌≡◌};
 
 #[test]
-fn a_value_that_was_put_is_a_hit_and_both_calls_are_recorded(
-    rt: HostRuntime,
-) -> Result<(), Fail> {
+fn a_value_that_was_put_is_a_hit_and_both_calls_are_recorded(rt: HostRuntime) -> Result<(), Fail> {
     let alloc = rt.alloc();
     let mut lane = RecordedLane::<256>::open(alloc, &small(), 0)?;
     assert_eq!(rt; lane.last_point(), 0);

@@ -1,5 +1,5 @@
 -- What a look-up in a set answers.
-use Rattle.std.specs.Prelude.{◌≡◌, ◌<◌, ℕ, ◌+◌, ◌%◌, ◌^◌, List, None, IsSomeAnd, Bool, true, false, Result, Ok, Err, if◌then◌else◌}
+use Rattle.std.specs.Prelude.{◌≡◌, ◌<◌, ℕ, List, None, IsSomeAnd, Bool, true, false, Result, Ok, Err}
 use Rattle.std.specs.declared.alloc.AllocError.{AllocError}
 use Rattle.record_pages.specs.Recs.{Rec}
 use Rattle.kset.specs.declared.looked.Looked.{Looked}
@@ -11,10 +11,6 @@ use Rattle.kset.specs.Shown.{first_visible}
 abbrev pub is_fault : Result Looked AllocError → Bool
 is_fault (Ok looked.Fault) = true
 is_fault _ = false
-
--- the count of failures, modulo 2^64, after a call that met one, or none
-abbrev pub faults_after : ℕ → Bool → ℕ
-faults_after n fault = if fault then ((n + 1) % 2 ^ 64) else n
 
 -- a hit notes some slot of the page as hit; else nothing changes
 abbrev pub LookLeaves : SetsState → ℕ → Result Looked AllocError → SetsState → Type 0

@@ -1,11 +1,11 @@
 -- What a reading of a whole set answers.
 use Rattle.std.specs.Prelude.{◌≡◌, ℕ, List, Bool, true, false, Result, Ok, Err}
 use Rattle.std.specs.declared.alloc.AllocError.{AllocError}
+use Rattle.page_device.specs.Device.{faults_after}
 use Rattle.kset.specs.declared.set_record.SetRecord.{SetRecord}
 use Rattle.kset.specs.declared.set_read.SetRead.{SetRead}
 use Rattle.kset.specs.declared.set_read.SetRead.TheVariants as reads
 use Rattle.kset.specs.Sets.{SetsState, forgotten}
-use Rattle.kset.specs.Look.{faults_after}
 
 -- the page was lost
 abbrev pub is_lost : Result SetRead AllocError → Bool

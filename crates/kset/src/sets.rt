@@ -3,6 +3,7 @@ ghost use Rattle.std.specs.Prelude.{◌≡◌, ◌≢◌, ◌<◌, ◌≤◌, �
 ghost use Rattle.std.specs.Bool.{OnTrue, OnFalse};
 ghost use Rattle.std.specs.List.{enumerate_from};
 ghost use Rattle.std.specs.FinSet as bits;
+ghost use Rattle.page_device.specs.Device.{faults_after};
 ghost use Rattle.page_device.specs.Frames.{pages_from};
 ghost use Rattle.record_pages.specs.Sizes.{IsPageSize};
 ghost use Rattle.record_pages.specs.Recs.{Rec};
@@ -12,7 +13,7 @@ ghost use Rattle.kset.specs.Notes.{lets_show, notes_of_page};
 ghost use Rattle.kset.specs.Sets.{SetsState, sets_code, set_count, notes_of, opening, struck_in, hit_in, forgotten, next_write, IsPlaceIn};
 ghost use Rattle.kset.specs.Pages.{AreSpelledOn, page_records};
 ghost use Rattle.kset.specs.Shown.{visible_in, visible_from, first_visible, with_flags};
-ghost use Rattle.kset.specs.Look.{is_fault, faults_after, LookLeaves, LookGives};
+ghost use Rattle.kset.specs.Look.{is_fault, LookLeaves, LookGives};
 ghost use Rattle.kset.specs.ReadSet.{is_lost, FailsOnlyIfLost, ReadLeaves, ReadGives};
 ghost use Rattle.kset.specs.Rewrite.{is_forgotten, after_rewrite};
 ghost use Rattle.kset.specs.After.{after_strike, after_reading, IsForeign};

@@ -1,0 +1,11 @@
+pub mod OwnerLaws
+pub mod RingLaws
+pub mod BufferLaws
+pub mod LiveLaws
+pub mod ShownLaws
+pub mod AppendLaws
+pub mod FlushLaws
+pub mod FetchLaws
+pub mod LookLaws
+pub mod MoveLaws
+pub mod TakeLaws

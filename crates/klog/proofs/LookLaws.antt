@@ -1,0 +1,186 @@
+-- What a look-up finds among the live records.
+use Rattle.std.proofs.Common.{◌≡◌, ℕ, suc, ◌+◌, ◌<◌, ◌≤◌, Bool, true, false, eqb, List, [], ◌∷◌, ◌++◌, length, get_or, take, drop, filter, Option, Some, None, All, Contains, slice_get, inl, inr, drop-cons, refl, sym, ap, subst, ◌∙◌, arith}
+use Rattle.std.specs.Prelude.{IsSomeAnd, IsTrue, find}
+use Rattle.std.specs.List.{cons_option}
+use Rattle.std.specs.Option.{option_map}
+use Rattle.std.specs.Cmp.Lexicographic.{same_text}
+use Rattle.std.proofs.lemmas.Bool.{and_from, and_parts, eq-eqb, eqb-true, false≢true, cases_lt}
+use Rattle.std.proofs.lemmas.List.{take_all, take-append-drop}
+use Rattle.std.proofs.lemmas.List.Elements.{All-filter, All-cons, All-nil, All-head, All-tail, All-more, All-contains, All-contains_itself, filter_passes}
+use Rattle.std.proofs.lemmas.Option.{slice_get_within, get_or_from_slice_get, slice_get-get_or, none-some}
+use Rattle.page_device.specs.Frames.{pages_from}
+use Rattle.record_pages.specs.Recs.{Rec}
+use Rattle.record_pages.specs.Looking.{has_key}
+use Rattle.klog_index.specs.declared.entry.Entry.{Entry}
+use Rattle.klog_index.specs.Entries.{has_tag, of_tag}
+use Rattle.set_hash.specs.declared.placed.Placed.{Placed}
+use Rattle.klog.specs.declared.told.Told.{Told}
+use Rattle.klog.specs.declared.told.Told.TheVariants as told
+use Rattle.klog.specs.declared.found.Found.TheVariants as found
+use Rattle.klog.specs.Log.{Shape, LogState}
+use Rattle.klog.specs.Shown.{shown_on, live_on, newest_with, place_in, CanStandFor, IsLive, IsLiveOn, IsSpelledOn}
+use Rattle.klog.specs.Find.{Tells, Finds}
+use Rattle.klog.specs.Look.{is_buffered, AreBuffered}
+use Rattle.klog.proofs.LiveLaws.{live_by, live_by-kept, length-kept}
+
+-- the entry shows a record with another key
+abbrev pub ShowsOther : (Entry → Option Rec) → List ℕ → Entry → Type 0
+ShowsOther shows key e = IsSomeAnd (shows e) (λ r. has_key key r ≡ false)
+
+-- what holds of each entry's record holds of each live record
+All-live : (P : Entry × Rec → Type 0) (shows : Entry → Option Rec) (es : List Entry) → All (λ e. (r : Rec) → shows e ≡ Some r → P (e, r)) es → All P (live_by shows es)
+All-live P shows [] h = All-nil P
+All-live P shows (e ∷ es) h =
+    step (shows e) refl (All-live P shows es (All-tail (λ e. (r : Rec) → shows e ≡ Some r → P (e, r)) e es h)) (All-head (λ e. (r : Rec) → shows e ≡ Some r → P (e, r)) e es h)
+  where
+    step : (o : Option Rec) → shows e ≡ o → All P (live_by shows es) → ((r : Rec) → shows e ≡ Some r → P (e, r)) → All P (cons_option (option_map (λ r. (e, r)) (shows e)) (live_by shows es))
+    step (Some r) at rest here = rw at (All-cons P (e, r) (live_by shows es) (here r at) rest)
+    step None at rest here = rw at rest
+
+-- the first that passes a test is the first of those that pass another one, where none passes the first alone
+find-kept : (p q : Entry × Rec → Bool) (xs : List (Entry × Rec)) → All (λ x. p x ≡ true → q x ≡ true) xs → find p (filter q xs) ≡ find p xs
+find-kept p q [] h = refl
+find-kept p q (x ∷ xs) h =
+    step (q x) (p x) refl refl (find-kept p q xs (All-tail (λ x. p x ≡ true → q x ≡ true) x xs h)) (All-head (λ x. p x ≡ true → q x ≡ true) x xs h)
+  where
+    step : (a b : Bool) → q x ≡ a → p x ≡ b → find p (filter q xs) ≡ find p xs → (p x ≡ true → q x ≡ true) → find p (filter q (x ∷ xs)) ≡ find p (x ∷ xs)
+    step true true qx px rest here = simp (qx, px) refl
+    step true false qx px rest here = simp (qx, px) rest
+    step false true qx px rest here = absurd (false≢true (sym qx ∙ here px))
+    step false false qx px rest here = simp (qx, px) rest
+
+-- a live record with a key is of the key's set and tag
+of_its_tag : (bytes : ℕ) (shape : Shape) (key : List ℕ) (e : Entry) (r : Rec) → CanStandFor bytes shape e r → has_key key r ≡ true → has_tag (place_in shape key).set (place_in shape key).tag e ≡ true
+of_its_tag bytes shape key e r can has =
+    let same : r.key ≡ key = same_text r.key key (sym has) in
+    and_from _ _
+    (eq-eqb e.set (place_in shape key).set (sym can.set_is ∙ ap (λ (k : List ℕ). (place_in shape k).set) same))
+    (eq-eqb e.tag (place_in shape key).tag (sym can.tag_is ∙ ap (λ (k : List ℕ). (place_in shape k).tag) same))
+
+-- so only the entries of that set and tag are searched for it
+pub newest_of_tag : (bytes : ℕ) (held : ℕ → Option (List ℕ)) (k : LogState) (key : List ℕ) → IsSpelledOn bytes held k
+    → newest_with (live_by (shown_on held k) (of_tag (place_in k.shape key).set (place_in k.shape key).tag k.entries)) key ≡ newest_with (live_on held k) key
+newest_of_tag bytes held k key h =
+    let kind : Entry → Bool = has_tag (place_in k.shape key).set (place_in k.shape key).tag in
+    let each : All (λ e. (r : Rec) → shown_on held k e ≡ Some r → has_key key r ≡ true → kind e ≡ true) k.entries =
+    λ i d lt r at has. of_its_tag bytes k.shape key (get_or k.entries i d) r (subst (λ (o : Option Rec). IsSomeAnd o (CanStandFor bytes k.shape (get_or k.entries i d))) at (h.live i d lt)) has in
+    ap (λ (xs : List (Entry × Rec)). find (λ x. has_key key x.1) xs) (live_by-kept kind (shown_on held k) k.entries)
+    ∙ find-kept (λ x. has_key key x.1) (λ x. kind x.0) (live_on held k) (All-live (λ x. has_key key x.1 ≡ true → kind x.0 ≡ true) (shown_on held k) k.entries each)
+
+-- where the entries before one show other keys, and it shows the key, its record is the newest with the key
+newest_at : (shows : Entry → Option Rec) (key : List ℕ) (front : List Entry) (e : Entry) (r : Rec) (back : List Entry) → All (ShowsOther shows key) front → shows e ≡ Some r → has_key key r ≡ true
+    → newest_with (live_by shows (front ++ e ∷ back)) key ≡ Some (e, r)
+newest_at shows key [] e r back none at has = simp (at, has) refl
+newest_at shows key (x ∷ front) e r back none at has =
+    step (shows x) refl (All-head (ShowsOther shows key) x front none) (newest_at shows key front e r back (All-tail (ShowsOther shows key) x front none) at has)
+  where
+    step : (o : Option Rec) → shows x ≡ o → IsSomeAnd (shows x) (λ r. has_key key r ≡ false) → newest_with (live_by shows (front ++ e ∷ back)) key ≡ Some (e, r)
+        → newest_with (live_by shows (x ∷ (front ++ e ∷ back))) key ≡ Some (e, r)
+    step (Some y) is here rest = let other : has_key key y ≡ false = subst (λ (o : Option Rec). IsSomeAnd o (λ r. has_key key r ≡ false)) is here in simp (is, other) rest
+    step None is here rest = simp is rest
+
+-- where all entries show other keys, none is the newest with the key
+newest_none : (shows : Entry → Option Rec) (key : List ℕ) (es : List Entry) → All (ShowsOther shows key) es → newest_with (live_by shows es) key ≡ None
+newest_none shows key [] none = refl
+newest_none shows key (x ∷ es) none =
+    step (shows x) refl (All-head (ShowsOther shows key) x es none) (newest_none shows key es (All-tail (ShowsOther shows key) x es none))
+  where
+    step : (o : Option Rec) → shows x ≡ o → IsSomeAnd (shows x) (λ r. has_key key r ≡ false) → newest_with (live_by shows es) key ≡ None → newest_with (live_by shows (x ∷ es)) key ≡ None
+    step (Some y) is here rest = let other : has_key key y ≡ false = subst (λ (o : Option Rec). IsSomeAnd o (λ r. has_key key r ≡ false)) is here in simp (is, other) rest
+    step None is here rest = simp is rest
+
+-- ---- a turn of the search: the entry that stands so far behind the newest with its set and tag
+abbrev pub AtTurn : LogState → ℕ → ℕ → ℕ → Entry → Type 0
+AtTurn k set tag behind e = slice_get (of_tag set tag k.entries) behind ≡ Some e
+
+pub turn_at : (v k : LogState) (set tag behind : ℕ) (e : Entry) (o : Option Entry) → v ≡ k → o ≡ slice_get (of_tag set tag v.entries) behind → o ≡ Some e → AtTurn k set tag behind e
+turn_at v k set tag behind e o is found some = sym (ap (λ (k : LogState). slice_get (of_tag set tag k.entries) behind) is) ∙ sym found ∙ some
+
+-- what is found at a place is there
+pub got : {X : Type 0} (xs : List X) (i : ℕ) (x : X) → slice_get xs i ≡ Some x → Contains xs x
+got xs i x e = (i, slice_get_within xs i x e, get_or_from_slice_get xs i x x e)
+
+-- what is kept of a list is of it
+pub kept_of : {X : Type 0} (p : X → Bool) (xs : List X) (x : X) → Contains (filter p xs) x → Contains xs x
+kept_of p xs x h = All-contains (Contains xs) (filter p xs) x (All-filter p (Contains xs) xs (All-contains_itself xs)) h
+
+pub turn_listed : (k : LogState) (set tag behind : ℕ) (e : Entry) → AtTurn k set tag behind e → Contains k.entries e
+turn_listed k set tag behind e at = kept_of (has_tag set tag) k.entries e (got (of_tag set tag k.entries) behind e at)
+
+pub turn_buffered : (k : LogState) (set tag behind : ℕ) (e : Entry) → AtTurn k set tag behind e → AreBuffered k (of_tag set tag k.entries) → IsTrue (is_buffered k e)
+turn_buffered k set tag behind e at all = All-contains (λ e. IsTrue (is_buffered k e)) (of_tag set tag k.entries) e all (got (of_tag set tag k.entries) behind e at)
+
+-- what is told of it on the device as it was
+pub turn_tells : (bytes : ℕ) (held held' : ℕ → Option (List ℕ)) (k : LogState) (key : List ℕ) (set tag behind : ℕ) (e : Entry) (t t' : Told) → AtTurn k set tag behind e → held' ≡ held → t ≡ t'
+    → (IsLiveOn bytes held' k e → Tells (shown_on held' k e) key t) → IsSpelledOn bytes held k → Tells (shown_on held k e) key t'
+turn_tells bytes held held' k key set tag behind e t t' at same is h spelled =
+    subst (Tells (shown_on held k e) key) is
+    (subst (λ (x : ℕ → Option (List ℕ)). IsLiveOn bytes x k e → Tells (shown_on x k e) key t) same h
+    (All-contains (IsLive bytes (pages_from k.shape.sets held) k) k.entries e spelled.live (turn_listed k set tag behind e at)))
+
+-- one entry more shows another key
+pub turn_other : (shows : Entry → Option Rec) (key : List ℕ) (k : LogState) (set tag behind : ℕ) (e : Entry) → AtTurn k set tag behind e → All (ShowsOther shows key) (take behind (of_tag set tag k.entries))
+    → Tells (shows e) key told.Other → All (ShowsOther shows key) (take (behind + 1) (of_tag set tag k.entries))
+turn_other shows key k set tag behind e at none tells =
+    All-more (ShowsOther shows key) (of_tag set tag k.entries) behind e (slice_get_within (of_tag set tag k.entries) behind e at) none
+    (subst (ShowsOther shows key) (sym (get_or_from_slice_get (of_tag set tag k.entries) behind e e at)) tells)
+
+-- the entry at a place of a list, with what stands before and behind it
+split_at : (es : List Entry) (n : ℕ) (e : Entry) → slice_get es n ≡ Some e → es ≡ take n es ++ e ∷ drop (n + 1) es
+split_at es n e at =
+    let next : suc n ≡ n + 1 = omega arith in
+    sym (take-append-drop n es)
+    ∙ ap (λ (ys : List Entry). take n es ++ ys) (drop-cons es n e (slice_get_within es n e at) ∙ ap (λ (x : Entry). x ∷ drop (suc n) es) (get_or_from_slice_get es n e e at) ∙ ap (λ (m : ℕ). e ∷ drop m es) next)
+
+newest_in : (bytes : ℕ) (held : ℕ → Option (List ℕ)) (k : LogState) (key : List ℕ) (placed : Placed) → placed ≡ place_in k.shape key → IsSpelledOn bytes held k
+    → newest_with (live_by (shown_on held k) (of_tag placed.set placed.tag k.entries)) key ≡ newest_with (live_on held k) key
+newest_in bytes held k key placed is spelled =
+    ap (λ (p : Placed). newest_with (live_by (shown_on held k) (of_tag p.set p.tag k.entries)) key) is ∙ newest_of_tag bytes held k key spelled
+
+-- a hit is the newest live record of the key
+pub turn_hit : (bytes : ℕ) (held : ℕ → Option (List ℕ)) (k : LogState) (key : List ℕ) (placed : Placed) (behind : ℕ) (e : Entry) (value : List ℕ) → placed ≡ place_in k.shape key → IsSpelledOn bytes held k
+    → AtTurn k placed.set placed.tag behind e → All (ShowsOther (shown_on held k) key) (take behind (of_tag placed.set placed.tag k.entries))
+    → Tells (shown_on held k e) key (told.Hit value) → Finds (live_on held k) key (found.Hit e value)
+turn_hit bytes held k key placed behind e value is spelled at none tells =
+    let es = of_tag placed.set placed.tag k.entries in
+    let hit : (r : Rec) × (shown_on held k e ≡ Some r) × (has_key key r ≡ true) × (r.value ≡ value) = known (shown_on held k e) refl tells in (
+      hit.0,
+      sym (newest_in bytes held k key placed is spelled)
+          ∙ ap (λ (xs : List Entry). newest_with (live_by (shown_on held k) xs) key) (split_at es behind e at)
+          ∙ newest_at (shown_on held k) key (take behind es) e hit.0 (drop (behind + 1) es) none hit.1 hit.2,
+      hit.3,
+    )
+  where
+    known : (o : Option Rec) → shown_on held k e ≡ o → IsSomeAnd o (λ r. (has_key key r ≡ true) × (r.value ≡ value)) → (r : Rec) × (shown_on held k e ≡ Some r) × (has_key key r ≡ true) × (r.value ≡ value)
+    known (Some r) at h = (r, at, h.0, h.1)
+    known None at h = absurd h
+
+-- where all entries with the set and tag show other keys, no live record has the key
+pub turns_none : (bytes : ℕ) (held : ℕ → Option (List ℕ)) (k : LogState) (key : List ℕ) (placed : Placed) (n : ℕ) → placed ≡ place_in k.shape key → IsSpelledOn bytes held k
+    → length (of_tag placed.set placed.tag k.entries) ≤ n → All (ShowsOther (shown_on held k) key) (take n (of_tag placed.set placed.tag k.entries)) → newest_with (live_on held k) key ≡ None
+turns_none bytes held k key placed n is spelled le none =
+    let es = of_tag placed.set placed.tag k.entries in
+    sym (newest_in bytes held k key placed is spelled)
+    ∙ newest_none (shown_on held k) key es (subst (All (ShowsOther (shown_on held k) key)) (take_all n es le) none)
+
+-- where none stands at a place the list is no longer
+pub past : {X : Type 0} (xs : List X) (i : ℕ) → slice_get xs i ≡ None → length xs ≤ i
+past xs i none = elim (cases_lt i (length xs)) [
+  | inl within ↦ elim xs as (λ ys. i < length ys → slice_get ys i ≡ None → length ys ≤ i) [
+    | [] ↦ λ lt e. omega (arith, lt)
+    | y ∷ ys ↦ λ lt e. absurd (none-some (get_or (y ∷ ys) i y) (sym e ∙ slice_get-get_or (y ∷ ys) i y lt))
+  ] within none
+  | inr above ↦ above
+]
+
+pub got_none : (v k : LogState) (set tag behind : ℕ) (o : Option Entry) → v ≡ k → o ≡ slice_get (of_tag set tag v.entries) behind → o ≡ None → length (of_tag set tag k.entries) ≤ behind
+got_none v k set tag behind o is found none = past (of_tag set tag k.entries) behind (ap (λ (k : LogState). slice_get (of_tag set tag k.entries) behind) (sym is) ∙ sym found ∙ none)
+
+-- all were seen when as many were asked for as there are entries
+pub all_seen : (v k : LogState) (set tag n : ℕ) → v ≡ k → length v.entries ≤ n → length (of_tag set tag k.entries) ≤ n
+all_seen v k set tag n is le = omega (arith, length-kept (has_tag set tag) k.entries, ap (λ (k : LogState). length k.entries) is)
+
+-- an entry of a set with a tag is of the set
+pub set_of_tag : (set tag : ℕ) (es : List Entry) (e : Entry) → Contains (of_tag set tag es) e → e.set ≡ set
+set_of_tag set tag es e h =
+    eqb-true e.set set (and_parts (eqb e.set set) (eqb e.tag tag) (All-contains (λ e. has_tag set tag e ≡ true) (of_tag set tag es) e (filter_passes (has_tag set tag) es) h)).0

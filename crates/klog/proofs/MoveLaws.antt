@@ -1,0 +1,215 @@
+-- What leaves the log from its oldest segment.
+use Rattle.std.proofs.Common.{◌≡◌, ◌≢◌, ℕ, zero, suc, ◌+◌, ◌<◌, ◌≤◌, Bool, true, false, cond, not, eqb, ◌&&◌, ◌||◌, List, [], ◌∷◌, ◌++◌, length, get_or, take, filter, Option, Some, All, Contains, inl, inr, refl, sym, ap, subst, ◌∙◌, arith}
+use Rattle.std.specs.Prelude.{IsSomeAnd}
+use Rattle.std.specs.List.{list_any}
+use Rattle.std.proofs.lemmas.Bool.{false≢true, and_from, and_right, cases_cond, eq-eqb, ne_eqb}
+use Rattle.std.proofs.lemmas.Option.{same_Some}
+use Rattle.std.proofs.lemmas.List.Elements.{All-contains}
+use Rattle.std.proofs.lemmas.List.{take_more}
+use Rattle.std.proofs.lemmas.List.Folds.{list_any-append}
+use Rattle.page_device.specs.Frames.{pages_from}
+use Rattle.record_pages.specs.Recs.{Rec}
+use Rattle.record_pages.specs.declared.record_ref.RecordRef.{RecordRef}
+use Rattle.record_pages.specs.Lent.{record_shown}
+use Rattle.record_pages.specs.PageText.{SpellsLogPage}
+use Rattle.klog_index.specs.declared.entry.Entry.{Entry}
+use Rattle.klog_index.specs.declared.place.Place.{Place}
+use Rattle.klog_index.specs.Entries.{Entries, with_entries, is_of, is_place, is_in, without}
+use Rattle.klog_index.specs.First.{NoneOfSegment}
+use Rattle.klog.specs.declared.fetched.Fetched.TheVariants as fetched
+use Rattle.klog.specs.declared.oldest.Oldest.TheVariants as oldest
+use Rattle.klog.specs.Buffer.{page_of, record_in}
+use Rattle.klog.specs.Log.{LogState}
+use Rattle.klog.specs.Names.{names, name_of, number_of, segment_of, flushed_number, filled_number, ring_page}
+use Rattle.klog.specs.Shown.{shown, shown_on, live_on, record_of_held, CanStandFor, IsLive, IsFlushed, IsSpelledOn}
+use Rattle.klog.specs.Keeps.{IsHeld, IsLog}
+use Rattle.klog.specs.Moves.{TellsOldest, IsOfOldest, freed, is_among}
+use Rattle.klog.specs.Fetch.{stored_on, FetchGives}
+use Rattle.klog.proofs.RingLaws.{name_again, number_again, number_from}
+use Rattle.klog.proofs.LiveLaws.{live_by-same, length-kept}
+use Rattle.klog.proofs.FetchLaws.{IsStored, stored_shows}
+
+-- ---- the oldest segment is freed
+
+-- the segments that are flushed and filled keep their numbers
+flushed_freed : (k : LogState) → 0 < k.stored → flushed_number (freed k) ≡ flushed_number k
+flushed_freed k some = omega arith
+
+filled_freed : (k : LogState) → 0 < k.stored → filled_number (freed k) ≡ filled_number k
+filled_freed k some = ap (λ (n : ℕ). cond k.is_flushing (n + 1) n) (flushed_freed k some)
+
+-- an entry of another segment keeps its number
+segment_freed : (k : LogState) (e : Entry) → IsLog k → IsHeld k e → e.place.segment ≢ name_of k k.first → segment_of (freed k) e ≡ segment_of k e
+segment_freed k e log held other =
+    let name = name_again k e.place.segment held.name in
+    let later : k.first ≢ segment_of k e = λ same. other (sym name ∙ ap (name_of k) (sym same)) in
+    let up : filled_number k ≤ flushed_number k + 1 = filled_above (k.is_flushing) in
+    let above : k.first + 1 ≤ segment_of k e = omega (arith, number_from k e.place.segment, later) in
+    let below : segment_of k e < k.first + 1 + names k = omega (arith, held.segment, up, log.stored_fits) in
+    ap (number_of (freed k)) (sym name) ∙ number_again (freed k) (segment_of k e) above below
+  where
+    filled_above : (b : Bool) → cond b (flushed_number k + 1) (flushed_number k) ≤ flushed_number k + 1
+    filled_above true = omega arith
+    filled_above false = omega arith
+
+-- what an entry shows goes by three numbers
+shown_at : (ℕ → Option (List ℕ)) → LogState → Entry → ℕ → ℕ → ℕ → Option Rec
+shown_at pages k e segment filled flushed =
+    cond (eqb segment filled) (record_in k.filling e.place.page e.place.slot)
+    (cond (k.is_flushing && eqb segment flushed) (record_in k.flushing e.place.page e.place.slot)
+    (record_of_held segment e.place.page e.place.slot (pages (ring_page k segment e.place.page))))
+
+shown_freed : (pages : ℕ → Option (List ℕ)) (k : LogState) (e : Entry) → 0 < k.stored → segment_of (freed k) e ≡ segment_of k e → shown pages (freed k) e ≡ shown pages k e
+unfolding shown shown_at
+shown_freed pages k e some same =
+    ap (λ (n : ℕ). shown_at pages k e n (filled_number (freed k)) (flushed_number (freed k))) same
+    ∙ ap (λ (n : ℕ). shown_at pages k e (segment_of k e) n (flushed_number (freed k))) (filled_freed k some)
+    ∙ ap (λ (n : ℕ). shown_at pages k e (segment_of k e) (filled_number k) n) (flushed_freed k some)
+
+-- all entries keep their numbers where none is of the oldest segment
+segments_freed : (k : LogState) → IsLog k → NoneOfSegment (name_of k k.first) k.entries → All (λ e. segment_of (freed k) e ≡ segment_of k e) k.entries
+segments_freed k log none = λ i d lt. segment_freed k (get_or k.entries i d) log (log.held i d lt) (none i d lt)
+
+-- the log without its oldest segment is a log
+pub log_freed : (k : LogState) → TellsOldest k oldest.Empty → IsLog k → IsLog (freed k)
+log_freed k tells h = record {
+  some_sets = h.some_sets;
+  few_sets = h.few_sets;
+  some_segments = h.some_segments;
+  few_segments = h.few_segments;
+  some_pages = h.some_pages;
+  few_pages = h.few_pages;
+  held = λ i d lt.
+      let same = segments_freed k h tells.1 i d lt in
+      let q = h.held i d lt in
+      record {
+        set = q.set;
+        name = q.name;
+        page = q.page;
+        segment = omega (arith, same, q.segment, filled_freed k tells.0);
+        filled = λ at. q.filled (sym same ∙ at ∙ filled_freed k tells.0);
+      };
+  few_entries = h.few_entries;
+  stored_fits = omega (arith, h.stored_fits);
+  filling_fits = h.filling_fits;
+  flushing_fits = h.flushing_fits;
+  numbers = omega (arith, h.numbers, filled_freed k tells.0);
+  numbered = λ some. omega (arith, h.numbered some, filled_freed k tells.0);
+  flushing_left = h.flushing_left;
+  flushing_free = λ is done. omega (arith, h.flushing_free is done);
+}
+
+-- its entries show the same
+pub live_on-freed : (held : ℕ → Option (List ℕ)) (k : LogState) → TellsOldest k oldest.Empty → IsLog k → live_on held (freed k) ≡ live_on held k
+live_on-freed held k tells log =
+    live_by-same (shown_on held k) (shown_on held (freed k)) k.entries
+    (λ i d lt. shown_freed (pages_from k.shape.sets held) k (get_or k.entries i d) tells.0 (segments_freed k log tells.1 i d lt))
+
+-- and are spelled as they were
+pub spelled_freed : (bytes : ℕ) (held : ℕ → Option (List ℕ)) (k : LogState) → TellsOldest k oldest.Empty → IsLog k → IsSpelledOn bytes held k → IsSpelledOn bytes held (freed k)
+spelled_freed bytes held k tells log h = record {
+  live = λ i d lt.
+      let same = segments_freed k log tells.1 i d lt in
+      subst (λ (o : Option Rec). IsSomeAnd o (CanStandFor bytes k.shape (get_or k.entries i d))) (sym (shown_freed (pages_from k.shape.sets held) k (get_or k.entries i d) tells.0 same)) (h.live i d lt);
+  flushed = λ i d lt. flushed_as bytes (pages_from k.shape.sets held) k (get_or k.entries i d) tells.0 (segments_freed k log tells.1 i d lt) (h.flushed i d lt);
+}
+  where
+    flushed_as : (bytes : ℕ) (pages : ℕ → Option (List ℕ)) (k : LogState) (e : Entry) → 0 < k.stored → segment_of (freed k) e ≡ segment_of k e → IsFlushed bytes pages k e → IsFlushed bytes pages (freed k) e
+    flushed_as bytes pages k e some same h at is below =
+        let t = h (sym same ∙ at ∙ flushed_freed k some) is below in
+        (t.0, ap (λ (n : ℕ). pages (ring_page k n e.place.page)) same ∙ t.1, subst (λ (n : ℕ). SpellsLogPage bytes t.0 (record { segment = n; page = e.place.page; records = page_of k.flushing e.place.page })) (sym same) t.2)
+
+-- ---- places are dropped
+
+-- what passes two tests, one after the other
+filter_twice : (p q both : Entry → Bool) (es : List Entry) → ((e : Entry) → both e ≡ (p e && q e)) → filter q (filter p es) ≡ filter both es
+filter_twice p q both [] is = refl
+filter_twice p q both (e ∷ es) is = step (filter_twice p q both es is) (p e) (q e) refl refl
+  where
+    step : filter q (filter p es) ≡ filter both es → (a b : Bool) → p e ≡ a → q e ≡ b → filter q (filter p (e ∷ es)) ≡ filter both (e ∷ es)
+    step rest true true pe qe = simp (is e, pe, qe) (ap (λ (xs : List Entry). e ∷ xs) rest)
+    step rest true false pe qe = simp (is e, pe, qe) rest
+    step rest false true pe qe = simp (is e, pe) rest
+    step rest false false pe qe = simp (is e, pe) rest
+
+-- no place is none
+pub dropped_none : (set : ℕ) (es : List Entry) → es ≡ without (is_among set []) es
+dropped_none set [] = refl
+dropped_none set (e ∷ es) = step (dropped_none set es) (is_of set e)
+  where
+    step : es ≡ without (is_among set []) es → (b : Bool) → e ∷ es ≡ cond (not (b && false)) (e ∷ without (is_among set []) es) (without (is_among set []) es)
+    step rest true = ap (λ (xs : List Entry). e ∷ xs) rest
+    step rest false = ap (λ (xs : List Entry). e ∷ xs) rest
+
+-- one place more
+pub dropped_more : (set : ℕ) (ps : List Place) (p : Place) (es : List Entry) → without (is_in set p) (without (is_among set ps) es) ≡ without (is_among set (ps ++ p ∷ [])) es
+dropped_more set ps p es =
+    filter_twice (λ e. not (is_among set ps e)) (λ e. not (is_in set p e)) (λ e. not (is_among set (ps ++ p ∷ []) e)) es
+    (λ e. ap (λ (b : Bool). not (is_of set e && b)) (list_any-append (is_place e.place) ps (p ∷ [])) ∙ each (is_of set e) (list_any (is_place e.place) ps) (is_place e.place p))
+  where
+    each : (a b d : Bool) → not (a && (b || (d || false))) ≡ (not (a && b) && not (a && d))
+    each true true true = refl
+    each true true false = refl
+    each true false true = refl
+    each true false false = refl
+    each false true true = refl
+    each false true false = refl
+    each false false true = refl
+    each false false false = refl
+
+-- one turn of dropping places from an index
+pub dropped_turn : (index was now : Entries) (set : ℕ) (ps : List Place) (i : ℕ) (d : Place) → i < length ps → was ≡ with_entries index (without (is_among set (take i ps)) index.entries)
+    → now ≡ with_entries was (without (is_in set (get_or ps i d)) was.entries) → now ≡ with_entries index (without (is_among set (take (i + 1) ps)) index.entries)
+dropped_turn index was now set ps i d lt before after =
+    after
+    ∙ ap (λ (x : Entries). with_entries x (without (is_in set (get_or ps i d)) x.entries)) before
+    ∙ ap (with_entries index) (dropped_more set (take i ps) (get_or ps i d) index.entries)
+    ∙ ap (λ (qs : List Place). with_entries index (without (is_among set qs) index.entries)) (sym (take_more ps i d lt))
+
+-- ---- an entry is dropped
+
+-- where one that is there does not pass, fewer are kept
+fewer_kept : (p : Entry → Bool) (es : List Entry) (e : Entry) → Contains es e → p e ≡ false → length (filter p es) < length es
+fewer_kept p [] e h out = absurd (omega (arith, h.1))
+fewer_kept p (x ∷ es) e h out = by_place h.0 h.1 h.2 (p x) refl (length-kept p es) (λ rest. fewer_kept p es e rest out)
+  where
+    by_place : (k : ℕ) → k < length (x ∷ es) → get_or (x ∷ es) k e ≡ e → (b : Bool) → p x ≡ b → length (filter p es) ≤ length es → (Contains es e → length (filter p es) < length es)
+        → length (cond (p x) (x ∷ filter p es) (filter p es)) < length (x ∷ es)
+    by_place zero lt at true is no_more fewer = absurd (false≢true (sym out ∙ sym (ap p at) ∙ is))
+    by_place (suc k) lt at true is no_more fewer = rw is (omega (arith, fewer (k, omega (arith, lt), at)))
+    by_place k lt at false is no_more fewer = rw is (omega (arith, no_more))
+
+-- an entry lies where it lies
+is_in-itself : (e : Entry) → is_in e.set e.place e ≡ true
+is_in-itself e =
+    and_from _ _ (eq-eqb e.set e.set refl)
+    (and_from _ _ (and_from _ _ (eq-eqb e.place.segment e.place.segment refl) (eq-eqb e.place.page e.place.page refl)) (eq-eqb e.place.slot e.place.slot refl))
+
+-- so without it there are fewer
+pub fewer_without : (k : LogState) (e : Entry) → IsLog k → Contains k.entries e → length (without (is_in e.set e.place) k.entries) < k.shape.limit
+fewer_without k e log listed =
+    omega (arith, fewer_kept (λ x. not (is_in e.set e.place x)) k.entries e listed (ap not (is_in-itself e)), log.few_entries)
+
+-- ---- a record of the oldest segment is read
+
+-- the segment of such an entry is on the device
+pub oldest_stored : (k : LogState) (e : Entry) → IsOfOldest k e → IsStored k e
+oldest_stored k e h =
+    let not_flushed : segment_of k e ≢ flushed_number k = λ same. omega (arith, same, h.oldest, h.some) in
+    let not_filled : segment_of k e ≢ filled_number k = λ same. elim (cases_cond k.is_flushing (flushed_number k + 1) (flushed_number k) (filled_number k) refl) [
+      | inl next ↦ omega (arith, same, next, h.oldest, h.some)
+      | inr at ↦ not_flushed (same ∙ at)
+    ] in
+    record { not_filled = not_filled; not_flushed = and_right k.is_flushing _ (ne_eqb (segment_of k e) (flushed_number k) not_flushed) }
+
+-- its page is known to hold a record that may stand for it
+pub oldest_known : (bytes : ℕ) (held : ℕ → Option (List ℕ)) (k : LogState) (e : Entry) → IsOfOldest k e → IsSpelledOn bytes held k → IsSomeAnd (stored_on held k e) (CanStandFor bytes k.shape e)
+oldest_known bytes held k e h spelled =
+    subst (λ (o : Option Rec). IsSomeAnd o (CanStandFor bytes k.shape e)) (stored_shows held k e (oldest_stored k e h))
+    (All-contains (IsLive bytes (pages_from k.shape.sets held) k) k.entries e spelled.live h.listed)
+
+-- and the record that is given is the one that the entry shows
+pub oldest_given : (bytes : ℕ) (held : ℕ → Option (List ℕ)) (k : LogState) (e : Entry) (found : RecordRef) (r : Rec) → IsOfOldest k e → IsSpelledOn bytes held k
+    → FetchGives bytes k.shape e (stored_on held k e) (fetched.Record found) → shown_on held k e ≡ Some r → record_shown found ≡ r
+oldest_given bytes held k e found r h spelled gives shows =
+    same_Some (record_shown found) r (sym (gives (oldest_known bytes held k e h spelled)) ∙ sym (stored_shows held k e (oldest_stored k e h)) ∙ shows)

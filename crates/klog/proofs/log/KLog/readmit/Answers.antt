@@ -1,0 +1,31 @@
+use Rattle.std.proofs.Common.{ℕ, List, Option, sym, subst}
+use Rattle.record_pages.specs.Recs.{Rec}
+use Rattle.klog.specs.Shown.{IsSpelledOn, live_on}
+use Rattle.klog.specs.Moves.{ReadmitGives}
+use Rattle.klog.proofs.MoveLaws.{oldest_known, oldest_given}
+use Rattle.klog.proofs.log.KLog.readmit.Goals as goal
+
+pub returns-in-Fault-clause-spelled : goal.returns-in-Fault-clause-spelled
+returns-in-Fault-clause-spelled g c = λ honest h.
+    subst (λ (held : ℕ → Option (List ℕ)). IsSpelledOn g.row.PAGE held c.lose_page_of.new.self) (sym (c.fetch_stored.ensures.same honest)) (c.lose_page_of.ensures.spelled (g.D.PageDevice.held c.args.device.now) h)
+
+pub returns-in-Damaged-clause-spelled : goal.returns-in-Damaged-clause-spelled
+returns-in-Damaged-clause-spelled g c = λ honest h.
+    subst (λ (held : ℕ → Option (List ℕ)). IsSpelledOn g.row.PAGE held c.lose_page_of-in-Damaged.new.self) (sym (c.fetch_stored.ensures.same honest)) (c.lose_page_of-in-Damaged.ensures.spelled (g.D.PageDevice.held c.args.device.now) h)
+
+pub returns-in-Damaged-clause-gives : goal.returns-in-Damaged-clause-gives
+returns-in-Damaged-clause-gives g c = λ honest h r shows.
+    c.in-Damaged.ensures.gives honest (oldest_known g.row.PAGE (g.D.PageDevice.held c.args.device.now) c.args.self.now c.args.entry.now c.requires.oldest h)
+
+pub returns-in-Record-clause-gives : goal.returns-in-Record-clause-gives
+returns-in-Record-clause-gives g c = λ honest h r shows.
+    let held = g.D.PageDevice.held c.args.device.now in
+    let k = c.args.self.now in
+    let e = c.args.entry.now in
+    let same = oldest_given g.row.PAGE held k e c.in-Record.found r c.requires.oldest h (c.in-Record.ensures.gives honest) shows in
+    subst (λ (now : ℕ → Option (List ℕ)). ReadmitGives g.row.PAGE k e r (live_on held k) c.enter_anew.result (live_on now c.enter_anew.new.self)) (sym (c.fetch_stored.ensures.same honest))
+    (subst (λ (x : Rec). ReadmitGives g.row.PAGE k e x (live_on held k) c.enter_anew.result (live_on held c.enter_anew.new.self)) same (c.enter_anew.ensures.shown held h))
+
+pub returns-in-Record-clause-spelled : goal.returns-in-Record-clause-spelled
+returns-in-Record-clause-spelled g c = λ honest h.
+    subst (λ (held : ℕ → Option (List ℕ)). IsSpelledOn g.row.PAGE held c.enter_anew.new.self) (sym (c.fetch_stored.ensures.same honest)) (c.enter_anew.ensures.spelled (g.D.PageDevice.held c.args.device.now) h)

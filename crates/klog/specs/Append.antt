@@ -1,0 +1,63 @@
+-- What becomes of a record that is to enter the log.
+use Rattle.std.specs.Prelude.{◌≡◌, ℕ, ◌<◌, ◌^◌, List, ◌∷◌, [], length, Bool, true, false, ◌||◌, nat_lt, nat_le, if◌then◌else◌}
+use Rattle.record_pages.specs.Recs.{Rec, rec}
+use Rattle.klog_index.specs.declared.entry.Entry.{Entry}
+use Rattle.klog.specs.declared.appended.Appended.{Appended}
+use Rattle.klog.specs.declared.appended.Appended.TheVariants as answers
+use Rattle.klog.specs.Buffer.{can_add, pages_with, page_for, slot_for}
+use Rattle.klog.specs.Log.{LogState, filling_buffer}
+use Rattle.klog.specs.Names.{name_of, filled_number}
+use Rattle.klog.specs.Shown.{place_in}
+
+-- the record of a key and value that enters a log: its prediction is 6
+abbrev pub entering : List ℕ → List ℕ → Rec
+entering key value = rec key value 6
+
+-- the filled segment becomes the flushed one, and an empty one is filled
+abbrev pub sealed : LogState → LogState
+sealed k = record k { is_flushing = true; done = 0; flushing = k.filling; filling = [] }
+
+-- the entry of a record that goes into the segment that is filled
+abbrev pub entry_for : ℕ → LogState → Rec → Entry
+entry_for bytes k r = record {
+  set = (place_in k.shape r.key).set;
+  tag = (place_in k.shape r.key).tag;
+  place = record { segment = name_of k (filled_number k); page = page_for bytes k.filling r; slot = slot_for bytes k.filling r };
+  prediction = 6;
+}
+
+-- the record is added to the segment that is filled
+abbrev pub put_on : ℕ → LogState → Rec → LogState
+put_on bytes k r = record k { entries = entry_for bytes k r ∷ k.entries; filling = pages_with bytes k.filling r }
+
+-- the log that takes the record: as it is where the filled segment has room, else with a new segment
+abbrev pub taker : ℕ → LogState → Rec → LogState
+taker bytes k r = if can_add bytes (filling_buffer k) r then k else sealed k
+
+-- the log with the record
+abbrev pub appended : ℕ → LogState → Rec → LogState
+appended bytes k r = put_on bytes (taker bytes k r) r
+
+-- no place is left: both buffers are in use, or the number of the record's segment would pass 2^62
+abbrev pub is_full : ℕ → LogState → Rec → Bool
+is_full bytes k r =
+    if can_add bytes (filling_buffer k) r then nat_lt (2 ^ 62) (filled_number k)
+    else (k.is_flushing || nat_le (2 ^ 62) (filled_number k))
+
+-- refused where the index is full, or else where no place is left; added otherwise
+abbrev pub AppendGives : ℕ → LogState → Rec → Appended → LogState → Type 0
+AppendGives bytes old r answers.IndexFull new = (length old.entries ≡ old.shape.limit) × (new ≡ old)
+AppendGives bytes old r answers.Full new =
+    (length old.entries < old.shape.limit) × (is_full bytes old r ≡ true) × (new ≡ old)
+AppendGives bytes old r answers.Appended new =
+    (length old.entries < old.shape.limit) × (is_full bytes old r ≡ false) × (new ≡ appended bytes old r)
+
+-- the live records once the record has entered, or found no place: then it is the newest of them
+abbrev pub live_entered : ℕ → LogState → Rec → Bool → List (Entry × Rec) → List (Entry × Rec)
+live_entered bytes old r entered live = if entered then (entry_for bytes (taker bytes old r) r, r) ∷ live else live
+
+-- the live records after an append
+abbrev pub live_appended : ℕ → LogState → Rec → Appended → List (Entry × Rec) → List (Entry × Rec)
+live_appended bytes old r answers.Appended live = live_entered bytes old r true live
+live_appended bytes old r answers.IndexFull live = live
+live_appended bytes old r answers.Full live = live

@@ -1,0 +1,31 @@
+-- What the reading of an entry's record gives.
+use Rattle.std.specs.Prelude.{◌≡◌, ℕ, List, Option, Some, IsSomeAnd, Bool, true, false}
+use Rattle.record_pages.specs.Recs.{Rec}
+use Rattle.record_pages.specs.Lent.{record_shown}
+use Rattle.klog_index.specs.declared.entry.Entry.{Entry}
+use Rattle.klog.specs.declared.fetched.Fetched.{Fetched}
+use Rattle.klog.specs.declared.fetched.Fetched.TheVariants as fetched
+use Rattle.klog.specs.Log.{Shape, LogState}
+use Rattle.klog.specs.Names.{segment_of, device_page}
+use Rattle.klog.specs.Shown.{record_of_held, CanStandFor}
+
+-- the device failed
+abbrev pub is_fault : Fetched → Bool
+is_fault fetched.Fault = true
+is_fault _ = false
+
+-- a record that is given may stand for the entry
+abbrev pub IsItsOwn : ℕ → Shape → Entry → Fetched → Type 0
+IsItsOwn bytes shape e (fetched.Record r) = CanStandFor bytes shape e (record_shown r)
+IsItsOwn bytes shape e fetched.Fault = Unit {0}
+IsItsOwn bytes shape e fetched.Damaged = Unit {0}
+
+-- the record that an entry's page is known to hold
+abbrev pub stored_on : (ℕ → Option (List ℕ)) → LogState → Entry → Option Rec
+stored_on held k e = record_of_held (segment_of k e) e.place.page e.place.slot (held (device_page k (segment_of k e) e.place.page))
+
+-- where the record is known, and may stand for the entry, it is the one that is given, and none is damaged
+abbrev pub FetchGives : ℕ → Shape → Entry → Option Rec → Fetched → Type 0
+FetchGives bytes shape e known (fetched.Record r) = IsSomeAnd known (CanStandFor bytes shape e) → known ≡ Some (record_shown r)
+FetchGives bytes shape e known fetched.Fault = Unit {0}
+FetchGives bytes shape e known fetched.Damaged = IsSomeAnd known (CanStandFor bytes shape e) → ⊥

@@ -1,0 +1,13 @@
+pub mod Buffer
+pub mod Log
+pub mod Names
+pub mod Shown
+pub mod Keeps
+pub mod Append
+pub mod Fetch
+pub mod Find
+pub mod Look
+pub mod Flush
+pub mod Moves
+pub mod Owner
+pub mod Take

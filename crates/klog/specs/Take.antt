@@ -1,0 +1,48 @@
+-- What a reading of the records of a set gives.
+use Rattle.std.specs.Prelude.{◌≡◌, ℕ, List, Option, Some, None, IsSomeAnd, Contains, Bool, true, false, Result, Ok, Err}
+use Rattle.std.specs.declared.alloc.AllocError.{AllocError}
+use Rattle.page_device.specs.Device.{faults_after}
+use Rattle.record_pages.specs.Recs.{Rec}
+use Rattle.klog_index.specs.declared.entry.Entry.{Entry}
+use Rattle.klog.specs.declared.taken_record.TakenRecord.{TakenRecord}
+use Rattle.klog.specs.declared.gathered.Gathered.{Gathered}
+use Rattle.klog.specs.declared.gathered.Gathered.TheVariants as gathered
+use Rattle.klog.specs.Log.{LogState}
+use Rattle.klog.specs.Moves.{taken_as, taken_of, taken_entries}
+
+-- no record was had
+abbrev pub is_missing : Result (Option TakenRecord) AllocError → Bool
+is_missing (Ok None) = true
+is_missing _ = false
+
+-- the device may have failed once where no record was had, and not else
+abbrev pub FailsOnlyIfMissing : ℕ → Result (Option TakenRecord) AllocError → ℕ → Type 0
+FailsOnlyIfMissing old (Ok None) new = (failed : Bool) × (new ≡ faults_after old failed)
+FailsOnlyIfMissing old (Ok (Some t)) new = new ≡ old
+FailsOnlyIfMissing old (Err e) new = new ≡ old
+
+-- a record that was had is the entry's, as it is taken
+abbrev pub Copies : Entry → Option Rec → Option TakenRecord → Type 0
+Copies e shown (Some t) = IsSomeAnd shown (λ r. t ≡ taken_as (e, r))
+Copies e shown None = Unit {0}
+
+-- a page was lost
+abbrev pub is_lost_page : Result Gathered AllocError → Bool
+is_lost_page (Ok (gathered.Lost e)) = true
+is_lost_page _ = false
+
+-- the device may have failed once where a page was lost, and not else
+abbrev pub FailsOnlyIfLostPage : ℕ → Result Gathered AllocError → ℕ → Type 0
+FailsOnlyIfLostPage old (Ok (gathered.Lost e)) new = (failed : Bool) × (new ≡ faults_after old failed)
+FailsOnlyIfLostPage old (Ok (gathered.Records rs)) new = new ≡ old
+FailsOnlyIfLostPage old (Err e) new = new ≡ old
+
+-- an entry whose page is lost was to be taken
+abbrev pub IsToBeTaken : LogState → ℕ → Gathered → Type 0
+IsToBeTaken k set (gathered.Lost e) = Contains (taken_entries k set) e
+IsToBeTaken k set (gathered.Records rs) = Unit {0}
+
+-- the records that are had are those that are taken
+abbrev pub Gathers : ℕ → List (Entry × Rec) → Gathered → Type 0
+Gathers set live (gathered.Records rs) = rs ≡ taken_of set live
+Gathers set live (gathered.Lost e) = Unit {0}

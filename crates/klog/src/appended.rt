@@ -1,0 +1,12 @@
+// What became of a record that was to enter the log.
+
+/// What became of a record that was to enter the log.
+#[derive(Clone, Copy, Debug, PartialEq, Eq)]
+pub enum Appended {
+    /// It is the newest live record of the log.
+    Appended,
+    /// There are as many live records as the index may have. Nothing changed.
+    IndexFull,
+    /// No buffer has room for it. Nothing changed.
+    Full,
+}

@@ -1,0 +1,16 @@
+// What the entries of a key's set and tag say of it.
+use klog_index::Entry;
+use record_pages::Value;
+
+/// What the entries of a key's set and tag say of it.
+#[derive(Debug, Drop)]
+pub(crate) enum Found {
+    /// The record of this entry is the newest live one with the key, and has this value.
+    Hit(Entry, Value),
+    /// No live record has the key.
+    Absent,
+    /// The device failed.
+    Fault,
+    /// A page that was read is not the log's, or the record there is not the entry's.
+    Damaged,
+}

@@ -1,0 +1,12 @@
+// What a reading of a set's records gave.
+use crate::taken_records::TakenRecords;
+use klog_index::Entry;
+
+/// What a reading of a set's records gave.
+#[derive(Debug, Drop)]
+pub(crate) enum Gathered {
+    /// The newest live records of the set, newest first.
+    Records(TakenRecords),
+    /// The page with the record of this entry is lost.
+    Lost(Entry),
+}

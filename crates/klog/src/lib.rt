@@ -1,0 +1,31 @@
+//! The log on flash: segments of pages, of which one is filled and one may be flushed from memory, and the oldest lie on
+//! a device.
+#![tactic(auto)]
+
+mod appended;
+mod buffer;
+mod fetched;
+mod flushed;
+mod found;
+mod gathered;
+mod log;
+mod looked;
+mod oldest;
+mod readmitted;
+mod set_taken;
+mod taken_record;
+mod taken_records;
+mod told;
+
+pub use appended::Appended;
+pub use flushed::Flushed;
+pub use log::{KLog, MAX_TAKEN};
+pub use looked::Looked;
+pub use oldest::Oldest;
+pub use readmitted::Readmitted;
+pub use set_taken::SetTaken;
+pub use taken_record::TakenRecord;
+pub use taken_records::TakenRecords;
+
+#[cfg(test)]
+mod tests;

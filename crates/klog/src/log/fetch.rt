@@ -1,0 +1,141 @@
+// Reading the record of an entry.
+ghost use Rattle.std.specs.Prelude.{◌≡◌, IfSome, IsTrue, Contains, false};
+ghost use Rattle.std.specs.Option.{option_map};
+ghost use Rattle.page_device.specs.Device.{faults_after};
+ghost use Rattle.record_pages.specs.Sizes.{IsPageSize};
+ghost use Rattle.record_pages.specs.Recs.{IsRecord};
+ghost use Rattle.record_pages.specs.Lent.{record_shown};
+ghost use Rattle.record_pages.specs.Reading.{log_page_at};
+ghost use Rattle.klog.specs.Buffer.{record_in};
+ghost use Rattle.klog.specs.Names.{HasRoom};
+ghost use Rattle.klog.specs.Shown.{shown_on, record_on};
+ghost use Rattle.klog.specs.Look.{is_buffered};
+ghost use Rattle.klog.specs.Fetch.{is_fault, IsItsOwn, stored_on, FetchGives};
+
+use super::KLog;
+use crate::buffer::SegmentBuffer;
+use crate::fetched::Fetched;
+use klog_index::Entry;
+use page_device::PageDevice;
+use record_pages::{LogPage, PAGE_OVERHEAD, RecordRef};
+use set_hash::place;
+
+impl<const PAGE: usize> KLog<PAGE> {
+    // The record of an entry: out of a buffer, or off its page, which is read into these bytes.
+    pub(super) fn fetch<'a, D: PageDevice<PAGE>>(
+        &'a self,
+        device: &mut D,
+        entry: &Entry,
+        bytes: &'a mut [u8; PAGE],
+    ) -> Fetched<'a>
+        requires page_size { IsPageSize PAGE }
+        requires room { HasRoom (D.page_count device.old) self.now }
+        requires listed { Contains self.now.entries entry.now }
+        ensures pages { D.page_count device.new ≡ D.page_count device.old }
+        ensures honest { D.honest device.new ≡ D.honest device.old }
+        ensures faults { D.failures device.new
+            ≡ faults_after (D.failures device.old) (is_fault result) }
+        ensures buffered { IsTrue (is_buffered self.entry.now entry.now) → device.new ≡ device.old }
+        ensures its { IsItsOwn PAGE self.entry.now.shape entry.now result }
+        ensures same { IsTrue (D.honest device.old) → D.held device.new ≡ D.held device.old }
+        ensures gives { IsTrue (D.honest device.old) →
+            FetchGives PAGE self.entry.now.shape entry.now
+            (shown_on (D.held device.old) self.entry.now entry.now) result }
+    {
+        let number = self.number_of(entry.place.segment);
+        if number == self.filled_number() {
+            return self.checked(entry, record_in(&self.filling, entry));
+        }
+        if self.is_flushing && number == self.flushed_number() {
+            return self.checked(entry, record_in(&self.flushing, entry));
+        }
+        self.fetch_stored(device, entry, bytes)
+    }
+
+    // The record of an entry whose segment is on the device, off its page, which is read into these bytes.
+    pub(super) fn fetch_stored<'a, D: PageDevice<PAGE>>(
+        &self,
+        device: &mut D,
+        entry: &Entry,
+        bytes: &'a mut [u8; PAGE],
+    ) -> Fetched<'a>
+        requires page_size { IsPageSize PAGE }
+        requires room { HasRoom (D.page_count device.old) self.now }
+        requires listed { Contains self.now.entries entry.now }
+        ensures pages { D.page_count device.new ≡ D.page_count device.old }
+        ensures honest { D.honest device.new ≡ D.honest device.old }
+        ensures faults { D.failures device.new
+            ≡ faults_after (D.failures device.old) (is_fault result) }
+        ensures its { IsItsOwn PAGE self.now.shape entry.now result }
+        ensures same { IsTrue (D.honest device.old) → D.held device.new ≡ D.held device.old }
+        ensures gives { IsTrue (D.honest device.old) →
+            FetchGives PAGE self.now.shape entry.now
+            (stored_on (D.held device.old) self.now entry.now) result }
+    {
+        let number = self.number_of(entry.place.segment);
+        let page = u32::from(entry.place.page);
+        prove!(page < self.layout.segment_pages);
+        let Ok(()) = device.read(self.device_page(number, page), bytes) else {
+            return Fetched::Fault;
+        };
+        self.checked(entry, record_on(bytes, number, entry))
+    }
+
+    // The record of an entry, where there is one and it has the entry's set and tag and a record's size.
+    fn checked<'a>(&self, entry: &Entry, found: Option<RecordRef<'a>>) -> Fetched<'a>
+        requires page_size { IsPageSize PAGE }
+        requires lawful { IfSome found (λ r. IsRecord (record_shown r)) }
+        ensures no_fault { is_fault result ≡ false }
+        ensures its { IsItsOwn PAGE self.now.shape entry.now result }
+        ensures gives { FetchGives PAGE self.now.shape entry.now
+            (option_map record_shown found.entry) result }
+    {
+        let Some(found) = found else {
+            return Fetched::Damaged;
+        };
+        let placed = place(&self.layout, found.key);
+        if placed.set != entry.set
+            || placed.tag != entry.tag
+            || found.size() > PAGE - PAGE_OVERHEAD
+        {
+            return Fetched::Damaged;
+        }
+        Fetched::Record(found)
+    }
+}
+
+// The record in an entry's slot of a page, where that is the page of this segment.
+#[tactic(auto, unfolding(crate::specs::Shown::record_on))]
+fn record_on<'a, const PAGE: usize>(
+    bytes: &'a [u8; PAGE],
+    segment: u64,
+    entry: &Entry,
+) -> Option<RecordRef<'a>>
+    ensures value { option_map record_shown result
+        ≡ record_on segment entry.now.place.page entry.now.place.slot (log_page_at bytes.entry.now) }
+    ensures lawful { IfSome result (λ r. IsRecord (record_shown r)) }
+{
+    let Some(page) = LogPage::read(bytes) else {
+        return None;
+    };
+    if page.segment() != segment || page.page() != u16::from(entry.place.page) {
+        return None;
+    }
+    page.records().at(entry.place.slot as usize)
+}
+
+// The record in an entry's slot of a segment in the making.
+fn record_in<'a, const PAGE: usize>(
+    buffer: &'a SegmentBuffer<PAGE>,
+    entry: &Entry,
+) -> Option<RecordRef<'a>>
+    requires { IsPageSize PAGE }
+    ensures value { option_map record_shown result
+        ≡ record_in buffer.entry.now.pages entry.now.place.page entry.now.place.slot }
+    ensures lawful { IfSome result (λ r. IsRecord (record_shown r)) }
+{
+    let Some(page) = buffer.page(entry.place.page as usize) else {
+        return None;
+    };
+    page.records().at(entry.place.slot as usize)
+}

@@ -1,0 +1,140 @@
+// Writing filled segments to the device.
+ghost use Rattle.std.specs.Prelude.{◌≡◌, ◌<◌, ℕ, List, Option, IsTrue, not, true};
+ghost use Rattle.page_device.specs.Device.{faults_after};
+ghost use Rattle.page_device.specs.Frames.{pages_before};
+ghost use Rattle.record_pages.specs.Sizes.{IsPageSize};
+ghost use Rattle.klog.specs.Names.{HasRoom};
+ghost use Rattle.klog.specs.Shown.{IsSpelledOn, live_on};
+ghost use Rattle.klog.specs.Flush.{is_lost, CanFlush, FlushGives, live_flushed, moved_on, without_next, WritesNext};
+
+use super::KLog;
+use crate::flushed::Flushed;
+use page_device::PageDevice;
+
+impl<const PAGE: usize> KLog<PAGE> {
+    /// One step of flushing. With a segment to be flushed its next page is written, or, where the device fails, its live
+    /// records are lost; it waits while the device has no segment free. Without one, the filled segment becomes it where
+    /// it has a record. No memory is taken.
+    pub fn flush_step<D: PageDevice<PAGE>>(&mut self, device: &mut D) -> Flushed
+        requires page_size { IsPageSize PAGE }
+        requires room { HasRoom (D.page_count device.old) self.old }
+
+        // On any device.
+        ensures pages { D.page_count device.new ≡ D.page_count device.old }
+        ensures honest { D.honest device.new ≡ D.honest device.old }
+        ensures faults { D.failures device.new
+            ≡ faults_after (D.failures device.old) (is_lost result) }
+        ensures shape { self.new.shape ≡ self.old.shape }
+        ensures gives { FlushGives self.old result self.new }
+        ensures idle { (CanFlush self.old → ⊥) → device.new ≡ device.old }
+
+        // Where it is honest.
+        ensures apart { IsTrue (D.honest device.old) →
+            pages_before self.old.shape.sets (D.held device.new)
+            ≡ pages_before self.old.shape.sets (D.held device.old) }
+        ensures spelled { IsTrue (D.honest device.old) →
+            IsSpelledOn PAGE (D.held device.old) self.old →
+            IsSpelledOn PAGE (D.held device.new) self.new }
+        ensures shown { IsTrue (D.honest device.old) →
+            IsSpelledOn PAGE (D.held device.old) self.old →
+            live_on (D.held device.new) self.new
+            ≡ live_flushed self.old result (live_on (D.held device.old) self.old) }
+    {
+        if self.is_flushing {
+            return self.flush_page(device);
+        }
+        if self.filling.len() == 0 {
+            return Flushed::Nothing;
+        }
+        self.seal();
+        Flushed::Sealed
+    }
+
+    // Writes the next page of the flushed segment.
+    fn flush_page<D: PageDevice<PAGE>>(&mut self, device: &mut D) -> Flushed
+        requires page_size { IsPageSize PAGE }
+        requires room { HasRoom (D.page_count device.old) self.old }
+        requires flushing { self.old.is_flushing ≡ true }
+
+        // On any device.
+        ensures pages { D.page_count device.new ≡ D.page_count device.old }
+        ensures honest { D.honest device.new ≡ D.honest device.old }
+        ensures faults { D.failures device.new
+            ≡ faults_after (D.failures device.old) (is_lost result) }
+        ensures shape { self.new.shape ≡ self.old.shape }
+        ensures gives { FlushGives self.old result self.new }
+        ensures idle { (CanFlush self.old → ⊥) → device.new ≡ device.old }
+
+        // Where it is honest.
+        ensures apart { IsTrue (D.honest device.old) →
+            pages_before self.old.shape.sets (D.held device.new)
+            ≡ pages_before self.old.shape.sets (D.held device.old) }
+        ensures spelled { IsTrue (D.honest device.old) →
+            IsSpelledOn PAGE (D.held device.old) self.old →
+            IsSpelledOn PAGE (D.held device.new) self.new }
+        ensures shown { IsTrue (D.honest device.old) →
+            IsSpelledOn PAGE (D.held device.old) self.old →
+            live_on (D.held device.new) self.new
+            ≡ live_flushed self.old result (live_on (D.held device.old) self.old) }
+    {
+        if self.done == 0 && self.stored == self.layout.segments {
+            return Flushed::LogFull;
+        }
+        if self.write_page(device) {
+            self.move_on();
+            return Flushed::Wrote;
+        }
+        self.lose_page();
+        self.move_on();
+        Flushed::PageLost
+    }
+
+    // Writes the next page of the flushed segment, and says whether the device took it.
+    fn write_page<D: PageDevice<PAGE>>(&self, device: &mut D) -> bool
+        requires page_size { IsPageSize PAGE }
+        requires room { HasRoom (D.page_count device.old) self.now }
+        requires flushing { self.now.is_flushing ≡ true }
+        ensures pages { D.page_count device.new ≡ D.page_count device.old }
+        ensures honest { D.honest device.new ≡ D.honest device.old }
+        ensures faults { D.failures device.new
+            ≡ faults_after (D.failures device.old) (not result) }
+        ensures written { IsTrue (D.honest device.old) →
+            WritesNext PAGE self.now result (D.held device.old) (D.held device.new) }
+    {
+        let number = self.flushed_number();
+        let Some(writer) = self.flushing.page(self.done as usize) else {
+            unreachable!();
+        };
+        let mut bytes = [0u8; PAGE];
+        writer.text(number, self.done as u16, &mut bytes);
+        let page = self.device_page(number, self.done);
+        let Ok(()) = device.write(page, &bytes) else {
+            return false;
+        };
+        true
+    }
+
+    // Drops the entries of the page that is flushed next.
+    fn lose_page(&mut self)
+        requires { self.old.is_flushing ≡ true }
+        ensures { self.new ≡ without_next self.old }
+    {
+        let name = self.name_of(self.flushed_number());
+        self.index.drop_page(name, self.done as u8);
+    }
+
+    // One page is done; after the last one the segment is on the device.
+    fn move_on(&mut self)
+        requires { CanFlush self.old }
+        ensures { self.new ≡ moved_on self.old }
+    {
+        let pages = self.flushing.len();
+        self.done += 1;
+        if self.done as usize == pages {
+            self.done = 0;
+            self.stored += 1;
+            self.is_flushing = false;
+            self.flushing.clear();
+        }
+    }
+}

@@ -1,0 +1,153 @@
+// Looking a key up in the log.
+ghost use Rattle.std.specs.Prelude.{◌≡◌, ℕ, List, Option, IfOk, IsTrue, Contains};
+ghost use Rattle.page_device.specs.Device.{faults_after};
+ghost use Rattle.record_pages.specs.Sizes.{IsPageSize};
+ghost use Rattle.klog_index.specs.Entries.{of_tag};
+ghost use Rattle.klog.specs.Names.{HasRoom};
+ghost use Rattle.klog.specs.Shown.{IsSpelledOn, IsLiveOn, shown_on, live_on, place_in};
+ghost use Rattle.klog.specs.Find.{is_told_fault, Tells, is_found_fault, IsOfTag, Finds};
+ghost use Rattle.klog.specs.Look.{is_fault, LookLeaves, LookGives, is_buffered, AreBuffered, lowered_in, live_lowered};
+
+use super::KLog;
+use crate::fetched::Fetched;
+use crate::found::Found;
+use crate::looked::Looked;
+use crate::told::Told;
+use klog_index::{Entry, Place};
+use page_device::PageDevice;
+use record_pages::{Key, Value};
+use set_hash::Placed;
+use std::alloc::{AllocError, Global};
+
+impl<const PAGE: usize> KLog<PAGE> {
+    /// The value of the newest live record of a key, whose prediction is then one less, and not below 0. All other
+    /// answers, and `AllocError`, change nothing. A record that lies in memory is had without a call of the device.
+    pub fn look<D: PageDevice<PAGE>>(
+        &mut self,
+        alloc: Global,
+        device: &mut D,
+        placed: &Placed,
+        key: &Key,
+    ) -> Result<Looked, AllocError>
+        requires page_size { IsPageSize PAGE }
+        requires room { HasRoom (D.page_count device.old) self.old }
+        requires place { placed.now ≡ place_in self.old.shape key.now }
+
+        // On any device.
+        ensures pages { D.page_count device.new ≡ D.page_count device.old }
+        ensures honest { D.honest device.new ≡ D.honest device.old }
+        ensures faults { D.failures device.new
+            ≡ faults_after (D.failures device.old) (is_fault result) }
+        ensures shape { self.new.shape ≡ self.old.shape }
+        ensures leaves { LookLeaves self.old placed.now.set placed.now.tag result self.new }
+        ensures buffered { AreBuffered self.old
+            (of_tag placed.now.set placed.now.tag self.old.entries) →
+            device.new ≡ device.old }
+
+        // Where it is honest.
+        ensures same { IsTrue (D.honest device.old) → D.held device.new ≡ D.held device.old }
+        ensures gives { IsTrue (D.honest device.old) →
+            IsSpelledOn PAGE (D.held device.old) self.old →
+            IfOk result (λ r. LookGives (live_on (D.held device.old) self.old) key.now self.old r
+            self.new (live_on (D.held device.new) self.new)) }
+        ensures spelled { IsTrue (D.honest device.old) →
+            IsSpelledOn PAGE (D.held device.old) self.old →
+            IsSpelledOn PAGE (D.held device.new) self.new }
+    {
+        match self.find(alloc, device, placed, key)? {
+            Found::Absent => Ok(Looked::Absent),
+            Found::Fault => Ok(Looked::Fault),
+            Found::Damaged => Ok(Looked::Damaged),
+            Found::Hit(entry, value) => {
+                self.lower(entry.set, entry.place);
+                Ok(Looked::Hit(value))
+            }
+        }
+    }
+
+    // The newest entry of a key's set and tag whose record has the key.
+    fn find<D: PageDevice<PAGE>>(
+        &self,
+        alloc: Global,
+        device: &mut D,
+        placed: &Placed,
+        key: &Key,
+    ) -> Result<Found, AllocError>
+        requires page_size { IsPageSize PAGE }
+        requires room { HasRoom (D.page_count device.old) self.now }
+        requires place { placed.now ≡ place_in self.now.shape key.now }
+        ensures pages { D.page_count device.new ≡ D.page_count device.old }
+        ensures honest { D.honest device.new ≡ D.honest device.old }
+        ensures faults { D.failures device.new
+            ≡ faults_after (D.failures device.old) (is_found_fault result) }
+        ensures its { IfOk result (IsOfTag placed.now.set placed.now.tag self.now.entries) }
+        ensures buffered { AreBuffered self.now
+            (of_tag placed.now.set placed.now.tag self.now.entries) →
+            device.new ≡ device.old }
+        ensures same { IsTrue (D.honest device.old) → D.held device.new ≡ D.held device.old }
+        ensures finds { IsTrue (D.honest device.old) →
+            IsSpelledOn PAGE (D.held device.old) self.now →
+            IfOk result (Finds (live_on (D.held device.old) self.now) key.now) }
+    {
+        for behind in 0..self.index.len() {
+            let Some(entry) = self.index.find(placed.set, placed.tag, behind) else {
+                return Ok(Found::Absent);
+            };
+            match self.ask(alloc, device, &entry, key)? {
+                Told::Other => {}
+                Told::Fault => return Ok(Found::Fault),
+                Told::Damaged => return Ok(Found::Damaged),
+                Told::Hit(value) => return Ok(Found::Hit(entry, value)),
+            }
+        }
+        Ok(Found::Absent)
+    }
+
+    // What the record of an entry says of a key.
+    fn ask<D: PageDevice<PAGE>>(
+        &self,
+        alloc: Global,
+        device: &mut D,
+        entry: &Entry,
+        key: &Key,
+    ) -> Result<Told, AllocError>
+        requires page_size { IsPageSize PAGE }
+        requires room { HasRoom (D.page_count device.old) self.now }
+        requires listed { Contains self.now.entries entry.now }
+        ensures pages { D.page_count device.new ≡ D.page_count device.old }
+        ensures honest { D.honest device.new ≡ D.honest device.old }
+        ensures faults { D.failures device.new
+            ≡ faults_after (D.failures device.old) (is_told_fault result) }
+        ensures buffered { IsTrue (is_buffered self.now entry.now) → device.new ≡ device.old }
+        ensures same { IsTrue (D.honest device.old) → D.held device.new ≡ D.held device.old }
+        ensures tells { IsTrue (D.honest device.old) →
+            IsLiveOn PAGE (D.held device.old) self.now entry.now →
+            IfOk result (Tells (shown_on (D.held device.old) self.now entry.now) key.now) }
+    {
+        let mut bytes = [0u8; PAGE];
+        match self.fetch(device, entry, &mut bytes) {
+            Fetched::Fault => Ok(Told::Fault),
+            Fetched::Damaged => Ok(Told::Damaged),
+            Fetched::Record(found) => {
+                if found.key != key.bytes() {
+                    return Ok(Told::Other);
+                }
+                let Ok(value) = Value::new(alloc, found.value) else {
+                    return Err(AllocError);
+                };
+                Ok(Told::Hit(value))
+            }
+        }
+    }
+
+    // The entry of a set at a place is asked for once more.
+    fn lower(&mut self, set: u32, place: Place)
+        ensures lowered { self.new ≡ lowered_in self.old set place }
+        ensures spelled { (held : ℕ → Option (List ℕ)) → IsSpelledOn PAGE held self.old →
+            IsSpelledOn PAGE held self.new }
+        ensures shown { (held : ℕ → Option (List ℕ)) → live_on held self.new
+            ≡ live_lowered set place (live_on held self.old) }
+    {
+        self.index.lower_in(set, place);
+    }
+}

@@ -1,0 +1,286 @@
+// What leaves the log, from its oldest segment.
+ghost use Rattle.std.specs.Prelude.{◌≡◌, ◌<◌, ℕ, List, length, Option, Some, IfOk, IsTrue, filter, not, false, Contains};
+ghost use Rattle.page_device.specs.Device.{faults_after};
+ghost use Rattle.record_pages.specs.Sizes.{IsPageSize};
+ghost use Rattle.record_pages.specs.Recs.{Rec};
+ghost use Rattle.record_pages.specs.Lent.{record_shown};
+ghost use Rattle.klog.specs.Names.{HasRoom};
+ghost use Rattle.klog.specs.Shown.{CanStandFor, IsLiveOn, IsSpelledOn, shown_on, live_on};
+ghost use Rattle.klog.specs.Look.{is_buffered, AreBuffered};
+ghost use Rattle.klog.specs.Take.{is_missing, FailsOnlyIfMissing, Copies, is_lost_page, FailsOnlyIfLostPage, IsToBeTaken, Gathers};
+ghost use Rattle.klog.specs.Moves.{TellsOldest, IsFirstLive, IsOfOldest, freed, is_among, dropped, without_entry, live_without_entry, without_its_page, live_without_page, EntersAnew, is_fault, ReadmitLeaves, ReadmitGives, is_lost, FailsOnlyIfLost, taken_entries, TakeLeaves, TakeGives};
+
+use super::KLog;
+use super::append::ENTERING;
+use crate::fetched::Fetched;
+use crate::gathered::Gathered;
+use crate::oldest::Oldest;
+use crate::readmitted::Readmitted;
+use crate::set_taken::SetTaken;
+use crate::taken_record::TakenRecord;
+use crate::taken_records::TakenRecords;
+use klog_index::{Entry, Place};
+use page_device::PageDevice;
+use record_pages::RecordRef;
+use std::alloc::{AllocError, Global};
+
+/// The most records of a set that are taken at once.
+pub const MAX_TAKEN: usize = 32;
+
+impl<const PAGE: usize> KLog<PAGE> {
+    /// What is live in the oldest segment on the device: its live entry of least page, then slot.
+    pub fn oldest(&self) -> Oldest
+        ensures tells { TellsOldest self.now result }
+        ensures first { IsFirstLive self.now result }
+    {
+        if self.stored == 0 {
+            return Oldest::NoSegment;
+        }
+        match self.index.first_of(self.name_of(self.first)) {
+            Some(entry) => Oldest::First(entry),
+            None => Oldest::Empty,
+        }
+    }
+
+    /// Frees the oldest segment on the device, none of whose records is live.
+    pub fn free_oldest(&mut self)
+        requires { TellsOldest self.old Oldest.Empty }
+        ensures shape { self.new.shape ≡ self.old.shape }
+        ensures freed { self.new ≡ freed self.old }
+        ensures spelled { (held : ℕ → Option (List ℕ)) → IsSpelledOn PAGE held self.old →
+            IsSpelledOn PAGE held self.new }
+        ensures shown { (held : ℕ → Option (List ℕ)) → IsSpelledOn PAGE held self.old →
+            live_on held self.new ≡ live_on held self.old }
+    {
+        self.first += 1;
+        self.stored -= 1;
+    }
+
+    /// Drops the live records of a set at these places.
+    pub fn drop_places(&mut self, set: u32, places: &[Place])
+        ensures shape { self.new.shape ≡ self.old.shape }
+        ensures dropped { self.new ≡ dropped self.old set places.now }
+        ensures spelled { (held : ℕ → Option (List ℕ)) → IsSpelledOn PAGE held self.old →
+            IsSpelledOn PAGE held self.new }
+        ensures shown { (held : ℕ → Option (List ℕ)) → live_on held self.new
+            ≡ filter (λ x. not (is_among set places.now x.0)) (live_on held self.old) }
+    {
+        for place in places {
+            self.index.drop_in(set, *place);
+        }
+    }
+
+    /// Reads the record of a live entry of the oldest segment on the device, drops it there, and adds it anew with
+    /// prediction 6, as the newest. No memory is taken.
+    pub fn readmit<D: PageDevice<PAGE>>(&mut self, device: &mut D, entry: &Entry) -> Readmitted
+        requires page_size { IsPageSize PAGE }
+        requires room { HasRoom (D.page_count device.old) self.old }
+        requires oldest { IsOfOldest self.old entry.now }
+
+        // On any device.
+        ensures pages { D.page_count device.new ≡ D.page_count device.old }
+        ensures honest { D.honest device.new ≡ D.honest device.old }
+        ensures faults { D.failures device.new
+            ≡ faults_after (D.failures device.old) (is_fault result) }
+        ensures shape { self.new.shape ≡ self.old.shape }
+        ensures leaves { ReadmitLeaves PAGE self.old entry.now result self.new }
+
+        // Where it is honest.
+        ensures same { IsTrue (D.honest device.old) → D.held device.new ≡ D.held device.old }
+        ensures gives { IsTrue (D.honest device.old) →
+            IsSpelledOn PAGE (D.held device.old) self.old →
+            (r : Rec) → shown_on (D.held device.old) self.old entry.now ≡ Some r →
+            ReadmitGives PAGE self.old entry.now r (live_on (D.held device.old) self.old) result
+            (live_on (D.held device.new) self.new) }
+        ensures spelled { IsTrue (D.honest device.old) →
+            IsSpelledOn PAGE (D.held device.old) self.old →
+            IsSpelledOn PAGE (D.held device.new) self.new }
+    {
+        let mut bytes = [0u8; PAGE];
+        match self.fetch_stored(device, entry, &mut bytes) {
+            Fetched::Fault => {
+                self.lose_page_of(entry);
+                Readmitted::Fault
+            }
+            Fetched::Damaged => {
+                self.lose_page_of(entry);
+                Readmitted::Damaged
+            }
+            Fetched::Record(found) => self.enter_anew(entry, found),
+        }
+    }
+
+    /// The newest live records of a set, at most `MAX_TAKEN`, newest first; they stay in the log. Each page that is not
+    /// in memory is read. Where one is lost, its live records are dropped; `AllocError` changes nothing.
+    pub fn take_set<D: PageDevice<PAGE>>(
+        &mut self,
+        alloc: Global,
+        device: &mut D,
+        set: u32,
+    ) -> Result<SetTaken, AllocError>
+        requires page_size { IsPageSize PAGE }
+        requires room { HasRoom (D.page_count device.old) self.old }
+
+        // On any device.
+        ensures pages { D.page_count device.new ≡ D.page_count device.old }
+        ensures honest { D.honest device.new ≡ D.honest device.old }
+        ensures fails_only_if_lost { FailsOnlyIfLost (D.failures device.old) result
+            (D.failures device.new) }
+        ensures shape { self.new.shape ≡ self.old.shape }
+        ensures leaves { TakeLeaves self.old set result self.new }
+        ensures buffered { AreBuffered self.old (taken_entries self.old set) →
+            device.new ≡ device.old }
+
+        // Where it is honest.
+        ensures same { IsTrue (D.honest device.old) → D.held device.new ≡ D.held device.old }
+        ensures faults { IsTrue (D.honest device.old) →
+            IsSpelledOn PAGE (D.held device.old) self.old →
+            D.failures device.new ≡ faults_after (D.failures device.old) (is_lost result) }
+        ensures gives { IsTrue (D.honest device.old) →
+            IsSpelledOn PAGE (D.held device.old) self.old →
+            IfOk result (λ r. TakeGives self.old set (live_on (D.held device.old) self.old) r
+            (live_on (D.held device.new) self.new)) }
+        ensures spelled { IsTrue (D.honest device.old) →
+            IsSpelledOn PAGE (D.held device.old) self.old →
+            IsSpelledOn PAGE (D.held device.new) self.new }
+    {
+        match self.gather(alloc, device, set)? {
+            Gathered::Records(records) => Ok(SetTaken::Records(records)),
+            Gathered::Lost(entry) => {
+                self.lose_page_of(&entry);
+                Ok(SetTaken::PageLost)
+            }
+        }
+    }
+
+    // The newest live records of a set, or an entry of it whose page is lost.
+    fn gather<D: PageDevice<PAGE>>(
+        &self,
+        alloc: Global,
+        device: &mut D,
+        set: u32,
+    ) -> Result<Gathered, AllocError>
+        requires page_size { IsPageSize PAGE }
+        requires room { HasRoom (D.page_count device.old) self.now }
+        ensures pages { D.page_count device.new ≡ D.page_count device.old }
+        ensures honest { D.honest device.new ≡ D.honest device.old }
+        ensures fails_only_if_lost { FailsOnlyIfLostPage (D.failures device.old) result
+            (D.failures device.new) }
+        ensures its { IfOk result (IsToBeTaken self.now set) }
+        ensures buffered { AreBuffered self.now (taken_entries self.now set) →
+            device.new ≡ device.old }
+        ensures same { IsTrue (D.honest device.old) → D.held device.new ≡ D.held device.old }
+        ensures faults { IsTrue (D.honest device.old) →
+            IsSpelledOn PAGE (D.held device.old) self.now →
+            D.failures device.new ≡ faults_after (D.failures device.old) (is_lost_page result) }
+        ensures gathers { IsTrue (D.honest device.old) →
+            IsSpelledOn PAGE (D.held device.old) self.now →
+            IfOk result (Gathers set (live_on (D.held device.old) self.now)) }
+    {
+        let mut records = TakenRecords::new(alloc);
+        for behind in 0..MAX_TAKEN {
+            let Some(entry) = self.index.of_set(set, behind) else {
+                return Ok(Gathered::Records(records));
+            };
+            let Some(taken) = self.copy(alloc, device, &entry)? else {
+                return Ok(Gathered::Lost(entry));
+            };
+            records.push(taken)?;
+        }
+        Ok(Gathered::Records(records))
+    }
+
+    // A copy of an entry's record, or nothing where its page is lost.
+    fn copy<D: PageDevice<PAGE>>(
+        &self,
+        alloc: Global,
+        device: &mut D,
+        entry: &Entry,
+    ) -> Result<Option<TakenRecord>, AllocError>
+        requires page_size { IsPageSize PAGE }
+        requires room { HasRoom (D.page_count device.old) self.now }
+        requires listed { Contains self.now.entries entry.now }
+        ensures pages { D.page_count device.new ≡ D.page_count device.old }
+        ensures honest { D.honest device.new ≡ D.honest device.old }
+        ensures fails_only_if_missing { FailsOnlyIfMissing (D.failures device.old) result
+            (D.failures device.new) }
+        ensures buffered { IsTrue (is_buffered self.now entry.now) → device.new ≡ device.old }
+        ensures same { IsTrue (D.honest device.old) → D.held device.new ≡ D.held device.old }
+        ensures faults { IsTrue (D.honest device.old) →
+            IsLiveOn PAGE (D.held device.old) self.now entry.now →
+            D.failures device.new ≡ faults_after (D.failures device.old) (is_missing result) }
+        ensures copies { IsTrue (D.honest device.old) →
+            IsLiveOn PAGE (D.held device.old) self.now entry.now →
+            IfOk result (Copies entry.now (shown_on (D.held device.old) self.now entry.now)) }
+    {
+        let mut bytes = [0u8; PAGE];
+        let Fetched::Record(found) = self.fetch(device, entry, &mut bytes) else {
+            return Ok(None);
+        };
+        let current = RecordRef {
+            key: found.key,
+            value: found.value,
+            prediction: entry.prediction.get(),
+        };
+        let stored = current.to_record(alloc)?;
+        Ok(Some(TakenRecord {
+            stored,
+            place: entry.place,
+        }))
+    }
+
+    // Drops the entry of a record, and adds the record anew where there is a place for it.
+    fn enter_anew(&mut self, entry: &Entry, found: RecordRef<'_>) -> Readmitted
+        requires page_size { IsPageSize PAGE }
+        requires listed { Contains self.old.entries entry.now }
+        requires its { CanStandFor PAGE self.old.shape entry.now (record_shown found) }
+        ensures no_fault { is_fault result ≡ false }
+        ensures shape { self.new.shape ≡ self.old.shape }
+        ensures enters { EntersAnew PAGE self.old entry.now (record_shown found.entry) result
+            self.new }
+        ensures spelled { (held : ℕ → Option (List ℕ)) → IsSpelledOn PAGE held self.old →
+            IsSpelledOn PAGE held self.new }
+        ensures shown { (held : ℕ → Option (List ℕ)) → IsSpelledOn PAGE held self.old →
+            ReadmitGives PAGE self.old entry.now (record_shown found.entry)
+            (live_on held self.old) result (live_on held self.new) }
+    {
+        self.drop_entry(entry);
+        let anew = RecordRef {
+            key: found.key,
+            value: found.value,
+            prediction: ENTERING,
+        };
+        if self.enter(entry.set, entry.tag, anew) {
+            Readmitted::Readmitted
+        } else {
+            Readmitted::Dropped
+        }
+    }
+
+    // Drops a live entry.
+    fn drop_entry(&mut self, entry: &Entry)
+        requires listed { Contains self.old.entries entry.now }
+        ensures shape { self.new.shape ≡ self.old.shape }
+        ensures dropped { self.new ≡ without_entry self.old entry.now }
+        ensures fewer { length self.new.entries < self.new.shape.limit }
+        ensures spelled { (held : ℕ → Option (List ℕ)) → IsSpelledOn PAGE held self.old →
+            IsSpelledOn PAGE held self.new }
+        ensures shown { (held : ℕ → Option (List ℕ)) → live_on held self.new
+            ≡ live_without_entry entry.now (live_on held self.old) }
+    {
+        self.index.drop_in(entry.set, entry.place);
+    }
+
+    // Drops the entries of an entry's page.
+    fn lose_page_of(&mut self, entry: &Entry)
+        requires listed { Contains self.old.entries entry.now }
+        ensures shape { self.new.shape ≡ self.old.shape }
+        ensures lost { self.new ≡ without_its_page self.old entry.now }
+        ensures spelled { (held : ℕ → Option (List ℕ)) → IsSpelledOn PAGE held self.old →
+            IsSpelledOn PAGE held self.new }
+        ensures shown { (held : ℕ → Option (List ℕ)) → live_on held self.new
+            ≡ live_without_page self.old entry.now (live_on held self.old) }
+    {
+        self.index.drop_page(entry.place.segment, entry.place.page);
+    }
+}

@@ -1,0 +1,15 @@
+// What a look-up in the log answers.
+use record_pages::Value;
+
+/// What a look-up in the log answers.
+#[derive(Debug, Drop)]
+pub enum Looked {
+    /// The value of the newest live record with the key.
+    Hit(Value),
+    /// No live record has the key.
+    Absent,
+    /// The device failed.
+    Fault,
+    /// A page that was read is not the log's, or the record there is not the entry's.
+    Damaged,
+}

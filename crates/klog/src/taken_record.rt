@@ -1,0 +1,12 @@
+// A record that was taken from the log.
+use klog_index::Place;
+use record_pages::Record;
+
+/// A live record of the log, as it was taken.
+#[derive(Debug, Drop, PartialEq, Eq)]
+pub struct TakenRecord {
+    /// Its key, its value, and the prediction that its entry has now.
+    pub stored: Record,
+    /// Where it lies.
+    pub place: Place,
+}
