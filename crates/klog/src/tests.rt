@@ -2,18 +2,13 @@
 //! moved or lost.
 ghost use Rattle.record_pages.specs.Sizes.{IsPageSize};
 
-mod blank_device;
-mod entering;
-mod failing;
-mod leaving;
 mod owner;
 mod ring;
 
 use self::owner::Owner;
 use super::*;
-use klog_index::{Entry, Place};
 use page_device::{FuseDevice, MemoryDevice, PageDevice};
-use record_pages::{Config, Key, Layout, Prediction, Value};
+use record_pages::{Config, Key, Value};
 use std::alloc::{AllocError, Global};
 use std::process::Abort;
 use std::test::Fail;
@@ -70,59 +65,17 @@ fn strike<D: PageDevice<PAGE>, const PAGE: usize>(
     Ok(())
 }
 
-// The value that is found, or a word for what else comes.
-fn found<D: PageDevice<PAGE>, const PAGE: usize>(
-    alloc: Global,
-    owner: &mut Owner<D, PAGE>,
-    key: &[u8],
-) -> Result<Vec<u8>, Fail>
-    requires { IsPageSize PAGE }
-{
-    let key = Key::new(alloc, key)?;
-    Ok(told(alloc, owner.look(alloc, &key)?)?)
-}
-
-fn told(alloc: Global, looked: Looked) -> Result<Vec<u8>, AllocError> {
-    match looked {
-        Looked::Hit(value) => Vec::from_slice(alloc, value.bytes()),
-        Looked::Absent => Vec::from_slice(alloc, b"absent"),
-        Looked::Fault => Vec::from_slice(alloc, b"fault"),
-        Looked::Damaged => Vec::from_slice(alloc, b"damaged"),
-    }
-}
-
-// The keys that a taking lists, or a word for a lost page.
-fn taken<D: PageDevice<PAGE>, const PAGE: usize>(
-    alloc: Global,
-    owner: &mut Owner<D, PAGE>,
-) -> Result<Vec<u8>, Fail>
-    requires { IsPageSize PAGE }
-{
-    let mut all = Vec::new(alloc);
-    let SetTaken::Records(records) = owner.take(alloc, 0)? else {
-        all.extend_from_slice(b"lost ")?;
-        return Ok(all);
-    };
-    for number in 0..records.len() {
-        let record = records.at(number).ok_or("a record")?;
-        all.extend_from_slice(record.stored.key.bytes())?;
-        all.push(b' ')?;
-    }
-    Ok(all)
-}
-
-// An entry of set 0.
-fn entry(tag: u16, place: Place, prediction: u8) -> Result<Entry, Fail> {
-    Ok(Entry {
-        set: 0,
-        tag,
-        place,
-        prediction: Prediction::new(prediction).ok_or("a prediction")?,
-    })
-}
-
-fn is(rt: &impl Abort, outcome: Vec<u8>, wanted: &[u8]) {
-    assert_eq!(rt; outcome.as_slice(), wanted);
-}
-
 const ADDED: Option<Appended> = Some(Appended::Appended);
+
+#[test]
+fn what_was_flushed_is_found(rt: HostRuntime) -> Result<(), Fail> {
+    let alloc = rt.alloc();
+    let mut owner: Owner<Fused, 256> = log(alloc, ONE_SET, FuseDevice::one(device(alloc)?, 0))?;
+    let key = Key::new(alloc, b"ax")?;
+    let value = Value::new(alloc, b"1")?;
+    let Some(Looked::Hit(found)) = owner.append_flush_look(alloc, &key, &value, 3)? else {
+        return Err("no value".into());
+    };
+    assert_eq!(rt; found.bytes(), b"1".as_slice());
+    Ok(())
+}

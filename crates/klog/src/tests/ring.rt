@@ -1,28 +1,6 @@
 //! The segments of the device, used again and again.
 use super::*;
 
-#[test]
-fn a_flush_waits_for_a_free_segment(rt: HostRuntime) -> Result<(), Fail> {
-    let alloc = rt.alloc();
-    let mut owner: Owner<Fused, 256> = log(alloc, ONE_SET, FuseDevice::one(device(alloc)?, 0))?;
-    for key in [b"ax", b"bx"] {
-        assert_eq!(rt; append(alloc, &mut owner, key, key)?, ADDED);
-        assert_eq!(rt; owner.flush(), Flushed::Sealed);
-        assert_eq!(rt; owner.flush(), Flushed::Wrote);
-    }
-    assert_eq!(rt; append(alloc, &mut owner, b"cx", b"cx")?, ADDED);
-    assert_eq!(rt; owner.flush(), Flushed::Sealed);
-    assert_eq!(rt; owner.flush(), Flushed::LogFull);
-    assert_eq!(rt; owner.flush(), Flushed::LogFull);
-    strike(alloc, &mut owner, b"ax")?;
-    assert!(rt; owner.free());
-    assert_eq!(rt; owner.flush(), Flushed::Wrote);
-    is(&rt, found(alloc, &mut owner, b"ax")?, b"absent");
-    is(&rt, found(alloc, &mut owner, b"bx")?, b"bx");
-    is(&rt, found(alloc, &mut owner, b"cx")?, b"cx");
-    Ok(())
-}
-
 const KEYS: [&[u8]; 5] = [b"ax", b"bx", b"cx", b"dx", b"ex"];
 
 // The number that a key has, or a number for a key that has none.
