@@ -34,7 +34,7 @@ apart_stored k e apart =
 pub page_known : (held : ℕ → Option (List ℕ)) (k : LogState) (e : Entry) → IsStored k e → IsHad held k e → IsPageKnown held k e
 page_known held k e stored had = OnFalse_at (stored_apart k e stored) had
 
-pub had_there : (held : ℕ → Option (List ℕ)) (k : LogState) (e : Entry) → (IsStored k e → IsPageKnown held k e) → IsHad held k e
+had_there : (held : ℕ → Option (List ℕ)) (k : LogState) (e : Entry) → (IsStored k e → IsPageKnown held k e) → IsHad held k e
 had_there held k e known = OnFalse_from (is_buffered k e) (IsPageKnown held k e) (λ apart. known (apart_stored k e apart))
 
 -- a page that shows a record is known

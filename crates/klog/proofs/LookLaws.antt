@@ -26,7 +26,7 @@ use Rattle.klog.proofs.LiveLaws.{live_by, live_by-kept, length-kept}
 use Rattle.klog.proofs.KnownLaws.{shows_live}
 
 -- the entry shows a record with another key
-abbrev pub OtherBy : (Entry → Option Rec) → List ℕ → Entry → Type 0
+abbrev OtherBy : (Entry → Option Rec) → List ℕ → Entry → Type 0
 OtherBy shows key e = IsSomeAnd (shows e) (λ r. has_key key r ≡ false)
 
 -- what holds of each entry's record holds of each live record

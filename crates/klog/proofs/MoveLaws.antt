@@ -197,7 +197,7 @@ fewer_without k e log listed =
 -- ---- a record of the oldest segment is read
 
 -- the segment of such an entry is on the device
-pub oldest_stored : (k : LogState) (e : Entry) → IsOfOldest k e → IsStored k e
+oldest_stored : (k : LogState) (e : Entry) → IsOfOldest k e → IsStored k e
 oldest_stored k e h =
     let not_flushed : segment_of k e ≢ flushed_number k = λ same. omega (arith, same, h.oldest, h.some) in
     let not_filled : segment_of k e ≢ filled_number k = λ same. elim (cases_cond k.is_flushing (flushed_number k + 1) (flushed_number k) (filled_number k) refl) [
