@@ -67,7 +67,6 @@ pub returns-in_default-2-clause-gathers_at : goal.returns-in_default-2-clause-ga
 returns-in_default-2-clause-gathers_at g c = λ honest live.
     let k = c.args.self.now in
     let held = g.D.PageDevice.held c.args.device.now in
-    let at = turn_at _ k c.args.set c.loop-behind.behind c.in-Some.entry _ c.self.view_is c.of_set.ensures c.in-Some.is in
     let on : IsTrue (g.D.PageDevice.honest c.loop-behind.device) = subst (λ (b : Bool). IsTrue b) (sym c.loop-behind.invariant.honest) honest in
     turn_fails g.row.PAGE held (g.D.PageDevice.held c.loop-behind.device) k c.in-Some.entry c.in_ok-taken.field-0
     _ _ _ (c.loop-behind.invariant.same honest) c.in_default-2.is c.loop-behind.invariant.failures (c.in_ok-taken.ensures.faults on) live
