@@ -171,8 +171,8 @@ impl<D: PageDevice<PAGE>, const PAGE: usize> Owner<D, PAGE> {
     ) -> Result<Option<Looked>, AllocError>
         requires { IsPageSize PAGE }
         ensures told { IsTrue (D.honest self.old.device) → IfOk result (IsToldOf value.now) }
-        ensures not_asked { IfOk result (λ told. IfNone told (IsNotAsked PAGE self.old.log key.now value.now
-            (D.failures self.old.device) (D.failures self.new.device))) }
+        ensures not_asked { IfOk result (λ told. IfNone told (IsNotAsked PAGE self.old.log
+            key.now value.now (D.failures self.old.device) (D.failures self.new.device))) }
         ensures faults { IfOk result (λ told. IfSome told (λ looked. D.failures self.new.device
             ≡ faults_after (D.failures self.old.device) (is_fault (Ok looked)))) }
         ensures pages_of_sets { IsTrue (D.honest self.old.device) →
