@@ -150,24 +150,23 @@ const REFUSED: [(&[Step], &[Step]); 7] = [
     (&WHOLE, &WHOLE),
 ];
 
+fn refused_alone(rt: &impl Abort, alloc: Global, call: u32, steps: &[Step]) -> Result<(), Fail> {
+    let mut owner: Owner<Fused, 256> = log(alloc, ONE_SET, FuseDevice::one(device(alloc)?, call))?;
+    run(rt, alloc, &mut owner, steps)
+}
+
+fn refused_from(rt: &impl Abort, alloc: Global, call: u32, steps: &[Step]) -> Result<(), Fail> {
+    let mut owner: Owner<Fused, 256> = log(alloc, ONE_SET, FuseDevice::from(device(alloc)?, call))?;
+    run(rt, alloc, &mut owner, steps)
+}
+
 #[test]
 fn each_refused_call_of_the_device_is_told(rt: HostRuntime) -> Result<(), Fail> {
     let alloc = rt.alloc();
-    for number in 0..7usize {
-        let at = number as u32 + 1;
-        let (alone, for_good) = REFUSED[number];
-        let mut owner: Owner<Fused, 256> = log(
-            alloc,
-            ONE_SET,
-            FuseDevice::one(device(alloc)?, at),
-        )?;
-        run(&rt, alloc, &mut owner, alone)?;
-        let mut owner: Owner<Fused, 256> = log(
-            alloc,
-            ONE_SET,
-            FuseDevice::from(device(alloc)?, at),
-        )?;
-        run(&rt, alloc, &mut owner, for_good)?;
+    for number in 0..7u32 {
+        let (alone, for_good) = REFUSED[number as usize];
+        refused_alone(&rt, alloc, number + 1, alone)?;
+        refused_from(&rt, alloc, number + 1, for_good)?;
     }
     Ok(())
 }
