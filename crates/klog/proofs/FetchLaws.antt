@@ -1,5 +1,6 @@
 -- What reading the record of an entry gives.
 use Rattle.std.proofs.Common.{◌≡◌, ◌≢◌, ℕ, ◌<◌, true, false, eqb, ◌&&◌, List, Option, Some, None, Contains, sym, ap, subst, ◌∙◌}
+use Rattle.std.specs.Prelude.{IsSome}
 use Rattle.std.proofs.lemmas.List.Elements.{All-contains}
 use Rattle.page_device.specs.Device.{IsKnown}
 use Rattle.page_device.specs.Frames.{pages_from}
@@ -7,11 +8,11 @@ use Rattle.record_pages.specs.Recs.{Rec}
 use Rattle.record_pages.specs.Reading.{log_page_at}
 use Rattle.klog_index.specs.declared.entry.Entry.{Entry}
 use Rattle.klog.specs.declared.fetched.Fetched.{Fetched}
-use Rattle.klog.specs.declared.fetched.Fetched.TheVariants as fetched
 use Rattle.klog.specs.Log.{Shape, LogState}
 use Rattle.klog.specs.Buffer.{record_in}
 use Rattle.klog.specs.Names.{segment_of, flushed_number, filled_number, device_page}
 use Rattle.klog.specs.Shown.{record_on, record_of_held, shown_on}
+use Rattle.klog.specs.Known.{IsPageKnown}
 use Rattle.klog.specs.Keeps.{IsHeld, IsLog}
 use Rattle.klog.specs.Fetch.{stored_on, FetchGives}
 use Rattle.klog.proofs.ShownLaws.{shown_filled, shown_flushed, shown_stored}
@@ -20,22 +21,20 @@ use Rattle.klog.proofs.ShownLaws.{shown_filled, shown_flushed, shown_stored}
 pub page_within : (k : LogState) (e : Entry) → IsLog k → Contains k.entries e → e.place.page < k.shape.segment_pages
 page_within k e log listed = (All-contains (IsHeld k) k.entries e log.held listed).page
 
--- what is read of a page gives what the page is known to hold
-pub read_gives : (bytes : ℕ) (shape : Shape) (e : Entry) (segment page slot : ℕ) (known : Option (List ℕ)) (text : List ℕ) (f : Fetched) → IsKnown known text
+-- what is read of a page gives what the page is known to hold, where it is known
+pub read_gives : (bytes : ℕ) (shape : Shape) (e : Entry) (segment page slot : ℕ) (known : Option (List ℕ)) (text : List ℕ) (f : Fetched) → IsKnown known text → IsSome known
     → FetchGives bytes shape e (record_on segment page slot (log_page_at text)) f → FetchGives bytes shape e (record_of_held segment page slot known) f
 unfolding record_on
-read_gives bytes shape e segment page slot (Some text') text f is h = subst (λ (t : List ℕ). FetchGives bytes shape e (record_on segment page slot (log_page_at t)) f) is h
-read_gives bytes shape e segment page slot None text (fetched.Record r) is h = λ some. absurd some
-read_gives bytes shape e segment page slot None text fetched.Fault is h = tt
-read_gives bytes shape e segment page slot None text fetched.Damaged is h = λ some. some
+read_gives bytes shape e segment page slot (Some text') text f is some h = subst (λ (t : List ℕ). FetchGives bytes shape e (record_on segment page slot (log_page_at t)) f) is h
+read_gives bytes shape e segment page slot None text f is some h = absurd cc
 
 -- the same of an entry's page
-pub stored_gives : (bytes : ℕ) (held : ℕ → Option (List ℕ)) (k : LogState) (e : Entry) (number at : ℕ) (text : List ℕ) (found : Option Rec) (f : Fetched) → number ≡ segment_of k e
+pub stored_gives : (bytes : ℕ) (held : ℕ → Option (List ℕ)) (k : LogState) (e : Entry) (number at : ℕ) (text : List ℕ) (found : Option Rec) (f : Fetched) → IsPageKnown held k e → number ≡ segment_of k e
     → at ≡ device_page k (segment_of k e) e.place.page → IsKnown (held at) text → found ≡ record_on number e.place.page e.place.slot (log_page_at text)
     → FetchGives bytes k.shape e found f → FetchGives bytes k.shape e (stored_on held k e) f
-stored_gives bytes held k e number at text found f number_is at_is known found_is h =
+stored_gives bytes held k e number at text found f some number_is at_is known found_is h =
     read_gives bytes k.shape e (segment_of k e) e.place.page e.place.slot (held (device_page k (segment_of k e) e.place.page)) text f
-    (subst (λ (n : ℕ). IsKnown (held n) text) at_is known)
+    (subst (λ (n : ℕ). IsKnown (held n) text) at_is known) some
     (subst (λ (o : Option Rec). FetchGives bytes k.shape e o f) (found_is ∙ ap (λ (n : ℕ). record_on n e.place.page e.place.slot (log_page_at text)) number_is) h)
 
 -- the same of a record in the segment that is filled

@@ -6,6 +6,7 @@ pub mod ShownLaws
 pub mod AppendLaws
 pub mod FlushLaws
 pub mod FetchLaws
+pub mod KnownLaws
 pub mod LookLaws
 pub mod MoveLaws
 pub mod TakeLaws

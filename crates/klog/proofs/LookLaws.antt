@@ -1,31 +1,33 @@
 -- What a look-up finds among the live records.
 use Rattle.std.proofs.Common.{◌≡◌, ℕ, suc, ◌+◌, ◌<◌, ◌≤◌, Bool, true, false, eqb, List, [], ◌∷◌, ◌++◌, length, get_or, take, drop, filter, Option, Some, None, All, Contains, slice_get, inl, inr, drop-cons, refl, sym, ap, subst, ◌∙◌, arith}
-use Rattle.std.specs.Prelude.{IsSomeAnd, IsTrue, find}
+use Rattle.std.specs.Prelude.{IsSomeAnd, IsTrue, find, Result, Ok}
+use Rattle.std.specs.declared.alloc.AllocError.{AllocError}
 use Rattle.std.specs.List.{cons_option}
 use Rattle.std.specs.Option.{option_map}
 use Rattle.std.specs.Cmp.Lexicographic.{same_text}
 use Rattle.std.proofs.lemmas.Bool.{and_from, and_parts, eq-eqb, eqb-true, false≢true, cases_lt}
 use Rattle.std.proofs.lemmas.List.{take_all, take-append-drop}
-use Rattle.std.proofs.lemmas.List.Elements.{All-filter, All-cons, All-nil, All-head, All-tail, All-more, All-contains, All-contains_itself, filter_passes}
+use Rattle.std.proofs.lemmas.List.Elements.{All-filter, All-cons, All-nil, All-head, All-tail, All-more, All-contains, All-contains_itself, All-take, filter_passes}
 use Rattle.std.proofs.lemmas.Option.{slice_get_within, get_or_from_slice_get, slice_get-get_or, none-some}
-use Rattle.page_device.specs.Frames.{pages_from}
 use Rattle.record_pages.specs.Recs.{Rec}
 use Rattle.record_pages.specs.Looking.{has_key}
 use Rattle.klog_index.specs.declared.entry.Entry.{Entry}
 use Rattle.klog_index.specs.Entries.{has_tag, of_tag}
 use Rattle.set_hash.specs.declared.placed.Placed.{Placed}
 use Rattle.klog.specs.declared.told.Told.{Told}
-use Rattle.klog.specs.declared.told.Told.TheVariants as told
+use Rattle.klog.specs.declared.found.Found.{Found}
 use Rattle.klog.specs.declared.found.Found.TheVariants as found
 use Rattle.klog.specs.Log.{Shape, LogState}
-use Rattle.klog.specs.Shown.{shown_on, live_on, newest_with, place_in, CanStandFor, IsLive, IsLiveOn, IsSpelledOn}
-use Rattle.klog.specs.Find.{Tells, Finds}
-use Rattle.klog.specs.Look.{is_buffered, AreBuffered}
+use Rattle.klog.specs.Shown.{shown_on, live_on, newest_with, place_in, CanStandFor, IsLiveOn, IsSpelledOn}
+use Rattle.klog.specs.Find.{Tells, Finds, FindsAt}
+use Rattle.klog.specs.Look.{lowered_in, ShowsOther, IsReached}
+use Rattle.klog.specs.Known.{is_buffered, AreBuffered, ShowsIfHad}
 use Rattle.klog.proofs.LiveLaws.{live_by, live_by-kept, length-kept}
+use Rattle.klog.proofs.KnownLaws.{shows_live}
 
 -- the entry shows a record with another key
-abbrev pub ShowsOther : (Entry → Option Rec) → List ℕ → Entry → Type 0
-ShowsOther shows key e = IsSomeAnd (shows e) (λ r. has_key key r ≡ false)
+abbrev OtherBy : (Entry → Option Rec) → List ℕ → Entry → Type 0
+OtherBy shows key e = IsSomeAnd (shows e) (λ r. has_key key r ≡ false)
 
 -- what holds of each entry's record holds of each live record
 All-live : (P : Entry × Rec → Type 0) (shows : Entry → Option Rec) (es : List Entry) → All (λ e. (r : Rec) → shows e ≡ Some r → P (e, r)) es → All P (live_by shows es)
@@ -68,11 +70,11 @@ newest_of_tag bytes held k key h =
     ∙ find-kept (λ x. has_key key x.1) (λ x. kind x.0) (live_on held k) (All-live (λ x. has_key key x.1 ≡ true → kind x.0 ≡ true) (shown_on held k) k.entries each)
 
 -- where the entries before one show other keys, and it shows the key, its record is the newest with the key
-newest_at : (shows : Entry → Option Rec) (key : List ℕ) (front : List Entry) (e : Entry) (r : Rec) (back : List Entry) → All (ShowsOther shows key) front → shows e ≡ Some r → has_key key r ≡ true
+newest_at : (shows : Entry → Option Rec) (key : List ℕ) (front : List Entry) (e : Entry) (r : Rec) (back : List Entry) → All (OtherBy shows key) front → shows e ≡ Some r → has_key key r ≡ true
     → newest_with (live_by shows (front ++ e ∷ back)) key ≡ Some (e, r)
 newest_at shows key [] e r back none at has = simp (at, has) refl
 newest_at shows key (x ∷ front) e r back none at has =
-    step (shows x) refl (All-head (ShowsOther shows key) x front none) (newest_at shows key front e r back (All-tail (ShowsOther shows key) x front none) at has)
+    step (shows x) refl (All-head (OtherBy shows key) x front none) (newest_at shows key front e r back (All-tail (OtherBy shows key) x front none) at has)
   where
     step : (o : Option Rec) → shows x ≡ o → IsSomeAnd (shows x) (λ r. has_key key r ≡ false) → newest_with (live_by shows (front ++ e ∷ back)) key ≡ Some (e, r)
         → newest_with (live_by shows (x ∷ (front ++ e ∷ back))) key ≡ Some (e, r)
@@ -80,10 +82,10 @@ newest_at shows key (x ∷ front) e r back none at has =
     step None is here rest = simp is rest
 
 -- where all entries show other keys, none is the newest with the key
-newest_none : (shows : Entry → Option Rec) (key : List ℕ) (es : List Entry) → All (ShowsOther shows key) es → newest_with (live_by shows es) key ≡ None
+newest_none : (shows : Entry → Option Rec) (key : List ℕ) (es : List Entry) → All (OtherBy shows key) es → newest_with (live_by shows es) key ≡ None
 newest_none shows key [] none = refl
 newest_none shows key (x ∷ es) none =
-    step (shows x) refl (All-head (ShowsOther shows key) x es none) (newest_none shows key es (All-tail (ShowsOther shows key) x es none))
+    step (shows x) refl (All-head (OtherBy shows key) x es none) (newest_none shows key es (All-tail (OtherBy shows key) x es none))
   where
     step : (o : Option Rec) → shows x ≡ o → IsSomeAnd (shows x) (λ r. has_key key r ≡ false) → newest_with (live_by shows es) key ≡ None → newest_with (live_by shows (x ∷ es)) key ≡ None
     step (Some y) is here rest = let other : has_key key y ≡ false = subst (λ (o : Option Rec). IsSomeAnd o (λ r. has_key key r ≡ false)) is here in simp (is, other) rest
@@ -111,19 +113,38 @@ pub turn_buffered : (k : LogState) (set tag behind : ℕ) (e : Entry) → AtTurn
 turn_buffered k set tag behind e at all = All-contains (λ e. IsTrue (is_buffered k e)) (of_tag set tag k.entries) e all (got (of_tag set tag k.entries) behind e at)
 
 -- what is told of it on the device as it was
-pub turn_tells : (bytes : ℕ) (held held' : ℕ → Option (List ℕ)) (k : LogState) (key : List ℕ) (set tag behind : ℕ) (e : Entry) (t t' : Told) → AtTurn k set tag behind e → held' ≡ held → t ≡ t'
-    → (IsLiveOn bytes held' k e → Tells (shown_on held' k e) key t) → IsSpelledOn bytes held k → Tells (shown_on held k e) key t'
-turn_tells bytes held held' k key set tag behind e t t' at same is h spelled =
-    subst (Tells (shown_on held k e) key) is
-    (subst (λ (x : ℕ → Option (List ℕ)). IsLiveOn bytes x k e → Tells (shown_on x k e) key t) same h
-    (All-contains (IsLive bytes (pages_from k.shape.sets held) k) k.entries e spelled.live (turn_listed k set tag behind e at)))
+pub turn_tells : (bytes : ℕ) (held held' : ℕ → Option (List ℕ)) (k : LogState) (key : List ℕ) (e : Entry) (t t' : Result Told AllocError) → held' ≡ held → t ≡ t' → Tells bytes held' k e key t → Tells bytes held k e key t'
+turn_tells bytes held held' k key e t t' same is tells = subst (Tells bytes held k e key) is (subst (λ (x : ℕ → Option (List ℕ)). Tells bytes x k e key t) same tells)
+
+-- the search came to it
+pub turn_reached : (bytes : ℕ) (held : ℕ → Option (List ℕ)) (k : LogState) (set tag : ℕ) (key : List ℕ) (behind : ℕ) (e : Entry) → AtTurn k set tag behind e
+    → All (ShowsOther bytes held k key) (take behind (of_tag set tag k.entries)) → IsReached bytes held k set tag key e
+turn_reached bytes held k set tag key behind e at newer = record { behind = behind; at = at; newer = newer }
+
+pub reached_listed : (bytes : ℕ) (held : ℕ → Option (List ℕ)) (k : LogState) (set tag : ℕ) (key : List ℕ) (e : Entry) → IsReached bytes held k set tag key e → Contains (of_tag set tag k.entries) e
+reached_listed bytes held k set tag key e h = got (of_tag set tag k.entries) h.behind e h.at
 
 -- one entry more shows another key
-pub turn_other : (shows : Entry → Option Rec) (key : List ℕ) (k : LogState) (set tag behind : ℕ) (e : Entry) → AtTurn k set tag behind e → All (ShowsOther shows key) (take behind (of_tag set tag k.entries))
-    → Tells (shows e) key told.Other → All (ShowsOther shows key) (take (behind + 1) (of_tag set tag k.entries))
-turn_other shows key k set tag behind e at none tells =
-    All-more (ShowsOther shows key) (of_tag set tag k.entries) behind e (slice_get_within (of_tag set tag k.entries) behind e at) none
-    (subst (ShowsOther shows key) (sym (get_or_from_slice_get (of_tag set tag k.entries) behind e e at)) tells)
+pub turn_other : (bytes : ℕ) (held : ℕ → Option (List ℕ)) (k : LogState) (set tag : ℕ) (key : List ℕ) (behind : ℕ) (e : Entry) → AtTurn k set tag behind e
+    → All (ShowsOther bytes held k key) (take behind (of_tag set tag k.entries)) → ShowsOther bytes held k key e → All (ShowsOther bytes held k key) (take (behind + 1) (of_tag set tag k.entries))
+turn_other bytes held k set tag key behind e at newer other =
+    All-more (ShowsOther bytes held k key) (of_tag set tag k.entries) behind e (slice_get_within (of_tag set tag k.entries) behind e at) newer
+    (subst (ShowsOther bytes held k key) (sym (get_or_from_slice_get (of_tag set tag k.entries) behind e e at)) other)
+
+-- where none stands further behind, all entries of the set and tag show other keys
+pub turns_over : (bytes : ℕ) (held : ℕ → Option (List ℕ)) (k : LogState) (set tag : ℕ) (key : List ℕ) (n : ℕ) → length (of_tag set tag k.entries) ≤ n
+    → All (ShowsOther bytes held k key) (take n (of_tag set tag k.entries)) → All (ShowsOther bytes held k key) (of_tag set tag k.entries)
+turns_over bytes held k set tag key n le newer = subst (All (ShowsOther bytes held k key)) (take_all n (of_tag set tag k.entries) le) newer
+
+-- ---- what is found among the live records, where all of them are known
+
+-- an entry of a log that is spelled is live
+spelled_live : (bytes : ℕ) (held : ℕ → Option (List ℕ)) (k : LogState) (set tag : ℕ) → IsSpelledOn bytes held k → All (IsLiveOn bytes held k) (of_tag set tag k.entries)
+spelled_live bytes held k set tag spelled = All-filter (has_tag set tag) (IsLiveOn bytes held k) k.entries spelled.live
+
+-- and shows another key where that is so of what is known
+spelled_other : (bytes : ℕ) (held : ℕ → Option (List ℕ)) (k : LogState) (key : List ℕ) (es : List Entry) → All (IsLiveOn bytes held k) es → All (ShowsOther bytes held k key) es → All (OtherBy (shown_on held k) key) es
+spelled_other bytes held k key es live others = λ i d lt. shows_live bytes held k (get_or es i d) (λ r. has_key key r ≡ false) (live i d lt) (others i d lt)
 
 -- the entry at a place of a list, with what stands before and behind it
 split_at : (es : List Entry) (n : ℕ) (e : Entry) → slice_get es n ≡ Some e → es ≡ take n es ++ e ∷ drop (n + 1) es
@@ -138,16 +159,20 @@ newest_in bytes held k key placed is spelled =
     ap (λ (p : Placed). newest_with (live_by (shown_on held k) (of_tag p.set p.tag k.entries)) key) is ∙ newest_of_tag bytes held k key spelled
 
 -- a hit is the newest live record of the key
-pub turn_hit : (bytes : ℕ) (held : ℕ → Option (List ℕ)) (k : LogState) (key : List ℕ) (placed : Placed) (behind : ℕ) (e : Entry) (value : List ℕ) → placed ≡ place_in k.shape key → IsSpelledOn bytes held k
-    → AtTurn k placed.set placed.tag behind e → All (ShowsOther (shown_on held k) key) (take behind (of_tag placed.set placed.tag k.entries))
-    → Tells (shown_on held k e) key (told.Hit value) → Finds (live_on held k) key (found.Hit e value)
-turn_hit bytes held k key placed behind e value is spelled at none tells =
+hit_newest : (bytes : ℕ) (held : ℕ → Option (List ℕ)) (k : LogState) (key : List ℕ) (placed : Placed) (e : Entry) (value : List ℕ) → placed ≡ place_in k.shape key → IsSpelledOn bytes held k
+    → IsReached bytes held k placed.set placed.tag key e → ShowsIfHad bytes held k e (λ r. (has_key key r ≡ true) × (r.value ≡ value)) → Finds (live_on held k) key (found.Hit e value)
+hit_newest bytes held k key placed e value is spelled reached shows =
     let es = of_tag placed.set placed.tag k.entries in
-    let hit : (r : Rec) × (shown_on held k e ≡ Some r) × (has_key key r ≡ true) × (r.value ≡ value) = known (shown_on held k e) refl tells in (
+    let behind = reached.behind in
+    let live = spelled_live bytes held k placed.set placed.tag spelled in
+    let newer : All (OtherBy (shown_on held k) key) (take behind es) = spelled_other bytes held k key (take behind es) (All-take (IsLiveOn bytes held k) behind es live) reached.newer in
+    let here : IsLiveOn bytes held k e = All-contains (IsLiveOn bytes held k) es e live (reached_listed bytes held k placed.set placed.tag key e reached) in
+    let hit : (r : Rec) × (shown_on held k e ≡ Some r) × (has_key key r ≡ true) × (r.value ≡ value) =
+    known (shown_on held k e) refl (shows_live bytes held k e (λ r. (has_key key r ≡ true) × (r.value ≡ value)) here shows) in (
       hit.0,
       sym (newest_in bytes held k key placed is spelled)
-          ∙ ap (λ (xs : List Entry). newest_with (live_by (shown_on held k) xs) key) (split_at es behind e at)
-          ∙ newest_at (shown_on held k) key (take behind es) e hit.0 (drop (behind + 1) es) none hit.1 hit.2,
+          ∙ ap (λ (xs : List Entry). newest_with (live_by (shown_on held k) xs) key) (split_at es behind e reached.at)
+          ∙ newest_at (shown_on held k) key (take behind es) e hit.0 (drop (behind + 1) es) newer hit.1 hit.2,
       hit.3,
     )
   where
@@ -156,12 +181,22 @@ turn_hit bytes held k key placed behind e value is spelled at none tells =
     known None at h = absurd h
 
 -- where all entries with the set and tag show other keys, no live record has the key
-pub turns_none : (bytes : ℕ) (held : ℕ → Option (List ℕ)) (k : LogState) (key : List ℕ) (placed : Placed) (n : ℕ) → placed ≡ place_in k.shape key → IsSpelledOn bytes held k
-    → length (of_tag placed.set placed.tag k.entries) ≤ n → All (ShowsOther (shown_on held k) key) (take n (of_tag placed.set placed.tag k.entries)) → newest_with (live_on held k) key ≡ None
-turns_none bytes held k key placed n is spelled le none =
+absent_none : (bytes : ℕ) (held : ℕ → Option (List ℕ)) (k : LogState) (key : List ℕ) (placed : Placed) → placed ≡ place_in k.shape key → IsSpelledOn bytes held k
+    → All (ShowsOther bytes held k key) (of_tag placed.set placed.tag k.entries) → newest_with (live_on held k) key ≡ None
+absent_none bytes held k key placed is spelled others =
     let es = of_tag placed.set placed.tag k.entries in
     sym (newest_in bytes held k key placed is spelled)
-    ∙ newest_none (shown_on held k) key es (subst (All (ShowsOther (shown_on held k) key)) (take_all n es le) none)
+    ∙ newest_none (shown_on held k) key es (spelled_other bytes held k key es (spelled_live bytes held k placed.set placed.tag spelled) others)
+
+-- so what lies behind an answer gives what is found
+pub finds_of : (bytes : ℕ) (held : ℕ → Option (List ℕ)) (k : LogState) (key : List ℕ) (placed : Placed) (f : Found) → placed ≡ place_in k.shape key
+    → FindsAt bytes held k placed.set placed.tag key (Ok f) → IsSpelledOn bytes held k → Finds (live_on held k) key f
+finds_of bytes held k key placed (found.Hit e value) is at spelled = hit_newest bytes held k key placed e value is spelled at.0 at.1
+finds_of bytes held k key placed found.Absent is at spelled = absent_none bytes held k key placed is spelled at
+finds_of bytes held k key placed found.Fault is at spelled = tt
+finds_of bytes held k key placed found.Damaged is at spelled =
+    at.2 (All-contains (IsLiveOn bytes held k) (of_tag placed.set placed.tag k.entries) at.0 (spelled_live bytes held k placed.set placed.tag spelled)
+    (reached_listed bytes held k placed.set placed.tag key at.0 at.1))
 
 -- where none stands at a place the list is no longer
 pub past : {X : Type 0} (xs : List X) (i : ℕ) → slice_get xs i ≡ None → length xs ≤ i
@@ -181,6 +216,10 @@ pub all_seen : (v k : LogState) (set tag n : ℕ) → v ≡ k → length v.entri
 all_seen v k set tag n is le = omega (arith, length-kept (has_tag set tag) k.entries, ap (λ (k : LogState). length k.entries) is)
 
 -- an entry of a set with a tag is of the set
-pub set_of_tag : (set tag : ℕ) (es : List Entry) (e : Entry) → Contains (of_tag set tag es) e → e.set ≡ set
+set_of_tag : (set tag : ℕ) (es : List Entry) (e : Entry) → Contains (of_tag set tag es) e → e.set ≡ set
 set_of_tag set tag es e h =
     eqb-true e.set set (and_parts (eqb e.set set) (eqb e.tag tag) (All-contains (λ e. has_tag set tag e ≡ true) (of_tag set tag es) e (filter_passes (has_tag set tag) es) h)).0
+
+-- so where it is lowered it is lowered in the set
+pub lowered_there : (k k' : LogState) (set tag : ℕ) (e : Entry) → Contains (of_tag set tag k.entries) e → k' ≡ lowered_in k e.set e.place → k' ≡ lowered_in k set e.place
+lowered_there k k' set tag e listed is = is ∙ ap (λ (n : ℕ). lowered_in k n e.place) (set_of_tag set tag k.entries e listed)

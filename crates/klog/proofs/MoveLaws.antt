@@ -18,16 +18,20 @@ use Rattle.klog_index.specs.Entries.{Entries, with_entries, is_of, is_place, is_
 use Rattle.klog_index.specs.First.{NoneOfSegment}
 use Rattle.klog.specs.declared.fetched.Fetched.TheVariants as fetched
 use Rattle.klog.specs.declared.oldest.Oldest.TheVariants as oldest
+use Rattle.klog.specs.declared.readmitted.Readmitted.{Readmitted}
+use Rattle.klog.specs.declared.readmitted.Readmitted.TheVariants as answers
 use Rattle.klog.specs.Buffer.{page_of, record_in}
 use Rattle.klog.specs.Log.{LogState}
 use Rattle.klog.specs.Names.{names, name_of, number_of, segment_of, flushed_number, filled_number, ring_page}
-use Rattle.klog.specs.Shown.{shown, shown_on, live_on, record_of_held, CanStandFor, IsLive, IsFlushed, IsSpelledOn}
+use Rattle.klog.specs.Shown.{shown, shown_on, live_on, record_of_held, CanStandFor, IsLiveOn, IsFlushed, IsSpelledOn}
 use Rattle.klog.specs.Keeps.{IsHeld, IsLog}
-use Rattle.klog.specs.Moves.{TellsOldest, IsOfOldest, freed, is_among}
+use Rattle.klog.specs.Known.{IsPageKnown, IsHad, ShowsIfHad}
+use Rattle.klog.specs.Moves.{TellsOldest, IsOfOldest, freed, is_among, EntersAnew, ReadsBack}
 use Rattle.klog.specs.Fetch.{stored_on, FetchGives}
 use Rattle.klog.proofs.RingLaws.{name_again, number_again, number_from}
 use Rattle.klog.proofs.LiveLaws.{live_by-same, length-kept}
 use Rattle.klog.proofs.FetchLaws.{IsStored, stored_shows}
+use Rattle.klog.proofs.KnownLaws.{page_known, live_had}
 
 -- ---- the oldest segment is freed
 
@@ -193,7 +197,7 @@ fewer_without k e log listed =
 -- ---- a record of the oldest segment is read
 
 -- the segment of such an entry is on the device
-pub oldest_stored : (k : LogState) (e : Entry) → IsOfOldest k e → IsStored k e
+oldest_stored : (k : LogState) (e : Entry) → IsOfOldest k e → IsStored k e
 oldest_stored k e h =
     let not_flushed : segment_of k e ≢ flushed_number k = λ same. omega (arith, same, h.oldest, h.some) in
     let not_filled : segment_of k e ≢ filled_number k = λ same. elim (cases_cond k.is_flushing (flushed_number k + 1) (flushed_number k) (filled_number k) refl) [
@@ -202,14 +206,38 @@ oldest_stored k e h =
     ] in
     record { not_filled = not_filled; not_flushed = and_right k.is_flushing _ (ne_eqb (segment_of k e) (flushed_number k) not_flushed) }
 
--- its page is known to hold a record that may stand for it
-pub oldest_known : (bytes : ℕ) (held : ℕ → Option (List ℕ)) (k : LogState) (e : Entry) → IsOfOldest k e → IsSpelledOn bytes held k → IsSomeAnd (stored_on held k e) (CanStandFor bytes k.shape e)
-oldest_known bytes held k e h spelled =
-    subst (λ (o : Option Rec). IsSomeAnd o (CanStandFor bytes k.shape e)) (stored_shows held k e (oldest_stored k e h))
-    (All-contains (IsLive bytes (pages_from k.shape.sets held) k) k.entries e spelled.live h.listed)
+-- it is live where the log is spelled
+pub oldest_live : (bytes : ℕ) (held : ℕ → Option (List ℕ)) (k : LogState) (e : Entry) → IsOfOldest k e → IsSpelledOn bytes held k → IsLiveOn bytes held k e
+oldest_live bytes held k e h spelled = All-contains (IsLiveOn bytes held k) k.entries e spelled.live h.listed
 
--- and the record that is given is the one that the entry shows
+-- where the record is damaged the entry is not live
+pub oldest_damaged : (bytes : ℕ) (held : ℕ → Option (List ℕ)) (k : LogState) (e : Entry) → IsOfOldest k e → (IsPageKnown held k e → FetchGives bytes k.shape e (stored_on held k e) fetched.Damaged) → IsLiveOn bytes held k e → ⊥
+oldest_damaged bytes held k e h gives live =
+    let stored = oldest_stored k e h in
+    gives (page_known held k e stored (live_had bytes held k e live)) (subst (λ (o : Option Rec). IsSomeAnd o (CanStandFor bytes k.shape e)) (stored_shows held k e stored) live)
+
+-- the record that is given is the one that the entry shows, where that is known
+oldest_shows : (bytes : ℕ) (held : ℕ → Option (List ℕ)) (k : LogState) (e : Entry) (found : RecordRef) → IsOfOldest k e → (IsPageKnown held k e → FetchGives bytes k.shape e (stored_on held k e) (fetched.Record found))
+    → IsHad held k e → shown_on held k e ≡ Some (record_shown found)
+oldest_shows bytes held k e found h gives had = let stored = oldest_stored k e h in stored_shows held k e stored ∙ gives (page_known held k e stored had)
+
+-- as it is where all live records are
 pub oldest_given : (bytes : ℕ) (held : ℕ → Option (List ℕ)) (k : LogState) (e : Entry) (found : RecordRef) (r : Rec) → IsOfOldest k e → IsSpelledOn bytes held k
-    → FetchGives bytes k.shape e (stored_on held k e) (fetched.Record found) → shown_on held k e ≡ Some r → record_shown found ≡ r
+    → (IsPageKnown held k e → FetchGives bytes k.shape e (stored_on held k e) (fetched.Record found)) → shown_on held k e ≡ Some r → record_shown found ≡ r
 oldest_given bytes held k e found r h spelled gives shows =
-    same_Some (record_shown found) r (sym (gives (oldest_known bytes held k e h spelled)) ∙ sym (stored_shows held k e (oldest_stored k e h)) ∙ shows)
+    let live : IsLiveOn bytes held k e = oldest_live bytes held k e h spelled in
+    same_Some (record_shown found) r (sym (oldest_shows bytes held k e found h gives (live_had bytes held k e live)) ∙ shows)
+
+-- and what became of it became of the entry's record
+pub oldest_back : (bytes : ℕ) (held : ℕ → Option (List ℕ)) (k : LogState) (e : Entry) (found : RecordRef) (a : Readmitted) (k' : LogState) → IsOfOldest k e
+    → (IsPageKnown held k e → FetchGives bytes k.shape e (stored_on held k e) (fetched.Record found)) → CanStandFor bytes k.shape e (record_shown found) → EntersAnew bytes k e (record_shown found) a k' → ReadsBack bytes held k e a k'
+oldest_back bytes held k e found a k' h gives can enters = by_case a enters
+  where
+    shows : (P : Rec → Type 0) → P (record_shown found) → ShowsIfHad bytes held k e P
+    shows P is = λ had. subst (λ (o : Option Rec). IsSomeAnd o (λ r. CanStandFor bytes k.shape e r × P r)) (sym (oldest_shows bytes held k e found h gives had)) (can, is)
+
+    by_case : (a : Readmitted) → EntersAnew bytes k e (record_shown found) a k' → ReadsBack bytes held k e a k'
+    by_case answers.Readmitted is = shows (λ r. EntersAnew bytes k e r answers.Readmitted k') is
+    by_case answers.Dropped is = shows (λ r. EntersAnew bytes k e r answers.Dropped k') is
+    by_case answers.Fault is = absurd is
+    by_case answers.Damaged is = absurd is

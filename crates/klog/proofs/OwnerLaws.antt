@@ -1,5 +1,5 @@
 -- An owner of a log and its device, call by call.
-use Rattle.std.proofs.Common.{◌≡◌, ◌≢◌, ◌≤◌, ◌+◌, ◌*◌, ℕ, List, ◌∷◌, Option, Some, None, Bool, true, false, refl, sym, ap, subst, ◌∙◌}
+use Rattle.std.proofs.Common.{◌≡◌, ◌≤◌, ◌+◌, ◌*◌, ℕ, List, ◌∷◌, Option, Some, None, Bool, false, refl, sym, ap, subst, ◌∙◌}
 use Rattle.std.specs.Prelude.{IsTrue, IsSomeAnd, IfOk, Result, Ok, Err, cond}
 use Rattle.std.specs.declared.alloc.AllocError.{AllocError}
 use Rattle.std.specs.Cmp.Lexicographic.{nat_list_eq_equiv}
@@ -7,7 +7,6 @@ use Rattle.std.proofs.lemmas.Option.{none-some}
 use Rattle.page_device.specs.Device.{faults_after}
 use Rattle.page_device.specs.Frames.{pages_before}
 use Rattle.record_pages.specs.Recs.{Rec}
-use Rattle.record_pages.specs.Looking.{has_key}
 use Rattle.record_pages.specs.declared.layout.Layout.{Layout}
 use Rattle.klog_index.specs.declared.entry.Entry.{Entry}
 use Rattle.klog.specs.declared.looked.Looked.{Looked}

@@ -1,12 +1,11 @@
 -- What is taken of a set's live records.
-use Rattle.std.proofs.Common.{◌≡◌, ℕ, zero, suc, ◌+◌, ◌<◌, ◌≤◌, true, List, [], ◌∷◌, ◌++◌, length, take, map, Option, Some, None, All, Contains, slice_get, refl, sym, ap, subst, ◌∙◌, arith}
-use Rattle.std.specs.Prelude.{IsSome, IsSomeAnd, IsTrue, Ok}
-use Rattle.std.specs.List.{cons_option}
-use Rattle.std.specs.Option.{option_map}
+use Rattle.std.proofs.Common.{◌≡◌, ℕ, zero, suc, ◌+◌, ◌<◌, ◌≤◌, ◌⊎◌, inl, inr, true, List, [], ◌∷◌, ◌++◌, length, take, map, Option, Some, None, All, Contains, slice_get, refl, sym, ap, subst, ◌∙◌, arith}
+use Rattle.std.specs.Prelude.{IsSome, IsSomeAnd, IsTrue, Result, Ok}
+use Rattle.std.specs.declared.alloc.AllocError.{AllocError}
 use Rattle.std.proofs.lemmas.Bool.{false≢true}
-use Rattle.std.proofs.lemmas.List.{take_more, take_all, map-append}
-use Rattle.std.proofs.lemmas.List.Elements.{All-filter, All-weaker, All-head, All-tail, All-contains, All-contains_itself, All-take, filter_map-append}
-use Rattle.std.proofs.lemmas.Option.{slice_get_within, get_or_from_slice_get}
+use Rattle.std.proofs.lemmas.List.{take_more, take_all, length_push}
+use Rattle.std.proofs.lemmas.List.Elements.{All-filter, All-weaker, All-head, All-tail, All-contains, All-contains_itself, All-take}
+use Rattle.std.proofs.lemmas.Option.{slice_get_within, get_or_from_slice_get, same_Some}
 use Rattle.page_device.specs.Device.{faults_after}
 use Rattle.page_device.specs.Frames.{pages_from}
 use Rattle.record_pages.specs.Recs.{Rec}
@@ -15,10 +14,11 @@ use Rattle.klog_index.specs.Entries.{is_of, of_set}
 use Rattle.klog.specs.declared.taken_record.TakenRecord.{TakenRecord}
 use Rattle.klog.specs.Log.{LogState}
 use Rattle.klog.specs.Shown.{shown_on, live_on, CanStandFor, IsLive, IsLiveOn, IsSpelledOn}
-use Rattle.klog.specs.Look.{is_buffered, AreBuffered}
-use Rattle.klog.specs.Moves.{most_taken, taken_entries, taken_as, taken_of}
+use Rattle.klog.specs.Known.{is_buffered, AreBuffered, ShowsIfHad}
+use Rattle.klog.specs.Moves.{most_taken, taken_entries, taken_as, taken_of, AreCopies}
 use Rattle.klog.specs.Take.{Copies, is_missing}
 use Rattle.klog.proofs.LiveLaws.{live_by, live_by-kept}
+use Rattle.klog.proofs.KnownLaws.{shows_live, shows_weaker}
 use Rattle.klog.proofs.LookLaws.{got, kept_of, past}
 
 -- ---- a turn: the entry that stands so far behind the newest of the set
@@ -47,27 +47,63 @@ turn_taken k set behind e lt at = got (taken_entries k set) behind e (got_early 
 pub turn_buffered : (k : LogState) (set behind : ℕ) (e : Entry) → behind < most_taken → AtTurn k set behind e → AreBuffered k (taken_entries k set) → IsTrue (is_buffered k e)
 turn_buffered k set behind e lt at all = All-contains (λ e. IsTrue (is_buffered k e)) (taken_entries k set) e all (turn_taken k set behind e lt at)
 
--- one record more is taken
-pub turn_more : (shows : Entry → Option Rec) (k : LogState) (set behind : ℕ) (e : Entry) (t : TakenRecord) (rs : List TakenRecord) → AtTurn k set behind e
-    → rs ≡ map taken_as (live_by shows (take behind (of_set set k.entries))) → Copies e (shows e) (Some t)
-    → rs ++ t ∷ [] ≡ map taken_as (live_by shows (take (behind + 1) (of_set set k.entries)))
-turn_more shows k set behind e t rs at before copies =
+-- ---- records that were copied
+
+-- what stands at a place of a list to which one is added: it stood there before, or it is the one that is added
+slice_get_push : {X : Type 0} (xs : List X) (y x : X) (i : ℕ) → slice_get (xs ++ y ∷ []) i ≡ Some x → (slice_get xs i ≡ Some x) ⊎ ((i ≡ length xs) × (y ≡ x))
+slice_get_push [] y x zero at = inr (refl, same_Some y x at)
+slice_get_push [] y x (suc i) at = absurd cc
+slice_get_push (z ∷ xs) y x zero at = inl at
+slice_get_push (z ∷ xs) y x (suc i) at = elim (slice_get_push xs y x i at) [ inl before ↦ inl before | inr last ↦ inr (omega (arith, last.0), last.1) ]
+
+-- what stood at a place stands there still, and behind all of it stands what is added
+slice_get_still : {X : Type 0} (xs : List X) (y x : X) (i : ℕ) → slice_get xs i ≡ Some x → slice_get (xs ++ y ∷ []) i ≡ Some x
+slice_get_still [] y x i at = absurd cc
+slice_get_still (z ∷ xs) y x zero at = at
+slice_get_still (z ∷ xs) y x (suc i) at = slice_get_still xs y x i at
+
+slice_get_last : {X : Type 0} (xs : List X) (y : X) → slice_get (xs ++ y ∷ []) (length xs) ≡ Some y
+slice_get_last [] y = refl
+slice_get_last (z ∷ xs) y = slice_get_last xs y
+
+-- one record more
+copies_push : (bytes : ℕ) (held : ℕ → Option (List ℕ)) (k : LogState) (es : List Entry) (rs : List TakenRecord) (e : Entry) (t : TakenRecord) → AreCopies bytes held k es rs → ShowsIfHad bytes held k e (λ r. t ≡ taken_as (e, r))
+    → AreCopies bytes held k (es ++ e ∷ []) (rs ++ t ∷ [])
+copies_push bytes held k es rs e t h copies = record {
+  count = length_push rs t ∙ ap (λ (n : ℕ). n + 1) h.count ∙ sym (length_push es e);
+  each = λ i x at. elim (slice_get_push es e x i at) [
+    | inl before ↦ shows_weaker bytes held k x (λ r. slice_get rs i ≡ Some (taken_as (x, r))) (λ r. slice_get (rs ++ t ∷ []) i ≡ Some (taken_as (x, r))) (λ r is. slice_get_still rs t (taken_as (x, r)) i is) (h.each i x before)
+    | inr last ↦
+        subst (λ (x : Entry). ShowsIfHad bytes held k x (λ r. slice_get (rs ++ t ∷ []) i ≡ Some (taken_as (x, r)))) last.1
+        (shows_weaker bytes held k e (λ r. t ≡ taken_as (e, r)) (λ r. slice_get (rs ++ t ∷ []) i ≡ Some (taken_as (e, r)))
+        (λ r is. ap (slice_get (rs ++ t ∷ [])) (last.0 ∙ sym h.count) ∙ slice_get_last rs t ∙ ap Some is) copies)
+  ];
+}
+
+-- the same of a turn
+pub turn_more : (bytes : ℕ) (held : ℕ → Option (List ℕ)) (k : LogState) (set behind : ℕ) (e : Entry) (t : TakenRecord) (rs : List TakenRecord) → AtTurn k set behind e
+    → AreCopies bytes held k (take behind (of_set set k.entries)) rs → ShowsIfHad bytes held k e (λ r. t ≡ taken_as (e, r)) → AreCopies bytes held k (take (behind + 1) (of_set set k.entries)) (rs ++ t ∷ [])
+turn_more bytes held k set behind e t rs at before copies =
     let es = of_set set k.entries in
-    let front : List Entry = take behind es in
-    let more : take (behind + 1) es ≡ front ++ e ∷ [] =
-    take_more es behind e (slice_get_within es behind e at) ∙ ap (λ (x : Entry). front ++ x ∷ []) (get_or_from_slice_get es behind e e at) in
-    ap (λ (ts : List TakenRecord). ts ++ t ∷ []) before
-    ∙ one_more front (shows e) refl copies
-    ∙ ap (λ (xs : List Entry). map taken_as (live_by shows xs)) (sym more)
+    let more : take (behind + 1) es ≡ take behind es ++ e ∷ [] =
+    take_more es behind e (slice_get_within es behind e at) ∙ ap (λ (x : Entry). take behind es ++ x ∷ []) (get_or_from_slice_get es behind e e at) in
+    subst (λ (xs : List Entry). AreCopies bytes held k xs (rs ++ t ∷ [])) (sym more) (copies_push bytes held k (take behind es) rs e t before copies)
+
+-- ---- what is taken of the live records, where all of them are known
+
+-- copies of live entries are their records
+live_copies : (bytes : ℕ) (held : ℕ → Option (List ℕ)) (k : LogState) (es : List Entry) (rs : List TakenRecord) → All (IsLiveOn bytes held k) es → AreCopies bytes held k es rs → rs ≡ map taken_as (live_by (shown_on held k) es)
+live_copies bytes held k [] [] live h = refl
+live_copies bytes held k [] (t ∷ rs) live h = absurd (omega (arith, h.count))
+live_copies bytes held k (e ∷ es) [] live h = absurd (omega (arith, h.count))
+live_copies bytes held k (e ∷ es) (t ∷ rs) live h =
+    let rest : rs ≡ map taken_as (live_by (shown_on held k) es) =
+    live_copies bytes held k es rs (All-tail (IsLiveOn bytes held k) e es live) (record { count = omega (arith, h.count); each = λ i x at. h.each (suc i) x at }) in
+    step (shown_on held k e) refl (shows_live bytes held k e (λ r. Some t ≡ Some (taken_as (e, r))) (All-head (IsLiveOn bytes held k) e es live) (h.each 0 e refl)) rest
   where
-    one_more : (front : List Entry) (o : Option Rec) → shows e ≡ o → IsSomeAnd o (λ r. t ≡ taken_as (e, r)) → map taken_as (live_by shows front) ++ t ∷ [] ≡ map taken_as (live_by shows (front ++ e ∷ []))
-    one_more front (Some r) shown is =
-        let last : live_by shows (e ∷ []) ≡ (e, r) ∷ [] = ap (λ (o : Option Rec). cons_option (option_map (λ r. (e, r)) o) []) shown in
-        ap (λ (x : TakenRecord). map taken_as (live_by shows front) ++ x ∷ []) is
-        ∙ sym (map-append taken_as (live_by shows front) ((e, r) ∷ []))
-        ∙ ap (λ (xs : List (Entry × Rec)). map taken_as (live_by shows front ++ xs)) (sym last)
-        ∙ ap (map taken_as) (sym (filter_map-append (λ e. option_map (λ r. (e, r)) (shows e)) front (e ∷ [])))
-    one_more front None shown is = absurd is
+    step : (o : Option Rec) → shown_on held k e ≡ o → IsSomeAnd o (λ r. Some t ≡ Some (taken_as (e, r))) → rs ≡ map taken_as (live_by (shown_on held k) es) → t ∷ rs ≡ map taken_as (live_by (shown_on held k) (e ∷ es))
+    step (Some r) is first rest = simp is (ap (λ (x : TakenRecord). x ∷ rs) (same_Some t (taken_as (e, r)) first) ∙ ap (λ (ts : List TakenRecord). taken_as (e, r) ∷ ts) rest)
+    step None is first rest = absurd first
 
 -- where each entry shows a record, the first of them are as many live records
 take_live : (shows : Entry → Option Rec) (n : ℕ) (es : List Entry) → All (λ e. IsSome (shows e)) es → take n (live_by shows es) ≡ live_by shows (take n es)
@@ -84,7 +120,7 @@ some_known (Some r) P h = refl
 some_known None P h = absurd h
 
 -- the live records that are taken
-pub taken_first : (bytes : ℕ) (held : ℕ → Option (List ℕ)) (k : LogState) (set : ℕ) → IsSpelledOn bytes held k
+taken_first : (bytes : ℕ) (held : ℕ → Option (List ℕ)) (k : LogState) (set : ℕ) → IsSpelledOn bytes held k
     → map taken_as (live_by (shown_on held k) (taken_entries k set)) ≡ taken_of set (live_on held k)
 taken_first bytes held k set spelled =
     let all : All (λ e. IsSome (shown_on held k e)) k.entries =
@@ -99,18 +135,21 @@ taken_all v k set behind o is found none le =
     let short : length es ≤ behind = past es behind (ap (λ (k : LogState). slice_get (of_set set k.entries) behind) (sym is) ∙ sym found ∙ none) in
     take_all behind es short ∙ sym (take_all most_taken es (omega (arith, short, le)))
 
--- what is copied at a turn, of the device as it was
-pub turn_copies : (bytes : ℕ) (held held' : ℕ → Option (List ℕ)) (k : LogState) (set behind : ℕ) (e : Entry) (o o' : Option TakenRecord) → AtTurn k set behind e → held' ≡ held → o ≡ o'
-    → (IsLiveOn bytes held' k e → Copies e (shown_on held' k e) o) → IsSpelledOn bytes held k → Copies e (shown_on held k e) o'
-turn_copies bytes held held' k set behind e o o' at same is h spelled =
-    subst (Copies e (shown_on held k e)) is
-    (subst (λ (x : ℕ → Option (List ℕ)). IsLiveOn bytes x k e → Copies e (shown_on x k e) o) same h (turn_live bytes held k set behind e at spelled))
+-- so what lies behind records that are taken gives which they are
+pub taken_of_copies : (bytes : ℕ) (held : ℕ → Option (List ℕ)) (k : LogState) (set : ℕ) (rs : List TakenRecord) → AreCopies bytes held k (taken_entries k set) rs → IsSpelledOn bytes held k → rs ≡ taken_of set (live_on held k)
+taken_of_copies bytes held k set rs copies spelled =
+    live_copies bytes held k (taken_entries k set) rs (All-take (IsLiveOn bytes held k) most_taken (of_set set k.entries) (All-filter (is_of set) (IsLiveOn bytes held k) k.entries spelled.live)) copies
+    ∙ taken_first bytes held k set spelled
 
--- a page that is lost was a failure
-pub turn_fails : (bytes : ℕ) (held held' : ℕ → Option (List ℕ)) (k : LogState) (set behind : ℕ) (e : Entry) (o : Option TakenRecord) (start before now : ℕ) → AtTurn k set behind e → held' ≡ held → o ≡ None → before ≡ start
-    → (IsLiveOn bytes held' k e → now ≡ faults_after before (is_missing (Ok o))) → IsSpelledOn bytes held k → now ≡ faults_after start true
-turn_fails bytes held held' k set behind e o start before now at same is began h spelled =
-    subst (λ (x : ℕ → Option (List ℕ)). IsLiveOn bytes x k e → now ≡ faults_after before (is_missing (Ok o))) same h (turn_live bytes held k set behind e at spelled)
+-- what is copied at a turn, on the device as it was
+pub turn_copies : (bytes : ℕ) (held held' : ℕ → Option (List ℕ)) (k : LogState) (e : Entry) (o o' : Result (Option TakenRecord) AllocError) → held' ≡ held → o ≡ o' → Copies bytes held' k e o → Copies bytes held k e o'
+turn_copies bytes held held' k e o o' same is h = subst (Copies bytes held k e) is (subst (λ (x : ℕ → Option (List ℕ)). Copies bytes x k e o) same h)
+
+-- where an entry is live a page of it that is lost was a failure
+pub turn_fails : (bytes : ℕ) (held held' : ℕ → Option (List ℕ)) (k : LogState) (e : Entry) (o : Option TakenRecord) (start before now : ℕ) → held' ≡ held → o ≡ None → before ≡ start
+    → (IsLiveOn bytes held' k e → now ≡ faults_after before (is_missing (Ok o))) → IsLiveOn bytes held k e → now ≡ faults_after start true
+turn_fails bytes held held' k e o start before now same is began h live =
+    subst (λ (x : ℕ → Option (List ℕ)). IsLiveOn bytes x k e → now ≡ faults_after before (is_missing (Ok o))) same h live
     ∙ ap (λ (o : Option TakenRecord). faults_after before (is_missing (Ok o))) is
     ∙ ap (λ (n : ℕ). faults_after n true) began
 

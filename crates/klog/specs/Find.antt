@@ -1,5 +1,5 @@
 -- What the entries of a set with a tag say of a key.
-use Rattle.std.specs.Prelude.{◌≡◌, ℕ, List, Option, Some, None, IsSomeAnd, Contains, Bool, true, false, Result, Ok}
+use Rattle.std.specs.Prelude.{◌≡◌, ℕ, List, Option, Some, None, All, Contains, Bool, true, false, Result, Ok, Err}
 use Rattle.std.specs.declared.alloc.AllocError.{AllocError}
 use Rattle.record_pages.specs.Recs.{Rec}
 use Rattle.record_pages.specs.Looking.{has_key}
@@ -9,19 +9,24 @@ use Rattle.klog.specs.declared.told.Told.{Told}
 use Rattle.klog.specs.declared.told.Told.TheVariants as told
 use Rattle.klog.specs.declared.found.Found.{Found}
 use Rattle.klog.specs.declared.found.Found.TheVariants as found
-use Rattle.klog.specs.Shown.{newest_with}
+use Rattle.klog.specs.Log.{LogState}
+use Rattle.klog.specs.Shown.{newest_with, IsLiveOn}
+use Rattle.klog.specs.Known.{ShowsIfHad}
+use Rattle.klog.specs.Look.{ShowsOther, IsReached}
 
 -- the device failed when a record was asked for
 abbrev pub is_told_fault : Result Told AllocError → Bool
 is_told_fault (Ok told.Fault) = true
 is_told_fault _ = false
 
--- what is told of a record: it has the key, and this value; or it has another key
-abbrev pub Tells : Option Rec → List ℕ → Told → Type 0
-Tells shown key (told.Hit value) = IsSomeAnd shown (λ r. (has_key key r ≡ true) × (r.value ≡ value))
-Tells shown key told.Other = IsSomeAnd shown (λ r. has_key key r ≡ false)
-Tells shown key told.Fault = Unit {0}
-Tells shown key told.Damaged = ⊥
+-- What is told of what an entry shows, where that is known: it has the key, and this value; or it has another key. Where
+-- one is damaged no record lies there that may stand for the entry; and memory is wanted only for a value.
+abbrev pub Tells : ℕ → (ℕ → Option (List ℕ)) → LogState → Entry → List ℕ → Result Told AllocError → Type 0
+Tells bytes held k e key (Ok (told.Hit value)) = ShowsIfHad bytes held k e (λ r. (has_key key r ≡ true) × (r.value ≡ value))
+Tells bytes held k e key (Ok told.Other) = ShowsOther bytes held k key e
+Tells bytes held k e key (Ok told.Fault) = Unit {0}
+Tells bytes held k e key (Ok told.Damaged) = IsLiveOn bytes held k e → ⊥
+Tells bytes held k e key (Err x) = ShowsIfHad bytes held k e (λ r. has_key key r ≡ true)
 
 -- the device failed when a key was searched for
 abbrev pub is_found_fault : Result Found AllocError → Bool
@@ -41,3 +46,14 @@ Finds live key (found.Hit e value) = (r : Rec) × (newest_with live key ≡ Some
 Finds live key found.Absent = newest_with live key ≡ None
 Finds live key found.Fault = Unit {0}
 Finds live key found.Damaged = ⊥
+
+-- what lies behind each answer of a search: behind a hit, the entry that is found
+abbrev pub FindsAt : ℕ → (ℕ → Option (List ℕ)) → LogState → ℕ → ℕ → List ℕ → Result Found AllocError → Type 0
+FindsAt bytes held k set tag key (Ok (found.Hit e value)) =
+    IsReached bytes held k set tag key e × ShowsIfHad bytes held k e (λ r. (has_key key r ≡ true) × (r.value ≡ value))
+FindsAt bytes held k set tag key (Ok found.Absent) = All (ShowsOther bytes held k key) (of_tag set tag k.entries)
+FindsAt bytes held k set tag key (Ok found.Fault) = (e : Entry) × IsReached bytes held k set tag key e
+FindsAt bytes held k set tag key (Ok found.Damaged) =
+    (e : Entry) × IsReached bytes held k set tag key e × (IsLiveOn bytes held k e → ⊥)
+FindsAt bytes held k set tag key (Err x) =
+    (e : Entry) × IsReached bytes held k set tag key e × ShowsIfHad bytes held k e (λ r. has_key key r ≡ true)

@@ -2,11 +2,12 @@ pub mod Buffer
 pub mod Log
 pub mod Names
 pub mod Shown
+pub mod Known
 pub mod Keeps
 pub mod Append
 pub mod Fetch
-pub mod Find
 pub mod Look
+pub mod Find
 pub mod Flush
 pub mod Moves
 pub mod Owner

@@ -1,15 +1,16 @@
 -- What a look-up in the log answers.
-use Rattle.std.specs.Prelude.{◌≡◌, ℕ, List, map, None, IsSomeAnd, Contains, All, Bool, true, false, ◌&&◌, ◌||◌, ◌==◌, IsTrue, Result, Ok, Err, if◌then◌else◌}
+use Rattle.std.specs.Prelude.{◌≡◌, ℕ, List, map, take, slice_get, Option, Some, None, IsSomeAnd, Contains, All, Bool, true, false, Result, Ok, Err, if◌then◌else◌}
 use Rattle.std.specs.declared.alloc.AllocError.{AllocError}
 use Rattle.record_pages.specs.Recs.{Rec}
+use Rattle.record_pages.specs.Looking.{has_key}
 use Rattle.klog_index.specs.declared.entry.Entry.{Entry}
 use Rattle.klog_index.specs.declared.place.Place.{Place}
 use Rattle.klog_index.specs.Entries.{is_in, lowered, with_lowered, of_tag}
 use Rattle.klog.specs.declared.looked.Looked.{Looked}
 use Rattle.klog.specs.declared.looked.Looked.TheVariants as looked
 use Rattle.klog.specs.Log.{LogState, with_list}
-use Rattle.klog.specs.Names.{segment_of, flushed_number, filled_number}
-use Rattle.klog.specs.Shown.{newest_with}
+use Rattle.klog.specs.Shown.{newest_with, IsLiveOn}
+use Rattle.klog.specs.Known.{ShowsIfHad}
 
 -- the answer is the device's failure
 abbrev pub is_fault : Result Looked AllocError → Bool
@@ -43,10 +44,26 @@ LookGives live key old looked.Absent new after = (newest_with live key ≡ None)
 LookGives live key old looked.Fault new after = (new ≡ old) × (after ≡ live)
 LookGives live key old looked.Damaged new after = ⊥
 
--- the entry's record lies in one of the two buffers
-abbrev pub is_buffered : LogState → Entry → Bool
-is_buffered k e = segment_of k e == filled_number k || k.is_flushing && segment_of k e == flushed_number k
+-- the entry shows another key, where what it shows is known
+abbrev pub ShowsOther : ℕ → (ℕ → Option (List ℕ)) → LogState → List ℕ → Entry → Type 0
+ShowsOther bytes held k key e = ShowsIfHad bytes held k e (λ r. has_key key r ≡ false)
 
--- the records of all these entries lie in the two buffers
-abbrev pub AreBuffered : LogState → List Entry → Type 0
-AreBuffered k es = All (λ e. IsTrue (is_buffered k e)) es
+-- the search for a key came to this entry of the key's set and tag: those that are newer show other keys
+pub record IsReached (bytes : ℕ) (held : ℕ → Option (List ℕ)) (k : LogState) (set tag : ℕ) (key : List ℕ) (e : Entry) : Type 0 where
+  pub behind : ℕ
+  pub at : slice_get (of_tag set tag k.entries) behind ≡ Some e
+  pub newer : All (ShowsOther bytes held k key) (take behind (of_tag set tag k.entries))
+
+-- What lies behind each answer of a look-up, whatever else is known: a hit is the value of an entry that the search came
+-- to, and which is lowered; absent is a key that no entry of its set and tag shows; a fault was met at an entry that
+-- the search came to; at a damaged one no record lies that may stand for it; and memory is wanted only for a value.
+abbrev pub LooksAt : ℕ → (ℕ → Option (List ℕ)) → LogState → ℕ → ℕ → List ℕ → Result Looked AllocError → LogState → Type 0
+LooksAt bytes held old set tag key (Ok (looked.Hit value)) new =
+    (e : Entry) × IsReached bytes held old set tag key e × (new ≡ lowered_in old set e.place)
+    × ShowsIfHad bytes held old e (λ r. (has_key key r ≡ true) × (r.value ≡ value))
+LooksAt bytes held old set tag key (Ok looked.Absent) new = All (ShowsOther bytes held old key) (of_tag set tag old.entries)
+LooksAt bytes held old set tag key (Ok looked.Fault) new = (e : Entry) × IsReached bytes held old set tag key e
+LooksAt bytes held old set tag key (Ok looked.Damaged) new =
+    (e : Entry) × IsReached bytes held old set tag key e × (IsLiveOn bytes held old e → ⊥)
+LooksAt bytes held old set tag key (Err x) new =
+    (e : Entry) × IsReached bytes held old set tag key e × ShowsIfHad bytes held old e (λ r. has_key key r ≡ true)

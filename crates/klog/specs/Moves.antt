@@ -1,5 +1,5 @@
 -- What leaves the log, from its oldest segment.
-use Rattle.std.specs.Prelude.{◌≡◌, ℕ, ◌+◌, ◌-◌, ◌<◌, List, ◌∷◌, map, take, filter, Bool, true, false, not, ◌&&◌, Contains, Result, Ok, Err}
+use Rattle.std.specs.Prelude.{◌≡◌, ℕ, ◌+◌, ◌-◌, ◌<◌, List, ◌∷◌, length, map, take, filter, slice_get, Option, Some, Bool, true, false, not, ◌&&◌, Contains, Result, Ok, Err}
 use Rattle.std.specs.List.{list_any}
 use Rattle.std.specs.declared.alloc.AllocError.{AllocError}
 use Rattle.record_pages.specs.Recs.{Rec, rec}
@@ -17,7 +17,8 @@ use Rattle.klog.specs.declared.set_taken.SetTaken.TheVariants as taken
 use Rattle.klog.specs.declared.taken_record.TakenRecord.{TakenRecord}
 use Rattle.klog.specs.Log.{LogState, with_list}
 use Rattle.klog.specs.Names.{name_of, segment_of}
-use Rattle.klog.specs.Shown.{CanStandFor}
+use Rattle.klog.specs.Shown.{CanStandFor, IsLiveOn}
+use Rattle.klog.specs.Known.{ShowsIfHad}
 use Rattle.klog.specs.Append.{entering, entry_for, taker, appended, is_full}
 use Rattle.klog.specs.Flush.{is_on_page, without_page}
 
@@ -106,6 +107,14 @@ ReadmitGives bytes old e r live answers.Fault after =
     after ≡ live_without_page old e live
 ReadmitGives bytes old e r live answers.Damaged after = ⊥
 
+-- what lies behind each answer of a readmission, whatever else is known: a record that may stand for the entry, and which
+-- entered anew or found no place; or, where one is damaged, none
+abbrev pub ReadsBack : ℕ → (ℕ → Option (List ℕ)) → LogState → Entry → Readmitted → LogState → Type 0
+ReadsBack bytes held old e answers.Readmitted new = ShowsIfHad bytes held old e (λ r. EntersAnew bytes old e r answers.Readmitted new)
+ReadsBack bytes held old e answers.Dropped new = ShowsIfHad bytes held old e (λ r. EntersAnew bytes old e r answers.Dropped new)
+ReadsBack bytes held old e answers.Fault new = Unit {0}
+ReadsBack bytes held old e answers.Damaged new = IsLiveOn bytes held old e → ⊥
+
 -- the most records that are taken at once
 abbrev pub most_taken : ℕ
 most_taken = 32
@@ -146,3 +155,18 @@ abbrev pub TakeGives : LogState → ℕ → List (Entry × Rec) → SetTaken →
 TakeGives old set live (taken.Records rs) after = (rs ≡ taken_of set live) × (after ≡ live)
 TakeGives old set live taken.PageLost after =
     (e : Entry) × Contains (taken_entries old set) e × (after ≡ live_without_page old e live)
+
+-- records are those of these entries, each as it is taken, where what the entry shows is known
+pub record AreCopies (bytes : ℕ) (held : ℕ → Option (List ℕ)) (k : LogState) (es : List Entry) (rs : List TakenRecord) : Type 0 where
+  pub count : length rs ≡ length es
+  pub each : (i : ℕ) (e : Entry) → slice_get es i ≡ Some e → ShowsIfHad bytes held k e (λ r. slice_get rs i ≡ Some (taken_as (e, r)))
+
+-- What lies behind each answer of a taking, whatever else is known, by the device's count of failures before and after:
+-- each record is its entry's; a page is lost where an entry to be taken shows no record that may stand for it, or the
+-- device failed; and memory is wanted only for a record.
+abbrev pub TakesAt : ℕ → (ℕ → Option (List ℕ)) → LogState → ℕ → ℕ → Result SetTaken AllocError → LogState → ℕ → Type 0
+TakesAt bytes held old set before (Ok (taken.Records rs)) new after = AreCopies bytes held old (taken_entries old set) rs
+TakesAt bytes held old set before (Ok taken.PageLost) new after =
+    (e : Entry) × Contains (taken_entries old set) e × (new ≡ without_its_page old e) × (IsLiveOn bytes held old e → after ≡ faults_after before true)
+TakesAt bytes held old set before (Err x) new after =
+    (e : Entry) × Contains (taken_entries old set) e × ShowsIfHad bytes held old e (λ r. Unit {0})

@@ -1,6 +1,8 @@
 -- A log together with the device that its segments lie on.
-use Rattle.std.specs.Prelude.{◌≡◌, ℕ, List, Option, Some, None, Bool, IsTrue, IsSomeAnd}
+use Rattle.std.specs.Prelude.{◌≡◌, ℕ, ◌<◌, ◌⊎◌, List, length, Option, Some, None, Bool, true, IsTrue, IsSomeAnd}
+use Rattle.page_device.specs.Device.{faults_after}
 use Rattle.page_device.specs.Frames.{pages_before}
+use Rattle.record_pages.specs.Sizes.{room, object_size}
 use Rattle.record_pages.specs.Recs.{Rec}
 use Rattle.record_pages.specs.declared.layout.Layout.{Layout}
 use Rattle.klog_index.specs.declared.entry.Entry.{Entry}
@@ -9,6 +11,7 @@ use Rattle.klog.specs.declared.looked.Looked.TheVariants as looked
 use Rattle.klog.specs.Log.{LogState, shape_of}
 use Rattle.klog.specs.Names.{HasRoom}
 use Rattle.klog.specs.Shown.{IsSpelledOn, live_on, newest_with}
+use Rattle.klog.specs.Append.{entering, is_full}
 
 -- a device, and the log on it
 pub record OwnerState (D : Type 0) : Type 0 where
@@ -51,3 +54,12 @@ IsToldOf value (Some looked.Fault) = Unit {0}
 IsToldOf value (Some looked.Damaged) = ⊥
 IsToldOf value (Some looked.Absent) = ⊥
 IsToldOf value (Some (looked.Hit found)) = found ≡ value
+
+-- a record of this key and value is not added: its object is too large for a page, the index is full, or no place is left
+abbrev pub IsRefused : ℕ → LogState → List ℕ → List ℕ → Type 0
+IsRefused size k key value = (room size < object_size key value) ⊎ ((length k.entries ≡ k.shape.limit) ⊎ (is_full size k (entering key value) ≡ true))
+
+-- it was not looked up, by the device's count of failures before and after: it was refused, with no failure, or the
+-- device failed once
+abbrev pub IsNotAsked : ℕ → LogState → List ℕ → List ℕ → ℕ → ℕ → Type 0
+IsNotAsked size k key value before after = (IsRefused size k key value × (after ≡ before)) ⊎ (after ≡ faults_after before true)

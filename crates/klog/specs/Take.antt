@@ -1,5 +1,5 @@
 -- What a reading of the records of a set gives.
-use Rattle.std.specs.Prelude.{◌≡◌, ℕ, List, Option, Some, None, IsSomeAnd, Contains, Bool, true, false, Result, Ok, Err}
+use Rattle.std.specs.Prelude.{◌≡◌, ℕ, List, Option, Some, None, Contains, Bool, true, false, Result, Ok, Err}
 use Rattle.std.specs.declared.alloc.AllocError.{AllocError}
 use Rattle.page_device.specs.Device.{faults_after}
 use Rattle.record_pages.specs.Recs.{Rec}
@@ -8,7 +8,9 @@ use Rattle.klog.specs.declared.taken_record.TakenRecord.{TakenRecord}
 use Rattle.klog.specs.declared.gathered.Gathered.{Gathered}
 use Rattle.klog.specs.declared.gathered.Gathered.TheVariants as gathered
 use Rattle.klog.specs.Log.{LogState}
-use Rattle.klog.specs.Moves.{taken_as, taken_of, taken_entries}
+use Rattle.klog.specs.Shown.{IsLiveOn}
+use Rattle.klog.specs.Known.{ShowsIfHad}
+use Rattle.klog.specs.Moves.{taken_as, taken_of, taken_entries, AreCopies}
 
 -- no record was had
 abbrev pub is_missing : Result (Option TakenRecord) AllocError → Bool
@@ -21,10 +23,11 @@ FailsOnlyIfMissing old (Ok None) new = (failed : Bool) × (new ≡ faults_after 
 FailsOnlyIfMissing old (Ok (Some t)) new = new ≡ old
 FailsOnlyIfMissing old (Err e) new = new ≡ old
 
--- a record that was had is the entry's, as it is taken
-abbrev pub Copies : Entry → Option Rec → Option TakenRecord → Type 0
-Copies e shown (Some t) = IsSomeAnd shown (λ r. t ≡ taken_as (e, r))
-Copies e shown None = Unit {0}
+-- a record that was had is the entry's, as it is taken, where what the entry shows is known; memory is wanted only for one
+abbrev pub Copies : ℕ → (ℕ → Option (List ℕ)) → LogState → Entry → Result (Option TakenRecord) AllocError → Type 0
+Copies bytes held k e (Ok (Some t)) = ShowsIfHad bytes held k e (λ r. t ≡ taken_as (e, r))
+Copies bytes held k e (Ok None) = Unit {0}
+Copies bytes held k e (Err x) = ShowsIfHad bytes held k e (λ r. Unit {0})
 
 -- a page was lost
 abbrev pub is_lost_page : Result Gathered AllocError → Bool
@@ -46,3 +49,10 @@ IsToBeTaken k set (gathered.Records rs) = Unit {0}
 abbrev pub Gathers : ℕ → List (Entry × Rec) → Gathered → Type 0
 Gathers set live (gathered.Records rs) = rs ≡ taken_of set live
 Gathers set live (gathered.Lost e) = Unit {0}
+
+-- what lies behind each answer, by the device's count of failures before and after
+abbrev pub GathersAt : ℕ → (ℕ → Option (List ℕ)) → LogState → ℕ → ℕ → Result Gathered AllocError → ℕ → Type 0
+GathersAt bytes held k set before (Ok (gathered.Records rs)) after = AreCopies bytes held k (taken_entries k set) rs
+GathersAt bytes held k set before (Ok (gathered.Lost e)) after = IsLiveOn bytes held k e → after ≡ faults_after before true
+GathersAt bytes held k set before (Err x) after =
+    (e : Entry) × Contains (taken_entries k set) e × ShowsIfHad bytes held k e (λ r. Unit {0})

@@ -2,13 +2,21 @@
 //! moved or lost.
 ghost use Rattle.record_pages.specs.Sizes.{IsPageSize};
 
+mod blank_device;
+mod entering;
+mod failing;
+mod leaving;
 mod owner;
+mod retried;
 mod ring;
+mod step;
 
 use self::owner::Owner;
+use self::step::{Kept, Seen, Step, run};
 use super::*;
+use klog_index::Place;
 use page_device::{FuseDevice, MemoryDevice, PageDevice};
-use record_pages::{Config, Key, Value};
+use record_pages::{Config, Key, Layout, Value};
 use std::alloc::{AllocError, Global};
 use std::process::Abort;
 use std::test::Fail;
@@ -32,6 +40,11 @@ fn device(alloc: Global) -> Result<MemoryDevice<256>, AllocError> {
     MemoryDevice::new(alloc, 3)
 }
 
+// A device that refuses each call.
+fn refusing(alloc: Global) -> Result<Fused, AllocError> {
+    Ok(FuseDevice::from(device(alloc)?, 1))
+}
+
 fn log<D: PageDevice<PAGE>, const PAGE: usize>(
     alloc: Global,
     config: Config,
@@ -43,34 +56,33 @@ fn log<D: PageDevice<PAGE>, const PAGE: usize>(
     Ok(Owner::open(alloc, &layout, device)?.ok_or("a device that is large enough")?)
 }
 
-fn append<D: PageDevice<PAGE>, const PAGE: usize>(
-    alloc: Global,
-    owner: &mut Owner<D, PAGE>,
-    key: &[u8],
-    value: &[u8],
-) -> Result<Option<Appended>, Fail>
-    requires { IsPageSize PAGE }
-{
-    let key = Key::new(alloc, key)?;
-    let value = Value::new(alloc, value)?;
-    Ok(owner.append(&key, &value))
+// A log on a device that refuses no call; an opening that lacks memory is tried once more.
+fn sound_log(alloc: Global) -> Result<Owner<Fused, 256>, Fail> {
+    let layout = ONE_SET.check()?;
+    let owner = match open(alloc, &layout) {
+        Ok(owner) => owner,
+        Err(_) => open(alloc, &layout)?,
+    };
+    Ok(owner.ok_or("a device that is large enough")?)
 }
 
-fn strike<D: PageDevice<PAGE>, const PAGE: usize>(
-    alloc: Global,
-    owner: &mut Owner<D, PAGE>,
-    key: &[u8],
-) -> Result<(), Fail> {
-    owner.strike(&Key::new(alloc, key)?);
-    Ok(())
+fn open(alloc: Global, layout: &Layout) -> Result<Option<Owner<Fused, 256>>, AllocError> {
+    Owner::open(alloc, layout, FuseDevice::one(device(alloc)?, 0))
 }
 
 const ADDED: Option<Appended> = Some(Appended::Appended);
 
+// The first slot of the first segment.
+const FIRST: Place = Place {
+    segment: 0,
+    page: 0,
+    slot: 0,
+};
+
 #[test]
 fn what_was_flushed_is_found(rt: HostRuntime) -> Result<(), Fail> {
     let alloc = rt.alloc();
-    let mut owner: Owner<Fused, 256> = log(alloc, ONE_SET, FuseDevice::one(device(alloc)?, 0))?;
+    let mut owner = sound_log(alloc)?;
     let key = Key::new(alloc, b"ax")?;
     let value = Value::new(alloc, b"1")?;
     let Some(Looked::Hit(found)) = owner.append_flush_look(alloc, &key, &value, 3)? else {

@@ -9,7 +9,7 @@ ghost use Rattle.record_pages.specs.Reading.{log_page_at};
 ghost use Rattle.klog.specs.Buffer.{record_in};
 ghost use Rattle.klog.specs.Names.{HasRoom};
 ghost use Rattle.klog.specs.Shown.{shown_on, record_on};
-ghost use Rattle.klog.specs.Look.{is_buffered};
+ghost use Rattle.klog.specs.Known.{is_buffered, IsPageKnown, IsHad};
 ghost use Rattle.klog.specs.Fetch.{is_fault, IsItsOwn, stored_on, FetchGives};
 
 use super::KLog;
@@ -39,6 +39,7 @@ impl<const PAGE: usize> KLog<PAGE> {
         ensures its { IsItsOwn PAGE self.entry.now.shape entry.now result }
         ensures same { IsTrue (D.honest device.old) → D.held device.new ≡ D.held device.old }
         ensures gives { IsTrue (D.honest device.old) →
+            IsHad (D.held device.old) self.entry.now entry.now →
             FetchGives PAGE self.entry.now.shape entry.now
             (shown_on (D.held device.old) self.entry.now entry.now) result }
     {
@@ -69,6 +70,7 @@ impl<const PAGE: usize> KLog<PAGE> {
         ensures its { IsItsOwn PAGE self.now.shape entry.now result }
         ensures same { IsTrue (D.honest device.old) → D.held device.new ≡ D.held device.old }
         ensures gives { IsTrue (D.honest device.old) →
+            IsPageKnown (D.held device.old) self.now entry.now →
             FetchGives PAGE self.now.shape entry.now
             (stored_on (D.held device.old) self.now entry.now) result }
     {

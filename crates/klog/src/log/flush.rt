@@ -1,9 +1,9 @@
 // Writing filled segments to the device.
-ghost use Rattle.std.specs.Prelude.{◌≡◌, ◌<◌, ℕ, List, Option, IsTrue, not, true};
+ghost use Rattle.std.specs.Prelude.{◌≡◌, ◌≢◌, ◌<◌, ℕ, List, Option, IsTrue, not, true};
 ghost use Rattle.page_device.specs.Device.{faults_after};
 ghost use Rattle.page_device.specs.Frames.{pages_before};
 ghost use Rattle.record_pages.specs.Sizes.{IsPageSize};
-ghost use Rattle.klog.specs.Names.{HasRoom};
+ghost use Rattle.klog.specs.Names.{HasRoom, flushed_number, device_page};
 ghost use Rattle.klog.specs.Shown.{IsSpelledOn, live_on};
 ghost use Rattle.klog.specs.Flush.{is_lost, CanFlush, FlushGives, live_flushed, moved_on, without_next, WritesNext};
 
@@ -29,6 +29,9 @@ impl<const PAGE: usize> KLog<PAGE> {
         ensures idle { (CanFlush self.old → ⊥) → device.new ≡ device.old }
 
         // Where it is honest.
+        ensures elsewhere { IsTrue (D.honest device.old) → (page : ℕ) →
+            page ≢ device_page self.old (flushed_number self.old) self.old.done →
+            D.held device.new page ≡ D.held device.old page }
         ensures apart { IsTrue (D.honest device.old) →
             pages_before self.old.shape.sets (D.held device.new)
             ≡ pages_before self.old.shape.sets (D.held device.old) }
@@ -66,6 +69,9 @@ impl<const PAGE: usize> KLog<PAGE> {
         ensures idle { (CanFlush self.old → ⊥) → device.new ≡ device.old }
 
         // Where it is honest.
+        ensures elsewhere { IsTrue (D.honest device.old) → (page : ℕ) →
+            page ≢ device_page self.old (flushed_number self.old) self.old.done →
+            D.held device.new page ≡ D.held device.old page }
         ensures apart { IsTrue (D.honest device.old) →
             pages_before self.old.shape.sets (D.held device.new)
             ≡ pages_before self.old.shape.sets (D.held device.old) }

@@ -4,9 +4,10 @@ ghost use Rattle.page_device.specs.Device.{faults_after};
 ghost use Rattle.record_pages.specs.Sizes.{IsPageSize};
 ghost use Rattle.klog_index.specs.Entries.{of_tag};
 ghost use Rattle.klog.specs.Names.{HasRoom};
-ghost use Rattle.klog.specs.Shown.{IsSpelledOn, IsLiveOn, shown_on, live_on, place_in};
-ghost use Rattle.klog.specs.Find.{is_told_fault, Tells, is_found_fault, IsOfTag, Finds};
-ghost use Rattle.klog.specs.Look.{is_fault, LookLeaves, LookGives, is_buffered, AreBuffered, lowered_in, live_lowered};
+ghost use Rattle.klog.specs.Shown.{IsSpelledOn, live_on, place_in};
+ghost use Rattle.klog.specs.Known.{is_buffered, AreBuffered};
+ghost use Rattle.klog.specs.Find.{is_told_fault, Tells, is_found_fault, IsOfTag, Finds, FindsAt};
+ghost use Rattle.klog.specs.Look.{is_fault, LookLeaves, LookGives, LooksAt, lowered_in, live_lowered};
 
 use super::KLog;
 use crate::fetched::Fetched;
@@ -46,6 +47,9 @@ impl<const PAGE: usize> KLog<PAGE> {
 
         // Where it is honest.
         ensures same { IsTrue (D.honest device.old) → D.held device.new ≡ D.held device.old }
+        ensures looks_at { IsTrue (D.honest device.old) →
+            LooksAt PAGE (D.held device.old) self.old placed.now.set placed.now.tag key.now result
+            self.new }
         ensures gives { IsTrue (D.honest device.old) →
             IsSpelledOn PAGE (D.held device.old) self.old →
             IfOk result (λ r. LookGives (live_on (D.held device.old) self.old) key.now self.old r
@@ -85,6 +89,8 @@ impl<const PAGE: usize> KLog<PAGE> {
             (of_tag placed.now.set placed.now.tag self.now.entries) →
             device.new ≡ device.old }
         ensures same { IsTrue (D.honest device.old) → D.held device.new ≡ D.held device.old }
+        ensures finds_at { IsTrue (D.honest device.old) →
+            FindsAt PAGE (D.held device.old) self.now placed.now.set placed.now.tag key.now result }
         ensures finds { IsTrue (D.honest device.old) →
             IsSpelledOn PAGE (D.held device.old) self.now →
             IfOk result (Finds (live_on (D.held device.old) self.now) key.now) }
@@ -121,8 +127,7 @@ impl<const PAGE: usize> KLog<PAGE> {
         ensures buffered { IsTrue (is_buffered self.now entry.now) → device.new ≡ device.old }
         ensures same { IsTrue (D.honest device.old) → D.held device.new ≡ D.held device.old }
         ensures tells { IsTrue (D.honest device.old) →
-            IsLiveOn PAGE (D.held device.old) self.now entry.now →
-            IfOk result (Tells (shown_on (D.held device.old) self.now entry.now) key.now) }
+            Tells PAGE (D.held device.old) self.now entry.now key.now result }
     {
         let mut bytes = [0u8; PAGE];
         match self.fetch(device, entry, &mut bytes) {

@@ -6,9 +6,9 @@ ghost use Rattle.record_pages.specs.Recs.{Rec};
 ghost use Rattle.record_pages.specs.Lent.{record_shown};
 ghost use Rattle.klog.specs.Names.{HasRoom};
 ghost use Rattle.klog.specs.Shown.{CanStandFor, IsLiveOn, IsSpelledOn, shown_on, live_on};
-ghost use Rattle.klog.specs.Look.{is_buffered, AreBuffered};
-ghost use Rattle.klog.specs.Take.{is_missing, FailsOnlyIfMissing, Copies, is_lost_page, FailsOnlyIfLostPage, IsToBeTaken, Gathers};
-ghost use Rattle.klog.specs.Moves.{TellsOldest, IsFirstLive, IsOfOldest, freed, is_among, dropped, without_entry, live_without_entry, without_its_page, live_without_page, EntersAnew, is_fault, ReadmitLeaves, ReadmitGives, is_lost, FailsOnlyIfLost, taken_entries, TakeLeaves, TakeGives};
+ghost use Rattle.klog.specs.Known.{is_buffered, AreBuffered};
+ghost use Rattle.klog.specs.Take.{is_missing, FailsOnlyIfMissing, Copies, is_lost_page, FailsOnlyIfLostPage, IsToBeTaken, Gathers, GathersAt};
+ghost use Rattle.klog.specs.Moves.{TellsOldest, IsFirstLive, IsOfOldest, freed, is_among, dropped, without_entry, live_without_entry, without_its_page, live_without_page, EntersAnew, is_fault, ReadmitLeaves, ReadmitGives, ReadsBack, is_lost, FailsOnlyIfLost, taken_entries, TakeLeaves, TakeGives, TakesAt};
 
 use super::KLog;
 use super::append::ENTERING;
@@ -49,7 +49,7 @@ impl<const PAGE: usize> KLog<PAGE> {
         ensures freed { self.new ≡ freed self.old }
         ensures spelled { (held : ℕ → Option (List ℕ)) → IsSpelledOn PAGE held self.old →
             IsSpelledOn PAGE held self.new }
-        ensures shown { (held : ℕ → Option (List ℕ)) → IsSpelledOn PAGE held self.old →
+        ensures shown { (held : ℕ → Option (List ℕ)) →
             live_on held self.new ≡ live_on held self.old }
     {
         self.first += 1;
@@ -87,6 +87,8 @@ impl<const PAGE: usize> KLog<PAGE> {
 
         // Where it is honest.
         ensures same { IsTrue (D.honest device.old) → D.held device.new ≡ D.held device.old }
+        ensures reads_back { IsTrue (D.honest device.old) →
+            ReadsBack PAGE (D.held device.old) self.old entry.now result self.new }
         ensures gives { IsTrue (D.honest device.old) →
             IsSpelledOn PAGE (D.held device.old) self.old →
             (r : Rec) → shown_on (D.held device.old) self.old entry.now ≡ Some r →
@@ -133,6 +135,9 @@ impl<const PAGE: usize> KLog<PAGE> {
 
         // Where it is honest.
         ensures same { IsTrue (D.honest device.old) → D.held device.new ≡ D.held device.old }
+        ensures takes_at { IsTrue (D.honest device.old) →
+            TakesAt PAGE (D.held device.old) self.old set (D.failures device.old) result self.new
+            (D.failures device.new) }
         ensures faults { IsTrue (D.honest device.old) →
             IsSpelledOn PAGE (D.held device.old) self.old →
             D.failures device.new ≡ faults_after (D.failures device.old) (is_lost result) }
@@ -170,6 +175,9 @@ impl<const PAGE: usize> KLog<PAGE> {
         ensures buffered { AreBuffered self.now (taken_entries self.now set) →
             device.new ≡ device.old }
         ensures same { IsTrue (D.honest device.old) → D.held device.new ≡ D.held device.old }
+        ensures gathers_at { IsTrue (D.honest device.old) →
+            GathersAt PAGE (D.held device.old) self.now set (D.failures device.old) result
+            (D.failures device.new) }
         ensures faults { IsTrue (D.honest device.old) →
             IsSpelledOn PAGE (D.held device.old) self.now →
             D.failures device.new ≡ faults_after (D.failures device.old) (is_lost_page result) }
@@ -210,8 +218,7 @@ impl<const PAGE: usize> KLog<PAGE> {
             IsLiveOn PAGE (D.held device.old) self.now entry.now →
             D.failures device.new ≡ faults_after (D.failures device.old) (is_missing result) }
         ensures copies { IsTrue (D.honest device.old) →
-            IsLiveOn PAGE (D.held device.old) self.now entry.now →
-            IfOk result (Copies entry.now (shown_on (D.held device.old) self.now entry.now)) }
+            Copies PAGE (D.held device.old) self.now entry.now result }
     {
         let mut bytes = [0u8; PAGE];
         let Fetched::Record(found) = self.fetch(device, entry, &mut bytes) else {

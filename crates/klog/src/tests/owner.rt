@@ -5,9 +5,10 @@ ghost use Rattle.page_device.specs.Device.{faults_after};
 ghost use Rattle.page_device.specs.Frames.{pages_before};
 ghost use Rattle.record_pages.specs.Sizes.{IsPageSize, object_size, room};
 ghost use Rattle.klog.specs.Shown.{newest_with};
+ghost use Rattle.klog.specs.Append.{entering, AppendGives};
 ghost use Rattle.klog.specs.Look.{is_fault};
 ghost use Rattle.klog.specs.Flush.{is_lost};
-ghost use Rattle.klog.specs.Owner.{OwnerState, IsOwner, live_of, KeepsLive, HasNewest, Tells, IsToldOf};
+ghost use Rattle.klog.specs.Owner.{OwnerState, IsOwner, live_of, KeepsLive, HasNewest, Tells, IsToldOf, IsNotAsked};
 
 use super::*;
 use klog_index::Place;
@@ -53,6 +54,8 @@ impl<D: PageDevice<PAGE>, const PAGE: usize> Owner<D, PAGE> {
     pub fn append(&mut self, key: &Key, value: &Value) -> Option<Appended>
         requires { IsPageSize PAGE }
         ensures too_large { IfNone result (room PAGE < object_size key.now value.now) }
+        ensures gives { IfSome result (λ answer. AppendGives PAGE self.old.log
+            (entering key.now value.now) answer self.new.log) }
         ensures device { self.new.device ≡ self.old.device }
         ensures shape { self.new.log.shape ≡ self.old.log.shape }
         ensures newest { IsTrue (D.honest self.old.device) → result ≡ Some Appended.Appended →
@@ -157,7 +160,8 @@ impl<D: PageDevice<PAGE>, const PAGE: usize> Owner<D, PAGE> {
     }
 
     /// Appends a record, flushes so many steps, and looks the key up: once the record is in and no page was lost, it is
-    /// found with its value, or the device failed in that look-up.
+    /// found with its value, or the device failed in that look-up. Nothing is answered where the record was refused, or
+    /// a page was lost.
     pub fn append_flush_look(
         &mut self,
         alloc: Global,
@@ -167,6 +171,8 @@ impl<D: PageDevice<PAGE>, const PAGE: usize> Owner<D, PAGE> {
     ) -> Result<Option<Looked>, AllocError>
         requires { IsPageSize PAGE }
         ensures told { IsTrue (D.honest self.old.device) → IfOk result (IsToldOf value.now) }
+        ensures not_asked { IfOk result (λ told. IfNone told (IsNotAsked PAGE self.old.log
+            key.now value.now (D.failures self.old.device) (D.failures self.new.device))) }
         ensures faults { IfOk result (λ told. IfSome told (λ looked. D.failures self.new.device
             ≡ faults_after (D.failures self.old.device) (is_fault (Ok looked)))) }
         ensures pages_of_sets { IsTrue (D.honest self.old.device) →

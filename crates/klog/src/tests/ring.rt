@@ -1,12 +1,36 @@
 //! The segments of the device, used again and again.
+use super::retried::{append, look, strike, take};
 use super::*;
+
+const WAITS: [Step; 15] = [
+    Step::Append(b"ax", b"1", ADDED),
+    Step::Flush(Flushed::Sealed),
+    Step::Flush(Flushed::Wrote),
+    Step::Append(b"bx", b"2", ADDED),
+    Step::Flush(Flushed::Sealed),
+    Step::Flush(Flushed::Wrote),
+    Step::Append(b"cx", b"3", ADDED),
+    Step::Flush(Flushed::Sealed),
+    Step::Flush(Flushed::LogFull),
+    Step::Flush(Flushed::LogFull),
+    Step::Strike(b"ax"),
+    Step::Free(true),
+    Step::Flush(Flushed::Wrote),
+    Step::Look(b"bx", Seen::Value(b"2")),
+    Step::Look(b"cx", Seen::Value(b"3")),
+];
+
+#[test]
+fn a_flush_waits_for_a_free_segment(rt: HostRuntime) -> Result<(), Fail> {
+    let alloc = rt.alloc();
+    run(&rt, alloc, &mut sound_log(alloc)?, &WAITS)
+}
 
 const KEYS: [&[u8]; 5] = [b"ax", b"bx", b"cx", b"dx", b"ex"];
 
 // The number that a key has, or a number for a key that has none.
 fn number_of(alloc: Global, owner: &mut Owner<Fused, 256>, key: &[u8]) -> Result<u8, Fail> {
-    let key = Key::new(alloc, key)?;
-    match owner.look(alloc, &key)? {
+    match look(alloc, owner, key)? {
         Looked::Hit(value) => Ok(*value.bytes().first().ok_or("a value of one byte")?),
         Looked::Absent => Ok(NONE),
         Looked::Fault | Looked::Damaged => Err("a page that is not read".into()),
@@ -20,7 +44,7 @@ fn drop_oldest(alloc: Global, owner: &mut Owner<Fused, 256>) -> Result<Vec<u8>, 
     let Oldest::First(entry) = owner.oldest() else {
         return Err("no live record".into());
     };
-    let SetTaken::Records(records) = owner.take(alloc, 0)? else {
+    let SetTaken::Records(records) = take(alloc, owner)? else {
         return Err("a lost page".into());
     };
     for number in 0..records.len() {
@@ -60,27 +84,35 @@ fn empty_oldest(
     Ok(())
 }
 
+const SEALED_AND_WRITTEN: [Step; 2] = [Step::Flush(Flushed::Sealed), Step::Flush(Flushed::Wrote)];
+
+// A key's record of the last round gives way to that of this round, which fills a segment.
+fn enter(
+    rt: &impl Abort,
+    alloc: Global,
+    owner: &mut Owner<Fused, 256>,
+    round: u8,
+) -> Result<(), Fail> {
+    let key = KEYS[(round % 5) as usize];
+    strike(alloc, owner, key)?;
+    assert_eq!(rt; append(alloc, owner, key, &[round])?, ADDED);
+    run(rt, alloc, owner, &SEALED_AND_WRITTEN)
+}
+
 #[test]
 fn the_ring_goes_round(rt: HostRuntime) -> Result<(), Fail> {
     let alloc = rt.alloc();
-    let mut owner: Owner<Fused, 256> = log(alloc, ONE_SET, FuseDevice::one(device(alloc)?, 0))?;
+    let mut owner = sound_log(alloc)?;
     let mut numbers = [NONE; 5];
     for round in 0..15u8 {
-        let at = (round % 5) as usize;
-        strike(alloc, &mut owner, KEYS[at])?;
-        assert_eq!(rt; append(alloc, &mut owner, KEYS[at], &[round])?, ADDED);
-        numbers[at] = round;
-        assert_eq!(rt; owner.flush(), Flushed::Sealed);
-        assert_eq!(rt; owner.flush(), Flushed::Wrote);
+        enter(&rt, alloc, &mut owner, round)?;
+        numbers[(round % 5) as usize] = round;
         if round > 0 {
             empty_oldest(&rt, alloc, &mut owner, round % 4 != 0, &mut numbers)?;
         }
         for key in 0..5usize {
-            assert_eq!(rt;
-                number_of(alloc, &mut owner, KEYS[key])?,
-                numbers[key],
-                "round {round}"
-            );
+            let found = number_of(alloc, &mut owner, KEYS[key])?;
+            assert_eq!(rt; found, numbers[key], "round {round}");
         }
     }
     Ok(())

@@ -1,9 +1,8 @@
 use Rattle.std.proofs.Common.{◌≡◌, All, take}
 use Rattle.std.specs.Prelude.{IsTrue}
 use Rattle.klog_index.specs.Entries.{of_tag}
-use Rattle.klog.specs.Shown.{shown_on, IsSpelledOn}
-use Rattle.klog.specs.Look.{AreBuffered}
-use Rattle.klog.proofs.LookLaws.{ShowsOther}
+use Rattle.klog.specs.Known.{AreBuffered}
+use Rattle.klog.specs.Look.{ShowsOther}
 use Rattle.klog.proofs.log.KLog.find.Given as goal
 
 abbrev pub invariant-loop-behind : goal.invariant-loop-behind
@@ -13,6 +12,6 @@ invariant-loop-behind g l = record {
   failures : g.D.PageDevice.failures l.device ≡ g.D.PageDevice.failures l.initial.device;
   same : IsTrue (g.D.PageDevice.honest l.initial.device) → g.D.PageDevice.held l.device ≡ g.D.PageDevice.held l.initial.device;
   buffered : AreBuffered l.self (of_tag l.placed.set l.placed.tag l.self.entries) → l.device ≡ l.initial.device;
-  none : IsTrue (g.D.PageDevice.honest l.initial.device) → IsSpelledOn g.row.PAGE (g.D.PageDevice.held l.initial.device) l.self
-      → All (ShowsOther (shown_on (g.D.PageDevice.held l.initial.device) l.self) l.key) (take l.behind (of_tag l.placed.set l.placed.tag l.self.entries));
+  newer : IsTrue (g.D.PageDevice.honest l.initial.device)
+      → All (ShowsOther g.row.PAGE (g.D.PageDevice.held l.initial.device) l.self l.key) (take l.behind (of_tag l.placed.set l.placed.tag l.self.entries));
 }

@@ -20,5 +20,5 @@ returns-clause-spelled g c = λ held h.
     subst (IsSpelledOn g.row.PAGE held) (sym (returns-clause-freed g c)) (spelled_freed g.row.PAGE held c.args.self.now c.requires (subst IsLog c.self.view_is c.self.invariant.0) h)
 
 pub returns-clause-shown : goal.returns-clause-shown
-returns-clause-shown g c = λ held _.
+returns-clause-shown g c = λ held.
     ap (live_on held) (returns-clause-freed g c) ∙ live_on-freed held c.args.self.now c.requires (subst IsLog c.self.view_is c.self.invariant.0)

@@ -1,21 +1,28 @@
-use Rattle.std.proofs.Common.{◌≡◌, ℕ, List, map, take, Bool, sym, ap, subst, ◌∙◌, rules, arith}
-use Rattle.std.specs.Prelude.{IsTrue, Some}
+use Rattle.std.proofs.Common.{◌≡◌, ℕ, ◌+◌, List, take, Bool, refl, sym, ap, subst, ◌∙◌, rules, arith}
+use Rattle.std.specs.Prelude.{IsTrue, Some, Result, Ok, Err}
+use Rattle.std.specs.declared.alloc.AllocError.{AllocError}
+use Rattle.std.proofs.lemmas.Result.{err_from_is_err_and}
 use Rattle.klog_index.specs.declared.entry.Entry.{Entry}
 use Rattle.klog_index.specs.Entries.{of_set}
+use Rattle.klog.specs.declared.gathered.Gathered.{Gathered}
 use Rattle.klog.specs.Names.{HasRoom}
-use Rattle.klog.specs.Shown.{shown_on}
-use Rattle.klog.specs.Moves.{taken_as}
-use Rattle.klog.proofs.LiveLaws.{live_by}
-use Rattle.klog.proofs.TakeLaws.{turn_at, turn_listed, turn_taken, turn_buffered, turn_copies, turn_fails, turn_more, taken_first, taken_all}
+use Rattle.klog.specs.Moves.{taken_as, AreCopies}
+use Rattle.klog.specs.Take.{GathersAt}
+use Rattle.klog.proofs.KnownLaws.{shows_weaker}
+use Rattle.klog.proofs.TakeLaws.{turn_at, turn_listed, turn_live, turn_taken, turn_buffered, turn_copies, turn_fails, turn_more, taken_of_copies, taken_all}
 use Rattle.klog.proofs.log.KLog.gather.Goals as goal
+
+pub returns-in_default-clause-gathers_at : goal.returns-in_default-clause-gathers_at
+returns-in_default-clause-gathers_at g c = λ honest.
+    let k = c.args.self.now in
+    let held = g.D.PageDevice.held c.args.device.now in
+    subst (λ (es : List Entry). AreCopies g.row.PAGE held k es c.loop-behind.records)
+    (taken_all _ k c.args.set c.loop-behind.behind _ c.self.view_is c.of_set.ensures c.in_default.is (omega (arith, c.loop-behind-test.true)))
+    (c.loop-behind.invariant.copies honest)
 
 pub returns-in_default-clause-gathers : goal.returns-in_default-clause-gathers
 returns-in_default-clause-gathers g c = λ honest spelled.
-    let k = c.args.self.now in
-    let held = g.D.PageDevice.held c.args.device.now in
-    c.loop-behind.invariant.taken honest spelled
-    ∙ ap (λ (es : List Entry). map taken_as (live_by (shown_on held k) es)) (taken_all _ k c.args.set c.loop-behind.behind _ c.self.view_is c.of_set.ensures c.in_default.is (omega (arith, c.loop-behind-test.true)))
-    ∙ taken_first g.row.PAGE held k c.args.set spelled
+    taken_of_copies g.row.PAGE (g.D.PageDevice.held c.args.device.now) c.args.self.now c.args.set c.loop-behind.records (returns-in_default-clause-gathers_at g c honest) spelled
 
 pub copy-requires : goal.copy-requires
 copy-requires g c =
@@ -30,6 +37,20 @@ returns-in_err-taken-clause-buffered g c = λ all.
     let at = turn_at _ k c.args.set c.loop-behind.behind c.in-Some.entry _ c.self.view_is c.of_set.ensures c.in-Some.is in
     c.copy.ensures.buffered (turn_buffered k c.args.set c.loop-behind.behind c.in-Some.entry c.loop-behind-test.true at all) ∙ c.loop-behind.invariant.buffered all
 
+pub returns-in_err-taken-clause-gathers_at : goal.returns-in_err-taken-clause-gathers_at
+returns-in_err-taken-clause-gathers_at g c = λ honest.
+    let k = c.args.self.now in
+    let held = g.D.PageDevice.held c.args.device.now in
+    let at = turn_at _ k c.args.set c.loop-behind.behind c.in-Some.entry _ c.self.view_is c.of_set.ensures c.in-Some.is in
+    let on : IsTrue (g.D.PageDevice.honest c.loop-behind.device) = subst (λ (b : Bool). IsTrue b) (sym c.loop-behind.invariant.honest) honest in
+    let failed = err_from_is_err_and c.from_residual.result c.from_residual.ensures.1 in
+    let gathers : GathersAt g.row.PAGE held k c.args.set (g.D.PageDevice.failures c.args.device.now) (Err failed.0) (g.D.PageDevice.failures c.copy.new.device) = (
+      c.in-Some.entry,
+      turn_taken k c.args.set c.loop-behind.behind c.in-Some.entry c.loop-behind-test.true at,
+      turn_copies g.row.PAGE held (g.D.PageDevice.held c.loop-behind.device) k c.in-Some.entry (Err failed.0) (Err failed.0) (c.loop-behind.invariant.same honest) refl (c.in_err-taken.ensures.copies on),
+    ) in
+    subst (λ (r : Result Gathered AllocError). GathersAt g.row.PAGE held k c.args.set (g.D.PageDevice.failures c.args.device.now) r (g.D.PageDevice.failures c.copy.new.device)) (sym failed.1) gathers
+
 pub returns-in_default-2-clause-its : goal.returns-in_default-2-clause-its
 returns-in_default-2-clause-its g c =
     let k = c.args.self.now in
@@ -42,19 +63,41 @@ returns-in_default-2-clause-buffered g c = λ all.
     let at = turn_at _ k c.args.set c.loop-behind.behind c.in-Some.entry _ c.self.view_is c.of_set.ensures c.in-Some.is in
     c.copy.ensures.buffered (turn_buffered k c.args.set c.loop-behind.behind c.in-Some.entry c.loop-behind-test.true at all) ∙ c.loop-behind.invariant.buffered all
 
+pub returns-in_default-2-clause-gathers_at : goal.returns-in_default-2-clause-gathers_at
+returns-in_default-2-clause-gathers_at g c = λ honest live.
+    let k = c.args.self.now in
+    let held = g.D.PageDevice.held c.args.device.now in
+    let on : IsTrue (g.D.PageDevice.honest c.loop-behind.device) = subst (λ (b : Bool). IsTrue b) (sym c.loop-behind.invariant.honest) honest in
+    turn_fails g.row.PAGE held (g.D.PageDevice.held c.loop-behind.device) k c.in-Some.entry c.in_ok-taken.field-0
+    _ _ _ (c.loop-behind.invariant.same honest) c.in_default-2.is c.loop-behind.invariant.failures (c.in_ok-taken.ensures.faults on) live
+
 pub returns-in_default-2-clause-faults : goal.returns-in_default-2-clause-faults
 returns-in_default-2-clause-faults g c = λ honest spelled.
     let k = c.args.self.now in
-    let on : IsTrue (g.D.PageDevice.honest c.loop-behind.device) = subst (λ (b : Bool). IsTrue b) (sym c.loop-behind.invariant.honest) honest in
+    let held = g.D.PageDevice.held c.args.device.now in
     let at = turn_at _ k c.args.set c.loop-behind.behind c.in-Some.entry _ c.self.view_is c.of_set.ensures c.in-Some.is in
-    turn_fails g.row.PAGE (g.D.PageDevice.held c.args.device.now) (g.D.PageDevice.held c.loop-behind.device) k c.args.set c.loop-behind.behind c.in-Some.entry c.in_ok-taken.field-0
-    _ _ _ at (c.loop-behind.invariant.same honest) c.in_default-2.is c.loop-behind.invariant.failures (c.in_ok-taken.ensures.faults on) spelled
+    returns-in_default-2-clause-gathers_at g c honest (turn_live g.row.PAGE held k c.args.set c.loop-behind.behind c.in-Some.entry at spelled)
 
 pub returns-in_err-push-clause-buffered : goal.returns-in_err-push-clause-buffered
 returns-in_err-push-clause-buffered g c = λ all.
     let k = c.args.self.now in
     let at = turn_at _ k c.args.set c.loop-behind.behind c.in-Some.entry _ c.self.view_is c.of_set.ensures c.in-Some.is in
     c.copy.ensures.buffered (turn_buffered k c.args.set c.loop-behind.behind c.in-Some.entry c.loop-behind-test.true at all) ∙ c.loop-behind.invariant.buffered all
+
+pub returns-in_err-push-clause-gathers_at : goal.returns-in_err-push-clause-gathers_at
+returns-in_err-push-clause-gathers_at g c = λ honest.
+    let k = c.args.self.now in
+    let held = g.D.PageDevice.held c.args.device.now in
+    let at = turn_at _ k c.args.set c.loop-behind.behind c.in-Some.entry _ c.self.view_is c.of_set.ensures c.in-Some.is in
+    let on : IsTrue (g.D.PageDevice.honest c.loop-behind.device) = subst (λ (b : Bool). IsTrue b) (sym c.loop-behind.invariant.honest) honest in
+    let failed = err_from_is_err_and c.from_residual-in_err-push.result c.from_residual-in_err-push.ensures.1 in
+    let gathers : GathersAt g.row.PAGE held k c.args.set (g.D.PageDevice.failures c.args.device.now) (Err failed.0) (g.D.PageDevice.failures c.copy.new.device) = (
+      c.in-Some.entry,
+      turn_taken k c.args.set c.loop-behind.behind c.in-Some.entry c.loop-behind-test.true at,
+      shows_weaker g.row.PAGE held k c.in-Some.entry (λ r. c.in-Some-2.taken ≡ taken_as (c.in-Some.entry, r)) (λ r. Unit {0}) (λ r is. tt)
+          (turn_copies g.row.PAGE held (g.D.PageDevice.held c.loop-behind.device) k c.in-Some.entry (Ok c.in_ok-taken.field-0) (Ok (Some c.in-Some-2.taken)) (c.loop-behind.invariant.same honest) (ap Ok c.in-Some-2.is) (c.in_ok-taken.ensures.copies on)),
+    ) in
+    subst (λ (r : Result Gathered AllocError). GathersAt g.row.PAGE held k c.args.set (g.D.PageDevice.failures c.args.device.now) r (g.D.PageDevice.failures c.copy.new.device)) (sym failed.1) gathers
 
 pub loop-behind-preserved : goal.loop-behind-preserved
 loop-behind-preserved g c =
@@ -64,21 +107,23 @@ loop-behind-preserved g c =
       pages = search rules;
       honest = search rules;
       failures = search rules;
-      same = search rules;
+      same = λ honest. c.copy.ensures.same (subst (λ (b : Bool). IsTrue b) (sym c.loop-behind.invariant.honest) honest) ∙ c.loop-behind.invariant.same honest;
       buffered = λ all. c.copy.ensures.buffered (turn_buffered k c.args.set c.loop-behind.behind c.in-Some.entry c.loop-behind-test.true at all) ∙ c.loop-behind.invariant.buffered all;
-      taken = λ honest spelled.
+      copies = λ honest.
           let held = g.D.PageDevice.held c.args.device.now in
           let on : IsTrue (g.D.PageDevice.honest c.loop-behind.device) = subst (λ (b : Bool). IsTrue b) (sym c.loop-behind.invariant.honest) honest in
-          let copies = turn_copies g.row.PAGE held (g.D.PageDevice.held c.loop-behind.device) k c.args.set c.loop-behind.behind c.in-Some.entry c.in_ok-taken.field-0 (Some c.in-Some-2.taken) at
-          (c.loop-behind.invariant.same honest) c.in-Some-2.is (c.in_ok-taken.ensures.copies on) spelled in
-          c.in_ok-push.ensures.ok ∙ turn_more (shown_on held k) k c.args.set c.loop-behind.behind c.in-Some.entry c.in-Some-2.taken c.loop-behind.records at (c.loop-behind.invariant.taken honest spelled) copies;
+          let shows = turn_copies g.row.PAGE held (g.D.PageDevice.held c.loop-behind.device) k c.in-Some.entry (Ok c.in_ok-taken.field-0) (Ok (Some c.in-Some-2.taken)) (c.loop-behind.invariant.same honest) (ap Ok c.in-Some-2.is) (c.in_ok-taken.ensures.copies on) in
+          let more = turn_more g.row.PAGE held k c.args.set c.loop-behind.behind c.in-Some.entry c.in-Some-2.taken c.loop-behind.records at (c.loop-behind.invariant.copies honest) shows in
+          subst (AreCopies g.row.PAGE held k (take (c.loop-behind.behind + 1) (of_set c.args.set k.entries))) (sym c.in_ok-push.ensures.ok) more;
     }
 
-pub returns-clause-gathers : goal.returns-clause-gathers
-returns-clause-gathers g c = λ honest spelled.
+pub returns-clause-gathers_at : goal.returns-clause-gathers_at
+returns-clause-gathers_at g c = λ honest.
     let k = c.args.self.now in
     let held = g.D.PageDevice.held c.args.device.now in
     let all : c.loop-behind.behind ≡ 32 = omega (arith, c.loop-behind-test.false, c.loop-behind.auto.behind-end) in
-    c.loop-behind.invariant.taken honest spelled
-    ∙ ap (λ (n : ℕ). map taken_as (live_by (shown_on held k) (take n (of_set c.args.set k.entries)))) all
-    ∙ taken_first g.row.PAGE held k c.args.set spelled
+    subst (λ (n : ℕ). AreCopies g.row.PAGE held k (take n (of_set c.args.set k.entries)) c.loop-behind.records) all (c.loop-behind.invariant.copies honest)
+
+pub returns-clause-gathers : goal.returns-clause-gathers
+returns-clause-gathers g c = λ honest spelled.
+    taken_of_copies g.row.PAGE (g.D.PageDevice.held c.args.device.now) c.args.self.now c.args.set c.loop-behind.records (returns-clause-gathers_at g c honest) spelled

@@ -1,10 +1,8 @@
-use Rattle.std.proofs.Common.{◌≡◌, map, take}
+use Rattle.std.proofs.Common.{◌≡◌, take}
 use Rattle.std.specs.Prelude.{IsTrue}
 use Rattle.klog_index.specs.Entries.{of_set}
-use Rattle.klog.specs.Shown.{shown_on, IsSpelledOn}
-use Rattle.klog.specs.Look.{AreBuffered}
-use Rattle.klog.specs.Moves.{taken_as, taken_entries}
-use Rattle.klog.proofs.LiveLaws.{live_by}
+use Rattle.klog.specs.Known.{AreBuffered}
+use Rattle.klog.specs.Moves.{taken_entries, AreCopies}
 use Rattle.klog.proofs.log.KLog.gather.Given as goal
 
 abbrev pub invariant-loop-behind : goal.invariant-loop-behind
@@ -14,6 +12,5 @@ invariant-loop-behind g l = record {
   failures : g.D.PageDevice.failures l.device ≡ g.D.PageDevice.failures l.initial.device;
   same : IsTrue (g.D.PageDevice.honest l.initial.device) → g.D.PageDevice.held l.device ≡ g.D.PageDevice.held l.initial.device;
   buffered : AreBuffered l.self (taken_entries l.self l.set) → l.device ≡ l.initial.device;
-  taken : IsTrue (g.D.PageDevice.honest l.initial.device) → IsSpelledOn g.row.PAGE (g.D.PageDevice.held l.initial.device) l.self
-      → l.records ≡ map taken_as (live_by (shown_on (g.D.PageDevice.held l.initial.device) l.self) (take l.behind (of_set l.set l.self.entries)));
+  copies : IsTrue (g.D.PageDevice.honest l.initial.device) → AreCopies g.row.PAGE (g.D.PageDevice.held l.initial.device) l.self (take l.behind (of_set l.set l.self.entries)) l.records;
 }

@@ -2,7 +2,7 @@ use Rattle.std.proofs.Common.{ℕ, List, Option, sym, subst}
 use Rattle.record_pages.specs.Recs.{Rec}
 use Rattle.klog.specs.Shown.{IsSpelledOn, live_on}
 use Rattle.klog.specs.Moves.{ReadmitGives}
-use Rattle.klog.proofs.MoveLaws.{oldest_known, oldest_given}
+use Rattle.klog.proofs.MoveLaws.{oldest_live, oldest_damaged, oldest_given, oldest_back}
 use Rattle.klog.proofs.log.KLog.readmit.Goals as goal
 
 pub returns-in-Fault-clause-spelled : goal.returns-in-Fault-clause-spelled
@@ -13,9 +13,18 @@ pub returns-in-Damaged-clause-spelled : goal.returns-in-Damaged-clause-spelled
 returns-in-Damaged-clause-spelled g c = λ honest h.
     subst (λ (held : ℕ → Option (List ℕ)). IsSpelledOn g.row.PAGE held c.lose_page_of-in-Damaged.new.self) (sym (c.fetch_stored.ensures.same honest)) (c.lose_page_of-in-Damaged.ensures.spelled (g.D.PageDevice.held c.args.device.now) h)
 
+pub returns-in-Damaged-clause-reads_back : goal.returns-in-Damaged-clause-reads_back
+returns-in-Damaged-clause-reads_back g c = λ honest.
+    oldest_damaged g.row.PAGE (g.D.PageDevice.held c.args.device.now) c.args.self.now c.args.entry.now c.requires.oldest (c.in-Damaged.ensures.gives honest)
+
 pub returns-in-Damaged-clause-gives : goal.returns-in-Damaged-clause-gives
 returns-in-Damaged-clause-gives g c = λ honest h r shows.
-    c.in-Damaged.ensures.gives honest (oldest_known g.row.PAGE (g.D.PageDevice.held c.args.device.now) c.args.self.now c.args.entry.now c.requires.oldest h)
+    returns-in-Damaged-clause-reads_back g c honest (oldest_live g.row.PAGE (g.D.PageDevice.held c.args.device.now) c.args.self.now c.args.entry.now c.requires.oldest h)
+
+pub returns-in-Record-clause-reads_back : goal.returns-in-Record-clause-reads_back
+returns-in-Record-clause-reads_back g c = λ honest.
+    oldest_back g.row.PAGE (g.D.PageDevice.held c.args.device.now) c.args.self.now c.args.entry.now c.in-Record.found c.enter_anew.result c.enter_anew.new.self c.requires.oldest
+    (c.in-Record.ensures.gives honest) c.in-Record.ensures.its c.enter_anew.ensures.enters
 
 pub returns-in-Record-clause-gives : goal.returns-in-Record-clause-gives
 returns-in-Record-clause-gives g c = λ honest h r shows.

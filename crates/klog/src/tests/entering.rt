@@ -1,0 +1,108 @@
+//! What enters the log: what is found of it, and what is refused.
+use super::*;
+
+// The tag of the key "ax", the high 16 bits of its hash.
+const TAG_OF_AX: u16 = 0x089c;
+
+const FOUND_UNTIL_STRUCK: [Step; 14] = [
+    Step::Append(b"ax", b"1", ADDED),
+    Step::NoSegment,
+    Step::Look(b"ax", Seen::Value(b"1")),
+    Step::Flush(Flushed::Sealed),
+    Step::Flush(Flushed::Wrote),
+    Step::Flush(Flushed::Nothing),
+    Step::Look(b"ax", Seen::Value(b"1")),
+    Step::First(TAG_OF_AX, FIRST, 4),
+    Step::Free(false),
+    Step::Strike(b"ax"),
+    Step::Look(b"ax", Seen::Absent),
+    Step::Empty,
+    Step::Free(true),
+    Step::NoSegment,
+];
+
+#[test]
+fn a_record_is_found_in_memory_and_on_the_device_until_it_is_struck(
+    rt: HostRuntime,
+) -> Result<(), Fail> {
+    let alloc = rt.alloc();
+    run(&rt, alloc, &mut sound_log(alloc)?, &FOUND_UNTIL_STRUCK)
+}
+
+const NO_BUFFER_HAS_ROOM: [Step; 6] = [
+    Step::Append(b"ax", &[1; 200], ADDED),
+    Step::Append(b"bx", &[2; 200], ADDED),
+    Step::Append(b"cx", &[3; 200], Some(Appended::Full)),
+    Step::Look(b"bx", Seen::Value(&[2; 200])),
+    Step::Look(b"cx", Seen::Absent),
+    // A smaller one still has room.
+    Step::Append(b"cx", b"3", ADDED),
+];
+
+const THE_INDEX_IS_FULL: [Step; 3] = [
+    Step::Append(b"ax", b"1", ADDED),
+    Step::Append(b"bx", b"2", Some(Appended::IndexFull)),
+    Step::Look(b"bx", Seen::Absent),
+];
+
+#[test]
+fn a_record_without_room_is_refused(rt: HostRuntime) -> Result<(), Fail> {
+    let alloc = rt.alloc();
+    let one_entry = Config {
+        entries: 1,
+        ..ONE_SET
+    };
+    let mut owner: Owner<Fused, 256> = log(alloc, ONE_SET, refusing(alloc)?)?;
+    run(&rt, alloc, &mut owner, &NO_BUFFER_HAS_ROOM)?;
+    let mut owner: Owner<Fused, 256> = log(alloc, one_entry, refusing(alloc)?)?;
+    run(&rt, alloc, &mut owner, &THE_INDEX_IS_FULL)
+}
+
+const JUST_A_PAGES_ROOM: [Step; 6] = [
+    Step::Append(b"ax", &[7; 233], None),
+    Step::Append(b"ax", &[7; 232], ADDED),
+    Step::Flush(Flushed::Sealed),
+    Step::Look(b"ax", Seen::Value(&[7; 232])),
+    Step::Flush(Flushed::Wrote),
+    Step::Look(b"ax", Seen::Value(&[7; 232])),
+];
+
+#[test]
+fn a_record_of_just_a_pages_room_is_found_after_a_flush(rt: HostRuntime) -> Result<(), Fail> {
+    let alloc = rt.alloc();
+    run(&rt, alloc, &mut sound_log(alloc)?, &JUST_A_PAGES_ROOM)
+}
+
+// The hashes of "a" and "b" differ below the high 16 bits alone.
+const TWO_KEYS_OF_ONE_TAG: [Step; 14] = [
+    Step::Append(b"a", b"1", ADDED),
+    Step::Append(b"b", b"2", ADDED),
+    Step::Flush(Flushed::Sealed),
+    Step::Flush(Flushed::Wrote),
+    Step::Look(b"a", Seen::Value(b"1")),
+    Step::Look(b"b", Seen::Value(b"2")),
+    Step::Append(b"a", b"3", ADDED),
+    Step::Look(b"a", Seen::Value(b"3")),
+    Step::Look(b"b", Seen::Value(b"2")),
+    Step::Count(3),
+    Step::Strike(b"a"),
+    Step::Look(b"a", Seen::Absent),
+    Step::Look(b"b", Seen::Absent),
+    Step::Count(0),
+];
+
+#[test]
+fn keys_of_one_tag_are_found_apart_and_struck_together(rt: HostRuntime) -> Result<(), Fail> {
+    let alloc = rt.alloc();
+    run(&rt, alloc, &mut sound_log(alloc)?, &TWO_KEYS_OF_ONE_TAG)
+}
+
+#[test]
+fn a_device_that_is_too_small_has_no_owner(rt: HostRuntime) -> Result<(), Fail> {
+    let alloc = rt.alloc();
+    let layout = ONE_SET.check()?;
+    let device = FuseDevice::one(MemoryDevice::new(alloc, 2)?, 0);
+    let small: Option<Owner<Fused, 256>> = Owner::open(alloc, &layout, device)?;
+    assert!(rt; small.is_none());
+    Ok(())
+}
