@@ -51,7 +51,7 @@ fn run(rt: &impl Abort, alloc: Global, steps: &[Step]) -> Result<RecordedLane<25
     assert_eq!(rt; lane.last_point(), 0);
     for number in 0..steps.len() {
         assert!(rt;
-            gives(alloc, &mut lane, number as u16, &steps[number])?,
+            gives(alloc, &mut lane, (number % 65536) as u16, &steps[number])?,
             "step {number}"
         );
     }
