@@ -3,6 +3,7 @@ use Rattle.std.specs.Prelude.{◌≡◌, ℕ, ◌+◌, ◌-◌, ◌<◌, ◌≤�
 use Rattle.std.specs.List.{flat_map}
 use Rattle.std.specs.Int.{w16, w32, w64, to_be_bytes}
 use Rattle.record_pages.specs.Recs.{Rec, IsRecord, sizes}
+use Rattle.record_pages.specs.Sizes.{max_records}
 
 -- a record: the length of its key, that of its value, its prediction, its key, its value
 abbrev pub record_text : Rec → List ℕ
@@ -54,7 +55,7 @@ pub record IsSetPage (size : ℕ) (p : SetPageParts) : Type 0 where
   pub set_fits : p.set < 2 ^ 32
   pub write_fits : p.write < 2 ^ 64
   pub each : All IsRecord p.records
-  pub few : length p.records ≤ 64
+  pub few : length p.records ≤ max_records
   pub room : 18 + sizes p.records ≤ size
 
 -- what a log page of this size can say
@@ -62,7 +63,7 @@ pub record IsLogPage (size : ℕ) (p : LogPageParts) : Type 0 where
   pub segment_fits : p.segment < 2 ^ 64
   pub page_fits : p.page < 2 ^ 16
   pub each : All IsRecord p.records
-  pub few : length p.records ≤ 64
+  pub few : length p.records ≤ max_records
   pub room : 16 + sizes p.records ≤ size
 
 -- the bytes are the text of this set page

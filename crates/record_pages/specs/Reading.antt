@@ -4,6 +4,7 @@ use Rattle.std.specs.List.{list_all}
 use Rattle.std.specs.Option.{option_map_or}
 use Rattle.std.specs.Int.{Width, w16, w32, w64, byte_len, from_be_bytes}
 use Rattle.record_pages.specs.Recs.{Rec, rec}
+use Rattle.record_pages.specs.Sizes.{max_records}
 use Rattle.record_pages.specs.PageText.{SetPageParts, LogPageParts}
 
 infixl 10 ◌>>=◌
@@ -50,11 +51,11 @@ records_of n bytes = option_map_or (λ x. x.0) (records_at n bytes) []
 abbrev pub all_zero : List ℕ → Bool
 all_zero bytes = list_all (λ b. b == 0) bytes
 
--- the records of a page whose head was read: a count up to 64, so many records, zeros to the end
+-- the records of a page whose head was read: a count that a page may have, so many records, zeros to the end
 unfoldable pub body_at : List ℕ → Option (List Rec)
 body_at bytes = do
   count ← number_at w16 bytes
-  if nat_lt 64 count.0 then None else do
+  if nat_lt max_records count.0 then None else do
     records ← records_at count.0 count.1
     if all_zero records.1 then Some records.0 else None
 

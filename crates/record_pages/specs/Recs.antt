@@ -1,7 +1,7 @@
 -- What a record is, and which records fit on a page together.
 use Rattle.std.specs.Prelude.{ℕ, ◌≤◌, List, length, sum_by, Bool, ◌&&◌, nat_le}
 use Rattle.record_pages.specs.Bounded.{IsKey, IsValue}
-use Rattle.record_pages.specs.Sizes.{object_size, room}
+use Rattle.record_pages.specs.Sizes.{object_size, room, max_records}
 use Rattle.record_pages.specs.declared.record.Record.{Record}
 
 -- a record, as all layers speak of it: its key and its value as lists, its prediction as a number
@@ -26,6 +26,6 @@ size r = object_size r.key r.value
 abbrev pub sizes : List Rec → ℕ
 sizes rs = sum_by size rs
 
--- whether records fit on a page of this many bytes: within its room, and at most 64
+-- whether records fit on a page of this many bytes: within its room, and not too many
 abbrev pub fit : ℕ → List Rec → Bool
-fit page rs = nat_le (sizes rs) (room page) && nat_le (length rs) 64
+fit page rs = nat_le (sizes rs) (room page) && nat_le (length rs) max_records

@@ -12,3 +12,11 @@ room page = page - 18
 -- how many bytes an object takes on a page: two lengths, a prediction, the key and the value
 abbrev pub object_size : List ℕ → List ℕ → ℕ
 object_size key value = 4 + length key + length value
+
+-- how many records a page may have
+abbrev pub max_records : ℕ
+max_records = 64
+
+-- the prediction with which a record enters the log
+abbrev pub entering_prediction : ℕ
+entering_prediction = 6

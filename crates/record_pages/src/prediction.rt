@@ -23,6 +23,9 @@ impl Prediction {
     /// The farthest prediction.
     pub const MAX: u8 = 7;
 
+    /// The prediction with which a record enters the log. A hit there lowers it.
+    pub const ENTERING: u8 = 6;
+
     /// The prediction with this number, or nothing where it is above `MAX`.
     pub fn new(number: u8) -> Option<Prediction>
         ensures some { IsSome result ↔ (number ≤ 7) }
