@@ -9,5 +9,3 @@ pub use chance::Chance;
 pub use judgement::Judgement;
 pub use threshold::Threshold;
 
-#[cfg(test)]
-mod tests;

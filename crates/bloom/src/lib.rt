@@ -5,5 +5,3 @@ mod filter;
 
 pub use filter::Filter;
 
-#[cfg(test)]
-mod tests;

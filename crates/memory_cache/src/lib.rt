@@ -7,5 +7,3 @@ mod pair;
 pub use cache::MemoryCache;
 pub use pair::Pair;
 
-#[cfg(test)]
-mod tests;

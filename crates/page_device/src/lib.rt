@@ -11,5 +11,3 @@ pub use device_fault::DeviceFault;
 pub use fuse::FuseDevice;
 pub use memory::MemoryDevice;
 
-#[cfg(test)]
-mod tests;

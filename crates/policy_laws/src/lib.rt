@@ -25,5 +25,3 @@ pub use pre_flash::PreFlash;
 pub use rank::Rank;
 pub use ranking::{MAX_KEPT, plan_by_rank};
 
-#[cfg(test)]
-mod tests;

@@ -23,8 +23,6 @@ mod record_ref;
 mod records;
 mod set_page;
 mod set_page_writer;
-#[cfg(test)]
-mod tests;
 mod tier;
 mod value;
 

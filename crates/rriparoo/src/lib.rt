@@ -9,5 +9,3 @@ pub use ageing::age;
 pub use hit_bits::HitBits;
 pub use rriparoo::Rriparoo;
 
-#[cfg(test)]
-mod tests;

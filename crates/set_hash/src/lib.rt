@@ -9,5 +9,3 @@ pub use fnv::hash;
 pub use placed::Placed;
 pub use placing::place;
 
-#[cfg(test)]
-mod tests;

@@ -1,5 +1,5 @@
 //! Words at the edges of a setting, and the three judgements.
-use super::*;
+use admission::{Chance, Judgement, Threshold};
 use policy_laws::PreFlash;
 use record_pages::Prediction;
 use std::test::Fail;

@@ -1,6 +1,6 @@
 //! The published vectors of the hash, and two places.
-use super::*;
 use record_pages::Config;
+use set_hash::{Placed, hash, place};
 use std::test::Fail;
 
 #[test]

@@ -2,7 +2,7 @@
 ghost use Rattle.std.specs.Prelude.{◌≡◌, ◌<◌, IfOk, IsTrue};
 ghost use Rattle.record_pages.specs.Sizes.{IsPageSize};
 
-use super::*;
+use page_device::{DeviceFault, FuseDevice, MemoryDevice, PageDevice};
 use std::test::Fail;
 
 // Writes a page and reads it back: on any honest device that fails in neither call these are the bytes.

@@ -1,5 +1,5 @@
 // The order of small memories, and what is left where memory was refused.
-use crate::{MemoryCache, Pair};
+use memory_cache::{MemoryCache, Pair};
 use record_pages::{Key, Value};
 use std::alloc::Global;
 use std::process::Abort;

@@ -1,5 +1,5 @@
 //! A filter admits what was added, and not what asks for other bits.
-use super::*;
+use bloom::Filter;
 use std::test::Fail;
 
 #[test]

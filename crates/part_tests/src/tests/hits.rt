@@ -1,0 +1,13 @@
+//! Hit bits of a set.
+use rriparoo::HitBits;
+
+#[test]
+fn hits_are_noted_by_place(rt: HostRuntime) {
+    let mut hits = HitBits::empty();
+    assert!(rt; !hits.has(63));
+    hits.set(63);
+    hits.set(0);
+    assert!(rt; hits.has(63));
+    assert!(rt; hits.has(0));
+    assert!(rt; !hits.has(62));
+}

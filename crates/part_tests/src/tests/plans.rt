@@ -1,0 +1,119 @@
+//! The plans of both policies, called by their type and through the bound.
+use policy_laws::{Choice, EvictionPolicy, Fifo, Item, Items, Job, Plan};
+use record_pages::Prediction;
+use rriparoo::{Rriparoo, age};
+use std::alloc::{AllocError, Global};
+use std::test::Fail;
+
+/// An item: its size and prediction, whether it was hit, and whether it is fresh.
+type Row = (u32, u8, bool, bool);
+
+/// Two hits apart, a table of five items of which four fit.
+const FIVE: [Row; 5] = [
+    (7, 3, true, false),
+    (7, 5, false, false),
+    (7, 4, false, false),
+    (7, 6, false, true),
+    (7, 2, false, true),
+];
+
+/// Where the second item does not fit, a smaller one behind it does.
+const SMALLER_BEHIND: [Row; 3] = [
+    (20, 3, false, true),
+    (15, 3, false, true),
+    (8, 3, false, false),
+];
+
+const ALL_FIT: [Row; 2] = [(7, 2, false, false), (7, 4, false, false)];
+
+fn prediction(number: u8) -> Result<Prediction, &'static str> {
+    Prediction::new(number).ok_or("a prediction is at most 7")
+}
+
+fn items(alloc: Global, rows: &[Row]) -> Result<Items, Fail> {
+    let mut items = Items::new(alloc);
+    for (size, number, hit, fresh) in rows {
+        items.push(Item {
+            size: *size,
+            prediction: prediction(*number)?,
+            hit: *hit,
+            fresh: *fresh,
+        })?;
+    }
+    Ok(items)
+}
+
+/// A job of these items, with a room of 28 bytes.
+fn job(alloc: Global, rows: &[Row]) -> Result<Job, Fail> {
+    Ok(Job {
+        number: 1,
+        set: 0,
+        room: 28,
+        items: items(alloc, rows)?,
+    })
+}
+
+fn through_the_bound<P: EvictionPolicy>(
+    policy: &P,
+    alloc: Global,
+    job: &Job,
+) -> Result<Plan, AllocError> {
+    policy.choose(alloc, job)
+}
+
+/// Whether a plan keeps just these items, with these predictions.
+fn is_plan(plan: &Plan, wanted: &[(usize, u8)]) -> bool {
+    if plan.len() != wanted.len() || plan.is_empty() != wanted.is_empty() {
+        return false;
+    }
+    for index in 0..wanted.len() {
+        if !is_choice(plan.at(index), wanted[index]) {
+            return false;
+        }
+    }
+    true
+}
+
+fn is_choice(choice: Choice, (item, number): (usize, u8)) -> bool {
+    choice.item == item && choice.prediction.get() == number
+}
+
+#[test]
+fn fresh_items_are_kept_first(rt: HostRuntime) -> Result<(), Fail> {
+    let job = job(rt.alloc(), &FIVE)?;
+    assert_eq!(rt; job.items.len(), 5);
+    assert!(rt; !job.items.is_empty());
+    assert!(rt; job.items.at(4).fresh);
+    let plan = through_the_bound(&Fifo, rt.alloc(), &job)?;
+    assert!(rt; is_plan(&plan, &[(3, 6), (4, 2), (0, 3), (1, 5)]));
+    Ok(())
+}
+
+#[test]
+fn a_smaller_item_is_kept_behind_one_that_does_not_fit(rt: HostRuntime) -> Result<(), Fail> {
+    let job = job(rt.alloc(), &SMALLER_BEHIND)?;
+    let plan = Fifo.choose(rt.alloc(), &job)?;
+    assert!(rt; is_plan(&plan, &[(0, 3), (2, 3)]));
+    Ok(())
+}
+
+#[test]
+fn the_farthest_item_is_left_out(rt: HostRuntime) -> Result<(), Fail> {
+    let job = job(rt.alloc(), &FIVE)?;
+    assert_eq!(rt; job.items.len(), 5);
+    assert_eq!(rt; age(&job, 0).get(), 0);
+    assert_eq!(rt; age(&job, 1).get(), 7);
+    assert_eq!(rt; age(&job, 2).get(), 6);
+    assert_eq!(rt; age(&job, 3).get(), 6);
+    let plan = through_the_bound(&Rriparoo, rt.alloc(), &job)?;
+    assert!(rt; is_plan(&plan, &[(0, 0), (4, 2), (2, 6), (3, 6)]));
+    Ok(())
+}
+
+#[test]
+fn items_age_where_all_fit(rt: HostRuntime) -> Result<(), Fail> {
+    let job = job(rt.alloc(), &ALL_FIT)?;
+    let plan = Rriparoo.choose(rt.alloc(), &job)?;
+    assert!(rt; is_plan(&plan, &[(0, 5), (1, 7)]));
+    Ok(())
+}

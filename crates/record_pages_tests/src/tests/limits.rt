@@ -1,0 +1,54 @@
+//! The limits of keys, values and objects, and copies of them.
+use super::rows::{ROW, record};
+use record_pages::{Key, KeyFault, Prediction, Value, ValueFault, is_too_large};
+use std::alloc::Global;
+use std::test::Fail;
+
+/// Why these bytes are no key, where they are none.
+fn key_fault(alloc: Global, bytes: &[u8]) -> Option<KeyFault> {
+    Key::new(alloc, bytes).err()
+}
+
+/// Why these bytes are no value, where they are none.
+fn value_fault(alloc: Global, bytes: &[u8]) -> Option<ValueFault> {
+    Value::new(alloc, bytes).err()
+}
+
+#[test]
+fn keys_and_values_have_their_limits(rt: HostRuntime) {
+    let alloc = rt.alloc();
+    assert_eq!(rt; key_fault(alloc, &[]), Some(KeyFault::KeyEmpty));
+    assert_eq!(rt; key_fault(alloc, &[0x61; 255]), None);
+    assert_eq!(rt; key_fault(alloc, &[0x61; 256]), Some(KeyFault::KeyTooLong));
+    assert_eq!(rt; value_fault(alloc, &[0x78; 2048]), None);
+    assert_eq!(rt;
+        value_fault(alloc, &[0x78; 2049]),
+        Some(ValueFault::ValueTooLong)
+    );
+    assert!(rt; Prediction::new(7).is_some());
+    assert!(rt; Prediction::new(8).is_none());
+}
+
+/// Whether the object of key `a` and a value of so many bytes is too large for a page of 256 bytes.
+fn is_large(alloc: Global, value: &[u8]) -> Result<bool, Fail> {
+    let key = Key::new(alloc, b"a")?;
+    let value = Value::new(alloc, value)?;
+    Ok(is_too_large::<256>(&key, &value))
+}
+
+#[test]
+fn objects_have_their_limit(rt: HostRuntime) -> Result<(), Fail> {
+    assert!(rt; !is_large(rt.alloc(), &[0x78; 233])?);
+    assert!(rt; is_large(rt.alloc(), &[0x78; 234])?);
+    Ok(())
+}
+
+#[test]
+fn copies_are_alike(rt: HostRuntime) -> Result<(), Fail> {
+    let made = record(rt.alloc(), ROW)?;
+    assert!(rt; made.key.try_clone()? == made.key);
+    assert!(rt; made.value.try_clone()? == made.value);
+    assert!(rt; made.lent().to_record(rt.alloc())? == made);
+    assert_eq!(rt; (made.size(), made.lent().size()), (7, 7));
+    Ok(())
+}

@@ -1,0 +1,182 @@
+//! Pages that are written, at once and record by record.
+use super::rows::{LOG_ROW, ROW, Row, SET_ROW, page_of, record};
+use record_pages::{
+    LogPageWriter, Record, Records, SetPage, SetPageWriter, encode_log_page, encode_set_page, fits,
+};
+use std::alloc::Global;
+use std::test::Fail;
+
+/// Whether these records, as set page 3 of write 1, are this page, written at once and by a writer.
+fn is_set_text(records: &[Record], text: &[u8; 256]) -> bool {
+    if !fits::<256>(records) {
+        return false;
+    }
+    let mut page = [0xff; 256];
+    encode_set_page(3, 1, records, &mut page);
+    page == *text
+}
+
+/// Whether these records, as page 0 of segment 0, are this page.
+fn is_log_text(records: &[Record], text: &[u8; 256]) -> bool {
+    if !fits::<256>(records) {
+        return false;
+    }
+    let mut page = [0xff; 256];
+    encode_log_page(0, 0, records, &mut page);
+    page == *text
+}
+
+#[test]
+fn one_record_is_written(rt: HostRuntime) -> Result<(), Fail> {
+    let records = vec![in rt.alloc(); record(rt.alloc(), ROW)?]?;
+    assert!(rt; is_set_text(&records, &page_of::<256>(&SET_ROW)));
+    assert!(rt; is_log_text(&records, &page_of::<256>(&LOG_ROW)));
+    Ok(())
+}
+
+/// Pushes a record where it fits; whether it did.
+fn push<const PAGE: usize>(writer: &mut SetPageWriter<PAGE>, added: &Record) -> bool {
+    let fits = writer.fits(added.lent());
+    if fits {
+        writer.push(added.lent());
+    }
+    fits
+}
+
+/// Pushes a record where it fits; whether it did.
+fn push_to_log<const PAGE: usize>(writer: &mut LogPageWriter<PAGE>, added: &Record) -> bool {
+    let fits = writer.fits(added.lent());
+    if fits {
+        writer.push(added.lent());
+    }
+    fits
+}
+
+/// Whether a writer with the one record writes the worked set page.
+fn writes_the_set_page(record: &Record) -> bool {
+    let mut writer = SetPageWriter::<256>::new();
+    let is_new = writer.is_empty();
+    let is_pushed = push(&mut writer, record);
+    let mut page = [0xff; 256];
+    writer.text(3, 1, &mut page);
+    is_new && is_pushed && writer.len() == 1 && page == page_of::<256>(&SET_ROW)
+}
+
+/// Whether a writer that was cleared writes the worked log page.
+fn writes_the_log_page(record: &Record) -> bool {
+    let mut writer = LogPageWriter::<256>::new();
+    let was_pushed = push_to_log(&mut writer, record) && push_to_log(&mut writer, record);
+    writer.clear();
+    let is_pushed = writer.is_empty() && push_to_log(&mut writer, record);
+    let mut page = [0xff; 256];
+    writer.text(0, 0, &mut page);
+    was_pushed && is_pushed && writer.len() == 1 && page == page_of::<256>(&LOG_ROW)
+}
+
+#[test]
+fn one_record_is_written_by_a_writer(rt: HostRuntime) -> Result<(), Fail> {
+    let record = record(rt.alloc(), ROW)?;
+    assert!(rt; writes_the_set_page(&record));
+    assert!(rt; writes_the_log_page(&record));
+    Ok(())
+}
+
+const FULL: Row = (b"a", &[0x78; 233], 0);
+
+const ABOVE: Row = (b"a", &[0x78; 234], 0);
+
+/// Whether a page of 256 bytes is full with this record: it ends with the record's last byte.
+fn fills_a_page(record: &Record) -> bool {
+    let mut writer = SetPageWriter::<256>::new();
+    let is_pushed = push(&mut writer, record);
+    let mut page = [0; 256];
+    writer.text(0, 0, &mut page);
+    is_pushed && page[255] == 0x78 && SetPage::read(&page).is_some()
+}
+
+// A record of 238 bytes is all that a page of 256 bytes has room for.
+#[test]
+fn a_small_page_has_its_room(rt: HostRuntime) -> Result<(), Fail> {
+    assert!(rt; fills_a_page(&record(rt.alloc(), FULL)?));
+    assert!(rt; !fills_a_page(&record(rt.alloc(), ABOVE)?));
+    Ok(())
+}
+
+const HALF: Row = (b"a", &[0x78; 2034], 6);
+
+const MORE_THAN_HALF: Row = (b"b", &[0x79; 2035], 6);
+
+/// Whether two records are all of a log page of 4,096 bytes, and its last two bytes are zeros.
+fn fill_a_large_page(first: &Record, second: &Record) -> bool {
+    let mut writer = LogPageWriter::<4096>::new();
+    let are_pushed = push_to_log(&mut writer, first) && push_to_log(&mut writer, second);
+    let mut page = [0xff; 4096];
+    writer.text(7, 9, &mut page);
+    are_pushed && (page[4093], page[4094], page[4095]) == (0x78, 0, 0)
+}
+
+// Two records of 2,039 bytes are all that a page of 4,096 bytes has room for.
+#[test]
+fn a_large_page_has_its_room(rt: HostRuntime) -> Result<(), Fail> {
+    let half = record(rt.alloc(), HALF)?;
+    assert!(rt; fill_a_large_page(&half, &half));
+    assert!(rt; !fill_a_large_page(&half, &record(rt.alloc(), MORE_THAN_HALF)?));
+    Ok(())
+}
+
+/// How many of so many tries to push a record succeed.
+fn pushed(tries: u8, record: &Record) -> usize {
+    let mut writer = SetPageWriter::<4096>::new();
+    for _ in 0..tries {
+        let _is_pushed = push(&mut writer, record);
+    }
+    writer.len()
+}
+
+/// So many records of five bytes.
+fn small(alloc: Global, count: u8) -> Result<Vec<Record>, Fail> {
+    let mut records = Vec::new(alloc);
+    for _ in 0..count {
+        records.push(record(alloc, (b"a", b"", 0))?)?;
+    }
+    Ok(records)
+}
+
+// Records of 5 bytes leave room on a page of 4,096 bytes when 64 of them lie there.
+#[test]
+fn a_page_has_at_most_64_records(rt: HostRuntime) -> Result<(), Fail> {
+    assert_eq!(rt; pushed(100, &record(rt.alloc(), (b"a", b"", 0))?), 64);
+    assert!(rt; fits::<4096>(&small(rt.alloc(), 64)?));
+    assert!(rt; !fits::<4096>(&small(rt.alloc(), 65)?));
+    Ok(())
+}
+
+/// Whether the key is found in this slot with this value.
+fn is_found(records: Records<'_>, key: &[u8], slot: usize, value: &[u8]) -> bool {
+    let Some(found) = records.find_key(key) else {
+        return false;
+    };
+    found.slot == slot && found.lent.value == value
+}
+
+/// A page with these records.
+fn with_rows(alloc: Global, rows: &[Row]) -> Result<SetPageWriter<256>, Fail> {
+    let mut writer = SetPageWriter::<256>::new();
+    for row in rows {
+        let _is_pushed = push(&mut writer, &record(alloc, *row)?);
+    }
+    Ok(writer)
+}
+
+// Two records of one key: the look-up takes the first, and a key that no record has is not found.
+#[test]
+fn the_first_record_of_a_key_is_found(rt: HostRuntime) -> Result<(), Fail> {
+    let writer = with_rows(
+        rt.alloc(),
+        &[(b"ab", b"1", 6), (b"cd", b"2", 6), (b"cd", b"3", 6)],
+    )?;
+    assert_eq!(rt; writer.len(), 3);
+    assert!(rt; is_found(writer.records(), b"cd", 1, b"2"));
+    assert!(rt; !is_found(writer.records(), b"c", 0, b"1"));
+    Ok(())
+}
