@@ -1,6 +1,6 @@
 //! What no clause of the small libraries says: that calls succeed, and values from outside.
-mod admission;
 mod devices;
+mod entering;
 mod filters;
 mod hits;
 mod memory;
