@@ -29,8 +29,3 @@ pub use laws::{
 };
 pub use verdict::Verdict;
 pub use verdict_line::verdict_line_of;
-
-#[cfg(test)]
-mod judge_tests;
-#[cfg(test)]
-mod tests;
