@@ -6,6 +6,7 @@ pub mod Growing
 pub mod Listing
 pub mod Laying
 pub mod LaneLemmas
+pub mod LaneEnds
 pub mod Layouts
 pub mod Deciding
 pub mod Judging

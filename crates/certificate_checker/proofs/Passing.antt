@@ -14,14 +14,14 @@ use Rattle.trace_file.specs.declared.call.Call.{Call}
 use Rattle.certificate_checker.specs.declared.fault.Fault.{Fault}
 use Rattle.certificate_checker.specs.declared.fault.Fault.TheVariants.{BadInterval, WrongCount, NotAPlace, Repeated, OutOfOrder, WrongHit}
 use Rattle.certificate_checker.specs.Orders.{in_order}
-use Rattle.certificate_checker.specs.Values.{Values, value_at, IsAllowed}
+use Rattle.certificate_checker.specs.Values.{IsAllowed}
 use Rattle.certificate_checker.specs.Current.{after_deed}
 use Rattle.certificate_checker.specs.Deeds.{deed_of}
 use Rattle.certificate_checker.specs.Faults.{HasFault, IsRight, IsBefore, IsFirstOfPlaces, tested_at, moment, call_at}
 use Rattle.certificate_checker.proofs.Lookups.{some_and, and_some, take_next, in_order_next, contains_from_any, any_from_contains, call_at_is}
 use Rattle.certificate_checker.proofs.LatestLemmas.{latest_of, latest_of-push, latest_found, latest_is}
 
-pub record Passed (history : List Call) (certificate : List ℕ) (place : ℕ) (seen : List Bool) (greatest : ℕ) (values : Values) : Type 0 where
+pub record Passed (history : List Call) (certificate : List ℕ) (place : ℕ) (seen : List Bool) (greatest : ℕ) (value_at : List ℕ → Option (List ℕ)) : Type 0 where
   -- the places so far are right
   pub right : (q : ℕ) → q < place → IsRight history certificate q
   pub seen_len : length seen ≡ length history
@@ -29,8 +29,8 @@ pub record Passed (history : List Call) (certificate : List ℕ) (place : ℕ) (
   pub seen_is : (p : ℕ) → p < length history → get_or seen p false ≡ list_any (eqb p) (take place certificate)
   -- a number is below the greatest start exactly if it is below some start so far
   pub greatest_is : (t : ℕ) → ltb t greatest ≡ list_any (λ call. ltb t call.start) (in_order history (take place certificate))
-  -- the map has the latest values
-  pub values_is : (key : List ℕ) → value_at values key ≡ latest_of key (in_order history (take place certificate))
+  -- the map has the latest values, as it is looked up
+  pub values_is : (key : List ℕ) → value_at key ≡ latest_of key (in_order history (take place certificate))
 
 -- a look-up that is known has no more than what holds of its value
 pub not_at : {X : Type 0} (o : Option X) (P : X → Type 0) (x : X) → o ≡ Some x → ¬ P x → ¬ IsSomeAnd o P
@@ -84,7 +84,7 @@ no_place h c place position p past = and_some _ _ position p past
 pub a_place : (history : List Call) (certificate : List ℕ) (place position : ℕ) → slice_get certificate place ≡ Some position → position < length history → ¬ HasFault history certificate (NotAPlace place)
 a_place h c place position p within = not_at _ _ position p (λ past. omega arith)
 
-module _ {history : List Call} {certificate : List ℕ} {place : ℕ} {seen : List Bool} {greatest : ℕ} {values : Values} (passed : Passed history certificate place seen greatest values) where
+module _ {history : List Call} {certificate : List ℕ} {place : ℕ} {seen : List Bool} {greatest : ℕ} {value_at : List ℕ → Option (List ℕ)} (passed : Passed history certificate place seen greatest value_at) where
   pub repeated : (position : ℕ) → slice_get certificate place ≡ Some position → position < length history → get_or seen position false ≡ true → HasFault history certificate (Repeated place)
   repeated position p within flag =
       and_some _ _ position p (contains_from_any _ position (sym (passed.seen_is position within) ∙ flag))
@@ -106,10 +106,10 @@ module _ {history : List Call} {certificate : List ℕ} {place : ℕ} {seen : Li
       let no = le-ltb call.end greatest enough in
       absurd (cc))
 
-  pub lawful : (position : ℕ) (call : Call) → slice_get certificate place ≡ Some position → slice_get history position ≡ Some call → IsAllowed (value_at values call.key) call.act → ¬ HasFault history certificate (WrongHit place)
+  pub lawful : (position : ℕ) (call : Call) → slice_get certificate place ≡ Some position → slice_get history position ≡ Some call → IsAllowed (value_at call.key) call.act → ¬ HasFault history certificate (WrongHit place)
   lawful position call p c allowed =
       not_at _ _ call (call_at_is history certificate place position call p c) (λ wrong.
-      let has : value_at values call.key ≡ Some wrong.0 = rw wrong.1 at allowed in
+      let has : value_at call.key ≡ Some wrong.0 = rw wrong.1 at allowed in
       wrong.2 (latest_is call.key wrong.0 _ (sym (passed.values_is call.key) ∙ has)))
 
 not_allowed : (value : Option (List ℕ)) (act : Act) → ¬ IsAllowed value act → (hit : List ℕ) × (act ≡ Hit hit) × ¬ (value ≡ Some hit)
@@ -118,8 +118,8 @@ not_allowed value Remove refused = absurd (refused tt)
 not_allowed value (Hit hit) refused = (hit, refl, refused)
 not_allowed value Miss refused = absurd (refused tt)
 
-module _ {history : List Call} {certificate : List ℕ} {place : ℕ} {seen : List Bool} {greatest : ℕ} {values : Values} (passed : Passed history certificate place seen greatest values) where
-  pub wrong_hit : (position : ℕ) (call : Call) → slice_get certificate place ≡ Some position → slice_get history position ≡ Some call → ¬ IsAllowed (value_at values call.key) call.act → HasFault history certificate (WrongHit place)
+module _ {history : List Call} {certificate : List ℕ} {place : ℕ} {seen : List Bool} {greatest : ℕ} {value_at : List ℕ → Option (List ℕ)} (passed : Passed history certificate place seen greatest value_at) where
+  pub wrong_hit : (position : ℕ) (call : Call) → slice_get certificate place ≡ Some position → slice_get history position ≡ Some call → ¬ IsAllowed (value_at call.key) call.act → HasFault history certificate (WrongHit place)
   wrong_hit position call p c refused =
       let hit = not_allowed _ call.act refused in
       and_some _ _ call (call_at_is history certificate place position call p c) (
@@ -131,8 +131,8 @@ module _ {history : List Call} {certificate : List ℕ} {place : ℕ} {seen : Li
 
 -- ---- the pass begins, and goes on
 
-pub starts : (history : List Call) (certificate : List ℕ) (seen : List Bool) (values : Values) → length seen ≡ length history → ((p : ℕ) → get_or seen p false ≡ false) → ((key : List ℕ) → value_at values key ≡ None) → Passed history certificate 0 seen 0 values
-starts history certificate seen values len none empty = record {
+pub starts : (history : List Call) (certificate : List ℕ) (seen : List Bool) (value_at : List ℕ → Option (List ℕ)) → length seen ≡ length history → ((p : ℕ) → get_or seen p false ≡ false) → ((key : List ℕ) → value_at key ≡ None) → Passed history certificate 0 seen 0 value_at
+starts history certificate seen value_at len none empty = record {
   right = λ q less. absurd (omega arith);
   seen_len = len;
   seen_is = λ p within. none p;
@@ -152,8 +152,8 @@ or_true : (b : Bool) → (b || true) ≡ true
 or_true true = refl
 or_true false = refl
 
-pub goes_on : (history : List Call) (certificate : List ℕ) (place position : ℕ) (call : Call) (seen : List Bool) (greatest : ℕ) (values after : Values) → Passed history certificate place seen greatest values → slice_get certificate place ≡ Some position → slice_get history position ≡ Some call → get_or seen position false ≡ false → greatest ≤ call.end → IsAllowed (value_at values call.key) call.act → ((key : List ℕ) → value_at after key ≡ after_deed key (value_at values key) (deed_of call)) → Passed history certificate (place + 1) (set seen position true) (max greatest call.start) after
-goes_on history certificate place position call seen greatest values after passed p c unseen enough allowed noted =
+pub goes_on : (history : List Call) (certificate : List ℕ) (place position : ℕ) (call : Call) (seen : List Bool) (greatest : ℕ) (value_at after : List ℕ → Option (List ℕ)) → Passed history certificate place seen greatest value_at → slice_get certificate place ≡ Some position → slice_get history position ≡ Some call → get_or seen position false ≡ false → greatest ≤ call.end → IsAllowed (value_at call.key) call.act → ((key : List ℕ) → after key ≡ after_deed key (value_at key) (deed_of call)) → Passed history certificate (place + 1) (set seen position true) (max greatest call.start) after
+goes_on history certificate place position call seen greatest value_at after passed p c unseen enough allowed noted =
     let within : position < length history = slice_get_within history position call c in
     let next = in_order_next history certificate place position call p c in
     let here : IsRight history certificate place = record {
@@ -188,7 +188,7 @@ goes_on history certificate place position call seen greatest values after passe
 
 -- ---- the pass ends
 
-module _ {history : List Call} {certificate : List ℕ} {place : ℕ} {seen : List Bool} {greatest : ℕ} {values : Values} (passed : Passed history certificate place seen greatest values) where
+module _ {history : List Call} {certificate : List ℕ} {place : ℕ} {seen : List Bool} {greatest : ℕ} {value_at : List ℕ → Option (List ℕ)} (passed : Passed history certificate place seen greatest value_at) where
   pub ends_no_place : (position : ℕ) → slice_get certificate place ≡ Some position → length history ≤ position → IsFirstOfPlaces history certificate (Some (NotAPlace place))
   ends_no_place position p past = (
     no_place history certificate place position p past,
@@ -211,7 +211,7 @@ module _ {history : List Call} {certificate : List ℕ} {place : ℕ} {seen : Li
         none_before history certificate place 3 passed.right (λ _. a_place history certificate place position p within) (λ _. not_repeated passed position p within unseen) (λ less. absurd (omega arith)) (λ less. absurd (omega arith)),
       )
 
-  pub ends_wrong_hit : (position : ℕ) (call : Call) → slice_get certificate place ≡ Some position → slice_get history position ≡ Some call → get_or seen position false ≡ false → greatest ≤ call.end → ¬ IsAllowed (value_at values call.key) call.act → IsFirstOfPlaces history certificate (Some (WrongHit place))
+  pub ends_wrong_hit : (position : ℕ) (call : Call) → slice_get certificate place ≡ Some position → slice_get history position ≡ Some call → get_or seen position false ≡ false → greatest ≤ call.end → ¬ IsAllowed (value_at call.key) call.act → IsFirstOfPlaces history certificate (Some (WrongHit place))
   ends_wrong_hit position call p c unseen enough refused =
       let within = slice_get_within history position call c in (
         wrong_hit passed position call p c refused,

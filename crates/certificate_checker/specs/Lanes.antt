@@ -1,15 +1,11 @@
 -- Lanes of calls, each recorded apart from the others, and how they are laid out as one history.
-use Rattle.std.specs.Prelude.{◌≡◌, ◌≢◌, ℕ, suc, ◌<◌, ◌≤◌, ◌⊎◌, List, [], ◌∷◌, ◌++◌, All, AllPairs, map, slice_get}
+use Rattle.std.specs.Prelude.{◌≡◌, ◌≢◌, ℕ, suc, ◌<◌, ◌≤◌, ◌⊎◌, List, [], ◌∷◌, ◌++◌, All, AllPairs, map, slice_get, Some}
 use Rattle.std.specs.List.{flat_map, filter_map}
 use Rattle.trace_file.specs.declared.call.Call.{Call}
+pub use Rattle.certificate_checker.specs.declared.done.Done.{Done}
 use Rattle.certificate_checker.specs.Deeds.{Deed, deed_of}
 use Rattle.certificate_checker.specs.Latest.{IsLawful}
 use Rattle.certificate_checker.specs.Orders.{IsOrder}
-
--- a call, and the point of time at which it was done
-pub record Done : Type 0 where
-  pub call : Call
-  pub point : ℕ
 
 -- the calls of a lane, in the order of its record
 abbrev pub calls_of : List Done → List Call
@@ -29,6 +25,20 @@ pub record IsLane (lane : List Done) : Type 0 where
   pub started : All (λ done. done.call.start < done.point) lane
   pub ended : All (λ done. done.point ≤ done.call.end) lane
   pub lawful : IsLawful (deeds_done lane)
+
+-- a done call whose end is left out
+abbrev pub without_end : Done → Done
+without_end done = record { call = record done.call { end = 0 }; point = done.point }
+
+-- two lanes are of the same done calls, but for their ends
+abbrev pub DifferInEnds : List Done → List Done → Type 0
+DifferInEnds one other = map without_end one ≡ map without_end other
+
+-- each lane has the keys that are placed in the lane of its number, and no others
+abbrev pub ArePlaced : (List ℕ → ℕ) → List (List Done) → Type 0
+ArePlaced lane_of lanes =
+    (number : ℕ) (lane : List Done)
+    → slice_get lanes number ≡ Some lane → All (λ done. lane_of done.call.key ≡ number) lane
 
 -- two lanes have no key in common
 abbrev pub AreApart : List Done → List Done → Type 0

@@ -1,5 +1,5 @@
 -- Laws of the definitions alone.
-use Rattle.std.specs.Prelude.{◌≡◌, ◌↔◌, ◌⊎◌, ℕ, List, [], ◌∷◌, ◌++◌, Some, All, AllPairs}
+use Rattle.std.specs.Prelude.{◌≡◌, ◌↔◌, ◌⊎◌, ℕ, ◌≤◌, List, [], ◌∷◌, ◌++◌, Some, All, AllPairs}
 use Rattle.std.specs.List.{flat_map}
 use Rattle.trace_file.specs.declared.act.Act.TheVariants.{Hit}
 use Rattle.trace_file.specs.declared.call.Call.{Call}
@@ -9,7 +9,7 @@ use Rattle.certificate_checker.specs.Deeds.{Deed}
 use Rattle.certificate_checker.specs.Faults.{IsFirstFault}
 use Rattle.certificate_checker.specs.declared.judged.Judged.{Judged}
 use Rattle.certificate_checker.specs.Judgements.{IsVerdictLineOf}
-use Rattle.certificate_checker.specs.Lanes.{Done, calls_of, PointsRise, IsLane, AreApart, IsLaidOut}
+use Rattle.certificate_checker.specs.Lanes.{Done, calls_of, PointsRise, IsLane, DifferInEnds, ArePlaced, AreApart, IsLaidOut}
 use Rattle.certificate_checker.specs.Latest.{IsLatest, IsLawful}
 use Rattle.certificate_checker.specs.Current.{current}
 
@@ -24,6 +24,20 @@ LawfulGrows =
     → IsLawful deeds
     → ((value : List ℕ) → deed.act ≡ Hit value → current deeds deed.key ≡ Some value)
     → IsLawful (deeds ++ deed ∷ [])
+
+-- keys that are placed in different lanes part the lanes
+abbrev pub PlacedLanesAreApart : Type 0
+PlacedLanesAreApart =
+    (lane_of : List ℕ → ℕ) (lanes : List (List Done)) → ArePlaced lane_of lanes → AllPairs AreApart lanes
+
+-- other ends, none before its point, keep a well recorded lane
+abbrev pub EndsMayMove : Type 0
+EndsMayMove =
+    (lane other : List Done)
+    → IsLane lane
+    → DifferInEnds lane other
+    → All (λ done. done.point ≤ done.call.end) other
+    → IsLane other
 
 -- well recorded lanes, no two with a key in common, are accepted as they are laid out
 abbrev pub LanesAreAccepted : Type 0

@@ -7,12 +7,15 @@ use crate::fault::Fault;
 use crate::places::{bad_interval, first_fault_of_places};
 use crate::verdict::Verdict;
 use std::alloc::{AllocError, Global};
+use std::hash::{BuildHasher, BuildHasherDefault, FoldHasher};
 use trace_file::{Certificate, History};
 
 /// Accepts exactly the pairs whose certificate spells an agreeing, lawful order of the history, and
 /// answers the first fault of any other pair.
 ///
-/// It makes one pass, in time and memory linear in the number of calls, and copies no key and no value.
+/// It makes one pass, in memory linear in the number of calls, and copies no key and no value. Its time
+/// is linear too where the keys were not picked to be slow: the map that it looks keys up in hashes them
+/// by a seed that anyone can read. Whoever judges a stranger's history calls `check_with_hasher`.
 /// `AllocError` comes where memory was refused.
 pub fn check(
     alloc: Global,
@@ -24,15 +27,38 @@ pub fn check(
     ensures rejected { IfOk result (λ v. (fault : Fault) →
         v ≡ Verdict.Rejected fault → IsFirstFault history.now certificate.now fault) }
 {
-    Ok(match first_fault(alloc, history, certificate)? {
-        None => Verdict::Accepted,
-        Some(fault) => Verdict::Rejected(fault),
-    })
+    let known: BuildHasherDefault<FoldHasher> = BuildHasherDefault::new();
+    match check_with_hasher(alloc, known, history, certificate) {
+        Ok(verdict) => Ok(verdict),
+        Err(refused) => Err(refused),
+    }
+}
+
+/// The same by a map that hashes keys as it is told, as by a `RandomState` of the runtime, whose seed
+/// nobody knows who wrote the history. Then the time is linear whatever the keys are.
+pub fn check_with_hasher<S: BuildHasher + Drop>(
+    alloc: Global,
+    hash_builder: S,
+    history: &History,
+    certificate: &Certificate,
+) -> Result<Verdict, AllocError>
+    ensures accepted { IfOk result (λ v.
+        (v ≡ Verdict.Accepted) ↔ IsAccepted history.now certificate.now) }
+    ensures rejected { IfOk result (λ v. (fault : Fault) →
+        v ≡ Verdict.Rejected fault → IsFirstFault history.now certificate.now fault) }
+{
+    Ok(
+        match first_fault(alloc, hash_builder, history, certificate)? {
+            None => Verdict::Accepted,
+            Some(fault) => Verdict::Rejected(fault),
+        },
+    )
 }
 
 /// The first fault, if there is one.
-fn first_fault(
+fn first_fault<S: BuildHasher + Drop>(
     alloc: Global,
+    hash_builder: S,
     history: &History,
     certificate: &Certificate,
 ) -> Result<Option<Fault>, AllocError>
@@ -44,5 +70,8 @@ fn first_fault(
     if certificate.len() != history.len() {
         return Ok(Some(Fault::WrongCount));
     }
-    first_fault_of_places(alloc, history, certificate)
+    match first_fault_of_places(alloc, hash_builder, history, certificate) {
+        Ok(found) => Ok(found),
+        Err(refused) => Err(refused),
+    }
 }

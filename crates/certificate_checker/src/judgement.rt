@@ -4,12 +4,13 @@ ghost use Rattle.std.specs.Io.KnownBytes.{Appends, IsAtEnd, Keeps};
 ghost use Rattle.certificate_checker.specs.Judgements.{IsTold, IsLineOn, WroteLine};
 ghost use Rattle.certificate_checker.specs.VerdictLine.{bad_trace_line};
 
-use crate::acceptance::check;
+use crate::acceptance::check_with_hasher;
 use crate::bad_trace::BadTrace;
 use crate::judge_fault::JudgeFault;
 use crate::judged::Judged;
 use crate::verdict_line::told;
 use std::alloc::{AllocError, Global};
+use std::hash::{BuildHasher, BuildHasherDefault, FoldHasher};
 use std::io::{Read, Write};
 use trace_file::{Trace, TraceFault, read_trace};
 
@@ -25,7 +26,7 @@ struct Judgement {
 /// The line is `accepted N calls`, or `rejected` with the first fault of the pair, or `bad trace` with
 /// the first fault of reading and its offset; the answer is the kind of that line. A reader that fails
 /// gives `bad trace ReadFault`. At `OutOfMemory` nothing was written; after `WriteFault` nothing is
-/// said of what the writer holds.
+/// said of what the writer holds. As `check`, it is for traces whose keys were not picked to be slow.
 pub fn judge<R: Read, W: Write>(
     alloc: Global,
     reader: &mut R,
@@ -38,7 +39,28 @@ pub fn judge<R: Read, W: Write>(
     ensures memory { IfErr result (λ fault. fault ≡ JudgeFault.OutOfMemory
         → Keeps (W.contents writer.old) (W.contents writer.new)) }
 {
-    let judgement = judgement_of(alloc, reader)?;
+    let known: BuildHasherDefault<FoldHasher> = BuildHasherDefault::new();
+    match judge_with_hasher(alloc, known, reader, writer) {
+        Ok(judged) => Ok(judged),
+        Err(fault) => Err(fault),
+    }
+}
+
+/// The same by a map that hashes keys as it is told: see `check_with_hasher`.
+pub fn judge_with_hasher<S: BuildHasher + Drop, R: Read, W: Write>(
+    alloc: Global,
+    hash_builder: S,
+    reader: &mut R,
+    writer: &mut W,
+) -> Result<Judged, JudgeFault>
+    ensures line { IfOk result (λ judged. WroteLine (R.remaining reader.old)
+        (R.remaining reader.new) judged (W.contents writer.old) (W.contents writer.new)) }
+    ensures end { IfOk result (λ judged. judged ≢ Judged.BadTrace
+        → IsAtEnd (R.remaining reader.new)) }
+    ensures memory { IfErr result (λ fault. fault ≡ JudgeFault.OutOfMemory
+        → Keeps (W.contents writer.old) (W.contents writer.new)) }
+{
+    let judgement = judgement_of(alloc, hash_builder, reader)?;
     match write(writer, judgement.line.as_bytes()) {
         Ok(()) => Ok(judgement.judged),
         Err(fault) => Err(fault),
@@ -46,14 +68,18 @@ pub fn judge<R: Read, W: Write>(
 }
 
 /// The judgement on what a reader gives.
-fn judgement_of<R: Read>(alloc: Global, reader: &mut R) -> Result<Judgement, AllocError>
+fn judgement_of<S: BuildHasher + Drop, R: Read>(
+    alloc: Global,
+    hash_builder: S,
+    reader: &mut R,
+) -> Result<Judgement, AllocError>
     ensures end { IfOk result (λ j. j.judged ≢ Judged.BadTrace → IsAtEnd (R.remaining reader.new)) }
     ensures line { IfOk result (λ j. (line : List ℕ)
         × IsLineOn (R.remaining reader.old) (R.remaining reader.new) j.judged line
         × (string_bytes j.line ≡ line ++ codes "\n")) }
 {
     match read_trace(alloc, reader) {
-        Ok(trace) => match on_trace(alloc, &trace) {
+        Ok(trace) => match on_trace(alloc, hash_builder, &trace) {
             Ok(judgement) => Ok(judgement),
             Err(refused) => Err(refused),
         },
@@ -65,11 +91,15 @@ fn judgement_of<R: Read>(alloc: Global, reader: &mut R) -> Result<Judgement, All
 }
 
 /// The judgement on a trace.
-fn on_trace(alloc: Global, trace: &Trace) -> Result<Judgement, AllocError>
+fn on_trace<S: BuildHasher + Drop>(
+    alloc: Global,
+    hash_builder: S,
+    trace: &Trace,
+) -> Result<Judgement, AllocError>
     ensures { IfOk result (λ j. (line : List ℕ) × IsTold trace.now j.judged line
         × (string_bytes j.line ≡ line ++ codes "\n")) }
 {
-    let verdict = check(alloc, &trace.history, &trace.certificate)?;
+    let verdict = check_with_hasher(alloc, hash_builder, &trace.history, &trace.certificate)?;
     let line = told(alloc, verdict, trace.history.len())?;
     Ok(Judgement {
         judged: Judged::of(verdict),

@@ -1,5 +1,5 @@
 // Laws of the definitions, for those who record a history.
-ghost use Rattle.certificate_checker.specs.Laws.{LatestIsCurrent, LawfulGrows, LanesAreAccepted, LayoutExists, LayoutIsOne, AcceptedOrFaulty, AcceptedHasNoFault, FirstFaultIsOne, VerdictLineExists, VerdictLineIsOne};
+ghost use Rattle.certificate_checker.specs.Laws.{LatestIsCurrent, LawfulGrows, PlacedLanesAreApart, EndsMayMove, LanesAreAccepted, LayoutExists, LayoutIsOne, AcceptedOrFaulty, AcceptedHasNoFault, FirstFaultIsOne, VerdictLineExists, VerdictLineIsOne};
 
 /// A value is a key's latest exactly where the lossy map of the deeds has it.
 pub fn latest_is_current()
@@ -9,6 +9,16 @@ pub fn latest_is_current()
 /// Lawful deeds stay lawful with one more that is no hit, or a hit of its key's current value.
 pub fn lawful_grows()
     ensures { LawfulGrows }
+{}
+
+/// Lanes have no key in common, where each has the keys that are placed in the lane of its number.
+pub fn placed_lanes_are_apart()
+    ensures { PlacedLanesAreApart }
+{}
+
+/// A well recorded lane is one with other ends too, as long as no call ends before its point.
+pub fn ends_may_move()
+    ensures { EndsMayMove }
 {}
 
 /// Well recorded lanes, no two of which have a key in common, are accepted as they are laid out.

@@ -7,30 +7,28 @@
 
 mod acceptance;
 mod bad_trace;
+mod done;
 mod fault;
 mod judge_fault;
 mod judged;
 mod judgement;
 mod laws;
+mod lent_key;
 mod places;
 mod values;
 mod verdict;
 mod verdict_line;
 
-pub use acceptance::check;
+pub use acceptance::{check, check_with_hasher};
+pub use done::Done;
 pub use fault::Fault;
 pub use judge_fault::JudgeFault;
 pub use judged::Judged;
-pub use judgement::judge;
+pub use judgement::{judge, judge_with_hasher};
 pub use laws::{
-    accepted_has_no_fault, accepted_or_faulty, first_fault_is_one, lanes_are_accepted,
-    latest_is_current, lawful_grows, layout_exists, layout_is_one, verdict_line_exists,
-    verdict_line_is_one,
+    accepted_has_no_fault, accepted_or_faulty, ends_may_move, first_fault_is_one,
+    lanes_are_accepted, latest_is_current, lawful_grows, layout_exists, layout_is_one,
+    placed_lanes_are_apart, verdict_line_exists, verdict_line_is_one,
 };
 pub use verdict::Verdict;
 pub use verdict_line::verdict_line_of;
-
-#[cfg(test)]
-mod judge_tests;
-#[cfg(test)]
-mod tests;

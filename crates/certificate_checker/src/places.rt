@@ -3,9 +3,11 @@ ghost use Rattle.std.specs.Prelude.{◌≡◌, ◌<◌, IfOk};
 ghost use Rattle.certificate_checker.specs.Faults.{IsFirstBadInterval, IsFirstOfPlaces};
 
 use crate::fault::Fault;
+use crate::lent_key::LentKey;
 use crate::values::{allows, note};
 use std::alloc::{AllocError, Global};
 use std::collections::HashMap;
+use std::hash::BuildHasher;
 use trace_file::{Certificate, History};
 
 /// The position of the first call that ends before it starts.
@@ -21,9 +23,10 @@ pub(crate) fn bad_interval(history: &History) -> Option<usize>
     None
 }
 
-/// The first fault of the places in order.
-pub(crate) fn first_fault_of_places(
+/// The first fault of the places in order, by a map that hashes so.
+pub(crate) fn first_fault_of_places<S: BuildHasher + Drop>(
     alloc: Global,
+    hash_builder: S,
     history: &History,
     certificate: &Certificate,
 ) -> Result<Option<Fault>, AllocError>
@@ -31,7 +34,7 @@ pub(crate) fn first_fault_of_places(
 {
     let mut seen = vec![in alloc; false; history.len()]?;
     let mut greatest_start = 0;
-    let mut values: HashMap<&[u8], &[u8]> = HashMap::new(alloc);
+    let mut values: HashMap<LentKey<'_>, &[u8], S> = HashMap::with_hasher(alloc, hash_builder);
     for place in 0..certificate.len() {
         let position = certificate.at(place) as usize;
         if position >= history.len() {

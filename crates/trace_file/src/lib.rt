@@ -36,6 +36,3 @@ pub use trace::Trace;
 pub use trace_fault::TraceFault;
 pub use trace_reader::TraceReader;
 pub use write_trace_fault::WriteTraceFault;
-
-#[cfg(test)]
-mod tests;

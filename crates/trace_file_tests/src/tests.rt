@@ -1,11 +1,14 @@
 // Traces in bytes that were made by hand, faults with their offsets, and readers and writers that fail.
-use super::*;
 use record_pages::{Key, Value};
 use std::alloc::Global;
 use std::io;
 use std::io::{Read, Write};
 use std::process::Abort;
 use std::test::Fail;
+use trace_file::{
+    Act, ActRef, Call, Certificate, History, Trace, TraceFault, TraceReader, WriteTraceFault,
+    read_trace, write_trace,
+};
 
 /// One put of `1` at `a`, from stamp 1 to stamp 3, by caller 0, and its certificate.
 const ONE_PUT: [u8; 40] = [

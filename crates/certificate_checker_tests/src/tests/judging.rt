@@ -1,5 +1,5 @@
 // Traces by their bytes, with the lines that they must get, and readers and writers that fail.
-use crate::{JudgeFault, Judged, judge};
+use certificate_checker::{JudgeFault, Judged, judge};
 use std::alloc::Global;
 use std::io;
 use std::io::{Error, ErrorKind, Read, Write};

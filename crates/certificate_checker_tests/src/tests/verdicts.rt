@@ -1,5 +1,5 @@
 // Histories made by hand, with the verdicts that they must get.
-use crate::{Fault, Verdict, check};
+use certificate_checker::{Fault, Verdict, check};
 use record_pages::{Key, Value};
 use std::alloc::Global;
 use std::test::Fail;

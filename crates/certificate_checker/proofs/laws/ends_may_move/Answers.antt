@@ -1,0 +1,5 @@
+use Rattle.certificate_checker.proofs.LaneEnds.{ends_moved}
+use Rattle.certificate_checker.proofs.laws.ends_may_move.Goals as goal
+
+pub returns : goal.returns
+returns c = ends_moved

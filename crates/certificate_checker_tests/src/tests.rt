@@ -1,0 +1,3 @@
+// What no clause of the checker says: outside rows, and readers, writers and memory that fail.
+mod judging;
+mod verdicts;
