@@ -1,4 +1,3 @@
-pub mod OwnerLaws
 pub mod RingLaws
 pub mod BufferLaws
 pub mod LiveLaws

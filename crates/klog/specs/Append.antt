@@ -1,5 +1,6 @@
 -- What becomes of a record that is to enter the log.
 use Rattle.std.specs.Prelude.{◌≡◌, ℕ, ◌<◌, ◌^◌, List, ◌∷◌, [], length, Bool, true, false, ◌||◌, nat_lt, nat_le, if◌then◌else◌}
+use Rattle.record_pages.specs.Sizes.{entering_prediction}
 use Rattle.record_pages.specs.Recs.{Rec, rec}
 use Rattle.klog_index.specs.declared.entry.Entry.{Entry}
 use Rattle.klog.specs.declared.appended.Appended.{Appended}
@@ -9,9 +10,9 @@ use Rattle.klog.specs.Log.{LogState, filling_buffer}
 use Rattle.klog.specs.Names.{name_of, filled_number}
 use Rattle.klog.specs.Shown.{place_in}
 
--- the record of a key and value that enters a log: its prediction is 6
+-- the record of a key and value that enters a log
 abbrev pub entering : List ℕ → List ℕ → Rec
-entering key value = rec key value 6
+entering key value = rec key value entering_prediction
 
 -- the filled segment becomes the flushed one, and an empty one is filled
 abbrev pub sealed : LogState → LogState
@@ -23,7 +24,7 @@ entry_for bytes k r = record {
   set = (place_in k.shape r.key).set;
   tag = (place_in k.shape r.key).tag;
   place = record { segment = name_of k (filled_number k); page = page_for bytes k.filling r; slot = slot_for bytes k.filling r };
-  prediction = 6;
+  prediction = entering_prediction;
 }
 
 -- the record is added to the segment that is filled

@@ -10,5 +10,4 @@ pub mod Look
 pub mod Find
 pub mod Flush
 pub mod Moves
-pub mod Owner
 pub mod Take

@@ -26,6 +26,3 @@ pub use readmitted::Readmitted;
 pub use set_taken::SetTaken;
 pub use taken_record::TakenRecord;
 pub use taken_records::TakenRecords;
-
-#[cfg(test)]
-mod tests;

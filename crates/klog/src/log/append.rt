@@ -1,7 +1,7 @@
 // What enters the log, and what is struck from it.
 ghost use Rattle.std.specs.Prelude.{◌≡◌, ◌≢◌, ◌<◌, ◌≤◌, ◌^◌, ℕ, [], ◌∷◌, List, Option, length, filter, not, true, false, IsTrue};
 ghost use Rattle.std.specs.Bool.{OnTrue, OnFalse};
-ghost use Rattle.record_pages.specs.Sizes.{IsPageSize, object_size, room};
+ghost use Rattle.record_pages.specs.Sizes.{IsPageSize, object_size, room, entering_prediction};
 ghost use Rattle.record_pages.specs.Recs.{IsRecord, size};
 ghost use Rattle.record_pages.specs.Lent.{record_shown};
 ghost use Rattle.klog_index.specs.Entries.{has_tag, without};
@@ -21,11 +21,8 @@ use std::mem;
 /// The greatest number of a segment that holds records.
 const MAX_SEGMENT: u64 = 1 << 62;
 
-/// The number of the prediction with which a record enters the log.
-pub(super) const ENTERING: u8 = 6;
-
 impl<const PAGE: usize> KLog<PAGE> {
-    /// Adds a record of this key and value, with prediction 6, as the newest live one. Both refusals change nothing. No
+    /// Adds a record of this key and value, with the entering prediction, as the newest live one. Both refusals change nothing. No
     /// call of the device is made, and no memory taken.
     pub fn append(&mut self, key: &Key, value: &Value) -> Appended
         requires page_size { IsPageSize PAGE }
@@ -42,8 +39,8 @@ impl<const PAGE: usize> KLog<PAGE> {
             return Appended::IndexFull;
         }
         let placed = place(&self.layout, key.bytes());
-        let six = Prediction::new(ENTERING).unwrap();
-        if self.enter(placed.set, placed.tag, RecordRef::new(key, value, six)) {
+        let entering = Prediction::new(Prediction::ENTERING).unwrap();
+        if self.enter(placed.set, placed.tag, RecordRef::new(key, value, entering)) {
             Appended::Appended
         } else {
             Appended::Full
@@ -68,7 +65,7 @@ impl<const PAGE: usize> KLog<PAGE> {
         requires page_size { IsPageSize PAGE }
         requires lawful { IsRecord (record_shown added) }
         requires small { size (record_shown added) ≤ room PAGE }
-        requires prediction { added.prediction ≡ 6 }
+        requires prediction { added.prediction ≡ entering_prediction }
         requires set { (place_in self.old.shape added.key.now).set ≡ set }
         requires tag { (place_in self.old.shape added.key.now).tag ≡ tag }
         requires listed { length self.old.entries < self.old.shape.limit }
@@ -116,7 +113,7 @@ impl<const PAGE: usize> KLog<PAGE> {
         requires page_size { IsPageSize PAGE }
         requires lawful { IsRecord (record_shown added) }
         requires small { size (record_shown added) ≤ room PAGE }
-        requires prediction { added.prediction ≡ 6 }
+        requires prediction { added.prediction ≡ entering_prediction }
         requires set { (place_in self.old.shape added.key.now).set ≡ set }
         requires tag { (place_in self.old.shape added.key.now).tag ≡ tag }
         requires listed { length self.old.entries < self.old.shape.limit }
@@ -140,8 +137,8 @@ impl<const PAGE: usize> KLog<PAGE> {
             page: spot.page as u8,
             slot: spot.slot as u8,
         };
-        let six = Prediction::new(ENTERING).unwrap();
-        let Ok(()) = self.index.add(set, tag, place, six) else {
+        let entering = Prediction::new(Prediction::ENTERING).unwrap();
+        let Ok(()) = self.index.add(set, tag, place, entering) else {
             unreachable!();
         };
         true

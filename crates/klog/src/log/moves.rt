@@ -11,7 +11,6 @@ ghost use Rattle.klog.specs.Take.{is_missing, FailsOnlyIfMissing, Copies, is_los
 ghost use Rattle.klog.specs.Moves.{TellsOldest, IsFirstLive, IsOfOldest, freed, is_among, dropped, without_entry, live_without_entry, without_its_page, live_without_page, EntersAnew, is_fault, ReadmitLeaves, ReadmitGives, ReadsBack, is_lost, FailsOnlyIfLost, taken_entries, TakeLeaves, TakeGives, TakesAt};
 
 use super::KLog;
-use super::append::ENTERING;
 use crate::fetched::Fetched;
 use crate::gathered::Gathered;
 use crate::oldest::Oldest;
@@ -21,7 +20,7 @@ use crate::taken_record::TakenRecord;
 use crate::taken_records::TakenRecords;
 use klog_index::{Entry, Place};
 use page_device::PageDevice;
-use record_pages::RecordRef;
+use record_pages::{Prediction, RecordRef};
 use std::alloc::{AllocError, Global};
 
 /// The most records of a set that are taken at once.
@@ -71,7 +70,7 @@ impl<const PAGE: usize> KLog<PAGE> {
     }
 
     /// Reads the record of a live entry of the oldest segment on the device, drops it there, and adds it anew with
-    /// prediction 6, as the newest. No memory is taken.
+    /// the entering prediction, as the newest. No memory is taken.
     pub fn readmit<D: PageDevice<PAGE>>(&mut self, device: &mut D, entry: &Entry) -> Readmitted
         requires page_size { IsPageSize PAGE }
         requires room { HasRoom (D.page_count device.old) self.old }
@@ -255,7 +254,7 @@ impl<const PAGE: usize> KLog<PAGE> {
         let anew = RecordRef {
             key: found.key,
             value: found.value,
-            prediction: ENTERING,
+            prediction: Prediction::ENTERING,
         };
         if self.enter(entry.set, entry.tag, anew) {
             Readmitted::Readmitted

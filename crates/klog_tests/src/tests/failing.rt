@@ -1,0 +1,173 @@
+//! Each call of the device refused in turn, alone and with all later ones.
+use super::*;
+
+// A script that calls the device once in its second flush, its look-ups of records that are on the device and its
+// readmission, and twice in its taking.
+const WHOLE: [Step; 10] = [
+    ADDS_A,
+    ADDS_B,
+    SEALS,
+    WRITES,
+    FINDS_A,
+    TAKES_BOTH,
+    READMITS,
+    FINDS_A,
+    FINDS_B,
+    Step::Count(2),
+];
+
+// The write is refused.
+const UNWRITTEN: [Step; 11] = [
+    ADDS_A,
+    ADDS_B,
+    SEALS,
+    Step::Flush(Flushed::PageLost),
+    MISSES_A,
+    Step::Empty,
+    Step::Take(&[]),
+    READMITS_NONE,
+    MISSES_A,
+    MISSES_B,
+    Step::Count(0),
+];
+
+// The first look-up is refused, and then that and all that follows.
+const UNREAD: [Step; 10] = [
+    ADDS_A,
+    ADDS_B,
+    SEALS,
+    WRITES,
+    Step::Look(b"ax", Seen::Fault),
+    TAKES_BOTH_UNREAD,
+    READMITS,
+    FINDS_A,
+    FINDS_B,
+    Step::Count(2),
+];
+
+const UNREAD_FOR_GOOD: [Step; 10] = [
+    ADDS_A,
+    ADDS_B,
+    SEALS,
+    WRITES,
+    Step::Look(b"ax", Seen::Fault),
+    Step::TakeLost,
+    READMITS_NONE,
+    MISSES_A,
+    MISSES_B,
+    Step::Count(0),
+];
+
+// A read of the taking is refused.
+const UNTAKEN: [Step; 10] = [
+    ADDS_A,
+    ADDS_B,
+    SEALS,
+    WRITES,
+    FINDS_A,
+    Step::TakeLost,
+    READMITS_NONE,
+    MISSES_A,
+    MISSES_B,
+    Step::Count(0),
+];
+
+// The read of the readmission is refused.
+const UNMOVED: [Step; 10] = [
+    ADDS_A,
+    ADDS_B,
+    SEALS,
+    WRITES,
+    FINDS_A,
+    TAKES_BOTH,
+    Step::Readmit(Some(Readmitted::Fault)),
+    MISSES_A,
+    MISSES_B,
+    Step::Count(0),
+];
+
+// The last look-up is refused.
+const UNFOUND: [Step; 10] = [
+    ADDS_A,
+    ADDS_B,
+    SEALS,
+    WRITES,
+    FINDS_A,
+    TAKES_BOTH,
+    READMITS,
+    FINDS_A,
+    Step::Look(b"bx", Seen::Fault),
+    Step::Count(2),
+];
+
+const ADDS_A: Step = Step::Append(b"ax", b"1", ADDED);
+
+const ADDS_B: Step = Step::Append(b"bx", b"2", ADDED);
+
+const SEALS: Step = Step::Flush(Flushed::Sealed);
+
+const WRITES: Step = Step::Flush(Flushed::Wrote);
+
+const FINDS_A: Step = Step::Look(b"ax", Seen::Value(b"1"));
+
+const FINDS_B: Step = Step::Look(b"bx", Seen::Value(b"2"));
+
+const MISSES_A: Step = Step::Look(b"ax", Seen::Absent);
+
+const MISSES_B: Step = Step::Look(b"bx", Seen::Absent);
+
+const READMITS: Step = Step::Readmit(Some(Readmitted::Readmitted));
+
+const READMITS_NONE: Step = Step::Readmit(None);
+
+const A: Kept = Kept {
+    key: b"ax",
+    value: b"1",
+    prediction: 5,
+    place: FIRST,
+};
+
+const A_UNREAD: Kept = Kept { prediction: 6, ..A };
+
+const B: Kept = Kept {
+    key: b"bx",
+    value: b"2",
+    prediction: 6,
+    place: Place { slot: 1, ..FIRST },
+};
+
+const TAKES_BOTH: Step = Step::Take(&[B, A]);
+
+const TAKES_BOTH_UNREAD: Step = Step::Take(&[B, A_UNREAD]);
+
+// What comes where each call of the device is refused alone, and where it is refused with all later ones.
+const REFUSED: [(&[Step], &[Step]); 7] = [
+    (&UNWRITTEN, &UNWRITTEN),
+    (&UNREAD, &UNREAD_FOR_GOOD),
+    (&UNTAKEN, &UNTAKEN),
+    (&UNTAKEN, &UNTAKEN),
+    (&UNMOVED, &UNMOVED),
+    (&UNFOUND, &UNFOUND),
+    (&WHOLE, &WHOLE),
+];
+
+fn refused_alone(rt: &impl Abort, alloc: Global, call: u32, steps: &[Step]) -> Result<(), Fail> {
+    let mut owner: Owner<Fused, 256> = log(alloc, ONE_SET, FuseDevice::one(device(alloc)?, call))?;
+    run(rt, alloc, &mut owner, steps)
+}
+
+fn refused_from(rt: &impl Abort, alloc: Global, call: u32, steps: &[Step]) -> Result<(), Fail> {
+    let mut owner: Owner<Fused, 256> = log(alloc, ONE_SET, FuseDevice::from(device(alloc)?, call))?;
+    run(rt, alloc, &mut owner, steps)
+}
+
+#[test]
+fn each_refused_call_of_the_device_is_told(rt: HostRuntime) -> Result<(), Fail> {
+    let alloc = rt.alloc();
+    for number in 0..7u32 {
+        let (alone, for_good) = REFUSED[number as usize];
+        refused_alone(&rt, alloc, number + 1, alone)?;
+        refused_from(&rt, alloc, number + 1, for_good)?;
+    }
+    Ok(())
+}

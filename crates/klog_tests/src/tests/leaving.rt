@@ -1,0 +1,187 @@
+//! What leaves the log: sets that are taken, and records that are readmitted.
+use super::retried::{append, take};
+use super::*;
+
+const TAKEN_FROM_MEMORY: [Step; 7] = [
+    Step::Append(b"ax", b"1", ADDED),
+    Step::Append(b"bx", b"2", ADDED),
+    Step::Look(b"ax", Seen::Value(b"1")),
+    Step::Take(&[
+        Kept {
+            key: b"bx",
+            value: b"2",
+            prediction: 6,
+            place: SECOND,
+        },
+        Kept {
+            key: b"ax",
+            value: b"1",
+            prediction: 5,
+            place: FIRST,
+        },
+    ]),
+    Step::Drop(FIRST),
+    Step::Look(b"ax", Seen::Absent),
+    Step::Look(b"bx", Seen::Value(b"2")),
+];
+
+const SECOND: Place = Place { slot: 1, ..FIRST };
+
+#[test]
+fn a_set_is_taken_from_memory_newest_first(rt: HostRuntime) -> Result<(), Fail> {
+    let alloc = rt.alloc();
+    let mut owner: Owner<Fused, 256> = log(alloc, ONE_SET, refusing(alloc)?)?;
+    run(&rt, alloc, &mut owner, &TAKEN_FROM_MEMORY)
+}
+
+type Wide = FuseDevice<MemoryDevice<4096>>;
+
+// Segments of two pages.
+const TWO_PAGES: Config = Config {
+    lanes: 1,
+    sets: 1,
+    memory: 1,
+    segments: 2,
+    segment_pages: 2,
+    entries: 128,
+    threshold: 1,
+    admit: 65536,
+};
+
+// The second page is lost, and with it one record.
+const LOSES_THE_SECOND_PAGE: [Step; 7] = [
+    Step::Flush(Flushed::Sealed),
+    Step::Flush(Flushed::Wrote),
+    Step::Flush(Flushed::PageLost),
+    Step::Count(64),
+    Step::Look(&[64], Seen::Absent),
+    Step::Look(&[63], Seen::Value(&[63])),
+    Step::Look(&[0], Seen::Value(&[0])),
+];
+
+// Appends 65 records, each of which has its number as its key and value, and says whether all entered.
+fn fills(alloc: Global, owner: &mut Owner<Wide, 4096>) -> Result<bool, Fail> {
+    for number in 0..65u8 {
+        if append(alloc, owner, &[number], &[number])? != ADDED {
+            return Ok(false);
+        }
+    }
+    Ok(true)
+}
+
+// Whether a record that was taken has this number, which tells its place.
+fn is_numbered(record: &TakenRecord, number: u8) -> bool {
+    let place = Place {
+        segment: 0,
+        page: number / 64,
+        slot: number % 64,
+    };
+    record.stored.key.bytes() == [number].as_slice() && record.place == place
+}
+
+// Whether these are the 32 newest of the 65 records, newest first.
+fn are_the_newest(taken: SetTaken) -> bool {
+    let SetTaken::Records(records) = taken else {
+        return false;
+    };
+    if records.len() != 32 {
+        return false;
+    }
+    for behind in 0..32u8 {
+        let Some(record) = records.at(behind as usize) else {
+            return false;
+        };
+        if !is_numbered(record, 64 - behind) {
+            return false;
+        }
+    }
+    true
+}
+
+// A log of segments of two pages, on a device whose second call is refused.
+fn wide_log(alloc: Global) -> Result<Owner<Wide, 4096>, Fail> {
+    log(
+        alloc,
+        TWO_PAGES,
+        FuseDevice::one(MemoryDevice::new(alloc, 5)?, 2),
+    )
+}
+
+#[test]
+fn a_page_has_64_records_and_a_taking_32(rt: HostRuntime) -> Result<(), Fail> {
+    let alloc = rt.alloc();
+    let mut owner = wide_log(alloc)?;
+    assert!(rt; fills(alloc, &mut owner)?);
+    assert!(rt; are_the_newest(take(alloc, &mut owner)?));
+    run(&rt, alloc, &mut owner, &LOSES_THE_SECOND_PAGE)
+}
+
+// Two records of 100 bytes on the only segment of the device.
+const TWO_STORED: [Step; 4] = [
+    Step::Append(b"ax", &[1; 100], ADDED),
+    Step::Append(b"bx", &[2; 100], ADDED),
+    Step::Flush(Flushed::Sealed),
+    Step::Flush(Flushed::Wrote),
+];
+
+const READMITTED_OR_LOST: [Step; 10] = [
+    Step::Look(b"ax", Seen::Value(&[1; 100])),
+    Step::Readmit(Some(Readmitted::Readmitted)),
+    Step::Take(&[
+        Kept {
+            key: b"ax",
+            value: &[1; 100],
+            prediction: 6,
+            place: Place {
+                segment: 1,
+                ..FIRST
+            },
+        },
+        Kept {
+            key: b"bx",
+            value: &[2; 100],
+            prediction: 6,
+            place: SECOND,
+        },
+    ]),
+    Step::Look(b"ax", Seen::Value(&[1; 100])),
+    // With 106 bytes in one buffer and 136 in the other none has room for 106 of 238: what is readmitted is dropped.
+    Step::Append(b"cx", &[3; 130], ADDED),
+    Step::Readmit(Some(Readmitted::Dropped)),
+    Step::Look(b"bx", Seen::Absent),
+    Step::Look(b"ax", Seen::Value(&[1; 100])),
+    Step::Readmit(None),
+    Step::Free(true),
+];
+
+#[test]
+fn a_readmitted_record_is_the_newest_or_it_is_lost(rt: HostRuntime) -> Result<(), Fail> {
+    let alloc = rt.alloc();
+    let mut owner = sound_log(alloc)?;
+    run(&rt, alloc, &mut owner, &TWO_STORED)?;
+    run(&rt, alloc, &mut owner, &READMITTED_OR_LOST)
+}
+
+const READMITTED_FROM_A_LOST_PAGE: [Step; 5] = [
+    Step::Look(b"ax", Seen::Damaged),
+    Step::Count(2),
+    Step::Readmit(Some(Readmitted::Damaged)),
+    Step::Count(0),
+    Step::Look(b"bx", Seen::Absent),
+];
+
+const TAKEN_FROM_A_LOST_PAGE: [Step; 2] = [Step::TakeLost, Step::Take(&[])];
+
+#[test]
+fn a_page_that_is_not_the_logs_is_lost(rt: HostRuntime) -> Result<(), Fail> {
+    let alloc = rt.alloc();
+    for steps in [
+        READMITTED_FROM_A_LOST_PAGE.as_slice(),
+        TAKEN_FROM_A_LOST_PAGE.as_slice(),
+    ] {
+        let mut owner: Owner<BlankDevice, 256> = log(alloc, ONE_SET, BlankDevice(3))?;
+        run(&rt, alloc, &mut owner, &TWO_STORED)?;
+        run(&rt, alloc, &mut owner, steps)?;
+    }
+    Ok(())
+}

@@ -1,0 +1,52 @@
+//! Calls that take memory, made once more where it was refused: what lacked memory changed nothing.
+ghost use Rattle.record_pages.specs.Sizes.{IsPageSize};
+
+use super::*;
+
+pub fn append<D: PageDevice<PAGE>, const PAGE: usize>(
+    alloc: Global,
+    owner: &mut Owner<D, PAGE>,
+    bytes: &[u8],
+    stored: &[u8],
+) -> Result<Option<Appended>, Fail>
+    requires { IsPageSize PAGE }
+{
+    let key = key(alloc, bytes)?;
+    let value = value(alloc, stored)?;
+    Ok(owner.append(&key, &value))
+}
+
+pub fn strike<D: PageDevice<PAGE>, const PAGE: usize>(
+    alloc: Global,
+    owner: &mut Owner<D, PAGE>,
+    bytes: &[u8],
+) -> Result<(), Fail> {
+    owner.strike(&key(alloc, bytes)?);
+    Ok(())
+}
+
+pub fn look<D: PageDevice<PAGE>, const PAGE: usize>(
+    alloc: Global,
+    owner: &mut Owner<D, PAGE>,
+    bytes: &[u8],
+) -> Result<Looked, Fail>
+    requires { IsPageSize PAGE }
+{
+    let key = key(alloc, bytes)?;
+    match owner.look(alloc, &key) {
+        Ok(looked) => Ok(looked),
+        Err(_) => Ok(owner.look(alloc, &key)?),
+    }
+}
+
+pub fn take<D: PageDevice<PAGE>, const PAGE: usize>(
+    alloc: Global,
+    owner: &mut Owner<D, PAGE>,
+) -> Result<SetTaken, Fail>
+    requires { IsPageSize PAGE }
+{
+    match owner.take(alloc, 0) {
+        Ok(taken) => Ok(taken),
+        Err(_) => Ok(owner.take(alloc, 0)?),
+    }
+}

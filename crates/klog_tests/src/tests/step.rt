@@ -1,0 +1,147 @@
+//! Calls of a log, each with what it gives.
+ghost use Rattle.record_pages.specs.Sizes.{IsPageSize};
+
+use super::retried::{append, look, strike, take};
+use super::*;
+
+/// A record that a taking gives.
+#[derive(Clone, Copy)]
+pub struct Kept {
+    pub key: &'static [u8],
+    pub value: &'static [u8],
+    pub prediction: u8,
+    pub place: Place,
+}
+
+/// A call of a log on set 0, and what it gives.
+#[derive(Clone, Copy)]
+pub enum Step {
+    /// A key, its value, and what becomes of the record.
+    Append(&'static [u8], &'static [u8], Option<Appended>),
+    /// A key, and what is seen of it.
+    Look(&'static [u8], Seen),
+    /// A key.
+    Strike(&'static [u8]),
+    Flush(Flushed),
+    /// The oldest segment's first record: its tag, place and prediction.
+    First(u16, Place, u8),
+    /// No segment is on the device.
+    NoSegment,
+    /// The oldest segment has no live record.
+    Empty,
+    /// The records that are taken.
+    Take(&'static [Kept]),
+    /// A taking that meets a lost page.
+    TakeLost,
+    Drop(Place),
+    Readmit(Option<Readmitted>),
+    /// Whether the oldest segment is freed.
+    Free(bool),
+    /// How many live records there are.
+    Count(usize),
+}
+
+/// Makes each of these calls, which gives what is written beside it.
+pub fn run<D: PageDevice<PAGE>, const PAGE: usize>(
+    rt: &impl Abort,
+    alloc: Global,
+    owner: &mut Owner<D, PAGE>,
+    steps: &[Step],
+) -> Result<(), Fail>
+    requires { IsPageSize PAGE }
+{
+    for number in 0..steps.len() {
+        assert!(rt; gives(alloc, owner, &steps[number])?, "step {number}");
+    }
+    Ok(())
+}
+
+// Whether a call gives what is written beside it.
+fn gives<D: PageDevice<PAGE>, const PAGE: usize>(
+    alloc: Global,
+    owner: &mut Owner<D, PAGE>,
+    step: &Step,
+) -> Result<bool, Fail>
+    requires { IsPageSize PAGE }
+{
+    match step {
+        Step::Append(key, value, wanted) => Ok(append(alloc, owner, key, value)? == *wanted),
+        Step::Look(key, wanted) => Ok(is_seen(look(alloc, owner, key)?, wanted)),
+        Step::Strike(key) => {
+            strike(alloc, owner, key)?;
+            Ok(true)
+        }
+        Step::Take(wanted) => are_taken(take(alloc, owner)?, wanted),
+        Step::TakeLost => Ok(is_lost(take(alloc, owner)?)),
+        other => Ok(moves(owner, other)),
+    }
+}
+
+// The same of the calls that take no memory.
+fn moves<D: PageDevice<PAGE>, const PAGE: usize>(owner: &mut Owner<D, PAGE>, step: &Step) -> bool
+    requires { IsPageSize PAGE }
+{
+    match step {
+        Step::Flush(wanted) => owner.flush() == *wanted,
+        Step::First(tag, place, prediction) => is_first(owner.oldest(), *tag, *place, *prediction),
+        Step::NoSegment => owner.oldest() == Oldest::NoSegment,
+        Step::Empty => owner.oldest() == Oldest::Empty,
+        Step::Drop(place) => {
+            owner.drop_taken(0, &[*place]);
+            true
+        }
+        Step::Readmit(wanted) => owner.readmit() == *wanted,
+        Step::Free(wanted) => owner.free() == *wanted,
+        Step::Count(wanted) => owner.count(0) == *wanted,
+        _ => false,
+    }
+}
+
+fn is_seen(looked: Looked, wanted: &Seen) -> bool {
+    match (looked, wanted) {
+        (Looked::Hit(value), Seen::Value(bytes)) => value.bytes() == *bytes,
+        (Looked::Absent, Seen::Absent) => true,
+        (Looked::Fault, Seen::Fault) => true,
+        (Looked::Damaged, Seen::Damaged) => true,
+        _ => false,
+    }
+}
+
+fn is_first(oldest: Oldest, tag: u16, place: Place, prediction: u8) -> bool {
+    let Oldest::First(entry) = oldest else {
+        return false;
+    };
+    entry.set == 0
+        && entry.tag == tag
+        && entry.place == place
+        && entry.prediction.get() == prediction
+}
+
+fn is_lost(taken: SetTaken) -> bool {
+    match taken {
+        SetTaken::PageLost => true,
+        SetTaken::Records(_) => false,
+    }
+}
+
+fn are_taken(taken: SetTaken, wanted: &[Kept]) -> Result<bool, Fail> {
+    let SetTaken::Records(records) = taken else {
+        return Ok(false);
+    };
+    if records.len() != wanted.len() || records.is_empty() != wanted.is_empty() {
+        return Ok(false);
+    }
+    for number in 0..wanted.len() {
+        if !is_kept(records.at(number).ok_or("a record")?, &wanted[number]) {
+            return Ok(false);
+        }
+    }
+    Ok(true)
+}
+
+fn is_kept(record: &TakenRecord, wanted: &Kept) -> bool {
+    record.stored.key.bytes() == wanted.key
+        && record.stored.value.bytes() == wanted.value
+        && record.stored.pred.get() == wanted.prediction
+        && record.place == wanted.place
+}
