@@ -12,17 +12,15 @@ pub struct Threshold {
 }
 
 impl Threshold {
-    /// The prediction that an object enters the log with. With a lower one it was hit there.
-    pub const ENTRY: u8 = 6;
-
-    /// What becomes of an object with this prediction, where the log holds so many objects of its set.
+    /// What becomes of an object with this prediction, where the log holds so many objects of its set. With a lower
+    /// prediction than `Prediction::ENTERING` it was hit there.
     pub fn judge(&self, count: usize, prediction: Prediction) -> Judgement
         ensures { result ≡ judgement_of self.now.least count prediction }
     {
         if count >= self.least as usize {
             return Judgement::Move;
         }
-        if prediction.get() < Self::ENTRY {
+        if prediction.get() < Prediction::ENTERING {
             return Judgement::Readmit;
         }
         Judgement::Drop

@@ -1,15 +1,18 @@
 -- Filters as sets of bits.
-use Rattle.std.proofs.Common.{◌≡◌, ℕ, zero, suc, ◌*◌, ◌/◌, ◌%◌, ◌^◌, ◌<◌, Bool, true, false, ◌&&◌, ◌||◌, List, [], ◌∷◌, ◌++◌, length, get_or, eqb, ltb, bit_and, bit_or, append_assoc, append-nil, refl, sym, ap, subst, ◌∙◌}
+use Rattle.std.proofs.Common.{◌≡◌, ℕ, zero, suc, ◌+◌, ◌*◌, ◌/◌, ◌%◌, ◌^◌, ◌<◌, Bool, true, false, ◌&&◌, ◌||◌, List, [], ◌∷◌, ◌++◌, length, get_or, eqb, ltb, bit_and, bit_or, append_assoc, append-nil, refl, sym, ap, subst, ◌∙◌, ◌↔◌, max, arith, lit<}
 use Rattle.std.proofs.Math.ListN.{set}
 use Rattle.std.proofs.lemmas.Bool.{lt-ltb, eq-eqb, eqb-true, false≢true, and_right, and_from, and_parts, or_left, or_right}
 use Rattle.std.proofs.lemmas.List.Folds.{list_any-append}
-use Rattle.std.proofs.lemmas.Nat.Bits.{bit_at-zero, shr_and_one}
+use Rattle.std.proofs.lemmas.Bool.Decides.{nat_tests}
+use Rattle.std.proofs.lemmas.Nat.Bits.{bit_at-zero, bit_at-lt, bit_at_or, same_from_bits, same_from_bits_below, shr_and_one}
+use Rattle.std.specs.Int.{bit_at}
 use Rattle.std.specs.List.{list_any, concat}
 use Rattle.std.specs.Ordering.{nat_cmp}
 use Rattle.std.specs.Cmp.{nat_cmp_total}
 use Rattle.std.specs.FinSet.{FinSet, empty, contains, insert, from_list, contains-empty, contains-union}
 use Rattle.bloom.specs.Filter.{has_bit, set_bits, with_bits, admits, filter_of}
-use Rattle.bloom.proofs.BitLaws.{same_numbers, contains-insert_nat, contains-set_bits, has_bit-set}
+use Rattle.bit_laws.proofs.PassingLaws.{same_numbers, contains-insert_nat, joins}
+use Rattle.bloom.proofs.BitLaws.{contains-set_bits, has_bit-set}
 
 -- each of four words of zeros is zero
 get_or-zeros : (k : ℕ) → ◌≡◌ {A = ℕ} (get_or (0 ∷ 0 ∷ 0 ∷ 0 ∷ []) k 0) 0
@@ -27,12 +30,57 @@ has_bit-zeros q = rw (get_or-zeros (q / 64), bit_at-zero (q % 64)) refl
 pub set_bits-zeros : set_bits (0 ∷ 0 ∷ 0 ∷ 0 ∷ []) ≡ empty
 set_bits-zeros = same_numbers _ _ (λ q. contains-set_bits _ q ∙ and_right (ltb q 256) _ (has_bit-zeros q) ∙ sym (contains-empty nat_cmp q))
 
--- a member that joins a set of numbers below a bound, itself below it
-joins : (below same has joined : Bool) → (same ≡ true → below ≡ true) → joined ≡ (same || has) → (below && joined) ≡ (same || (below && has))
-joins true true has joined within is = is
-joins true false has joined within is = is
-joins false true has joined within is = absurd (false≢true (within refl))
-joins false false has joined within is = refl
+-- a word of a filter with no bit has none
+word-none : (words : List ℕ) (k : ℕ) → k < 4 → get_or words k 0 < 2 ^ 64 → set_bits words ≡ empty → get_or words k 0 ≡ 0
+word-none words k within range none = same_from_bits_below 64 (get_or words k 0) 0 range (lit< tt) (λ i below. zero_at i below ∙ sym (bit_at-zero i))
+  where
+    at : (i : ℕ) → i < 64 → (ltb (k * 64 + i) 256 && eqb (bit_at (get_or words ((k * 64 + i) / 64) 0) ((k * 64 + i) % 64)) 1) ≡ false
+    at i below = sym (contains-set_bits words (k * 64 + i)) ∙ ap (λ s. contains s (k * 64 + i)) none ∙ contains-empty nat_cmp (k * 64 + i)
+
+    zero_at : (i : ℕ) → i < 64 → bit_at (get_or words k 0) i ≡ 0
+    zero_at i below =
+        let word : (k * 64 + i) / 64 ≡ k = omega arith in
+        let bit : (k * 64 + i) % 64 ≡ i = omega arith in
+        let here : (true && eqb (bit_at (get_or words k 0) i) 1) ≡ false =
+        sym (rw (word, bit, lt-ltb (k * 64 + i) 256 (omega arith)) refl) ∙ at i below in
+        let small = bit_at-lt (get_or words k 0) i in
+        grind (arith, nat_tests)
+
+-- numbers of which no bit is one
+or-zero : (a b : ℕ) → bit_or a b ≡ 0 → (a ≡ 0) × (b ≡ 0)
+or-zero a b none = (same_from_bits a 0 (λ i. here i ∙ sym (bit_at-zero i)), same_from_bits b 0 (λ i. there i ∙ sym (bit_at-zero i)))
+  where
+    both : (i : ℕ) → max (bit_at a i) (bit_at b i) ≡ 0
+    both i = sym (bit_at_or a b i) ∙ ap (λ n. bit_at n i) none ∙ bit_at-zero i
+
+    here : (i : ℕ) → bit_at a i ≡ 0
+    here i = let h = both i in omega arith
+
+    there : (i : ℕ) → bit_at b i ≡ 0
+    there i = let h = both i in omega arith
+
+-- words of which each is zero
+zeros-from : (words : List ℕ) → length words ≡ 4 → get_or words 0 0 ≡ 0 → get_or words 1 0 ≡ 0 → get_or words 2 0 ≡ 0 → get_or words 3 0 ≡ 0 → words ≡ 0 ∷ 0 ∷ 0 ∷ 0 ∷ []
+zeros-from [] len first second third fourth = absurd (omega arith)
+zeros-from (a ∷ []) len first second third fourth = absurd (omega arith)
+zeros-from (a ∷ b ∷ []) len first second third fourth = absurd (omega arith)
+zeros-from (a ∷ b ∷ c ∷ []) len first second third fourth = absurd (omega arith)
+zeros-from (a ∷ b ∷ c ∷ d ∷ []) len first second third fourth = cc
+zeros-from (a ∷ b ∷ c ∷ d ∷ e ∷ more) len first second third fourth = absurd (omega arith)
+
+-- the test of four words tells whether the set of their bits is empty
+pub tells-empty : (words : List ℕ) → length words ≡ 4 → get_or words 0 0 < 2 ^ 64 → get_or words 1 0 < 2 ^ 64 → get_or words 2 0 < 2 ^ 64 → get_or words 3 0 < 2 ^ 64 →
+    eqb (bit_or (bit_or (bit_or (get_or words 0 0) (get_or words 1 0)) (get_or words 2 0)) (get_or words 3 0)) 0 ≡ true ↔ set_bits words ≡ empty
+tells-empty words len first second third fourth =
+    let zeros : (bit_or (bit_or (bit_or (get_or words 0 0) (get_or words 1 0)) (get_or words 2 0)) (get_or words 3 0) ≡ 0) → set_bits words ≡ empty =
+    λ none.
+    let last = or-zero _ _ none in
+    let before = or-zero _ _ last.0 in
+    let front = or-zero _ _ before.0 in
+    ap set_bits (zeros-from words len front.0 front.1 before.1 last.1) ∙ set_bits-zeros in
+    let back : set_bits words ≡ empty → eqb (bit_or (bit_or (bit_or (get_or words 0 0) (get_or words 1 0)) (get_or words 2 0)) (get_or words 3 0)) 0 ≡ true =
+    λ none. rw (word-none words 0 (lit< tt) first none, word-none words 1 (lit< tt) second none, word-none words 2 (lit< tt) third none, word-none words 3 (lit< tt) fourth none) refl in
+    ((λ t. zeros (eqb-true _ 0 t)), back)
 
 -- a bit joins the set where it is set in its word
 pub set_bits-set : (words : List ℕ) (bit : ℕ) → length words ≡ 4 → bit < 256 →

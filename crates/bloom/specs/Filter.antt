@@ -1,14 +1,10 @@
 -- A Bloom filter as the set of the numbers of its bits.
-use Rattle.std.specs.Prelude.{ℕ, zero, suc, ◌/◌, ◌%◌, Bool, ◌==◌, List, slice_index, if◌then◌else◌}
+use Rattle.std.specs.Prelude.{ℕ, ◌/◌, ◌%◌, Bool, ◌==◌, List, slice_index}
 use Rattle.std.specs.List.{list_all, concat}
 use Rattle.std.specs.Int.{bit_at}
 use Rattle.std.specs.Ordering.{nat_cmp}
-use Rattle.std.specs.FinSet.{FinSet, empty, contains, insert, union, from_list}
-
--- the numbers below n that pass a test
-abbrev pub passing_below : (ℕ → Bool) → ℕ → FinSet nat_cmp
-passing_below test zero = empty
-passing_below test (suc n) = if test n then insert (passing_below test n) n else passing_below test n
+use Rattle.std.specs.FinSet.{FinSet, contains, union, from_list}
+use Rattle.bit_laws.specs.Passing.{passing_below}
 
 -- the bit with this number, 64 of them a word, is one
 abbrev pub has_bit : List ℕ → ℕ → Bool

@@ -1,5 +1,5 @@
 // The filter of one set of keys.
-ghost use Rattle.std.specs.Prelude.{◌≡◌, ◌<◌, ℕ, List, IsTrue, length};
+ghost use Rattle.std.specs.Prelude.{◌≡◌, ◌↔◌, ℕ, List, IsTrue};
 ghost use Rattle.std.specs.Ordering.{nat_cmp};
 ghost use Rattle.std.specs.FinSet as set;
 ghost use Rattle.std.specs.Coded.{coded_ℕ};
@@ -31,6 +31,14 @@ impl Filter {
         ensures { result ≡ set.empty }
     {
         Filter { words: [0; 4] }
+    }
+
+    /// Whether the filter has no bit, so that it denies each key.
+    pub fn is_empty(&self) -> bool
+        ensures { IsTrue result ↔ (self.now ≡ set.empty) }
+    {
+        let [first, second, third, fourth] = self.words;
+        first | second | third | fourth == 0
     }
 
     /// Adds the bits of a key.

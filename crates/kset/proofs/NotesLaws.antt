@@ -10,7 +10,7 @@ use Rattle.std.proofs.lemmas.List.{take_more_set, get_or-set_same}
 use Rattle.std.proofs.lemmas.Bool.{le-leb}
 use Rattle.std.specs.FinSet.{FinSet, empty, contains, insert, len, from_list, from_list_push, contains-empty, len-insert, nat_cmp-IsAntisymmetric}
 use Rattle.bloom.specs.Filter.{admits}
-use Rattle.bloom.proofs.BitLaws.{same_numbers, contains-insert_nat}
+use Rattle.bit_laws.proofs.PassingLaws.{same_numbers, contains-insert_nat}
 use Rattle.set_hash.specs.Place.{probes_of, probe_of}
 use Rattle.kset.specs.Notes.{Notes, no_notes, lets_show, struck}
 use Rattle.kset.specs.Sets.{SetsState, set_count, notes_of, with_notes, struck_in}

@@ -6,7 +6,7 @@ use Rattle.std.specs.Prelude.{nat_le}
 use Rattle.std.specs.FinSet.{contains, insert, len}
 use Rattle.std.specs.declared.alloc.AllocError.{AllocError}
 use Rattle.bloom.specs.Filter.{admits}
-use Rattle.bloom.proofs.BitLaws.{contains-insert_nat}
+use Rattle.bit_laws.proofs.PassingLaws.{contains-insert_nat}
 use Rattle.page_device.specs.Device.{IsKnown}
 use Rattle.page_device.specs.Frames.{pages_before}
 use Rattle.set_hash.specs.Fnv.{fnv1a}

@@ -6,5 +6,4 @@ pub mod Look
 pub mod ReadSet
 pub mod Rewrite
 pub mod Telling
-pub mod Owner
 pub mod After

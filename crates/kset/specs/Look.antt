@@ -2,6 +2,7 @@
 use Rattle.std.specs.Prelude.{◌≡◌, ◌<◌, ℕ, List, None, IsSomeAnd, Bool, true, false, Result, Ok, Err}
 use Rattle.std.specs.declared.alloc.AllocError.{AllocError}
 use Rattle.record_pages.specs.Recs.{Rec}
+use Rattle.record_pages.specs.Sizes.{max_records}
 use Rattle.kset.specs.declared.looked.Looked.{Looked}
 use Rattle.kset.specs.declared.looked.Looked.TheVariants as looked
 use Rattle.kset.specs.Sets.{SetsState, hit_in}
@@ -14,7 +15,7 @@ is_fault _ = false
 
 -- a hit notes some slot of the page as hit; else nothing changes
 abbrev pub LookLeaves : SetsState → ℕ → Result Looked AllocError → SetsState → Type 0
-LookLeaves old set (Ok (looked.Hit value)) new = (slot : ℕ) × (slot < 64) × (new ≡ hit_in old set slot)
+LookLeaves old set (Ok (looked.Hit value)) new = (slot : ℕ) × (slot < max_records) × (new ≡ hit_in old set slot)
 LookLeaves old set (Ok looked.Absent) new = new ≡ old
 LookLeaves old set (Ok looked.Fault) new = new ≡ old
 LookLeaves old set (Ok looked.Damaged) new = new ≡ old

@@ -2,6 +2,7 @@
 use Rattle.std.specs.Prelude.{◌≡◌, ◌<◌, ◌==◌, ℕ, List, Option, Some, None, option_and_then, IsSome, IsSomeAnd, if◌then◌else◌}
 use Rattle.record_pages.specs.PageText.{SetPageParts}
 use Rattle.record_pages.specs.Looking.{first_with}
+use Rattle.record_pages.specs.Sizes.{max_records}
 use Rattle.kset.specs.declared.page.Told.{Told}
 use Rattle.kset.specs.declared.page.Told.TheVariants as told
 
@@ -17,7 +18,7 @@ Tells key None (told.Found slot value) = ⊥
 Tells key (Some p) told.Damaged = ⊥
 Tells key (Some p) told.Absent = first_with key p.records ≡ None
 Tells key (Some p) (told.Found slot value) =
-    (slot < 64) × IsSomeAnd (first_with key p.records) (λ x. (x.0 ≡ slot) × (x.1.value ≡ value))
+    (slot < max_records) × IsSomeAnd (first_with key p.records) (λ x. (x.0 ≡ slot) × (x.1.value ≡ value))
 
 -- there is a page, and a record of it has the key
 abbrev pub HasKey : List ℕ → Option SetPageParts → Type 0

@@ -17,6 +17,3 @@ pub use set_read::SetRead;
 pub use set_record::SetRecord;
 pub use set_records::SetRecords;
 pub use sets::KSet;
-
-#[cfg(test)]
-mod tests;

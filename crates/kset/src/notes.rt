@@ -1,8 +1,9 @@
 // What memory notes of one set.
-ghost use Rattle.std.specs.Prelude.{◌≡◌, ◌≢◌, ◌<◌, ◌↔◌, IsTrue, true, false};
+ghost use Rattle.std.specs.Prelude.{◌≡◌, ◌<◌, ◌↔◌, IsTrue};
 ghost use Rattle.std.specs.FinSet as set;
 ghost use Rattle.bloom.specs.Filter.{with_bits};
 ghost use Rattle.set_hash.specs.Place.{probes_of};
+ghost use Rattle.record_pages.specs.Sizes.{max_records};
 ghost use Rattle.kset.specs.Notes.{Notes, notes_code, no_notes, lets_show, struck, with_hit, notes_of_page};
 
 use crate::strikes::Strikes;
@@ -16,7 +17,6 @@ use std::marker::Model;
 #[derive(Debug, Drop)]
 pub(crate) struct SetNotes {
     filter: Filter,
-    is_filled: bool,
     strikes: Strikes,
     hits: HitBits,
 }
@@ -27,8 +27,6 @@ impl Model for SetNotes {
     ghost coded = { notes_code };
 
     ghost view = { λ n. record { filter = n.filter; strikes = n.strikes; hits = n.hits } };
-
-    ghost invariant = { λ n. (n.is_filled ≡ false → n.filter ≡ set.empty) × (n.is_filled ≡ true → n.filter ≢ set.empty) };
 }
 
 impl SetNotes {
@@ -38,7 +36,6 @@ impl SetNotes {
     {
         SetNotes {
             filter: Filter::empty(),
-            is_filled: false,
             strikes: Strikes::empty(),
             hits: HitBits::empty(),
         }
@@ -63,14 +60,13 @@ impl SetNotes {
         } }
     {
         self.filter.add(placed.probes);
-        self.is_filled = true;
     }
 
     /// Whether the filter has no bit.
     pub(crate) fn is_empty(&self) -> bool
         ensures { IsTrue result ↔ (self.now.filter ≡ set.empty) }
     {
-        !self.is_filled
+        self.filter.is_empty()
     }
 
     /// Whether a key of this place can be in the set.
@@ -96,7 +92,7 @@ impl SetNotes {
 
     /// Notes a hit.
     pub(crate) fn hit(&mut self, slot: usize)
-        requires { slot < 64 }
+        requires { slot < max_records }
         ensures { self.new ≡ with_hit self.old slot }
     {
         self.hits.set(slot);
@@ -104,7 +100,7 @@ impl SetNotes {
 
     /// Whether a slot was hit.
     pub(crate) fn was_hit(&self, slot: usize) -> bool
-        requires { slot < 64 }
+        requires { slot < max_records }
         ensures { result ≡ set.contains self.now.hits slot }
     {
         self.hits.has(slot)

@@ -1,4 +1,5 @@
 pub mod OrderLaws
 pub mod ListLaws
+pub mod SortLaws
 pub mod FittingLaws
 pub mod RankLaws

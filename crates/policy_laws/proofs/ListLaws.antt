@@ -1,10 +1,11 @@
 -- Lists of candidates that stand by rank, and what fits of them.
-use Rattle.std.proofs.Common.{◌≡◌, ℕ, suc, ◌+◌, ◌<◌, ◌≤◌, true, false, ltb, List, [], ◌∷◌, length, ◌⊎◌, inl, inr, ⊎_elim, refl, sym, ap, subst, ◌∙◌, Some, None, unwrap_or, not, take, get_or, arith}
-use Rattle.std.proofs.lemmas.Bool.{cond_both, cases_Bool, ltb-true, ltb-false, cond-true, cond-false}
-use Rattle.std.proofs.lemmas.List.Sums.{sum_by-cons, fold_more}
-use Rattle.std.specs.List.{AllByRecursion, sum_by, fold, insert, position, position_or_len}
+use Rattle.std.proofs.Common.{◌≡◌, ℕ, zero, suc, ◌+◌, true, List, [], ◌∷◌, length, AllPairs, ◌⊎◌, inl, inr, ⊎_elim, refl, sym, ap, subst, ◌∙◌, arith}
+use Rattle.std.proofs.lemmas.Bool.{cond_both}
+use Rattle.std.proofs.lemmas.List.Elements.{recursion_from_All}
+use Rattle.std.proofs.lemmas.List.Sums.{sum_by-cons}
+use Rattle.std.specs.List.{AllByRecursion, sum_by, fold}
 use Rattle.policy_laws.specs.declared.candidate.Candidate.{Candidate}
-use Rattle.policy_laws.specs.Rank.{rank_before, placed_in, by_rank}
+use Rattle.policy_laws.specs.Rank.{rank_before, placed_in}
 use Rattle.policy_laws.proofs.OrderLaws.{before_chain, before_other}
 
 -- the bytes of candidates
@@ -15,6 +16,14 @@ total xs = sum_by (λ x. x.size) xs
 abbrev pub Pairs : (Candidate → Candidate → Type 0) → List Candidate → Type 0
 Pairs R [] = Unit {0}
 Pairs R (x ∷ xs) = AllByRecursion (R x) xs × Pairs R xs
+
+-- what is true of all pairs is true of each and each later one
+pub pairs_from : (R : Candidate → Candidate → Type 0) (xs : List Candidate) → AllPairs R xs → Pairs R xs
+pairs_from R [] all = tt
+pairs_from R (x ∷ xs) all = (
+  recursion_from_All (R x) xs (λ k d within. all zero (suc k) d (omega arith) (omega arith)),
+  pairs_from R xs (λ i j d before within. all (suc i) (suc j) d (omega arith) (omega arith)),
+)
 
 -- a candidate is among others
 abbrev pub Among : Candidate → List Candidate → Type 0
@@ -133,51 +142,3 @@ Pairs_ranks-ranked_from acc (x ∷ xs) had some apart =
 pub Apart-none : (all : List Candidate) → Apart [] all
 Apart-none [] = tt
 Apart-none (x ∷ xs) = (tt, Apart-none xs)
-
--- before the first that it ranks before, or behind all
-abbrev pub place : Candidate → List Candidate → ℕ
-place x ys = unwrap_or (position (rank_before x) ys) (length ys)
-
-place-first : (x y : Candidate) (ys : List Candidate) → rank_before x y ≡ true → position_or_len (rank_before x) (y ∷ ys) ≡ 0
-place-first x y ys t = rw t refl
-
-place-later : (x y : Candidate) (ys : List Candidate) → rank_before x y ≡ false → position_or_len (rank_before x) (y ∷ ys) ≡ suc (position_or_len (rank_before x) ys)
-place-later x y ys f = rw f (omega arith)
-
-place_is : (x : Candidate) (ys : List Candidate) → place x ys ≡ position_or_len (rank_before x) ys
-place_is x ys =
-    cond_both (ltb (position_or_len (rank_before x) ys) (length ys)) (Some (position_or_len (rank_before x) ys)) None (λ o. unwrap_or o (length ys) ≡ position_or_len (rank_before x) ys)
-    (λ _. refl) (λ past. past_all (position_or_len (rank_before x) ys) (ltb-false _ _ past) (within ys))
-  where
-    within : (zs : List Candidate) → position_or_len (rank_before x) zs ≤ length zs
-    within [] = omega arith
-    within (z ∷ zs) = cond_both (not (rank_before x z)) (1 + position_or_len (rank_before x) zs) 0 (λ n. n ≤ suc (length zs)) (λ _. let h = within zs in omega arith) (λ _. omega arith)
-
-    past_all : (n : ℕ) → length ys ≤ n → n ≤ length ys → length ys ≡ n
-    past_all n p q = omega arith
-
--- its place is within the list
-pub place_within : (x : Candidate) (ys : List Candidate) → place x ys ≤ length ys
-place_within x ys =
-    cond_both (ltb (position_or_len (rank_before x) ys) (length ys)) (Some (position_or_len (rank_before x) ys)) None (λ o. unwrap_or o (length ys) ≤ length ys)
-    (λ t. let h = ltb-true (position_or_len (rank_before x) ys) (length ys) t in omega arith) (λ _. omega arith)
-
--- a candidate that is inserted there stands by rank
-pub insert-place : (x : Candidate) (ys : List Candidate) → insert ys (place x ys) x ≡ placed_in x ys
-insert-place x ys = ap (λ n. insert ys n x) (place_is x ys) ∙ at ys
-  where
-    at : (zs : List Candidate) → insert zs (position_or_len (rank_before x) zs) x ≡ placed_in x zs
-    at [] = refl
-    at (z ∷ zs) =
-        ⊎_elim
-        (λ t. ap (λ n. insert (z ∷ zs) n x) (place-first x z zs t) ∙ sym (cond-true (rank_before x z) (x ∷ z ∷ zs) (z ∷ placed_in x zs) t))
-        (λ f. ap (λ n. insert (z ∷ zs) n x) (place-later x z zs f) ∙ ap (λ l. z ∷ l) (at zs) ∙ sym (cond-false (rank_before x z) (x ∷ z ∷ zs) (z ∷ placed_in x zs) f))
-        (cases_Bool (rank_before x z))
-
--- the next candidate stands by rank where it is inserted
-pub by_rank-more : (all ys new : List Candidate) (i at : ℕ) (x : Candidate) → ys ≡ by_rank (take i all) → i < length all → x ≡ get_or all i x →
-    at ≡ place x ys → new ≡ insert ys at x → new ≡ by_rank (take (i + 1) all)
-by_rank-more all ys new i at x were within is there inserted =
-    inserted ∙ ap (λ n. insert ys n x) there ∙ insert-place x ys ∙ ap (placed_in x) were
-    ∙ ap (λ z. placed_in z (by_rank (take i all))) is
-    ∙ sym (fold_more (λ ranked z. placed_in z ranked) [] all i x within)

@@ -63,6 +63,22 @@ before_itself a h = ⊎_elim {C = ⊥} (λ less. omega arith) (λ same. omega ar
 pub before_chain : (a b c : Candidate) → rank_before a b ≡ true → rank_before b c ≡ true → rank_before a c ≡ true
 before_chain a b c p q = before_told a c (Before_chain (key a) a.item (key b) b.item (key c) c.item (before_tells a b p) (before_tells b c q))
 
+Before_either : (n i m j k l : ℕ) → Before n i k l → Before n i m j ⊎ Before m j k l
+Before_either n i m j k l h =
+    ⊎_elim
+    (λ same. ⊎_elim
+    (λ e. inr (⊎_elim {C = Before m j k l} (λ less. inl (omega arith)) (λ tie. inr (omega arith, omega arith)) h))
+    (λ apart. ⊎_elim (λ less. inl (inr (same, less))) (λ more. inr (⊎_elim {C = Before m j k l} (λ less'. inl (omega arith)) (λ tie. inr (omega arith, omega arith)) h)) apart)
+    (cases_order i j))
+    (λ apart. ⊎_elim (λ less. inl (inl less)) (λ more. inr (inl (⊎_elim {C = m < k} (λ less'. omega arith) (λ tie. omega arith) h))) apart)
+    (cases_order n m)
+
+-- what lies between two, one of them ranks before it or it ranks before the other
+pub before_either : (a b c : Candidate) → rank_before a c ≡ true → (rank_before a b ≡ true) ⊎ (rank_before b c ≡ true)
+before_either a b c h =
+    ⊎_elim (λ one. inl (before_told a b one)) (λ other. inr (before_told b c other))
+    (Before_either (key a) a.item (key b) b.item (key c) c.item (before_tells a c h))
+
 -- of two candidates with different numbers one ranks before the other
 pub before_other : (a b : Candidate) → (a.item ≡ b.item → ⊥) → rank_before a b ≡ false → rank_before b a ≡ true
 before_other a b differ not_before =

@@ -3,6 +3,7 @@ ghost use Rattle.std.specs.Prelude.{◌≡◌};
 
 use crate::rank::Rank;
 use record_pages::Prediction;
+use std::cmp::Ordering;
 
 /// An item that a policy may keep.
 #[derive(Clone, Copy, Debug, PartialEq, Eq)]
@@ -18,6 +19,7 @@ pub struct Candidate {
 }
 
 impl Candidate {
+    ghost use Rattle.std.specs.Ordering.{is_lt};
     ghost use Rattle.policy_laws.specs.Rank.{rank_before};
 
     /// Whether this candidate ranks before the other one.
@@ -31,5 +33,17 @@ impl Candidate {
             return other.rank.late;
         }
         self.item < other.item
+    }
+    // Less where this candidate ranks before the other one.
+    pub(crate) fn order(&self, other: &Candidate) -> Ordering
+        ensures { is_lt result ≡ rank_before self.now other.now }
+    {
+        if self.ranks_before(other) {
+            return Ordering::Less;
+        }
+        if other.ranks_before(self) {
+            return Ordering::Greater;
+        }
+        Ordering::Equal
     }
 }

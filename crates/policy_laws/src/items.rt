@@ -67,4 +67,19 @@ impl Items {
     {
         self.items.as_slice()
     }
+    /// The list of the items.
+    pub fn into_vec(self) -> Vec<Item>
+        ensures { result.items ≡ self }
+    {
+        self.items
+    }
+}
+
+/// The items of a list, in its order.
+impl From<Vec<Item>> for Items {
+    ghost from_gives = { λ items made. made ≡ items.items };
+
+    fn from(items: Vec<Item>) -> Items {
+        Items { items }
+    }
 }

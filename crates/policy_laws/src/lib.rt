@@ -23,5 +23,5 @@ pub use plan::Plan;
 pub use policy::EvictionPolicy;
 pub use pre_flash::PreFlash;
 pub use rank::Rank;
-pub use ranking::{MAX_KEPT, plan_by_rank};
+pub use ranking::plan_by_rank;
 

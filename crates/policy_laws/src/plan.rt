@@ -60,4 +60,19 @@ impl Plan {
     {
         self.choices[index]
     }
+    /// The kept items, in their order.
+    pub fn into_vec(self) -> Vec<Choice>
+        ensures { result.items ≡ self }
+    {
+        self.choices
+    }
+}
+
+/// The plan that keeps these items, in their order.
+impl From<Vec<Choice>> for Plan {
+    ghost from_gives = { λ choices made. made ≡ choices.items };
+
+    fn from(choices: Vec<Choice>) -> Plan {
+        Plan { choices }
+    }
 }

@@ -1,17 +1,15 @@
 // The plan that keeps items by rank.
-ghost use Rattle.std.specs.Prelude.{◌≡◌, ◌≢◌, IfOk, AllPairs, position};
-ghost use Rattle.policy_laws.specs.Rank.{KeepsByRank, by_rank, rank_before, plan_by_rank as plan_of};
+ghost use Rattle.std.specs.Prelude.{◌≡◌, ◌≢◌, IfOk, AllPairs};
+ghost use Rattle.policy_laws.specs.Rank.{KeepsByRank, by_rank, plan_by_rank as plan_of};
 
 use crate::candidate::Candidate;
 use crate::choice::Choice;
 use crate::plan::Plan;
+use record_pages::MAX_RECORDS;
 use std::alloc::{AllocError, Global};
 
-/// The most items that are kept.
-pub const MAX_KEPT: usize = 64;
-
 /// The plan that keeps each candidate that fits beside the kept ones that rank before it: its size and theirs
-/// are within the room, and there are fewer than `MAX_KEPT` of them. `AllocError` where memory was refused.
+/// are within the room, and there are fewer than `MAX_RECORDS` of them. `AllocError` where memory was refused.
 pub fn plan_by_rank(alloc: Global, room: u32, candidates: &[Candidate]) -> Result<Plan, AllocError>
     ensures plan { IfOk result (λ plan. plan ≡ plan_of room candidates.now) }
     ensures by_rank { AllPairs (λ a b. a.item ≢ b.item) candidates.now →
@@ -21,7 +19,7 @@ pub fn plan_by_rank(alloc: Global, room: u32, candidates: &[Candidate]) -> Resul
     let mut plan = Plan::new(alloc);
     let mut left = room;
     for candidate in &ranked {
-        if candidate.size <= left && plan.len() < MAX_KEPT {
+        if candidate.size <= left && plan.len() < MAX_RECORDS {
             left -= candidate.size;
             plan.push(Choice {
                 item: candidate.item,
@@ -37,18 +35,7 @@ fn in_rank_order(alloc: Global, candidates: &[Candidate]) -> Result<Vec<Candidat
     ensures { IfOk result (λ ranked. ranked.items ≡ by_rank candidates.now) }
 {
     let mut ranked = Vec::new(alloc);
-    for candidate in candidates {
-        let place = first_behind(candidate, &ranked).unwrap_or(ranked.len());
-        ranked.insert(place, *candidate)?;
-    }
+    ranked.extend_from_slice(candidates)?;
+    ranked.sort_by(|one, other| one.order(other))?;
     Ok(ranked)
-}
-
-// The first of candidates that stand by rank before which another one ranks.
-fn first_behind(candidate: &Candidate, ranked: &[Candidate]) -> Option<usize>
-    ensures { result ≡ position (rank_before candidate.now) ranked.now }
-{
-    ranked
-        .iter()
-        .position(|other| candidate.ranks_before(other))
 }

@@ -1,13 +1,9 @@
 -- The places of a page as the bits of one word.
-use Rattle.std.specs.Prelude.{ℕ, zero, suc, Bool, ◌==◌, if◌then◌else◌}
+use Rattle.std.specs.Prelude.{ℕ, ◌==◌}
 use Rattle.std.specs.Int.{bit_at}
 use Rattle.std.specs.Ordering.{nat_cmp}
-use Rattle.std.specs.FinSet.{FinSet, empty, insert}
-
--- the numbers below n that pass a test
-abbrev pub passing_below : (ℕ → Bool) → ℕ → FinSet nat_cmp
-passing_below test zero = empty
-passing_below test (suc n) = if test n then insert (passing_below test n) n else passing_below test n
+use Rattle.std.specs.FinSet.{FinSet}
+use Rattle.bit_laws.specs.Passing.{passing_below}
 
 -- the numbers of the bits of a word that are one
 unfoldable pub bits_of : ℕ → FinSet nat_cmp

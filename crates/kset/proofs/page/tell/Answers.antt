@@ -3,6 +3,7 @@ use Rattle.std.specs.Prelude.{IsSomeAnd}
 use Rattle.record_pages.specs.Recs.{Rec}
 use Rattle.record_pages.specs.Lent.{record_shown}
 use Rattle.record_pages.specs.Looking.{first_with}
+use Rattle.record_pages.specs.Sizes.{max_records}
 use Rattle.record_pages.specs.PageText.{SetPageParts}
 use Rattle.kset.specs.declared.page.Told.TheVariants.{Found}
 use Rattle.kset.specs.Telling.{Tells}
@@ -20,7 +21,7 @@ returns-clause-tells g c =
     ap (λ (k : List ℕ). first_with k page.records) (sym c.bytes.ensures.value)
     ∙ ap (λ (rs : List Rec). first_with c.bytes.result.now rs) (sym c.records.ensures)
     ∙ sym c.in-Some-find_key.ensures.value in
-    let within : slot < 64 = omega (arith, first_within key 0 page.records (slot, shown) found, c.in-Some.ensures.few) in
+    let within : slot < max_records = omega (arith, first_within key 0 page.records (slot, shown) found, c.in-Some.ensures.few) in
     let P : Option (ℕ × Rec) → Type 0 = λ o. IsSomeAnd o (λ x. (x.0 ≡ slot) × (x.1.value ≡ value)) in
     let told : Tells key (Some page) (Found slot value) = (within, subst P (sym found) (refl, sym c.in-Ok.ensures.ok.0)) in
     subst (λ (o : Option SetPageParts). Tells key o (Found slot value)) c.in-Some.ensures.page told

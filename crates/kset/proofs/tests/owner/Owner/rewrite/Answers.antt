@@ -1,9 +1,0 @@
-use Rattle.kset.proofs.OwnerLaws.{kept}
-use Rattle.kset.proofs.tests.owner.Owner.rewrite.Goals as goal
-
-pub invariant_of-self : goal.invariant_of-self
-invariant_of-self g c =
-    let s = c.self.inside in
-    let d = g.D.PageDevice in
-    kept g.row.PAGE s.layout.sets d.page_count d.honest d.held (record { device = s.device; sets = s.sets }) (record { device = c.rewrite.new.device; sets = c.rewrite.new.self }) c.self.invariant
-    c.rewrite.ensures.sizes c.rewrite.ensures.pages c.rewrite.ensures.honest c.rewrite.ensures.spelled

@@ -1,0 +1,118 @@
+//! What is found of what was written.
+use super::retried::{page, read};
+use super::*;
+
+const FOUND_UNTIL_STRUCK: [Step; 10] = [
+    WRITES,
+    FINDS_A,
+    Step::Read(&[AX_HIT, BX]),
+    Step::Strike(b"bx"),
+    Step::Look(b"bx", Seen::Absent),
+    Step::Read(&[AX_HIT]),
+    Step::Forget,
+    MISSES_A,
+    Step::Read(&[]),
+    // The fifth call of the device.
+    FORGETS,
+];
+
+#[test]
+fn written_records_are_found_until_they_are_struck_or_forgotten(
+    rt: HostRuntime,
+) -> Result<(), Fail> {
+    let alloc = rt.alloc();
+    let mut owner: Owner<Fused, 256> = sets(alloc, FuseDevice::one(device(alloc)?, 5))?;
+    run(&rt, alloc, &mut owner, &FOUND_UNTIL_STRUCK)
+}
+
+#[test]
+fn what_was_written_is_found(rt: HostRuntime) -> Result<(), Fail> {
+    let alloc = rt.alloc();
+    let mut owner = sound_sets(alloc)?;
+    let writer = page(alloc, &PAIR)?;
+    let Some(Looked::Hit(value)) = owner.rewrite_and_look(alloc, &key(alloc, b"bx")?, &writer)?
+    else {
+        return Err("no value".into());
+    };
+    assert_eq!(rt; value.bytes(), b"2".as_slice());
+    Ok(())
+}
+
+const TWO_OF_ONE_KEY: [Pair; 3] = [(b"ab", b"1"), (b"cd", b"2"), (b"cd", b"3")];
+
+const AB: Listed = Listed {
+    key: b"ab",
+    value: b"1",
+    hit: false,
+};
+
+const FIRST: Listed = Listed {
+    key: b"cd",
+    value: b"2",
+    hit: false,
+};
+
+const FIRST_HIT: Listed = Listed { hit: true, ..FIRST };
+
+const SECOND: Listed = Listed {
+    key: b"cd",
+    value: b"3",
+    hit: false,
+};
+
+const THE_FIRST_OF_TWO: [Step; 5] = [
+    Step::Rewrite(&TWO_OF_ONE_KEY, Rewritten::Written),
+    Step::Look(b"cd", Seen::Value(b"2")),
+    Step::Read(&[AB, FIRST_HIT, SECOND]),
+    // A rewriting clears the hits.
+    Step::Rewrite(&TWO_OF_ONE_KEY, Rewritten::Written),
+    Step::Read(&[AB, FIRST, SECOND]),
+];
+
+#[test]
+fn the_first_of_two_records_with_a_key_is_found(rt: HostRuntime) -> Result<(), Fail> {
+    let alloc = rt.alloc();
+    run(&rt, alloc, &mut sound_sets(alloc)?, &THE_FIRST_OF_TWO)
+}
+
+type Wide = MemoryDevice<4096>;
+
+// Writes 63 records of one key, and one of another.
+fn fill(rt: &impl Abort, alloc: Global, owner: &mut Owner<Wide, 4096>) -> Result<(), Fail> {
+    let mut pairs: Vec<Pair> = vec![in alloc; (b"a".as_slice(), b"1".as_slice()); MAX_RECORDS - 1]?;
+    pairs.push((b"b", b"2"))?;
+    let written = owner.rewrite(&key(alloc, b"b")?, &page(alloc, &pairs)?);
+    assert_eq!(rt; written, Rewritten::Written);
+    Ok(())
+}
+
+// Whether these are so many records as fit on a page, of which the last alone is hit.
+fn is_last_alone_hit(read: SetRead) -> bool {
+    let SetRead::Records(records) = read else {
+        return false;
+    };
+    if records.len() != MAX_RECORDS {
+        return false;
+    }
+    for number in 0..records.len() {
+        if records.at(number).hit != (number + 1 == MAX_RECORDS) {
+            return false;
+        }
+    }
+    true
+}
+
+#[test]
+fn the_last_of_64_slots_is_hit(rt: HostRuntime) -> Result<(), Fail> {
+    let alloc = rt.alloc();
+    let mut owner: Owner<Wide, 4096> = sets(alloc, MemoryDevice::new(alloc, 3)?)?;
+    fill(&rt, alloc, &mut owner)?;
+    run(
+        &rt,
+        alloc,
+        &mut owner,
+        &[Step::Look(b"b", Seen::Value(b"2"))],
+    )?;
+    assert!(rt; is_last_alone_hit(read(alloc, &mut owner)?));
+    Ok(())
+}

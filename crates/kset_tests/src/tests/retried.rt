@@ -1,0 +1,81 @@
+//! Calls that take memory, made once more where it was refused: what lacked memory changed nothing.
+ghost use Rattle.record_pages.specs.Sizes.{IsPageSize};
+
+use super::*;
+
+/// A page with these pairs, each as it enters the log.
+pub(super) fn page<const PAGE: usize>(
+    alloc: Global,
+    pairs: &[Pair],
+) -> Result<SetPageWriter<PAGE>, Fail> {
+    let mut writer = SetPageWriter::new();
+    for (bytes, stored) in pairs {
+        let record = Record {
+            key: key(alloc, *bytes)?,
+            value: value(alloc, *stored)?,
+            pred: Prediction::new(Prediction::ENTERING).ok_or("a prediction")?,
+        };
+        if writer.fits(record.lent()) {
+            writer.push(record.lent());
+        }
+    }
+    Ok(writer)
+}
+
+/// Writes these pairs, all of the only set.
+pub(super) fn rewrite<D: PageDevice<PAGE>, const PAGE: usize>(
+    alloc: Global,
+    owner: &mut Owner<D, PAGE>,
+    pairs: &[Pair],
+) -> Result<Rewritten, Fail>
+    requires { IsPageSize PAGE }
+{
+    let writer = page(alloc, pairs)?;
+    Ok(owner.rewrite(&key(alloc, b"ax")?, &writer))
+}
+
+pub(super) fn look<D: PageDevice<PAGE>, const PAGE: usize>(
+    alloc: Global,
+    owner: &mut Owner<D, PAGE>,
+    bytes: &[u8],
+) -> Result<Looked, Fail>
+    requires { IsPageSize PAGE }
+{
+    let key = key(alloc, bytes)?;
+    match owner.look(alloc, &key) {
+        Ok(looked) => Ok(looked),
+        Err(_) => Ok(owner.look(alloc, &key)?),
+    }
+}
+
+/// Reads the only set.
+pub(super) fn read<D: PageDevice<PAGE>, const PAGE: usize>(
+    alloc: Global,
+    owner: &mut Owner<D, PAGE>,
+) -> Result<SetRead, Fail>
+    requires { IsPageSize PAGE }
+{
+    let key = key(alloc, b"ax")?;
+    match owner.read(alloc, &key) {
+        Ok(read) => Ok(read),
+        Err(_) => Ok(owner.read(alloc, &key)?),
+    }
+}
+
+pub(super) fn strike<D: PageDevice<PAGE>, const PAGE: usize>(
+    alloc: Global,
+    owner: &mut Owner<D, PAGE>,
+    bytes: &[u8],
+) -> Result<(), Fail> {
+    owner.strike(&key(alloc, bytes)?);
+    Ok(())
+}
+
+/// Forgets the only set.
+pub(super) fn forget<D: PageDevice<PAGE>, const PAGE: usize>(
+    alloc: Global,
+    owner: &mut Owner<D, PAGE>,
+) -> Result<(), Fail> {
+    owner.forget(&key(alloc, b"ax")?);
+    Ok(())
+}

@@ -1,0 +1,107 @@
+//! Calls of the sets, each with what it gives.
+ghost use Rattle.record_pages.specs.Sizes.{IsPageSize};
+
+use super::retried::{forget, look, read, rewrite, strike};
+use super::*;
+
+/// A record that a reading lists, with the prediction that it entered with.
+#[derive(Clone, Copy)]
+pub struct Listed {
+    pub key: &'static [u8],
+    pub value: &'static [u8],
+    pub hit: bool,
+}
+
+/// A call of sets of which there is one, and what it gives.
+#[derive(Clone, Copy)]
+pub enum Step {
+    /// The pairs to be written, and what becomes of the set.
+    Rewrite(&'static [Pair], Rewritten),
+    /// A key, and what is seen of it.
+    Look(&'static [u8], Seen),
+    /// The records that are listed.
+    Read(&'static [Listed]),
+    /// A reading that meets a lost page.
+    ReadLost,
+    /// A key.
+    Strike(&'static [u8]),
+    Forget,
+}
+
+/// Makes each of these calls, which gives what is written beside it.
+pub(super) fn run<D: PageDevice<PAGE>, const PAGE: usize>(
+    rt: &impl Abort,
+    alloc: Global,
+    owner: &mut Owner<D, PAGE>,
+    steps: &[Step],
+) -> Result<(), Fail>
+    requires { IsPageSize PAGE }
+{
+    for number in 0..steps.len() {
+        assert!(rt; gives(alloc, owner, &steps[number])?, "step {number}");
+    }
+    Ok(())
+}
+
+// Whether a call gives what is written beside it.
+fn gives<D: PageDevice<PAGE>, const PAGE: usize>(
+    alloc: Global,
+    owner: &mut Owner<D, PAGE>,
+    step: &Step,
+) -> Result<bool, Fail>
+    requires { IsPageSize PAGE }
+{
+    match step {
+        Step::Rewrite(pairs, wanted) => Ok(rewrite(alloc, owner, pairs)? == *wanted),
+        Step::Look(key, wanted) => Ok(is_seen(look(alloc, owner, key)?, wanted)),
+        Step::Read(wanted) => Ok(are_listed(read(alloc, owner)?, wanted)),
+        Step::ReadLost => Ok(is_lost(read(alloc, owner)?)),
+        Step::Strike(key) => {
+            strike(alloc, owner, key)?;
+            Ok(true)
+        }
+        Step::Forget => {
+            forget(alloc, owner)?;
+            Ok(true)
+        }
+    }
+}
+
+fn is_seen(looked: Looked, wanted: &Seen) -> bool {
+    match (looked, wanted) {
+        (Looked::Hit(value), Seen::Value(bytes)) => value.bytes() == *bytes,
+        (Looked::Absent, Seen::Absent) => true,
+        (Looked::Fault, Seen::Fault) => true,
+        (Looked::Damaged, Seen::Damaged) => true,
+        _ => false,
+    }
+}
+
+fn is_lost(read: SetRead) -> bool {
+    match read {
+        SetRead::PageLost => true,
+        SetRead::Records(_) => false,
+    }
+}
+
+fn are_listed(read: SetRead, wanted: &[Listed]) -> bool {
+    let SetRead::Records(records) = read else {
+        return false;
+    };
+    if records.len() != wanted.len() || records.is_empty() != wanted.is_empty() {
+        return false;
+    }
+    for number in 0..wanted.len() {
+        if !is_listed(records.at(number), &wanted[number]) {
+            return false;
+        }
+    }
+    true
+}
+
+fn is_listed(record: &SetRecord, wanted: &Listed) -> bool {
+    record.stored.key.bytes() == wanted.key
+        && record.stored.value.bytes() == wanted.value
+        && record.stored.pred.get() == Prediction::ENTERING
+        && record.hit == wanted.hit
+}
