@@ -1,7 +1,7 @@
 -- Lists of entries: dropped, lowered, and the first of a segment.
-use Rattle.std.proofs.Common.{◌≡◌, ◌≢◌, ℕ, zero, suc, ◌<◌, ◌≤◌, Bool, true, false, cond, not, eqb, List, [], ◌∷◌, length, get_or, set, All, inl, inr, refl, sym, ap, ◌∙◌, arith}
+use Rattle.std.proofs.Common.{◌≡◌, ◌≢◌, ℕ, zero, suc, ◌<◌, ◌≤◌, ◌-◌, Bool, true, false, cond, not, eqb, Some, None, List, [], ◌∷◌, length, get_or, set, All, inl, inr, refl, sym, ap, ◌∙◌, arith}
 use Rattle.std.specs.Prelude.{◌&&◌}
-use Rattle.std.specs.List.{HoldsAt}
+use Rattle.std.specs.List.{HoldsAt, last_or}
 use Rattle.std.proofs.lemmas.Bool.{cond_both, cases_lt, and_parts, eqb-true}
 use Rattle.std.proofs.lemmas.List.Kept.{AllPairs-filter}
 use Rattle.klog_index.specs.declared.entry.Entry.{Entry}
@@ -94,3 +94,18 @@ length-with_lowered p (e ∷ es) = ap suc (length-with_lowered p es)
 -- the places stay
 pub apart_lowered : (p : Entry → Bool) (es : List Entry) → AreApart es → AreApart (with_lowered p es)
 apart_lowered p es apart = λ i j d lt lj same. apart i j d lt (omega (arith, lj, length-with_lowered p es)) (sym (places-lowered p es i d) ∙ same ∙ places-lowered p es j d)
+
+-- the last entry of a list
+last_there : (e : Entry) (es : List Entry) (d : Entry) → Some (get_or (e ∷ es) (length es) d) ≡ last_or (Some e) es
+last_there e [] d = refl
+last_there e (x ∷ es) d = last_there x es d
+
+pub last_got : (es : List Entry) (e : Entry) (n : ℕ) → n ≡ length es → 0 < n → e ≡ get_or es (n - 1) e → Some e ≡ last_or None es
+last_got [] e n is some got = absurd (omega (arith, is))
+last_got (x ∷ es) e n is some got =
+    let at : n - 1 ≡ length es = omega (arith, is) in
+    ap Some (got ∙ ap (λ (k : ℕ). get_or (x ∷ es) k e) at) ∙ last_there x es e
+
+pub last_none : (es : List Entry) → length es ≡ 0 → None ≡ last_or None es
+last_none [] none = refl
+last_none (x ∷ es) none = absurd (omega (arith, none))

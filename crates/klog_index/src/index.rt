@@ -1,6 +1,8 @@
 // The index of a log as a plain list.
-ghost use Rattle.std.specs.Prelude.{◌≡◌, ◌<◌, ◌≤◌, ◌↔◌, [], ◌∷◌, IfOk, IsErr, IsTrue, OnOk, OnErr, length, count_by, slice_get};
+ghost use Rattle.std.specs.Prelude.{◌≡◌, ◌<◌, ◌≤◌, ◌↔◌, [], ◌∷◌, IfOk, IsErr, IsTrue, None, OnOk, OnErr, length, count_by, slice_get};
+ghost use Rattle.std.specs.List.{last_or};
 
+use crate::entries_of::{EntriesOf, entries_in};
 use crate::entry::Entry;
 use crate::index_full::IndexFull;
 use crate::place::Place;
@@ -124,6 +126,24 @@ impl LogIndex {
             .copied()
     }
 
+    /// The entries of a set, newest first.
+    pub fn entries_of(&self, set: u32) -> EntriesOf<'_>
+        ensures { result ≡ of_set set self.now.entries }
+    {
+        entries_in(&self.entries, set)
+    }
+
+    /// The oldest entry.
+    pub fn oldest(&self) -> Option<Entry>
+        ensures { result ≡ last_or None self.now.entries }
+    {
+        let count = self.entries.len();
+        if count == 0 {
+            return None;
+        }
+        Some(self.entries[count - 1])
+    }
+
     /// How many entries a set has.
     pub fn count(&self, set: u32) -> usize
         ensures { result ≡ count_by (is_of set) self.now.entries }
@@ -191,7 +211,7 @@ impl LogIndex {
     }
 }
 
-ghost use Rattle.std.specs.Prelude.{◌-◌, Option, None, List, ℕ, ◌++◌};
+ghost use Rattle.std.specs.Prelude.{◌-◌, Option, List, ℕ, ◌++◌};
 ghost use Rattle.std.specs.VecDeque.{deque_capacity};
 ghost use Rattle.klog_index.specs.Entries.{lower_at, FindsSlot};
 

@@ -1,13 +1,13 @@
 //! The index of a log's live records: which of them belong to a set, and where each one lies.
 #![tactic(auto)]
 
+mod entries_of;
 mod entry;
 mod index;
 mod index_full;
 mod place;
-#[cfg(test)]
-mod tests;
 
+pub use entries_of::EntriesOf;
 pub use entry::Entry;
 pub use index::LogIndex;
 pub use index_full::IndexFull;

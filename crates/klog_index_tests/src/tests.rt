@@ -1,7 +1,7 @@
 //! An index with a few entries, by each of its calls.
 ghost use Rattle.std.specs.Prelude.{◌≡◌};
 
-use super::*;
+use klog_index::{IndexFull, LogIndex, Place};
 use record_pages::Prediction;
 use std::alloc::Global;
 use std::test::Fail;
@@ -35,10 +35,29 @@ fn entries_stand_newest_first(rt: HostRuntime) -> Result<(), Fail> {
     assert_eq!(rt; index.of_set(2, 0).map(|e| e.place), Some(place(7, 0)));
     assert_eq!(rt; index.of_set(2, 1).map(|e| e.place), Some(place(257, 1)));
     assert_eq!(rt; index.of_set(2, 2), None);
+    assert_eq!(rt; index.oldest().map(|e| e.tag), Some(9));
     assert_eq!(rt; index.find(2, 9, 0).map(|e| e.place), Some(place(257, 1)));
     assert_eq!(rt; index.find(2, 9, 1), None);
     assert_eq!(rt; index.first_of(257).map(|e| e.tag), Some(9));
     assert_eq!(rt; index.first_of(8), None);
+    Ok(())
+}
+
+#[test]
+fn a_walk_gives_the_entries_of_one_set(rt: HostRuntime) -> Result<(), Fail> {
+    let six = Prediction::new(6).unwrap();
+    let mut index = LogIndex::open(rt.alloc(), 4, 3)?;
+    assert_eq!(rt; index.oldest(), None);
+    index.add(2, 9, place(1, 0), six)?;
+    index.add(3, 9, place(1, 1), six)?;
+    index.add(2, 9, place(1, 2), six)?;
+    let mut walk = index.entries_of(2);
+    assert_eq!(rt; walk.next().map(|e| e.place), Some(place(1, 2)));
+    assert_eq!(rt; walk.next().map(|e| e.place), Some(place(1, 0)));
+    assert_eq!(rt; walk.next(), None);
+    assert_eq!(rt; walk.next(), None);
+    assert_eq!(rt; index.entries_of(1).count(), 0);
+    assert_eq!(rt; index.oldest().map(|e| e.place), Some(place(1, 0)));
     Ok(())
 }
 
