@@ -20,7 +20,7 @@ use Rattle.memory_cache.specs.declared.pair.Pair.{Pair}
 use Rattle.memory_cache.specs.MemoryList.{MemoryList, after_get, after_put, after_remove, entered, pair_in, to_front, to_front_by, value_in, without}
 use Rattle.history_recorder.specs.declared.noted.Noted.{Noted}
 use Rattle.history_recorder.specs.LaneState.{answer_by}
-use Rattle.history_recorder.specs.Lane.{Lane, deed_noted, deeds_of, act_of, IsRecorded}
+use Rattle.history_recorder.specs.Lane.{Lane, deed_noted, deeds_of, act_of, IsRecorded, max_calls}
 
 -- what is found is one of the elements, and passes
 found_one : {X : Type 0} (P : X → Type 0) (t : X → Bool) (xs : List X) (x : X) → AllByRecursion P xs → find t xs ≡ Some x → P x × (t x ≡ true)
@@ -93,7 +93,7 @@ module _ (lane : Lane) (recorded : IsRecorded lane) where
 
   -- ---- one call more
 
-  module _ (n : Noted) (start : n.start < n.point) (rises : All (λ (m : Noted). m.point < n.point) lane.calls) (room : length lane.calls < 16777216) where
+  module _ (n : Noted) (start : n.start < n.point) (rises : All (λ (m : Noted). m.point < n.point) lane.calls) (room : length lane.calls < max_calls) where
     -- what the calls do, with this one
     abbrev deeds_then : List Deed
     deeds_then = deeds_of lane ++ deed_noted n ∷ []

@@ -33,6 +33,10 @@ act_of (answers.Miss cause) = Miss
 abbrev pub IsSound : Lane → Type 0
 IsSound lane = All (λ p. current (deeds_of lane) p.key ≡ Some p.value) lane.state.memory.pairs
 
+-- how many calls a lane records: 2 ^ 24
+abbrev pub max_calls : ℕ
+max_calls = 16777216
+
 -- what is true of every lane
 pub record IsRecorded (lane : Lane) : Type 0 where
   pub sound : IsSound lane
@@ -41,8 +45,7 @@ pub record IsRecorded (lane : Lane) : Type 0 where
   -- each call starts before its point, and points rise
   pub starts : All (λ n. n.start < n.point) lane.calls
   pub points : AllPairs (λ a b. a.point < b.point) lane.calls
-  -- there are at most 2 ^ 24 calls
-  pub few : length lane.calls ≤ 16777216
+  pub few : length lane.calls ≤ max_calls
 
 -- the point of the last call, or 0 before the first
 abbrev pub last_point : List Noted → ℕ

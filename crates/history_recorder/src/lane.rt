@@ -45,7 +45,7 @@ impl<const PAGE: usize> Model for RecordedLane<PAGE> {
 
 impl<const PAGE: usize> RecordedLane<PAGE> {
     ghost use Rattle.history_recorder.specs.LaneState.{opening, get_step, put_step, remove_step, forget_step};
-    ghost use Rattle.history_recorder.specs.Lane.{IsRecorded, act_of, last_point};
+    ghost use Rattle.history_recorder.specs.Lane.{IsRecorded, act_of, last_point, max_calls};
 
     /// An empty lane of this configuration, which has one lane.
     pub fn open(alloc: Global, config: &Config, lane: u32) -> Result<RecordedLane<PAGE>, OpenFault>
@@ -127,7 +127,7 @@ impl<const PAGE: usize> RecordedLane<PAGE> {
           state = (get_step key.now self.old.state).state;
           calls = self.old.calls ++ got.noted ∷ [];
         }) }
-        ensures full { IsErrOf result RecordFault.HistoryFull ↔ (16777216 ≤ length self.old.calls) }
+        ensures full { IsErrOf result RecordFault.HistoryFull ↔ (max_calls ≤ length self.old.calls) }
         ensures err { OnErr result (self.new ≡ self.old) }
     {
         if self.calls.len() >= MAX_CALLS {
@@ -181,7 +181,7 @@ impl<const PAGE: usize> RecordedLane<PAGE> {
         }) }
         ensures large { IsErrOf result RecordPutFault.TooLarge ↔ (room PAGE < object_size key value) }
         ensures full { IsErrOf result RecordPutFault.HistoryFull
-            ↔ ((object_size key value ≤ room PAGE) × (16777216 ≤ length self.old.calls)) }
+            ↔ ((object_size key value ≤ room PAGE) × (max_calls ≤ length self.old.calls)) }
         ensures err { OnErr result (self.new ≡ self.old) }
     {
         let _unread = word;
@@ -234,7 +234,7 @@ impl<const PAGE: usize> RecordedLane<PAGE> {
           state = (remove_step key.now self.old.state).state;
           calls = self.old.calls ++ removed.noted ∷ [];
         }) }
-        ensures full { IsErrOf result RecordFault.HistoryFull ↔ (16777216 ≤ length self.old.calls) }
+        ensures full { IsErrOf result RecordFault.HistoryFull ↔ (max_calls ≤ length self.old.calls) }
         ensures err { OnErr result (self.new ≡ self.old) }
     {
         if self.calls.len() >= MAX_CALLS {

@@ -19,6 +19,3 @@ pub use record_fault::RecordFault;
 pub use record_put_fault::RecordPutFault;
 pub use removed::Removed;
 pub use stored::Stored;
-
-#[cfg(test)]
-mod tests;

@@ -1,4 +1,0 @@
-pub mod Numerals
-pub mod LineSoFar
-pub mod OwnHistory
-pub mod Session

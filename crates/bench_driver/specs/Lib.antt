@@ -1,9 +1,0 @@
-pub mod Lines
-pub mod Words
-pub mod Commands
-pub mod Configs
-pub mod Own
-pub mod Replies
-pub mod Script
-pub mod CommandLine
-pub mod Endings

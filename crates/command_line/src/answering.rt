@@ -1,0 +1,71 @@
+// What is done for a command line, and how the program ends then.
+ghost use Rattle.std.specs.Prelude.{◌≡◌, ◌≢◌, IfSome};
+ghost use Rattle.std.specs.Io.KnownBytes.{Appends};
+ghost use Rattle.record_pages.specs.Sizes.{IsPageSize, room};
+ghost use Rattle.scripts.specs.Script.{script_of};
+ghost use Rattle.command_line.specs.Outcomes.{IsAnswered, IsChecked};
+
+use crate::ending::Ending;
+use crate::file_name::FileName;
+use certificate_checker::judge;
+use scripts::run_script;
+use std::alloc::Global;
+use std::fs;
+use std::io::{BufWriter, Read, Write};
+use std::rt::Files;
+
+/// Answers the script of a reader, and says how the program ends. The replies go through a buffer,
+/// which is written out before this returns: where that fails, the program ends as after a write that
+/// failed.
+pub fn answer_script<const PAGE: usize, R: Read, W: Write>(
+    alloc: Global,
+    reader: &mut R,
+    writer: &mut W,
+) -> Ending
+    requires { IsPageSize PAGE }
+    ensures { IfSome (R.remaining reader.old) (λ bytes. IsAnswered
+        (W.contents writer.old) (W.contents writer.new) result (script_of (room PAGE) bytes)) }
+{
+    let Ok(mut buffered) = BufWriter::new(alloc, writer) else {
+        return Ending::OutOfMemory;
+    };
+    let outcome = run_script::<PAGE, R, BufWriter<&mut W>>(alloc, reader, &mut buffered);
+    let flushed = buffered.flush();
+    let (_writer, _unwritten) = buffered.into_parts();
+    match flushed {
+        Ok(()) => Ending::of_script(outcome),
+        Err(_) => Ending::FileFault,
+    }
+}
+
+/// Judges the trace of a reader, writes the verdict line, and says how the program ends.
+pub fn answer_check<R: Read, W: Write>(alloc: Global, reader: &mut R, writer: &mut W) -> Ending
+    ensures { IsChecked (R.remaining reader.old) (R.remaining reader.new)
+        (W.contents writer.old) (W.contents writer.new) result }
+{
+    Ending::of_check(judge(alloc, reader, writer))
+}
+
+/// Judges the trace in a file, and says how the program ends. A file that is not opened is a `FileFault`.
+pub fn check_file<W: Write>(
+    rt: &(impl Files + AllocGlobal),
+    file: &FileName,
+    writer: &mut W,
+) -> Ending {
+    match fs::open(rt, file.as_str()) {
+        Ok(mut reader) => answer_check(rt.alloc(), &mut reader, writer),
+        Err(_) => Ending::FileFault,
+    }
+}
+
+/// Writes a help text, and says how the program ends.
+pub fn tell_help<W: Write>(writer: &mut W, text: &str) -> Ending
+    ensures told { result ≡ Ending.Done
+        → Appends (W.contents writer.old) (W.contents writer.new) text.now }
+    ensures fault { result ≢ Ending.Done → result ≡ Ending.FileFault }
+{
+    match writer.write_all(text.as_bytes()) {
+        Ok(()) => Ending::Done,
+        Err(_) => Ending::FileFault,
+    }
+}

@@ -1,0 +1,23 @@
+// The words of the command line, as the system gives them.
+use crate::line::Line;
+use crate::line_fault::LineFault;
+use crate::parse::parse_line;
+use std::env;
+use std::io::ErrorKind;
+use std::rt::Env;
+
+/// What the words of the command line ask for.
+pub fn asked(rt: &(impl Env + AllocGlobal)) -> Result<Line, LineFault> {
+    let words: Vec<String> = match env::args(rt) {
+        Ok(words) => words.collect(rt.alloc())?,
+        Err(fault) if fault.kind() == ErrorKind::OutOfMemory => return Err(LineFault::OutOfMemory),
+        Err(_) => {
+            let text = String::from_str(rt.alloc(), "the words are no text\n")?;
+            return Err(LineFault::Usage(text));
+        }
+    };
+    match parse_line(rt.alloc(), words.as_slice()) {
+        Ok(line) => Ok(line),
+        Err(fault) => Err(fault),
+    }
+}

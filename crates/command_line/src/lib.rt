@@ -1,0 +1,18 @@
+//! What the words of the command line ask for, what is done for them, and how the program ends.
+#![tactic(auto)]
+
+mod answering;
+mod asking;
+mod ending;
+mod file_name;
+mod line;
+mod line_fault;
+mod parse;
+
+pub use answering::{answer_check, answer_script, check_file, tell_help};
+pub use asking::asked;
+pub use ending::Ending;
+pub use file_name::FileName;
+pub use line::Line;
+pub use line_fault::LineFault;
+pub use parse::parse_line;

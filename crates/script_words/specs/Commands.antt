@@ -1,0 +1,45 @@
+-- The commands that a script's lines spell.
+use Rattle.std.specs.Prelude.{◌≡◌, ℕ, Bool, ◌&&◌, List, [], ◌∷◌, length, ◌==◌, nat_le, nat_lt, if◌then◌else◌, Option, Some, None, option_map, option_and_then, slice_index_or, codes}
+use Rattle.std.specs.Str.{bytes_eq}
+use Rattle.script_words.specs.Words.{words_of, number_of}
+use Rattle.script_words.specs.declared.command.Command.{Command}
+use Rattle.script_words.specs.declared.command.Command.TheVariants.{Put, Get, Remove, Forget, Verdict, Trace}
+
+-- that many words, and this is the first
+abbrev pub is_named : List (List ℕ) → ℕ → List ℕ → Bool
+is_named words count name = (length words == count) && bytes_eq (slice_index_or words 0 []) name
+
+-- a key is a word of at most 255 bytes
+abbrev pub key_of : List ℕ → Option (List ℕ)
+key_of word = if nat_lt 0 (length word) && nat_le (length word) 255 then Some word else None
+
+-- a value is a word of at most 2,048 bytes; - is the empty value
+abbrev pub value_of : List ℕ → Option (List ℕ)
+value_of word = if bytes_eq word (codes "-") then Some [] else (if nat_le (length word) 2048 then Some word else None)
+
+-- get KEY, remove KEY or forget KEY, by what is to be done with the key
+abbrev pub at_key : (List ℕ → Command) → List (List ℕ) → Option Command
+at_key command words = option_map command (key_of (slice_index_or words 1 []))
+
+-- the put of these words
+abbrev pub put_words : List ℕ → List ℕ → List ℕ → Option Command
+put_words key value word =
+    option_and_then (λ k. option_and_then (λ v. option_map (λ w. Put k v w) (number_of word)) (value_of value)) (key_of key)
+
+-- put KEY VALUE WORD
+abbrev pub put_of : List (List ℕ) → Option Command
+put_of words = put_words (slice_index_or words 1 []) (slice_index_or words 2 []) (slice_index_or words 3 [])
+
+-- put KEY VALUE WORD, get KEY, remove KEY, forget KEY, verdict or trace
+abbrev pub command_of_words : List (List ℕ) → Option Command
+command_of_words words =
+    if is_named words 1 (codes "verdict") then Some Verdict
+    else (if is_named words 1 (codes "trace") then Some Trace
+    else (if is_named words 2 (codes "get") then at_key Get words
+    else (if is_named words 2 (codes "remove") then at_key Remove words
+    else (if is_named words 2 (codes "forget") then at_key Forget words
+    else (if is_named words 4 (codes "put") then put_of words else None)))))
+
+-- the command that a line spells, if it spells one
+abbrev pub command_of : List ℕ → Option Command
+command_of line = option_and_then command_of_words (words_of line)

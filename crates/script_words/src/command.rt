@@ -1,0 +1,108 @@
+// The commands of a script.
+ghost use Rattle.std.specs.Prelude.{◌≡◌, ◌<◌, ◌≤◌, length, slice_index_or, [], List, map, IfOk, option_map};
+ghost use Rattle.script_words.specs.Commands.{is_named, key_of, value_of, put_words, command_of_words, command_of};
+
+use crate::words::{number, words};
+use record_pages::{Key, KeyFault, Value, ValueFault};
+use std::alloc::{AllocError, Global};
+
+/// A line of a script behind its first.
+#[derive(Debug, Drop)]
+pub enum Command {
+    /// Puts a value, with the word that decides whether it enters flash.
+    Put(Key, Value, u32),
+    /// Asks for a key.
+    Get(Key),
+    /// Removes a key.
+    Remove(Key),
+    /// Has the cache forget a key, which is no call of the history.
+    Forget(Key),
+    /// Asks for the verdict on the calls so far.
+    Verdict,
+    /// Asks for the trace of the calls so far.
+    Trace,
+}
+
+/// Whether there are so many words, and the first is this one.
+pub(crate) fn is_named(words: &[&[u8]], count: usize, name: &[u8]) -> bool
+    requires { 0 < count }
+    ensures { result ≡ is_named (map (λ w. w.now) words.now) count name.now }
+{
+    words.len() == count && words[0] == name
+}
+
+/// The key that a word writes.
+fn key(alloc: Global, word: &[u8]) -> Result<Option<Key>, AllocError>
+    ensures { IfOk result (λ key. key ≡ key_of word.now) }
+{
+    match Key::new(alloc, word) {
+        Ok(key) => Ok(Some(key)),
+        Err(KeyFault::OutOfMemory) => Err(AllocError),
+        Err(KeyFault::KeyEmpty | KeyFault::KeyTooLong) => Ok(None),
+    }
+}
+
+/// The value that a word writes.
+fn value(alloc: Global, word: &[u8]) -> Result<Option<Value>, AllocError>
+    ensures { IfOk result (λ value. value ≡ value_of word.now) }
+{
+    let bytes: &[u8] = if word == b"-".as_slice() { &[] } else { word };
+    match Value::new(alloc, bytes) {
+        Ok(value) => Ok(Some(value)),
+        Err(ValueFault::OutOfMemory) => Err(AllocError),
+        Err(ValueFault::ValueTooLong) => Ok(None),
+    }
+}
+
+/// The put that four words spell.
+fn put_command(
+    alloc: Global,
+    key_word: &[u8],
+    value_word: &[u8],
+    number_word: &[u8],
+) -> Result<Option<Command>, AllocError>
+    ensures { IfOk result (λ command. command ≡ put_words key_word.now value_word.now number_word.now) }
+{
+    let Some(key) = key(alloc, key_word)? else {
+        return Ok(None);
+    };
+    let Some(value) = value(alloc, value_word)? else {
+        return Ok(None);
+    };
+    match number(number_word) {
+        Some(word) => Ok(Some(Command::Put(key, value, word))),
+        None => Ok(None),
+    }
+}
+
+/// The command that words spell.
+fn command_of_words(alloc: Global, words: &[&[u8]]) -> Result<Option<Command>, AllocError>
+    ensures { IfOk result (λ command. command ≡ command_of_words (map (λ w. w.now) words.now)) }
+{
+    if is_named(words, 1, b"verdict") {
+        Ok(Some(Command::Verdict))
+    } else if is_named(words, 1, b"trace") {
+        Ok(Some(Command::Trace))
+    } else if is_named(words, 2, b"get") {
+        Ok(key(alloc, words[1])?.map(Command::Get))
+    } else if is_named(words, 2, b"remove") {
+        Ok(key(alloc, words[1])?.map(Command::Remove))
+    } else if is_named(words, 2, b"forget") {
+        Ok(key(alloc, words[1])?.map(Command::Forget))
+    } else if is_named(words, 4, b"put") {
+        put_command(alloc, words[1], words[2], words[3])
+    } else {
+        Ok(None)
+    }
+}
+
+/// The command that a line spells.
+pub fn parse_command(alloc: Global, line: &[u8]) -> Result<Option<Command>, AllocError>
+    ensures { IfOk result (λ command. command ≡ command_of line.now) }
+{
+    match words(alloc, line) {
+        Ok(Some(words)) => command_of_words(alloc, &words),
+        Ok(None) => Ok(None),
+        Err(refused) => Err(refused),
+    }
+}

@@ -1,0 +1,72 @@
+// The words and numbers of a script's lines.
+ghost use Rattle.std.specs.Prelude.{◌≡◌, ◌^◌, ◌<◌, ◌≤◌, ◌&&◌, ◌==◌, nat_le, ℕ, true, not, length, slice_index, IfOk, IfSome, IsTrue, option_map, map};
+ghost use Rattle.std.specs.Fmt.{decimal};
+ghost use Rattle.std.specs.List.{list_all};
+ghost use Rattle.script_words.specs.Words.{is_word, words_of, are_digits, is_numeral, value_of, number_of};
+
+use std::alloc::{AllocError, Global};
+
+/// Whether bytes are a word.
+pub(crate) fn is_word(bytes: &[u8]) -> bool
+    ensures { result ≡ is_word bytes.now }
+{
+    !bytes.is_empty() && are_within(bytes, 33, 126)
+}
+
+/// Whether each byte is in a range.
+fn are_within(bytes: &[u8], least: u8, greatest: u8) -> bool
+    ensures { result ≡ list_all (λ b. nat_le least b && nat_le b greatest) bytes.now }
+{
+    bytes.iter().all(|b| least <= *b && *b <= greatest)
+}
+
+/// Whether each part is a word.
+fn are_words(parts: &[&[u8]]) -> bool
+    ensures { result ≡ list_all is_word (map (λ part. part.now) parts.now) }
+{
+    parts.iter().all(|part| is_word(part))
+}
+
+/// The words of a line.
+pub(crate) fn words<'a>(alloc: Global, line: &'a [u8]) -> Result<Option<Vec<&'a [u8]>>, AllocError>
+    ensures { IfOk result (λ found.
+        option_map (λ words. map (λ w. w.now) words.items) found ≡ words_of line.now) }
+{
+    let parts: Vec<&[u8]> = line.split(|b| *b == b' ').collect(alloc)?;
+    if are_words(&parts) {
+        Ok(Some(parts))
+    } else {
+        Ok(None)
+    }
+}
+
+/// What up to ten digits write.
+fn value(digits: &[u8]) -> u64
+    requires digits { IsTrue (are_digits digits.now) }
+    requires few { length digits.now ≤ 10 }
+    ensures { result ≡ value_of digits.now }
+{
+    let mut value = 0u64;
+    for digit in digits {
+        value = 10 * value + u64::from(*digit - b'0');
+    }
+    value
+}
+
+/// Whether a word is decimal digits without a leading zero, or 0 itself.
+fn is_numeral(word: &[u8]) -> bool
+    ensures { result ≡ is_numeral word.now }
+{
+    are_within(word, b'0', b'9') && !word.is_empty() && (word[0] != b'0' || word.len() == 1)
+}
+
+/// The number that a word writes.
+pub(crate) fn number(word: &[u8]) -> Option<u32>
+    ensures value { result ≡ number_of word.now }
+    ensures digits { IfSome result (λ n. word.now ≡ decimal n) }
+{
+    if !is_numeral(word) || word.len() > 10 {
+        return None;
+    }
+    u32::try_from(value(word)).ok()
+}

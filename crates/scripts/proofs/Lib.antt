@@ -1,0 +1,2 @@
+pub mod OwnHistory
+pub mod Session

@@ -1,0 +1,102 @@
+-- A script's own history and certificate are accepted.
+use Rattle.std.proofs.Common.{◌≡◌, ◌≢◌, ◌<◌, ◌≤◌, ◌+◌, ◌*◌, ℕ, zero, suc, List, [], ◌∷◌, ◌++◌, length, take, get_or, map, Option, Some, None, sym, ap, ◌∙◌, refl, subst, arith, append_assoc}
+use Rattle.std.specs.Prelude.{slice_get, option_map, All, AllPairs, Contains}
+use Rattle.std.specs.List.{range_with_len, filter_map}
+use Rattle.std.proofs.lemmas.List.{take_more, map-append, length-map, get_or_default, length_push}
+use Rattle.std.proofs.lemmas.List.Elements.{All-map}
+use Rattle.std.proofs.lemmas.List.FromFn.{length-range_with_len, get_or-range_with_len, map-range_with_len_more}
+use Rattle.std.proofs.lemmas.Option.{slice_get-map, slice_get_within, get_or_from_slice_get}
+use Rattle.trace_file.specs.declared.act.Act.TheVariants.{Put, Hit}
+use Rattle.trace_file.specs.declared.call.Call.{Call}
+use Rattle.certificate_checker.specs.Deeds.{deed_of}
+use Rattle.certificate_checker.specs.Orders.{in_order, Agrees}
+use Rattle.certificate_checker.specs.Latest.{IsLawful}
+use Rattle.certificate_checker.specs.Acceptance.{IsAccepted}
+use Rattle.history_recorder.specs.declared.noted.Noted.{Noted}
+use Rattle.history_recorder.specs.Lane.{Lane, deed_noted, IsRecorded}
+use Rattle.scripts.specs.Own.{ended, own_history, own_certificate, HasStamps}
+
+-- ---- one more call
+
+pub next_history : (calls : List Noted) (i : ℕ) (n : Noted) → slice_get calls i ≡ Some n → map ended (take i calls) ++ ended n ∷ [] ≡ map ended (take (i + 1) calls)
+next_history calls i n e =
+    let here = get_or_from_slice_get calls i n n e in
+    sym (ap (map ended) (take_more calls i n (slice_get_within calls i n e) ∙ ap (λ m. take i calls ++ m ∷ []) here) ∙ map-append ended (take i calls) (n ∷ []))
+
+range_next : (a n : ℕ) → range_with_len a n ++ (a + n) ∷ [] ≡ range_with_len a (n + 1)
+range_next a zero = let e : a + 0 ≡ a = omega arith in ap (λ m. m ∷ []) e
+range_next a (suc n) =
+    let e : a + suc n ≡ (a + 1) + n = omega arith in
+    let f : suc n + 1 ≡ suc (n + 1) = omega arith in
+    ap (λ ms. a ∷ ms) (ap (λ m. range_with_len (a + 1) n ++ m ∷ []) e ∙ range_next (a + 1) n) ∙ ap (range_with_len a) (sym f)
+
+pub next_certificate : (n : ℕ) → range_with_len 0 n ++ n ∷ [] ≡ range_with_len 0 (n + 1)
+next_certificate n = let e : 0 + n ≡ n = omega arith in ap (λ m. range_with_len 0 n ++ m ∷ []) (sym e) ∙ range_next 0 n
+
+-- ---- the order is the history
+
+look_up_behind : {X : Type 0} (xs : List X) (x : X) (ys : List X) → slice_get (xs ++ x ∷ ys) (length xs) ≡ Some x
+look_up_behind [] x ys = refl
+look_up_behind (z ∷ xs) x ys = look_up_behind xs x ys
+
+all_from : (front rest : List Call) → filter_map (slice_get (front ++ rest)) (range_with_len (length front) (length rest)) ≡ rest
+all_from front [] = refl
+all_from front (x ∷ rest) =
+    let one : (front ++ x ∷ []) ++ rest ≡ front ++ x ∷ rest = append_assoc front (x ∷ []) rest in
+    let len : length (front ++ x ∷ []) ≡ length front + 1 = length_push front x in
+    rw look_up_behind (ap (λ calls. x ∷ calls) (ap (λ (xs : List Call). filter_map (slice_get xs) (range_with_len (length front + 1) (length rest))) (sym one) ∙ ap (λ n. filter_map (slice_get ((front ++ x ∷ []) ++ rest)) (range_with_len n (length rest))) (sym len) ∙ all_from (front ++ x ∷ []) rest))
+
+in_order_all : (calls : List Call) → in_order calls (range_with_len 0 (length calls)) ≡ calls
+in_order_all calls = all_from [] calls
+
+-- ---- ends do not change what calls do
+
+same_deeds : (calls : List Noted) → map deed_noted calls ≡ map deed_of (map ended calls)
+same_deeds [] = refl
+same_deeds (n ∷ calls) = ap (λ deeds. deed_noted n ∷ deeds) (same_deeds calls)
+
+-- ---- accepted
+
+noted_at : {X : Type 0} (xs : List X) (i : ℕ) → i < length xs → (x : X) × (slice_get xs i ≡ Some x)
+noted_at [] i less = absurd (omega arith)
+noted_at (x ∷ xs) zero less = (x, refl)
+noted_at (x ∷ xs) (suc i) less = noted_at xs i (omega arith)
+
+-- the call at a place, with its numbers
+numbered : (calls : List Noted) → HasStamps calls → (i : ℕ) (d : Call) → i < length (map ended calls) → ((get_or (map ended calls) i d).start ≡ 3 * i + 1) × ((get_or (map ended calls) i d).end ≡ 3 * i + 3)
+numbered calls stamps i d less =
+    let within : i < length calls = omega (arith, length-map calls ended) in
+    let n = noted_at calls i within in
+    let is : get_or (map ended calls) i d ≡ ended n.0 = get_or_from_slice_get (map ended calls) i (ended n.0) d (slice_get-map ended calls i ∙ ap (option_map ended) n.1) in
+    let here = get_or_from_slice_get calls i n.0 n.0 n.1 in
+    let stamp = stamps i n.0 within in
+    let start : n.0.start ≡ 3 * i + 1 = ap (λ (m : Noted). m.start) (sym here) ∙ stamp.0 in
+    let point : n.0.point ≡ 3 * i + 2 = ap (λ (m : Noted). m.point) (sym here) ∙ stamp.1 in
+    let last : n.0.point + 1 ≡ 3 * i + 3 = omega (arith, point) in
+    (ap (λ (c : Call). c.start) is ∙ start, ap (λ (c : Call). c.end) is ∙ last)
+
+pub accepted : (lane : Lane) → IsRecorded lane → HasStamps lane.calls → IsAccepted (own_history lane) (own_certificate lane)
+accepted lane recorded stamps =
+    let calls = map ended lane.calls in
+    let n = length lane.calls in
+    let len : length calls ≡ n = length-map lane.calls ended in
+    let order : in_order calls (range_with_len 0 n) ≡ calls = ap (λ m. in_order calls (range_with_len 0 m)) (sym len) ∙ in_order_all calls in
+    record {
+      intervals = λ k d less. let h = numbered lane.calls stamps k d less in omega (arith, h.0, h.1);
+      spelled = record {
+        positions = λ k d less.
+            let within : k < n = omega (arith, length-range_with_len 0 n) in
+            omega (arith, get_or-range_with_len 0 n k d within, len);
+        each = λ p less.
+            let within : p < n = omega (arith, len) in
+            (p, omega (arith, length-range_with_len 0 n), get_or-range_with_len 0 n p p within ∙ omega arith);
+        once = λ i j d less within same.
+            let inside : j < n = omega (arith, length-range_with_len 0 n) in
+            omega (arith, get_or-range_with_len 0 n i d (omega arith), get_or-range_with_len 0 n j d inside, same);
+      };
+      agrees = subst Agrees (sym order) (λ i j d less within precedes.
+          let first = numbered lane.calls stamps i d (omega arith) in
+          let second = numbered lane.calls stamps j d within in
+          omega (arith, first.0, second.1, precedes));
+      lawful = subst (λ cs. IsLawful (map deed_of cs)) (sym order) (subst IsLawful (same_deeds lane.calls) recorded.lawful);
+    }

@@ -1,0 +1,37 @@
+-- One call more, and what the whole says.
+use Rattle.std.proofs.Common.{◌≡◌, ◌≤◌, ℕ, List, length, take, map, sym, ap, ◌∙◌, subst, arith}
+use Rattle.std.specs.List.{range_with_len}
+use Rattle.std.proofs.lemmas.List.{length-map}
+use Rattle.std.proofs.lemmas.List.FromFn.{length-range_with_len}
+use Rattle.std.proofs.Math.Seq.{take-length}
+use Rattle.certificate_checker.specs.Acceptance.{IsAccepted}
+use Rattle.history_recorder.specs.declared.noted.Noted.{Noted}
+use Rattle.history_recorder.specs.Lane.{Lane}
+use Rattle.scripts.specs.Own.{ended, own_history, own_certificate}
+use Rattle.scripts.proofs.OwnHistory.{next_history, next_certificate, accepted}
+use Rattle.scripts.proofs.script_lane.ScriptLane.recording.Goals as goal
+
+pub loop-position-preserved : goal.loop-position-preserved
+loop-position-preserved g c =
+    let more = next_history c.self.inside.lane.calls c.loop-position.position c.at.result.now c.at.ensures in
+    let further = next_certificate c.loop-position.position in
+    record {
+      calls = rw (c.in_ok-push.ensures.ok, c.loop-position.invariant.calls, c.in_ok-with_end.ensures) more;
+      places = rw (c.in_ok-push-2.ensures.ok, c.loop-position.invariant.places) further;
+    }
+
+pub returns-clause-accepted : goal.returns-clause-accepted
+returns-clause-accepted g c =
+    let lane = c.self.inside.lane in
+    let all : c.loop-position.position ≡ length lane.calls = omega (arith, c.len-position-end.ensures.count) in
+    let history = c.loop-position.invariant.calls ∙ ap (map ended) (ap (λ n. take n lane.calls) all ∙ take-length lane.calls) in
+    let certificate = c.loop-position.invariant.places ∙ ap (range_with_len 0) all in
+    subst (λ h. IsAccepted h c.loop-position.certificate) (sym history) (subst (λ p. IsAccepted (own_history lane) p) (sym certificate) (accepted lane c.len-position-end.ensures.recorded c.self.invariant))
+
+pub returns-clause-as_many : goal.returns-clause-as_many
+returns-clause-as_many g c =
+    let lane = c.self.inside.lane in
+    let all : c.loop-position.position ≡ length lane.calls = omega (arith, c.len-position-end.ensures.count) in
+    let history = c.loop-position.invariant.calls ∙ ap (map ended) (ap (λ n. take n lane.calls) all ∙ take-length lane.calls) in
+    let certificate = c.loop-position.invariant.places ∙ ap (range_with_len 0) all in
+    ap length certificate ∙ length-range_with_len 0 (length lane.calls) ∙ sym (ap length history ∙ length-map lane.calls ended)

@@ -1,0 +1,4 @@
+pub mod Own
+pub mod Replies
+pub mod Script
+pub mod Faults

@@ -1,0 +1,119 @@
+-- What a script writes, reply by reply, and how it ends.
+use Rattle.std.specs.Prelude.{◌≡◌, ℕ, ◌+◌, ◌≤◌, ◌||◌, List, [], ◌∷◌, ◌++◌, length, take, nat_lt, if◌then◌else◌, Option, Some, None, codes}
+use Rattle.std.specs.Fmt.{decimal}
+use Rattle.std.specs.List.{concat}
+use Rattle.std.specs.Io.KnownBytes.{Appends}
+use Rattle.record_pages.specs.declared.config.Config.{Config}
+use Rattle.record_pages.specs.declared.field.Field.{Field}
+use Rattle.record_pages.specs.FieldNames.{name_of}
+use Rattle.history_recorder.specs.LaneState.{opening}
+use Rattle.history_recorder.specs.Lane.{Lane}
+use Rattle.script_words.specs.declared.command.Command.{Command}
+use Rattle.script_words.specs.declared.line_read.LineRead.{LineRead}
+use Rattle.script_words.specs.declared.line_read.LineRead.TheVariants.{Line, TooLong, End}
+use Rattle.scripts.specs.declared.scripted.Scripted.{Scripted}
+use Rattle.scripts.specs.declared.scripted.Scripted.TheVariants.{Ended, BadLine, BadConfig}
+use Rattle.scripts.specs.declared.turn.Turn.{Turn}
+use Rattle.scripts.specs.declared.turn.Turn.TheVariants.{GoesOn, Ends}
+use Rattle.script_words.specs.Commands.{command_of}
+use Rattle.script_words.specs.Configs.{config_of, faulty}
+use Rattle.script_words.specs.Lines.{lines_of}
+use Rattle.scripts.specs.Replies.{reply_to}
+
+-- what a line writes, whether the script goes on, and its lane then: none before the configuration
+pub record LineReply : Type 0 where
+  pub text : List ℕ
+  pub turn : Turn
+  pub lane : Option Lane
+
+-- what a line writes with its line feed
+abbrev pub line_reply : List ℕ → Turn → Option Lane → LineReply
+line_reply text turn lane = record { text = text ++ codes "\n"; turn = turn; lane = lane }
+
+-- a line with this number that is none of a script's
+abbrev pub bad_line : ℕ → Option Lane → LineReply
+bad_line number lane = line_reply (codes "bad line " ++ decimal number) (Ends BadLine) lane
+
+-- a configuration opens the lane, unless it has a faulty field
+abbrev pub open_by : Config → Option Field → LineReply
+open_by config None = line_reply (codes "ready") GoesOn (Some (record { state = opening config; calls = [] }))
+open_by config (Some field) = line_reply (codes "bad config " ++ name_of field) (Ends BadConfig) None
+
+-- the first line has to be a configuration
+abbrev pub on_config : ℕ → Option Config → LineReply
+on_config number None = bad_line number None
+on_config number (Some config) = open_by config (faulty config)
+
+-- each further line has to be a command
+abbrev pub on_command : ℕ → ℕ → Lane → Option Command → LineReply
+on_command room number lane None = bad_line number (Some lane)
+on_command room number lane (Some command) = record {
+  text = (reply_to room lane command).text;
+  turn = GoesOn;
+  lane = Some (reply_to room lane command).lane;
+}
+
+-- what a line of at most 4,096 bytes, of which there are fewer than 2 ^ 32, is for a script at this stage
+abbrev pub reply_within : ℕ → ℕ → Option Lane → List ℕ → LineReply
+reply_within room number None line = on_config number (config_of line)
+reply_within room number (Some lane) line = on_command room number lane (command_of line)
+
+-- what a line is for a script at this stage; a longer or a later line is bad
+abbrev pub reply_to_line : ℕ → ℕ → Option Lane → List ℕ → LineReply
+reply_to_line room number lane line =
+    if nat_lt 4294967295 number || nat_lt 4096 (length line) then bad_line number lane
+    else reply_within room number lane line
+
+-- what a read of a line is for a script at this stage. Behind the last line nothing is written, but an input with no
+-- line has a bad line 1
+abbrev pub reply_to_read : ℕ → ℕ → Option Lane → LineRead → List ℕ → LineReply
+reply_to_read room number lane Line line = reply_to_line room number lane line
+reply_to_read room number lane TooLong line = bad_line number lane
+reply_to_read room number None End line = bad_line number None
+reply_to_read room number (Some lane) End line = record { text = []; turn = Ends Ended; lane = Some lane }
+
+-- all that a script writes, a text for each line that it answers, and how it ends
+pub record Transcript : Type 0 where
+  pub replies : List (List ℕ)
+  pub ending : Scripted
+
+-- a script that ends here
+abbrev pub ends_by : Scripted → Transcript
+ends_by ending = record { replies = []; ending = ending }
+
+-- a reply, and then the rest
+abbrev pub then_rest : List ℕ → Transcript → Transcript
+then_rest text rest = record { replies = text ∷ rest.replies; ending = rest.ending }
+
+-- behind the last line: an input with no line has a bad line 1
+abbrev pub at_end : ℕ → Option Lane → Transcript
+at_end number None = then_rest (bad_line number None).text (ends_by BadLine)
+at_end number (Some lane) = ends_by Ended
+
+-- what comes behind a line that goes on, or ends the script
+abbrev pub by_turn : Turn → Transcript → Transcript
+by_turn GoesOn rest = rest
+by_turn (Ends ending) rest = ends_by ending
+
+-- what these lines write from this number and stage on
+abbrev pub transcript : ℕ → ℕ → Option Lane → List (List ℕ) → Transcript
+transcript room number lane [] = at_end number lane
+transcript room number lane (line ∷ lines) =
+    then_rest (reply_to_line room number lane line).text
+    (by_turn (reply_to_line room number lane line).turn
+    (transcript room (number + 1) (reply_to_line room number lane line).lane lines))
+
+-- what a script of these bytes writes, where objects have this much room, and how it ends
+abbrev pub script_of : ℕ → List ℕ → Transcript
+script_of room bytes = transcript room 1 None (lines_of bytes)
+
+-- known output grew by all that a script writes, and it ended so
+pub record IsWhole (old new : Option (List ℕ)) (ending : Scripted) (whole : Transcript) : Type 0 where
+  pub ended : ending ≡ whole.ending
+  pub wrote : Appends old new (concat whole.replies)
+
+-- known output grew by just the first replies of a script, however many
+pub record WroteFirst (old new : Option (List ℕ)) (replies : List (List ℕ)) : Type 0 where
+  pub count : ℕ
+  pub within : count ≤ length replies
+  pub wrote : Appends old new (concat (take count replies))

@@ -1,0 +1,16 @@
+//! Scripts of a cache: each line is answered, and its calls are recorded and judged.
+#![tactic(auto)]
+
+mod recording;
+mod replies;
+mod script;
+mod script_fault;
+mod script_lane;
+mod scripted;
+mod turn;
+
+pub use recording::Recording;
+pub use script::run_script;
+pub use script_fault::ScriptFault;
+pub use script_lane::ScriptLane;
+pub use scripted::Scripted;

@@ -1,0 +1,196 @@
+// The texts of a script's replies.
+ghost use Rattle.std.specs.Prelude.{◌≡◌, ◌++◌, OnOk, length};
+ghost use Rattle.record_pages.specs.Sizes.{room};
+ghost use Rattle.scripts.specs.Replies.{shown, answer_text, tier_text, cause_text, reply_to};
+
+use crate::script_lane::ScriptLane;
+use certificate_checker::verdict_line_of;
+use history_recorder::{RecordFault, RecordPutFault};
+use record_pages::{Answer, Key, MissCause, Tier, Value};
+use script_words::Command;
+use std::alloc::{AllocError, Global};
+
+/// Appends bytes to a text.
+pub(crate) fn append(text: &mut Vec<u8>, bytes: &[u8]) -> Result<(), AllocError>
+    ensures { OnOk result (text.new.items ≡ text.old.items ++ bytes.now) }
+{
+    text.extend_from_slice(bytes)
+}
+
+/// How a reply names a tier.
+fn tier_name(tier: Tier) -> &'static str
+    ensures { result.now ≡ tier_text tier }
+{
+    match tier {
+        Tier::Memory => "memory",
+        Tier::Log => "log",
+        Tier::Set => "set",
+    }
+}
+
+/// How a reply names the cause of a miss.
+fn cause_name(cause: MissCause) -> &'static str
+    ensures { result.now ≡ cause_text cause }
+{
+    match cause {
+        MissCause::Absent => "absent",
+        MissCause::Fault => "fault",
+        MissCause::Damaged => "damaged",
+    }
+}
+
+/// Appends a value, which is `-` where it is empty.
+fn append_value(text: &mut Vec<u8>, value: &Value) -> Result<(), AllocError>
+    ensures { OnOk result (text.new.items ≡ text.old.items ++ shown value.now) }
+{
+    if value.bytes().is_empty() {
+        append(text, b"-")
+    } else {
+        append(text, value.bytes())
+    }
+}
+
+/// Appends the reply to a get.
+fn append_answer(text: &mut Vec<u8>, answer: &Answer) -> Result<(), AllocError>
+    ensures { OnOk result (text.new.items ≡ text.old.items ++ answer_text answer.now) }
+{
+    match answer {
+        Answer::Hit(value, tier) => {
+            append(text, b"hit ")?;
+            append_value(text, value)?;
+            append(text, b" ")?;
+            append(text, tier_name(*tier).as_bytes())
+        }
+        Answer::Miss(cause) => {
+            append(text, b"miss ")?;
+            append(text, cause_name(*cause).as_bytes())
+        }
+    }
+}
+
+/// A get of a script.
+fn get_reply<const PAGE: usize>(
+    lane: &mut ScriptLane<PAGE>,
+    key: &Key,
+    text: &mut Vec<u8>,
+) -> Result<(), AllocError>
+    ensures text { OnOk result (text.new.items
+        ≡ text.old.items ++ (reply_to (room PAGE) lane.old (Command.Get key.now)).text) }
+    ensures lane { OnOk result (lane.new
+        ≡ (reply_to (room PAGE) lane.old (Command.Get key.now)).lane) }
+{
+    match lane.get(key) {
+        Ok(got) => {
+            append_answer(text, &got.answer)?;
+            append(text, b"\n")
+        }
+        Err(RecordFault::HistoryFull) => append(text, b"history full\n"),
+        Err(RecordFault::OutOfMemory) => Err(AllocError),
+    }
+}
+
+/// A put of a script.
+fn put_reply<const PAGE: usize>(
+    lane: &mut ScriptLane<PAGE>,
+    key: Key,
+    value: Value,
+    word: u32,
+    text: &mut Vec<u8>,
+) -> Result<(), AllocError>
+    ensures text { OnOk result (text.new.items
+        ≡ text.old.items ++ (reply_to (room PAGE) lane.old (Command.Put key value word)).text) }
+    ensures lane { OnOk result (lane.new
+        ≡ (reply_to (room PAGE) lane.old (Command.Put key value word)).lane) }
+{
+    match lane.put(key, value, word) {
+        Ok(_) => append(text, b"stored\n"),
+        Err(RecordPutFault::TooLarge) => append(text, b"too large\n"),
+        Err(RecordPutFault::HistoryFull) => append(text, b"history full\n"),
+        Err(RecordPutFault::OutOfMemory) => Err(AllocError),
+    }
+}
+
+/// A removal of a script.
+fn remove_reply<const PAGE: usize>(
+    lane: &mut ScriptLane<PAGE>,
+    key: &Key,
+    text: &mut Vec<u8>,
+) -> Result<(), AllocError>
+    ensures text { OnOk result (text.new.items
+        ≡ text.old.items ++ (reply_to (room PAGE) lane.old (Command.Remove key.now)).text) }
+    ensures lane { OnOk result (lane.new
+        ≡ (reply_to (room PAGE) lane.old (Command.Remove key.now)).lane) }
+{
+    match lane.remove(key) {
+        Ok(_) => append(text, b"removed\n"),
+        Err(RecordFault::HistoryFull) => append(text, b"history full\n"),
+        Err(RecordFault::OutOfMemory) => Err(AllocError),
+    }
+}
+
+/// A forgetting of a script.
+fn forget_reply<const PAGE: usize>(
+    lane: &mut ScriptLane<PAGE>,
+    key: &Key,
+    text: &mut Vec<u8>,
+) -> Result<(), AllocError>
+    ensures text { OnOk result (text.new.items
+        ≡ text.old.items ++ (reply_to (room PAGE) lane.old (Command.Forget key.now)).text) }
+    ensures lane { OnOk result (lane.new
+        ≡ (reply_to (room PAGE) lane.old (Command.Forget key.now)).lane) }
+{
+    lane.forget(key);
+    append(text, b"forgotten\n")
+}
+
+/// The verdict on a script's calls so far.
+fn verdict_reply<const PAGE: usize>(
+    alloc: Global,
+    lane: &ScriptLane<PAGE>,
+    text: &mut Vec<u8>,
+) -> Result<(), AllocError>
+    ensures { OnOk result (text.new.items
+        ≡ text.old.items ++ (reply_to (room PAGE) lane.now Command.Verdict).text) }
+{
+    let recording = lane.recording(alloc)?;
+    let line = verdict_line_of(alloc, &recording.history, &recording.certificate)?;
+    append(text, line.as_bytes())?;
+    text.push(b'\n')?;
+    Ok(())
+}
+
+/// The trace of a script's calls so far, in hexadecimal.
+fn trace_reply<const PAGE: usize>(
+    alloc: Global,
+    lane: &ScriptLane<PAGE>,
+    text: &mut Vec<u8>,
+) -> Result<(), AllocError>
+    ensures { OnOk result (text.new.items
+        ≡ text.old.items ++ (reply_to (room PAGE) lane.now Command.Trace).text) }
+{
+    let trace = lane.trace(alloc)?;
+    let line = hex::encode(alloc, trace.as_slice())?;
+    append(text, line.as_bytes())?;
+    append(text, b"\n")
+}
+
+/// Answers a command: it changes the lane, and appends the reply to the text.
+pub(crate) fn answer_command<const PAGE: usize>(
+    alloc: Global,
+    lane: &mut ScriptLane<PAGE>,
+    command: Command,
+    text: &mut Vec<u8>,
+) -> Result<(), AllocError>
+    ensures text { OnOk result (text.new.items
+        ≡ text.old.items ++ (reply_to (room PAGE) lane.old command).text) }
+    ensures lane { OnOk result (lane.new ≡ (reply_to (room PAGE) lane.old command).lane) }
+{
+    match command {
+        Command::Put(key, value, word) => put_reply(lane, key, value, word, text),
+        Command::Get(key) => get_reply(lane, &key, text),
+        Command::Remove(key) => remove_reply(lane, &key, text),
+        Command::Forget(key) => forget_reply(lane, &key, text),
+        Command::Verdict => verdict_reply(alloc, lane, text),
+        Command::Trace => trace_reply(alloc, lane, text),
+    }
+}

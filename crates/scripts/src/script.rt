@@ -1,0 +1,234 @@
+// A script, answered line by line.
+ghost use Rattle.std.specs.Prelude.{◌≡◌, ◌≢◌, ◌≤◌, ◌++◌, Err, length, IfOk, IfErr, OnOk, OnErr, IfSome, None, codes};
+ghost use Rattle.std.specs.Io.KnownBytes.{Appends};
+ghost use Rattle.record_pages.specs.FieldNames.{name_of};
+ghost use Rattle.record_pages.specs.Sizes.{IsPageSize, room};
+ghost use Rattle.script_words.specs.Commands.{command_of};
+ghost use Rattle.script_words.specs.Configs.{config_of, faulty};
+ghost use Rattle.scripts.specs.Script.{script_of, reply_to_read, reply_to_line, bad_line, on_config, open_by, on_command, IsWhole, WroteFirst};
+
+use crate::replies::{answer_command, append};
+use crate::script_fault::ScriptFault;
+use crate::script_lane::ScriptLane;
+use crate::scripted::Scripted;
+use crate::turn::Turn;
+use record_pages::{Config, Field};
+use script_words::{LineRead, MAX_LINE_LEN, next_line, parse_command, parse_config};
+use std::alloc::{AllocError, Global};
+use std::io::{BufReader, Read, Write};
+
+/// The number of the last line that a script may have.
+const MAX_LINES: u64 = 4294967295;
+
+/// Appends that a line is bad.
+fn append_bad_line(alloc: Global, number: u64, text: &mut Vec<u8>) -> Result<Turn, AllocError>
+    ensures text { OnOk result (text.new.items ≡ text.old.items ++ (bad_line number None).text) }
+    ensures turn { IfOk result (λ turn. turn ≡ (bad_line number None).turn) }
+{
+    append(text, b"bad line ")?;
+    append(text, number.to_string(alloc)?.as_bytes())?;
+    append(text, b"\n")?;
+    Ok(Turn::Ends(Scripted::BadLine))
+}
+
+/// Appends that a field of the configuration is bad.
+fn append_bad_config(field: Field, text: &mut Vec<u8>) -> Result<Turn, AllocError>
+    ensures text { OnOk result (text.new.items
+        ≡ text.old.items ++ codes "bad config " ++ name_of field ++ codes "\n") }
+    ensures turn { IfOk result (λ turn. turn ≡ Turn.Ends Scripted.BadConfig) }
+{
+    append(text, b"bad config ")?;
+    append(text, field.name().as_bytes())?;
+    append(text, b"\n")?;
+    Ok(Turn::Ends(Scripted::BadConfig))
+}
+
+/// Opens the lane of a configuration, unless it has a faulty field.
+fn open_lane<const PAGE: usize>(
+    alloc: Global,
+    config: &Config,
+    lane: &mut Option<ScriptLane<PAGE>>,
+    text: &mut Vec<u8>,
+) -> Result<Turn, AllocError>
+    requires page { IsPageSize PAGE }
+    requires first { lane.old ≡ None }
+    ensures text { OnOk result (text.new.items
+        ≡ text.old.items ++ (open_by config.now (faulty config.now)).text) }
+    ensures turn { IfOk result (λ turn. turn ≡ (open_by config.now (faulty config.now)).turn) }
+    ensures lane { OnOk result (lane.new ≡ (open_by config.now (faulty config.now)).lane) }
+{
+    match ScriptLane::open(alloc, config) {
+        Ok(opened) => {
+            append(text, b"ready\n")?;
+            *lane = Some(opened);
+            Ok(Turn::GoesOn)
+        }
+        Err(field) => append_bad_config(field, text),
+    }
+}
+
+/// Answers the first line.
+fn answer_first<const PAGE: usize>(
+    alloc: Global,
+    number: u64,
+    line: &[u8],
+    lane: &mut Option<ScriptLane<PAGE>>,
+    text: &mut Vec<u8>,
+) -> Result<Turn, AllocError>
+    requires page { IsPageSize PAGE }
+    requires first { lane.old ≡ None }
+    ensures text { OnOk result (text.new.items
+        ≡ text.old.items ++ (on_config number (config_of line.now)).text) }
+    ensures turn { IfOk result (λ turn. turn ≡ (on_config number (config_of line.now)).turn) }
+    ensures lane { OnOk result (lane.new ≡ (on_config number (config_of line.now)).lane) }
+{
+    match parse_config(alloc, line)? {
+        Some(config) => open_lane(alloc, &config, lane, text),
+        None => append_bad_line(alloc, number, text),
+    }
+}
+
+/// Answers a line behind the first.
+fn answer_further<const PAGE: usize>(
+    alloc: Global,
+    number: u64,
+    line: &[u8],
+    lane: &mut ScriptLane<PAGE>,
+    text: &mut Vec<u8>,
+) -> Result<Turn, AllocError>
+    ensures text { OnOk result (text.new.items
+        ≡ text.old.items ++ (on_command (room PAGE) number lane.old (command_of line.now)).text) }
+    ensures turn { IfOk result (λ turn. turn
+        ≡ (on_command (room PAGE) number lane.old (command_of line.now)).turn) }
+    ensures lane { OnOk result (Some lane.new
+        ≡ (on_command (room PAGE) number lane.old (command_of line.now)).lane) }
+{
+    match parse_command(alloc, line)? {
+        Some(command) => {
+            answer_command(alloc, lane, command, text)?;
+            Ok(Turn::GoesOn)
+        }
+        None => append_bad_line(alloc, number, text),
+    }
+}
+
+/// Answers a line of at most `MAX_LINE_LEN` bytes.
+fn answer_line<const PAGE: usize>(
+    alloc: Global,
+    number: u64,
+    line: &[u8],
+    lane: &mut Option<ScriptLane<PAGE>>,
+    text: &mut Vec<u8>,
+) -> Result<Turn, AllocError>
+    requires page { IsPageSize PAGE }
+    requires short { length line.now ≤ 4096 }
+    ensures text { OnOk result (text.new.items
+        ≡ text.old.items ++ (reply_to_line (room PAGE) number lane.old line.now).text) }
+    ensures turn { IfOk result (λ turn. turn
+        ≡ (reply_to_line (room PAGE) number lane.old line.now).turn) }
+    ensures lane { OnOk result (lane.new
+        ≡ (reply_to_line (room PAGE) number lane.old line.now).lane) }
+{
+    if number > MAX_LINES {
+        return append_bad_line(alloc, number, text);
+    }
+    match lane {
+        Some(opened) => answer_further(alloc, number, line, opened, text),
+        None => answer_first(alloc, number, line, lane, text),
+    }
+}
+
+/// Answers what was read: a line, one that is too long, or the end.
+fn answer_read<const PAGE: usize>(
+    alloc: Global,
+    number: u64,
+    read: LineRead,
+    line: &[u8],
+    lane: &mut Option<ScriptLane<PAGE>>,
+    text: &mut Vec<u8>,
+) -> Result<Turn, AllocError>
+    requires page { IsPageSize PAGE }
+    requires short { length line.now ≤ 4096 }
+    ensures text { OnOk result (text.new.items
+        ≡ text.old.items ++ (reply_to_read (room PAGE) number lane.old read line.now).text) }
+    ensures turn { IfOk result (λ turn. turn
+        ≡ (reply_to_read (room PAGE) number lane.old read line.now).turn) }
+    ensures lane { OnOk result (lane.new
+        ≡ (reply_to_read (room PAGE) number lane.old read line.now).lane) }
+{
+    match read {
+        LineRead::Line => answer_line(alloc, number, line, lane, text),
+        LineRead::TooLong => append_bad_line(alloc, number, text),
+        LineRead::End => match lane {
+            Some(_) => Ok(Turn::Ends(Scripted::Ended)),
+            None => append_bad_line(alloc, number, text),
+        },
+    }
+}
+
+/// Writes bytes, all of them.
+fn write<W: Write>(writer: &mut W, bytes: &[u8]) -> Result<(), ScriptFault>
+    ensures ok { OnOk result (Appends (W.contents writer.old) (W.contents writer.new) bytes.now) }
+    ensures err { OnErr result (result ≡ Err ScriptFault.WriteFault) }
+{
+    match writer.write_all(bytes) {
+        Ok(()) => Ok(()),
+        Err(_) => Err(ScriptFault::WriteFault),
+    }
+}
+
+/// Answers the lines of a reader with a buffer, in turn.
+fn answer_lines<const PAGE: usize, R: Read, W: Write>(
+    alloc: Global,
+    reader: &mut R,
+    writer: &mut W,
+) -> Result<Scripted, ScriptFault>
+    requires { IsPageSize PAGE }
+    ensures ok { IfOk result (λ ending. IfSome (R.remaining reader.old) (λ bytes.
+        IsWhole (W.contents writer.old) (W.contents writer.new) ending (script_of (room PAGE) bytes))) }
+    ensures err { IfErr result (λ fault. fault ≢ ScriptFault.WriteFault
+        → IfSome (R.remaining reader.old) (λ bytes. WroteFirst
+        (W.contents writer.old) (W.contents writer.new) (script_of (room PAGE) bytes).replies)) }
+{
+    let mut line = Vec::new(alloc);
+    let mut text = Vec::new(alloc);
+    let mut lane: Option<ScriptLane<PAGE>> = None;
+    for number in 1..u64::MAX {
+        let read = next_line(reader, &mut line)?;
+        text.clear();
+        let turn = answer_read(alloc, number, read, &line, &mut lane, &mut text)?;
+        write(writer, &text)?;
+        if let Turn::Ends(ending) = turn {
+            return Ok(ending);
+        }
+    }
+    unreachable!()
+}
+
+/// Answers a script: reads it line by line, and writes the reply to each line and nothing else.
+///
+/// Where it answers, what it wrote is all that a script of the reader's bytes writes, and the answer
+/// says how the script ended. At `OutOfMemory` and `ReadFault` it wrote the replies of the lines before
+/// and nothing else; after `WriteFault` nothing is said of the output. It reads through a buffer of its
+/// own, so the reader may be left behind the script's end, and it writes once a line, so give it a
+/// writer with a buffer. It takes memory for one line, the lane and its calls.
+pub fn run_script<const PAGE: usize, R: Read, W: Write>(
+    alloc: Global,
+    reader: &mut R,
+    writer: &mut W,
+) -> Result<Scripted, ScriptFault>
+    requires { IsPageSize PAGE }
+    ensures ok { IfOk result (λ ending. IfSome (R.remaining reader.old) (λ bytes.
+        IsWhole (W.contents writer.old) (W.contents writer.new) ending (script_of (room PAGE) bytes))) }
+    ensures err { IfErr result (λ fault. fault ≢ ScriptFault.WriteFault
+        → IfSome (R.remaining reader.old) (λ bytes. WroteFirst
+        (W.contents writer.old) (W.contents writer.new) (script_of (room PAGE) bytes).replies)) }
+{
+    let Ok(mut source) = BufReader::with_capacity(alloc, MAX_LINE_LEN, reader) else {
+        return Err(ScriptFault::OutOfMemory);
+    };
+    match answer_lines::<PAGE, _, W>(alloc, &mut source, writer) {
+        Ok(ending) => Ok(ending),
+        Err(fault) => Err(fault),
+    }
+}

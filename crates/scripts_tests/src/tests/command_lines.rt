@@ -1,0 +1,62 @@
+// What the words of a command line ask for, and files that are no trace.
+use command_line::{Ending, FileName, Line, LineFault, check_file, parse_line};
+use std::alloc::Global;
+use std::test::Fail;
+
+/// What words ask for.
+#[derive(Clone, Copy, PartialEq, Eq)]
+enum Asked {
+    Script,
+    /// The check of the file `a.trace`.
+    Check,
+    /// They are told how the words are spelled.
+    Usage,
+    Help,
+    Other,
+}
+
+/// What a command line asks for.
+fn asked(line: &Result<Line, LineFault>) -> Asked {
+    match line {
+        Ok(Line::Script) => Asked::Script,
+        Ok(Line::Check(file)) if file.as_str() == "a.trace" => Asked::Check,
+        Err(LineFault::Usage(text)) if text.as_str().contains("Usage") => Asked::Usage,
+        Err(LineFault::Help(text)) if text.as_str().contains("Usage") => Asked::Help,
+        _ => Asked::Other,
+    }
+}
+
+/// Whether these words ask for this.
+fn ask_for<'a>(alloc: Global, words: &'a [&'a str], what: Asked) -> bool {
+    let line = parse_line(alloc, words);
+    asked(&line) == what
+}
+
+#[test]
+fn command_lines_are_read(rt: HostRuntime) {
+    let alloc = rt.alloc();
+    assert!(rt; ask_for(alloc, &["bench", "script"], Asked::Script));
+    assert!(rt; ask_for(alloc, &["bench", "check", "a.trace"], Asked::Check));
+    assert!(rt; ask_for(alloc, &["bench", "--help"], Asked::Help));
+}
+
+#[test]
+fn other_command_lines_get_a_usage(rt: HostRuntime) {
+    let alloc = rt.alloc();
+    assert!(rt; ask_for(alloc, &[], Asked::Usage));
+    assert!(rt; ask_for(alloc, &["bench"], Asked::Usage));
+    assert!(rt; ask_for(alloc, &["bench", "check"], Asked::Usage));
+    assert!(rt; ask_for(alloc, &["bench", "script", "more"], Asked::Usage));
+    assert!(rt; ask_for(alloc, &["bench", "check", "a.trace", "more"], Asked::Usage));
+    assert!(rt; ask_for(alloc, &["bench", "cheque", "a.trace"], Asked::Usage));
+}
+
+#[test]
+fn what_is_no_file_is_no_trace(rt: HostRuntime) -> Result<(), Fail> {
+    let mut out: Vec<u8> = Vec::new(rt.alloc());
+    let absent = FileName::new(rt.alloc(), "there is no such file")?;
+    assert_eq!(rt; check_file(&rt, &absent, &mut out), Ending::FileFault);
+    let folder = FileName::new(rt.alloc(), ".")?;
+    assert_eq!(rt; check_file(&rt, &folder, &mut out), Ending::BadInput);
+    Ok(())
+}

@@ -1,0 +1,81 @@
+// How the program ends, by what its output takes.
+use command_line::{Ending, answer_script, tell_help};
+use std::alloc::Global;
+use std::io;
+use std::io::{Error, ErrorKind, Write};
+
+/// What an output refuses.
+#[derive(Clone, Copy, PartialEq, Eq)]
+enum Refuses {
+    Nothing,
+    Writes,
+    Flushes,
+}
+
+/// An output that counts the bytes that it takes.
+#[derive(Drop)]
+struct Output {
+    refuses: Refuses,
+    taken: u64,
+}
+
+/// A refusal.
+fn refused() -> Error {
+    Error::from(ErrorKind::BrokenPipe)
+}
+
+impl Write for Output {
+    fn write(&mut self, buf: &[u8]) -> io::Result<usize> {
+        if self.refuses == Refuses::Writes {
+            return Err(refused());
+        }
+        self.taken = self.taken.saturating_add(buf.len() as u64);
+        Ok(buf.len())
+    }
+
+    fn flush(&mut self) -> io::Result<()> {
+        if self.refuses == Refuses::Flushes {
+            return Err(refused());
+        }
+        Ok(())
+    }
+}
+
+/// Whether a script of one good line, and a bad one where that is wanted, ends so over this output.
+fn ends(alloc: Global, input: &[u8], refuses: Refuses, ending: Ending, taken: u64) -> bool {
+    let mut reader = input;
+    let mut output = Output { refuses, taken: 0 };
+    let ended = answer_script::<256, &[u8], Output>(alloc, &mut reader, &mut output);
+    ended == ending && output.taken == taken
+}
+
+const GOOD: &[u8] = b"config 1 1 4 2 1 8 1 65536\n";
+
+const BAD: &[u8] = b"config 1 1 4 2 1 8 1 65536\nget\n";
+
+#[test]
+fn a_script_ends_the_program_by_its_last_line(rt: HostRuntime) {
+    let alloc = rt.alloc();
+    assert!(rt; ends(alloc, GOOD, Refuses::Nothing, Ending::Done, 6));
+    assert!(rt; ends(alloc, BAD, Refuses::Nothing, Ending::BadInput, 17));
+}
+
+#[test]
+fn an_output_that_fails_ends_the_program_with_a_file_fault(rt: HostRuntime) {
+    let alloc = rt.alloc();
+    assert!(rt; ends(alloc, GOOD, Refuses::Writes, Ending::FileFault, 0));
+    assert!(rt; ends(alloc, GOOD, Refuses::Flushes, Ending::FileFault, 6));
+    assert!(rt; ends(alloc, BAD, Refuses::Flushes, Ending::FileFault, 17));
+}
+
+#[test]
+fn a_help_text_is_written_or_a_file_fault(rt: HostRuntime) {
+    let mut output = Output {
+        refuses: Refuses::Nothing,
+        taken: 0,
+    };
+    assert_eq!(rt; tell_help(&mut output, "how"), Ending::Done);
+    assert_eq!(rt; output.taken, 3);
+    output.refuses = Refuses::Writes;
+    assert_eq!(rt; tell_help(&mut output, "how"), Ending::FileFault);
+}
