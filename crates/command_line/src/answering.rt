@@ -7,11 +7,13 @@ ghost use Rattle.command_line.specs.Outcomes.{IsAnswered, IsChecked};
 
 use crate::ending::Ending;
 use crate::file_name::FileName;
-use certificate_checker::judge;
+use certificate_checker::judge_with_hasher;
 use scripts::run_script;
 use std::alloc::Global;
 use std::fs;
+use std::hash::{BuildHasher, RandomState};
 use std::io::{BufWriter, Read, Write};
+use std::random::RandomSource;
 use std::rt::Files;
 
 /// Answers the script of a reader, and says how the program ends. The replies go through a buffer,
@@ -38,22 +40,32 @@ pub fn answer_script<const PAGE: usize, R: Read, W: Write>(
     }
 }
 
-/// Judges the trace of a reader, writes the verdict line, and says how the program ends.
-pub fn answer_check<R: Read, W: Write>(alloc: Global, reader: &mut R, writer: &mut W) -> Ending
+/// Judges the trace of a reader, writes the verdict line, and says how the program ends. The checker's
+/// table hashes keys by `hash_builder`, which whoever wrote the trace should not know.
+pub fn answer_check<S: BuildHasher + Drop, R: Read, W: Write>(
+    alloc: Global,
+    hash_builder: S,
+    reader: &mut R,
+    writer: &mut W,
+) -> Ending
     ensures { IsChecked (R.remaining reader.old) (R.remaining reader.new)
         (W.contents writer.old) (W.contents writer.new) result }
 {
-    Ending::of_check(judge(alloc, reader, writer))
+    Ending::of_check(judge_with_hasher(alloc, hash_builder, reader, writer))
 }
 
-/// Judges the trace in a file, and says how the program ends. A file that is not opened is a `FileFault`.
+/// Judges the trace in a file by a hasher with a seed of its own, and says how the program ends. A file
+/// that is not opened is a `FileFault`, and so is a system that gives no random numbers.
 pub fn check_file<W: Write>(
-    rt: &(impl Files + AllocGlobal),
+    rt: &(impl Files + RandomSource + AllocGlobal),
     file: &FileName,
     writer: &mut W,
 ) -> Ending {
+    let Ok(hash_builder) = RandomState::new(rt) else {
+        return Ending::FileFault;
+    };
     match fs::open(rt, file.as_str()) {
-        Ok(mut reader) => answer_check(rt.alloc(), &mut reader, writer),
+        Ok(mut reader) => answer_check(rt.alloc(), hash_builder, &mut reader, writer),
         Err(_) => Ending::FileFault,
     }
 }
