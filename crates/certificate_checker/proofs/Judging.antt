@@ -1,6 +1,7 @@
 -- The line on a reader's bytes, by what was read of them; and that bytes have one verdict line.
 use Rattle.std.proofs.Common.{◌≡◌, ◌≢◌, ℕ, List, length, Option, Some, None, Result, Ok, Err, refl, sym, ap, ◌∙◌, subst, inl, inr, ◌⊎◌}
 use Rattle.std.specs.Prelude.{IfSome}
+use Rattle.std.specs.Io.KnownBytes.{IsAtEnd}
 use Rattle.trace_file.specs.declared.trace.Trace.{Trace}
 use Rattle.trace_file.specs.declared.trace_fault.TraceFault.{TraceFault}
 use Rattle.trace_file.specs.declared.trace_fault.TraceFault.TheVariants.{BadMagic, TooMany, BadKind, BadKey, BadValue, Truncated, TrailingBytes, ReadFault, OutOfMemory}
@@ -23,11 +24,12 @@ unfolding outcome_of
 trace_outcome bytes t is =
     ap (λ bs. at_end (length bytes) (trace_at (place 0 bs))) is.text ∙ ap (at_end (length bytes)) (trace_again t.history t.certificate is.pair)
 
-pub line_on_trace : (known left : Option (List ℕ)) (t : Trace) (judged : Judged) (line : List ℕ) → IfSome known (λ bytes. IsTrace bytes t.history t.certificate) → IsTold t judged line → IsLineOn known left judged line
-line_on_trace None left t judged line is told = record { read = Ok t; is = told; of_reader = tt }
-line_on_trace (Some bytes) left t judged line is told = record {
+pub line_on_trace : (known left : Option (List ℕ)) (t : Trace) (judged : Judged) (line : List ℕ) → IfSome known (λ bytes. IsTrace bytes t.history t.certificate) → IsAtEnd left → IsTold t judged line → IsLineOn known left judged line
+line_on_trace None left t judged line is end told = record { read = Ok t; is = told; left_is = end; of_reader = tt }
+line_on_trace (Some bytes) left t judged line is end told = record {
   read = Ok t;
   is = told;
+  left_is = end;
   of_reader = inl (subst (λ read. IsJudged read judged line) (sym (trace_outcome bytes t is)) told);
 }
 
@@ -44,10 +46,11 @@ of_fault bytes left (ReadFault at) judged line other is leaves told = inr (recor
 of_fault bytes left OutOfMemory judged line other is leaves told = absurd (other refl)
 
 pub line_on_fault : (known left : Option (List ℕ)) (fault : TraceFault) (judged : Judged) (line : List ℕ) → fault ≢ OutOfMemory → IfSome known (λ bytes. IsFaultOf bytes fault) → Leaves known left fault → IsJudged (Err fault) judged line → IsLineOn known left judged line
-line_on_fault None left fault judged line other is leaves told = record { read = Err fault; is = told; of_reader = tt }
+line_on_fault None left fault judged line other is leaves told = record { read = Err fault; is = told; left_is = leaves; of_reader = tt }
 line_on_fault (Some bytes) left fault judged line other is leaves told = record {
   read = Err fault;
   is = told;
+  left_is = leaves;
   of_reader = of_fault bytes left fault judged line other is leaves told;
 }
 

@@ -1,10 +1,12 @@
 -- What the bytes of a reader are judged to be, and the line that says it.
 use Rattle.std.specs.Prelude.{◌≡◌, ℕ, ◌≤◌, ◌⊎◌, List, ◌++◌, length, take, codes, Option, Some, None, IfSome, Result, Ok, Err}
-use Rattle.std.specs.Io.KnownBytes.{Appends, Consumes}
+use Rattle.std.specs.Io.KnownBytes.{Appends, Consumes, IsAtEnd}
 use Rattle.trace_file.specs.declared.trace.Trace.{Trace}
 use Rattle.trace_file.specs.declared.trace_fault.TraceFault.{TraceFault}
 use Rattle.trace_file.specs.declared.trace_fault.TraceFault.TheVariants.{ReadFault}
+use Rattle.trace_file.specs.Outcome.{Leaves}
 use Rattle.trace_file.specs.Reading.{outcome_of, first_fault_of}
+use Rattle.trace_file.specs.Sending.{Begun}
 use Rattle.certificate_checker.specs.declared.judged.Judged.{Judged}
 use Rattle.certificate_checker.specs.declared.judged.Judged.TheVariants as kinds
 use Rattle.certificate_checker.specs.declared.verdict.Verdict.{Verdict}
@@ -47,10 +49,16 @@ pub record IsFailedReadOf (bytes : List ℕ) (left : Option (List ℕ)) (judged 
   pub taken : Consumes (Some bytes) left (take at bytes)
   pub is : IsJudged (Err (ReadFault at)) judged line
 
+-- what reading left: nothing behind a trace, else what its fault leaves
+abbrev pub IsLeftBy : Result Trace TraceFault → Option (List ℕ) → Option (List ℕ) → Type 0
+IsLeftBy (Ok trace) known left = IsAtEnd left
+IsLeftBy (Err fault) known left = Leaves known left fault
+
 -- the verdict line of some bytes, which are the reader's where those are known; or the line of a failed read in them
 pub record IsLineOn (known left : Option (List ℕ)) (judged : Judged) (line : List ℕ) : Type 0 where
   pub read : Result Trace TraceFault
   pub is : IsJudged read judged line
+  pub left_is : IsLeftBy read known left
   pub of_reader : IfSome known (λ bytes. IsVerdictLineOf bytes judged line ⊎ IsFailedReadOf bytes left judged line)
 
 -- the line on a reader's bytes was written, with its line feed
@@ -58,3 +66,10 @@ pub record WroteLine (known left : Option (List ℕ)) (judged : Judged) (old new
   pub line : List ℕ
   pub is : IsLineOn known left judged line
   pub wrote : Appends old new (line ++ codes "\n")
+
+-- of the line on a reader's bytes, with its line feed, a front was written once, and not all of it
+pub record BeganLine (known left : Option (List ℕ)) (old new : Option (List ℕ)) : Type 0 where
+  pub judged : Judged
+  pub line : List ℕ
+  pub is : IsLineOn known left judged line
+  pub began : Begun old new (line ++ codes "\n")

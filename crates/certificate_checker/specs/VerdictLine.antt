@@ -3,7 +3,7 @@ use Rattle.std.specs.Prelude.{◌≡◌, ℕ, List, ◌++◌, length, codes}
 use Rattle.std.specs.Fmt.{decimal}
 use Rattle.trace_file.specs.declared.call.Call.{Call}
 use Rattle.trace_file.specs.declared.trace_fault.TraceFault.{TraceFault}
-use Rattle.trace_file.specs.declared.trace_fault.TraceFault.TheVariants.{BadMagic, TooMany, BadKind, BadKey, BadValue, Truncated, TrailingBytes, ReadFault, OutOfMemory}
+use Rattle.trace_file.specs.FaultText.{trace_fault_text}
 use Rattle.certificate_checker.specs.declared.fault.Fault.{Fault}
 use Rattle.certificate_checker.specs.declared.verdict.Verdict.{Verdict}
 use Rattle.certificate_checker.specs.declared.verdict.Verdict.TheVariants.{Accepted, Rejected}
@@ -20,18 +20,6 @@ verdict_line (Rejected fault) calls = codes "rejected " ++ fault_text fault
 pub record TellsVerdict (history : List Call) (certificate line : List ℕ) : Type 0 where
   pub accepted : IsAccepted history certificate → line ≡ verdict_line Accepted (length history)
   pub rejected : (IsAccepted history certificate → ⊥) → (fault : Fault) × IsFirstFault history certificate fault × (line ≡ verdict_line (Rejected fault) (length history))
-
--- a fault of reading: its name, and the offset where it has one
-abbrev pub trace_fault_text : TraceFault → List ℕ
-trace_fault_text (BadMagic at) = codes "BadMagic at " ++ decimal at
-trace_fault_text (TooMany at) = codes "TooMany at " ++ decimal at
-trace_fault_text (BadKind at) = codes "BadKind at " ++ decimal at
-trace_fault_text (BadKey at) = codes "BadKey at " ++ decimal at
-trace_fault_text (BadValue at) = codes "BadValue at " ++ decimal at
-trace_fault_text (Truncated at) = codes "Truncated at " ++ decimal at
-trace_fault_text (TrailingBytes at) = codes "TrailingBytes at " ++ decimal at
-trace_fault_text (ReadFault at) = codes "ReadFault at " ++ decimal at
-trace_fault_text OutOfMemory = codes "out of memory"
 
 -- the line of what is no trace, without its line feed
 abbrev pub bad_trace_line : TraceFault → List ℕ

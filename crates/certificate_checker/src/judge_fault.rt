@@ -11,7 +11,7 @@ pub enum JudgeFault {
     /// Memory was refused. Nothing was written.
     #[error("out of memory")]
     OutOfMemory,
-    /// The writer failed. Nothing is said of what it holds.
+    /// The writer failed, or took no more. It holds a front of the line, and not all of it.
     #[error("file fault")]
     WriteFault,
 }

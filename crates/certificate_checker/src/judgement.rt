@@ -1,18 +1,18 @@
 // Judging the trace that a reader gives.
 ghost use Rattle.std.specs.Prelude.{◌≡◌, ◌≢◌, ◌++◌, List, ℕ, IfOk, IfErr, OnOk, OnErr, IsErrOf, Err, codes, string_bytes};
 ghost use Rattle.std.specs.Io.KnownBytes.{Appends, IsAtEnd, Keeps};
-ghost use Rattle.certificate_checker.specs.Judgements.{IsTold, IsLineOn, WroteLine};
+ghost use Rattle.trace_file.specs.Sending.{Begun};
+ghost use Rattle.certificate_checker.specs.Judgements.{IsTold, IsLineOn, WroteLine, BeganLine};
 ghost use Rattle.certificate_checker.specs.VerdictLine.{bad_trace_line};
 
 use crate::acceptance::check_with_hasher;
-use crate::bad_trace::BadTrace;
 use crate::judge_fault::JudgeFault;
 use crate::judged::Judged;
 use crate::verdict_line::told;
 use std::alloc::{AllocError, Global};
 use std::hash::{BuildHasher, BuildHasherDefault, FoldHasher};
 use std::io::{Read, Write};
-use trace_file::{Trace, TraceFault, read_trace};
+use trace_file::{Trace, TraceFault, Unwritten, read_trace, write_whole};
 
 /// What was judged, and the line that says it, with its line feed.
 #[derive(Drop)]
@@ -25,8 +25,9 @@ struct Judgement {
 ///
 /// The line is `accepted N calls`, or `rejected` with the first fault of the pair, or `bad trace` with
 /// the first fault of reading and its offset; the answer is the kind of that line. A reader that fails
-/// gives `bad trace ReadFault`. At `OutOfMemory` nothing was written; after `WriteFault` nothing is
-/// said of what the writer holds. As `check`, it is for traces whose keys were not picked to be slow.
+/// gives `bad trace ReadFault`. At `OutOfMemory` nothing was written; at `WriteFault` the writer holds a
+/// front of the line. Neither a failed read nor a failed write is tried again, and nothing is flushed.
+/// As `check`, it is for traces whose keys were not picked to be slow.
 pub fn judge<R: Read, W: Write>(
     alloc: Global,
     reader: &mut R,
@@ -38,6 +39,9 @@ pub fn judge<R: Read, W: Write>(
         → IsAtEnd (R.remaining reader.new)) }
     ensures memory { IfErr result (λ fault. fault ≡ JudgeFault.OutOfMemory
         → Keeps (W.contents writer.old) (W.contents writer.new)) }
+    ensures begun { IfErr result (λ fault. fault ≡ JudgeFault.WriteFault
+        → BeganLine (R.remaining reader.old) (R.remaining reader.new)
+        (W.contents writer.old) (W.contents writer.new)) }
 {
     let known: BuildHasherDefault<FoldHasher> = BuildHasherDefault::new();
     match judge_with_hasher(alloc, known, reader, writer) {
@@ -59,6 +63,9 @@ pub fn judge_with_hasher<S: BuildHasher + Drop, R: Read, W: Write>(
         → IsAtEnd (R.remaining reader.new)) }
     ensures memory { IfErr result (λ fault. fault ≡ JudgeFault.OutOfMemory
         → Keeps (W.contents writer.old) (W.contents writer.new)) }
+    ensures begun { IfErr result (λ fault. fault ≡ JudgeFault.WriteFault
+        → BeganLine (R.remaining reader.old) (R.remaining reader.new)
+        (W.contents writer.old) (W.contents writer.new)) }
 {
     let judgement = judgement_of(alloc, hash_builder, reader)?;
     match write(writer, judgement.line.as_bytes()) {
@@ -116,20 +123,21 @@ fn on_fault(alloc: Global, fault: TraceFault) -> Result<Judgement, AllocError>
     if let TraceFault::OutOfMemory = fault {
         return Err(AllocError);
     }
-    let bad = BadTrace { fault };
     Ok(Judgement {
         judged: Judged::BadTrace,
-        line: format!(in alloc; "bad trace {bad}\n")?,
+        line: format!(in alloc; "bad trace {fault}\n")?,
     })
 }
 
-/// Writes bytes, all of them.
+/// Writes bytes, all of them, or answers that the writer holds a front of them and not all.
 fn write<W: Write>(writer: &mut W, bytes: &[u8]) -> Result<(), JudgeFault>
     ensures ok { OnOk result (Appends (W.contents writer.old) (W.contents writer.new) bytes.now) }
     ensures err { OnErr result (result ≡ Err JudgeFault.WriteFault) }
+    ensures begun { OnErr result (
+        Begun (W.contents writer.old) (W.contents writer.new) bytes.now) }
 {
-    match writer.write_all(bytes) {
+    match write_whole(writer, bytes) {
         Ok(()) => Ok(()),
-        Err(_) => Err(JudgeFault::WriteFault),
+        Err(Unwritten) => Err(JudgeFault::WriteFault),
     }
 }

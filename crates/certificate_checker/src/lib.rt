@@ -6,7 +6,6 @@
 #![tactic(auto)]
 
 mod acceptance;
-mod bad_trace;
 mod done;
 mod fault;
 mod judge_fault;

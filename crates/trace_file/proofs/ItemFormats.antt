@@ -44,11 +44,27 @@ value_format =
 
 -- ---- a kind
 
-kind_number : Kind → ℕ
+pub kind_number : Kind → ℕ
 kind_number Put = 1
 kind_number Remove = 2
 kind_number Hit = 3
 kind_number Miss = 4
+
+-- it is one of 1 to 4
+pub kind_number-known : (kind : Kind) → (1 ≤ kind_number kind) × (kind_number kind ≤ 4)
+unfolding kind_number
+kind_number-known Put = (omega arith, omega arith)
+kind_number-known Remove = (omega arith, omega arith)
+kind_number-known Hit = (omega arith, omega arith)
+kind_number-known Miss = (omega arith, omega arith)
+
+pub kind_number-put : kind_number Put ≡ 1
+unfolding kind_number
+kind_number-put = refl
+
+pub kind_number-hit : kind_number Hit ≡ 3
+unfolding kind_number
+kind_number-hit = refl
 
 by_tests : (p r h m : Bool) (b : ℕ) (kind : Kind) → (p ≡ true → b ≡ 1) → (r ≡ true → b ≡ 2) → (h ≡ true → b ≡ 3) → (m ≡ true → b ≡ 4)
     → cond p (Some Put) (cond r (Some Remove) (cond h (Some Hit) (cond m (Some Miss) None))) ≡ Some kind → kind_number kind ≡ b
@@ -91,10 +107,10 @@ module _ {A : Type 0} (d : TraceFault) where
     kind = option_kind is o;
   }
 
-abbrev kind_text : Kind → List ℕ
+abbrev pub kind_text : Kind → List ℕ
 kind_text kind = (kind_number kind ∷ []) ++ []
 
-kind_format : IsFormat kind_at kind_text (λ _. Unit {0})
+pub kind_format : IsFormat kind_at kind_text (λ _. Unit {0})
 unfolding kind_at
 kind_format =
     same_lawful (then_format byte_at (λ n. n ∷ []) (λ n. n < 256)
@@ -179,7 +195,7 @@ act_format Miss = bare Miss acts.Miss (omega arith) refl refl miss_back
 
 -- ---- a call, from its last field to its first
 
-abbrev made : ℕ → ℕ → ℕ → List ℕ → Act → Call
+abbrev pub made : ℕ → ℕ → ℕ → List ℕ → Act → Call
 made caller start end key act = record { caller = caller; start = start; end = end; key = key; act = act }
 
 abbrev text_from_act : Call → List ℕ
@@ -197,19 +213,19 @@ text_from_start c = to_be_bytes w64 c.start ++ text_from_end c
 abbrev text_from_caller : Call → List ℕ
 text_from_caller c = to_be_bytes w16 c.caller ++ text_from_start c
 
-abbrev read_act : Kind → ℕ → ℕ → ℕ → List ℕ → Place → Read Call
+abbrev pub read_act : Kind → ℕ → ℕ → ℕ → List ℕ → Place → Read Call
 read_act kind caller start end key p = act_at kind p >>= λ act. Ok (made caller start end key act.0, act.1)
 
-abbrev read_key : Kind → ℕ → ℕ → ℕ → Place → Read Call
+abbrev pub read_key : Kind → ℕ → ℕ → ℕ → Place → Read Call
 read_key kind caller start end p = key_at p >>= λ key. read_act kind caller start end key.0 key.1
 
-abbrev read_end : Kind → ℕ → ℕ → Place → Read Call
+abbrev pub read_end : Kind → ℕ → ℕ → Place → Read Call
 read_end kind caller start p = number_at w64 p >>= λ end. read_key kind caller start end.0 end.1
 
-abbrev read_start : Kind → ℕ → Place → Read Call
+abbrev pub read_start : Kind → ℕ → Place → Read Call
 read_start kind caller p = number_at w64 p >>= λ start. read_end kind caller start.0 start.1
 
-abbrev read_caller : Kind → Place → Read Call
+abbrev pub read_caller : Kind → Place → Read Call
 read_caller kind p = number_at w16 p >>= λ caller. read_start kind caller.0 caller.1
 
 abbrev from_act : Kind → ℕ → ℕ → ℕ → List ℕ → Call → Type 0

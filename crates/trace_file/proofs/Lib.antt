@@ -4,6 +4,7 @@ pub mod ItemFormats
 pub mod ReaderLaws
 pub mod Readings
 pub mod SendLaws
+pub mod Standings
 pub mod StoreLaws
 pub mod Takings
 pub mod ToldApart

@@ -9,7 +9,7 @@ use Rattle.trace_file.specs.declared.trace.Trace.{Trace}
 use Rattle.trace_file.specs.declared.trace_fault.TraceFault.{TraceFault}
 use Rattle.trace_file.specs.declared.trace_fault.TraceFault.TheVariants.{BadMagic, TooMany, BadKind, BadKey, BadValue, Truncated, TrailingBytes, ReadFault, OutOfMemory}
 use Rattle.trace_file.specs.declared.call.Call.{Call}
-use Rattle.trace_file.specs.Outcome.{IsOfText, IsFaultOf, Leaves}
+use Rattle.trace_file.specs.Outcome.{IsOfText, IsFaultOf, StoppedIn, Leaves}
 use Rattle.trace_file.specs.Reading.{place, trace_at, at_end, outcome_of, met, first_fault_of}
 use Rattle.trace_file.specs.Stream.{FaultIn, finished}
 use Rattle.trace_file.specs.Text.{IsTrace}
@@ -83,16 +83,16 @@ behind_front (Some bytes) (Some rest) stream at took at-is none =
     ((omega (arith, at-is, ap length took, length-append stream rest), ap first_fault_of front ∙ none), took ∙ ap (λ (s : List ℕ). s ++ rest) (sym front))
 
 -- what is left, at a fault of the text or want of memory
-pub leaves : (initial next : Option (List ℕ)) (stream : List ℕ) (f : TraceFault) → Consumes initial next stream → (f ≢ OutOfMemory → IsOfText f) → Leaves initial next f
-leaves initial next stream (BadMagic at) took is = (stream, took)
-leaves initial next stream (TooMany at) took is = (stream, took)
-leaves initial next stream (BadKind at) took is = (stream, took)
-leaves initial next stream (BadKey at) took is = (stream, took)
-leaves initial next stream (BadValue at) took is = (stream, took)
-leaves initial next stream (Truncated at) took is = (stream, took)
-leaves initial next stream (TrailingBytes at) took is = (stream, took)
-leaves initial next stream (ReadFault at) took is = absurd (is (λ e. cc))
-leaves initial next stream OutOfMemory took is = (stream, took)
+pub leaves : (initial next : Option (List ℕ)) (f : TraceFault) → (f ≢ OutOfMemory → IsOfText f) → StoppedIn initial next f → Leaves initial next f
+leaves initial next (BadMagic at) is stopped = stopped
+leaves initial next (TooMany at) is stopped = stopped
+leaves initial next (BadKind at) is stopped = stopped
+leaves initial next (BadKey at) is stopped = stopped
+leaves initial next (BadValue at) is stopped = stopped
+leaves initial next (Truncated at) is stopped = absurd (is (λ e. cc))
+leaves initial next (TrailingBytes at) is stopped = stopped
+leaves initial next (ReadFault at) is stopped = absurd (is (λ e. cc))
+leaves initial next OutOfMemory is stopped = stopped
 
 of_text : (stream chunk : List ℕ) (f : TraceFault) → FaultIn (stream ++ chunk) f → f ≢ OutOfMemory → IsOfText f
 of_text stream chunk f here known = (fault_is ((stream ++ chunk) ++ []) f (here known [])).1
@@ -133,15 +133,23 @@ module _ {initial now : Option (List ℕ)} {parts : Result (List ℕ) TraceFault
       let here = subst (λ (r : Result (List ℕ) TraceFault). IfOk r (λ s. FaultIn (s ++ chunk) f)) so_far.fed fault in
       in_front_of initial next (so_far.stream ++ chunk) f (Consumes-trans initial now next so_far.stream chunk so_far.consumed took) here
 
-  pub fault_leaves : (next : Option (List ℕ)) (f : TraceFault) (chunk : List ℕ) → Consumes now next chunk → IfOk parts (λ s. FaultIn (s ++ chunk) f) → Leaves initial next f
-  fault_leaves next f chunk took fault =
+  pub fault_leaves : (next : Option (List ℕ)) (f : TraceFault) (chunk : List ℕ) → Consumes now next chunk → length chunk ≤ 4096 → IfOk parts (λ s. FaultIn (s ++ chunk) f) → Leaves initial next f
+  fault_leaves next f chunk took few fault =
       let here = subst (λ (r : Result (List ℕ) TraceFault). IfOk r (λ s. FaultIn (s ++ chunk) f)) so_far.fed fault in
-      leaves initial next (so_far.stream ++ chunk) f (Consumes-trans initial now next so_far.stream chunk so_far.consumed took) (of_text so_far.stream chunk f here)
+      leaves initial next f (of_text so_far.stream chunk f here) (record {
+        front = so_far.stream;
+        piece = chunk;
+        taken = Consumes-trans initial now next so_far.stream chunk so_far.consumed took;
+        no_fault = so_far.faultless;
+        few = few;
+        met = λ known. ap first_fault_of (sym (append-nil (so_far.stream ++ chunk))) ∙ here known [];
+      })
 
-  pub cut_leaves : (next : Option (List ℕ)) (f : TraceFault) → Consumes now next [] → IfOk parts (λ s. f ≡ Truncated (length s)) → Leaves initial next f
-  cut_leaves next f took cut =
+  pub cut_leaves : (next : Option (List ℕ)) (f : TraceFault) → Consumes now next [] → IsAtEnd next → IfOk parts (λ s. f ≡ Truncated (length s)) → Leaves initial next f
+  cut_leaves next f took end cut =
       let at : f ≡ Truncated (length so_far.stream) = subst (λ (r : Result (List ℕ) TraceFault). IfOk r (λ s. f ≡ Truncated (length s))) so_far.fed cut in
-      subst (Leaves initial next) (sym at) (so_far.stream ++ [], Consumes-trans initial now next so_far.stream [] so_far.consumed took)
+      let consumed = subst (Consumes initial next) (append-nil so_far.stream) (Consumes-trans initial now next so_far.stream [] so_far.consumed took) in
+      subst (Leaves initial next) (sym at) (carried initial so_far.stream (λ bytes. Consumes initial next bytes) (whole_read next took end) consumed)
 
   -- a read failed
   pub failed_read : (next : Option (List ℕ)) (at : ℕ) → Keeps now next → IfOk parts (λ s. at ≡ length s) → IfSome initial (λ bytes. IsFaultOf bytes (ReadFault at)) × Leaves initial next (ReadFault at)

@@ -5,7 +5,7 @@ use Rattle.std.specs.Io.KnownBytes.{Appends, Keeps}
 use Rattle.std.proofs.KnownBytes.{Appends-nil, Appends-trans}
 use Rattle.std.proofs.lemmas.List.{append-nil, take-append-drop, take_more, flat_map_more}
 use Rattle.std.proofs.lemmas.Option.{get_or_from_slice_get}
-use Rattle.std.specs.Prelude.{slice_get}
+use Rattle.std.specs.Prelude.{slice_get, ◌≢◌}
 use Rattle.std.specs.Int.{w32, to_be_bytes}
 use Rattle.trace_file.specs.declared.call.Call.{Call}
 use Rattle.trace_file.specs.Text.{magic, call_text, position_text, header_text, trace_text}
@@ -36,14 +36,24 @@ pub sent_whole : (a b c : Option (List ℕ)) (all left : List ℕ) → Sent a b 
 sent_whole a b c all left p took = subst (Appends a c) (sym p.parts) (Appends-trans a b c p.front left p.written took)
 
 pub begun_more : (a b c : Option (List ℕ)) (all left : List ℕ) → Sent a b all left → Begun b c left → Begun a c all
-begun_more a b c all left p q = (q.0, sent_more a b c all left q.0 p q.1)
+begun_more a b c all left p q = (q.0, q.1, sent_more a b c all left q.0 p q.2)
 
 -- more bytes were put behind those that are left
 pub sent_behind : (a b : Option (List ℕ)) (all left more : List ℕ) → Sent a b all left → Sent a b (all ++ more) (left ++ more)
 sent_behind a b all left more p = record { front = p.front; written = p.written; parts = ap (λ (x : List ℕ). x ++ more) p.parts ∙ append_assoc p.front left more }
 
+-- bytes behind some are some
+some_behind : (left more : List ℕ) → left ≢ [] → (left ++ more) ≢ []
+some_behind [] more some = absurd (some refl)
+some_behind (b ∷ left) more some = λ e. cc
+
 pub begun_behind : (a b : Option (List ℕ)) (all more : List ℕ) → Begun a b all → Begun a b (all ++ more)
-begun_behind a b all more p = (p.0 ++ more, sent_behind a b all p.0 more p.1)
+begun_behind a b all more p = (p.0 ++ more, some_behind p.0 more p.1, sent_behind a b all p.0 more p.2)
+
+-- nothing of a trace was written, and a trace has some bytes
+pub begun_none : (a : Option (List ℕ)) (h : List Call) (c : List ℕ) → Begun a a (trace_text h c)
+unfolding trace_text header_text
+begun_none a h c = (trace_text h c, λ e. cc, sent_none a (trace_text h c))
 
 -- items were sent, and stop among them
 pub begun_items : {A : Type 0} (text : A → List ℕ) (a b c : Option (List ℕ)) (start left : List ℕ) (xs : List A) (i : ℕ) → Sent a b (start ++ flat_map text (take i xs)) left → Begun b c left → Begun a c (start ++ flat_map text xs)

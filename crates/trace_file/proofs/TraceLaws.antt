@@ -19,10 +19,10 @@ use Rattle.trace_file.specs.Text.{most_calls, call_text, position_text, header_t
 use Rattle.trace_file.proofs.Formats.{IsBytes, same_fault, bind_ok, bind_err, Stopped, at_first, at_second, ok_is, longer, Takes, Takes-then, IsFormat, read-longer, many_before, many_format}
 use Rattle.trace_file.proofs.ItemFormats.{call_format, position_format, header_format}
 
-abbrev after_calls : ℕ → List Call × Place → Result Trace Stop
+abbrev pub after_calls : ℕ → List Call × Place → Result Trace Stop
 after_calls n calls = many_at position_at n calls.1 >>= λ positions. end_at (pair_of calls.0 positions.0) positions.1
 
-abbrev after_header : ℕ × Place → Result Trace Stop
+abbrev pub after_header : ℕ × Place → Result Trace Stop
 after_header count = many_at call_at count.0 count.1 >>= λ calls. after_calls count.0 calls
 
 ended : (t u : Trace) (p : Place) → end_at t p ≡ Ok u → (p.bytes ≡ []) × (t ≡ u)

@@ -1,9 +1,11 @@
 pub mod Calls
+pub mod FaultText
 pub mod Given
 pub mod Lent
 pub mod Outcome
 pub mod Reading
 pub mod Sending
+pub mod Standing
 pub mod Stored
 pub mod Stream
 pub mod Text

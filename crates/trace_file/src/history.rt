@@ -1,5 +1,5 @@
 // Recorded calls in the order in which they were recorded.
-ghost use Rattle.std.specs.Prelude.{◌≡◌, ◌+◌, ◌<◌, ◌≤◌, [], ◌∷◌, ◌++◌, ◌↔◌, All, IsTrue, List, ℕ, Some, length, OnOk, OnErr, slice_get, take, drop};
+ghost use Rattle.std.specs.Prelude.{◌≡◌, ◌+◌, ◌^◌, ◌<◌, ◌≤◌, [], ◌∷◌, ◌++◌, ◌↔◌, All, IsTrue, List, ℕ, Some, length, OnOk, OnErr, slice_get, take, drop};
 
 use crate::act_ref::ActRef;
 use crate::call::Call;
@@ -85,9 +85,7 @@ impl History {
             key_len: call.key.len() as u8,
             kind: call.act.kind(),
         };
-        self.store.extend_from_slice(call.key)?;
-        self.store.extend_from_slice(value)?;
-        self.entries.push(entry)?;
+        put_behind(&mut self.entries, &mut self.store, entry, call.key, value)?;
         Ok(())
     }
 
@@ -113,6 +111,29 @@ impl History {
 
 ghost use Rattle.trace_file.specs.Lent.{act_shown};
 ghost use Rattle.trace_file.specs.Stored.{act_of};
+
+/// Puts an entry behind the others and its bytes behind the store's. Where memory is refused both keep
+/// just what they held, so that no bytes are left of a call that was not recorded.
+fn put_behind(
+    entries: &mut Vec<Entry>,
+    store: &mut Vec<u8>,
+    entry: Entry,
+    key: &[u8],
+    value: &[u8],
+) -> Result<(), AllocError>
+    requires { length key.now + length value.now < 2 ^ 64 }
+    ensures entries { OnOk result (entries.new.items ≡ entries.old.items ++ entry ∷ []) }
+    ensures store { OnOk result (store.new.items ≡ store.old.items ++ key.now ++ value.now) }
+    ensures entries_kept { OnErr result (entries.new.items ≡ entries.old.items) }
+    ensures store_kept { OnErr result (store.new.items ≡ store.old.items) }
+{
+    entries.reserve(1)?;
+    store.reserve(key.len() + value.len())?;
+    store.extend_from_slice(key).unwrap();
+    store.extend_from_slice(value).unwrap();
+    entries.push(entry).unwrap();
+    Ok(())
+}
 
 /// The act of a kind, with the bytes of its value where it has one.
 pub(crate) fn lent(kind: Kind, value: &[u8]) -> ActRef<'_>

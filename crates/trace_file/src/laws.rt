@@ -5,6 +5,7 @@ ghost use Rattle.trace_file.specs.declared.trace.Trace.{Trace};
 ghost use Rattle.trace_file.specs.declared.trace_fault.TraceFault.{TraceFault};
 ghost use Rattle.trace_file.specs.declared.trace_fault.TraceFault.TheVariants.{Truncated, TrailingBytes};
 ghost use Rattle.trace_file.specs.Reading.{outcome_of, first_fault_of};
+ghost use Rattle.trace_file.specs.Standing.{StandsIn};
 ghost use Rattle.trace_file.specs.Stream.{pair_of};
 ghost use Rattle.trace_file.specs.Text.{IsPair, IsTrace, trace_text};
 
@@ -26,6 +27,10 @@ pub fn trace_laws()
 
 /// What the faults of bytes say of them.
 pub fn fault_laws()
+    // A fault stands where its definition says, whatever reader meets it.
+    ensures stands { (bytes : List ℕ) (fault : TraceFault) → All (λ byte. byte < 256) bytes →
+        first_fault_of bytes ≡ Some fault → StandsIn bytes fault }
+
     // A fault that was met stays, whatever follows: no trace begins so.
     ensures stays { (bytes more : List ℕ) (fault : TraceFault) → All (λ byte. byte < 256) bytes →
         first_fault_of bytes ≡ Some fault → first_fault_of (bytes ++ more) ≡ Some fault }

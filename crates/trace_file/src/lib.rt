@@ -21,6 +21,7 @@ mod to_writer;
 mod trace;
 mod trace_fault;
 mod trace_reader;
+mod unwritten;
 mod write_trace_fault;
 
 pub use act::Act;
@@ -31,8 +32,9 @@ pub use certificate::Certificate;
 pub use from_reader::read_trace;
 pub use history::History;
 pub use laws::{fault_laws, trace_laws};
-pub use to_writer::write_trace;
+pub use to_writer::{write_trace, write_whole};
 pub use trace::Trace;
 pub use trace_fault::TraceFault;
 pub use trace_reader::TraceReader;
+pub use unwritten::Unwritten;
 pub use write_trace_fault::WriteTraceFault;

@@ -14,18 +14,16 @@ use crate::certificate::Certificate;
 use crate::history::History;
 use crate::items::{MAGIC, MOST_CALLS};
 use crate::text_buffer::{ROOM, TextBuffer};
+use crate::unwritten::Unwritten;
 use crate::write_trace_fault::WriteTraceFault;
 use std::io::Write;
 
 /// The most bytes of a call: its fixed fields, a key and a value.
 const MOST_CALL_BYTES: usize = 2325;
 
-/// The writer failed, or takes no more.
-#[derive(Clone, Copy, Debug)]
-struct Unwritten;
-
-/// Writes all of the bytes. A write that fails, or takes nothing, is not tried again.
-fn write_whole<W: Write>(writer: &mut W, bytes: &[u8]) -> Result<(), Unwritten>
+/// Writes all of the bytes. A write that fails, or takes nothing, is `Unwritten` at once and is not tried
+/// again; the writer may have taken a front of the bytes then.
+pub fn write_whole<W: Write>(writer: &mut W, bytes: &[u8]) -> Result<(), Unwritten>
     ensures ok { OnOk result (Appends (W.contents writer.old) (W.contents writer.new) bytes.now) }
     ensures err { OnErr result (Begun (W.contents writer.old) (W.contents writer.new) bytes.now) }
 {

@@ -8,7 +8,7 @@ pub returns-in-Ok-on_trace-clause-line : goal.returns-in-Ok-on_trace-clause-line
 returns-in-Ok-on_trace-clause-line g c =
     let told = c.in-Ok-on_trace.ensures in (
       told.0,
-      line_on_trace _ _ c.in-Ok.trace _ told.0 c.in-Ok.ensures.found told.1,
+      line_on_trace _ _ c.in-Ok.trace _ told.0 c.in-Ok.ensures.found c.in-Ok.ensures.end told.1,
       told.2,
     )
 

@@ -1,5 +1,6 @@
 use Rattle.std.proofs.Common.{◌≡◌, ◌-◌, ◌++◌, ℕ, List, take, sym, ap, subst, arith, rules}
 use Rattle.std.specs.Io.KnownBytes.{Consumes}
+use Rattle.std.proofs.lemmas.List.{length-take}
 use Rattle.trace_file.proofs.Readings.{read_none, read_more, trace_read, whole_trace, cut_read, cut_leaves, fault_read, fault_leaves, failed_read}
 use Rattle.trace_file.proofs.from_reader.read_trace.Goals as goal
 
@@ -17,7 +18,7 @@ returns-in-Err-feed-clause-fault g c =
 
 pub returns-in-Err-feed-clause-left : goal.returns-in-Err-feed-clause-left
 returns-in-Err-feed-clause-left g c =
-    fault_leaves c.loop-parts.invariant (g.R.Read.remaining c.read.new.self) c.in-Err-feed.fault (take c.in-Ok.count c.read.new.buf) c.in-Ok.ensures.bytes.0 c.in-Err-feed.ensures.first
+    fault_leaves c.loop-parts.invariant (g.R.Read.remaining c.read.new.self) c.in-Err-feed.fault (take c.in-Ok.count c.read.new.buf) c.in-Ok.ensures.bytes.0 (omega (arith, length-take c.in-Ok.count c.read.new.buf)) c.in-Err-feed.ensures.first
 
 pub returns-in-Err-clause-fault : goal.returns-in-Err-clause-fault
 returns-in-Err-clause-fault g c = (failed_read c.loop-parts.invariant (g.R.Read.remaining c.read.new.self) c.bytes_fed-at.result c.in-Err.ensures.bytes c.bytes_fed-at.ensures).0

@@ -1,5 +1,9 @@
+use Rattle.trace_file.proofs.Standings.{fault_stands}
 use Rattle.trace_file.proofs.ToldApart as told
 use Rattle.trace_file.proofs.laws.fault_laws.Goals as goal
+
+pub returns-clause-stands : goal.returns-clause-stands
+returns-clause-stands c = fault_stands
 
 pub returns-clause-stays : goal.returns-clause-stays
 returns-clause-stays c = told.stays

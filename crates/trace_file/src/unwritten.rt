@@ -1,0 +1,7 @@
+// That bytes were not all written.
+use thiserror::Error;
+
+/// A writer failed, or takes no more, before all bytes were written.
+#[derive(Clone, Copy, Debug, PartialEq, Eq, Error)]
+#[error("not all bytes were written")]
+pub struct Unwritten;
