@@ -3,6 +3,7 @@
 
 use command_line::{Ending, Line, LineFault, answer_script, asked, check_file, tell_help};
 use std::io;
+use std::io::BufWriter;
 use std::process::ExitCode;
 
 /// The page size of the program, in bytes.
@@ -11,9 +12,7 @@ const PAGE: usize = 4096;
 fn main(rt: HostRuntime) -> ExitCode {
     let mut output = io::writer(&rt);
     let ending = match asked(&rt) {
-        Ok(Line::Script) => {
-            answer_script::<PAGE, _, _>(rt.alloc(), &mut rt.reader(), &mut output)
-        }
+        Ok(Line::Script) => script(&rt),
         Ok(Line::Check(file)) => check_file(&rt, &file, &mut output),
         Err(LineFault::Usage(text)) => {
             let _ = eprint!(rt; "{text}");
@@ -26,4 +25,12 @@ fn main(rt: HostRuntime) -> ExitCode {
         let _ = eprintln!(rt; "{message}");
     }
     ending.code()
+}
+
+/// Answers the script of standard input on standard output, through a buffer.
+fn script(rt: &(impl Input + Print + AllocGlobal)) -> Ending {
+    let Ok(mut writer) = BufWriter::new(rt.alloc(), io::writer(rt)) else {
+        return Ending::OutOfMemory;
+    };
+    answer_script::<PAGE, _, _>(rt.alloc(), &mut rt.reader(), &mut writer)
 }

@@ -1,5 +1,6 @@
 // What is done for a command line, and how the program ends then.
 ghost use Rattle.std.specs.Prelude.{◌≡◌, ◌≢◌, IfSome};
+ghost use Rattle.std.specs.Io.Buffered.{writer_contents, writer_inner};
 ghost use Rattle.std.specs.Io.KnownBytes.{Appends};
 ghost use Rattle.record_pages.specs.Sizes.{IsPageSize, room};
 ghost use Rattle.scripts.specs.Script.{script_of};
@@ -16,25 +17,20 @@ use std::io::{BufWriter, Read, Write};
 use std::random::RandomSource;
 use std::rt::Files;
 
-/// Answers the script of a reader, and says how the program ends. The replies go through a buffer,
-/// which is written out before this returns: where that fails, the program ends as after a write that
-/// failed.
-pub fn answer_script<const PAGE: usize, R: Read, W: Write>(
+/// Answers the script of a reader, and says how the program ends. What the writer holds then is written
+/// out before this returns: where that fails, the program ends as after a write that failed.
+pub fn answer_script<const PAGE: usize, R: Read, W: Write + Drop>(
     alloc: Global,
     reader: &mut R,
-    writer: &mut W,
+    writer: &mut BufWriter<W>,
 ) -> Ending
     requires { IsPageSize PAGE }
     ensures { IfSome (R.remaining reader.old) (λ bytes. IsAnswered
-        (W.contents writer.old) (W.contents writer.new) result (script_of (room PAGE) bytes)) }
+        (writer_contents W.contents writer.old) (W.contents (writer_inner writer.new))
+        result (script_of (room PAGE) bytes)) }
 {
-    let Ok(mut buffered) = BufWriter::new(alloc, writer) else {
-        return Ending::OutOfMemory;
-    };
-    let outcome = run_script::<PAGE, R, BufWriter<&mut W>>(alloc, reader, &mut buffered);
-    let flushed = buffered.flush();
-    let (_writer, _unwritten) = buffered.into_parts();
-    match flushed {
+    let outcome = run_script::<PAGE, R, BufWriter<W>>(alloc, reader, writer);
+    match writer.flush() {
         Ok(()) => Ending::of_script(outcome),
         Err(_) => Ending::FileFault,
     }

@@ -2,7 +2,8 @@
 use command_line::{Ending, answer_script, tell_help};
 use std::alloc::Global;
 use std::io;
-use std::io::{Error, ErrorKind, Write};
+use std::io::{BufWriter, Error, ErrorKind, Write};
+use std::test::Fail;
 
 /// What an output refuses.
 #[derive(Clone, Copy, PartialEq, Eq)]
@@ -42,11 +43,17 @@ impl Write for Output {
 }
 
 /// Whether a script of one good line, and a bad one where that is wanted, ends so over this output.
-fn ends(alloc: Global, input: &[u8], refuses: Refuses, ending: Ending, taken: u64) -> bool {
+fn ends(
+    alloc: Global,
+    input: &[u8],
+    refuses: Refuses,
+    ending: Ending,
+    taken: u64,
+) -> Result<bool, Fail> {
     let mut reader = input;
-    let mut output = Output { refuses, taken: 0 };
-    let ended = answer_script::<256, &[u8], Output>(alloc, &mut reader, &mut output);
-    ended == ending && output.taken == taken
+    let mut writer = BufWriter::new(alloc, Output { refuses, taken: 0 })?;
+    let ended = answer_script::<256, &[u8], Output>(alloc, &mut reader, &mut writer);
+    Ok(ended == ending && writer.get_ref().taken == taken)
 }
 
 const GOOD: &[u8] = b"config 1 1 4 2 1 8 1 65536\n";
@@ -54,18 +61,22 @@ const GOOD: &[u8] = b"config 1 1 4 2 1 8 1 65536\n";
 const BAD: &[u8] = b"config 1 1 4 2 1 8 1 65536\nget\n";
 
 #[test]
-fn a_script_ends_the_program_by_its_last_line(rt: HostRuntime) {
+fn a_script_ends_the_program_by_its_last_line(rt: HostRuntime) -> Result<(), Fail> {
     let alloc = rt.alloc();
-    assert!(rt; ends(alloc, GOOD, Refuses::Nothing, Ending::Done, 6));
-    assert!(rt; ends(alloc, BAD, Refuses::Nothing, Ending::BadInput, 17));
+    assert!(rt; ends(alloc, GOOD, Refuses::Nothing, Ending::Done, 6)?);
+    assert!(rt; ends(alloc, BAD, Refuses::Nothing, Ending::BadInput, 17)?);
+    Ok(())
 }
 
 #[test]
-fn an_output_that_fails_ends_the_program_with_a_file_fault(rt: HostRuntime) {
+fn an_output_that_fails_ends_the_program_with_a_file_fault(
+    rt: HostRuntime,
+) -> Result<(), Fail> {
     let alloc = rt.alloc();
-    assert!(rt; ends(alloc, GOOD, Refuses::Writes, Ending::FileFault, 0));
-    assert!(rt; ends(alloc, GOOD, Refuses::Flushes, Ending::FileFault, 6));
-    assert!(rt; ends(alloc, BAD, Refuses::Flushes, Ending::FileFault, 17));
+    assert!(rt; ends(alloc, GOOD, Refuses::Writes, Ending::FileFault, 0)?);
+    assert!(rt; ends(alloc, GOOD, Refuses::Flushes, Ending::FileFault, 6)?);
+    assert!(rt; ends(alloc, BAD, Refuses::Flushes, Ending::FileFault, 17)?);
+    Ok(())
 }
 
 #[test]
