@@ -8,4 +8,3 @@ mod threshold;
 pub use chance::Chance;
 pub use judgement::Judgement;
 pub use threshold::Threshold;
-

@@ -4,4 +4,3 @@
 mod filter;
 
 pub use filter::Filter;
-

@@ -6,4 +6,3 @@ mod pair;
 
 pub use cache::MemoryCache;
 pub use pair::Pair;
-

@@ -10,4 +10,3 @@ pub use device::PageDevice;
 pub use device_fault::DeviceFault;
 pub use fuse::FuseDevice;
 pub use memory::MemoryDevice;
-

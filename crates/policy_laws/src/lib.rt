@@ -24,4 +24,3 @@ pub use policy::EvictionPolicy;
 pub use pre_flash::PreFlash;
 pub use rank::Rank;
 pub use ranking::plan_by_rank;
-

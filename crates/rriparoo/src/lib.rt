@@ -8,4 +8,3 @@ mod rriparoo;
 pub use ageing::age;
 pub use hit_bits::HitBits;
 pub use rriparoo::Rriparoo;
-

@@ -8,4 +8,3 @@ mod placing;
 pub use fnv::hash;
 pub use placed::Placed;
 pub use placing::place;
-

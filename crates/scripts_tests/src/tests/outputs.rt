@@ -69,9 +69,7 @@ fn a_script_ends_the_program_by_its_last_line(rt: HostRuntime) -> Result<(), Fai
 }
 
 #[test]
-fn an_output_that_fails_ends_the_program_with_a_file_fault(
-    rt: HostRuntime,
-) -> Result<(), Fail> {
+fn an_output_that_fails_ends_the_program_with_a_file_fault(rt: HostRuntime) -> Result<(), Fail> {
     let alloc = rt.alloc();
     assert!(rt; ends(alloc, GOOD, Refuses::Writes, Ending::FileFault, 0)?);
     assert!(rt; ends(alloc, GOOD, Refuses::Flushes, Ending::FileFault, 6)?);
