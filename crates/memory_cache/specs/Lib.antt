@@ -1,3 +1,4 @@
 pub mod MemoryList
 pub mod Entries
 pub mod Lending
+pub mod Laws

@@ -2,7 +2,9 @@
 #![tactic(auto)]
 
 mod cache;
+mod laws;
 mod pair;
 
 pub use cache::MemoryCache;
+pub use laws::{found_is_held, memory_keeps_all, memory_keeps_bounds, pushed_out_was_held};
 pub use pair::Pair;
