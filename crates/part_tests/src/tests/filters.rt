@@ -7,8 +7,10 @@ fn a_filter_admits_what_was_added(rt: HostRuntime) {
     let first = [140, 217, 38, 115];
     let second = [232, 89, 202, 59];
     let mut filter = Filter::empty();
+    assert!(rt; filter.is_empty());
     assert!(rt; !filter.may_hold(first));
     filter.add(first);
+    assert!(rt; !filter.is_empty());
     assert!(rt; filter.may_hold(first));
     assert!(rt; !filter.may_hold(second));
     assert!(rt; !filter.may_hold([140, 217, 38, 116]));

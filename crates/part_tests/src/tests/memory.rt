@@ -41,6 +41,7 @@ fn the_pair_that_was_used_longest_ago_leaves(rt: HostRuntime) -> Result<(), Fail
     assert_eq!(rt; memory.capacity(), 2);
     let a = Key::new(alloc, b"a")?;
     assert!(rt; put(&rt, alloc, &mut memory, b"a", b"1")?.is_none());
+    assert!(rt; !memory.is_empty());
     assert!(rt; put(&rt, alloc, &mut memory, b"b", b"2")?.is_none());
     assert!(rt; matches!(memory.get(&a), Some(value) if value.bytes() == b"1".as_slice()));
     let out = put(&rt, alloc, &mut memory, b"c", b"3")?;
