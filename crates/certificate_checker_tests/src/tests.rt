@@ -1,3 +1,4 @@
 // What no clause of the checker says: outside rows, and readers, writers and memory that fail.
+mod effects;
 mod judging;
 mod verdicts;
