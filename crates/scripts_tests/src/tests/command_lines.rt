@@ -16,7 +16,7 @@ enum Asked {
 }
 
 /// What a command line asks for.
-fn asked(line: &Result<Line, LineFault>) -> Asked {
+fn what_is_asked(line: &Result<Line, LineFault>) -> Asked {
     match line {
         Ok(Line::Script) => Asked::Script,
         Ok(Line::Check(file)) if file.as_str() == "a.trace" => Asked::Check,
@@ -29,7 +29,7 @@ fn asked(line: &Result<Line, LineFault>) -> Asked {
 /// Whether these words ask for this.
 fn ask_for<'a>(alloc: Global, words: &'a [&'a str], what: Asked) -> bool {
     let line = parse_line(alloc, words);
-    asked(&line) == what
+    what_is_asked(&line) == what
 }
 
 #[test]
