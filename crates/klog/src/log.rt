@@ -1,7 +1,7 @@
 // The log of a lane.
-ghost use Rattle.std.specs.Prelude.{◌≡◌, ◌<◌, ◌≤◌, ◌+◌, ◌*◌, ◌^◌, ◌↔◌, ℕ, List, [], length, Option, IfOk, IsTrue};
+ghost use Rattle.std.specs.Prelude.{◌≡◌, ◌<◌, ◌≤◌, ◌+◌, ◌*◌, ◌^◌, ◌↔◌, ℕ, List, [], length, Option, IfOk, IsTrue, count_by};
 ghost use Rattle.record_pages.specs.Sizes.{IsPageSize};
-ghost use Rattle.klog_index.specs.Entries.{AreApart};
+ghost use Rattle.klog_index.specs.Entries.{AreApart, is_of};
 ghost use Rattle.klog.specs.Log.{LogState, shape_of, opening_log};
 ghost use Rattle.klog.specs.Names.{names, name_of, number_of, flushed_number, filled_number, device_page};
 ghost use Rattle.klog.specs.Shown.{IsSpelledOn, live_on, ArePlaced};
@@ -80,6 +80,13 @@ impl<const PAGE: usize> KLog<PAGE> {
             ArePlaced self.now.shape (live_on held self.now) }
     {
         self.index.len()
+    }
+
+    /// How many live records a set has.
+    pub fn count(&self, set: u32) -> usize
+        ensures { result ≡ count_by (is_of set) self.now.entries }
+    {
+        self.index.count(set)
     }
 
     /// Whether there is no live record.
