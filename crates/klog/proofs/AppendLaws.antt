@@ -19,6 +19,7 @@ use Rattle.klog.specs.Keeps.{IsHeld, IsLog}
 use Rattle.klog.specs.Append.{put_on, entry_for, sealed, taker, live_entered}
 use Rattle.klog.proofs.BufferLaws.{still_in, added_at, free_at, length-pages_with}
 use Rattle.klog.proofs.ShownLaws.{entry_number}
+use Rattle.klog.proofs.OrderLaws.{ordered_put}
 
 -- the set of a key is one of the sets
 pub set_within : (shape : Shape) (key : List ℕ) → 0 < shape.sets → (place_in shape key).set < shape.sets
@@ -86,6 +87,7 @@ log_put bytes k r h listed set at number =
             filled = λ _. some_is (record_in (pages_with bytes k.filling r) e.place.page e.place.slot) r (added_at bytes k.filling r);
           })
           (λ i d lt. held_put bytes k r (get_or k.entries i d) (h.held i d lt));
+      ordered = ordered_put bytes k r h;
       few_entries = omega (arith, listed);
       stored_fits = h.stored_fits;
       filling_fits = length-pages_with bytes k.shape.segment_pages k.filling r h.filling_fits at;

@@ -12,7 +12,7 @@ use Rattle.klog.specs.Log.{LogState}
 use Rattle.klog.specs.Names.{segment_of, flushed_number, filled_number}
 use Rattle.klog.specs.Shown.{record_on, record_of_held, shown_on, CanStandFor, IsLiveOn}
 use Rattle.klog.specs.Known.{is_buffered, IsPageKnown, IsHad, ShowsIfHad}
-use Rattle.klog.specs.Fetch.{is_fault, FetchGives}
+use Rattle.klog.specs.Fetch.{is_fetch_fault, FetchGives}
 use Rattle.klog.proofs.FetchLaws.{IsStored, stored_shows}
 
 -- an entry whose segment is on the device is in no buffer
@@ -51,7 +51,7 @@ live_had bytes held k e live =
     (subst (λ (o : Option Rec). IsSomeAnd o (CanStandFor bytes k.shape e)) (stored_shows held k e stored) live))
 
 -- where no record is given of a live entry the device failed
-pub none_failed : (bytes : ℕ) (held : ℕ → Option (List ℕ)) (k : LogState) (e : Entry) (f : Fetched) (before after : ℕ) → ((r : RecordRef) → f ≡ fetched.Record r → ⊥) → after ≡ faults_after before (is_fault f)
+pub none_failed : (bytes : ℕ) (held : ℕ → Option (List ℕ)) (k : LogState) (e : Entry) (f : Fetched) (before after : ℕ) → ((r : RecordRef) → f ≡ fetched.Record r → ⊥) → after ≡ faults_after before (is_fetch_fault f)
     → (IsHad held k e → FetchGives bytes k.shape e (shown_on held k e) f) → IsLiveOn bytes held k e → after ≡ faults_after before true
 none_failed bytes held k e (fetched.Record r) before after none fails gives live = absurd (none r refl)
 none_failed bytes held k e fetched.Fault before after none fails gives live = fails

@@ -2,6 +2,7 @@ pub mod RingLaws
 pub mod BufferLaws
 pub mod LiveLaws
 pub mod ShownLaws
+pub mod OrderLaws
 pub mod AppendLaws
 pub mod FlushLaws
 pub mod FetchLaws
@@ -9,3 +10,5 @@ pub mod KnownLaws
 pub mod LookLaws
 pub mod MoveLaws
 pub mod TakeLaws
+pub mod TakenLaws
+pub mod CallLaws

@@ -1,18 +1,20 @@
 -- What is live after entries were dropped or lowered.
-use Rattle.std.proofs.Common.{◌≡◌, ℕ, ◌≤◌, Bool, true, false, cond, List, [], ◌∷◌, length, filter, map, Option, Some, None, All, refl, ap, ◌∙◌, arith}
+use Rattle.std.proofs.Common.{◌≡◌, ℕ, zero, suc, ◌<◌, ◌≤◌, Bool, true, false, cond, List, [], ◌∷◌, length, get_or, filter, map, Option, Some, None, All, Contains, refl, sym, ap, subst, ◌∙◌, arith}
 use Rattle.std.specs.List.{filter_map, cons_option}
 use Rattle.std.specs.Option.{option_map}
 use Rattle.std.specs.Prelude.{IsSomeAnd}
 use Rattle.std.proofs.lemmas.Bool.{cond_both}
-use Rattle.std.proofs.lemmas.List.Elements.{All-filter, All-weaker, All-nil, All-cons, All-head, All-tail}
+use Rattle.std.proofs.lemmas.List.Elements.{All-filter, All-weaker, All-nil, All-cons, All-head, All-tail, Contains-append_right}
+use Rattle.std.proofs.lemmas.List.Kept.{AllPairs-filter}
 use Rattle.record_pages.specs.Recs.{Rec}
 use Rattle.page_device.specs.Frames.{pages_from}
 use Rattle.klog_index.specs.declared.entry.Entry.{Entry}
+use Rattle.klog_index.specs.declared.place.Place.{Place}
 use Rattle.klog_index.specs.Entries.{lowered, with_lowered}
 use Rattle.klog_index.proofs.EntryLaws.{length-with_lowered}
 use Rattle.klog.specs.Log.{Shape, LogState, with_list}
 use Rattle.klog.specs.Shown.{shown, live_on, CanStandFor, IsLive, IsFlushed, IsSpelledOn}
-use Rattle.klog.specs.Keeps.{IsHeld, IsLog}
+use Rattle.klog.specs.Keeps.{IsHeld, IsBehind, AreOrdered, IsLog}
 
 -- entries, each with the record that it shows
 abbrev pub live_by : (Entry → Option Rec) → List Entry → List (Entry × Rec)
@@ -28,6 +30,21 @@ live_by-kept p shows (e ∷ es) = step (live_by-kept p shows es) (p e) (shows e)
     step rest true None is at = simp (is, at) rest
     step rest false (Some r) is at = simp (is, at) rest
     step rest false None is at = simp (is, at) rest
+
+-- the record that an entry shows is live with it
+pub live_contained : (shows : Entry → Option Rec) (es : List Entry) (e : Entry) (r : Rec) → Contains es e → shows e ≡ Some r → Contains (live_by shows es) (e, r)
+live_contained shows [] e r h at = absurd (omega (arith, h.1))
+live_contained shows (x ∷ es) e r h at = by_place (λ rest. live_contained shows es e r rest at) h.0 h.1 h.2
+  where
+    behind : (o : Option Rec) → shows x ≡ o → Contains (live_by shows es) (e, r) → Contains (live_by shows (x ∷ es)) (e, r)
+    behind (Some y) is rest = subst (λ (o : Option Rec). Contains (cons_option (option_map (λ r. (x, r)) o) (live_by shows es)) (e, r)) (sym is) (Contains-append_right ((x, y) ∷ []) (live_by shows es) (e, r) rest)
+    behind None is rest = subst (λ (o : Option Rec). Contains (cons_option (option_map (λ r. (x, r)) o) (live_by shows es)) (e, r)) (sym is) rest
+
+    by_place : (Contains es e → Contains (live_by shows es) (e, r)) → (i : ℕ) → i < length (x ∷ es) → get_or (x ∷ es) i e ≡ e → Contains (live_by shows (x ∷ es)) (e, r)
+    by_place later zero lt is =
+        subst (λ (o : Option Rec). Contains (cons_option (option_map (λ r. (x, r)) o) (live_by shows es)) (e, r)) (sym (ap shows is ∙ at))
+        (0, omega arith, ap (λ (y : Entry). let p : Entry × Rec = (y, r) in p) is)
+    by_place later (suc i) lt is = behind (shows x) refl (later (i, omega (arith, lt), is))
 
 -- the same of a log of which no other part changes
 pub live_on-kept : (held : ℕ → Option (List ℕ)) (k : LogState) (p : Entry → Bool) → live_on held (with_list k (filter p k.entries)) ≡ filter (λ x. p x.0) (live_on held k)
@@ -65,9 +82,22 @@ All-lowered p P keeps (e ∷ es) h =
     (cond_both (p e) (lowered e) e P (λ _. keeps e (All-head P e es h)) (λ _. All-head P e es h))
     (All-lowered p P keeps es (All-tail P e es h))
 
--- a log with other entries, each of them held, and no more than it may have, is a log
-pub log_with : (k : LogState) (es : List Entry) → IsLog k → All (IsHeld k) es → length es ≤ k.shape.limit → IsLog (with_list k es)
-log_with k es h held few = record {
+-- an entry lies where it lay when some are lowered
+place_lowered : (p : Entry → Bool) (es : List Entry) (i : ℕ) (d : Entry) → i < length es → (get_or (with_lowered p es) i d).place ≡ (get_or es i d).place
+place_lowered p [] i d lt = absurd (omega (arith, lt))
+place_lowered p (e ∷ es) zero d lt = cond_both (p e) (lowered e) e (λ x. x.place ≡ e.place) (λ _. refl) (λ _. refl)
+place_lowered p (e ∷ es) (suc i) d lt = place_lowered p es i d (omega (arith, lt))
+
+-- so they stand in order as they stood
+ordered_lowered : (k : LogState) (p : Entry → Bool) (es : List Entry) → AreOrdered k es → AreOrdered k (with_lowered p es)
+ordered_lowered k p es h = λ i j d lt within.
+    let to : j < length es = omega (arith, within, length-with_lowered p es) in
+    subst (λ (x : Place). IsBehind k x (get_or (with_lowered p es) j d).place) (sym (place_lowered p es i d (omega (arith, lt, to))))
+    (subst (λ (y : Place). IsBehind k (get_or es i d).place y) (sym (place_lowered p es j d to)) (h i j d lt to))
+
+-- a log with other entries, each of them held, in order, and no more than it may have, is a log
+pub log_with : (k : LogState) (es : List Entry) → IsLog k → All (IsHeld k) es → AreOrdered k es → length es ≤ k.shape.limit → IsLog (with_list k es)
+log_with k es h held ordered few = record {
   some_sets = h.some_sets;
   few_sets = h.few_sets;
   some_segments = h.some_segments;
@@ -75,6 +105,7 @@ log_with k es h held few = record {
   some_pages = h.some_pages;
   few_pages = h.few_pages;
   held = All-weaker (IsHeld k) (IsHeld (with_list k es)) (λ e q. record { set = q.set; name = q.name; page = q.page; segment = q.segment; filled = q.filled }) es held;
+  ordered = ordered;
   few_entries = few;
   stored_fits = h.stored_fits;
   filling_fits = h.filling_fits;
@@ -87,13 +118,14 @@ log_with k es h held few = record {
 
 -- a log of which some entries are kept is a log
 pub log_kept : (k : LogState) (p : Entry → Bool) → IsLog k → IsLog (with_list k (filter p k.entries))
-log_kept k p h = log_with k (filter p k.entries) h (All-filter p (IsHeld k) k.entries h.held) (omega (arith, length-kept p k.entries, h.few_entries))
+log_kept k p h = log_with k (filter p k.entries) h (All-filter p (IsHeld k) k.entries h.held) (AllPairs-filter (λ a b. IsBehind k a.place b.place) p k.entries h.ordered) (omega (arith, length-kept p k.entries, h.few_entries))
 
 -- a log of which some entries are lowered is a log
 pub log_lowered : (k : LogState) (p : Entry → Bool) → IsLog k → IsLog (with_list k (with_lowered p k.entries))
 log_lowered k p h =
     log_with k (with_lowered p k.entries) h
     (All-lowered p (IsHeld k) (λ e q. record { set = q.set; name = q.name; page = q.page; segment = q.segment; filled = q.filled }) k.entries h.held)
+    (ordered_lowered k p k.entries h.ordered)
     (omega (arith, length-with_lowered p k.entries, h.few_entries))
 
 -- what may stand for an entry may stand for it where it is lowered

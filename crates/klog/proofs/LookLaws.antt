@@ -1,5 +1,5 @@
 -- What a look-up finds among the live records.
-use Rattle.std.proofs.Common.{◌≡◌, ℕ, suc, ◌+◌, ◌<◌, ◌≤◌, Bool, true, false, eqb, List, [], ◌∷◌, ◌++◌, length, get_or, take, drop, filter, Option, Some, None, All, Contains, slice_get, inl, inr, drop-cons, refl, sym, ap, subst, ◌∙◌, arith}
+use Rattle.std.proofs.Common.{◌≡◌, ℕ, zero, suc, ◌+◌, ◌<◌, ◌≤◌, Bool, true, false, eqb, List, [], ◌∷◌, ◌++◌, length, get_or, take, drop, filter, Option, Some, None, All, Contains, slice_get, inl, inr, drop-cons, refl, sym, ap, subst, ◌∙◌, arith}
 use Rattle.std.specs.Prelude.{IsSomeAnd, IsTrue, find, Result, Ok}
 use Rattle.std.specs.declared.alloc.AllocError.{AllocError}
 use Rattle.std.specs.List.{cons_option}
@@ -18,8 +18,8 @@ use Rattle.klog.specs.declared.told.Told.{Told}
 use Rattle.klog.specs.declared.found.Found.{Found}
 use Rattle.klog.specs.declared.found.Found.TheVariants as found
 use Rattle.klog.specs.Log.{Shape, LogState}
-use Rattle.klog.specs.Shown.{shown_on, live_on, newest_with, place_in, CanStandFor, IsLiveOn, IsSpelledOn}
-use Rattle.klog.specs.Find.{Tells, Finds, FindsAt}
+use Rattle.klog.specs.Shown.{shown_on, live_on, ArePlaced, newest_with, place_in, CanStandFor, IsLiveOn, IsSpelledOn}
+use Rattle.klog.specs.Find.{TellsKey, Finds, FindsAt}
 use Rattle.klog.specs.Look.{lowered_in, ShowsOther, IsReached}
 use Rattle.klog.specs.Known.{is_buffered, AreBuffered, ShowsIfHad}
 use Rattle.klog.proofs.LiveLaws.{live_by, live_by-kept, length-kept}
@@ -30,7 +30,7 @@ abbrev OtherBy : (Entry → Option Rec) → List ℕ → Entry → Type 0
 OtherBy shows key e = IsSomeAnd (shows e) (λ r. has_key key r ≡ false)
 
 -- what holds of each entry's record holds of each live record
-All-live : (P : Entry × Rec → Type 0) (shows : Entry → Option Rec) (es : List Entry) → All (λ e. (r : Rec) → shows e ≡ Some r → P (e, r)) es → All P (live_by shows es)
+pub All-live : (P : Entry × Rec → Type 0) (shows : Entry → Option Rec) (es : List Entry) → All (λ e. (r : Rec) → shows e ≡ Some r → P (e, r)) es → All P (live_by shows es)
 All-live P shows [] h = All-nil P
 All-live P shows (e ∷ es) h =
     step (shows e) refl (All-live P shows es (All-tail (λ e. (r : Rec) → shows e ≡ Some r → P (e, r)) e es h)) (All-head (λ e. (r : Rec) → shows e ≡ Some r → P (e, r)) e es h)
@@ -38,6 +38,14 @@ All-live P shows (e ∷ es) h =
     step : (o : Option Rec) → shows e ≡ o → All P (live_by shows es) → ((r : Rec) → shows e ≡ Some r → P (e, r)) → All P (cons_option (option_map (λ r. (e, r)) (shows e)) (live_by shows es))
     step (Some r) at rest here = rw at (All-cons P (e, r) (live_by shows es) (here r at) rest)
     step None at rest here = rw at rest
+
+-- live records are placed
+pub placed_live : (bytes : ℕ) (held : ℕ → Option (List ℕ)) (k : LogState) → IsSpelledOn bytes held k → ArePlaced k.shape (live_on held k)
+placed_live bytes held k h =
+    All-live (λ x. ((place_in k.shape x.1.key).set ≡ x.0.set) × ((place_in k.shape x.1.key).tag ≡ x.0.tag)) (shown_on held k) k.entries
+    (λ i d lt r at.
+    let can : CanStandFor bytes k.shape (get_or k.entries i d) r = subst (λ (o : Option Rec). IsSomeAnd o (CanStandFor bytes k.shape (get_or k.entries i d))) at (h.live i d lt) in
+    (can.set_is, can.tag_is))
 
 -- the first that passes a test is the first of those that pass another one, where none passes the first alone
 find-kept : (p q : Entry × Rec → Bool) (xs : List (Entry × Rec)) → All (λ x. p x ≡ true → q x ≡ true) xs → find p (filter q xs) ≡ find p xs
@@ -112,9 +120,37 @@ turn_listed k set tag behind e at = kept_of (has_tag set tag) k.entries e (got (
 pub turn_buffered : (k : LogState) (set tag behind : ℕ) (e : Entry) → AtTurn k set tag behind e → AreBuffered k (of_tag set tag k.entries) → IsTrue (is_buffered k e)
 turn_buffered k set tag behind e at all = All-contains (λ e. IsTrue (is_buffered k e)) (of_tag set tag k.entries) e all (got (of_tag set tag k.entries) behind e at)
 
+-- the entries before it lie in buffers where all do
+pub turn_before : (k : LogState) (set tag behind : ℕ) → AreBuffered k (of_tag set tag k.entries) → AreBuffered k (take behind (of_tag set tag k.entries))
+turn_before k set tag behind all = All-take (λ e. IsTrue (is_buffered k e)) behind (of_tag set tag k.entries) all
+
+-- what stands early in a list is among the first
+pub got_early : {X : Type 0} (xs : List X) (n i : ℕ) (x : X) → i < n → slice_get xs i ≡ Some x → slice_get (take n xs) i ≡ Some x
+got_early [] n i x lt e = absurd cc
+got_early (y ∷ xs) zero i x lt e = absurd (omega (arith, lt))
+got_early (y ∷ xs) (suc n) zero x lt e = e
+got_early (y ∷ xs) (suc n) (suc i) x lt e = got_early xs n i x (omega (arith, lt)) e
+
+-- the first ones of one more are the first ones
+take_less : {X : Type 0} (n : ℕ) (xs : List X) → take n (take (suc n) xs) ≡ take n xs
+take_less zero xs = refl
+take_less (suc n) [] = refl
+take_less {X} (suc n) (x ∷ xs) = ap (λ (ys : List X). x ∷ ys) (take_less n xs)
+
+-- what holds of the first ones and one more holds of the first ones, and of that one
+pub first_ones : {X : Type 0} (P : X → Type 0) (xs : List X) (n : ℕ) (x : X) → slice_get xs n ≡ Some x → All P (take (n + 1) xs) → All P (take n xs) × P x
+first_ones {X} P xs n x at all =
+    let next : n + 1 ≡ suc n = omega arith in
+    let more : All P (take (suc n) xs) = subst (λ (m : ℕ). All P (take m xs)) next all in
+    (subst (All P) (take_less n xs) (All-take P n (take (suc n) xs) more), All-contains P (take (suc n) xs) x more (got (take (suc n) xs) n x (got_early xs (suc n) n x (omega arith) at)))
+
+-- the same of the entries with a tag
+pub turn_first : (P : Entry → Type 0) (k : LogState) (set tag behind : ℕ) (e : Entry) → AtTurn k set tag behind e → All P (take (behind + 1) (of_tag set tag k.entries)) → All P (take behind (of_tag set tag k.entries)) × P e
+turn_first P k set tag behind e at all = first_ones P (of_tag set tag k.entries) behind e at all
+
 -- what is told of it on the device as it was
-pub turn_tells : (bytes : ℕ) (held held' : ℕ → Option (List ℕ)) (k : LogState) (key : List ℕ) (e : Entry) (t t' : Result Told AllocError) → held' ≡ held → t ≡ t' → Tells bytes held' k e key t → Tells bytes held k e key t'
-turn_tells bytes held held' k key e t t' same is tells = subst (Tells bytes held k e key) is (subst (λ (x : ℕ → Option (List ℕ)). Tells bytes x k e key t) same tells)
+pub turn_tells : (bytes : ℕ) (held held' : ℕ → Option (List ℕ)) (k : LogState) (key : List ℕ) (e : Entry) (t t' : Result Told AllocError) → held' ≡ held → t ≡ t' → TellsKey bytes held' k e key t → TellsKey bytes held k e key t'
+turn_tells bytes held held' k key e t t' same is tells = subst (TellsKey bytes held k e key) is (subst (λ (x : ℕ → Option (List ℕ)). TellsKey bytes x k e key t) same tells)
 
 -- the search came to it
 pub turn_reached : (bytes : ℕ) (held : ℕ → Option (List ℕ)) (k : LogState) (set tag : ℕ) (key : List ℕ) (behind : ℕ) (e : Entry) → AtTurn k set tag behind e

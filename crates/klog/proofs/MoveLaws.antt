@@ -1,11 +1,11 @@
 -- What leaves the log from its oldest segment.
-use Rattle.std.proofs.Common.{◌≡◌, ◌≢◌, ℕ, zero, suc, ◌+◌, ◌<◌, ◌≤◌, Bool, true, false, cond, not, eqb, ◌&&◌, ◌||◌, List, [], ◌∷◌, ◌++◌, length, get_or, take, filter, Option, Some, All, Contains, inl, inr, refl, sym, ap, subst, ◌∙◌, arith}
+use Rattle.std.proofs.Common.{◌≡◌, ◌≢◌, ℕ, zero, suc, ◌+◌, ◌<◌, ◌≤◌, Bool, true, false, cond, not, eqb, ◌&&◌, ◌||◌, List, [], ◌∷◌, ◌++◌, length, get_or, take, filter, slice_get, Option, Some, None, All, Contains, inl, inr, refl, sym, ap, subst, ◌∙◌, arith}
 use Rattle.std.specs.Prelude.{IsSomeAnd}
 use Rattle.std.specs.List.{list_any}
-use Rattle.std.proofs.lemmas.Bool.{false≢true, and_from, and_right, cases_cond, eq-eqb, ne_eqb}
-use Rattle.std.proofs.lemmas.Option.{same_Some}
+use Rattle.std.proofs.lemmas.Bool.{false≢true, and_from, and_parts, and_right, cases_cond, eq-eqb, eqb-true, ne_eqb}
+use Rattle.std.proofs.lemmas.Option.{slice_get_within, get_or_from_slice_get, same_Some}
 use Rattle.std.proofs.lemmas.List.Elements.{All-contains}
-use Rattle.std.proofs.lemmas.List.{take_more}
+use Rattle.std.proofs.lemmas.List.{take_more, take_all}
 use Rattle.std.proofs.lemmas.List.Folds.{list_any-append}
 use Rattle.page_device.specs.Frames.{pages_from}
 use Rattle.record_pages.specs.Recs.{Rec}
@@ -14,22 +14,24 @@ use Rattle.record_pages.specs.Lent.{record_shown}
 use Rattle.record_pages.specs.PageText.{SpellsLogPage}
 use Rattle.klog_index.specs.declared.entry.Entry.{Entry}
 use Rattle.klog_index.specs.declared.place.Place.{Place}
-use Rattle.klog_index.specs.Entries.{Entries, with_entries, is_of, is_place, is_in, without}
+use Rattle.klog_index.specs.Entries.{is_of, is_place, is_in, without}
 use Rattle.klog_index.specs.First.{NoneOfSegment}
 use Rattle.klog.specs.declared.fetched.Fetched.TheVariants as fetched
 use Rattle.klog.specs.declared.oldest.Oldest.TheVariants as oldest
 use Rattle.klog.specs.declared.readmitted.Readmitted.{Readmitted}
+use Rattle.klog.specs.declared.taken_record.TakenRecord.{TakenRecord}
 use Rattle.klog.specs.declared.readmitted.Readmitted.TheVariants as answers
 use Rattle.klog.specs.Buffer.{page_of, record_in}
-use Rattle.klog.specs.Log.{LogState}
+use Rattle.klog.specs.Log.{LogState, with_list}
 use Rattle.klog.specs.Names.{names, name_of, number_of, segment_of, flushed_number, filled_number, ring_page}
 use Rattle.klog.specs.Shown.{shown, shown_on, live_on, record_of_held, CanStandFor, IsLiveOn, IsFlushed, IsSpelledOn}
 use Rattle.klog.specs.Keeps.{IsHeld, IsLog}
 use Rattle.klog.specs.Known.{IsPageKnown, IsHad, ShowsIfHad}
-use Rattle.klog.specs.Moves.{TellsOldest, IsOfOldest, freed, is_among, EntersAnew, ReadsBack}
+use Rattle.klog.specs.Moves.{TellsOldest, IsOfOldest, freed, is_source, is_taken, dropped, EntersAnew, MovesTo, ReadsBack}
 use Rattle.klog.specs.Fetch.{stored_on, FetchGives}
 use Rattle.klog.proofs.RingLaws.{name_again, number_again, number_from}
-use Rattle.klog.proofs.LiveLaws.{live_by-same, length-kept}
+use Rattle.klog.proofs.LiveLaws.{live_contained, live_by-same, length-kept}
+use Rattle.klog.proofs.OrderLaws.{ordered_again}
 use Rattle.klog.proofs.FetchLaws.{IsStored, stored_shows}
 use Rattle.klog.proofs.KnownLaws.{page_known, live_had}
 
@@ -39,11 +41,11 @@ use Rattle.klog.proofs.KnownLaws.{page_known, live_had}
 flushed_freed : (k : LogState) → 0 < k.stored → flushed_number (freed k) ≡ flushed_number k
 flushed_freed k some = omega arith
 
-filled_freed : (k : LogState) → 0 < k.stored → filled_number (freed k) ≡ filled_number k
+pub filled_freed : (k : LogState) → 0 < k.stored → filled_number (freed k) ≡ filled_number k
 filled_freed k some = ap (λ (n : ℕ). cond k.is_flushing (n + 1) n) (flushed_freed k some)
 
 -- an entry of another segment keeps its number
-segment_freed : (k : LogState) (e : Entry) → IsLog k → IsHeld k e → e.place.segment ≢ name_of k k.first → segment_of (freed k) e ≡ segment_of k e
+pub segment_freed : (k : LogState) (e : Entry) → IsLog k → IsHeld k e → e.place.segment ≢ name_of k k.first → segment_of (freed k) e ≡ segment_of k e
 segment_freed k e log held other =
     let name = name_again k e.place.segment held.name in
     let later : k.first ≢ segment_of k e = λ same. other (sym name ∙ ap (name_of k) (sym same)) in
@@ -93,6 +95,7 @@ log_freed k tells h = record {
         segment = omega (arith, same, q.segment, filled_freed k tells.0);
         filled = λ at. q.filled (sym same ∙ at ∙ filled_freed k tells.0);
       };
+  ordered = ordered_again k (freed k) k.entries (segments_freed k h tells.1) h.ordered;
   few_entries = h.few_entries;
   stored_fits = omega (arith, h.stored_fits);
   filling_fits = h.filling_fits;
@@ -123,7 +126,7 @@ spelled_freed bytes held k tells log h = record {
         let t = h (sym same ∙ at ∙ flushed_freed k some) is below in
         (t.0, ap (λ (n : ℕ). pages (ring_page k n e.place.page)) same ∙ t.1, subst (λ (n : ℕ). SpellsLogPage bytes t.0 (record { segment = n; page = e.place.page; records = page_of k.flushing e.place.page })) (sym same) t.2)
 
--- ---- places are dropped
+-- ---- what was taken is dropped
 
 -- what passes two tests, one after the other
 filter_twice : (p q both : Entry → Bool) (es : List Entry) → ((e : Entry) → both e ≡ (p e && q e)) → filter q (filter p es) ≡ filter both es
@@ -136,22 +139,68 @@ filter_twice p q both (e ∷ es) is = step (filter_twice p q both es is) (p e) (
     step rest false true pe qe = simp (is e, pe) rest
     step rest false false pe qe = simp (is e, pe) rest
 
--- no place is none
-pub dropped_none : (set : ℕ) (es : List Entry) → es ≡ without (is_among set []) es
-dropped_none set [] = refl
-dropped_none set (e ∷ es) = step (dropped_none set es) (is_of set e)
-  where
-    step : es ≡ without (is_among set []) es → (b : Bool) → e ∷ es ≡ cond (not (b && false)) (e ∷ without (is_among set []) es) (without (is_among set []) es)
-    step rest true = ap (λ (xs : List Entry). e ∷ xs) rest
-    step rest false = ap (λ (xs : List Entry). e ∷ xs) rest
+-- tests that agree keep the same
+filter_as : (p q : Entry → Bool) (es : List Entry) → ((e : Entry) → p e ≡ q e) → filter p es ≡ filter q es
+filter_as p q [] same = refl
+filter_as p q (e ∷ es) same =
+    ap (λ (b : Bool). cond b (e ∷ filter p es) (filter p es)) (same e) ∙ ap (λ (xs : List Entry). cond (q e) (e ∷ xs) xs) (filter_as p q es same)
 
--- one place more
-pub dropped_more : (set : ℕ) (ps : List Place) (p : Place) (es : List Entry) → without (is_in set p) (without (is_among set ps) es) ≡ without (is_among set (ps ++ p ∷ [])) es
-dropped_more set ps p es =
-    filter_twice (λ e. not (is_among set ps e)) (λ e. not (is_in set p e)) (λ e. not (is_among set (ps ++ p ∷ []) e)) es
-    (λ e. ap (λ (b : Bool). not (is_of set e && b)) (list_any-append (is_place e.place) ps (p ∷ [])) ∙ each (is_of set e) (list_any (is_place e.place) ps) (is_place e.place p))
+-- where all pass, all are kept
+filter_whole : (p : Entry → Bool) (es : List Entry) → ((e : Entry) → p e ≡ true) → es ≡ filter p es
+filter_whole p [] passes = refl
+filter_whole p (e ∷ es) passes =
+    ap (λ (xs : List Entry). e ∷ xs) (filter_whole p es passes) ∙ sym (ap (λ (b : Bool). cond b (e ∷ filter p es) (filter p es)) (passes e))
+
+-- one place is of one segment
+place_segment : (p q : Place) → is_place p q ≡ true → p.segment ≡ q.segment
+place_segment p q is =
+    eqb-true p.segment q.segment (and_parts (eqb p.segment q.segment) (eqb p.page q.page) (and_parts (eqb p.segment q.segment && eqb p.page q.page) (eqb p.slot q.slot) is).0).0
+
+-- a record was taken of what lies at its place, if that is of its segment
+source_is : (k : LogState) (t : TakenRecord) (e : Entry) (b : Bool) → eqb (number_of k t.place.segment) t.segment ≡ b → is_source k t e ≡ (is_place e.place t.place && b)
+source_is k t e b is = step (is_place e.place t.place) refl
   where
-    each : (a b d : Bool) → not (a && (b || (d || false))) ≡ (not (a && b) && not (a && d))
+    step : (c : Bool) → is_place e.place t.place ≡ c → (c && eqb (segment_of k e) t.segment) ≡ (c && b)
+    step true at = ap (λ (n : ℕ). eqb (number_of k n) t.segment) (place_segment e.place t.place at) ∙ is
+    step false at = refl
+
+-- so where its segment is held what lies at its place is dropped
+pub dropped_held : (k : LogState) (set : ℕ) (t : TakenRecord) (es : List Entry) → number_of k t.place.segment ≡ t.segment → without (is_in set t.place) es ≡ without (is_taken k set (t ∷ [])) es
+dropped_held k set t es held =
+    filter_as (λ e. not (is_in set t.place e)) (λ e. not (is_taken k set (t ∷ []) e)) es
+    (λ e. ap (λ (b : Bool). not (is_of set e && b)) (each (is_place e.place t.place) (is_source k t e) (source_is k t e true (eq-eqb (number_of k t.place.segment) t.segment held))))
+  where
+    each : (c s : Bool) → s ≡ (c && true) → c ≡ (s || false)
+    each true s is = sym (ap (λ (b : Bool). b || false) is)
+    each false s is = sym (ap (λ (b : Bool). b || false) is)
+
+-- and where it is not nothing is
+pub dropped_past : (k : LogState) (set : ℕ) (t : TakenRecord) → (number_of k t.place.segment ≡ t.segment → ⊥) → k ≡ dropped k set (t ∷ [])
+dropped_past k set t other =
+    ap (with_list k) (filter_whole (λ e. not (is_taken k set (t ∷ []) e)) k.entries
+    (λ e. each (is_of set e) (is_place e.place t.place) (is_source k t e) (source_is k t e false (ne_eqb (number_of k t.place.segment) t.segment other))))
+  where
+    each : (a c s : Bool) → s ≡ (c && false) → not (a && (s || false)) ≡ true
+    each true true s is = ap (λ (b : Bool). not (b || false)) is
+    each true false s is = ap (λ (b : Bool). not (b || false)) is
+    each false c s is = refl
+
+-- what was taken as none is none
+pub dropped_none : (k : LogState) (set : ℕ) → k ≡ dropped k set []
+dropped_none k set = ap (with_list k) (filter_whole (λ e. not (is_taken k set [] e)) k.entries (λ e. each (is_of set e)))
+  where
+    each : (a : Bool) → not (a && false) ≡ true
+    each true = refl
+    each false = refl
+
+-- one record more
+dropped_more : (k : LogState) (set : ℕ) (ts : List TakenRecord) (t : TakenRecord) → dropped (dropped k set ts) set (t ∷ []) ≡ dropped k set (ts ++ t ∷ [])
+dropped_more k set ts t =
+    ap (with_list k)
+    (filter_twice (λ e. not (is_taken k set ts e)) (λ e. not (is_taken k set (t ∷ []) e)) (λ e. not (is_taken k set (ts ++ t ∷ []) e)) k.entries
+    (λ e. ap (λ (b : Bool). not (is_of set e && b)) (list_any-append (λ t. is_source k t e) ts (t ∷ [])) ∙ each (is_of set e) (list_any (λ t. is_source k t e) ts) (list_any (λ t. is_source k t e) (t ∷ []))))
+  where
+    each : (a b d : Bool) → not (a && (b || d)) ≡ (not (a && b) && not (a && d))
     each true true true = refl
     each true true false = refl
     each true false true = refl
@@ -161,14 +210,16 @@ dropped_more set ps p es =
     each false false true = refl
     each false false false = refl
 
--- one turn of dropping places from an index
-pub dropped_turn : (index was now : Entries) (set : ℕ) (ps : List Place) (i : ℕ) (d : Place) → i < length ps → was ≡ with_entries index (without (is_among set (take i ps)) index.entries)
-    → now ≡ with_entries was (without (is_in set (get_or ps i d)) was.entries) → now ≡ with_entries index (without (is_among set (take (i + 1) ps)) index.entries)
-dropped_turn index was now set ps i d lt before after =
-    after
-    ∙ ap (λ (x : Entries). with_entries x (without (is_in set (get_or ps i d)) x.entries)) before
-    ∙ ap (with_entries index) (dropped_more set (take i ps) (get_or ps i d) index.entries)
-    ∙ ap (λ (qs : List Place). with_entries index (without (is_among set qs) index.entries)) (sym (take_more ps i d lt))
+-- one turn of dropping
+pub dropped_turn : (k was now : LogState) (set : ℕ) (ts : List TakenRecord) (i : ℕ) (t : TakenRecord) → slice_get ts i ≡ Some t → was ≡ dropped k set (take i ts) → now ≡ dropped was set (t ∷ []) → now ≡ dropped k set (take (i + 1) ts)
+dropped_turn k was now set ts i t at before after =
+    let more : take (i + 1) ts ≡ take i ts ++ t ∷ [] =
+    take_more ts i t (slice_get_within ts i t at) ∙ ap (λ (x : TakenRecord). take i ts ++ x ∷ []) (get_or_from_slice_get ts i t t at) in
+    after ∙ ap (λ (x : LogState). dropped x set (t ∷ [])) before ∙ dropped_more k set (take i ts) t ∙ ap (dropped k set) (sym more)
+
+-- all are dropped at the end
+pub dropped_all : (k now : LogState) (set n : ℕ) (ts : List TakenRecord) → length ts ≤ n → now ≡ dropped k set (take n ts) → now ≡ dropped k set ts
+dropped_all k now set n ts le is = is ∙ ap (dropped k set) (take_all n ts le)
 
 -- ---- an entry is dropped
 
@@ -210,6 +261,14 @@ oldest_stored k e h =
 pub oldest_live : (bytes : ℕ) (held : ℕ → Option (List ℕ)) (k : LogState) (e : Entry) → IsOfOldest k e → IsSpelledOn bytes held k → IsLiveOn bytes held k e
 oldest_live bytes held k e h spelled = All-contains (IsLiveOn bytes held k) k.entries e spelled.live h.listed
 
+-- so its record is a live one
+pub oldest_record : (bytes : ℕ) (held : ℕ → Option (List ℕ)) (k : LogState) (e : Entry) → IsOfOldest k e → IsSpelledOn bytes held k → (r : Rec) × (shown_on held k e ≡ Some r) × Contains (live_on held k) (e, r)
+oldest_record bytes held k e h spelled = by_case (shown_on held k e) refl (oldest_live bytes held k e h spelled)
+  where
+    by_case : (o : Option Rec) → shown_on held k e ≡ o → IsSomeAnd o (CanStandFor bytes k.shape e) → (r : Rec) × (shown_on held k e ≡ Some r) × Contains (live_on held k) (e, r)
+    by_case (Some r) at can = (r, at, live_contained (shown_on held k) k.entries e r h.listed at)
+    by_case None at can = absurd can
+
 -- where the record is damaged the entry is not live
 pub oldest_damaged : (bytes : ℕ) (held : ℕ → Option (List ℕ)) (k : LogState) (e : Entry) → IsOfOldest k e → (IsPageKnown held k e → FetchGives bytes k.shape e (stored_on held k e) fetched.Damaged) → IsLiveOn bytes held k e → ⊥
 oldest_damaged bytes held k e h gives live =
@@ -227,6 +286,13 @@ pub oldest_given : (bytes : ℕ) (held : ℕ → Option (List ℕ)) (k : LogStat
 oldest_given bytes held k e found r h spelled gives shows =
     let live : IsLiveOn bytes held k e = oldest_live bytes held k e h spelled in
     same_Some (record_shown found) r (sym (oldest_shows bytes held k e found h gives (live_had bytes held k e live)) ∙ shows)
+
+-- what became of it, where all live records are known
+pub moves_to : (bytes : ℕ) (k : LogState) (e : Entry) (r : Rec) (a : Readmitted) (k' : LogState) → EntersAnew bytes k e r a k' → MovesTo bytes k e r a k'
+moves_to bytes k e r answers.Readmitted k' is = is
+moves_to bytes k e r answers.Dropped k' is = is
+moves_to bytes k e r answers.Fault k' is = absurd is
+moves_to bytes k e r answers.Damaged k' is = absurd is
 
 -- and what became of it became of the entry's record
 pub oldest_back : (bytes : ℕ) (held : ℕ → Option (List ℕ)) (k : LogState) (e : Entry) (found : RecordRef) (a : Readmitted) (k' : LogState) → IsOfOldest k e

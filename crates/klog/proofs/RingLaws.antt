@@ -4,6 +4,7 @@ use Rattle.std.proofs.Math.Nat.{mul-le-mul_left, mul-add-mod_self_left, mod-eq_o
 use Rattle.std.proofs.lemmas.Bool.{cases_lt}
 use Rattle.klog.specs.Log.{LogState}
 use Rattle.klog.specs.Names.{names, name_of, number_of, ring_page}
+use Rattle.klog.specs.Laws.{NamesTellNumbers}
 
 -- numbers less than n apart leave different remainders
 pub mod_distinct : (n s t : ℕ) → 0 < n → t < s → s < t + n → s % n ≡ t % n → ⊥
@@ -66,6 +67,13 @@ name_again k name lt = back_to (names k) k.first name lt
 -- the numbers of segments are those from the first one on
 pub number_from : (k : LogState) (name : ℕ) → k.first ≤ number_of k name
 number_from k name = omega arith
+
+-- so a name tells the number of the one segment that has it
+pub names_tell : NamesTellNumbers
+names_tell k name lt = (number_from k name, below, name_again k name lt, λ n from to named. sym (number_again k n from to) ∙ ap (number_of k) named)
+  where
+    below : number_of k name < k.first + names k
+    below = omega arith
 
 -- another segment that is held lies elsewhere in the ring
 pub other_segment : (k : LogState) (n m p q : ℕ) → 0 < k.shape.segments → p < k.shape.segment_pages → q < k.shape.segment_pages → m < n → n < m + k.shape.segments → ring_page k m p ≢ ring_page k n q

@@ -19,7 +19,7 @@ use Rattle.klog.specs.Moves.{most_taken, taken_entries, taken_as, taken_of, AreC
 use Rattle.klog.specs.Take.{Copies, is_missing}
 use Rattle.klog.proofs.LiveLaws.{live_by, live_by-kept}
 use Rattle.klog.proofs.KnownLaws.{shows_live, shows_weaker}
-use Rattle.klog.proofs.LookLaws.{got, kept_of, past}
+use Rattle.klog.proofs.LookLaws.{got, got_early, kept_of, past}
 
 -- ---- a turn: the entry that stands so far behind the newest of the set
 abbrev pub AtTurn : LogState → ℕ → ℕ → Entry → Type 0
@@ -33,13 +33,6 @@ turn_listed k set behind e at = kept_of (is_of set) k.entries e (got (of_set set
 
 pub turn_live : (bytes : ℕ) (held : ℕ → Option (List ℕ)) (k : LogState) (set behind : ℕ) (e : Entry) → AtTurn k set behind e → IsSpelledOn bytes held k → IsLiveOn bytes held k e
 turn_live bytes held k set behind e at spelled = All-contains (IsLive bytes (pages_from k.shape.sets held) k) k.entries e spelled.live (turn_listed k set behind e at)
-
--- what stands early in a list is among the first
-got_early : (xs : List Entry) (n i : ℕ) (x : Entry) → i < n → slice_get xs i ≡ Some x → slice_get (take n xs) i ≡ Some x
-got_early [] n i x lt e = absurd cc
-got_early (y ∷ xs) zero i x lt e = absurd (omega (arith, lt))
-got_early (y ∷ xs) (suc n) zero x lt e = e
-got_early (y ∷ xs) (suc n) (suc i) x lt e = got_early xs n i x (omega (arith, lt)) e
 
 pub turn_taken : (k : LogState) (set behind : ℕ) (e : Entry) → behind < most_taken → AtTurn k set behind e → Contains (taken_entries k set) e
 turn_taken k set behind e lt at = got (taken_entries k set) behind e (got_early (of_set set k.entries) most_taken behind e lt at)
@@ -67,22 +60,22 @@ slice_get_last [] y = refl
 slice_get_last (z ∷ xs) y = slice_get_last xs y
 
 -- one record more
-copies_push : (bytes : ℕ) (held : ℕ → Option (List ℕ)) (k : LogState) (es : List Entry) (rs : List TakenRecord) (e : Entry) (t : TakenRecord) → AreCopies bytes held k es rs → ShowsIfHad bytes held k e (λ r. t ≡ taken_as (e, r))
+copies_push : (bytes : ℕ) (held : ℕ → Option (List ℕ)) (k : LogState) (es : List Entry) (rs : List TakenRecord) (e : Entry) (t : TakenRecord) → AreCopies bytes held k es rs → ShowsIfHad bytes held k e (λ r. t ≡ taken_as k (e, r))
     → AreCopies bytes held k (es ++ e ∷ []) (rs ++ t ∷ [])
 copies_push bytes held k es rs e t h copies = record {
   count = length_push rs t ∙ ap (λ (n : ℕ). n + 1) h.count ∙ sym (length_push es e);
   each = λ i x at. elim (slice_get_push es e x i at) [
-    | inl before ↦ shows_weaker bytes held k x (λ r. slice_get rs i ≡ Some (taken_as (x, r))) (λ r. slice_get (rs ++ t ∷ []) i ≡ Some (taken_as (x, r))) (λ r is. slice_get_still rs t (taken_as (x, r)) i is) (h.each i x before)
+    | inl before ↦ shows_weaker bytes held k x (λ r. slice_get rs i ≡ Some (taken_as k (x, r))) (λ r. slice_get (rs ++ t ∷ []) i ≡ Some (taken_as k (x, r))) (λ r is. slice_get_still rs t (taken_as k (x, r)) i is) (h.each i x before)
     | inr last ↦
-        subst (λ (x : Entry). ShowsIfHad bytes held k x (λ r. slice_get (rs ++ t ∷ []) i ≡ Some (taken_as (x, r)))) last.1
-        (shows_weaker bytes held k e (λ r. t ≡ taken_as (e, r)) (λ r. slice_get (rs ++ t ∷ []) i ≡ Some (taken_as (e, r)))
+        subst (λ (x : Entry). ShowsIfHad bytes held k x (λ r. slice_get (rs ++ t ∷ []) i ≡ Some (taken_as k (x, r)))) last.1
+        (shows_weaker bytes held k e (λ r. t ≡ taken_as k (e, r)) (λ r. slice_get (rs ++ t ∷ []) i ≡ Some (taken_as k (e, r)))
         (λ r is. ap (slice_get (rs ++ t ∷ [])) (last.0 ∙ sym h.count) ∙ slice_get_last rs t ∙ ap Some is) copies)
   ];
 }
 
 -- the same of a turn
 pub turn_more : (bytes : ℕ) (held : ℕ → Option (List ℕ)) (k : LogState) (set behind : ℕ) (e : Entry) (t : TakenRecord) (rs : List TakenRecord) → AtTurn k set behind e
-    → AreCopies bytes held k (take behind (of_set set k.entries)) rs → ShowsIfHad bytes held k e (λ r. t ≡ taken_as (e, r)) → AreCopies bytes held k (take (behind + 1) (of_set set k.entries)) (rs ++ t ∷ [])
+    → AreCopies bytes held k (take behind (of_set set k.entries)) rs → ShowsIfHad bytes held k e (λ r. t ≡ taken_as k (e, r)) → AreCopies bytes held k (take (behind + 1) (of_set set k.entries)) (rs ++ t ∷ [])
 turn_more bytes held k set behind e t rs at before copies =
     let es = of_set set k.entries in
     let more : take (behind + 1) es ≡ take behind es ++ e ∷ [] =
@@ -92,17 +85,17 @@ turn_more bytes held k set behind e t rs at before copies =
 -- ---- what is taken of the live records, where all of them are known
 
 -- copies of live entries are their records
-live_copies : (bytes : ℕ) (held : ℕ → Option (List ℕ)) (k : LogState) (es : List Entry) (rs : List TakenRecord) → All (IsLiveOn bytes held k) es → AreCopies bytes held k es rs → rs ≡ map taken_as (live_by (shown_on held k) es)
+live_copies : (bytes : ℕ) (held : ℕ → Option (List ℕ)) (k : LogState) (es : List Entry) (rs : List TakenRecord) → All (IsLiveOn bytes held k) es → AreCopies bytes held k es rs → rs ≡ map (taken_as k) (live_by (shown_on held k) es)
 live_copies bytes held k [] [] live h = refl
 live_copies bytes held k [] (t ∷ rs) live h = absurd (omega (arith, h.count))
 live_copies bytes held k (e ∷ es) [] live h = absurd (omega (arith, h.count))
 live_copies bytes held k (e ∷ es) (t ∷ rs) live h =
-    let rest : rs ≡ map taken_as (live_by (shown_on held k) es) =
+    let rest : rs ≡ map (taken_as k) (live_by (shown_on held k) es) =
     live_copies bytes held k es rs (All-tail (IsLiveOn bytes held k) e es live) (record { count = omega (arith, h.count); each = λ i x at. h.each (suc i) x at }) in
-    step (shown_on held k e) refl (shows_live bytes held k e (λ r. Some t ≡ Some (taken_as (e, r))) (All-head (IsLiveOn bytes held k) e es live) (h.each 0 e refl)) rest
+    step (shown_on held k e) refl (shows_live bytes held k e (λ r. Some t ≡ Some (taken_as k (e, r))) (All-head (IsLiveOn bytes held k) e es live) (h.each 0 e refl)) rest
   where
-    step : (o : Option Rec) → shown_on held k e ≡ o → IsSomeAnd o (λ r. Some t ≡ Some (taken_as (e, r))) → rs ≡ map taken_as (live_by (shown_on held k) es) → t ∷ rs ≡ map taken_as (live_by (shown_on held k) (e ∷ es))
-    step (Some r) is first rest = simp is (ap (λ (x : TakenRecord). x ∷ rs) (same_Some t (taken_as (e, r)) first) ∙ ap (λ (ts : List TakenRecord). taken_as (e, r) ∷ ts) rest)
+    step : (o : Option Rec) → shown_on held k e ≡ o → IsSomeAnd o (λ r. Some t ≡ Some (taken_as k (e, r))) → rs ≡ map (taken_as k) (live_by (shown_on held k) es) → t ∷ rs ≡ map (taken_as k) (live_by (shown_on held k) (e ∷ es))
+    step (Some r) is first rest = simp is (ap (λ (x : TakenRecord). x ∷ rs) (same_Some t (taken_as k (e, r)) first) ∙ ap (λ (ts : List TakenRecord). taken_as k (e, r) ∷ ts) rest)
     step None is first rest = absurd first
 
 -- where each entry shows a record, the first of them are as many live records
@@ -115,18 +108,19 @@ take_live shows (suc n) (e ∷ es) all = step (shows e) refl (All-head (λ e. Is
     step (Some r) is some rest = simp is (ap (λ (xs : List (Entry × Rec)). (e, r) ∷ xs) rest)
     step None is some rest = absurd (false≢true (subst (λ (o : Option Rec). IsSome o) is some))
 
-some_known : (o : Option Rec) (P : Rec → Type 0) → IsSomeAnd o P → IsSome o
+-- what is some value of which something holds is some value
+pub some_known : (o : Option Rec) (P : Rec → Type 0) → IsSomeAnd o P → IsSome o
 some_known (Some r) P h = refl
 some_known None P h = absurd h
 
 -- the live records that are taken
 taken_first : (bytes : ℕ) (held : ℕ → Option (List ℕ)) (k : LogState) (set : ℕ) → IsSpelledOn bytes held k
-    → map taken_as (live_by (shown_on held k) (taken_entries k set)) ≡ taken_of set (live_on held k)
+    → map (taken_as k) (live_by (shown_on held k) (taken_entries k set)) ≡ taken_of k set (live_on held k)
 taken_first bytes held k set spelled =
     let all : All (λ e. IsSome (shown_on held k e)) k.entries =
     All-weaker (IsLiveOn bytes held k) (λ e. IsSome (shown_on held k e)) (λ e live. some_known (shown_on held k e) (CanStandFor bytes k.shape e) live) k.entries spelled.live in
-    ap (map taken_as) (sym (take_live (shown_on held k) most_taken (of_set set k.entries) (All-filter (is_of set) (λ e. IsSome (shown_on held k e)) k.entries all)))
-    ∙ ap (λ (xs : List (Entry × Rec)). map taken_as (take most_taken xs)) (live_by-kept (is_of set) (shown_on held k) k.entries)
+    ap (map (taken_as k)) (sym (take_live (shown_on held k) most_taken (of_set set k.entries) (All-filter (is_of set) (λ e. IsSome (shown_on held k e)) k.entries all)))
+    ∙ ap (λ (xs : List (Entry × Rec)). map (taken_as k) (take most_taken xs)) (live_by-kept (is_of set) (shown_on held k) k.entries)
 
 -- where none stands further behind, those so far are all that are taken
 pub taken_all : (v k : LogState) (set behind : ℕ) (o : Option Entry) → v ≡ k → o ≡ slice_get (of_set set v.entries) behind → o ≡ None → behind ≤ most_taken → take behind (of_set set k.entries) ≡ taken_entries k set
@@ -136,7 +130,7 @@ taken_all v k set behind o is found none le =
     take_all behind es short ∙ sym (take_all most_taken es (omega (arith, short, le)))
 
 -- so what lies behind records that are taken gives which they are
-pub taken_of_copies : (bytes : ℕ) (held : ℕ → Option (List ℕ)) (k : LogState) (set : ℕ) (rs : List TakenRecord) → AreCopies bytes held k (taken_entries k set) rs → IsSpelledOn bytes held k → rs ≡ taken_of set (live_on held k)
+pub taken_of_copies : (bytes : ℕ) (held : ℕ → Option (List ℕ)) (k : LogState) (set : ℕ) (rs : List TakenRecord) → AreCopies bytes held k (taken_entries k set) rs → IsSpelledOn bytes held k → rs ≡ taken_of k set (live_on held k)
 taken_of_copies bytes held k set rs copies spelled =
     live_copies bytes held k (taken_entries k set) rs (All-take (IsLiveOn bytes held k) most_taken (of_set set k.entries) (All-filter (is_of set) (IsLiveOn bytes held k) k.entries spelled.live)) copies
     ∙ taken_first bytes held k set spelled

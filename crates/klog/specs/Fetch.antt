@@ -10,9 +10,9 @@ use Rattle.klog.specs.Names.{segment_of, device_page}
 use Rattle.klog.specs.Shown.{record_of_held, CanStandFor}
 
 -- the device failed
-abbrev pub is_fault : Fetched → Bool
-is_fault fetched.Fault = true
-is_fault _ = false
+abbrev pub is_fetch_fault : Fetched → Bool
+is_fetch_fault fetched.Fault = true
+is_fetch_fault _ = false
 
 -- a record that is given may stand for the entry
 abbrev pub IsItsOwn : ℕ → Shape → Entry → Fetched → Type 0

@@ -1,5 +1,5 @@
 -- What the entries of a set with a tag say of a key.
-use Rattle.std.specs.Prelude.{◌≡◌, ℕ, List, Option, Some, None, All, Contains, Bool, true, false, Result, Ok, Err}
+use Rattle.std.specs.Prelude.{◌≡◌, ℕ, List, Option, Some, None, All, Contains, Bool, true, false, IsTrue, Result, Ok, Err}
 use Rattle.std.specs.declared.alloc.AllocError.{AllocError}
 use Rattle.record_pages.specs.Recs.{Rec}
 use Rattle.record_pages.specs.Looking.{has_key}
@@ -11,7 +11,7 @@ use Rattle.klog.specs.declared.found.Found.{Found}
 use Rattle.klog.specs.declared.found.Found.TheVariants as found
 use Rattle.klog.specs.Log.{LogState}
 use Rattle.klog.specs.Shown.{newest_with, IsLiveOn}
-use Rattle.klog.specs.Known.{ShowsIfHad}
+use Rattle.klog.specs.Known.{is_buffered, ShowsIfHad}
 use Rattle.klog.specs.Look.{ShowsOther, IsReached}
 
 -- the device failed when a record was asked for
@@ -21,24 +21,24 @@ is_told_fault _ = false
 
 -- What is told of what an entry shows, where that is known: it has the key, and this value; or it has another key. Where
 -- one is damaged no record lies there that may stand for the entry; and memory is wanted only for a value.
-abbrev pub Tells : ℕ → (ℕ → Option (List ℕ)) → LogState → Entry → List ℕ → Result Told AllocError → Type 0
-Tells bytes held k e key (Ok (told.Hit value)) = ShowsIfHad bytes held k e (λ r. (has_key key r ≡ true) × (r.value ≡ value))
-Tells bytes held k e key (Ok told.Other) = ShowsOther bytes held k key e
-Tells bytes held k e key (Ok told.Fault) = Unit {0}
-Tells bytes held k e key (Ok told.Damaged) = IsLiveOn bytes held k e → ⊥
-Tells bytes held k e key (Err x) = ShowsIfHad bytes held k e (λ r. has_key key r ≡ true)
+abbrev pub TellsKey : ℕ → (ℕ → Option (List ℕ)) → LogState → Entry → List ℕ → Result Told AllocError → Type 0
+TellsKey bytes held k e key (Ok (told.Hit value)) = ShowsIfHad bytes held k e (λ r. (has_key key r ≡ true) × (r.value ≡ value))
+TellsKey bytes held k e key (Ok told.Other) = ShowsOther bytes held k key e
+TellsKey bytes held k e key (Ok told.Fault) = Unit {0}
+TellsKey bytes held k e key (Ok told.Damaged) = IsLiveOn bytes held k e → ⊥
+TellsKey bytes held k e key (Err x) = ShowsIfHad bytes held k e (λ r. has_key key r ≡ true)
 
 -- the device failed when a key was searched for
 abbrev pub is_found_fault : Result Found AllocError → Bool
 is_found_fault (Ok found.Fault) = true
 is_found_fault _ = false
 
--- an entry that is found has this set and tag
-abbrev pub IsOfTag : ℕ → ℕ → List Entry → Found → Type 0
-IsOfTag set tag es (found.Hit e value) = Contains (of_tag set tag es) e
-IsOfTag set tag es found.Absent = Unit {0}
-IsOfTag set tag es found.Fault = Unit {0}
-IsOfTag set tag es found.Damaged = Unit {0}
+-- an entry that is found has this set and tag, and where it lies in a buffer the device was not called
+abbrev pub IsOfTag : LogState → ℕ → ℕ → Type 0 → Found → Type 0
+IsOfTag k set tag not_called (found.Hit e value) = Contains (of_tag set tag k.entries) e × (IsTrue (is_buffered k e) → not_called)
+IsOfTag k set tag not_called found.Absent = Unit {0}
+IsOfTag k set tag not_called found.Fault = Unit {0}
+IsOfTag k set tag not_called found.Damaged = Unit {0}
 
 -- the newest live record of the key is found, with its entry; absent is a key that none has; no page is damaged
 abbrev pub Finds : List (Entry × Rec) → List ℕ → Found → Type 0
@@ -52,7 +52,7 @@ abbrev pub FindsAt : ℕ → (ℕ → Option (List ℕ)) → LogState → ℕ �
 FindsAt bytes held k set tag key (Ok (found.Hit e value)) =
     IsReached bytes held k set tag key e × ShowsIfHad bytes held k e (λ r. (has_key key r ≡ true) × (r.value ≡ value))
 FindsAt bytes held k set tag key (Ok found.Absent) = All (ShowsOther bytes held k key) (of_tag set tag k.entries)
-FindsAt bytes held k set tag key (Ok found.Fault) = (e : Entry) × IsReached bytes held k set tag key e
+FindsAt bytes held k set tag key (Ok found.Fault) = (e : Entry) × IsReached bytes held k set tag key e × (is_buffered k e ≡ false)
 FindsAt bytes held k set tag key (Ok found.Damaged) =
     (e : Entry) × IsReached bytes held k set tag key e × (IsLiveOn bytes held k e → ⊥)
 FindsAt bytes held k set tag key (Err x) =

@@ -13,9 +13,9 @@ use Rattle.klog.specs.Names.{name_of, flushed_number, device_page}
 use Rattle.klog.specs.Append.{sealed}
 
 -- the page was not written
-abbrev pub is_lost : Flushed → Bool
-is_lost answers.PageLost = true
-is_lost _ = false
+abbrev pub is_page_lost : Flushed → Bool
+is_page_lost answers.PageLost = true
+is_page_lost _ = false
 
 -- the entry's record is on this page of the segment with this number
 abbrev pub is_on_page : LogState → ℕ → ℕ → Entry → Bool
@@ -51,7 +51,7 @@ FlushGives old answers.PageLost new = CanFlush old × (new ≡ moved_on (without
 -- the live records after that: those of a lost page are gone
 abbrev pub live_flushed : LogState → Flushed → List (Entry × Rec) → List (Entry × Rec)
 live_flushed old flushed live =
-    if is_lost flushed then filter (λ x. not (is_on_page old (flushed_number old) old.done x.0)) live else live
+    if is_page_lost flushed then filter (λ x. not (is_on_page old (flushed_number old) old.done x.0)) live else live
 
 -- A write of the page that is flushed next. Where the device takes it, the page is known to hold the records of the
 -- buffer; all other pages of the device stay.

@@ -10,4 +10,5 @@ pub mod Look
 pub mod Find
 pub mod Flush
 pub mod Moves
+pub mod Laws
 pub mod Take

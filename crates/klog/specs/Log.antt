@@ -39,5 +39,5 @@ abbrev pub filling_buffer : LogState → Buffer
 filling_buffer k = record { room = k.shape.segment_pages; pages = k.filling }
 
 -- a new log: nothing on the device, nothing flushed, an empty segment with number 0 to be filled
-abbrev pub opening : Shape → LogState
-opening shape = record { shape = shape; entries = []; first = 0; stored = 0; is_flushing = false; done = 0; flushing = []; filling = [] }
+abbrev pub opening_log : Shape → LogState
+opening_log shape = record { shape = shape; entries = []; first = 0; stored = 0; is_flushing = false; done = 0; flushing = []; filling = [] }

@@ -1,5 +1,5 @@
 -- What a look-up in the log answers.
-use Rattle.std.specs.Prelude.{◌≡◌, ℕ, List, map, take, slice_get, Option, Some, None, IsSomeAnd, Contains, All, Bool, true, false, Result, Ok, Err, if◌then◌else◌}
+use Rattle.std.specs.Prelude.{◌≡◌, ℕ, List, map, take, slice_get, Option, Some, None, IsSomeAnd, Contains, All, Bool, true, false, IsTrue, Result, Ok, Err, if◌then◌else◌}
 use Rattle.std.specs.declared.alloc.AllocError.{AllocError}
 use Rattle.record_pages.specs.Recs.{Rec}
 use Rattle.record_pages.specs.Looking.{has_key}
@@ -10,12 +10,12 @@ use Rattle.klog.specs.declared.looked.Looked.{Looked}
 use Rattle.klog.specs.declared.looked.Looked.TheVariants as looked
 use Rattle.klog.specs.Log.{LogState, with_list}
 use Rattle.klog.specs.Shown.{newest_with, IsLiveOn}
-use Rattle.klog.specs.Known.{ShowsIfHad}
+use Rattle.klog.specs.Known.{is_buffered, ShowsIfHad}
 
 -- the answer is the device's failure
-abbrev pub is_fault : Result Looked AllocError → Bool
-is_fault (Ok looked.Fault) = true
-is_fault _ = false
+abbrev pub is_log_fault : Result Looked AllocError → Bool
+is_log_fault (Ok looked.Fault) = true
+is_log_fault _ = false
 
 -- the entry of a set at a place is asked for once more: its prediction is one less, and not below 0
 abbrev pub lowered_in : LogState → ℕ → Place → LogState
@@ -25,24 +25,25 @@ lowered_in k set place = with_list k (with_lowered (is_in set place) k.entries)
 abbrev pub live_lowered : ℕ → Place → List (Entry × Rec) → List (Entry × Rec)
 live_lowered set place live = map (λ x. (if is_in set place x.0 then lowered x.0 else x.0, x.1)) live
 
--- a hit lowers one of the entries with this set and tag; else nothing changes
-abbrev pub LookLeaves : LogState → ℕ → ℕ → Result Looked AllocError → LogState → Type 0
-LookLeaves old set tag (Ok (looked.Hit value)) new =
-    (e : Entry) × Contains (of_tag set tag old.entries) e × (new ≡ lowered_in old set e.place)
-LookLeaves old set tag (Ok looked.Absent) new = new ≡ old
-LookLeaves old set tag (Ok looked.Fault) new = new ≡ old
-LookLeaves old set tag (Ok looked.Damaged) new = new ≡ old
-LookLeaves old set tag (Err e) new = new ≡ old
+-- a hit lowers one of the entries with this set and tag, and where that one lies in a buffer the device was not called,
+-- whatever older ones there are; else nothing changes
+abbrev pub LogLookLeaves : LogState → ℕ → ℕ → Result Looked AllocError → LogState → Type 0 → Type 0
+LogLookLeaves old set tag (Ok (looked.Hit value)) new not_called =
+    (e : Entry) × Contains (of_tag set tag old.entries) e × (new ≡ lowered_in old set e.place) × (IsTrue (is_buffered old e) → not_called)
+LogLookLeaves old set tag (Ok looked.Absent) new not_called = new ≡ old
+LogLookLeaves old set tag (Ok looked.Fault) new not_called = new ≡ old
+LogLookLeaves old set tag (Ok looked.Damaged) new not_called = new ≡ old
+LogLookLeaves old set tag (Err e) new not_called = new ≡ old
 
 -- A hit is the newest live record of the key, whose entry is lowered; absent is a key that no live record has; no page
 -- is damaged. Before and after the call these records are live.
-abbrev pub LookGives : List (Entry × Rec) → List ℕ → LogState → Looked → LogState → List (Entry × Rec) → Type 0
-LookGives live key old (looked.Hit value) new after =
+abbrev pub LogLookGives : List (Entry × Rec) → List ℕ → LogState → Looked → LogState → List (Entry × Rec) → Type 0
+LogLookGives live key old (looked.Hit value) new after =
     IsSomeAnd (newest_with live key) (λ x. (x.1.value ≡ value)
     × (new ≡ lowered_in old x.0.set x.0.place) × (after ≡ live_lowered x.0.set x.0.place live))
-LookGives live key old looked.Absent new after = (newest_with live key ≡ None) × (new ≡ old) × (after ≡ live)
-LookGives live key old looked.Fault new after = (new ≡ old) × (after ≡ live)
-LookGives live key old looked.Damaged new after = ⊥
+LogLookGives live key old looked.Absent new after = (newest_with live key ≡ None) × (new ≡ old) × (after ≡ live)
+LogLookGives live key old looked.Fault new after = (new ≡ old) × (after ≡ live)
+LogLookGives live key old looked.Damaged new after = ⊥
 
 -- the entry shows another key, where what it shows is known
 abbrev pub ShowsOther : ℕ → (ℕ → Option (List ℕ)) → LogState → List ℕ → Entry → Type 0
@@ -55,15 +56,17 @@ pub record IsReached (bytes : ℕ) (held : ℕ → Option (List ℕ)) (k : LogSt
   pub newer : All (ShowsOther bytes held k key) (take behind (of_tag set tag k.entries))
 
 -- What lies behind each answer of a look-up, whatever else is known: a hit is the value of an entry that the search came
--- to, and which is lowered; absent is a key that no entry of its set and tag shows; a fault was met at an entry that
--- the search came to; at a damaged one no record lies that may stand for it; and memory is wanted only for a value.
-abbrev pub LooksAt : ℕ → (ℕ → Option (List ℕ)) → LogState → ℕ → ℕ → List ℕ → Result Looked AllocError → LogState → Type 0
-LooksAt bytes held old set tag key (Ok (looked.Hit value)) new =
+-- to, and which is lowered, and the device was not called where it lies in a buffer; absent is a key that no entry of
+-- its set and tag shows; a fault was met at an entry that the search came to, in no buffer; at a damaged one no record
+-- lies that may stand for it; and memory is wanted only for a value.
+abbrev pub LooksAt : ℕ → (ℕ → Option (List ℕ)) → LogState → ℕ → ℕ → List ℕ → Result Looked AllocError → LogState → Type 0 → Type 0
+LooksAt bytes held old set tag key (Ok (looked.Hit value)) new not_called =
     (e : Entry) × IsReached bytes held old set tag key e × (new ≡ lowered_in old set e.place)
     × ShowsIfHad bytes held old e (λ r. (has_key key r ≡ true) × (r.value ≡ value))
-LooksAt bytes held old set tag key (Ok looked.Absent) new = All (ShowsOther bytes held old key) (of_tag set tag old.entries)
-LooksAt bytes held old set tag key (Ok looked.Fault) new = (e : Entry) × IsReached bytes held old set tag key e
-LooksAt bytes held old set tag key (Ok looked.Damaged) new =
+    × (IsTrue (is_buffered old e) → not_called)
+LooksAt bytes held old set tag key (Ok looked.Absent) new not_called = All (ShowsOther bytes held old key) (of_tag set tag old.entries)
+LooksAt bytes held old set tag key (Ok looked.Fault) new not_called = (e : Entry) × IsReached bytes held old set tag key e × (is_buffered old e ≡ false)
+LooksAt bytes held old set tag key (Ok looked.Damaged) new not_called =
     (e : Entry) × IsReached bytes held old set tag key e × (IsLiveOn bytes held old e → ⊥)
-LooksAt bytes held old set tag key (Err x) new =
+LooksAt bytes held old set tag key (Err x) new not_called =
     (e : Entry) × IsReached bytes held old set tag key e × ShowsIfHad bytes held old e (λ r. has_key key r ≡ true)

@@ -1,5 +1,5 @@
 -- What leaves the log, from its oldest segment.
-use Rattle.std.specs.Prelude.{◌≡◌, ℕ, ◌+◌, ◌-◌, ◌<◌, List, ◌∷◌, length, map, take, filter, slice_get, Option, Some, Bool, true, false, not, ◌&&◌, Contains, Result, Ok, Err}
+use Rattle.std.specs.Prelude.{◌≡◌, ℕ, ◌+◌, ◌-◌, ◌<◌, ◌≤◌, ◌==◌, List, ◌∷◌, length, map, take, filter, slice_get, Option, Some, Bool, true, false, not, ◌&&◌, Contains, Result, Ok, Err}
 use Rattle.std.specs.List.{list_any}
 use Rattle.std.specs.declared.alloc.AllocError.{AllocError}
 use Rattle.record_pages.specs.Recs.{Rec, rec}
@@ -18,7 +18,7 @@ use Rattle.klog.specs.declared.taken_record.TakenRecord.{TakenRecord}
 use Rattle.klog.specs.Log.{LogState, with_list}
 use Rattle.klog.specs.Names.{name_of, segment_of}
 use Rattle.klog.specs.Shown.{CanStandFor, IsLiveOn}
-use Rattle.klog.specs.Known.{ShowsIfHad}
+use Rattle.klog.specs.Known.{is_buffered, ShowsIfHad}
 use Rattle.klog.specs.Append.{entering, entry_for, taker, appended, is_full}
 use Rattle.klog.specs.Flush.{is_on_page, without_page}
 
@@ -44,13 +44,17 @@ IsFirstLive k oldest.Empty = Unit {0}
 abbrev pub freed : LogState → LogState
 freed k = record k { first = k.first + 1; stored = k.stored - 1 }
 
--- the entry is of this set and lies at one of these places
-abbrev pub is_among : ℕ → List Place → Entry → Bool
-is_among set places e = is_of set e && list_any (is_place e.place) places
+-- the record was taken of this entry: it lies at the entry's place, and that place is still of the segment with its number
+abbrev pub is_source : LogState → TakenRecord → Entry → Bool
+is_source k t e = is_place e.place t.place && segment_of k e == t.segment
 
--- the entries of a set at these places are dropped
-abbrev pub dropped : LogState → ℕ → List Place → LogState
-dropped k set places = with_list k (without (is_among set places) k.entries)
+-- the entry is of this set, and one of these records was taken of it
+abbrev pub is_taken : LogState → ℕ → List TakenRecord → Entry → Bool
+is_taken k set ts e = is_of set e && list_any (λ t. is_source k t e) ts
+
+-- the entries of a set of which these records were taken are dropped
+abbrev pub dropped : LogState → ℕ → List TakenRecord → LogState
+dropped k set ts = with_list k (without (is_taken k set ts) k.entries)
 
 -- an entry is dropped
 abbrev pub without_entry : LogState → Entry → LogState
@@ -69,9 +73,9 @@ abbrev pub live_without_page : LogState → Entry → List (Entry × Rec) → Li
 live_without_page k e live = filter (λ x. not (is_on_page k (segment_of k e) e.place.page x.0)) live
 
 -- the device failed
-abbrev pub is_fault : Readmitted → Bool
-is_fault answers.Fault = true
-is_fault _ = false
+abbrev pub is_readmit_fault : Readmitted → Bool
+is_readmit_fault answers.Fault = true
+is_readmit_fault _ = false
 
 -- A record that may stand for the entry is appended anew, or is lost where no place is left; where its page is not to be
 -- had all entries of that page are dropped.
@@ -95,17 +99,30 @@ EntersAnew bytes old e r answers.Dropped new =
 EntersAnew bytes old e r answers.Fault new = ⊥
 EntersAnew bytes old e r answers.Damaged new = ⊥
 
--- What is live after a readmission of the entry, which stands for this record: the record is the newest, or it is gone;
--- or its page is gone, and no page is damaged.
-abbrev pub ReadmitGives : ℕ → LogState → Entry → Rec → List (Entry × Rec) → Readmitted → List (Entry × Rec) → Type 0
-ReadmitGives bytes old e r live answers.Readmitted after =
-    after ≡ ((entry_for bytes (taker bytes (without_entry old e) (entering r.key r.value)) (entering r.key r.value), entering r.key r.value)
-    ∷ live_without_entry e live)
-ReadmitGives bytes old e r live answers.Dropped after =
-    after ≡ live_without_entry e live
-ReadmitGives bytes old e r live answers.Fault after =
-    after ≡ live_without_page old e live
-ReadmitGives bytes old e r live answers.Damaged after = ⊥
+-- what is live after a readmission of the entry, which stands for this record: the record is the newest, or it is gone; or
+-- its page is gone
+abbrev pub live_anew : ℕ → LogState → Entry → Rec → Readmitted → List (Entry × Rec) → List (Entry × Rec)
+live_anew bytes old e r answers.Readmitted live =
+    (entry_for bytes (taker bytes (without_entry old e) (entering r.key r.value)) (entering r.key r.value), entering r.key r.value)
+    ∷ live_without_entry e live
+live_anew bytes old e r answers.Dropped live = live_without_entry e live
+live_anew bytes old e r answers.Fault live = live_without_page old e live
+live_anew bytes old e r answers.Damaged live = live_without_page old e live
+
+-- the log after a readmission of the entry, which stands for this record, and when each answer comes; no page is damaged
+abbrev pub MovesTo : ℕ → LogState → Entry → Rec → Readmitted → LogState → Type 0
+MovesTo bytes old e r answers.Readmitted new = EntersAnew bytes old e r answers.Readmitted new
+MovesTo bytes old e r answers.Dropped new = EntersAnew bytes old e r answers.Dropped new
+MovesTo bytes old e r answers.Fault new = new ≡ without_its_page old e
+MovesTo bytes old e r answers.Damaged new = ⊥
+
+-- what a readmission of an entry gives, of these live records: the entry's is one of them, and the answer says what
+-- became of it
+pub record ReadmitGives (bytes : ℕ) (old : LogState) (e : Entry) (live : List (Entry × Rec)) (a : Readmitted) (new : LogState) (after : List (Entry × Rec)) : Type 0 where
+  pub its : Rec
+  pub was_live : Contains live (e, its)
+  pub moved : MovesTo bytes old e its a new
+  pub left : after ≡ live_anew bytes old e its a live
 
 -- what lies behind each answer of a readmission, whatever else is known: a record that may stand for the entry, and which
 -- entered anew or found no place; or, where one is damaged, none
@@ -120,9 +137,9 @@ abbrev pub most_taken : ℕ
 most_taken = 32
 
 -- a page was lost
-abbrev pub is_lost : Result SetTaken AllocError → Bool
-is_lost (Ok taken.PageLost) = true
-is_lost _ = false
+abbrev pub is_taking_lost : Result SetTaken AllocError → Bool
+is_taking_lost (Ok taken.PageLost) = true
+is_taking_lost _ = false
 
 -- the device may have failed once where a page was lost, and not else
 abbrev pub FailsOnlyIfLost : ℕ → Result SetTaken AllocError → ℕ → Type 0
@@ -134,32 +151,34 @@ FailsOnlyIfLost old (Err e) new = new ≡ old
 abbrev pub taken_entries : LogState → ℕ → List Entry
 taken_entries k set = take most_taken (of_set set k.entries)
 
--- where a page was lost, one with a record that was to be taken, all its entries are dropped; else nothing changes
+-- where a page was lost, one with a record that was to be taken, all its entries are dropped; else nothing changes, and
+-- no more records are given than are taken at once
 abbrev pub TakeLeaves : LogState → ℕ → Result SetTaken AllocError → LogState → Type 0
 TakeLeaves old set (Ok taken.PageLost) new =
     (e : Entry) × Contains (taken_entries old set) e × (new ≡ without_its_page old e)
-TakeLeaves old set (Ok (taken.Records rs)) new = new ≡ old
+TakeLeaves old set (Ok (taken.Records rs)) new = (new ≡ old) × (length rs ≤ most_taken)
 TakeLeaves old set (Err e) new = new ≡ old
 
--- a live record as it is taken: with its entry's prediction, and its place
-abbrev pub taken_as : Entry × Rec → TakenRecord
-taken_as x = record { stored = rec x.1.key x.1.value x.0.prediction; place = x.0.place }
+-- a live record as it is taken: with its entry's prediction, its place, and the number of its segment
+abbrev pub taken_as : LogState → Entry × Rec → TakenRecord
+taken_as k x = record { stored = rec x.1.key x.1.value x.0.prediction; place = x.0.place; segment = segment_of k x.0 }
 
 -- the records that are taken, of these live ones: the newest of the set, newest first
-abbrev pub taken_of : ℕ → List (Entry × Rec) → List TakenRecord
-taken_of set live = map taken_as (take most_taken (filter (λ x. is_of set x.0) live))
+abbrev pub taken_of : LogState → ℕ → List (Entry × Rec) → List TakenRecord
+taken_of k set live = map (taken_as k) (take most_taken (filter (λ x. is_of set x.0) live))
 
--- What is answered, of these live records, and what is live after it: the records that are taken are still live; those of
--- a lost page are gone.
-abbrev pub TakeGives : LogState → ℕ → List (Entry × Rec) → SetTaken → List (Entry × Rec) → Type 0
-TakeGives old set live (taken.Records rs) after = (rs ≡ taken_of set live) × (after ≡ live)
-TakeGives old set live taken.PageLost after =
-    (e : Entry) × Contains (taken_entries old set) e × (after ≡ live_without_page old e live)
+-- What is answered, of these live records, and the log and what is live after it: the records that are taken are still
+-- live; where a page on the device was lost, one with a record that was to be taken, its entries and records are gone.
+abbrev pub TakeGives : LogState → ℕ → List (Entry × Rec) → SetTaken → LogState → List (Entry × Rec) → Type 0
+TakeGives old set live (taken.Records rs) new after = (rs ≡ taken_of old set live) × (new ≡ old) × (after ≡ live)
+TakeGives old set live taken.PageLost new after =
+    (e : Entry) × Contains (taken_entries old set) e × (is_buffered old e ≡ false)
+    × (new ≡ without_its_page old e) × (after ≡ live_without_page old e live)
 
 -- records are those of these entries, each as it is taken, where what the entry shows is known
 pub record AreCopies (bytes : ℕ) (held : ℕ → Option (List ℕ)) (k : LogState) (es : List Entry) (rs : List TakenRecord) : Type 0 where
   pub count : length rs ≡ length es
-  pub each : (i : ℕ) (e : Entry) → slice_get es i ≡ Some e → ShowsIfHad bytes held k e (λ r. slice_get rs i ≡ Some (taken_as (e, r)))
+  pub each : (i : ℕ) (e : Entry) → slice_get es i ≡ Some e → ShowsIfHad bytes held k e (λ r. slice_get rs i ≡ Some (taken_as k (e, r)))
 
 -- What lies behind each answer of a taking, whatever else is known, by the device's count of failures before and after:
 -- each record is its entry's; a page is lost where an entry to be taken shows no record that may stand for it, or the
@@ -167,6 +186,6 @@ pub record AreCopies (bytes : ℕ) (held : ℕ → Option (List ℕ)) (k : LogSt
 abbrev pub TakesAt : ℕ → (ℕ → Option (List ℕ)) → LogState → ℕ → ℕ → Result SetTaken AllocError → LogState → ℕ → Type 0
 TakesAt bytes held old set before (Ok (taken.Records rs)) new after = AreCopies bytes held old (taken_entries old set) rs
 TakesAt bytes held old set before (Ok taken.PageLost) new after =
-    (e : Entry) × Contains (taken_entries old set) e × (new ≡ without_its_page old e) × (IsLiveOn bytes held old e → after ≡ faults_after before true)
+    (e : Entry) × Contains (taken_entries old set) e × (new ≡ without_its_page old e) × (IsLiveOn bytes held old e → (after ≡ faults_after before true) × (is_buffered old e ≡ false))
 TakesAt bytes held old set before (Err x) new after =
     (e : Entry) × Contains (taken_entries old set) e × ShowsIfHad bytes held old e (λ r. Unit {0})

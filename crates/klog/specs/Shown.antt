@@ -40,13 +40,17 @@ shown_on held k e = shown (pages_from k.shape.sets held) k e
 abbrev pub live_on : (ℕ → Option (List ℕ)) → LogState → List (Entry × Rec)
 live_on held k = filter_map (λ e. option_map (λ r. (e, r)) (shown_on held k e)) k.entries
 
--- the newest of live records with this key
-abbrev pub newest_with : List (Entry × Rec) → List ℕ → Option (Entry × Rec)
-newest_with live key = find (λ x. has_key key x.1) live
-
 -- where a key belongs, in a log of this shape
 abbrev pub place_in : Shape → List ℕ → Placed
 place_in shape key = placed_of shape.lanes shape.sets (fnv1a key)
+
+-- live records are placed: the key of each belongs to its entry's set, and has its entry's tag
+abbrev pub ArePlaced : Shape → List (Entry × Rec) → Type 0
+ArePlaced shape live = All (λ x. ((place_in shape x.1.key).set ≡ x.0.set) × ((place_in shape x.1.key).tag ≡ x.0.tag)) live
+
+-- the newest of live records with this key
+abbrev pub newest_with : List (Entry × Rec) → List ℕ → Option (Entry × Rec)
+newest_with live key = find (λ x. has_key key x.1) live
 
 -- a record that may lie where an entry says, on pages of this many bytes: it has the entry's set and tag, and has room
 pub record CanStandFor (bytes : ℕ) (shape : Shape) (e : Entry) (r : Rec) : Type 0 where

@@ -8,6 +8,7 @@ mod fetched;
 mod flushed;
 mod found;
 mod gathered;
+mod laws;
 mod log;
 mod looked;
 mod oldest;
@@ -19,6 +20,10 @@ mod told;
 
 pub use appended::Appended;
 pub use flushed::Flushed;
+pub use laws::{
+    append_keeps_places, flush_keeps_places, freeing_keeps_places, list_keeps_places,
+    live_are_as_many, names_tell_numbers,
+};
 pub use log::{KLog, MAX_TAKEN};
 pub use looked::Looked;
 pub use oldest::Oldest;

@@ -1,10 +1,10 @@
 // The log of a lane.
-ghost use Rattle.std.specs.Prelude.{◌≡◌, ◌<◌, ◌≤◌, ◌+◌, ◌*◌, ◌^◌, ℕ, List, Option, IfOk, count_by};
+ghost use Rattle.std.specs.Prelude.{◌≡◌, ◌<◌, ◌≤◌, ◌+◌, ◌*◌, ◌^◌, ◌↔◌, ℕ, List, [], length, Option, IfOk, IsTrue, count_by};
 ghost use Rattle.record_pages.specs.Sizes.{IsPageSize};
-ghost use Rattle.klog_index.specs.Entries.{is_of, AreApart};
-ghost use Rattle.klog.specs.Log.{LogState, shape_of, opening};
+ghost use Rattle.klog_index.specs.Entries.{AreApart, is_of};
+ghost use Rattle.klog.specs.Log.{LogState, shape_of, opening_log};
 ghost use Rattle.klog.specs.Names.{names, name_of, number_of, flushed_number, filled_number, device_page};
-ghost use Rattle.klog.specs.Shown.{IsSpelledOn};
+ghost use Rattle.klog.specs.Shown.{IsSpelledOn, live_on, ArePlaced};
 ghost use Rattle.klog.specs.Keeps.{IsLog};
 
 mod append;
@@ -53,7 +53,7 @@ impl<const PAGE: usize> KLog<PAGE> {
     /// log needs is taken here.
     pub fn open(alloc: Global, layout: &Layout) -> Result<Self, AllocError>
         requires page_size { IsPageSize PAGE }
-        ensures opening { IfOk result (λ k. k ≡ opening (shape_of layout.now)) }
+        ensures opening { IfOk result (λ k. k ≡ opening_log (shape_of layout.now)) }
         ensures spelled { IfOk result (λ k.
             (held : ℕ → Option (List ℕ)) → IsSpelledOn PAGE held k) }
     {
@@ -70,15 +70,30 @@ impl<const PAGE: usize> KLog<PAGE> {
         })
     }
 
-    /// How many live records a set has.
-    pub fn count(&self, set: u32) -> usize
-        ensures count { result ≡ count_by (is_of set) self.now.entries }
+    /// How many live records there are.
+    pub fn len(&self) -> usize
+        ensures len { result ≡ length self.now.entries }
         // What is true of every log.
         ensures kept { IsLog self.now }
         ensures apart { AreApart self.now.entries }
+        ensures placed { (size : ℕ) → (held : ℕ → Option (List ℕ)) → IsSpelledOn size held self.now →
+            ArePlaced self.now.shape (live_on held self.now) }
     {
-        prove!(self.index.len() <= self.layout.entries as usize);
+        self.index.len()
+    }
+
+    /// How many live records a set has.
+    pub fn count(&self, set: u32) -> usize
+        ensures { result ≡ count_by (is_of set) self.now.entries }
+    {
         self.index.count(set)
+    }
+
+    /// Whether there is no live record.
+    pub fn is_empty(&self) -> bool
+        ensures { IsTrue result ↔ (self.now.entries ≡ []) }
+    {
+        self.index.is_empty()
     }
 
     // The number of the segment that is flushed, where there is one.

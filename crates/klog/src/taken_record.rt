@@ -9,4 +9,6 @@ pub struct TakenRecord {
     pub stored: Record,
     /// Where it lies.
     pub place: Place,
+    /// The number of its segment. A later segment may have the same name in places.
+    pub segment: u64,
 }

@@ -1,6 +1,5 @@
 // The records that were taken of a set.
-ghost use Rattle.std.specs.Prelude.{◌≡◌, [], ◌∷◌, ◌++◌, ◌↔◌, IsTrue, length, OnOk, OnErr, slice_get};
-ghost use Rattle.std.specs.Option.{option_copied};
+ghost use Rattle.std.specs.Prelude.{◌≡◌, ◌<◌, [], ◌∷◌, ◌++◌, ◌↔◌, IsTrue, Some, length, OnOk, OnErr, slice_get};
 
 use crate::taken_record::TakenRecord;
 use std::alloc::{AllocError, Global};
@@ -54,10 +53,34 @@ impl TakenRecords {
         Ok(())
     }
 
-    /// The record with this number, from 0, or nothing where there are fewer.
-    pub fn at(&self, number: usize) -> Option<&TakenRecord>
-        ensures { option_copied result ≡ slice_get self.now number }
+    /// The record with this number.
+    pub fn at(&self, number: usize) -> &TakenRecord
+        requires { number < length self.now }
+        ensures { slice_get self.now number ≡ Some result.now }
     {
-        self.records.get(number)
+        &self.records[number]
+    }
+
+    /// The records, newest first.
+    pub fn as_slice(&self) -> &[TakenRecord]
+        ensures { result.now ≡ self.now }
+    {
+        self.records.as_slice()
+    }
+
+    /// The list of the records.
+    pub fn into_vec(self) -> Vec<TakenRecord>
+        ensures { result.items ≡ self }
+    {
+        self.records
+    }
+}
+
+/// The records of a list, in its order.
+impl From<Vec<TakenRecord>> for TakenRecords {
+    ghost from_gives = { λ records made. made ≡ records.items };
+
+    fn from(records: Vec<TakenRecord>) -> TakenRecords {
+        TakenRecords { records }
     }
 }

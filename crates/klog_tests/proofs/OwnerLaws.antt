@@ -16,9 +16,9 @@ use Rattle.klog.specs.Shown.{IsSpelledOn, newest_with}
 use Rattle.klog.specs.declared.appended.Appended.{Appended}
 use Rattle.klog.specs.declared.appended.Appended.TheVariants as answers
 use Rattle.klog.specs.Append.{entering, entry_for, taker, live_appended}
-use Rattle.klog.specs.Look.{LookGives, lowered_in, live_lowered}
+use Rattle.klog.specs.Look.{LogLookGives, lowered_in, live_lowered}
 use Rattle.klog.specs.declared.flushed.Flushed.{Flushed}
-use Rattle.klog.specs.Flush.{is_lost}
+use Rattle.klog.specs.Flush.{is_page_lost}
 use Rattle.klog_tests.specs.Owner.{OwnerState, IsOwner, live_of, KeepsLive, HasNewest, Tells, IsToldOf}
 
 -- a call that keeps the shape, the pages, the honesty and the spelling keeps an owner
@@ -44,7 +44,7 @@ found_weaker P Q (Some x) weaker has = weaker x has
 
 -- what a look-up in a log gives tells the newest record of the key
 pub tells_of : (live : List (Entry × Rec)) (key : List ℕ) (old : LogState) (looked : Looked) (new : LogState) (after : List (Entry × Rec)) →
-    LookGives live key old looked new after → Tells (newest_with live key) looked
+    LogLookGives live key old looked new after → Tells (newest_with live key) looked
 tells_of live key old (Hit value) new after gives =
     found_weaker (λ x. (x.1.value ≡ value) × (new ≡ lowered_in old x.0.set x.0.place) × (after ≡ live_lowered x.0.set x.0.place live)) (λ x. x.1.value ≡ value) (newest_with live key) (λ x h. h.0) gives
 tells_of live key old Absent new after gives = gives.0
@@ -53,7 +53,7 @@ tells_of live key old Damaged new after gives = gives
 
 -- the same of a look-up that may lack memory
 pub tells_if : (live : List (Entry × Rec)) (key : List ℕ) (old : LogState) (result : Result Looked AllocError) (new : LogState) (after : List (Entry × Rec)) →
-    IfOk result (λ r. LookGives live key old r new after) → IfOk result (Tells (newest_with live key))
+    IfOk result (λ r. LogLookGives live key old r new after) → IfOk result (Tells (newest_with live key))
 tells_if live key old (Ok looked) new after gives = tells_of live key old looked new after gives
 tells_if live key old (Err e) new after gives = tt
 
@@ -77,9 +77,9 @@ kept_more honest failures held first old new before more = record {
 }
 
 -- a step of flushing that loses no page keeps the live records
-pub kept_by_step : {D : Type 0} (honest : D → Bool) (failures : D → ℕ) (held : D → ℕ → Option (List ℕ)) (old new : OwnerState D) (flushed : Flushed) → is_lost flushed ≡ false →
-    new.log.shape ≡ old.log.shape → honest new.device ≡ honest old.device → failures new.device ≡ faults_after (failures old.device) (is_lost flushed) →
-    (IsTrue (honest old.device) → is_lost flushed ≡ false → live_of held new ≡ live_of held old) →
+pub kept_by_step : {D : Type 0} (honest : D → Bool) (failures : D → ℕ) (held : D → ℕ → Option (List ℕ)) (old new : OwnerState D) (flushed : Flushed) → is_page_lost flushed ≡ false →
+    new.log.shape ≡ old.log.shape → honest new.device ≡ honest old.device → failures new.device ≡ faults_after (failures old.device) (is_page_lost flushed) →
+    (IsTrue (honest old.device) → is_page_lost flushed ≡ false → live_of held new ≡ live_of held old) →
     (IsTrue (honest old.device) → pages_before old.log.shape.sets (held new.device) ≡ pages_before old.log.shape.sets (held old.device)) →
     KeepsLive honest failures held old new
 kept_by_step honest failures held old new flushed none_lost shape honesty faults live apart = record {

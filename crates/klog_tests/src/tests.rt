@@ -13,8 +13,10 @@ mod step;
 
 use self::owner::Owner;
 use self::step::{Kept, Step, run};
-use klog::{Appended, Flushed, KLog, Looked, Oldest, Readmitted, SetTaken, TakenRecord};
-use klog_index::Place;
+use klog::{
+    Appended, Flushed, KLog, Looked, Oldest, Readmitted, SetTaken, TakenRecord, TakenRecords,
+};
+use klog_index::{Entry, Place};
 use page_device::{FuseDevice, MemoryDevice, PageDevice};
 use record_pages::{Config, Key, Layout, Value};
 use std::alloc::{AllocError, Global};

@@ -10,7 +10,7 @@ ghost use Rattle.klog.specs.Buffer.{record_in};
 ghost use Rattle.klog.specs.Names.{HasRoom};
 ghost use Rattle.klog.specs.Shown.{shown_on, record_on};
 ghost use Rattle.klog.specs.Known.{is_buffered, IsPageKnown, IsHad};
-ghost use Rattle.klog.specs.Fetch.{is_fault, IsItsOwn, stored_on, FetchGives};
+ghost use Rattle.klog.specs.Fetch.{is_fetch_fault, IsItsOwn, stored_on, FetchGives};
 
 use super::KLog;
 use crate::buffer::SegmentBuffer;
@@ -34,7 +34,7 @@ impl<const PAGE: usize> KLog<PAGE> {
         ensures pages { D.page_count device.new ≡ D.page_count device.old }
         ensures honest { D.honest device.new ≡ D.honest device.old }
         ensures faults { D.failures device.new
-            ≡ faults_after (D.failures device.old) (is_fault result) }
+            ≡ faults_after (D.failures device.old) (is_fetch_fault result) }
         ensures buffered { IsTrue (is_buffered self.entry.now entry.now) → device.new ≡ device.old }
         ensures its { IsItsOwn PAGE self.entry.now.shape entry.now result }
         ensures same { IsTrue (D.honest device.old) → D.held device.new ≡ D.held device.old }
@@ -66,7 +66,7 @@ impl<const PAGE: usize> KLog<PAGE> {
         ensures pages { D.page_count device.new ≡ D.page_count device.old }
         ensures honest { D.honest device.new ≡ D.honest device.old }
         ensures faults { D.failures device.new
-            ≡ faults_after (D.failures device.old) (is_fault result) }
+            ≡ faults_after (D.failures device.old) (is_fetch_fault result) }
         ensures its { IsItsOwn PAGE self.now.shape entry.now result }
         ensures same { IsTrue (D.honest device.old) → D.held device.new ≡ D.held device.old }
         ensures gives { IsTrue (D.honest device.old) →
@@ -87,7 +87,7 @@ impl<const PAGE: usize> KLog<PAGE> {
     fn checked<'a>(&self, entry: &Entry, found: Option<RecordRef<'a>>) -> Fetched<'a>
         requires page_size { IsPageSize PAGE }
         requires lawful { IfSome found (λ r. IsRecord (record_shown r)) }
-        ensures no_fault { is_fault result ≡ false }
+        ensures no_fault { is_fetch_fault result ≡ false }
         ensures its { IsItsOwn PAGE self.now.shape entry.now result }
         ensures gives { FetchGives PAGE self.now.shape entry.now
             (option_map record_shown found.entry) result }

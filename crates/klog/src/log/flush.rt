@@ -5,7 +5,7 @@ ghost use Rattle.page_device.specs.Frames.{pages_before};
 ghost use Rattle.record_pages.specs.Sizes.{IsPageSize};
 ghost use Rattle.klog.specs.Names.{HasRoom, flushed_number, device_page};
 ghost use Rattle.klog.specs.Shown.{IsSpelledOn, live_on};
-ghost use Rattle.klog.specs.Flush.{is_lost, CanFlush, FlushGives, live_flushed, moved_on, without_next, WritesNext};
+ghost use Rattle.klog.specs.Flush.{is_page_lost, CanFlush, FlushGives, live_flushed, moved_on, without_next, WritesNext};
 
 use super::KLog;
 use crate::flushed::Flushed;
@@ -23,12 +23,14 @@ impl<const PAGE: usize> KLog<PAGE> {
         ensures pages { D.page_count device.new ≡ D.page_count device.old }
         ensures honest { D.honest device.new ≡ D.honest device.old }
         ensures faults { D.failures device.new
-            ≡ faults_after (D.failures device.old) (is_lost result) }
+            ≡ faults_after (D.failures device.old) (is_page_lost result) }
         ensures shape { self.new.shape ≡ self.old.shape }
         ensures gives { FlushGives self.old result self.new }
         ensures idle { (CanFlush self.old → ⊥) → device.new ≡ device.old }
 
         // Where it is honest.
+        ensures wrote { IsTrue (D.honest device.old) → result ≡ Flushed.Wrote →
+            WritesNext PAGE self.old true (D.held device.old) (D.held device.new) }
         ensures elsewhere { IsTrue (D.honest device.old) → (page : ℕ) →
             page ≢ device_page self.old (flushed_number self.old) self.old.done →
             D.held device.new page ≡ D.held device.old page }
@@ -63,12 +65,14 @@ impl<const PAGE: usize> KLog<PAGE> {
         ensures pages { D.page_count device.new ≡ D.page_count device.old }
         ensures honest { D.honest device.new ≡ D.honest device.old }
         ensures faults { D.failures device.new
-            ≡ faults_after (D.failures device.old) (is_lost result) }
+            ≡ faults_after (D.failures device.old) (is_page_lost result) }
         ensures shape { self.new.shape ≡ self.old.shape }
         ensures gives { FlushGives self.old result self.new }
         ensures idle { (CanFlush self.old → ⊥) → device.new ≡ device.old }
 
         // Where it is honest.
+        ensures wrote { IsTrue (D.honest device.old) → result ≡ Flushed.Wrote →
+            WritesNext PAGE self.old true (D.held device.old) (D.held device.new) }
         ensures elsewhere { IsTrue (D.honest device.old) → (page : ℕ) →
             page ≢ device_page self.old (flushed_number self.old) self.old.done →
             D.held device.new page ≡ D.held device.old page }

@@ -6,8 +6,8 @@ ghost use Rattle.klog_index.specs.Entries.{of_tag};
 ghost use Rattle.klog.specs.Names.{HasRoom};
 ghost use Rattle.klog.specs.Shown.{IsSpelledOn, live_on, place_in};
 ghost use Rattle.klog.specs.Known.{is_buffered, AreBuffered};
-ghost use Rattle.klog.specs.Find.{is_told_fault, Tells, is_found_fault, IsOfTag, Finds, FindsAt};
-ghost use Rattle.klog.specs.Look.{is_fault, LookLeaves, LookGives, LooksAt, lowered_in, live_lowered};
+ghost use Rattle.klog.specs.Find.{is_told_fault, TellsKey, is_found_fault, IsOfTag, Finds, FindsAt};
+ghost use Rattle.klog.specs.Look.{is_log_fault, LogLookLeaves, LogLookGives, LooksAt, lowered_in, live_lowered};
 
 use super::KLog;
 use crate::fetched::Fetched;
@@ -38,9 +38,10 @@ impl<const PAGE: usize> KLog<PAGE> {
         ensures pages { D.page_count device.new ≡ D.page_count device.old }
         ensures honest { D.honest device.new ≡ D.honest device.old }
         ensures faults { D.failures device.new
-            ≡ faults_after (D.failures device.old) (is_fault result) }
+            ≡ faults_after (D.failures device.old) (is_log_fault result) }
         ensures shape { self.new.shape ≡ self.old.shape }
-        ensures leaves { LookLeaves self.old placed.now.set placed.now.tag result self.new }
+        ensures leaves { LogLookLeaves self.old placed.now.set placed.now.tag result self.new
+            (device.new ≡ device.old) }
         ensures buffered { AreBuffered self.old
             (of_tag placed.now.set placed.now.tag self.old.entries) →
             device.new ≡ device.old }
@@ -49,10 +50,10 @@ impl<const PAGE: usize> KLog<PAGE> {
         ensures same { IsTrue (D.honest device.old) → D.held device.new ≡ D.held device.old }
         ensures looks_at { IsTrue (D.honest device.old) →
             LooksAt PAGE (D.held device.old) self.old placed.now.set placed.now.tag key.now result
-            self.new }
+            self.new (device.new ≡ device.old) }
         ensures gives { IsTrue (D.honest device.old) →
             IsSpelledOn PAGE (D.held device.old) self.old →
-            IfOk result (λ r. LookGives (live_on (D.held device.old) self.old) key.now self.old r
+            IfOk result (λ r. LogLookGives (live_on (D.held device.old) self.old) key.now self.old r
             self.new (live_on (D.held device.new) self.new)) }
         ensures spelled { IsTrue (D.honest device.old) →
             IsSpelledOn PAGE (D.held device.old) self.old →
@@ -84,7 +85,8 @@ impl<const PAGE: usize> KLog<PAGE> {
         ensures honest { D.honest device.new ≡ D.honest device.old }
         ensures faults { D.failures device.new
             ≡ faults_after (D.failures device.old) (is_found_fault result) }
-        ensures its { IfOk result (IsOfTag placed.now.set placed.now.tag self.now.entries) }
+        ensures its { IfOk result (IsOfTag self.now placed.now.set placed.now.tag
+            (device.new ≡ device.old)) }
         ensures buffered { AreBuffered self.now
             (of_tag placed.now.set placed.now.tag self.now.entries) →
             device.new ≡ device.old }
@@ -127,7 +129,7 @@ impl<const PAGE: usize> KLog<PAGE> {
         ensures buffered { IsTrue (is_buffered self.now entry.now) → device.new ≡ device.old }
         ensures same { IsTrue (D.honest device.old) → D.held device.new ≡ D.held device.old }
         ensures tells { IsTrue (D.honest device.old) →
-            Tells PAGE (D.held device.old) self.now entry.now key.now result }
+            TellsKey PAGE (D.held device.old) self.now entry.now key.now result }
     {
         let mut bytes = [0u8; PAGE];
         match self.fetch(device, entry, &mut bytes) {

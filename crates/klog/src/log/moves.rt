@@ -1,5 +1,5 @@
 // What leaves the log, from its oldest segment.
-ghost use Rattle.std.specs.Prelude.{◌≡◌, ◌<◌, ℕ, List, length, Option, Some, IfOk, IsTrue, filter, not, false, Contains};
+ghost use Rattle.std.specs.Prelude.{◌≡◌, ◌<◌, ℕ, List, [], ◌∷◌, length, Option, Some, IfOk, IsTrue, filter, not, false, Contains};
 ghost use Rattle.page_device.specs.Device.{faults_after};
 ghost use Rattle.record_pages.specs.Sizes.{IsPageSize};
 ghost use Rattle.record_pages.specs.Recs.{Rec};
@@ -8,7 +8,7 @@ ghost use Rattle.klog.specs.Names.{HasRoom};
 ghost use Rattle.klog.specs.Shown.{CanStandFor, IsLiveOn, IsSpelledOn, shown_on, live_on};
 ghost use Rattle.klog.specs.Known.{is_buffered, AreBuffered};
 ghost use Rattle.klog.specs.Take.{is_missing, FailsOnlyIfMissing, Copies, is_lost_page, FailsOnlyIfLostPage, IsToBeTaken, Gathers, GathersAt};
-ghost use Rattle.klog.specs.Moves.{TellsOldest, IsFirstLive, IsOfOldest, freed, is_among, dropped, without_entry, live_without_entry, without_its_page, live_without_page, EntersAnew, is_fault, ReadmitLeaves, ReadmitGives, ReadsBack, is_lost, FailsOnlyIfLost, taken_entries, TakeLeaves, TakeGives, TakesAt};
+ghost use Rattle.klog.specs.Moves.{TellsOldest, IsFirstLive, IsOfOldest, freed, is_taken, dropped, without_entry, live_without_entry, without_its_page, live_without_page, EntersAnew, is_readmit_fault, ReadmitLeaves, live_anew, ReadmitGives, ReadsBack, is_taking_lost, FailsOnlyIfLost, taken_entries, TakeLeaves, TakeGives, TakesAt};
 
 use super::KLog;
 use crate::fetched::Fetched;
@@ -18,7 +18,7 @@ use crate::readmitted::Readmitted;
 use crate::set_taken::SetTaken;
 use crate::taken_record::TakenRecord;
 use crate::taken_records::TakenRecords;
-use klog_index::{Entry, Place};
+use klog_index::Entry;
 use page_device::PageDevice;
 use record_pages::{Prediction, RecordRef};
 use std::alloc::{AllocError, Global};
@@ -55,18 +55,43 @@ impl<const PAGE: usize> KLog<PAGE> {
         self.stored -= 1;
     }
 
-    /// Drops the live records of a set at these places.
-    pub fn drop_places(&mut self, set: u32, places: &[Place])
+    /// Drops the live records of a set that were taken as these. One whose segment was freed since is passed over, also
+    /// where another record lies at its place now.
+    pub fn drop_taken(&mut self, set: u32, taken: &TakenRecords)
         ensures shape { self.new.shape ≡ self.old.shape }
-        ensures dropped { self.new ≡ dropped self.old set places.now }
+        ensures dropped { self.new ≡ dropped self.old set taken.now }
         ensures spelled { (held : ℕ → Option (List ℕ)) → IsSpelledOn PAGE held self.old →
             IsSpelledOn PAGE held self.new }
         ensures shown { (held : ℕ → Option (List ℕ)) → live_on held self.new
-            ≡ filter (λ x. not (is_among set places.now x.0)) (live_on held self.old) }
+            ≡ filter (λ x. not (is_taken self.old set taken.now x.0)) (live_on held self.old) }
     {
-        for place in places {
-            self.index.drop_in(set, *place);
+        for number in 0..taken.len() {
+            self.drop_one(set, taken.at(number));
         }
+    }
+
+    // Drops the live record of a set that was taken as this one, where its segment is still held.
+    fn drop_one(&mut self, set: u32, taken: &TakenRecord)
+        ensures { self.new ≡ dropped self.old set (taken.now ∷ []) }
+    {
+        if self.number_of(taken.place.segment) != taken.segment {
+            return;
+        }
+        self.index.drop_in(set, taken.place);
+    }
+
+    /// Drops a live record, that of this entry.
+    pub fn drop_entry(&mut self, entry: &Entry)
+        ensures shape { self.new.shape ≡ self.old.shape }
+        ensures dropped { self.new ≡ without_entry self.old entry.now }
+        ensures fewer { Contains self.old.entries entry.now →
+            length self.new.entries < self.new.shape.limit }
+        ensures spelled { (held : ℕ → Option (List ℕ)) → IsSpelledOn PAGE held self.old →
+            IsSpelledOn PAGE held self.new }
+        ensures shown { (held : ℕ → Option (List ℕ)) → live_on held self.new
+            ≡ live_without_entry entry.now (live_on held self.old) }
+    {
+        self.index.drop_in(entry.set, entry.place);
     }
 
     /// Reads the record of a live entry of the oldest segment on the device, drops it there, and adds it anew with
@@ -80,7 +105,7 @@ impl<const PAGE: usize> KLog<PAGE> {
         ensures pages { D.page_count device.new ≡ D.page_count device.old }
         ensures honest { D.honest device.new ≡ D.honest device.old }
         ensures faults { D.failures device.new
-            ≡ faults_after (D.failures device.old) (is_fault result) }
+            ≡ faults_after (D.failures device.old) (is_readmit_fault result) }
         ensures shape { self.new.shape ≡ self.old.shape }
         ensures leaves { ReadmitLeaves PAGE self.old entry.now result self.new }
 
@@ -90,9 +115,8 @@ impl<const PAGE: usize> KLog<PAGE> {
             ReadsBack PAGE (D.held device.old) self.old entry.now result self.new }
         ensures gives { IsTrue (D.honest device.old) →
             IsSpelledOn PAGE (D.held device.old) self.old →
-            (r : Rec) → shown_on (D.held device.old) self.old entry.now ≡ Some r →
-            ReadmitGives PAGE self.old entry.now r (live_on (D.held device.old) self.old) result
-            (live_on (D.held device.new) self.new) }
+            ReadmitGives PAGE self.old entry.now (live_on (D.held device.old) self.old) result
+            self.new (live_on (D.held device.new) self.new) }
         ensures spelled { IsTrue (D.honest device.old) →
             IsSpelledOn PAGE (D.held device.old) self.old →
             IsSpelledOn PAGE (D.held device.new) self.new }
@@ -139,11 +163,11 @@ impl<const PAGE: usize> KLog<PAGE> {
             (D.failures device.new) }
         ensures faults { IsTrue (D.honest device.old) →
             IsSpelledOn PAGE (D.held device.old) self.old →
-            D.failures device.new ≡ faults_after (D.failures device.old) (is_lost result) }
+            D.failures device.new ≡ faults_after (D.failures device.old) (is_taking_lost result) }
         ensures gives { IsTrue (D.honest device.old) →
             IsSpelledOn PAGE (D.held device.old) self.old →
             IfOk result (λ r. TakeGives self.old set (live_on (D.held device.old) self.old) r
-            (live_on (D.held device.new) self.new)) }
+            self.new (live_on (D.held device.new) self.new)) }
         ensures spelled { IsTrue (D.honest device.old) →
             IsSpelledOn PAGE (D.held device.old) self.old →
             IsSpelledOn PAGE (D.held device.new) self.new }
@@ -182,7 +206,7 @@ impl<const PAGE: usize> KLog<PAGE> {
             D.failures device.new ≡ faults_after (D.failures device.old) (is_lost_page result) }
         ensures gathers { IsTrue (D.honest device.old) →
             IsSpelledOn PAGE (D.held device.old) self.now →
-            IfOk result (Gathers set (live_on (D.held device.old) self.now)) }
+            IfOk result (Gathers self.now set (live_on (D.held device.old) self.now)) }
     {
         let mut records = TakenRecords::new(alloc);
         for behind in 0..MAX_TAKEN {
@@ -232,6 +256,7 @@ impl<const PAGE: usize> KLog<PAGE> {
         Ok(Some(TakenRecord {
             stored,
             place: entry.place,
+            segment: self.number_of(entry.place.segment),
         }))
     }
 
@@ -240,15 +265,15 @@ impl<const PAGE: usize> KLog<PAGE> {
         requires page_size { IsPageSize PAGE }
         requires listed { Contains self.old.entries entry.now }
         requires its { CanStandFor PAGE self.old.shape entry.now (record_shown found) }
-        ensures no_fault { is_fault result ≡ false }
+        ensures no_fault { is_readmit_fault result ≡ false }
         ensures shape { self.new.shape ≡ self.old.shape }
         ensures enters { EntersAnew PAGE self.old entry.now (record_shown found.entry) result
             self.new }
         ensures spelled { (held : ℕ → Option (List ℕ)) → IsSpelledOn PAGE held self.old →
             IsSpelledOn PAGE held self.new }
         ensures shown { (held : ℕ → Option (List ℕ)) → IsSpelledOn PAGE held self.old →
-            ReadmitGives PAGE self.old entry.now (record_shown found.entry)
-            (live_on held self.old) result (live_on held self.new) }
+            live_on held self.new ≡ live_anew PAGE self.old entry.now (record_shown found.entry) result
+            (live_on held self.old) }
     {
         self.drop_entry(entry);
         let anew = RecordRef {
@@ -261,20 +286,6 @@ impl<const PAGE: usize> KLog<PAGE> {
         } else {
             Readmitted::Dropped
         }
-    }
-
-    // Drops a live entry.
-    fn drop_entry(&mut self, entry: &Entry)
-        requires listed { Contains self.old.entries entry.now }
-        ensures shape { self.new.shape ≡ self.old.shape }
-        ensures dropped { self.new ≡ without_entry self.old entry.now }
-        ensures fewer { length self.new.entries < self.new.shape.limit }
-        ensures spelled { (held : ℕ → Option (List ℕ)) → IsSpelledOn PAGE held self.old →
-            IsSpelledOn PAGE held self.new }
-        ensures shown { (held : ℕ → Option (List ℕ)) → live_on held self.new
-            ≡ live_without_entry entry.now (live_on held self.old) }
-    {
-        self.index.drop_in(entry.set, entry.place);
     }
 
     // Drops the entries of an entry's page.

@@ -125,6 +125,7 @@ const A: Kept = Kept {
     value: b"1",
     prediction: 5,
     place: FIRST,
+    segment: 0,
 };
 
 const A_UNREAD: Kept = Kept { prediction: 6, ..A };
@@ -134,6 +135,7 @@ const B: Kept = Kept {
     value: b"2",
     prediction: 6,
     place: Place { slot: 1, ..FIRST },
+    segment: 0,
 };
 
 const TAKES_BOTH: Step = Step::Take(&[B, A]);

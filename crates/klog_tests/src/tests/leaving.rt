@@ -2,7 +2,7 @@
 use super::retried::{append, take};
 use super::*;
 
-const TAKEN_FROM_MEMORY: [Step; 7] = [
+const TAKEN_FROM_MEMORY: [Step; 4] = [
     Step::Append(b"ax", b"1", ADDED),
     Step::Append(b"bx", b"2", ADDED),
     Step::Look(b"ax", Seen::Value(b"1")),
@@ -12,17 +12,16 @@ const TAKEN_FROM_MEMORY: [Step; 7] = [
             value: b"2",
             prediction: 6,
             place: SECOND,
+            segment: 0,
         },
         Kept {
             key: b"ax",
             value: b"1",
             prediction: 5,
             place: FIRST,
+            segment: 0,
         },
     ]),
-    Step::Drop(FIRST),
-    Step::Look(b"ax", Seen::Absent),
-    Step::Look(b"bx", Seen::Value(b"2")),
 ];
 
 const SECOND: Place = Place { slot: 1, ..FIRST };
@@ -32,6 +31,89 @@ fn a_set_is_taken_from_memory_newest_first(rt: HostRuntime) -> Result<(), Fail> 
     let alloc = rt.alloc();
     let mut owner: Owner<Fused, 256> = log(alloc, ONE_SET, refusing(alloc)?)?;
     run(&rt, alloc, &mut owner, &TAKEN_FROM_MEMORY)
+}
+
+// What is taken of the set.
+fn taken(alloc: Global, owner: &mut Owner<Fused, 256>) -> Result<TakenRecords, Fail> {
+    match take(alloc, owner)? {
+        SetTaken::Records(records) => Ok(records),
+        SetTaken::PageLost => Err("a lost page".into()),
+    }
+}
+
+const TWO_IN_MEMORY: [Step; 2] = [
+    Step::Append(b"ax", b"1", ADDED),
+    Step::Append(b"bx", b"2", ADDED),
+];
+
+const A_THIRD: [Step; 1] = [Step::Append(b"cx", b"3", ADDED)];
+
+const THE_THIRD_ALONE: [Step; 4] = [
+    Step::Count(1),
+    Step::Look(b"ax", Seen::Absent),
+    Step::Look(b"bx", Seen::Absent),
+    Step::Look(b"cx", Seen::Value(b"3")),
+];
+
+#[test]
+fn what_was_taken_is_dropped_alone(rt: HostRuntime) -> Result<(), Fail> {
+    let alloc = rt.alloc();
+    let mut owner = sound_log(alloc)?;
+    run(&rt, alloc, &mut owner, &TWO_IN_MEMORY)?;
+    let taken = taken(alloc, &mut owner)?;
+    run(&rt, alloc, &mut owner, &A_THIRD)?;
+    owner.drop_taken(0, &taken);
+    run(&rt, alloc, &mut owner, &THE_THIRD_ALONE)
+}
+
+// Segments 0 to 3 come and go, and then the name of segment 0 comes again.
+const IN_SEGMENT_0: [Step; 3] = [
+    Step::Append(b"ax", b"1", ADDED),
+    Step::Flush(Flushed::Sealed),
+    Step::Flush(Flushed::Wrote),
+];
+
+const IN_SEGMENT_4: [Step; 18] = [
+    Step::Strike(b"ax"),
+    Step::Free(true),
+    Step::Append(b"ax", b"2", ADDED),
+    Step::Flush(Flushed::Sealed),
+    Step::Flush(Flushed::Wrote),
+    Step::Strike(b"ax"),
+    Step::Free(true),
+    Step::Append(b"ax", b"3", ADDED),
+    Step::Flush(Flushed::Sealed),
+    Step::Flush(Flushed::Wrote),
+    Step::Strike(b"ax"),
+    Step::Free(true),
+    Step::Append(b"ax", b"4", ADDED),
+    Step::Flush(Flushed::Sealed),
+    Step::Flush(Flushed::Wrote),
+    Step::Strike(b"ax"),
+    Step::Free(true),
+    Step::Append(b"ax", b"5", ADDED),
+];
+
+const STAYS: [Step; 2] = [
+    Step::Look(b"ax", Seen::Value(b"5")),
+    Step::Take(&[Kept {
+        key: b"ax",
+        value: b"5",
+        prediction: 5,
+        place: FIRST,
+        segment: 4,
+    }]),
+];
+
+#[test]
+fn a_later_record_at_the_place_of_a_taken_one_stays(rt: HostRuntime) -> Result<(), Fail> {
+    let alloc = rt.alloc();
+    let mut owner = sound_log(alloc)?;
+    run(&rt, alloc, &mut owner, &IN_SEGMENT_0)?;
+    let taken = taken(alloc, &mut owner)?;
+    run(&rt, alloc, &mut owner, &IN_SEGMENT_4)?;
+    owner.drop_taken(0, &taken);
+    run(&rt, alloc, &mut owner, &STAYS)
 }
 
 type Wide = FuseDevice<MemoryDevice<4096>>;
@@ -88,10 +170,7 @@ fn are_the_newest(taken: SetTaken) -> bool {
         return false;
     }
     for behind in 0..32u8 {
-        let Some(record) = records.at(behind as usize) else {
-            return false;
-        };
-        if !is_numbered(record, 64 - behind) {
+        if !is_numbered(records.at(behind as usize), 64 - behind) {
             return false;
         }
     }
@@ -136,12 +215,14 @@ const READMITTED_OR_LOST: [Step; 10] = [
                 segment: 1,
                 ..FIRST
             },
+            segment: 1,
         },
         Kept {
             key: b"bx",
             value: &[2; 100],
             prediction: 6,
             place: SECOND,
+            segment: 0,
         },
     ]),
     Step::Look(b"ax", Seen::Value(&[1; 100])),

@@ -6,8 +6,8 @@ ghost use Rattle.page_device.specs.Frames.{pages_before};
 ghost use Rattle.record_pages.specs.Sizes.{IsPageSize, object_size, room};
 ghost use Rattle.klog.specs.Shown.{newest_with};
 ghost use Rattle.klog.specs.Append.{entering, AppendGives};
-ghost use Rattle.klog.specs.Look.{is_fault};
-ghost use Rattle.klog.specs.Flush.{is_lost};
+ghost use Rattle.klog.specs.Look.{is_log_fault};
+ghost use Rattle.klog.specs.Flush.{is_page_lost};
 ghost use Rattle.klog_tests.specs.Owner.{OwnerState, IsOwner, live_of, KeepsLive, HasNewest, Tells, IsToldOf, IsNotAsked};
 
 use super::*;
@@ -72,7 +72,7 @@ impl<D: PageDevice<PAGE>, const PAGE: usize> Owner<D, PAGE> {
     pub fn look(&mut self, alloc: Global, key: &Key) -> Result<Looked, AllocError>
         requires { IsPageSize PAGE }
         ensures faults { D.failures self.new.device
-            ≡ faults_after (D.failures self.old.device) (is_fault result) }
+            ≡ faults_after (D.failures self.old.device) (is_log_fault result) }
         ensures same { IsTrue (D.honest self.old.device) →
             D.held self.new.device ≡ D.held self.old.device }
         ensures tells { IsTrue (D.honest self.old.device) →
@@ -93,8 +93,8 @@ impl<D: PageDevice<PAGE>, const PAGE: usize> Owner<D, PAGE> {
         ensures shape { self.new.log.shape ≡ self.old.log.shape }
         ensures honest { D.honest self.new.device ≡ D.honest self.old.device }
         ensures faults { D.failures self.new.device
-            ≡ faults_after (D.failures self.old.device) (is_lost result) }
-        ensures live { IsTrue (D.honest self.old.device) → is_lost result ≡ false →
+            ≡ faults_after (D.failures self.old.device) (is_page_lost result) }
+        ensures live { IsTrue (D.honest self.old.device) → is_page_lost result ≡ false →
             live_of D.held self.new ≡ live_of D.held self.old }
         ensures pages_of_sets { IsTrue (D.honest self.old.device) →
             pages_before self.old.log.shape.sets (D.held self.new.device)
@@ -113,8 +113,12 @@ impl<D: PageDevice<PAGE>, const PAGE: usize> Owner<D, PAGE> {
         self.log.take_set(alloc, &mut self.device, set)
     }
 
-    pub(super) fn drop_taken(&mut self, set: u32, places: &[Place]) {
-        self.log.drop_places(set, places);
+    pub(super) fn drop_taken(&mut self, set: u32, taken: &TakenRecords) {
+        self.log.drop_taken(set, taken);
+    }
+
+    pub(super) fn drop_entry(&mut self, entry: &Entry) {
+        self.log.drop_entry(entry);
     }
 
     /// Readmits what `oldest` tells, or nothing where it tells of no entry.
@@ -136,8 +140,8 @@ impl<D: PageDevice<PAGE>, const PAGE: usize> Owner<D, PAGE> {
         true
     }
 
-    pub(super) fn count(&self, set: u32) -> usize {
-        self.log.count(set)
+    pub(super) fn len(&self) -> usize {
+        self.log.len()
     }
 
     /// So many steps of flushing, or less where one loses a page, and whether none did.
@@ -175,7 +179,7 @@ impl<D: PageDevice<PAGE>, const PAGE: usize> Owner<D, PAGE> {
         ensures not_asked { IfOk result (λ told. IfNone told (IsNotAsked PAGE self.old.log
             key.now value.now (D.failures self.old.device) (D.failures self.new.device))) }
         ensures faults { IfOk result (λ told. IfSome told (λ looked. D.failures self.new.device
-            ≡ faults_after (D.failures self.old.device) (is_fault (Ok looked)))) }
+            ≡ faults_after (D.failures self.old.device) (is_log_fault (Ok looked)))) }
         ensures pages_of_sets { IsTrue (D.honest self.old.device) →
             pages_before self.old.log.shape.sets (D.held self.new.device)
             ≡ pages_before self.old.log.shape.sets (D.held self.old.device) }

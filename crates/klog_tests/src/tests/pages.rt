@@ -52,6 +52,7 @@ const A_TAKEN: Kept = Kept {
     value: &[1; 200],
     prediction: 5,
     place: FIRST,
+    segment: 0,
 };
 
 const A_NOT_READ: Kept = Kept {
@@ -64,6 +65,7 @@ const B_TAKEN: Kept = Kept {
     value: &[2; 200],
     prediction: 5,
     place: Place { page: 1, ..FIRST },
+    segment: 0,
 };
 
 const B_NOT_READ: Kept = Kept {

@@ -70,7 +70,7 @@ fn key_at(taken: SetTaken, place: Place) -> Option<usize> {
         return None;
     };
     for number in 0..records.len() {
-        let record = records.at(number)?;
+        let record = records.at(number);
         if record.place == place {
             return key_number(record.stored.key.bytes());
         }
@@ -84,7 +84,7 @@ fn drop_oldest(alloc: Global, owner: &mut Owner<Fused, 256>) -> Result<Option<us
         return Ok(None);
     };
     let taken = take(alloc, owner)?;
-    owner.drop_taken(0, &[entry.place]);
+    owner.drop_entry(&entry);
     Ok(key_at(taken, entry.place))
 }
 

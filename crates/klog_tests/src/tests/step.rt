@@ -11,6 +11,7 @@ pub struct Kept {
     pub value: &'static [u8],
     pub prediction: u8,
     pub place: Place,
+    pub segment: u64,
 }
 
 /// A call of a log on set 0, and what it gives.
@@ -33,7 +34,6 @@ pub enum Step {
     Take(&'static [Kept]),
     /// A taking that meets a lost page.
     TakeLost,
-    Drop(Place),
     Readmit(Option<Readmitted>),
     /// Whether the oldest segment is freed.
     Free(bool),
@@ -71,7 +71,7 @@ fn gives<D: PageDevice<PAGE>, const PAGE: usize>(
             strike(alloc, owner, key)?;
             Ok(true)
         }
-        Step::Take(wanted) => are_taken(take(alloc, owner)?, wanted),
+        Step::Take(wanted) => Ok(are_taken(take(alloc, owner)?, wanted)),
         Step::TakeLost => Ok(is_lost(take(alloc, owner)?)),
         other => Ok(moves(owner, other)),
     }
@@ -86,13 +86,9 @@ fn moves<D: PageDevice<PAGE>, const PAGE: usize>(owner: &mut Owner<D, PAGE>, ste
         Step::First(tag, place, prediction) => is_first(owner.oldest(), *tag, *place, *prediction),
         Step::NoSegment => owner.oldest() == Oldest::NoSegment,
         Step::Empty => owner.oldest() == Oldest::Empty,
-        Step::Drop(place) => {
-            owner.drop_taken(0, &[*place]);
-            true
-        }
         Step::Readmit(wanted) => owner.readmit() == *wanted,
         Step::Free(wanted) => owner.free() == *wanted,
-        Step::Count(wanted) => owner.count(0) == *wanted,
+        Step::Count(wanted) => owner.len() == *wanted,
         _ => false,
     }
 }
@@ -124,19 +120,19 @@ fn is_lost(taken: SetTaken) -> bool {
     }
 }
 
-fn are_taken(taken: SetTaken, wanted: &[Kept]) -> Result<bool, Fail> {
+fn are_taken(taken: SetTaken, wanted: &[Kept]) -> bool {
     let SetTaken::Records(records) = taken else {
-        return Ok(false);
+        return false;
     };
     if records.len() != wanted.len() || records.is_empty() != wanted.is_empty() {
-        return Ok(false);
+        return false;
     }
     for number in 0..wanted.len() {
-        if !is_kept(records.at(number).ok_or("a record")?, &wanted[number]) {
-            return Ok(false);
+        if !is_kept(records.at(number), &wanted[number]) {
+            return false;
         }
     }
-    Ok(true)
+    true
 }
 
 fn is_kept(record: &TakenRecord, wanted: &Kept) -> bool {
@@ -144,4 +140,5 @@ fn is_kept(record: &TakenRecord, wanted: &Kept) -> bool {
         && record.stored.value.bytes() == wanted.value
         && record.stored.pred.get() == wanted.prediction
         && record.place == wanted.place
+        && record.segment == wanted.segment
 }

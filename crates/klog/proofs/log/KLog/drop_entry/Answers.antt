@@ -17,8 +17,8 @@ pub returns-clause-dropped : goal.returns-clause-dropped
 returns-clause-dropped g c = search rules
 
 pub returns-clause-fewer : goal.returns-clause-fewer
-returns-clause-fewer g c =
-    subst (λ (k : LogState). length k.entries < k.shape.limit) (sym (returns-clause-dropped g c)) (fewer_without c.args.self.now c.args.entry.now (subst IsLog c.self.view_is c.self.invariant.0) c.requires.listed)
+returns-clause-fewer g c = λ listed.
+    subst (λ (k : LogState). length k.entries < k.shape.limit) (sym (returns-clause-dropped g c)) (fewer_without c.args.self.now c.args.entry.now (subst IsLog c.self.view_is c.self.invariant.0) listed)
 
 pub returns-clause-spelled : goal.returns-clause-spelled
 returns-clause-spelled g c = λ held h.

@@ -1,12 +1,18 @@
-use Rattle.std.proofs.Common.{Bool, refl, sym, ap, subst, ◌∙◌, rules, arith}
+use Rattle.std.proofs.Common.{◌≡◌, Bool, true, refl, sym, ap, subst, ◌∙◌, rules, arith}
 use Rattle.std.specs.Prelude.{IsTrue, Ok, Err}
 use Rattle.std.proofs.lemmas.Result.{err_from_is_err_and}
 use Rattle.klog_index.specs.Entries.{of_tag}
 use Rattle.klog.specs.declared.told.Told.TheVariants as told
 use Rattle.klog.specs.declared.found.Found.TheVariants as found
 use Rattle.klog.specs.Names.{HasRoom}
-use Rattle.klog.specs.Find.{FindsAt}
-use Rattle.klog.proofs.LookLaws.{turn_at, turn_listed, turn_buffered, turn_tells, turn_reached, turn_other, turns_over, finds_of, got, got_none, all_seen}
+use Rattle.klog.specs.Find.{FindsAt, is_told_fault}
+use Rattle.klog.specs.Known.{is_buffered}
+use Rattle.klog.specs.declared.told.Told.{Told}
+use Rattle.page_device.specs.Device.{faults_after}
+use Rattle.klog.proofs.CallLaws.{unbuffered}
+use Rattle.klog.specs.Keeps.{IsLog}
+use Rattle.klog.proofs.OrderLaws.{newer_buffered}
+use Rattle.klog.proofs.LookLaws.{turn_at, turn_listed, turn_buffered, turn_before, turn_first, turn_tells, turn_reached, turn_other, turns_over, finds_of, got, got_none, all_seen}
 use Rattle.klog.proofs.log.KLog.find.Goals as goal
 
 pub returns-in_default-clause-finds_at : goal.returns-in_default-clause-finds_at
@@ -14,6 +20,10 @@ returns-in_default-clause-finds_at g c = λ honest.
     turns_over g.row.PAGE (g.D.PageDevice.held c.args.device.now) c.args.self.now c.args.placed.now.set c.args.placed.now.tag c.args.key.now c.loop-behind.behind
     (got_none _ c.args.self.now c.args.placed.now.set c.args.placed.now.tag c.loop-behind.behind _ c.self.view_is c.find.ensures c.in_default.is)
     (c.loop-behind.invariant.newer honest)
+
+pub returns-in_default-clause-buffered : goal.returns-in_default-clause-buffered
+returns-in_default-clause-buffered g c = λ all.
+    c.loop-behind.invariant.buffered (turn_before c.args.self.now c.args.placed.now.set c.args.placed.now.tag c.loop-behind.behind all)
 
 pub returns-in_default-clause-finds : goal.returns-in_default-clause-finds
 returns-in_default-clause-finds g c = λ honest spelled.
@@ -30,7 +40,7 @@ pub returns-in_err-ask-clause-buffered : goal.returns-in_err-ask-clause-buffered
 returns-in_err-ask-clause-buffered g c = λ all.
     let k = c.args.self.now in
     let at = turn_at _ k c.args.placed.now.set c.args.placed.now.tag c.loop-behind.behind c.in-Some.entry _ c.self.view_is c.find.ensures c.in-Some.is in
-    c.ask.ensures.buffered (turn_buffered k c.args.placed.now.set c.args.placed.now.tag c.loop-behind.behind c.in-Some.entry at all) ∙ c.loop-behind.invariant.buffered all
+    c.ask.ensures.buffered (turn_buffered k c.args.placed.now.set c.args.placed.now.tag c.loop-behind.behind c.in-Some.entry at all) ∙ c.loop-behind.invariant.buffered (turn_before k c.args.placed.now.set c.args.placed.now.tag c.loop-behind.behind all)
 
 pub returns-in_err-ask-clause-finds_at : goal.returns-in_err-ask-clause-finds_at
 returns-in_err-ask-clause-finds_at g c = λ honest.
@@ -50,20 +60,24 @@ pub returns-in-Fault-clause-buffered : goal.returns-in-Fault-clause-buffered
 returns-in-Fault-clause-buffered g c = λ all.
     let k = c.args.self.now in
     let at = turn_at _ k c.args.placed.now.set c.args.placed.now.tag c.loop-behind.behind c.in-Some.entry _ c.self.view_is c.find.ensures c.in-Some.is in
-    c.ask.ensures.buffered (turn_buffered k c.args.placed.now.set c.args.placed.now.tag c.loop-behind.behind c.in-Some.entry at all) ∙ c.loop-behind.invariant.buffered all
+    c.ask.ensures.buffered (turn_buffered k c.args.placed.now.set c.args.placed.now.tag c.loop-behind.behind c.in-Some.entry at all) ∙ c.loop-behind.invariant.buffered (turn_before k c.args.placed.now.set c.args.placed.now.tag c.loop-behind.behind all)
 
 pub returns-in-Fault-clause-finds_at : goal.returns-in-Fault-clause-finds_at
 returns-in-Fault-clause-finds_at g c = λ honest.
     let k = c.args.self.now in
     let at = turn_at _ k c.args.placed.now.set c.args.placed.now.tag c.loop-behind.behind c.in-Some.entry _ c.self.view_is c.find.ensures c.in-Some.is in
     let held = g.D.PageDevice.held c.args.device.now in
-    (c.in-Some.entry, turn_reached g.row.PAGE held k c.args.placed.now.set c.args.placed.now.tag c.args.key.now c.loop-behind.behind c.in-Some.entry at (c.loop-behind.invariant.newer honest))
+    let failed = subst (λ (t : Told). g.D.PageDevice.failures c.ask.new.device ≡ faults_after (g.D.PageDevice.failures c.loop-behind.device) (is_told_fault (Ok t))) c.in-Fault.is c.in_ok-ask.ensures.faults in (
+      c.in-Some.entry,
+      turn_reached g.row.PAGE held k c.args.placed.now.set c.args.placed.now.tag c.args.key.now c.loop-behind.behind c.in-Some.entry at (c.loop-behind.invariant.newer honest),
+      unbuffered (is_buffered k c.in-Some.entry) (g.D.PageDevice.failures c.loop-behind.device) (g.D.PageDevice.failures c.ask.new.device) (λ b. ap g.D.PageDevice.failures (c.ask.ensures.buffered b)) failed,
+    )
 
 pub returns-in-Damaged-clause-buffered : goal.returns-in-Damaged-clause-buffered
 returns-in-Damaged-clause-buffered g c = λ all.
     let k = c.args.self.now in
     let at = turn_at _ k c.args.placed.now.set c.args.placed.now.tag c.loop-behind.behind c.in-Some.entry _ c.self.view_is c.find.ensures c.in-Some.is in
-    c.ask.ensures.buffered (turn_buffered k c.args.placed.now.set c.args.placed.now.tag c.loop-behind.behind c.in-Some.entry at all) ∙ c.loop-behind.invariant.buffered all
+    c.ask.ensures.buffered (turn_buffered k c.args.placed.now.set c.args.placed.now.tag c.loop-behind.behind c.in-Some.entry at all) ∙ c.loop-behind.invariant.buffered (turn_before k c.args.placed.now.set c.args.placed.now.tag c.loop-behind.behind all)
 
 pub returns-in-Damaged-clause-finds_at : goal.returns-in-Damaged-clause-finds_at
 returns-in-Damaged-clause-finds_at g c = λ honest.
@@ -84,14 +98,17 @@ returns-in-Damaged-clause-finds g c = λ honest spelled.
 pub returns-in-Hit-clause-its : goal.returns-in-Hit-clause-its
 returns-in-Hit-clause-its g c =
     let k = c.args.self.now in
-    got (of_tag c.args.placed.now.set c.args.placed.now.tag k.entries) c.loop-behind.behind c.in-Some.entry
-    (turn_at _ k c.args.placed.now.set c.args.placed.now.tag c.loop-behind.behind c.in-Some.entry _ c.self.view_is c.find.ensures c.in-Some.is)
+    let is : IsLog k = subst IsLog c.self.view_is c.self.invariant.0 in
+    let at = turn_at _ k c.args.placed.now.set c.args.placed.now.tag c.loop-behind.behind c.in-Some.entry _ c.self.view_is c.find.ensures c.in-Some.is in (
+      got (of_tag c.args.placed.now.set c.args.placed.now.tag k.entries) c.loop-behind.behind c.in-Some.entry at,
+      λ here. c.ask.ensures.buffered here ∙ c.loop-behind.invariant.buffered (newer_buffered k c.args.placed.now.set c.args.placed.now.tag c.loop-behind.behind c.in-Some.entry is at here),
+    )
 
 pub returns-in-Hit-clause-buffered : goal.returns-in-Hit-clause-buffered
 returns-in-Hit-clause-buffered g c = λ all.
     let k = c.args.self.now in
     let at = turn_at _ k c.args.placed.now.set c.args.placed.now.tag c.loop-behind.behind c.in-Some.entry _ c.self.view_is c.find.ensures c.in-Some.is in
-    c.ask.ensures.buffered (turn_buffered k c.args.placed.now.set c.args.placed.now.tag c.loop-behind.behind c.in-Some.entry at all) ∙ c.loop-behind.invariant.buffered all
+    c.ask.ensures.buffered (turn_buffered k c.args.placed.now.set c.args.placed.now.tag c.loop-behind.behind c.in-Some.entry at all) ∙ c.loop-behind.invariant.buffered (turn_before k c.args.placed.now.set c.args.placed.now.tag c.loop-behind.behind all)
 
 pub returns-in-Hit-clause-finds_at : goal.returns-in-Hit-clause-finds_at
 returns-in-Hit-clause-finds_at g c = λ honest.
@@ -117,7 +134,9 @@ loop-behind-preserved g c =
       honest = search rules;
       failures = search rules;
       same = λ honest. c.ask.ensures.same (subst (λ (b : Bool). IsTrue b) (sym c.loop-behind.invariant.honest) honest) ∙ c.loop-behind.invariant.same honest;
-      buffered = λ all. c.ask.ensures.buffered (turn_buffered k c.args.placed.now.set c.args.placed.now.tag c.loop-behind.behind c.in-Some.entry at all) ∙ c.loop-behind.invariant.buffered all;
+      buffered = λ all.
+          let both = turn_first (λ e. IsTrue (is_buffered k e)) k c.args.placed.now.set c.args.placed.now.tag c.loop-behind.behind c.in-Some.entry at all in
+          c.ask.ensures.buffered both.1 ∙ c.loop-behind.invariant.buffered both.0;
       newer = λ honest.
           let held = g.D.PageDevice.held c.args.device.now in
           let on : IsTrue (g.D.PageDevice.honest c.loop-behind.device) = subst (λ (b : Bool). IsTrue b) (sym c.loop-behind.invariant.honest) honest in
@@ -131,6 +150,10 @@ returns-clause-finds_at g c = λ honest.
     turns_over g.row.PAGE (g.D.PageDevice.held c.args.device.now) c.args.self.now c.args.placed.now.set c.args.placed.now.tag c.args.key.now c.loop-behind.behind
     (all_seen _ c.args.self.now c.args.placed.now.set c.args.placed.now.tag c.loop-behind.behind c.self.view_is (omega (arith, c.loop-behind-test.false, c.len-behind-end.ensures.len)))
     (c.loop-behind.invariant.newer honest)
+
+pub returns-clause-buffered : goal.returns-clause-buffered
+returns-clause-buffered g c = λ all.
+    c.loop-behind.invariant.buffered (turn_before c.args.self.now c.args.placed.now.set c.args.placed.now.tag c.loop-behind.behind all)
 
 pub returns-clause-finds : goal.returns-clause-finds
 returns-clause-finds g c = λ honest spelled.

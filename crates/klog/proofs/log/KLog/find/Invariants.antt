@@ -11,7 +11,7 @@ invariant-loop-behind g l = record {
   honest : g.D.PageDevice.honest l.device ≡ g.D.PageDevice.honest l.initial.device;
   failures : g.D.PageDevice.failures l.device ≡ g.D.PageDevice.failures l.initial.device;
   same : IsTrue (g.D.PageDevice.honest l.initial.device) → g.D.PageDevice.held l.device ≡ g.D.PageDevice.held l.initial.device;
-  buffered : AreBuffered l.self (of_tag l.placed.set l.placed.tag l.self.entries) → l.device ≡ l.initial.device;
+  buffered : AreBuffered l.self (take l.behind (of_tag l.placed.set l.placed.tag l.self.entries)) → l.device ≡ l.initial.device;
   newer : IsTrue (g.D.PageDevice.honest l.initial.device)
       → All (ShowsOther g.row.PAGE (g.D.PageDevice.held l.initial.device) l.self l.key) (take l.behind (of_tag l.placed.set l.placed.tag l.self.entries));
 }

@@ -1,13 +1,17 @@
-use Rattle.std.proofs.Common.{◌≡◌, ℕ, ◌+◌, List, take, Bool, refl, sym, ap, subst, ◌∙◌, rules, arith}
+use Rattle.std.proofs.Common.{◌≡◌, ℕ, ◌+◌, List, length, take, Bool, refl, sym, ap, subst, ◌∙◌, rules, arith}
 use Rattle.std.specs.Prelude.{IsTrue, Some, Result, Ok, Err}
 use Rattle.std.specs.declared.alloc.AllocError.{AllocError}
+use Rattle.std.proofs.lemmas.List.{length_push}
 use Rattle.std.proofs.lemmas.Result.{err_from_is_err_and}
 use Rattle.klog_index.specs.declared.entry.Entry.{Entry}
 use Rattle.klog_index.specs.Entries.{of_set}
 use Rattle.klog.specs.declared.gathered.Gathered.{Gathered}
+use Rattle.klog.specs.declared.taken_record.TakenRecord.{TakenRecord}
 use Rattle.klog.specs.Names.{HasRoom}
 use Rattle.klog.specs.Moves.{taken_as, AreCopies}
 use Rattle.klog.specs.Take.{GathersAt}
+use Rattle.klog.specs.Known.{is_buffered}
+use Rattle.klog.proofs.CallLaws.{unbuffered}
 use Rattle.klog.proofs.KnownLaws.{shows_weaker}
 use Rattle.klog.proofs.TakeLaws.{turn_at, turn_listed, turn_live, turn_taken, turn_buffered, turn_copies, turn_fails, turn_more, taken_of_copies, taken_all}
 use Rattle.klog.proofs.log.KLog.gather.Goals as goal
@@ -19,6 +23,9 @@ returns-in_default-clause-gathers_at g c = λ honest.
     subst (λ (es : List Entry). AreCopies g.row.PAGE held k es c.loop-behind.records)
     (taken_all _ k c.args.set c.loop-behind.behind _ c.self.view_is c.of_set.ensures c.in_default.is (omega (arith, c.loop-behind-test.true)))
     (c.loop-behind.invariant.copies honest)
+
+pub returns-in_default-clause-its : goal.returns-in_default-clause-its
+returns-in_default-clause-its g c = omega (arith, c.loop-behind.invariant.count, c.loop-behind-test.true)
 
 pub returns-in_default-clause-gathers : goal.returns-in_default-clause-gathers
 returns-in_default-clause-gathers g c = λ honest spelled.
@@ -68,15 +75,16 @@ returns-in_default-2-clause-gathers_at g c = λ honest live.
     let k = c.args.self.now in
     let held = g.D.PageDevice.held c.args.device.now in
     let on : IsTrue (g.D.PageDevice.honest c.loop-behind.device) = subst (λ (b : Bool). IsTrue b) (sym c.loop-behind.invariant.honest) honest in
-    turn_fails g.row.PAGE held (g.D.PageDevice.held c.loop-behind.device) k c.in-Some.entry c.in_ok-taken.field-0
-    _ _ _ (c.loop-behind.invariant.same honest) c.in_default-2.is c.loop-behind.invariant.failures (c.in_ok-taken.ensures.faults on) live
+    let failed = turn_fails g.row.PAGE held (g.D.PageDevice.held c.loop-behind.device) k c.in-Some.entry c.in_ok-taken.field-0
+    _ _ _ (c.loop-behind.invariant.same honest) c.in_default-2.is c.loop-behind.invariant.failures (c.in_ok-taken.ensures.faults on) live in
+    (failed, unbuffered (is_buffered k c.in-Some.entry) (g.D.PageDevice.failures c.args.device.now) (g.D.PageDevice.failures c.copy.new.device) (λ b. ap g.D.PageDevice.failures (c.copy.ensures.buffered b) ∙ c.loop-behind.invariant.failures) failed)
 
 pub returns-in_default-2-clause-faults : goal.returns-in_default-2-clause-faults
 returns-in_default-2-clause-faults g c = λ honest spelled.
     let k = c.args.self.now in
     let held = g.D.PageDevice.held c.args.device.now in
     let at = turn_at _ k c.args.set c.loop-behind.behind c.in-Some.entry _ c.self.view_is c.of_set.ensures c.in-Some.is in
-    returns-in_default-2-clause-gathers_at g c honest (turn_live g.row.PAGE held k c.args.set c.loop-behind.behind c.in-Some.entry at spelled)
+    (returns-in_default-2-clause-gathers_at g c honest (turn_live g.row.PAGE held k c.args.set c.loop-behind.behind c.in-Some.entry at spelled)).0
 
 pub returns-in_err-push-clause-buffered : goal.returns-in_err-push-clause-buffered
 returns-in_err-push-clause-buffered g c = λ all.
@@ -94,7 +102,7 @@ returns-in_err-push-clause-gathers_at g c = λ honest.
     let gathers : GathersAt g.row.PAGE held k c.args.set (g.D.PageDevice.failures c.args.device.now) (Err failed.0) (g.D.PageDevice.failures c.copy.new.device) = (
       c.in-Some.entry,
       turn_taken k c.args.set c.loop-behind.behind c.in-Some.entry c.loop-behind-test.true at,
-      shows_weaker g.row.PAGE held k c.in-Some.entry (λ r. c.in-Some-2.taken ≡ taken_as (c.in-Some.entry, r)) (λ r. Unit {0}) (λ r is. tt)
+      shows_weaker g.row.PAGE held k c.in-Some.entry (λ r. c.in-Some-2.taken ≡ taken_as k (c.in-Some.entry, r)) (λ r. Unit {0}) (λ r is. tt)
           (turn_copies g.row.PAGE held (g.D.PageDevice.held c.loop-behind.device) k c.in-Some.entry (Ok c.in_ok-taken.field-0) (Ok (Some c.in-Some-2.taken)) (c.loop-behind.invariant.same honest) (ap Ok c.in-Some-2.is) (c.in_ok-taken.ensures.copies on)),
     ) in
     subst (λ (r : Result Gathered AllocError). GathersAt g.row.PAGE held k c.args.set (g.D.PageDevice.failures c.args.device.now) r (g.D.PageDevice.failures c.copy.new.device)) (sym failed.1) gathers
@@ -109,6 +117,7 @@ loop-behind-preserved g c =
       failures = search rules;
       same = λ honest. c.copy.ensures.same (subst (λ (b : Bool). IsTrue b) (sym c.loop-behind.invariant.honest) honest) ∙ c.loop-behind.invariant.same honest;
       buffered = λ all. c.copy.ensures.buffered (turn_buffered k c.args.set c.loop-behind.behind c.in-Some.entry c.loop-behind-test.true at all) ∙ c.loop-behind.invariant.buffered all;
+      count = ap (λ (rs : List TakenRecord). length rs) c.in_ok-push.ensures.ok ∙ length_push c.loop-behind.records c.in-Some-2.taken ∙ ap (λ (n : ℕ). n + 1) c.loop-behind.invariant.count;
       copies = λ honest.
           let held = g.D.PageDevice.held c.args.device.now in
           let on : IsTrue (g.D.PageDevice.honest c.loop-behind.device) = subst (λ (b : Bool). IsTrue b) (sym c.loop-behind.invariant.honest) honest in
@@ -123,6 +132,9 @@ returns-clause-gathers_at g c = λ honest.
     let held = g.D.PageDevice.held c.args.device.now in
     let all : c.loop-behind.behind ≡ 32 = omega (arith, c.loop-behind-test.false, c.loop-behind.auto.behind-end) in
     subst (λ (n : ℕ). AreCopies g.row.PAGE held k (take n (of_set c.args.set k.entries)) c.loop-behind.records) all (c.loop-behind.invariant.copies honest)
+
+pub returns-clause-its : goal.returns-clause-its
+returns-clause-its g c = omega (arith, c.loop-behind.invariant.count, c.loop-behind-test.false, c.loop-behind.auto.behind-end)
 
 pub returns-clause-gathers : goal.returns-clause-gathers
 returns-clause-gathers g c = λ honest spelled.

@@ -1,4 +1,4 @@
-use Rattle.std.proofs.Common.{◌≡◌, take}
+use Rattle.std.proofs.Common.{◌≡◌, length, take}
 use Rattle.std.specs.Prelude.{IsTrue}
 use Rattle.klog_index.specs.Entries.{of_set}
 use Rattle.klog.specs.Known.{AreBuffered}
@@ -12,5 +12,6 @@ invariant-loop-behind g l = record {
   failures : g.D.PageDevice.failures l.device ≡ g.D.PageDevice.failures l.initial.device;
   same : IsTrue (g.D.PageDevice.honest l.initial.device) → g.D.PageDevice.held l.device ≡ g.D.PageDevice.held l.initial.device;
   buffered : AreBuffered l.self (taken_entries l.self l.set) → l.device ≡ l.initial.device;
+  count : length l.records ≡ l.behind;
   copies : IsTrue (g.D.PageDevice.honest l.initial.device) → AreCopies g.row.PAGE (g.D.PageDevice.held l.initial.device) l.self (take l.behind (of_set l.set l.self.entries)) l.records;
 }

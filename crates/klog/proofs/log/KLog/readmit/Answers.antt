@@ -1,8 +1,9 @@
-use Rattle.std.proofs.Common.{ℕ, List, Option, sym, subst}
+use Rattle.std.proofs.Common.{◌≡◌, ℕ, List, Option, sym, ap, subst, ◌∙◌}
 use Rattle.record_pages.specs.Recs.{Rec}
+use Rattle.record_pages.specs.Lent.{record_shown}
 use Rattle.klog.specs.Shown.{IsSpelledOn, live_on}
-use Rattle.klog.specs.Moves.{ReadmitGives}
-use Rattle.klog.proofs.MoveLaws.{oldest_live, oldest_damaged, oldest_given, oldest_back}
+use Rattle.klog.specs.Moves.{live_anew, MovesTo}
+use Rattle.klog.proofs.MoveLaws.{oldest_live, oldest_record, oldest_damaged, moves_to, oldest_given, oldest_back}
 use Rattle.klog.proofs.log.KLog.readmit.Goals as goal
 
 pub returns-in-Fault-clause-spelled : goal.returns-in-Fault-clause-spelled
@@ -17,9 +18,20 @@ pub returns-in-Damaged-clause-reads_back : goal.returns-in-Damaged-clause-reads_
 returns-in-Damaged-clause-reads_back g c = λ honest.
     oldest_damaged g.row.PAGE (g.D.PageDevice.held c.args.device.now) c.args.self.now c.args.entry.now c.requires.oldest (c.in-Damaged.ensures.gives honest)
 
+pub returns-in-Fault-clause-gives : goal.returns-in-Fault-clause-gives
+returns-in-Fault-clause-gives g c = λ honest h.
+    let held = g.D.PageDevice.held c.args.device.now in
+    let r = oldest_record g.row.PAGE held c.args.self.now c.args.entry.now c.requires.oldest h in
+    record {
+      its = r.0;
+      was_live = r.2;
+      moved = c.lose_page_of.ensures.lost;
+      left = ap (λ (now : ℕ → Option (List ℕ)). live_on now c.lose_page_of.new.self) (c.fetch_stored.ensures.same honest) ∙ c.lose_page_of.ensures.shown held;
+    }
+
 pub returns-in-Damaged-clause-gives : goal.returns-in-Damaged-clause-gives
-returns-in-Damaged-clause-gives g c = λ honest h r shows.
-    returns-in-Damaged-clause-reads_back g c honest (oldest_live g.row.PAGE (g.D.PageDevice.held c.args.device.now) c.args.self.now c.args.entry.now c.requires.oldest h)
+returns-in-Damaged-clause-gives g c = λ honest h.
+    absurd (returns-in-Damaged-clause-reads_back g c honest (oldest_live g.row.PAGE (g.D.PageDevice.held c.args.device.now) c.args.self.now c.args.entry.now c.requires.oldest h))
 
 pub returns-in-Record-clause-reads_back : goal.returns-in-Record-clause-reads_back
 returns-in-Record-clause-reads_back g c = λ honest.
@@ -27,13 +39,20 @@ returns-in-Record-clause-reads_back g c = λ honest.
     (c.in-Record.ensures.gives honest) c.in-Record.ensures.its c.enter_anew.ensures.enters
 
 pub returns-in-Record-clause-gives : goal.returns-in-Record-clause-gives
-returns-in-Record-clause-gives g c = λ honest h r shows.
+returns-in-Record-clause-gives g c = λ honest h.
     let held = g.D.PageDevice.held c.args.device.now in
     let k = c.args.self.now in
     let e = c.args.entry.now in
-    let same = oldest_given g.row.PAGE held k e c.in-Record.found r c.requires.oldest h (c.in-Record.ensures.gives honest) shows in
-    subst (λ (now : ℕ → Option (List ℕ)). ReadmitGives g.row.PAGE k e r (live_on held k) c.enter_anew.result (live_on now c.enter_anew.new.self)) (sym (c.fetch_stored.ensures.same honest))
-    (subst (λ (x : Rec). ReadmitGives g.row.PAGE k e x (live_on held k) c.enter_anew.result (live_on held c.enter_anew.new.self)) same (c.enter_anew.ensures.shown held h))
+    let r = oldest_record g.row.PAGE held k e c.requires.oldest h in
+    let same : record_shown c.in-Record.found ≡ r.0 = oldest_given g.row.PAGE held k e c.in-Record.found r.0 c.requires.oldest h (c.in-Record.ensures.gives honest) r.1 in
+    record {
+      its = r.0;
+      was_live = r.2;
+      moved = subst (λ (x : Rec). MovesTo g.row.PAGE k e x c.enter_anew.result c.enter_anew.new.self) same (moves_to g.row.PAGE k e (record_shown c.in-Record.found) c.enter_anew.result c.enter_anew.new.self c.enter_anew.ensures.enters);
+      left = ap (λ (now : ℕ → Option (List ℕ)). live_on now c.enter_anew.new.self) (c.fetch_stored.ensures.same honest)
+          ∙ c.enter_anew.ensures.shown held h
+          ∙ ap (λ (x : Rec). live_anew g.row.PAGE k e x c.enter_anew.result (live_on held k)) same;
+    }
 
 pub returns-in-Record-clause-spelled : goal.returns-in-Record-clause-spelled
 returns-in-Record-clause-spelled g c = λ honest h.

@@ -6,5 +6,5 @@ pub invariant_of-self : goal.invariant_of-self
 invariant_of-self g c =
     let s = c.self.inside in
     let d = g.D.PageDevice in
-    kept g.row.PAGE s.layout d.page_count d.honest d.held (record { device = s.device; log = s.log }) (record { device = s.device; log = c.drop_places.new.self }) c.self.invariant
-    c.drop_places.ensures.shape refl refl (λ honest. c.drop_places.ensures.spelled (d.held s.device))
+    kept g.row.PAGE s.layout d.page_count d.honest d.held (record { device = s.device; log = s.log }) (record { device = s.device; log = c.drop_taken.new.self }) c.self.invariant
+    c.drop_taken.ensures.shape refl refl (λ honest. c.drop_taken.ensures.spelled (d.held s.device))
