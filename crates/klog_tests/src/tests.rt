@@ -2,6 +2,7 @@
 //! moved or lost.
 ghost use Rattle.record_pages.specs.Sizes.{IsPageSize};
 
+mod calls;
 mod entering;
 mod failing;
 mod leaving;

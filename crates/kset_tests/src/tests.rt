@@ -1,6 +1,7 @@
 //! The sets through an owner: what was written is found, and what was struck, lost or forgotten is not.
 ghost use Rattle.record_pages.specs.Sizes.{IsPageSize};
 
+mod calls;
 mod failing;
 mod finding;
 mod owner;

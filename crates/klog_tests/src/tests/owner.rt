@@ -144,6 +144,10 @@ impl<D: PageDevice<PAGE>, const PAGE: usize> Owner<D, PAGE> {
         self.log.len()
     }
 
+    pub(super) fn device(&self) -> &D {
+        &self.device
+    }
+
     /// So many steps of flushing, or less where one loses a page, and whether none did.
     pub fn flush_steps(&mut self, steps: u32) -> bool
         requires { IsPageSize PAGE }

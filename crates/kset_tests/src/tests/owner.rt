@@ -74,6 +74,10 @@ impl<D: PageDevice<PAGE>, const PAGE: usize> Owner<D, PAGE> {
         self.sets.forget(placed.set);
     }
 
+    pub(super) fn device(&self) -> &D {
+        &self.device
+    }
+
     pub fn rewrite(&mut self, key: &Key, writer: &SetPageWriter<PAGE>) -> Rewritten
         requires { IsPageSize PAGE }
         ensures { IsTrue (D.honest self.old.device) →

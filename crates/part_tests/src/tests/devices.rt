@@ -67,3 +67,15 @@ fn number_zero_stands_before_the_first_call(rt: HostRuntime) -> Result<(), Fail>
     assert_eq!(rt; always.write(0, &[7; 256]), Err(DeviceFault));
     Ok(())
 }
+
+#[test]
+fn a_fuse_over_a_fuse_passes_each_call_on_once(rt: HostRuntime) -> Result<(), Fail> {
+    let below = FuseDevice::one(MemoryDevice::<256>::new(rt.alloc(), 2)?, 2);
+    let mut device = FuseDevice::one(below, 0);
+    let mut read = [0; 256];
+    assert_eq!(rt; device.write(0, &[7; 256]), Ok(()));
+    assert_eq!(rt; device.read(0, &mut read), Err(DeviceFault));
+    assert_eq!(rt; device.read(0, &mut read), Ok(()));
+    assert_eq!(rt; read, [7; 256]);
+    Ok(())
+}

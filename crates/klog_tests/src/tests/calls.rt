@@ -1,0 +1,119 @@
+//! Which calls a log makes of its device: each page that it must read or write, once, in order, and no other.
+use super::*;
+use test_steps::{Asked, PlannedDevice};
+
+// One lane of one set, and two segments of two pages: pages 1 and 2 are the first segment's.
+const TWO_PAGES: Config = Config {
+    segment_pages: 2,
+    ..ONE_SET
+};
+
+const A: Seen = Seen::Value(&[1; 200]);
+
+const B: Seen = Seen::Value(&[2; 200]);
+
+const A_TAKEN: Kept = Kept {
+    key: b"ax",
+    value: &[1; 200],
+    prediction: 3,
+    place: FIRST,
+    segment: 0,
+};
+
+const B_TAKEN: Kept = Kept {
+    key: b"bx",
+    value: &[2; 200],
+    prediction: 4,
+    place: Place { page: 1, ..FIRST },
+    segment: 0,
+};
+
+// Two records fill a page each. They are looked up while they lie in the filling buffer and in the flushing one, and on
+// the device; then they are taken, readmitted, found in the buffer again, struck and freed.
+const STEPS: [Step; 18] = [
+    Step::Append(b"ax", &[1; 200], ADDED),
+    Step::Append(b"bx", &[2; 200], ADDED),
+    Step::Look(b"ax", A),
+    Step::Flush(Flushed::Sealed),
+    Step::Look(b"bx", B),
+    Step::Flush(Flushed::Wrote),
+    Step::Look(b"ax", A),
+    Step::Flush(Flushed::Wrote),
+    Step::Look(b"ax", A),
+    Step::Look(b"bx", B),
+    Step::Look(b"cx", Seen::Absent),
+    Step::Take(&[B_TAKEN, A_TAKEN]),
+    Step::Readmit(Some(Readmitted::Readmitted)),
+    Step::Readmit(Some(Readmitted::Readmitted)),
+    Step::Look(b"ax", A),
+    Step::Strike(b"bx"),
+    Step::Look(b"bx", Seen::Absent),
+    Step::Free(true),
+];
+
+// Two writes by flushing; a read by each look-up on the device; two by the taking, newest first; one by each readmission.
+const PLAN: [Asked; 8] = [
+    Asked::Write(1),
+    Asked::Write(2),
+    Asked::Read(1),
+    Asked::Read(2),
+    Asked::Read(2),
+    Asked::Read(1),
+    Asked::Read(1),
+    Asked::Read(2),
+];
+
+// Three keys with one tag, of which two have a record: the newer one is read first, and where it has the key no other.
+const ONE_TAG: [Step; 8] = [
+    Step::Append(b"a", &[1; 200], ADDED),
+    Step::Append(b"b", &[2; 200], ADDED),
+    Step::Flush(Flushed::Sealed),
+    Step::Flush(Flushed::Wrote),
+    Step::Flush(Flushed::Wrote),
+    Step::Look(b"b", B),
+    Step::Look(b"a", A),
+    Step::Look(b"c", Seen::Absent),
+];
+
+const ONE_TAG_PLAN: [Asked; 7] = [
+    Asked::Write(1),
+    Asked::Write(2),
+    Asked::Read(2),
+    Asked::Read(2),
+    Asked::Read(1),
+    Asked::Read(2),
+    Asked::Read(1),
+];
+
+type Planned = PlannedDevice<MemoryDevice<256>>;
+
+// Whether the calls of the steps are just the planned ones.
+fn are_planned(
+    rt: &impl Abort,
+    alloc: Global,
+    steps: &[Step],
+    plan: &'static [Asked],
+) -> Result<bool, Fail> {
+    let device = PlannedDevice::new(MemoryDevice::new(alloc, 5)?, plan);
+    let mut owner: Owner<Planned, 256> = log(alloc, TWO_PAGES, device)?;
+    run(rt, alloc, &mut owner, steps)?;
+    Ok(owner.device().is_as_planned())
+}
+
+#[test]
+fn each_page_is_asked_for_once_and_no_other(rt: HostRuntime) -> Result<(), Fail> {
+    assert!(rt; are_planned(&rt, rt.alloc(), &STEPS, &PLAN)?);
+    Ok(())
+}
+
+#[test]
+fn a_hit_ends_the_reading(rt: HostRuntime) -> Result<(), Fail> {
+    assert!(rt; are_planned(&rt, rt.alloc(), &ONE_TAG, &ONE_TAG_PLAN)?);
+    Ok(())
+}
+
+#[test]
+fn a_call_that_is_not_planned_is_seen(rt: HostRuntime) -> Result<(), Fail> {
+    assert!(rt; !are_planned(&rt, rt.alloc(), &ONE_TAG, &PLAN)?);
+    Ok(())
+}

@@ -1,0 +1,52 @@
+//! Which calls sets make of their device: a write for each rewriting, a read for each look-up that the filter and the
+//! strikes let through and for each reading of a set that holds something, and no other.
+use super::*;
+use test_steps::{Asked, PlannedDevice};
+
+// One lane of five sets: ax lies in set 3, bx in set 0.
+const FIVE_SETS: Config = Config { sets: 5, ..ONE_SET };
+
+const ONLY_AX: [Pair; 1] = [(b"ax", b"1")];
+
+// The set of ax is empty, written, looked up and read, and empty once more by a forgetting.
+const STEPS: [Step; 14] = [
+    MISSES_A,
+    Step::Read(&[]),
+    Step::Rewrite(&ONLY_AX, Rewritten::Written),
+    FINDS_A,
+    Step::Look(b"bx", Seen::Absent),
+    Step::Read(&[AX_HIT]),
+    Step::Strike(b"ax"),
+    MISSES_A,
+    Step::Read(&[]),
+    Step::Rewrite(&ONLY_AX, Rewritten::Written),
+    FINDS_A,
+    Step::Forget,
+    MISSES_A,
+    Step::Read(&[]),
+];
+
+// The reading after the strike asks for the page, which may hold other records than the one that was struck.
+const PLAN: [Asked; 6] = [
+    Asked::Write(3),
+    Asked::Read(3),
+    Asked::Read(3),
+    Asked::Read(3),
+    Asked::Write(3),
+    Asked::Read(3),
+];
+
+type Planned = PlannedDevice<MemoryDevice<256>>;
+
+#[test]
+fn each_page_is_asked_for_once_and_no_other(rt: HostRuntime) -> Result<(), Fail> {
+    let alloc = rt.alloc();
+    let layout = FIVE_SETS.check()?;
+    let device: Planned = PlannedDevice::new(MemoryDevice::new(alloc, 5)?, &PLAN);
+    let mut owner: Owner<Planned, 256> = Owner::open(alloc, &layout, device)?.ok_or(
+        "a device that is large enough",
+    )?;
+    run(&rt, alloc, &mut owner, &STEPS)?;
+    assert!(rt; owner.device().is_as_planned());
+    Ok(())
+}
