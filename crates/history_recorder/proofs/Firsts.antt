@@ -1,13 +1,13 @@
 -- Which of the next calls of lanes is the first.
-use Rattle.std.proofs.Common.{◌≡◌, ℕ, ◌+◌, ◌<◌, ◌≤◌, Option, Some, None, List, length, sym, ap, ◌∙◌, subst, arith, inl, inr}
+use Rattle.std.proofs.Common.{◌≡◌, ℕ, ◌+◌, ◌<◌, ◌≤◌, Option, Some, None, List, length, get_or, refl, sym, ap, ◌∙◌, subst, arith, inl, inr}
 use Rattle.std.specs.Prelude.{slice_get}
 use Rattle.std.proofs.lemmas.Bool.{cases_eq}
-use Rattle.std.proofs.lemmas.Option.{slice_get_within}
+use Rattle.std.proofs.lemmas.Option.{slice_get_within, slice_get_read, slice_get-get_or}
 use Rattle.certificate_checker.specs.declared.done.Done.{Done}
 use Rattle.certificate_checker.specs.Lanes.{Stamped, stamp, ComesFirst}
 use Rattle.history_recorder.specs.declared.head.Head.{Head}
 use Rattle.history_recorder.specs.declared.next.Next.{Next}
-use Rattle.history_recorder.specs.Merging.{IsNext, IsFirstBelow}
+use Rattle.history_recorder.specs.Merging.{IsNext, IsFirst, IsFirstBelow}
 
 -- ---- by point and lane
 
@@ -24,6 +24,21 @@ first_through a b c one other = elim one [
 ]
 
 -- ---- next calls
+
+-- the next call of a lane, as the code reads it
+pub next_read : (lanes : List (List Done)) (heads : List Head) (number : ℕ) (lane : List Done) (head : Head) (done : Done) → number < length lanes → number < length heads → lane ≡ get_or lanes number lane → slice_get lane (get_or heads number head).listed ≡ Some done → IsNext lanes heads number done
+next_read lanes heads number lane head done in_lanes in_heads is next = record {
+  lane = lane;
+  head = get_or heads number head;
+  in_lanes = slice_get_read lanes (length lanes) number lane refl in_lanes is;
+  in_heads = slice_get-get_or heads number head in_heads;
+  is = next;
+}
+
+-- the first next call, as the code reads it of a copy of the heads
+pub first_read : (lanes : List (List Done)) (copy heads : List Head) (found first : Option Next) → copy ≡ heads → found ≡ first → IsFirstBelow lanes copy (length lanes) found → IsFirstBelow lanes heads (length lanes) first
+first_read lanes copy heads found first same is of_copy =
+    subst (λ r. IsFirstBelow lanes heads (length lanes) r) is (subst (λ (hs : List Head). IsFirstBelow lanes hs (length lanes) found) same of_copy)
 
 -- a lane has one next call
 pub same_next : (lanes : List (List Done)) (heads : List Head) (number : ℕ) (a b : Done) → IsNext lanes heads number a → IsNext lanes heads number b → a ≡ b
@@ -54,13 +69,13 @@ module _ (lanes : List (List Done)) (heads : List Head) (number : ℕ) where
   pub still_first : (first : Option Next) (lane : List Done) (head : Head) → slice_get lanes number ≡ Some lane → slice_get heads number ≡ Some head → length lane ≤ head.listed → IsFirstBelow lanes heads number first → IsFirstBelow lanes heads (number + 1) first
   still_first None lane head in_lanes in_heads through none =
       λ other d less next. one_more (λ n e. ⊥) (λ n e below is. none n e below is) (none_left lane head in_lanes in_heads through) other d less next
-  still_first (Some next) lane head in_lanes in_heads through first = (
-    first.0,
-    first.1,
-    first.2,
-    let less = first.3 in omega (arith, less),
-    one_more (λ n e. ¬ ComesFirst (stamp n e) (stamp next.lane first.0)) first.4 (λ d is. absurd (none_left lane head in_lanes in_heads through d is)),
-  )
+  still_first (Some next) lane head in_lanes in_heads through first = record {
+    done = first.done;
+    is_next = first.is_next;
+    point = first.point;
+    below = let less = first.below in omega (arith, less);
+    first = one_more (λ n e. ¬ ComesFirst (stamp n e) (stamp next.lane first.done)) first.first (λ d is. absurd (none_left lane head in_lanes in_heads through d is));
+  }
 
   -- the call of this lane is not before itself
   not_itself : (done : Done) → IsNext lanes heads number done → (d : Done) → IsNext lanes heads number d → ¬ ComesFirst (stamp number d) (stamp number done)
@@ -70,34 +85,35 @@ module _ (lanes : List (List Done)) (heads : List Head) (number : ℕ) where
 
   -- this lane has the only next call so far
   pub only_one : (done : Done) (point : ℕ) → IsNext lanes heads number done → done.point ≡ point → IsFirstBelow lanes heads number None → IsFirstBelow lanes heads (number + 1) (Some (record { lane = number; point = point }))
-  only_one done point next is none = (
-    done,
-    next,
-    is,
-    omega arith,
-    one_more (λ n e. ¬ ComesFirst (stamp n e) (stamp number done)) (λ n e below has. absurd (none n e below has)) (not_itself done next),
-  )
+  only_one done point next is none = record {
+    done = done;
+    is_next = next;
+    point = is;
+    below = omega arith;
+    first = one_more (λ n e. ¬ ComesFirst (stamp n e) (stamp number done)) (λ n e below has. absurd (none n e below has)) (not_itself done next);
+  }
 
   -- the call of this lane is before the first so far
-  pub new_first : (done : Done) (point : ℕ) (held : Next) → IsNext lanes heads number done → done.point ≡ point → point < held.point → IsFirstBelow lanes heads number (Some held) → IsFirstBelow lanes heads (number + 1) (Some (record { lane = number; point = point }))
-  new_first done point held next is less first = (
-    done,
-    next,
-    is,
-    omega arith,
-    one_more (λ n e. ¬ ComesFirst (stamp n e) (stamp number done)) (λ n e below has earlier. let at = first.2 in first.4 n e below has (first_through (stamp n e) (stamp number done) (stamp held.lane first.0) earlier (inl (omega (arith, is, less, at))))) (not_itself done next),
-  )
+  pub new_first : (done : Done) (point : ℕ) (held : Next) → IsNext lanes heads number done → done.point ≡ point → point < held.point → IsFirst lanes heads number held → IsFirst lanes heads (number + 1) (record { lane = number; point = point })
+  new_first done point held next is less first = record {
+    done = done;
+    is_next = next;
+    point = is;
+    below = omega arith;
+    first = one_more (λ n e. ¬ ComesFirst (stamp n e) (stamp number done)) (λ n e below has earlier. let at = first.point in first.first n e below has (first_through (stamp n e) (stamp number done) (stamp held.lane first.done) earlier (inl (omega (arith, is, less, at))))) (not_itself done next);
+  }
 
   -- the first so far is not after the call of this lane
-  pub same_first : (done : Done) (point : ℕ) (held : Next) → IsNext lanes heads number done → done.point ≡ point → held.point ≤ point → IsFirstBelow lanes heads number (Some held) → IsFirstBelow lanes heads (number + 1) (Some held)
+  pub same_first : (done : Done) (point : ℕ) (held : Next) → IsNext lanes heads number done → done.point ≡ point → held.point ≤ point → IsFirst lanes heads number held → IsFirst lanes heads (number + 1) held
   same_first done point held next is enough first =
-      let at = first.2 in
-      let below = first.3 in (
-        first.0,
-        first.1,
-        first.2,
-        omega (arith, below),
-        one_more (λ n e. ¬ ComesFirst (stamp n e) (stamp held.lane first.0)) first.4 (λ d has earlier.
+      let at = first.point in
+      let below = first.below in
+      record {
+        done = first.done;
+        is_next = first.is_next;
+        point = first.point;
+        below = omega (arith, below);
+        first = one_more (λ n e. ¬ ComesFirst (stamp n e) (stamp held.lane first.done)) first.first (λ d has earlier.
             let same = ap (λ (e : Done). e.point) (same_next lanes heads number d done has next) in
-            elim earlier [ inl less ↦ omega (arith, less, same, is, enough, at) | inr tied ↦ let l = tied.1 in omega (arith, l, below) ]),
-      )
+            elim earlier [ inl less ↦ omega (arith, less, same, is, enough, at) | inr tied ↦ let l = tied.1 in omega (arith, l, below) ]);
+      }

@@ -15,7 +15,7 @@ use Rattle.certificate_checker.proofs.Accepting.{found_at}
 use Rattle.certificate_checker.proofs.Listing.{member_at, all_member, pairs_from, pairs_at}
 use Rattle.history_recorder.specs.declared.head.Head.{Head}
 use Rattle.history_recorder.specs.declared.next.Next.{Next}
-use Rattle.history_recorder.specs.Merging.{first_of, stamped_at, ListsAll, AreHeads, AtTheFirst, IsNext, IsFirstBelow, ListsNext, IsListed, ListsSoFar}
+use Rattle.history_recorder.specs.Merging.{first_of, stamped_at, ListsAll, AreHeads, AtTheFirst, IsNext, IsFirst, IsFirstBelow, ListsNext, IsListed, ListsSoFar}
 use Rattle.history_recorder.proofs.Stamps.{set_here, set_there, as_many, mark_of, place_of}
 use Rattle.history_recorder.proofs.Firsts.{never_itself, first_through}
 
@@ -56,10 +56,10 @@ next_within lanes heads are number done next =
     omega (arith, within, many)
 
 -- a position fits its type where there are few calls
-pub position_fits : (lanes : List (List Done)) (heads : List Head) (certificate : List ℕ) (next : Next) → ListsSoFar lanes heads certificate → IsFirstBelow lanes heads (length lanes) (Some next) → length (flat_map calls_of lanes) ≤ 2 ^ 28 → IsSomeAnd (slice_get heads next.lane) (λ head. head.first + head.listed < 2 ^ 32)
+pub position_fits : (lanes : List (List Done)) (heads : List Head) (certificate : List ℕ) (next : Next) → ListsSoFar lanes heads certificate → IsFirst lanes heads (length lanes) next → length (flat_map calls_of lanes) ≤ 2 ^ 28 → IsSomeAnd (slice_get heads next.lane) (λ head. head.first + head.listed < 2 ^ 32)
 position_fits lanes heads certificate next so_far first few =
-    let within = next_within lanes heads so_far.are_heads next.lane first.0 first.1 in
-    let found = first.1.in_heads in
+    let within = next_within lanes heads so_far.are_heads next.lane first.done first.is_next in
+    let found = first.is_next.in_heads in
     rw found (omega (arith, within, few))
 
 -- ---- the calls that are left
@@ -85,22 +85,16 @@ left_less (one ∷ lanes) (other ∷ heads) (suc number) lane head in_lanes in_h
 
 -- ---- one call more
 
-module _ (lanes : List (List Done)) (old new : List Head) (certificate : List ℕ) (next : Next) (position : ℕ) (rise : All PointsRise lanes) (so_far : ListsSoFar lanes old certificate) (first : IsFirstBelow lanes old (length lanes) (Some next)) (moved : ListsNext old new next.lane position) where
-  done : Done
-  done = first.0
-
-  is_next : IsNext lanes old next.lane first.0
-  is_next = first.1
-
-  same_head : moved.head ≡ first.1.head
-  same_head = let both : Some moved.head ≡ Some first.1.head = sym moved.found ∙ first.1.in_heads in cc
+module _ (lanes : List (List Done)) (old new : List Head) (certificate : List ℕ) (next : Next) (position : ℕ) (rise : All PointsRise lanes) (so_far : ListsSoFar lanes old certificate) (first : IsFirst lanes old (length lanes) next) (moved : ListsNext old new next.lane position) where
+  same_head : moved.head ≡ first.is_next.head
+  same_head = let both : Some moved.head ≡ Some first.is_next.head = sym moved.found ∙ first.is_next.in_heads in cc
 
   -- the position is that of the next call
-  at : position ≡ first.1.head.first + first.1.head.listed
+  at : position ≡ first.is_next.head.first + first.is_next.head.listed
   at = moved.at ∙ (λ i. (same_head i).first + (same_head i).listed)
 
-  mark : slice_get (stamped lanes) position ≡ Some (stamp next.lane first.0)
-  mark = ap (slice_get (stamped lanes)) at ∙ next_mark lanes old so_far.are_heads next.lane first.0 first.1
+  mark : slice_get (stamped lanes) position ≡ Some (stamp next.lane first.done)
+  mark = ap (slice_get (stamped lanes)) at ∙ next_mark lanes old so_far.are_heads next.lane first.done first.is_next
 
   -- the heads after it
   here : slice_get new next.lane ≡ Some (record { first = moved.head.first; listed = moved.head.listed + 1 })
@@ -113,7 +107,7 @@ module _ (lanes : List (List Done)) (old new : List Head) (certificate : List �
       ap (λ heads. slice_get heads number) moved.moved
       ∙ set_there old next.lane number (record { first = moved.head.first; listed = moved.head.listed + 1 }) ne
 
-  here_is : (head : Head) → slice_get new next.lane ≡ Some head → (head.first ≡ first.1.head.first) × (head.listed ≡ first.1.head.listed + 1)
+  here_is : (head : Head) → slice_get new next.lane ≡ Some head → (head.first ≡ first.is_next.head.first) × (head.listed ≡ first.is_next.head.listed + 1)
   here_is head is =
       let same : head ≡ record { first = moved.head.first; listed = moved.head.listed + 1 } = (let both : Some head ≡ Some (record { first = moved.head.first; listed = moved.head.listed + 1 }) = sym is ∙ here in cc) in (
         ap (λ (h : Head). h.first) same ∙ ap (λ (h : Head). h.first) same_head,
@@ -129,15 +123,15 @@ module _ (lanes : List (List Done)) (old new : List Head) (certificate : List �
     first = λ number head is. elim (cases_eq number next.lane) [
       | inl same ↦
           (here_is head (subst (λ n. slice_get new n ≡ Some head) same is)).0
-          ∙ so_far.are_heads.first next.lane first.1.head first.1.in_heads
+          ∙ so_far.are_heads.first next.lane first.is_next.head first.is_next.in_heads
           ∙ ap (first_of lanes) (sym same)
       | inr ne ↦ so_far.are_heads.first number head (sym (there number ne) ∙ is)
     ];
     within = λ number head lane is found. elim (cases_eq number next.lane) [
       | inl same ↦
-          let l : first.1.lane ≡ lane = (let both : Some first.1.lane ≡ Some lane = sym first.1.in_lanes ∙ ap (slice_get lanes) (sym same) ∙ found in cc) in
+          let l : first.is_next.lane ≡ lane = (let both : Some first.is_next.lane ≡ Some lane = sym first.is_next.in_lanes ∙ ap (slice_get lanes) (sym same) ∙ found in cc) in
           let len = ap length l in
-          let less = slice_get_within first.1.lane first.1.head.listed first.0 first.1.is in
+          let less = slice_get_within first.is_next.lane first.is_next.head.listed first.done first.is_next.is in
           let listed = (here_is head (subst (λ n. slice_get new n ≡ Some head) same is)).1 in
           omega (arith, len, less, listed)
       | inr ne ↦ so_far.are_heads.within number head lane (sym (there number ne) ∙ is) found
@@ -159,8 +153,8 @@ module _ (lanes : List (List Done)) (old new : List Head) (certificate : List �
           | inl e ↦ inr e
           | inr ne ↦ inl (record {
             number = next.lane;
-            head = first.1.head;
-            found = first.1.in_heads;
+            head = first.is_next.head;
+            found = first.is_next.in_heads;
             from_first = omega (arith, begins, from);
             before_next = omega (arith, begins, listed, before, place, ne);
           })
@@ -212,8 +206,8 @@ module _ (lanes : List (List Done)) (old new : List Head) (certificate : List �
   not_yet : ¬ IsListed old position
   not_yet l =
       let other = listed_mark lanes old so_far.are_heads position l in
-      let same : l.number ≡ next.lane = (let both : Some (stamp l.number other.0) ≡ Some (stamp next.lane first.0) = sym other.1 ∙ mark in let stamps : stamp l.number other.0 ≡ stamp next.lane first.0 = cc in ap (λ (s : Stamped). s.lane) stamps) in
-      let h : l.head ≡ first.1.head = (let both : Some l.head ≡ Some first.1.head = sym l.found ∙ ap (slice_get old) same ∙ first.1.in_heads in cc) in
+      let same : l.number ≡ next.lane = (let both : Some (stamp l.number other.0) ≡ Some (stamp next.lane first.done) = sym other.1 ∙ mark in let stamps : stamp l.number other.0 ≡ stamp next.lane first.done = cc in ap (λ (s : Stamped). s.lane) stamps) in
+      let h : l.head ≡ first.is_next.head = (let both : Some l.head ≡ Some first.is_next.head = sym l.found ∙ ap (slice_get old) same ∙ first.is_next.in_heads in cc) in
       let begins = ap (λ (x : Head). x.first) h in
       let listed = ap (λ (x : Head). x.listed) h in
       let before = l.before_next in
@@ -222,15 +216,15 @@ module _ (lanes : List (List Done)) (old new : List Head) (certificate : List �
 
   -- ---- what is next then
 
-  next_before : (number : ℕ) (d : Done) → IsNext lanes new number d → IsNext lanes old number d ⊎ ((number ≡ next.lane) × (first.0.point < d.point))
+  next_before : (number : ℕ) (d : Done) → IsNext lanes new number d → IsNext lanes old number d ⊎ ((number ≡ next.lane) × (first.done.point < d.point))
   next_before number d n = elim (cases_eq number next.lane) [
     | inl same ↦
-        let l : n.lane ≡ first.1.lane = (let both : Some n.lane ≡ Some first.1.lane = sym n.in_lanes ∙ ap (slice_get lanes) same ∙ first.1.in_lanes in cc) in
+        let l : n.lane ≡ first.is_next.lane = (let both : Some n.lane ≡ Some first.is_next.lane = sym n.in_lanes ∙ ap (slice_get lanes) same ∙ first.is_next.in_lanes in cc) in
         let listed = (here_is n.head (subst (λ k. slice_get new k ≡ Some n.head) same n.in_heads)).1 in
-        let found : slice_get first.1.lane n.head.listed ≡ Some d = subst (λ lane. slice_get lane n.head.listed ≡ Some d) l n.is in
-        let rises : PointsRise first.1.lane = all_member PointsRise lanes first.1.lane rise (member_at lanes next.lane first.1.lane first.1.in_lanes) in
+        let found : slice_get first.is_next.lane n.head.listed ≡ Some d = subst (λ lane. slice_get lane n.head.listed ≡ Some d) l n.is in
+        let rises : PointsRise first.is_next.lane = all_member PointsRise lanes first.is_next.lane rise (member_at lanes next.lane first.is_next.lane first.is_next.in_lanes) in
         let R : Done → Done → Type 0 = λ a b. a.point < b.point in
-        inr (same, pairs_at R first.1.lane first.1.head.listed n.head.listed first.0 d (omega (arith, listed)) first.1.is found (pairs_from R first.1.lane rises))
+        inr (same, pairs_at R first.is_next.lane first.is_next.head.listed n.head.listed first.done d (omega (arith, listed)) first.is_next.is found (pairs_from R first.is_next.lane rises))
     | inr ne ↦ inl (record {
       lane = n.lane;
       head = n.head;
@@ -241,27 +235,27 @@ module _ (lanes : List (List Done)) (old new : List Head) (certificate : List �
   ]
 
   -- a next call comes after the one that is listed
-  after_this : (number : ℕ) (d : Done) → IsNext lanes new number d → ¬ ComesFirst (stamp number d) (stamp next.lane first.0)
+  after_this : (number : ℕ) (d : Done) → IsNext lanes new number d → ¬ ComesFirst (stamp number d) (stamp next.lane first.done)
   after_this number d n earlier = elim (next_before number d n) [
     | inl before ↦
         let less = slice_get_within lanes number before.lane before.in_lanes in
-        first.4 number d less before earlier
+        first.first number d less before earlier
     | inr later ↦
-        never_itself (stamp next.lane first.0) (first_through (stamp next.lane first.0) (stamp number d) (stamp next.lane first.0) (inl later.1) earlier)
+        never_itself (stamp next.lane first.done) (first_through (stamp next.lane first.done) (stamp number d) (stamp next.lane first.done) (inl later.1) earlier)
   ]
 
   -- and after those before it
   after_those : (s : Stamped) → ((number : ℕ) (d : Done) → IsNext lanes old number d → ¬ ComesFirst (stamp number d) s) → (number : ℕ) (d : Done) → IsNext lanes new number d → ¬ ComesFirst (stamp number d) s
   after_those s before number d n earlier = elim (next_before number d n) [
     | inl old_next ↦ before number d old_next earlier
-    | inr later ↦ before next.lane first.0 first.1 (first_through (stamp next.lane first.0) (stamp number d) s (inl later.1) earlier)
+    | inr later ↦ before next.lane first.done first.is_next (first_through (stamp next.lane first.done) (stamp number d) s (inl later.1) earlier)
   ]
 
   -- ---- the certificate
 
-  stamped_more : stamped_at lanes (certificate ++ position ∷ []) ≡ stamped_at lanes certificate ++ stamp next.lane first.0 ∷ []
+  stamped_more : stamped_at lanes (certificate ++ position ∷ []) ≡ stamped_at lanes certificate ++ stamp next.lane first.done ∷ []
   stamped_more =
-      let one : stamped_at lanes (position ∷ []) ≡ stamp next.lane first.0 ∷ [] = rw mark refl in
+      let one : stamped_at lanes (position ∷ []) ≡ stamp next.lane first.done ∷ [] = rw mark refl in
       filter_map-append (slice_get (stamped lanes)) certificate (position ∷ []) ∙ ap (λ s. stamped_at lanes certificate ++ s) one
 
   pub lists_more : ListsSoFar lanes new (certificate ++ position ∷ [])
@@ -273,15 +267,20 @@ module _ (lanes : List (List Done)) (old new : List Head) (certificate : List �
       | inr same ↦ subst (Contains (certificate ++ position ∷ [])) (sym same) (Contains-push certificate position)
     ];
     once = all_pairs_push (λ p q. p ≢ q) certificate position so_far.once (λ k d less e. not_yet (subst (IsListed old) e (so_far.only k d less)));
-    by_point = subst (AllPairs (λ (a b : Stamped). ¬ ComesFirst b a)) (sym stamped_more) (all_pairs_push (λ (a b : Stamped). ¬ ComesFirst b a) (stamped_at lanes certificate) (stamp next.lane first.0) so_far.by_point (λ k d less. so_far.before_next k d less next.lane first.0 first.1));
-    before_next = subst (All (λ (s : Stamped). (number : ℕ) (d : Done) → IsNext lanes new number d → ¬ ComesFirst (stamp number d) s)) (sym stamped_more) (All-push (λ (s : Stamped). (number : ℕ) (d : Done) → IsNext lanes new number d → ¬ ComesFirst (stamp number d) s) (stamped_at lanes certificate) (stamp next.lane first.0) (λ k d less. after_those (get_or (stamped_at lanes certificate) k d) (so_far.before_next k d less)) after_this);
+    by_point = subst (AllPairs (λ (a b : Stamped). ¬ ComesFirst b a)) (sym stamped_more) (all_pairs_push (λ (a b : Stamped). ¬ ComesFirst b a) (stamped_at lanes certificate) (stamp next.lane first.done) so_far.by_point (λ k d less. so_far.before_next k d less next.lane first.done first.is_next));
+    before_next = subst (All (λ (s : Stamped). (number : ℕ) (d : Done) → IsNext lanes new number d → ¬ ComesFirst (stamp number d) s)) (sym stamped_more) (All-push (λ (s : Stamped). (number : ℕ) (d : Done) → IsNext lanes new number d → ¬ ComesFirst (stamp number d) s) (stamped_at lanes certificate) (stamp next.lane first.done) (λ k d less. after_those (get_or (stamped_at lanes certificate) k d) (so_far.before_next k d less)) after_this);
   }
 
   pub fewer_left : left lanes new < left lanes old
   fewer_left =
-      let less = slice_get_within first.1.lane first.1.head.listed first.0 first.1.is in
+      let less = slice_get_within first.is_next.lane first.is_next.head.listed first.done first.is_next.is in
       let listed = ap (λ (x : Head). x.listed) same_head in
-      subst (λ heads. left lanes heads < left lanes old) (sym moved.moved) (left_less lanes old next.lane first.1.lane moved.head first.1.in_lanes moved.found (omega (arith, less, listed)))
+      subst (λ heads. left lanes heads < left lanes old) (sym moved.moved) (left_less lanes old next.lane first.is_next.lane moved.head first.is_next.in_lanes moved.found (omega (arith, less, listed)))
+
+pub moved_len : (old new : List Head) (number position : ℕ) → ListsNext old new number position → length new ≡ length old
+moved_len old new number position moved =
+    ap length moved.moved
+    ∙ length-set old number (record { first = moved.head.first; listed = moved.head.listed + 1 })
 
 -- what is written over a whole list is all of it
 pub all_written : (old new : List Head) (len : ℕ) → len ≡ length old → length new ≡ length old → take len (new ++ drop (length new) old) ≡ new

@@ -39,15 +39,18 @@ pub record IsNext (lanes : List (List Done)) (heads : List Head) (number : ℕ) 
   pub in_heads : slice_get heads number ≡ Some head
   pub is : slice_get lane head.listed ≡ Some done
 
--- the first, by point and lane, of the next calls of the lanes below a number, or none where they have none
+-- the first, by point and lane, of the next calls of the lanes below a number
+pub record IsFirst (lanes : List (List Done)) (heads : List Head) (limit : ℕ) (next : Next) : Type 0 where
+  pub done : Done
+  pub is_next : IsNext lanes heads next.lane done
+  pub point : done.point ≡ next.point
+  pub below : next.lane < limit
+  pub first : (other : ℕ) (d : Done) → other < limit → IsNext lanes heads other d → ¬ ComesFirst (stamp other d) (stamp next.lane done)
+
+-- that call, or none where these lanes have no next call
 abbrev pub IsFirstBelow : List (List Done) → List Head → ℕ → Option Next → Type 0
 IsFirstBelow lanes heads limit None = (number : ℕ) (done : Done) → number < limit → ¬ IsNext lanes heads number done
-IsFirstBelow lanes heads limit (Some next) =
-    (done : Done)
-    × IsNext lanes heads next.lane done
-    × (done.point ≡ next.point)
-    × (next.lane < limit)
-    × ((other : ℕ) (d : Done) → other < limit → IsNext lanes heads other d → ¬ ComesFirst (stamp other d) (stamp next.lane done))
+IsFirstBelow lanes heads limit (Some next) = IsFirst lanes heads limit next
 
 -- one call more of a lane is listed, at its position
 pub record ListsNext (old new : List Head) (number position : ℕ) : Type 0 where
