@@ -2,7 +2,7 @@
 ghost use Rattle.std.specs.Prelude.{◌≡◌, ◌+◌, ◌<◌, ◌≤◌, ◌^◌, All, IfOk, IsSomeAnd, length, slice_get};
 ghost use Rattle.std.specs.List.{flat_map};
 ghost use Rattle.certificate_checker.specs.Lanes.{calls_of, PointsRise};
-ghost use Rattle.history_recorder.specs.Merging.{AreHeads, AtTheFirst, IsFirstBelow, ListsNext, ListsAll};
+ghost use Rattle.history_recorder.specs.Merging.{AtTheFirst, IsFirstBelow, ListsNext, ListsAll};
 
 use crate::dones::Dones;
 use crate::head::Head;
