@@ -1,2 +1,6 @@
 pub mod Points
 pub mod Sounding
+pub mod Stamps
+pub mod Firsts
+pub mod Starts
+pub mod Listings

@@ -1,9 +1,14 @@
 //! A lane of the cache whose calls are recorded as they are answered.
 #![tactic(auto)]
 
+mod dones;
 mod got;
+mod head;
 mod lane;
 mod lane_memory;
+mod layout;
+mod merging;
+mod next;
 mod noted;
 mod open_fault;
 mod record_fault;
@@ -11,8 +16,10 @@ mod record_put_fault;
 mod removed;
 mod stored;
 
+pub use dones::Dones;
 pub use got::Got;
 pub use lane::{MAX_CALLS, RecordedLane};
+pub use layout::lay_out;
 pub use noted::Noted;
 pub use open_fault::OpenFault;
 pub use record_fault::RecordFault;

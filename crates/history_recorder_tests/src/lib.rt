@@ -1,5 +1,7 @@
-//! Tests of the recorded lane, through its public calls.
+//! Tests of the recorded lane and of the layout of lanes, through their public calls.
 #![tactic(auto)]
 
+#[cfg(test)]
+mod layouts;
 #[cfg(test)]
 mod tests;

@@ -1,0 +1,50 @@
+// Lanes of recorded calls, laid out as one history.
+ghost use Rattle.std.specs.Prelude.{◌≡◌, ◌≤◌, ◌^◌, ◌++◌, All, AllPairs, IfOk, OnOk, length};
+ghost use Rattle.std.specs.List.{flat_map};
+ghost use Rattle.certificate_checker.specs.Acceptance.{IsAccepted};
+ghost use Rattle.certificate_checker.specs.Lanes.{calls_of, PointsRise, IsLane, AreApart, IsLaidOut};
+
+use crate::dones::Dones;
+use crate::merging::certificate_of;
+use std::alloc::{AllocError, Global};
+use trace_file::{Certificate, History};
+
+/// The history of some lanes, one lane after the other, with the certificate that lists its calls by point, at equal
+/// points those of the lesser lane first.
+///
+/// The certificate spells an order that the checker accepts where each lane is well recorded and no two have a key in
+/// common. The time is linear in the calls times the lanes, since the lists are merged as they are; no call is copied
+/// but into the history. `AllocError` comes where memory was refused.
+pub fn lay_out(alloc: Global, lanes: Vec<Dones>) -> Result<(History, Certificate), AllocError>
+    requires rise { All PointsRise lanes.items }
+    requires few { length (flat_map calls_of lanes.items) ≤ 2 ^ 28 }
+    ensures laid_out { IfOk result (λ laid. IsLaidOut lanes.items laid.0 laid.1) }
+    ensures accepted { IfOk result (λ laid. All IsLane lanes.items → AllPairs AreApart lanes.items
+        → IsAccepted laid.0 laid.1) }
+{
+    let lanes = lanes.as_slice();
+    let history = history_of(alloc, lanes)?;
+    let certificate = certificate_of(alloc, lanes)?;
+    Ok((history, certificate))
+}
+
+/// The calls of the lanes, one lane after the other.
+fn history_of(alloc: Global, lanes: &[Dones]) -> Result<History, AllocError>
+    ensures { IfOk result (λ history. history ≡ flat_map calls_of lanes.now) }
+{
+    let mut history = History::new(alloc);
+    for lane in lanes {
+        push_calls(&mut history, lane)?;
+    }
+    Ok(history)
+}
+
+/// Puts the calls of a lane behind the others.
+fn push_calls(history: &mut History, lane: &Dones) -> Result<(), AllocError>
+    ensures { OnOk result (history.new ≡ history.old ++ calls_of lane.now) }
+{
+    for done in lane.as_slice() {
+        history.push_ref(&done.call.lent())?;
+    }
+    Ok(())
+}

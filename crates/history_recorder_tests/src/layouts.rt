@@ -1,0 +1,200 @@
+// Lanes that are laid out as one history, and the lists that they are made of.
+ghost use Rattle.std.specs.Prelude.{◌≡◌, ◌≤◌, ◌^◌, All, IfOk, length};
+ghost use Rattle.std.specs.List.{flat_map};
+ghost use Rattle.certificate_checker.specs.Lanes.{calls_of, PointsRise};
+
+use certificate_checker::{Done, Verdict, check};
+use history_recorder::{Dones, lay_out};
+use record_pages::{Key, Value};
+use std::alloc::Global;
+use std::test::Fail;
+use trace_file::{Act, ActRef, Call, CallRef, Certificate, History};
+
+/// A put of a key with itself as value: the key, the start, the point and the end.
+#[derive(Clone, Copy)]
+struct Put(&'static [u8], u64, u64, u64);
+
+/// Lanes, and what they are laid out as: the keys of the history, each of one byte, and the certificate.
+#[derive(Clone, Copy)]
+struct Row {
+    lanes: &'static [&'static [Put]],
+    keys: &'static [u8],
+    certificate: &'static [u32],
+}
+
+fn done_of(alloc: Global, put: &Put) -> Result<Done, Fail>
+    ensures { IfOk result (λ done. done.point ≡ put.now.2) }
+{
+    let call = Call {
+        caller: 7,
+        start: put.1,
+        end: put.3,
+        key: Key::new(alloc, put.0)?,
+        act: Act::Put(Value::new(alloc, put.0)?),
+    };
+    Ok(Done { call, point: put.2 })
+}
+
+/// The lane of some puts, whose points rise from 1 on.
+fn lane_of(alloc: Global, puts: &[Put]) -> Result<Dones, Fail>
+    ensures rise { IfOk result (λ lane. PointsRise lane) }
+    ensures count { IfOk result (λ lane. length lane ≡ length puts.now) }
+{
+    let mut lane = Dones::new(alloc);
+    let mut last = 0;
+    for put in puts {
+        if put.2 <= last {
+            return Err("a point that does not rise".into());
+        }
+        lane.push(done_of(alloc, put)?)?;
+        last = put.2;
+    }
+    Ok(lane)
+}
+
+/// The lanes of these puts, at most a hundred in all.
+fn lanes_of(alloc: Global, rows: &[&[Put]]) -> Result<Vec<Dones>, Fail>
+    ensures rise { IfOk result (λ lanes. All PointsRise lanes.items) }
+    ensures few { IfOk result (λ lanes. length (flat_map calls_of lanes.items) ≤ 100) }
+{
+    let mut lanes = Vec::new(alloc);
+    let mut left: usize = 100;
+    for puts in rows {
+        if puts.len() > left {
+            return Err("too many puts".into());
+        }
+        lanes.push(lane_of(alloc, puts)?)?;
+        left -= puts.len();
+    }
+    Ok(lanes)
+}
+
+/// Whether the lanes of a row are laid out as it says, and the checker accepts that.
+fn is_laid_out(alloc: Global, row: &Row) -> Result<bool, Fail> {
+    let (history, certificate) = lay_out(alloc, lanes_of(alloc, row.lanes)?)?;
+    let verdict = check(alloc, &history, &certificate)?;
+    Ok(
+        has_keys(&history, row.keys)
+            && lists(&certificate, row.certificate)
+            && verdict == Verdict::Accepted,
+    )
+}
+
+/// Whether the calls of a history are puts of these keys, each of one byte and with itself as value.
+fn has_keys(history: &History, keys: &[u8]) -> bool {
+    if history.len() != keys.len() {
+        return false;
+    }
+    for position in 0..keys.len() {
+        if !is_put(&history.at(position), keys[position]) {
+            return false;
+        }
+    }
+    true
+}
+
+fn is_put(call: &CallRef<'_>, key: u8) -> bool {
+    let bytes = [key];
+    match call.act {
+        ActRef::Put(value) => {
+            call.caller == 7 && call.key == bytes.as_slice() && value == bytes.as_slice()
+        }
+        _ => false,
+    }
+}
+
+fn lists(certificate: &Certificate, positions: &[u32]) -> bool {
+    if certificate.len() != positions.len() {
+        return false;
+    }
+    for place in 0..positions.len() {
+        if certificate.at(place) != positions[place] {
+            return false;
+        }
+    }
+    true
+}
+
+const ROWS: [Row; 7] = [
+    Row {
+        lanes: &[],
+        keys: b"",
+        certificate: &[],
+    },
+    Row {
+        lanes: &[&[Put(b"a", 1, 4, 5)], &[Put(b"b", 2, 3, 6)]],
+        keys: b"ab",
+        certificate: &[1, 0],
+    },
+    Row {
+        lanes: &[&[Put(b"a", 1, 4, 5)], &[], &[Put(b"b", 2, 3, 6)]],
+        keys: b"ab",
+        certificate: &[1, 0],
+    },
+    Row {
+        lanes: &[&[], &[]],
+        keys: b"",
+        certificate: &[],
+    },
+    Row {
+        lanes: &[&[Put(b"a", 1, 5, 9)], &[Put(b"b", 2, 5, 8)]],
+        keys: b"ab",
+        certificate: &[0, 1],
+    },
+    Row {
+        lanes: &[
+            &[Put(b"a", 4, 6, 7)],
+            &[Put(b"b", 2, 5, 8), Put(b"c", 5, 6, 9)],
+            &[Put(b"d", 1, 5, 6)],
+        ],
+        keys: b"abcd",
+        certificate: &[1, 3, 0, 2],
+    },
+    Row {
+        lanes: &[
+            &[Put(b"a", 1, 2, 4), Put(b"d", 8, 9, 9)],
+            &[
+                Put(b"b", 0, 3, 5),
+                Put(b"e", 4, 5, 6),
+                Put(b"f", 2, 10, 18446744073709551615),
+            ],
+            &[Put(b"c", 0, 1, 1), Put(b"g", 6, 7, 8)],
+        ],
+        keys: b"adbefcg",
+        certificate: &[5, 0, 2, 3, 6, 1, 4],
+    },
+];
+
+#[test]
+fn lanes_are_laid_out_by_point_and_lane(rt: HostRuntime) -> Result<(), Fail> {
+    for number in 0..ROWS.len() {
+        assert!(rt; is_laid_out(rt.alloc(), &ROWS[number])?, "row {number}");
+    }
+    Ok(())
+}
+
+#[test]
+fn a_laid_out_call_has_its_start_and_end(rt: HostRuntime) -> Result<(), Fail> {
+    let (history, _) = lay_out(rt.alloc(), lanes_of(rt.alloc(), ROWS[1].lanes)?)?;
+    assert_eq!(rt; history.len(), 2);
+    let first = history.at(0);
+    assert!(rt; first.start == 1 && first.end == 5);
+    let second = history.at(1);
+    assert!(rt; second.start == 2 && second.end == 6);
+    Ok(())
+}
+
+#[test]
+fn a_list_of_done_calls_gives_its_calls_back(rt: HostRuntime) -> Result<(), Fail> {
+    let mut lane = Dones::new(rt.alloc());
+    assert!(rt; lane.is_empty());
+    lane.push(done_of(rt.alloc(), &Put(b"a", 1, 2, 3))?)?;
+    lane.push(done_of(rt.alloc(), &Put(b"b", 4, 5, 6))?)?;
+    assert_eq!(rt; lane.at(1).point, 5);
+    let calls = lane.into_vec();
+    assert_eq!(rt; calls.len(), 2);
+    let again = Dones::from(calls);
+    assert_eq!(rt; again.len(), 2);
+    assert_eq!(rt; again.as_slice()[0].point, 2);
+    Ok(())
+}
