@@ -1,2 +1,4 @@
+pub mod InTurn
+pub mod Kept
 pub mod Points
 pub mod Sounding

@@ -1,2 +1,3 @@
 pub mod LaneState
 pub mod Lane
+pub mod Points

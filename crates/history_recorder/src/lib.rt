@@ -1,10 +1,12 @@
 //! A lane of the cache whose calls are recorded as they are answered.
 #![tactic(auto)]
 
+mod call_record;
 mod got;
 mod lane;
 mod lane_memory;
 mod noted;
+mod noted_ref;
 mod open_fault;
 mod record_fault;
 mod record_put_fault;
@@ -14,6 +16,7 @@ mod stored;
 pub use got::Got;
 pub use lane::{MAX_CALLS, RecordedLane};
 pub use noted::Noted;
+pub use noted_ref::NotedRef;
 pub use open_fault::OpenFault;
 pub use record_fault::RecordFault;
 pub use record_put_fault::RecordPutFault;
