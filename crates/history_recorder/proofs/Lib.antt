@@ -1,3 +1,5 @@
+pub mod InTurn
+pub mod Kept
 pub mod Points
 pub mod Sounding
 pub mod Stamps

@@ -1,3 +1,4 @@
 pub mod LaneState
 pub mod Lane
 pub mod Merging
+pub mod Points

@@ -1,11 +1,18 @@
 // A lane whose calls are recorded.
-ghost use Rattle.std.specs.Prelude.{◌≡◌, ◌↔◌, ◌<◌, ◌≤◌, ◌++◌, ◌∷◌, [], All, length, IfOk, OnOk, OnErr, IsErrOf, IfErr, slice_get, Some, None, MatchResult};
+ghost use Rattle.std.specs.Prelude.{◌≡◌, ◌↔◌, ◌<◌, ◌≤◌, ◌++◌, ◌∷◌, [], All, length, map, IfOk, OnOk, OnErr, IsErrOf, IfErr, slice_get, Some, None, MatchResult};
+ghost use Rattle.std.specs.List.{range_with_len};
+ghost use Rattle.record_pages.specs.Bounded.{IsKey, IsValue};
 ghost use Rattle.record_pages.specs.Sizes.{IsPageSize, object_size, room};
 ghost use Rattle.record_pages.specs.Table.{first_faulty};
+ghost use Rattle.trace_file.specs.Calls.{value_of};
+ghost use Rattle.trace_file.specs.Lent.{act_shown};
+ghost use Rattle.certificate_checker.specs.Acceptance.{IsAccepted};
 
+use crate::call_record::CallRecord;
 use crate::got::Got;
 use crate::lane_memory::LaneMemory;
 use crate::noted::Noted;
+use crate::noted_ref::NotedRef;
 use crate::open_fault::OpenFault;
 use crate::record_fault::RecordFault;
 use crate::record_put_fault::RecordPutFault;
@@ -15,19 +22,20 @@ use memory_cache::Pair;
 use record_pages::{Answer, Config, Key, MissCause, Pushed, Tier, Value, is_too_large};
 use std::alloc::{AllocError, Global};
 use std::marker::Model;
-use trace_file::Act;
+use trace_file::{Act, History};
 
 /// The most calls that a lane records.
 pub const MAX_CALLS: usize = 16777216;
 
-/// A lane of the cache, with a record of its calls in the order in which they were done.
+/// A lane of the cache, with a record of its calls in the order in which they were done. The bytes of the
+/// recorded calls lie in one store.
 ///
 /// Until the tiers below memory are there it keeps its objects in memory alone, serves a configuration
 /// of one lane, and loses what memory pushes out. It takes no memory before its first call.
 #[derive(Drop)]
 pub struct RecordedLane<const PAGE: usize> {
     memory: LaneMemory,
-    calls: Vec<Noted>,
+    calls: CallRecord,
 }
 
 impl<const PAGE: usize> Model for RecordedLane<PAGE> {
@@ -35,17 +43,18 @@ impl<const PAGE: usize> Model for RecordedLane<PAGE> {
 
     ghost Value = { Lane };
 
-    ghost view = { λ a. record { state = record { memory = a.memory }; calls = a.calls.items } };
+    ghost view = { λ a. record { state = record { memory = a.memory }; calls = a.calls } };
 
     ghost invariant = { λ a. IsRecorded (record {
       state = record { memory = a.memory };
-      calls = a.calls.items;
+      calls = a.calls;
     }) };
 }
 
 impl<const PAGE: usize> RecordedLane<PAGE> {
     ghost use Rattle.history_recorder.specs.LaneState.{opening, get_step, put_step, remove_step, forget_step};
     ghost use Rattle.history_recorder.specs.Lane.{IsRecorded, act_of, last_point, max_calls};
+    ghost use Rattle.history_recorder.specs.Points.{at_point, noted_shown};
 
     /// An empty lane of this configuration, which has one lane.
     pub fn open(alloc: Global, config: &Config, lane: u32) -> Result<RecordedLane<PAGE>, OpenFault>
@@ -64,7 +73,7 @@ impl<const PAGE: usize> RecordedLane<PAGE> {
         }
         Ok(RecordedLane {
             memory: LaneMemory::new(alloc, layout.memory),
-            calls: Vec::new(alloc),
+            calls: CallRecord::new(alloc),
         })
     }
 
@@ -80,15 +89,17 @@ impl<const PAGE: usize> RecordedLane<PAGE> {
     pub fn is_empty(&self) -> bool
         ensures { IsTrue result ↔ (self.now.calls ≡ []) }
     {
-        self.calls.is_empty()
+        self.calls.len() == 0
     }
 
-    /// The call that was recorded at a position, counted from 0.
-    pub fn at(&self, position: usize) -> &Noted
+    /// The call that was recorded at a position, counted from 0, lent.
+    pub fn at(&self, position: usize) -> NotedRef<'_>
         requires { position < length self.now.calls }
-        ensures { slice_get self.now.calls position ≡ Some result.now }
+        ensures call { slice_get self.now.calls position ≡ Some (noted_shown result) }
+        ensures key { IsKey result.key.now }
+        ensures value { IsValue (value_of (act_shown result.act)) }
     {
-        &self.calls[position]
+        self.calls.at(position)
     }
 
     /// The point of the last call, or 0 before the first.
@@ -96,10 +107,11 @@ impl<const PAGE: usize> RecordedLane<PAGE> {
         ensures value { result ≡ last_point self.now.calls }
         ensures greatest { All (λ n. n.point ≤ result) self.now.calls }
     {
-        match self.calls.last() {
-            Some(noted) => noted.point,
-            None => 0,
+        let count = self.calls.len();
+        if count == 0 {
+            return 0;
         }
+        self.calls.at(count - 1).point
     }
 
     /// Answers a get and records it. A value found in memory comes to the front.
@@ -133,7 +145,6 @@ impl<const PAGE: usize> RecordedLane<PAGE> {
         if self.calls.len() >= MAX_CALLS {
             return Err(RecordFault::HistoryFull);
         }
-        self.calls.reserve(1)?;
         let answer = answer_from(self.memory.peek(key))?;
         let noted = Noted {
             caller,
@@ -142,13 +153,9 @@ impl<const PAGE: usize> RecordedLane<PAGE> {
             key: key.try_clone()?,
             act: act_from(&answer)?,
         };
-        let copy = noted.try_clone()?;
+        self.calls.push(&noted)?;
         self.memory.raise(key);
-        self.calls.push(noted).unwrap();
-        Ok(Got {
-            answer,
-            noted: copy,
-        })
+        Ok(Got { answer, noted })
     }
 
     /// Puts a value and records it. The admission word is not read until there is a tier below memory.
@@ -191,7 +198,6 @@ impl<const PAGE: usize> RecordedLane<PAGE> {
         if self.calls.len() >= MAX_CALLS {
             return Err(RecordPutFault::HistoryFull);
         }
-        self.calls.reserve(1)?;
         let noted = Noted {
             caller,
             start,
@@ -199,14 +205,11 @@ impl<const PAGE: usize> RecordedLane<PAGE> {
             key: key.try_clone()?,
             act: Act::Put(value.try_clone()?),
         };
-        let copy = noted.try_clone()?;
-        let Ok(out) = self.memory.put(key, value) else {
-            return Err(RecordPutFault::OutOfMemory);
-        };
-        self.calls.push(noted).unwrap();
+        let pair = Pair { key, value };
+        let out = put_recorded(&mut self.calls, &mut self.memory, &noted, pair)?;
         Ok(Stored {
             pushed: fate_of(&out),
-            noted: copy,
+            noted,
         })
     }
 
@@ -240,7 +243,6 @@ impl<const PAGE: usize> RecordedLane<PAGE> {
         if self.calls.len() >= MAX_CALLS {
             return Err(RecordFault::HistoryFull);
         }
-        self.calls.reserve(1)?;
         let noted = Noted {
             caller,
             start,
@@ -248,10 +250,9 @@ impl<const PAGE: usize> RecordedLane<PAGE> {
             key: key.try_clone()?,
             act: Act::Remove,
         };
-        let copy = noted.try_clone()?;
+        self.calls.push(&noted)?;
         let _removed = self.memory.remove(key);
-        self.calls.push(noted).unwrap();
-        Ok(Removed { noted: copy })
+        Ok(Removed { noted })
     }
 
     /// Takes the key's pair out, if there is one, as a cache may at any time. That is no call of the
@@ -264,9 +265,19 @@ impl<const PAGE: usize> RecordedLane<PAGE> {
     {
         let _forgotten = self.memory.remove(key);
     }
+
+    /// The recorded calls as a history, in which each call ends at its point. With the positions 0, 1, 2
+    /// and so on for its certificate it is accepted. It takes no memory.
+    pub fn into_calls(self) -> History
+        ensures calls { result ≡ map at_point self.entry.calls }
+        ensures accepted { IsAccepted result (range_with_len 0 (length self.entry.calls)) }
+    {
+        self.calls.into_history()
+    }
 }
 
 ghost use Rattle.std.specs.Prelude.{option_map, IsTrue};
+ghost use Rattle.memory_cache.specs.MemoryList.{after_put, pushed_out};
 ghost use Rattle.record_pages.specs.declared.field.Field.{Field};
 ghost use Rattle.history_recorder.specs.LaneState.{answer_by, fate_of};
 ghost use Rattle.history_recorder.specs.Lane.{act_of};
@@ -289,6 +300,28 @@ fn act_from(answer: &Answer) -> Result<Act, AllocError>
         Answer::Hit(value, _) => Ok(Act::Hit(value.try_clone()?)),
         Answer::Miss(_) => Ok(Act::Miss),
     }
+}
+
+/// Records a put and puts its pair first in memory, and gives the pair of another key that had to leave for
+/// it. Where memory is refused, record and memory are as they were.
+fn put_recorded(
+    calls: &mut CallRecord,
+    memory: &mut LaneMemory,
+    noted: &Noted,
+    pair: Pair,
+) -> Result<Option<Pair>, AllocError>
+    ensures out { IfOk result (λ out. out ≡ pushed_out pair memory.old) }
+    ensures memory { OnOk result (memory.new ≡ after_put pair memory.old) }
+    ensures calls { OnOk result (calls.new ≡ calls.old ++ noted.now ∷ []) }
+    ensures memory_kept { OnErr result (memory.new ≡ memory.old) }
+    ensures calls_kept { OnErr result (calls.new ≡ calls.old) }
+{
+    calls.push(noted)?;
+    let Ok(out) = memory.put(pair.key, pair.value) else {
+        calls.drop_last();
+        return Err(AllocError);
+    };
+    Ok(out)
 }
 
 /// What becomes of the pair that left memory.

@@ -1,6 +1,7 @@
 //! A lane of the cache whose calls are recorded as they are answered.
 #![tactic(auto)]
 
+mod call_record;
 mod dones;
 mod got;
 mod head;
@@ -10,6 +11,7 @@ mod layout;
 mod merging;
 mod next;
 mod noted;
+mod noted_ref;
 mod open_fault;
 mod record_fault;
 mod record_put_fault;
@@ -21,6 +23,7 @@ pub use got::Got;
 pub use lane::{MAX_CALLS, RecordedLane};
 pub use layout::lay_out;
 pub use noted::Noted;
+pub use noted_ref::NotedRef;
 pub use open_fault::OpenFault;
 pub use record_fault::RecordFault;
 pub use record_put_fault::RecordPutFault;

@@ -1,9 +1,8 @@
 // A recorded call, before its end is drawn.
-ghost use Rattle.std.specs.Prelude.{◌≡◌, IfOk};
+ghost use Rattle.std.specs.Prelude.{◌≡◌};
 
-use record_pages::{Key, Value};
-use std::alloc::AllocError;
-use trace_file::Act;
+use record_pages::Key;
+use trace_file::{Act, CallRef};
 
 /// A recorded call whose end is not drawn yet.
 #[derive(Debug, Drop)]
@@ -21,29 +20,17 @@ pub struct Noted {
 }
 
 impl Noted {
-    /// A copy of the call, or `AllocError` where memory was refused.
-    pub fn try_clone(&self) -> Result<Noted, AllocError>
-        ensures { IfOk result (λ noted. noted ≡ self.now) }
-    {
-        let act = copy_of(&self.act)?;
-        Ok(Noted {
-            caller: self.caller,
-            start: self.start,
-            point: self.point,
-            key: self.key.try_clone()?,
-            act,
-        })
-    }
-}
+    ghost use Rattle.trace_file.specs.Calls.{IsCall};
+    ghost use Rattle.trace_file.specs.Lent.{call_shown};
+    ghost use Rattle.history_recorder.specs.Points.{at_point};
 
-/// A copy of an act.
-fn copy_of(act: &Act) -> Result<Act, AllocError>
-    ensures { IfOk result (λ copy. copy ≡ act.now) }
-{
-    match act {
-        Act::Put(value) => Ok(Act::Put(value.try_clone()?)),
-        Act::Remove => Ok(Act::Remove),
-        Act::Hit(value) => Ok(Act::Hit(value.try_clone()?)),
-        Act::Miss => Ok(Act::Miss),
+    /// The call, lent, with its point for its end.
+    pub(crate) fn lent(&self) -> CallRef<'_>
+        ensures call { call_shown result ≡ at_point self.now }
+        ensures lawful { IsCall (call_shown result) }
+    {
+        let key = self.key.bytes();
+        let act = self.act.lent();
+        CallRef::new(self.caller, self.start, self.point, key, act)
     }
 }

@@ -1,10 +1,12 @@
 // A lane of one object, and the lanes that are not opened.
-use history_recorder::{Got, Noted, OpenFault, RecordPutFault, RecordedLane, Removed, Stored};
+use history_recorder::{
+    Got, Noted, NotedRef, OpenFault, RecordPutFault, RecordedLane, Removed, Stored,
+};
 use record_pages::{Answer, Config, Field, Key, MissCause, Pushed, Tier, Value};
 use std::alloc::Global;
 use std::process::Abort;
 use std::test::Fail;
-use trace_file::Act;
+use trace_file::{Act, ActRef, History};
 
 /// A configuration of one lane that keeps one object in memory.
 fn small() -> Config
@@ -134,20 +136,20 @@ fn is_last(lane: &RecordedLane<256>, caller: u16, noted: &Noted) -> bool {
         && is_copy(noted, last)
 }
 
-fn is_copy(noted: &Noted, last: &Noted) -> bool {
+fn is_copy(noted: &Noted, last: NotedRef<'_>) -> bool {
     noted.caller == last.caller
         && noted.start == last.start
         && noted.point == last.point
-        && noted.key == last.key
-        && is_same_act(&noted.act, &last.act)
+        && noted.key.bytes() == last.key
+        && is_same_act(&noted.act, last.act)
 }
 
-fn is_same_act(act: &Act, other: &Act) -> bool {
-    match (act, other) {
-        (Act::Put(value), Act::Put(same)) => value.bytes() == same.bytes(),
-        (Act::Hit(value), Act::Hit(same)) => value.bytes() == same.bytes(),
-        (Act::Remove, Act::Remove) => true,
-        (Act::Miss, Act::Miss) => true,
+fn is_same_act(act: &Act, lent: ActRef<'_>) -> bool {
+    match (act, lent) {
+        (Act::Put(value), ActRef::Put(bytes)) => value.bytes() == bytes,
+        (Act::Hit(value), ActRef::Hit(bytes)) => value.bytes() == bytes,
+        (Act::Remove, ActRef::Remove) => true,
+        (Act::Miss, ActRef::Miss) => true,
         _ => false,
     }
 }
@@ -158,13 +160,16 @@ fn is_at(lane: &RecordedLane<256>, position: usize, key: &[u8], letter: u8) -> b
         return false;
     }
     let noted = lane.at(position);
-    let act = match &noted.act {
-        Act::Put(_) => b'p',
-        Act::Remove => b'r',
-        Act::Hit(_) => b'h',
-        Act::Miss => b'm',
-    };
-    noted.key.bytes() == key && act == letter
+    noted.key == key && letter_of(noted.act) == letter
+}
+
+fn letter_of(act: ActRef<'_>) -> u8 {
+    match act {
+        ActRef::Put(_) => b'p',
+        ActRef::Remove => b'r',
+        ActRef::Hit(_) => b'h',
+        ActRef::Miss => b'm',
+    }
 }
 
 const HIT: [Step; 2] = [
@@ -179,7 +184,15 @@ fn a_value_that_was_put_is_a_hit_and_both_calls_are_recorded(rt: HostRuntime) ->
     assert_eq!(rt; lane.last_point(), 4);
     assert!(rt; is_at(&lane, 0, b"a", b'p'));
     assert!(rt; is_at(&lane, 1, b"a", b'h'));
+    let calls = lane.into_calls();
+    assert_eq!(rt; calls.len(), 2);
+    assert!(rt; ends_at(&calls, 1, 4));
     Ok(())
+}
+
+/// Whether the call at a position ends there.
+fn ends_at(calls: &History, position: usize, end: u64) -> bool {
+    position < calls.len() && calls.at(position).end == end
 }
 
 const PUSHED_OUT: [Step; 3] = [

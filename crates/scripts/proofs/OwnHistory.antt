@@ -1,19 +1,17 @@
 -- A script's own history and certificate are accepted.
-use Rattle.std.proofs.Common.{◌≡◌, ◌≢◌, ◌<◌, ◌≤◌, ◌+◌, ◌*◌, ℕ, zero, suc, List, [], ◌∷◌, ◌++◌, length, take, get_or, map, Option, Some, None, sym, ap, ◌∙◌, refl, subst, arith, append_assoc}
-use Rattle.std.specs.Prelude.{slice_get, option_map, All, AllPairs, Contains}
-use Rattle.std.specs.List.{range_with_len, filter_map}
-use Rattle.std.proofs.lemmas.List.{take_more, map-append, length-map, get_or_default, length_push}
-use Rattle.std.proofs.lemmas.List.Elements.{All-map}
-use Rattle.std.proofs.lemmas.List.FromFn.{length-range_with_len, get_or-range_with_len, map-range_with_len_more}
+use Rattle.std.proofs.Common.{◌≡◌, ◌<◌, ◌≤◌, ◌+◌, ◌*◌, ℕ, zero, suc, List, [], ◌∷◌, ◌++◌, length, take, get_or, map, Some, sym, ap, ◌∙◌, refl, subst, arith}
+use Rattle.std.specs.Prelude.{slice_get, option_map, All}
+use Rattle.std.specs.List.{range_with_len}
+use Rattle.std.proofs.lemmas.List.{take_more, map-append, length-map}
 use Rattle.std.proofs.lemmas.Option.{slice_get-map, slice_get_within, get_or_from_slice_get}
-use Rattle.trace_file.specs.declared.act.Act.TheVariants.{Put, Hit}
 use Rattle.trace_file.specs.declared.call.Call.{Call}
 use Rattle.certificate_checker.specs.Deeds.{deed_of}
-use Rattle.certificate_checker.specs.Orders.{in_order, Agrees}
+use Rattle.certificate_checker.specs.Orders.{Agrees}
 use Rattle.certificate_checker.specs.Latest.{IsLawful}
 use Rattle.certificate_checker.specs.Acceptance.{IsAccepted}
 use Rattle.history_recorder.specs.declared.noted.Noted.{Noted}
 use Rattle.history_recorder.specs.Lane.{Lane, deed_noted, IsRecorded}
+use Rattle.history_recorder.proofs.InTurn.{accepted_in_turn}
 use Rattle.scripts.specs.Own.{ended, own_history, own_certificate, HasStamps}
 
 -- ---- one more call
@@ -32,22 +30,6 @@ range_next a (suc n) =
 
 pub next_certificate : (n : ℕ) → range_with_len 0 n ++ n ∷ [] ≡ range_with_len 0 (n + 1)
 next_certificate n = let e : 0 + n ≡ n = omega arith in ap (λ m. range_with_len 0 n ++ m ∷ []) (sym e) ∙ range_next 0 n
-
--- ---- the order is the history
-
-look_up_behind : {X : Type 0} (xs : List X) (x : X) (ys : List X) → slice_get (xs ++ x ∷ ys) (length xs) ≡ Some x
-look_up_behind [] x ys = refl
-look_up_behind (z ∷ xs) x ys = look_up_behind xs x ys
-
-all_from : (front rest : List Call) → filter_map (slice_get (front ++ rest)) (range_with_len (length front) (length rest)) ≡ rest
-all_from front [] = refl
-all_from front (x ∷ rest) =
-    let one : (front ++ x ∷ []) ++ rest ≡ front ++ x ∷ rest = append_assoc front (x ∷ []) rest in
-    let len : length (front ++ x ∷ []) ≡ length front + 1 = length_push front x in
-    rw look_up_behind (ap (λ calls. x ∷ calls) (ap (λ (xs : List Call). filter_map (slice_get xs) (range_with_len (length front + 1) (length rest))) (sym one) ∙ ap (λ n. filter_map (slice_get ((front ++ x ∷ []) ++ rest)) (range_with_len n (length rest))) (sym len) ∙ all_from (front ++ x ∷ []) rest))
-
-in_order_all : (calls : List Call) → in_order calls (range_with_len 0 (length calls)) ≡ calls
-in_order_all calls = all_from [] calls
 
 -- ---- ends do not change what calls do
 
@@ -75,28 +57,18 @@ numbered calls stamps i d less =
     let last : n.0.point + 1 ≡ 3 * i + 3 = omega (arith, point) in
     (ap (λ (c : Call). c.start) is ∙ start, ap (λ (c : Call). c.end) is ∙ last)
 
-pub accepted : (lane : Lane) → IsRecorded lane → HasStamps lane.calls → IsAccepted (own_history lane) (own_certificate lane)
-accepted lane recorded stamps =
-    let calls = map ended lane.calls in
-    let n = length lane.calls in
-    let len : length calls ≡ n = length-map lane.calls ended in
-    let order : in_order calls (range_with_len 0 n) ≡ calls = ap (λ m. in_order calls (range_with_len 0 m)) (sym len) ∙ in_order_all calls in
-    record {
-      intervals = λ k d less. let h = numbered lane.calls stamps k d less in omega (arith, h.0, h.1);
-      spelled = record {
-        positions = λ k d less.
-            let within : k < n = omega (arith, length-range_with_len 0 n) in
-            omega (arith, get_or-range_with_len 0 n k d within, len);
-        each = λ p less.
-            let within : p < n = omega (arith, len) in
-            (p, omega (arith, length-range_with_len 0 n), get_or-range_with_len 0 n p p within ∙ omega arith);
-        once = λ i j d less within same.
-            let inside : j < n = omega (arith, length-range_with_len 0 n) in
-            omega (arith, get_or-range_with_len 0 n i d (omega arith), get_or-range_with_len 0 n j d inside, same);
-      };
-      agrees = subst Agrees (sym order) (λ i j d less within precedes.
-          let first = numbered lane.calls stamps i d (omega arith) in
-          let second = numbered lane.calls stamps j d within in
-          omega (arith, first.0, second.1, precedes));
-      lawful = subst (λ cs. IsLawful (map deed_of cs)) (sym order) (subst IsLawful (same_deeds lane.calls) recorded.lawful);
-    }
+module _ (lane : Lane) (recorded : IsRecorded lane) (stamps : HasStamps lane.calls) where
+  abbrev calls : List Call
+  calls = own_history lane
+
+  intervals : All (λ (call : Call). call.start ≤ call.end) calls
+  intervals k d within = let h = numbered lane.calls stamps k d within in omega (arith, h.0, h.1)
+
+  agrees : Agrees calls
+  agrees i j d less within precedes =
+      let first = numbered lane.calls stamps i d (omega arith) in
+      let second = numbered lane.calls stamps j d within in
+      omega (arith, first.0, second.1, precedes)
+
+  pub accepted : IsAccepted calls (own_certificate lane)
+  accepted = subst (λ n. IsAccepted calls (range_with_len 0 n)) (length-map lane.calls ended) (accepted_in_turn calls intervals agrees (subst IsLawful (same_deeds lane.calls) recorded.lawful))

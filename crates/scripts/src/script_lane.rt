@@ -127,7 +127,7 @@ impl<const PAGE: usize> ScriptLane<PAGE> {
         let mut history = History::new(alloc);
         let mut certificate = Certificate::new(alloc);
         for position in 0..self.lane.len() {
-            history.push(with_end(self.lane.at(position))?)?;
+            history.push_ref(&with_end(self.lane.at(position)))?;
             certificate.push(position as u32)?;
         }
         Ok(Recording {
@@ -154,28 +154,28 @@ impl<const PAGE: usize> ScriptLane<PAGE> {
     }
 }
 
+ghost use Rattle.record_pages.specs.Bounded.{IsKey, IsValue};
+ghost use Rattle.trace_file.specs.Calls.{IsCall, value_of};
+ghost use Rattle.trace_file.specs.Lent.{act_shown, call_shown};
+ghost use Rattle.history_recorder.specs.Points.{noted_shown};
 ghost use Rattle.scripts.specs.Own.{ended};
 
-use history_recorder::Noted;
-use trace_file::{Act, Call};
+use history_recorder::NotedRef;
+use trace_file::{Act, CallRef};
 
 /// A recorded call, with its end.
-fn with_end(noted: &Noted) -> Result<Call, AllocError>
-    requires { noted.now.point < 18446744073709551615 }
-    ensures { IfOk result (λ call. call ≡ ended noted.now) }
+fn with_end(noted: NotedRef<'_>) -> CallRef<'_>
+    requires point { noted.point < 18446744073709551615 }
+    requires key { IsKey noted.key.now }
+    requires value { IsValue (value_of (act_shown noted.act)) }
+    ensures call { call_shown result ≡ ended (noted_shown noted.entry) }
+    ensures lawful { IsCall (call_shown result) }
 {
-    let Noted {
-        caller,
-        start,
-        point,
-        key,
-        act,
-    } = noted.try_clone()?;
-    Ok(Call {
-        caller,
-        start,
-        end: point + 1,
-        key,
-        act,
-    })
+    CallRef::new(
+        noted.caller,
+        noted.start,
+        noted.point + 1,
+        noted.key,
+        noted.act,
+    )
 }

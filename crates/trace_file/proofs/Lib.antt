@@ -1,4 +1,5 @@
 pub mod Countings
+pub mod DropLaws
 pub mod Formats
 pub mod ItemFormats
 pub mod ReaderLaws

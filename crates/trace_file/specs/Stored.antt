@@ -1,5 +1,5 @@
 -- How the calls of a history lie in one store of bytes.
-use Rattle.std.specs.Prelude.{ℕ, ◌+◌, ◌<◌, ◌≤◌, ◌^◌, List, length, take, drop, map, All}
+use Rattle.std.specs.Prelude.{ℕ, ◌+◌, ◌<◌, ◌≤◌, ◌^◌, List, take, drop, map, All, AllPairs}
 use Rattle.trace_file.specs.declared.act.Act.{Act}
 use Rattle.trace_file.specs.declared.act.Act.TheVariants as acts
 use Rattle.trace_file.specs.declared.call.Call.{Call}
@@ -41,3 +41,8 @@ pub record LiesIn (size : ℕ) (e : Entry) : Type 0 where
   pub key : e.key_len ≤ 255
   pub value : e.value_len ≤ 2048
   pub room : e.offset + e.key_len + e.value_len ≤ size
+
+-- the entries of a store of so many bytes: each lies in it, and behind those before it
+pub record AreStored (size : ℕ) (entries : List Entry) : Type 0 where
+  pub lie : All (LiesIn size) entries
+  pub behind : AllPairs (λ a b. a.offset + a.key_len + a.value_len ≤ b.offset) entries

@@ -23,7 +23,7 @@ impl Act {
     ghost use Rattle.trace_file.specs.Lent.{act_shown};
 
     /// The act, lent.
-    pub(crate) fn lent(&self) -> ActRef<'_>
+    pub fn lent(&self) -> ActRef<'_>
         ensures act { act_shown result ≡ self.now }
         ensures value { IsValue (value_of self.now) }
     {

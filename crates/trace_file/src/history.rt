@@ -1,5 +1,5 @@
 // Recorded calls in the order in which they were recorded.
-ghost use Rattle.std.specs.Prelude.{◌≡◌, ◌+◌, ◌^◌, ◌<◌, ◌≤◌, [], ◌∷◌, ◌++◌, ◌↔◌, All, IsTrue, List, ℕ, Some, length, OnOk, OnErr, slice_get, take, drop};
+ghost use Rattle.std.specs.Prelude.{◌≡◌, ◌+◌, ◌-◌, ◌^◌, ◌<◌, ◌≤◌, [], ◌∷◌, ◌++◌, ◌↔◌, All, IsTrue, List, ℕ, Some, length, OnOk, OnErr, slice_get, take, drop};
 
 use crate::act_ref::ActRef;
 use crate::call::Call;
@@ -19,16 +19,16 @@ pub struct History {
 }
 
 impl Model for History {
-    ghost use Rattle.std.specs.Prelude.{All, List, length};
+    ghost use Rattle.std.specs.Prelude.{List, length};
     ghost use Rattle.trace_file.specs.declared.call.Call.{Call};
 
     ghost Value = { List Call };
 
-    ghost use Rattle.trace_file.specs.Stored.{calls_in, LiesIn};
+    ghost use Rattle.trace_file.specs.Stored.{calls_in, AreStored};
 
     ghost view = { λ h. calls_in h.store.items h.entries.items };
 
-    ghost invariant = { λ h. All (LiesIn (length h.store.items)) h.entries.items };
+    ghost invariant = { λ h. AreStored (length h.store.items) h.entries.items };
 }
 
 impl History {
@@ -87,6 +87,15 @@ impl History {
         };
         put_behind(&mut self.entries, &mut self.store, entry, call.key, value)?;
         Ok(())
+    }
+
+    /// Takes the last call off, if there is one, with its bytes.
+    pub fn drop_last(&mut self)
+        ensures { self.new ≡ take (length self.old - 1) self.old }
+    {
+        if let Some(entry) = self.entries.pop() {
+            self.store.truncate(entry.offset);
+        }
     }
 
     /// The call at a position, lent.

@@ -1,23 +1,22 @@
 -- One call more, and what the whole says.
-use Rattle.std.proofs.Common.{◌≡◌, ◌≤◌, ℕ, List, length, take, map, sym, ap, ◌∙◌, subst, arith}
+use Rattle.std.proofs.Common.{◌≡◌, length, take, map, sym, ap, ◌∙◌, subst, arith}
 use Rattle.std.specs.List.{range_with_len}
 use Rattle.std.proofs.lemmas.List.{length-map}
 use Rattle.std.proofs.lemmas.List.FromFn.{length-range_with_len}
 use Rattle.std.proofs.Math.Seq.{take-length}
 use Rattle.certificate_checker.specs.Acceptance.{IsAccepted}
-use Rattle.history_recorder.specs.declared.noted.Noted.{Noted}
-use Rattle.history_recorder.specs.Lane.{Lane}
-use Rattle.scripts.specs.Own.{ended, own_history, own_certificate}
+use Rattle.history_recorder.specs.Points.{noted_shown}
+use Rattle.scripts.specs.Own.{ended, own_history}
 use Rattle.scripts.proofs.OwnHistory.{next_history, next_certificate, accepted}
 use Rattle.scripts.proofs.script_lane.ScriptLane.recording.Goals as goal
 
 pub loop-position-preserved : goal.loop-position-preserved
 loop-position-preserved g c =
-    let more = next_history c.self.inside.lane.calls c.loop-position.position c.at.result.now c.at.ensures in
+    let more = next_history c.self.inside.lane.calls c.loop-position.position (noted_shown c.at.result) c.at.ensures.call in
     let further = next_certificate c.loop-position.position in
     record {
-      calls = rw (c.in_ok-push.ensures.ok, c.loop-position.invariant.calls, c.in_ok-with_end.ensures) more;
-      places = rw (c.in_ok-push-2.ensures.ok, c.loop-position.invariant.places) further;
+      calls = rw (c.in_ok-push_ref.ensures.ok, c.loop-position.invariant.calls, c.with_end.ensures.call) more;
+      places = rw (c.in_ok-push.ensures.ok, c.loop-position.invariant.places) further;
     }
 
 pub returns-clause-accepted : goal.returns-clause-accepted

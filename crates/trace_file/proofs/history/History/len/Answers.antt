@@ -6,4 +6,4 @@ use Rattle.trace_file.proofs.history.History.len.Goals as goal
 
 pub returns-clause-calls : goal.returns-clause-calls
 returns-clause-calls c =
-    subst (λ (calls : List Call). All IsCall calls) c.self.view_is (calls_in-lawful c.self.inside.store.items c.self.inside.entries.items c.self.invariant)
+    subst (λ (calls : List Call). All IsCall calls) c.self.view_is (calls_in-lawful c.self.inside.store.items c.self.inside.entries.items c.self.invariant.lie)

@@ -10,5 +10,5 @@ returns-clause-ok c =
     let key = c.args.call.now.key.now in
     let value = c.value-value.result.now in
     pushed_call h.store.items c.put_behind.new.store.items key value h.entries.items c.put_behind.new.entries.items c.args.self.now _ (call_shown c.args.call.now)
-    c.self.invariant c.self.view_is c.in_ok-put_behind.ensures.store c.in_ok-put_behind.ensures.entries
+    c.self.invariant.lie c.self.view_is c.in_ok-put_behind.ensures.store c.in_ok-put_behind.ensures.entries
     (call_in-new h.store.items key value _ (call_shown c.args.call.now) (search rules) refl refl refl refl refl refl (ap (act_of c.kind.result) c.value-value.ensures ∙ c.kind.ensures))
