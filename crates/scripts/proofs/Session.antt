@@ -123,16 +123,16 @@ ready_line : (ahead : Ahead) → is_ready ahead ≡ true → length (first_line 
 ready_line ahead ready short = elim (cases_Bool ahead.over) [
   | inl over ↦ inr over
   | inr going ↦ elim (cases_Bool (ltb 0 (feeds ahead.bytes))) [
-      | inl some ↦ inl (ltb-true 0 (feeds ahead.bytes) some)
-      | inr none ↦
-          let unfed : feeds ahead.bytes ≡ 0 = omega (arith, ltb-false 0 (feeds ahead.bytes) none) in
-          let all = ap length (unfed_line ahead.bytes unfed) in
-          elim (cases_Bool (ltb 4096 (length ahead.bytes))) [
-            | inl long ↦
-                let more = ltb-true 4096 (length ahead.bytes) long in absurd (omega (arith, all, more, short))
-            | inr fits ↦ let bad : false ≡ true = rw (going, fits, none) at ready in cc
-          ]
-    ]
+    | inl some ↦ inl (ltb-true 0 (feeds ahead.bytes) some)
+    | inr none ↦
+        let unfed : feeds ahead.bytes ≡ 0 = omega (arith, ltb-false 0 (feeds ahead.bytes) none) in
+        let all = ap length (unfed_line ahead.bytes unfed) in
+        elim (cases_Bool (ltb 4096 (length ahead.bytes))) [
+          | inl long ↦
+              let more = ltb-true 4096 (length ahead.bytes) long in absurd (omega (arith, all, more, short))
+          | inr fits ↦ let bad : false ≡ true = rw (going, fits, none) at ready in cc
+        ]
+  ]
 ]
 
 empty_front : (xs ys : List ℕ) → xs ++ ys ≡ [] → xs ≡ []

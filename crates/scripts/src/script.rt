@@ -270,7 +270,9 @@ pub fn run_script<const PAGE: usize, R: Read, W: Write>(
         if let Err(fault) = make_ready(reader, writer, &mut ahead, &mut is_told) {
             return Err(fault);
         }
-        match answer_next(alloc, number, &mut ahead, &mut line, &mut lane, &mut text, writer) {
+        match answer_next(
+            alloc, number, &mut ahead, &mut line, &mut lane, &mut text, writer,
+        ) {
             Ok(Turn::GoesOn) => is_told = false,
             Ok(Turn::Ends(ending)) => return Ok(ending),
             Err(fault) => return Err(fault),
