@@ -75,8 +75,8 @@ pub fn tell_help<W: Write>(writer: &mut W, text: &str) -> Ending
     if writer.write_all(text.as_bytes()).is_err() {
         return Ending::FileFault;
     }
-    match writer.flush() {
-        Ok(()) => Ending::Done,
-        Err(_) => Ending::FileFault,
+    if writer.flush().is_err() {
+        return Ending::FileFault;
     }
+    Ending::Done
 }

@@ -7,23 +7,23 @@ use std::test::Fail;
 
 /// An input that gives a piece at each read, is at its end once, and then fails.
 #[derive(Drop)]
-struct Pieces<'a> {
-    rest: &'a [&'a [u8]],
-    is_over: bool,
+struct Pieces {
+    pieces: &'static [&'static [u8]],
+    read: usize,
 }
 
-impl Read for Pieces<'_> {
+impl Read for Pieces {
     fn read(&mut self, buf: &mut [u8]) -> io::Result<usize> {
-        let Some((first, rest)) = self.rest.split_first() else {
-            if self.is_over {
-                return Err(Error::from(ErrorKind::Other));
-            }
-            self.is_over = true;
+        let at = self.read;
+        self.read = at.saturating_add(1);
+        if at > self.pieces.len() {
+            return Err(Error::from(ErrorKind::Other));
+        }
+        let Some(piece) = self.pieces.get(at) else {
             return Ok(0);
         };
-        self.rest = rest;
-        let mut piece = *first;
-        piece.read(buf)
+        let mut rest = *piece;
+        rest.read(buf)
     }
 }
 
@@ -70,8 +70,8 @@ const CASES: [Case; 5] = [
 /// Whether a script in these pieces is flushed so often.
 fn is_flushed(alloc: Global, case: &Case) -> Result<bool, Fail> {
     let mut reader = Pieces {
-        rest: case.0,
-        is_over: false,
+        pieces: case.0,
+        read: 0,
     };
     let mut writer = Counting {
         bytes: Vec::new(alloc),
