@@ -1,5 +1,5 @@
 -- What reading the next line and answering it do.
-use Rattle.std.specs.Prelude.{◌≡◌, ℕ, Bool, true, false, List, Option}
+use Rattle.std.specs.Prelude.{◌≡◌, ℕ, true, false, List, Option}
 use Rattle.std.specs.Io.KnownBytes.{Appends, IsAtEnd, Keeps, prepend_known}
 use Rattle.history_recorder.specs.Lane.{Lane}
 use Rattle.script_words.specs.declared.line_read.LineRead.{LineRead}

@@ -1,8 +1,8 @@
 -- What each step of the builder makes of the command.
 use Rattle.std.proofs.Common.{◌≡◌, ◌∙◌, ap, ap₂, rules, codes}
 use Rattle.std.proofs.lemmas.Result.{IfOk-weaker}
-use Rattle.clap.specs.Words.{App, Rule, app_of, new_app, rule_of, with_rule, with_subcommand}
-use Rattle.command_line.specs.CommandLine.{file_rule, script_command, check_command, program_top, program}
+use Rattle.clap.specs.Words.{App, app_of, new_app, rule_of, with_rule, with_subcommand}
+use Rattle.command_line.specs.CommandLine.{file_rule, script_command, check_command, program_top}
 use Rattle.command_line.proofs.parse.program.Goals as goal
 
 pub returns : goal.returns

@@ -1,5 +1,3 @@
-use Rattle.std.proofs.Common.{◌≤◌, length, sym, subst, arith}
-use Rattle.script_words.specs.Lines.{first_line}
 use Rattle.script_words.proofs.FirstLine.{all_other, first_at}
 use Rattle.script_words.proofs.read_ahead.line_len.Goals as goal
 

@@ -1,11 +1,10 @@
 -- Each way out, and each turn, by what the lines so far have written.
-use Rattle.std.proofs.Common.{◌≡◌, true, sym, subst, rules}
+use Rattle.std.proofs.Common.{◌≡◌, true, subst, rules}
 use Rattle.record_pages.specs.Sizes.{room}
 use Rattle.script_words.specs.Lines.{is_ready}
 use Rattle.scripts.specs.declared.turn.Turn.{Turn}
-use Rattle.scripts.specs.declared.turn.Turn.TheVariants.{GoesOn, Ends}
 use Rattle.scripts.specs.Reading.{Answers}
-use Rattle.scripts.proofs.Session.{Ran, starts, read_on, goes_on, ends, stops_reading, stops_answering}
+use Rattle.scripts.proofs.Session.{starts, read_on, goes_on, ends, stops_reading, stops_answering}
 use Rattle.scripts.proofs.script.run_script.Goals as goal
 
 pub loop-number-init : goal.loop-number-init

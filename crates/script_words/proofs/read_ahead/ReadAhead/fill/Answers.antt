@@ -1,5 +1,5 @@
 -- What was read was lost by the reader and gained here.
-use Rattle.std.proofs.Common.{◌≡◌, ℕ, List, ◌++◌, length, take, drop, vec_len, Option, Some, None, sym, ap, ◌∙◌, append_assoc, subst, rules}
+use Rattle.std.proofs.Common.{◌≡◌, ℕ, List, ◌++◌, take, drop, vec_len, Option, Some, None, sym, ap, ◌∙◌, append_assoc, subst, rules}
 use Rattle.std.specs.Io.KnownBytes.{Keeps, Consumes, prepend_known}
 use Rattle.std.proofs.lemmas.List.{take-append-drop}
 use Rattle.script_words.proofs.read_ahead.ReadAhead.fill.Goals as goal

@@ -1,4 +1,4 @@
-use Rattle.std.proofs.Common.{◌≡◌, ℕ, Bool, List, sym, ap, ◌∙◌}
+use Rattle.std.proofs.Common.{sym, ap, ◌∙◌}
 use Rattle.script_words.specs.Lines.{Ahead, is_ready}
 use Rattle.script_words.proofs.FirstLine.{ahead_of, ready_by_feed}
 use Rattle.script_words.proofs.read_ahead.ReadAhead.is_ready.Goals as goal

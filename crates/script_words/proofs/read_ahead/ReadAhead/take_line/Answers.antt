@@ -1,8 +1,6 @@
 -- A line that was taken is the first one, and what is left stands behind it.
-use Rattle.std.proofs.Common.{◌≡◌, ℕ, List, [], ◌+◌, ◌++◌, length, take, min, sym, ap, ◌∙◌, rules}
-use Rattle.script_words.specs.Lines.{Takes}
-use Rattle.script_words.specs.declared.line_read.LineRead.TheVariants.{Line}
-use Rattle.script_words.proofs.FirstLine.{ahead_of, takes}
+use Rattle.std.proofs.Common.{◌≡◌, [], ◌+◌, length, take, min, rules}
+use Rattle.script_words.proofs.FirstLine.{takes}
 use Rattle.script_words.proofs.read_ahead.ReadAhead.take_line.Goals as goal
 
 pub returns-clause-takes : goal.returns-clause-takes
