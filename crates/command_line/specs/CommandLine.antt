@@ -1,9 +1,9 @@
 -- The program's command line: what it takes, and what its words name.
-use Rattle.std.specs.Prelude.{◌≡◌, ◌≢◌, ℕ, List, [], ◌∷◌, Option, Some, None, codes, option_and_then, option_map, true, if◌then◌else◌, Contains}
+use Rattle.std.specs.Prelude.{◌≡◌, ◌≢◌, ◌⊎◌, List, [], Option, Some, codes, option_and_then, option_map, true, if◌then◌else◌}
 use Rattle.std.specs.Str.{bytes_eq}
-use Rattle.clap.specs.Words.{App, Row, Rule, Shape, Text, first_of, new_app, new_rule, subcommand_of, with_rule, with_subcommand}
+use Rattle.clap.specs.Words.{App, Row, Rule, Text, first_of, new_app, new_rule, subcommand_of, with_rule, with_subcommand}
 use Rattle.clap.specs.declared.error.kind.ErrorKind.{ErrorKind}
-use Rattle.clap.specs.declared.error.kind.ErrorKind.TheVariants.{DisplayHelp}
+use Rattle.clap.specs.declared.error.kind.ErrorKind.TheVariants.{DisplayHelp, DisplayVersion}
 use Rattle.command_line.specs.declared.line.Line.{Line}
 use Rattle.command_line.specs.declared.line.Line.TheVariants.{Script, Check}
 use Rattle.command_line.specs.declared.line_fault.LineFault.{LineFault}
@@ -23,7 +23,7 @@ check_command = with_rule (new_app (codes "check")) file_rule
 
 -- the program, of which one subcommand has to be named
 abbrev pub program_top : App
-program_top = record { top = record (new_app (codes "bench")).top { subcommand_required = true }; subs = [] }
+program_top = record { top = record (new_app (codes "kangaroo")).top { subcommand_required = true; has_version = true }; subs = [] }
 
 -- the program with its subcommands
 abbrev pub program : App
@@ -39,8 +39,8 @@ line_named (name, rows) =
 abbrev pub line_of_words : List Text → Option Line
 line_of_words words = option_and_then line_named (subcommand_of program words)
 
--- help is told where the words ask for it, and a usage where they do not
+-- help or the version is told where the words ask for it, and a usage where they do not
 abbrev pub IsToldOf : ErrorKind → LineFault → Type 0
-IsToldOf kind (Usage text) = kind ≢ DisplayHelp
-IsToldOf kind (Help text) = kind ≡ DisplayHelp
+IsToldOf kind (Usage text) = (kind ≢ DisplayHelp) × (kind ≢ DisplayVersion)
+IsToldOf kind (Help text) = (kind ≡ DisplayHelp) ⊎ (kind ≡ DisplayVersion)
 IsToldOf kind OutOfMemory = Unit {0}

@@ -9,7 +9,7 @@ use Rattle.scripts.specs.declared.script_fault.ScriptFault.TheVariants as script
 use Rattle.scripts.specs.declared.scripted.Scripted.{Scripted}
 use Rattle.scripts.specs.declared.scripted.Scripted.TheVariants as scripted
 use Rattle.command_line.specs.declared.ending.Ending.{Ending}
-use Rattle.command_line.specs.declared.ending.Ending.TheVariants.{Done, Rejected, BadInput, OutOfMemory, FileFault}
+use Rattle.command_line.specs.declared.ending.Ending.TheVariants.{Done, Rejected, BadInput, OutOfMemory, ReadFault, FileFault}
 
 -- how the program ends after a script
 abbrev pub ending_of_script : Result Scripted ScriptFault → Ending
@@ -17,7 +17,7 @@ ending_of_script (Ok scripted.Ended) = Done
 ending_of_script (Ok scripted.BadLine) = BadInput
 ending_of_script (Ok scripted.BadConfig) = BadInput
 ending_of_script (Err script_faults.OutOfMemory) = OutOfMemory
-ending_of_script (Err script_faults.ReadFault) = FileFault
+ending_of_script (Err script_faults.ReadFault) = ReadFault
 ending_of_script (Err script_faults.WriteFault) = FileFault
 
 -- how it ends after a trace was judged
@@ -34,6 +34,7 @@ status_of Done = 0
 status_of Rejected = 1
 status_of BadInput = 2
 status_of OutOfMemory = 3
+status_of ReadFault = 3
 status_of FileFault = 3
 
 -- the line that is written to standard error
@@ -42,4 +43,5 @@ message_of Done = None
 message_of Rejected = None
 message_of BadInput = None
 message_of OutOfMemory = Some (codes "out of memory")
+message_of ReadFault = Some (codes "file fault")
 message_of FileFault = Some (codes "file fault")

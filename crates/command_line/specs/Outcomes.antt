@@ -4,9 +4,9 @@ use Rattle.std.specs.Io.KnownBytes.{Appends, Keeps}
 use Rattle.std.specs.List.{concat}
 use Rattle.certificate_checker.specs.declared.judged.Judged.TheVariants as judged
 use Rattle.certificate_checker.specs.Judgements.{WroteLine}
-use Rattle.scripts.specs.Script.{Transcript, WroteFirst}
+use Rattle.scripts.specs.Script.{Transcript, WroteLinesBefore, WroteWholeLines, script_of}
 use Rattle.command_line.specs.declared.ending.Ending.{Ending}
-use Rattle.command_line.specs.declared.ending.Ending.TheVariants.{Done, Rejected, BadInput, OutOfMemory, FileFault}
+use Rattle.command_line.specs.declared.ending.Ending.TheVariants.{Done, Rejected, BadInput, OutOfMemory, ReadFault, FileFault}
 use Rattle.command_line.specs.Endings.{ending_of_script}
 
 -- all that the script writes was written, and it ended so
@@ -14,19 +14,22 @@ pub record IsAllWritten (old new : Option (List ℕ)) (ending : Ending) (whole :
   pub ended : ending ≡ ending_of_script (Ok whole.ending)
   pub wrote : Appends old new (concat whole.replies)
 
--- what a script wrote where the program ends so: all of it; at want of memory its first replies; where a read or a write
--- failed nothing is said
-abbrev pub IsAnswered : Option (List ℕ) → Option (List ℕ) → Ending → Transcript → Type 0
-IsAnswered old new OutOfMemory whole = WroteFirst old new whole.replies
-IsAnswered old new FileFault whole = Unit {0}
-IsAnswered old new Done whole = IsAllWritten old new Done whole
-IsAnswered old new Rejected whole = IsAllWritten old new Rejected whole
-IsAnswered old new BadInput whole = IsAllWritten old new BadInput whole
+-- what a script of these bytes wrote where the program ends so, and what of them is unread: all of it; at a failed read just
+-- the replies of the lines that were whole in what was read; at want of memory those of the lines before the one that met
+-- it; where a write failed nothing is said
+abbrev pub IsAnswered : ℕ → List ℕ → Option (List ℕ) → Option (List ℕ) → Option (List ℕ) → Ending → Type 0
+IsAnswered room bytes unread old new OutOfMemory = WroteLinesBefore room bytes unread old new
+IsAnswered room bytes unread old new ReadFault = WroteWholeLines room bytes unread old new
+IsAnswered room bytes unread old new FileFault = Unit {0}
+IsAnswered room bytes unread old new Done = IsAllWritten old new Done (script_of room bytes)
+IsAnswered room bytes unread old new Rejected = IsAllWritten old new Rejected (script_of room bytes)
+IsAnswered room bytes unread old new BadInput = IsAllWritten old new BadInput (script_of room bytes)
 
--- what a check read and wrote where the program ends so
+-- what a check read and wrote where the program ends so; a failed read of a trace is a bad trace
 abbrev pub IsChecked : Option (List ℕ) → Option (List ℕ) → Option (List ℕ) → Option (List ℕ) → Ending → Type 0
 IsChecked known left old new Done = WroteLine known left judged.Accepted old new
 IsChecked known left old new Rejected = WroteLine known left judged.Rejected old new
 IsChecked known left old new BadInput = WroteLine known left judged.BadTrace old new
 IsChecked known left old new OutOfMemory = Keeps old new
+IsChecked known left old new ReadFault = ⊥
 IsChecked known left old new FileFault = Unit {0}

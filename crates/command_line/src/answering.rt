@@ -3,7 +3,6 @@ ghost use Rattle.std.specs.Prelude.{◌≡◌, ◌≢◌, IfSome};
 ghost use Rattle.std.specs.Io.Buffered.{writer_contents, writer_inner};
 ghost use Rattle.std.specs.Io.KnownBytes.{Appends};
 ghost use Rattle.record_pages.specs.Sizes.{IsPageSize, room};
-ghost use Rattle.scripts.specs.Script.{script_of};
 ghost use Rattle.command_line.specs.Outcomes.{IsAnswered, IsChecked};
 
 use crate::ending::Ending;
@@ -18,16 +17,17 @@ use std::random::RandomSource;
 use std::rt::Files;
 
 /// Answers the script of a reader, and says how the program ends. What the writer holds then is written
-/// out before this returns: where that fails, the program ends as after a write that failed.
+/// out before this returns, also after a fault of the input or of memory: where that fails, the program
+/// ends as after a write that failed.
 pub fn answer_script<const PAGE: usize, R: Read, W: Write + Drop>(
     alloc: Global,
     reader: &mut R,
     writer: &mut BufWriter<W>,
 ) -> Ending
     requires { IsPageSize PAGE }
-    ensures { IfSome (R.remaining reader.old) (λ bytes. IsAnswered
-        (writer_contents W.contents writer.old) (W.contents (writer_inner writer.new))
-        result (script_of (room PAGE) bytes)) }
+    ensures { IfSome (R.remaining reader.old) (λ bytes. IsAnswered (room PAGE)
+        bytes (R.remaining reader.new)
+        (writer_contents W.contents writer.old) (W.contents (writer_inner writer.new)) result) }
 {
     let outcome = run_script::<PAGE, R, BufWriter<W>>(alloc, reader, writer);
     match writer.flush() {
@@ -66,14 +66,17 @@ pub fn check_file<W: Write>(
     }
 }
 
-/// Writes a help text, and says how the program ends.
+/// Writes a help text, has it go out, and says how the program ends.
 pub fn tell_help<W: Write>(writer: &mut W, text: &str) -> Ending
     ensures told { result ≡ Ending.Done
         → Appends (W.contents writer.old) (W.contents writer.new) text.now }
     ensures fault { result ≢ Ending.Done → result ≡ Ending.FileFault }
 {
-    match writer.write_all(text.as_bytes()) {
-        Ok(()) => Ending::Done,
-        Err(_) => Ending::FileFault,
+    if writer.write_all(text.as_bytes()).is_err() {
+        return Ending::FileFault;
     }
+    if writer.flush().is_err() {
+        return Ending::FileFault;
+    }
+    Ending::Done
 }

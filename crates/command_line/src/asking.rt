@@ -1,7 +1,7 @@
 // The words of the command line, as the system gives them.
 use crate::line::Line;
 use crate::line_fault::LineFault;
-use crate::parse::parse_line;
+use crate::parse::{no_text, parse_line};
 use std::env;
 use std::io::ErrorKind;
 use std::rt::Env;
@@ -11,10 +11,7 @@ pub fn asked(rt: &(impl Env + AllocGlobal)) -> Result<Line, LineFault> {
     let words: Vec<String> = match env::args(rt) {
         Ok(words) => words.collect(rt.alloc())?,
         Err(fault) if fault.kind() == ErrorKind::OutOfMemory => return Err(LineFault::OutOfMemory),
-        Err(_) => {
-            let text = String::from_str(rt.alloc(), "the words are no text\n")?;
-            return Err(LineFault::Usage(text));
-        }
+        Err(_) => return Err(no_text(rt.alloc())),
     };
     match parse_line(rt.alloc(), words.as_slice()) {
         Ok(line) => Ok(line),

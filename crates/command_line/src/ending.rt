@@ -19,7 +19,9 @@ pub enum Ending {
     BadInput,
     /// Memory was refused.
     OutOfMemory,
-    /// A file, the input or the output failed.
+    /// The input of a script failed, and the output did not.
+    ReadFault,
+    /// A file or the output failed.
     FileFault,
 }
 
@@ -32,7 +34,8 @@ impl Ending {
             Ok(Scripted::Ended) => Ending::Done,
             Ok(Scripted::BadLine | Scripted::BadConfig) => Ending::BadInput,
             Err(ScriptFault::OutOfMemory) => Ending::OutOfMemory,
-            Err(ScriptFault::ReadFault | ScriptFault::WriteFault) => Ending::FileFault,
+            Err(ScriptFault::ReadFault) => Ending::ReadFault,
+            Err(ScriptFault::WriteFault) => Ending::FileFault,
         }
     }
 
@@ -57,7 +60,7 @@ impl Ending {
             Ending::Done => 0,
             Ending::Rejected => 1,
             Ending::BadInput => 2,
-            Ending::OutOfMemory | Ending::FileFault => 3,
+            Ending::OutOfMemory | Ending::ReadFault | Ending::FileFault => 3,
         }
     }
 
@@ -75,7 +78,7 @@ impl Ending {
         match self {
             Ending::Done | Ending::Rejected | Ending::BadInput => None,
             Ending::OutOfMemory => Some("out of memory"),
-            Ending::FileFault => Some("file fault"),
+            Ending::ReadFault | Ending::FileFault => Some("file fault"),
         }
     }
 }

@@ -15,4 +15,4 @@ pub use ending::Ending;
 pub use file_name::FileName;
 pub use line::Line;
 pub use line_fault::LineFault;
-pub use parse::parse_line;
+pub use parse::{no_text, parse_line};

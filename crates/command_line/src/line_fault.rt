@@ -11,7 +11,7 @@ pub enum LineFault {
     /// They are not spelled as the program wants them. The text says what is wrong.
     #[error("{0}")]
     Usage(String),
-    /// They ask for help. The text is the help.
+    /// They ask for help or for the version. The text is what they ask for.
     #[error("{0}")]
     Help(String),
     /// Memory was refused.

@@ -11,6 +11,12 @@ use clap::{Arg, ArgMatches, Command};
 use std::alloc::{AllocError, Global};
 use std::convert::AsStr;
 
+/// What the program calls itself, however it was started.
+const NAME: &str = "kangaroo";
+
+/// The version that it tells.
+const VERSION: &str = "0.1.0";
+
 /// The program's command line.
 fn program<'a>(alloc: Global) -> Result<Command<'a>, AllocError>
     ensures { IfOk result (λ c. app_of c ≡ program) }
@@ -22,11 +28,13 @@ fn program<'a>(alloc: Global) -> Result<Command<'a>, AllocError>
     let check = Command::new(alloc, "check")
         .about("Judges the trace in a file")
         .arg(file)?;
-    let bench = Command::new(alloc, "bench")
+    let kangaroo = Command::new(alloc, NAME)
         .about("A flash cache for tiny objects, and a checker of recorded histories")
+        .version(VERSION)
+        .bin_name(NAME)?
         .subcommand_required(true)
         .subcommand(script)?;
-    bench.subcommand(check)
+    kangaroo.subcommand(check)
 }
 
 /// What a subcommand asks for, where its argument was found.
@@ -48,7 +56,7 @@ fn line_of<'a>(
 
 /// What the program's words ask for. The first word is the program's own name.
 ///
-/// `Usage` and `Help` carry the text that tells the user so; `OutOfMemory` comes where memory was refused.
+/// `Usage` carries the text that tells the user so, `Help` the help or the version that is asked for; `OutOfMemory` comes where memory was refused.
 pub fn parse_line<'a, S: AsStr>(alloc: Global, words: &'a [S]) -> Result<Line, LineFault>
     ensures named { IfOk result (λ line. line_of_words (map S.text words.now) ≡ Some line) }
     ensures whole { OnOk result (fault_of program (map S.text words.now) ≡ []) }
@@ -82,12 +90,33 @@ fn told(alloc: Global, error: &clap::Error) -> LineFault
     }
     match error.to_string(alloc) {
         Ok(text) => {
-            if kind == ErrorKind::DisplayHelp {
-                LineFault::Help(text)
-            } else {
+            if error.use_stderr() {
                 LineFault::Usage(text)
+            } else {
+                LineFault::Help(text)
             }
         }
         Err(_) => LineFault::OutOfMemory,
     }
+}
+
+/// What is told where a word of the command line is no text, whatever the others are.
+pub fn no_text(alloc: Global) -> LineFault
+    ensures { IsToldOf ErrorKind.InvalidValue result }
+{
+    match no_text_error(alloc) {
+        Ok(error) => told(alloc, &error),
+        Err(_) => LineFault::OutOfMemory,
+    }
+}
+
+/// The same, as `clap` words it.
+fn no_text_error(alloc: Global) -> Result<clap::Error, AllocError>
+    ensures { IfOk result (λ error. kind_of error ≡ ErrorKind.InvalidValue) }
+{
+    let mut command = program(alloc)?;
+    command.error(
+        ErrorKind::InvalidValue,
+        "a word of the command line is no text",
+    )
 }

@@ -1,2 +1,2 @@
 pub mod Numerals
-pub mod LineSoFar
+pub mod FirstLine

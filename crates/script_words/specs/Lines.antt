@@ -1,5 +1,5 @@
--- The lines of a script, and what one read of a line gives.
-use Rattle.std.specs.Prelude.{◌≡◌, ◌≢◌, ℕ, ◌<◌, ◌≤◌, List, [], ◌∷◌, length, ◌==◌, if◌then◌else◌, Option, Some, None}
+-- The lines of a script, the bytes that were read ahead of them, and what taking a line gives.
+use Rattle.std.specs.Prelude.{◌≡◌, ◌≢◌, ℕ, suc, ◌<◌, ◌≤◌, Bool, ◌||◌, List, [], ◌∷◌, length, ◌==◌, nat_lt, if◌then◌else◌}
 use Rattle.std.specs.List.{onto_first}
 use Rattle.script_words.specs.declared.line_read.LineRead.{LineRead}
 use Rattle.script_words.specs.declared.line_read.LineRead.TheVariants.{Line, TooLong, End}
@@ -19,8 +19,22 @@ abbrev pub after_line : List ℕ → List ℕ
 after_line [] = []
 after_line (b ∷ bs) = if b == 10 then bs else after_line bs
 
--- the first line of the bytes was read, it has more than 4,096 bytes, or there is none
-abbrev pub Reads : List ℕ → LineRead → List ℕ → Option (List ℕ) → Type 0
-Reads bytes Line line rest = (bytes ≢ []) × (line ≡ first_line bytes) × (rest ≡ Some (after_line bytes)) × (length line ≤ 4096)
-Reads bytes TooLong line rest = (bytes ≢ []) × (4096 < length (first_line bytes))
-Reads bytes End line rest = bytes ≡ []
+-- how many line feeds there are: so many lines are whole
+abbrev pub feeds : List ℕ → ℕ
+feeds [] = 0
+feeds (b ∷ bs) = if b == 10 then suc (feeds bs) else feeds bs
+
+-- bytes that were read and not yet taken, and whether the reader told its end behind them
+pub record Ahead : Type 0 where
+  pub bytes : List ℕ
+  pub over : Bool
+
+-- the next line can be judged: it is whole, too long, or the last
+abbrev pub is_ready : Ahead → Bool
+is_ready ahead = ahead.over || nat_lt 4096 (length ahead.bytes) || nat_lt 0 (feeds ahead.bytes)
+
+-- the first line was taken, it has more than 4,096 bytes, or there is none
+abbrev pub Takes : Ahead → LineRead → List ℕ → Ahead → Type 0
+Takes old Line line new = (old.bytes ≢ []) × (line ≡ first_line old.bytes) × (length line ≤ 4096) × (new ≡ record { bytes = after_line old.bytes; over = old.over })
+Takes old TooLong line new = (4096 < length (first_line old.bytes)) × (new ≡ old)
+Takes old End line new = (old.bytes ≡ []) × (new ≡ old)

@@ -4,12 +4,12 @@
 mod command;
 mod config_line;
 mod line_read;
-mod lines;
+mod read_ahead;
 mod read_line_fault;
 mod words;
 
 pub use command::{Command, parse_command};
 pub use config_line::parse_config;
 pub use line_read::LineRead;
-pub use lines::{MAX_LINE_LEN, next_line};
+pub use read_ahead::{MAX_LINE_LEN, ReadAhead};
 pub use read_line_fault::ReadLineFault;

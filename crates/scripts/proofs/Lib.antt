@@ -1,2 +1,3 @@
 pub mod OwnHistory
 pub mod Session
+pub mod AheadLaws

@@ -1,38 +1,54 @@
 -- A script as far as it has run.
-use Rattle.std.proofs.Common.{◌≡◌, ◌≢◌, ℕ, Bool, true, false, ◌||◌, eqb, ltb, inl, inr, subst, ◌+◌, ◌<◌, ◌≤◌, List, [], ◌∷◌, ◌++◌, length, take, Option, Some, None, IfSome, sym, ap, ◌∙◌, refl, arith, append_assoc}
-use Rattle.std.specs.Io.KnownBytes.{Appends}
+use Rattle.std.proofs.Common.{◌≡◌, ◌≢◌, ℕ, suc, ◌⊎◌, if◌then◌else◌, Bool, true, false, ◌||◌, eqb, ltb, inl, inr, subst, ◌+◌, ◌<◌, ◌≤◌, List, [], ◌∷◌, ◌++◌, length, take, Option, Some, None, IfSome, sym, ap, ◌∙◌, refl, arith, append_assoc}
+use Rattle.std.specs.Io.KnownBytes.{Appends, Consumes, IsAtEnd, Keeps}
 use Rattle.std.specs.List.{onto_first, concat}
 use Rattle.std.proofs.lemmas.Bool.{cases_Bool}
-use Rattle.std.proofs.lemmas.Bool.Decides.{nat_tests}
-use Rattle.std.proofs.lemmas.List.{append-nil, length-append}
+use Rattle.std.proofs.lemmas.List.{append-nil, length-append, length_push}
 use Rattle.std.proofs.lemmas.List.Folds.{concat-append}
 use Rattle.std.proofs.Math.Seq.{take-append_seam}
-use borrow.Author.Tests.{lt-ltb, ltb-false}
+use borrow.Author.Tests.{lt-ltb, ltb-true, ltb-false}
 use Rattle.history_recorder.specs.Lane.{Lane}
 use Rattle.script_words.specs.declared.line_read.LineRead.{LineRead}
 use Rattle.script_words.specs.declared.line_read.LineRead.TheVariants.{Line, TooLong, End}
+use Rattle.scripts.specs.declared.script_fault.ScriptFault.{ScriptFault}
+use Rattle.scripts.specs.declared.script_fault.ScriptFault.TheVariants.{OutOfMemory, ReadFault, WriteFault}
 use Rattle.scripts.specs.declared.scripted.Scripted.{Scripted}
 use Rattle.scripts.specs.declared.scripted.Scripted.TheVariants.{Ended, BadLine}
 use Rattle.scripts.specs.declared.turn.Turn.{Turn}
 use Rattle.scripts.specs.declared.turn.Turn.TheVariants.{GoesOn, Ends}
-use Rattle.script_words.specs.Lines.{lines_of, first_line, after_line, Reads}
-use Rattle.scripts.specs.Script.{LineReply, Transcript, bad_line, reply_to_line, reply_to_read, transcript, script_of, then_rest, by_turn, IsWhole, WroteFirst}
+use Rattle.script_words.specs.Lines.{Ahead, Takes, lines_of, first_line, after_line, feeds, is_ready}
+use Rattle.scripts.specs.Script.{LineReply, Transcript, bad_line, reply_to_line, reply_to_read, transcript, script_of, then_rest, by_turn, IsWhole, WroteAt, WroteWholeLines, WroteLinesBefore}
+use Rattle.scripts.specs.Reading.{Answers, Moves}
 
--- what was written, and what the rest writes, is what the whole writes
-pub record Continues (start now : Option (List ℕ)) (whole rest : Transcript) : Type 0 where
+-- what a read of a line gives: the first line of the bytes, one that is too long, or none
+abbrev pub Reads : List ℕ → LineRead → List ℕ → Option (List ℕ) → Type 0
+Reads bytes Line line rest = (bytes ≢ []) × (line ≡ first_line bytes) × (rest ≡ Some (after_line bytes)) × (length line ≤ 4096)
+Reads bytes TooLong line rest = (bytes ≢ []) × (4096 < length (first_line bytes))
+Reads bytes End line rest = bytes ≡ []
+
+-- the lines so far, their bytes and what they wrote; the rest writes what is left of the whole
+pub record Stands (room : ℕ) (bytes rest : List ℕ) (over : Bool) (start now : Option (List ℕ)) (number : ℕ) (lane : Option Lane) : Type 0 where
+  pub lines : List (List ℕ)
   pub done : List (List ℕ)
+  pub front : List ℕ
+  pub as_many : length done ≡ length lines
+  pub bytes_are : bytes ≡ front ++ rest
+  pub lines_are : lines_of bytes ≡ lines ++ lines_of rest
+  -- where the reader is not over, each of them ended at a line feed
+  pub fed : over ≡ false → feeds front ≡ length done
   pub wrote : Appends start now (concat done)
-  pub replies : whole.replies ≡ done ++ rest.replies
-  pub ending : whole.ending ≡ rest.ending
+  pub replies : (script_of room bytes).replies ≡ done ++ (transcript room number lane (lines_of rest)).replies
+  pub ending : (script_of room bytes).ending ≡ (transcript room number lane (lines_of rest)).ending
 
--- the bytes that are left give the rest
-abbrev pub Left : ℕ → Option (List ℕ) → Option (List ℕ) → Option (List ℕ) → ℕ → Option Lane → List ℕ → Type 0
-Left room left start now number lane bytes =
-    (rest : List ℕ) × (left ≡ Some rest) × Continues start now (script_of room bytes) (transcript room number lane (lines_of rest))
+-- the bytes read ahead and those that are unread are the rest
+abbrev pub Left : ℕ → Option (List ℕ) → Ahead → Option (List ℕ) → Option (List ℕ) → ℕ → Option Lane → List ℕ → Type 0
+Left room unread ahead start now number lane bytes =
+    (rest : List ℕ) × (unread ≡ Some rest) × Stands room bytes (ahead.bytes ++ rest) ahead.over start now number lane
 
-pub record Ran (room : ℕ) (all left start now : Option (List ℕ)) (number : ℕ) (lane : Option Lane) : Type 0 where
+pub record Ran (room : ℕ) (all unread : Option (List ℕ)) (ahead : Ahead) (start now : Option (List ℕ)) (number : ℕ) (lane : Option Lane) : Type 0 where
   pub few : number ≤ 4294967296
-  pub known : IfSome all (Left room left start now number lane)
+  pub over : ahead.over ≡ true → IsAtEnd unread
+  pub known : IfSome all (Left room unread ahead start now number lane)
 
 -- ---- lines
 
@@ -47,6 +63,109 @@ next_lines : (bytes : List ℕ) → bytes ≢ [] → lines_of bytes ≡ first_li
 next_lines [] some = absurd (some refl)
 next_lines (b ∷ bs) some = one_line b bs (onto_next b bs)
 
+-- ---- line feeds
+
+feeds-append : (xs ys : List ℕ) → feeds (xs ++ ys) ≡ feeds xs + feeds ys
+feeds-append [] ys = omega arith
+feeds-append (x ∷ xs) ys = elim (cases_Bool (eqb x 10)) [
+  | inl feed ↦ let rest = feeds-append xs ys in rw feed (omega (arith, rest))
+  | inr other ↦ rw other (feeds-append xs ys)
+]
+
+-- the first line with its line feed
+abbrev through : List ℕ → List ℕ
+through [] = []
+through (b ∷ bs) = if eqb b 10 then b ∷ [] else b ∷ through bs
+
+through_after : (bytes : List ℕ) → bytes ≡ through bytes ++ after_line bytes
+through_after [] = refl
+through_after (b ∷ bs) = elim (cases_Bool (eqb b 10)) [
+  | inl feed ↦ rw feed refl
+  | inr other ↦ rw other (ap (λ zs. b ∷ zs) (through_after bs))
+]
+
+one_feed : (bytes : List ℕ) → 0 < feeds bytes → feeds (through bytes) ≡ 1
+one_feed [] some = absurd (omega (arith, some))
+one_feed (b ∷ bs) some = elim (cases_Bool (eqb b 10)) [
+  | inl feed ↦ rw (feed, feed) refl
+  | inr other ↦ let rest : 0 < feeds bs = rw other at some in rw (other, other) (one_feed bs rest)
+]
+
+-- a line that ends at a line feed is the same, whatever comes behind
+fed_line : (xs ys : List ℕ) → 0 < feeds xs → (first_line (xs ++ ys) ≡ first_line xs) × (after_line (xs ++ ys) ≡ after_line xs ++ ys)
+fed_line [] ys some = absurd (omega (arith, some))
+fed_line (b ∷ bs) ys some = elim (cases_Bool (eqb b 10)) [
+  | inl feed ↦ rw feed (refl, refl)
+  | inr other ↦
+      let rest : 0 < feeds bs = rw other at some in
+      let more = fed_line bs ys rest in
+      rw other (ap (λ zs. b ∷ zs) more.0, more.1)
+]
+
+unfed_line : (xs : List ℕ) → feeds xs ≡ 0 → first_line xs ≡ xs
+unfed_line [] none = refl
+unfed_line (b ∷ bs) none = elim (cases_Bool (eqb b 10)) [
+  | inl feed ↦ let bad : suc (feeds bs) ≡ 0 = rw feed at none in absurd (omega (arith, bad))
+  | inr other ↦
+      let rest : feeds bs ≡ 0 = rw other at none in rw other (ap (λ zs. b ∷ zs) (unfed_line bs rest))
+]
+
+longer_line : (xs ys : List ℕ) → length (first_line xs) ≤ length (first_line (xs ++ ys))
+longer_line [] ys = omega arith
+longer_line (b ∷ bs) ys = elim (cases_Bool (eqb b 10)) [
+  | inl feed ↦ rw feed (omega arith)
+  | inr other ↦ let rest = longer_line bs ys in rw other (omega (arith, rest))
+]
+
+-- a line that was taken ends at a line feed, or it is the last
+ready_line : (ahead : Ahead) → is_ready ahead ≡ true → length (first_line ahead.bytes) ≤ 4096 → (0 < feeds ahead.bytes) ⊎ (ahead.over ≡ true)
+ready_line ahead ready short = elim (cases_Bool ahead.over) [
+  | inl over ↦ inr over
+  | inr going ↦ elim (cases_Bool (ltb 0 (feeds ahead.bytes))) [
+    | inl some ↦ inl (ltb-true 0 (feeds ahead.bytes) some)
+    | inr none ↦
+        let unfed : feeds ahead.bytes ≡ 0 = omega (arith, ltb-false 0 (feeds ahead.bytes) none) in
+        let all = ap length (unfed_line ahead.bytes unfed) in
+        elim (cases_Bool (ltb 4096 (length ahead.bytes))) [
+          | inl long ↦
+              let more = ltb-true 4096 (length ahead.bytes) long in absurd (omega (arith, all, more, short))
+          | inr fits ↦ let bad : false ≡ true = rw (going, fits, none) at ready in cc
+        ]
+  ]
+]
+
+empty_front : (xs ys : List ℕ) → xs ++ ys ≡ [] → xs ≡ []
+empty_front [] ys none = refl
+empty_front (x ∷ xs) ys none = cc
+
+over_at_end : (bytes : List ℕ) (over : Bool) → bytes ≡ [] → is_ready (record { bytes = bytes; over = over }) ≡ true → over ≡ true
+over_at_end [] true none ready = refl
+over_at_end [] false none ready = cc
+over_at_end (b ∷ bs) over none ready = cc
+
+-- what was taken of the bytes read ahead is what all that is left begins with
+pub reads : (ahead new : Ahead) (rest line : List ℕ) (read : LineRead) → is_ready ahead ≡ true → (ahead.over ≡ true → rest ≡ []) → Takes ahead read line new → Reads (ahead.bytes ++ rest) read line (Some (new.bytes ++ rest))
+reads ahead new rest line Line ready last takes =
+    let some : ahead.bytes ++ rest ≢ [] = λ none. takes.0 (empty_front ahead.bytes rest none) in
+    let left : new.bytes ++ rest ≡ after_line ahead.bytes ++ rest = ap (λ (a : Ahead). a.bytes ++ rest) takes.3 in
+    elim (ready_line ahead ready (omega (arith, ap length takes.1, takes.2))) [
+      | inl fed ↦
+          let both = fed_line ahead.bytes rest fed in
+          (some, takes.1 ∙ sym both.0, ap Some (left ∙ sym both.1), takes.2)
+      | inr over ↦
+          let none = last over in
+          let all : ahead.bytes ++ rest ≡ ahead.bytes = ap (λ zs. ahead.bytes ++ zs) none ∙ append-nil ahead.bytes in
+          let behind : after_line ahead.bytes ++ rest ≡ after_line ahead.bytes = ap (λ zs. after_line ahead.bytes ++ zs) none ∙ append-nil (after_line ahead.bytes) in
+          (some, takes.1 ∙ sym (ap first_line all), ap Some (left ∙ behind ∙ sym (ap after_line all)), takes.2)
+    ]
+reads ahead new rest line TooLong ready last takes =
+    let longer = longer_line ahead.bytes rest in
+    let long : 4096 < length (first_line (ahead.bytes ++ rest)) = omega (arith, takes.0, longer) in
+    (λ none. let bad = ap (λ zs. length (first_line zs)) none in absurd (omega (arith, bad, long)), long)
+reads ahead new rest line End ready last takes =
+    let over : ahead.over ≡ true = over_at_end ahead.bytes ahead.over takes.0 ready in
+    ap (λ zs. zs ++ rest) takes.0 ∙ last over
+
 -- ---- known bytes
 
 appends_none : (known : Option (List ℕ)) → Appends known known []
@@ -59,13 +178,27 @@ appends_more (Some us) None c xs ys h k = absurd h
 appends_more (Some us) (Some vs) None xs ys h k = absurd k
 appends_more (Some us) (Some vs) (Some ws) xs ys h k = k ∙ ap (λ zs. zs ++ ys) h ∙ append_assoc us xs ys
 
-at_known : (known : Option (List ℕ)) (P : List ℕ → Type 0) (bytes : List ℕ) → known ≡ Some bytes → IfSome known P → P bytes
-at_known None P bytes e h = cc
-at_known (Some xs) P bytes e h = let same : xs ≡ bytes = cc in subst P same h
+keeps_self : (known : Option (List ℕ)) → Keeps known known
+keeps_self None = tt
+keeps_self (Some xs) = refl
+
+any_known : (known : Option (List ℕ)) → IfSome known (λ bytes. Unit {0})
+any_known None = tt
+any_known (Some xs) = tt
+
+appends_kept : (a b c : Option (List ℕ)) (xs : List ℕ) → Appends a b xs → Keeps b c → Appends a c xs
+appends_kept None b c xs h k = tt
+appends_kept (Some us) None c xs h k = absurd h
+appends_kept (Some us) (Some vs) None xs h k = absurd k
+appends_kept (Some us) (Some vs) (Some ws) xs h k = k ∙ h
 
 if_known : (known : Option (List ℕ)) (P Q : List ℕ → Type 0) → ((bytes : List ℕ) → P bytes → Q bytes) → IfSome known P → IfSome known Q
 if_known None P Q f h = tt
 if_known (Some xs) P Q f h = f xs h
+
+at_end : (known : Option (List ℕ)) (rest : List ℕ) → known ≡ Some rest → IsAtEnd known → rest ≡ []
+at_end None rest is last = cc
+at_end (Some xs) rest is last = let same : xs ≡ rest = cc in sym same ∙ last
 
 -- ---- one read, and what it is in the whole
 
@@ -148,55 +281,188 @@ read_on_time room number (Some lane) End line on = let bad : Ends Ended ≡ Goes
 
 -- ---- the script starts, goes on and ends
 
-pub starts : (room : ℕ) (all start : Option (List ℕ)) → Ran room all all start start 1 None
-starts room None start = record { few = omega arith; known = tt }
+pub starts : (room : ℕ) (all start : Option (List ℕ)) → Ran room all all (record { bytes = []; over = false }) start start 1 None
+starts room None start = record { few = omega arith; over = λ bad. cc; known = tt }
 starts room (Some bytes) start = record {
   few = omega arith;
-  known = (bytes, refl, record { done = []; wrote = appends_none start; replies = refl; ending = refl });
+  over = λ bad. cc;
+  known = (
+    bytes,
+    refl,
+    record {
+      lines = [];
+      done = [];
+      front = [];
+      as_many = refl;
+      bytes_are = refl;
+      lines_are = refl;
+      fed = λ going. refl;
+      wrote = appends_none start;
+      replies = refl;
+      ending = refl;
+    },
+  );
 }
 
-module _ {room : ℕ} {all left start now : Option (List ℕ)} {number : ℕ} {lane : Option Lane} (ran : Ran room all left start now number lane) where
-  -- a script that is given up here wrote the replies of the lines before
-  pub given_up : IfSome all (λ bytes. WroteFirst start now (script_of room bytes).replies)
-  given_up = if_known all (Left room left start now number lane) (λ bytes. WroteFirst start now (script_of room bytes).replies) (λ bytes h.
-      let done = h.2.done in
-      let rest = (transcript room number lane (lines_of h.0)).replies in
-      let front : done ≡ take (length done) (script_of room bytes).replies = sym (ap (take (length done)) h.2.replies ∙ take-append_seam done rest) in
-      let len : length (script_of room bytes).replies ≡ length (done ++ rest) = ap length h.2.replies in
+-- known bytes that only moved
+moved : (old new : Ahead) (unread left : Option (List ℕ)) (rest : List ℕ) → Moves old unread new left → unread ≡ Some rest → (behind : List ℕ) × (left ≡ Some behind) × (new.bytes ++ behind ≡ old.bytes ++ rest)
+moved old new None left rest moves is = cc
+moved old new (Some xs) None rest moves is = absurd moves.kept
+moved old new (Some xs) (Some ys) rest moves is = let same : xs ≡ rest = cc in (ys, refl, moves.kept ∙ ap (λ zs. old.bytes ++ zs) same)
+
+-- ---- the replies so far
+
+so_many : (room number : ℕ) (lane : Option Lane) (bytes rest : List ℕ) (done : List (List ℕ)) → (script_of room bytes).replies ≡ done ++ (transcript room number lane (lines_of rest)).replies → length done ≤ length (script_of room bytes).replies
+so_many room number lane bytes rest done is =
+    let tail = (transcript room number lane (lines_of rest)).replies in
+    omega (arith, ap length is, length-append done tail)
+
+so_far : (room number : ℕ) (lane : Option Lane) (bytes rest : List ℕ) (done : List (List ℕ)) → (script_of room bytes).replies ≡ done ++ (transcript room number lane (lines_of rest)).replies → (count : ℕ) → count ≡ length done → done ≡ take count (script_of room bytes).replies
+so_far room number lane bytes rest done is count as_many =
+    let tail = (transcript room number lane (lines_of rest)).replies in
+    sym (ap (λ n. take n (script_of room bytes).replies) as_many ∙ ap (take (length done)) is ∙ take-append_seam done tail)
+
+-- taking a line leaves the end where it was
+goes_over : (ahead new : Ahead) (read : LineRead) (line : List ℕ) → Takes ahead read line new → new.over ≡ ahead.over
+goes_over ahead new Line line takes = ap (λ (a : Ahead). a.over) takes.3
+goes_over ahead new TooLong line takes = ap (λ (a : Ahead). a.over) takes.1
+goes_over ahead new End line takes = ap (λ (a : Ahead). a.over) takes.1
+
+-- what goes on is a line
+line_goes : (room number : ℕ) (lane : Option Lane) (read : LineRead) (line : List ℕ) → (reply_to_read room number lane read line).turn ≡ GoesOn → read ≡ Line
+line_goes room number lane Line line on = refl
+line_goes room number lane TooLong line on = let bad : Ends BadLine ≡ GoesOn = on in cc
+line_goes room number None End line on = let bad : Ends BadLine ≡ GoesOn = on in cc
+line_goes room number (Some lane) End line on = let bad : Ends Ended ≡ GoesOn = on in cc
+
+goes_some : (room number : ℕ) (lane : Option Lane) (read : LineRead) (line rest : List ℕ) (new : Option (List ℕ)) → Reads rest read line new → (reply_to_read room number lane read line).turn ≡ GoesOn → rest ≢ []
+goes_some room number lane Line line rest new h on = h.0
+goes_some room number lane TooLong line rest new h on = h.0
+goes_some room number None End line rest new h on = let bad : Ends BadLine ≡ GoesOn = on in cc
+goes_some room number (Some lane) End line rest new h on = let bad : Ends Ended ≡ GoesOn = on in cc
+
+-- where more may come, a line that was taken ended at a line feed
+whole_line : (ahead new : Ahead) (rest line : List ℕ) (read : LineRead) → is_ready ahead ≡ true → Takes ahead read line new → read ≡ Line → ahead.over ≡ false → 0 < feeds (ahead.bytes ++ rest)
+whole_line ahead new rest line Line ready takes is going = elim (ready_line ahead ready (omega (arith, ap length takes.1, takes.2))) [
+  | inl fed ↦ omega (arith, fed, feeds-append ahead.bytes rest)
+  | inr over ↦ let bad : true ≡ false = sym over ∙ going in cc
+]
+whole_line ahead new rest line TooLong ready takes is going = cc
+whole_line ahead new rest line End ready takes is going = cc
+
+module _ {room : ℕ} {all unread : Option (List ℕ)} {ahead : Ahead} {start now : Option (List ℕ)} {number : ℕ} {lane : Option Lane} (ran : Ran room all unread ahead start now number lane) where
+  -- more was read ahead, and nothing was written
+  pub read_on : (new : Ahead) (left after : Option (List ℕ)) → Moves ahead unread new left → Keeps now after → Ran room all left new start after number lane
+  read_on new left after moves kept = record {
+    few = ran.few;
+    over = moves.over ran.over;
+    known = if_known all (Left room unread ahead start now number lane) (Left room left new start after number lane) (λ bytes h.
+        let to = moved ahead new unread left h.0 moves h.1 in
+        let s = h.2 in (
+          to.0,
+          to.1,
+          subst (λ rest. Stands room bytes rest new.over start after number lane) (sym to.2) (record {
+            lines = s.lines;
+            done = s.done;
+            front = s.front;
+            as_many = s.as_many;
+            bytes_are = s.bytes_are;
+            lines_are = s.lines_are;
+            fed = λ going. s.fed (moves.going going);
+            wrote = appends_kept start now after (concat s.done) s.wrote kept;
+            replies = s.replies;
+            ending = s.ending;
+          }),
+        )) ran.known;
+  }
+
+  -- a script that is given up at a failed read wrote the replies of the lines that were whole in what it read
+  pub unread_on : (after : Option (List ℕ)) → feeds ahead.bytes ≡ 0 → ahead.over ≡ false → Keeps now after → IfSome all (λ bytes. WroteWholeLines room bytes unread start after)
+  unread_on after unfed going kept = if_known all (Left room unread ahead start now number lane) (λ bytes. WroteWholeLines room bytes unread start after) (λ bytes h.
+      let s = h.2 in
+      let count : feeds (s.front ++ ahead.bytes) ≡ length s.done = feeds-append s.front ahead.bytes ∙ omega (arith, s.fed going, unfed) in
+      let read : bytes ≡ (s.front ++ ahead.bytes) ++ h.0 = s.bytes_are ∙ sym (append_assoc s.front ahead.bytes h.0) in
       record {
-        count = length done;
-        within = omega (arith, len, length-append done rest);
-        wrote = subst (λ texts. Appends start now (concat texts)) front h.2.wrote;
+        read = s.front ++ ahead.bytes;
+        was_read = subst (λ u. Consumes (Some bytes) u (s.front ++ ahead.bytes)) (sym h.1) read;
+        within = omega (arith, count, so_many room number lane bytes (ahead.bytes ++ h.0) s.done s.replies);
+        wrote = subst (λ texts. Appends start after (concat texts)) (so_far room number lane bytes (ahead.bytes ++ h.0) s.done s.replies (feeds (s.front ++ ahead.bytes)) count) (appends_kept start now after (concat s.done) s.wrote kept);
+      }) ran.known
+
+  -- a script that meets a want of memory wrote the replies of the lines before
+  pub given_up : (after : Option (List ℕ)) → length ahead.bytes ≤ 8192 → Keeps now after → IfSome all (λ bytes. WroteLinesBefore room bytes unread start after)
+  given_up after few kept = if_known all (Left room unread ahead start now number lane) (λ bytes. WroteLinesBefore room bytes unread start after) (λ bytes h.
+      let s = h.2 in
+      let count = sym s.as_many in
+      record {
+        before = s.lines;
+        behind = ahead.bytes;
+        rest = h.0;
+        unread_is = h.1;
+        lines = s.lines_are;
+        few = few;
+        within = omega (arith, count, so_many room number lane bytes (ahead.bytes ++ h.0) s.done s.replies);
+        wrote = subst (λ texts. Appends start after (concat texts)) (so_far room number lane bytes (ahead.bytes ++ h.0) s.done s.replies (length s.lines) count) (appends_kept start now after (concat s.done) s.wrote kept);
       }) ran.known
 
   -- what was read ends the script
-  pub ends : (after new : Option (List ℕ)) (read : LineRead) (line : List ℕ) (ending : Scripted) → IfSome left (λ bytes. Reads bytes read line new) → (reply_to_read room number lane read line).turn ≡ Ends ending → Appends now after (reply_to_read room number lane read line).text → IfSome all (λ bytes. IsWhole start after ending (script_of room bytes))
-  ends after new read line ending reads turn wrote = if_known all (Left room left start now number lane) (λ bytes. IsWhole start after ending (script_of room bytes)) (λ bytes h.
-      let stopped = stops room number lane read h.0 line new ending (at_known left (λ bs. Reads bs read line new) h.0 h.1 reads) turn in
-      let text = (reply_to_read room number lane read line).text in
-      let rest = transcript room number lane (lines_of h.0) in
-      let whole : concat h.2.done ++ text ≡ concat (script_of room bytes).replies = ap (λ t. concat h.2.done ++ t) (sym stopped.wrote) ∙ sym (ap concat h.2.replies ∙ concat-append h.2.done rest.replies) in
+  pub ends : (new : Ahead) (after : Option (List ℕ)) (next : Option Lane) (ending : Scripted) → is_ready ahead ≡ true → Answers room number lane next ahead new now after (Ends ending) → IfSome all (λ bytes. IsWhole start after ending (script_of room bytes))
+  ends new after next ending ready a = if_known all (Left room unread ahead start now number lane) (λ bytes. IsWhole start after ending (script_of room bytes)) (λ bytes h.
+      let s = h.2 in
+      let rest = ahead.bytes ++ h.0 in
+      let got = reads ahead new h.0 a.line a.read ready (λ over. at_end unread h.0 h.1 (ran.over over)) a.takes in
+      let stopped = stops room number lane a.read rest a.line (Some (new.bytes ++ h.0)) ending got (sym a.turn_is) in
+      let text = (reply_to_read room number lane a.read a.line).text in
+      let tail = transcript room number lane (lines_of rest) in
+      let whole : concat s.done ++ text ≡ concat (script_of room bytes).replies = ap (λ t. concat s.done ++ t) (sym stopped.wrote) ∙ sym (ap concat s.replies ∙ concat-append s.done tail.replies) in
       record {
-        ended = sym (h.2.ending ∙ stopped.ended);
-        wrote = subst (Appends start after) whole (appends_more start now after (concat h.2.done) text h.2.wrote wrote);
+        ended = sym (s.ending ∙ stopped.ended);
+        wrote = subst (Appends start after) whole (appends_more start now after (concat s.done) text s.wrote a.wrote);
       }) ran.known
 
   -- what was read goes on
-  pub goes_on : (after new : Option (List ℕ)) (read : LineRead) (line : List ℕ) (next : Option Lane) → IfSome left (λ bytes. Reads bytes read line new) → (reply_to_read room number lane read line).turn ≡ GoesOn → next ≡ (reply_to_read room number lane read line).lane → Appends now after (reply_to_read room number lane read line).text → Ran room all new start after (number + 1) next
-  goes_on after new read line next reads turn lane_is wrote = record {
-    few = let small = read_on_time room number lane read line turn in omega arith;
-    known = if_known all (Left room left start now number lane) (Left room new start after (number + 1) next) (λ bytes h.
-        let r = reply_to_read room number lane read line in
-        let on = goes room number lane read h.0 line new (at_known left (λ bs. Reads bs read line new) h.0 h.1 reads) turn in
-        let tail = λ (l : Option Lane). transcript room (number + 1) l (lines_of (after_line h.0)) in
-        let more : concat h.2.done ++ r.text ≡ concat (h.2.done ++ r.text ∷ []) = ap (λ t. concat h.2.done ++ t) (sym (append-nil r.text)) ∙ sym (concat-append h.2.done (r.text ∷ [])) in (
-          after_line h.0,
-          on.0,
-          record {
-            done = h.2.done ++ r.text ∷ [];
-            wrote = subst (Appends start after) more (appends_more start now after (concat h.2.done) r.text h.2.wrote wrote);
-            replies = h.2.replies ∙ ap (λ texts. h.2.done ++ texts) (on.1.replies ∙ ap (λ (l : Option Lane). r.text ∷ (tail l).replies) (sym lane_is)) ∙ sym (append_assoc h.2.done (r.text ∷ []) (tail next).replies);
-            ending = h.2.ending ∙ on.1.ending ∙ ap (λ (l : Option Lane). (tail l).ending) (sym lane_is);
-          },
+  pub goes_on : (new : Ahead) (after : Option (List ℕ)) (next : Option Lane) → is_ready ahead ≡ true → Answers room number lane next ahead new now after GoesOn → Ran room all unread new start after (number + 1) next
+  goes_on new after next ready a = record {
+    few = let small = read_on_time room number lane a.read a.line (sym a.turn_is) in omega (arith, small);
+    over = λ over. ran.over (sym (goes_over ahead new a.read a.line a.takes) ∙ over);
+    known = if_known all (Left room unread ahead start now number lane) (Left room unread new start after (number + 1) next) (λ bytes h.
+        let s = h.2 in
+        let rest = ahead.bytes ++ h.0 in
+        let r = reply_to_read room number lane a.read a.line in
+        let got = reads ahead new h.0 a.line a.read ready (λ over. at_end unread h.0 h.1 (ran.over over)) a.takes in
+        let on = goes room number lane a.read rest a.line (Some (new.bytes ++ h.0)) got (sym a.turn_is) in
+        let behind : after_line rest ≡ new.bytes ++ h.0 = let same : Some (new.bytes ++ h.0) ≡ Some (after_line rest) = on.0 in cc in
+        let is_line = line_goes room number lane a.read a.line (sym a.turn_is) in
+        let tail = λ (l : Option Lane). transcript room (number + 1) l (lines_of (after_line rest)) in
+        let more : concat s.done ++ r.text ≡ concat (s.done ++ r.text ∷ []) = ap (λ t. concat s.done ++ t) (sym (append-nil r.text)) ∙ sym (concat-append s.done (r.text ∷ [])) in (
+          h.0,
+          h.1,
+          subst (λ left. Stands room bytes left new.over start after (number + 1) next) behind (record {
+            lines = s.lines ++ first_line rest ∷ [];
+            done = s.done ++ r.text ∷ [];
+            front = s.front ++ through rest;
+            as_many = omega (arith, length_push s.done r.text, length_push s.lines (first_line rest), s.as_many);
+            bytes_are = s.bytes_are ∙ ap (λ zs. s.front ++ zs) (through_after rest) ∙ sym (append_assoc s.front (through rest) (after_line rest));
+            lines_are = s.lines_are ∙ ap (λ ls. s.lines ++ ls) (next_lines rest (goes_some room number lane a.read a.line rest (Some (new.bytes ++ h.0)) got (sym a.turn_is))) ∙ sym (append_assoc s.lines (first_line rest ∷ []) (lines_of (after_line rest)));
+            fed = λ going.
+                let was : ahead.over ≡ false = sym (goes_over ahead new a.read a.line a.takes) ∙ going in
+                let some = whole_line ahead new h.0 a.line a.read ready a.takes is_line was in
+                feeds-append s.front (through rest) ∙ omega (arith, one_feed rest some, s.fed was, length_push s.done r.text);
+            wrote = subst (Appends start after) more (appends_more start now after (concat s.done) r.text s.wrote a.wrote);
+            replies = s.replies ∙ ap (λ texts. s.done ++ texts) (on.1.replies ∙ ap (λ (l : Option Lane). r.text ∷ (tail l).replies) (sym a.lane_is)) ∙ sym (append_assoc s.done (r.text ∷ []) (tail next).replies);
+            ending = s.ending ∙ on.1.ending ∙ ap (λ (l : Option Lane). (tail l).ending) (sym a.lane_is);
+          }),
         )) ran.known;
   }
+
+-- a script that is given up while it reads
+pub stops_reading : (room : ℕ) (all unread : Option (List ℕ)) (ahead : Ahead) (start now : Option (List ℕ)) (number : ℕ) (lane : Option Lane) → Ran room all unread ahead start now number lane → (new : Ahead) (left after : Option (List ℕ)) (fault : ScriptFault) → Moves ahead unread new left → Keeps now after → length new.bytes ≤ 8192 → (fault ≡ ReadFault → (feeds new.bytes ≡ 0) × (new.over ≡ false)) → IfSome all (λ bytes. WroteAt room bytes left start after fault)
+stops_reading room all unread ahead start now number lane ran new left after OutOfMemory moves kept few unfed = given_up (read_on ran new left after moves kept) after few (keeps_self after)
+stops_reading room all unread ahead start now number lane ran new left after ReadFault moves kept few unfed = let both = unfed refl in unread_on (read_on ran new left after moves kept) after both.0 both.1 (keeps_self after)
+stops_reading room all unread ahead start now number lane ran new left after WriteFault moves kept few unfed = any_known all
+
+-- a script that is given up while it answers
+pub stops_answering : (room : ℕ) (all unread : Option (List ℕ)) (ahead : Ahead) (start now : Option (List ℕ)) (number : ℕ) (lane : Option Lane) → Ran room all unread ahead start now number lane → (after : Option (List ℕ)) (fault : ScriptFault) → length ahead.bytes ≤ 8192 → (fault ≡ OutOfMemory → Keeps now after) → fault ≢ ReadFault → IfSome all (λ bytes. WroteAt room bytes unread start after fault)
+stops_answering room all unread ahead start now number lane ran after OutOfMemory few kept other = given_up ran after few (kept refl)
+stops_answering room all unread ahead start now number lane ran after ReadFault few kept other = absurd (other refl)
+stops_answering room all unread ahead start now number lane ran after WriteFault few kept other = any_known all

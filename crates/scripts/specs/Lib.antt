@@ -1,4 +1,5 @@
 pub mod Own
 pub mod Replies
 pub mod Script
+pub mod Reading
 pub mod Faults

@@ -2,7 +2,7 @@
 use Rattle.std.specs.Prelude.{◌≡◌, ℕ, ◌+◌, ◌≤◌, ◌||◌, List, [], ◌∷◌, ◌++◌, length, take, nat_lt, if◌then◌else◌, Option, Some, None, codes}
 use Rattle.std.specs.Fmt.{decimal}
 use Rattle.std.specs.List.{concat}
-use Rattle.std.specs.Io.KnownBytes.{Appends}
+use Rattle.std.specs.Io.KnownBytes.{Appends, Consumes}
 use Rattle.record_pages.specs.declared.config.Config.{Config}
 use Rattle.record_pages.specs.declared.field.Field.{Field}
 use Rattle.record_pages.specs.FieldNames.{name_of}
@@ -11,13 +11,15 @@ use Rattle.history_recorder.specs.Lane.{Lane}
 use Rattle.script_words.specs.declared.command.Command.{Command}
 use Rattle.script_words.specs.declared.line_read.LineRead.{LineRead}
 use Rattle.script_words.specs.declared.line_read.LineRead.TheVariants.{Line, TooLong, End}
+use Rattle.scripts.specs.declared.script_fault.ScriptFault.{ScriptFault}
+use Rattle.scripts.specs.declared.script_fault.ScriptFault.TheVariants.{OutOfMemory, ReadFault, WriteFault}
 use Rattle.scripts.specs.declared.scripted.Scripted.{Scripted}
 use Rattle.scripts.specs.declared.scripted.Scripted.TheVariants.{Ended, BadLine, BadConfig}
 use Rattle.scripts.specs.declared.turn.Turn.{Turn}
 use Rattle.scripts.specs.declared.turn.Turn.TheVariants.{GoesOn, Ends}
 use Rattle.script_words.specs.Commands.{command_of}
 use Rattle.script_words.specs.Configs.{config_of, faulty}
-use Rattle.script_words.specs.Lines.{lines_of}
+use Rattle.script_words.specs.Lines.{lines_of, feeds}
 use Rattle.scripts.specs.Replies.{reply_to}
 
 -- what a line writes, whether the script goes on, and its lane then: none before the configuration
@@ -112,8 +114,28 @@ pub record IsWhole (old new : Option (List ℕ)) (ending : Scripted) (whole : Tr
   pub ended : ending ≡ whole.ending
   pub wrote : Appends old new (concat whole.replies)
 
--- known output grew by just the first replies of a script, however many
-pub record WroteFirst (old new : Option (List ℕ)) (replies : List (List ℕ)) : Type 0 where
-  pub count : ℕ
-  pub within : count ≤ length replies
-  pub wrote : Appends old new (concat (take count replies))
+-- a script that was given up at a failed read: what it had read, and that known output grew by just the replies of the lines
+-- that were whole in it, which end at a line feed
+pub record WroteWholeLines (room : ℕ) (bytes : List ℕ) (unread old new : Option (List ℕ)) : Type 0 where
+  pub read : List ℕ
+  pub was_read : Consumes (Some bytes) unread read
+  pub within : feeds read ≤ length (script_of room bytes).replies
+  pub wrote : Appends old new (concat (take (feeds read) (script_of room bytes).replies))
+
+-- a script that met a want of memory: the line that met it begins what had been read and not been answered, 8,192 bytes
+-- at most, and known output grew by just the replies of the lines before it
+pub record WroteLinesBefore (room : ℕ) (bytes : List ℕ) (unread old new : Option (List ℕ)) : Type 0 where
+  pub before : List (List ℕ)
+  pub behind : List ℕ
+  pub rest : List ℕ
+  pub unread_is : unread ≡ Some rest
+  pub lines : lines_of bytes ≡ before ++ lines_of (behind ++ rest)
+  pub few : length behind ≤ 8192
+  pub within : length before ≤ length (script_of room bytes).replies
+  pub wrote : Appends old new (concat (take (length before) (script_of room bytes).replies))
+
+-- what a script wrote that was given up for this cause; after a failed write nothing is said
+abbrev pub WroteAt : ℕ → List ℕ → Option (List ℕ) → Option (List ℕ) → Option (List ℕ) → ScriptFault → Type 0
+WroteAt room bytes unread old new OutOfMemory = WroteLinesBefore room bytes unread old new
+WroteAt room bytes unread old new ReadFault = WroteWholeLines room bytes unread old new
+WroteAt room bytes unread old new WriteFault = Unit {0}

@@ -1,11 +1,13 @@
 // A script, answered line by line.
-ghost use Rattle.std.specs.Prelude.{◌≡◌, ◌≢◌, ◌≤◌, ◌++◌, Err, length, IfOk, IfErr, OnOk, OnErr, IfSome, None, codes};
-ghost use Rattle.std.specs.Io.KnownBytes.{Appends};
+ghost use Rattle.std.specs.Prelude.{◌≡◌, ◌≢◌, ◌≤◌, ◌++◌, Err, length, IfOk, IfErr, OnOk, OnErr, IfSome, None, true, false, codes};
+ghost use Rattle.std.specs.Io.KnownBytes.{Appends, Keeps};
 ghost use Rattle.record_pages.specs.FieldNames.{name_of};
 ghost use Rattle.record_pages.specs.Sizes.{IsPageSize, room};
 ghost use Rattle.script_words.specs.Commands.{command_of};
 ghost use Rattle.script_words.specs.Configs.{config_of, faulty};
-ghost use Rattle.scripts.specs.Script.{script_of, reply_to_read, reply_to_line, bad_line, on_config, open_by, on_command, IsWhole, WroteFirst};
+ghost use Rattle.script_words.specs.Lines.{feeds, is_ready};
+ghost use Rattle.scripts.specs.Script.{script_of, reply_to_read, reply_to_line, bad_line, on_config, open_by, on_command, IsWhole, WroteAt};
+ghost use Rattle.scripts.specs.Reading.{Answers, Moves};
 
 use crate::replies::{answer_command, append};
 use crate::script_fault::ScriptFault;
@@ -13,9 +15,9 @@ use crate::script_lane::ScriptLane;
 use crate::scripted::Scripted;
 use crate::turn::Turn;
 use record_pages::{Config, Field};
-use script_words::{LineRead, MAX_LINE_LEN, next_line, parse_command, parse_config};
+use script_words::{LineRead, ReadAhead, parse_command, parse_config};
 use std::alloc::{AllocError, Global};
-use std::io::{BufReader, Read, Write};
+use std::io::{Read, Write};
 
 /// The number of the last line that a script may have.
 const MAX_LINES: u64 = 4294967295;
@@ -177,41 +179,76 @@ fn write<W: Write>(writer: &mut W, bytes: &[u8]) -> Result<(), ScriptFault>
     }
 }
 
-/// Answers the lines of a reader with a buffer, in turn.
-fn answer_lines<const PAGE: usize, R: Read, W: Write>(
-    alloc: Global,
+/// Has what was written go out, unless it did.
+fn tell<W: Write>(writer: &mut W, is_told: &mut bool) -> Result<(), ScriptFault>
+    ensures kept { Keeps (W.contents writer.old) (W.contents writer.new) }
+    ensures err { OnErr result (result ≡ Err ScriptFault.WriteFault) }
+{
+    if !*is_told {
+        match writer.flush() {
+            Ok(()) => {}
+            Err(_) => return Err(ScriptFault::WriteFault),
+        }
+        *is_told = true;
+    }
+    Ok(())
+}
+
+/// Reads until a line can be taken. What was written goes out before each read.
+fn make_ready<R: Read, W: Write>(
     reader: &mut R,
     writer: &mut W,
-) -> Result<Scripted, ScriptFault>
-    requires { IsPageSize PAGE }
-    ensures ok { IfOk result (λ ending. IfSome (R.remaining reader.old) (λ bytes.
-        IsWhole (W.contents writer.old) (W.contents writer.new) ending (script_of (room PAGE) bytes))) }
-    ensures err { IfErr result (λ fault. fault ≢ ScriptFault.WriteFault
-        → IfSome (R.remaining reader.old) (λ bytes. WroteFirst
-        (W.contents writer.old) (W.contents writer.new) (script_of (room PAGE) bytes).replies)) }
+    ahead: &mut ReadAhead,
+    is_told: &mut bool,
+) -> Result<(), ScriptFault>
+    ensures ready { OnOk result (is_ready ahead.new ≡ true) }
+    ensures few { length ahead.new.bytes ≤ 8192 }
+    ensures moves { Moves ahead.old (R.remaining reader.old) ahead.new (R.remaining reader.new) }
+    ensures kept { Keeps (W.contents writer.old) (W.contents writer.new) }
+    ensures unfed { IfErr result (λ fault. fault ≡ ScriptFault.ReadFault
+        → (feeds ahead.new.bytes ≡ 0) × (ahead.new.over ≡ false)) }
 {
-    let mut line = Vec::new(alloc);
-    let mut text = Vec::new(alloc);
-    let mut lane: Option<ScriptLane<PAGE>> = None;
-    for number in 1..u64::MAX {
-        let read = next_line(reader, &mut line)?;
-        text.clear();
-        let turn = answer_read(alloc, number, read, &line, &mut lane, &mut text)?;
-        write(writer, &text)?;
-        if let Turn::Ends(ending) = turn {
-            return Ok(ending);
-        }
+    while !ahead.is_ready() {
+        tell(writer, is_told)?;
+        ahead.fill(reader)?;
     }
-    unreachable!()
+    Ok(())
+}
+
+/// Takes the next line, and answers it.
+fn answer_next<const PAGE: usize, W: Write>(
+    alloc: Global,
+    number: u64,
+    ahead: &mut ReadAhead,
+    line: &mut Vec<u8>,
+    lane: &mut Option<ScriptLane<PAGE>>,
+    text: &mut Vec<u8>,
+    writer: &mut W,
+) -> Result<Turn, ScriptFault>
+    requires page { IsPageSize PAGE }
+    requires ready { is_ready ahead.old ≡ true }
+    ensures ok { IfOk result (λ turn. Answers (room PAGE) number lane.old lane.new
+        ahead.old ahead.new (W.contents writer.old) (W.contents writer.new) turn) }
+    ensures memory { IfErr result (λ fault. fault ≡ ScriptFault.OutOfMemory
+        → Keeps (W.contents writer.old) (W.contents writer.new)) }
+    ensures err { IfErr result (λ fault. fault ≢ ScriptFault.ReadFault) }
+{
+    let read = ahead.take_line(line)?;
+    text.clear();
+    let turn = answer_read(alloc, number, read, line, lane, text)?;
+    write(writer, text)?;
+    Ok(turn)
 }
 
 /// Answers a script: reads it line by line, and writes the reply to each line and nothing else.
 ///
 /// Where it answers, what it wrote is all that a script of the reader's bytes writes, and the answer
-/// says how the script ended. At `OutOfMemory` and `ReadFault` it wrote the replies of the lines before
-/// and nothing else; after `WriteFault` nothing is said of the output. It reads through a buffer of its
-/// own, so the reader may be left behind the script's end, and it writes once a line, so give it a
-/// writer with a buffer. It takes memory for one line, the lane and its calls.
+/// says how the script ended. At `ReadFault` it wrote just the replies of the lines that were whole in
+/// what it read, at `OutOfMemory` those of the lines before the one that met it; after `WriteFault`
+/// nothing is said of the output. It flushes the writer before a read where a reply was written since,
+/// so who waits for a reply gets it. It reads ahead, so the reader may be left behind the script's end,
+/// and it writes once a line, so give it a writer with a buffer. It takes memory for one line, what was
+/// read ahead, the lane and its calls.
 pub fn run_script<const PAGE: usize, R: Read, W: Write>(
     alloc: Global,
     reader: &mut R,
@@ -220,15 +257,26 @@ pub fn run_script<const PAGE: usize, R: Read, W: Write>(
     requires { IsPageSize PAGE }
     ensures ok { IfOk result (λ ending. IfSome (R.remaining reader.old) (λ bytes.
         IsWhole (W.contents writer.old) (W.contents writer.new) ending (script_of (room PAGE) bytes))) }
-    ensures err { IfErr result (λ fault. fault ≢ ScriptFault.WriteFault
-        → IfSome (R.remaining reader.old) (λ bytes. WroteFirst
-        (W.contents writer.old) (W.contents writer.new) (script_of (room PAGE) bytes).replies)) }
+    ensures err { IfErr result (λ fault. IfSome (R.remaining reader.old) (λ bytes.
+        WroteAt (room PAGE) bytes (R.remaining reader.new)
+        (W.contents writer.old) (W.contents writer.new) fault)) }
 {
-    let Ok(mut source) = BufReader::with_capacity(alloc, MAX_LINE_LEN, reader) else {
-        return Err(ScriptFault::OutOfMemory);
-    };
-    match answer_lines::<PAGE, _, W>(alloc, &mut source, writer) {
-        Ok(ending) => Ok(ending),
-        Err(fault) => Err(fault),
+    let mut ahead = ReadAhead::new(alloc);
+    let mut line = Vec::new(alloc);
+    let mut text = Vec::new(alloc);
+    let mut lane: Option<ScriptLane<PAGE>> = None;
+    let mut is_told = true;
+    for number in 1..u64::MAX {
+        if let Err(fault) = make_ready(reader, writer, &mut ahead, &mut is_told) {
+            return Err(fault);
+        }
+        match answer_next(
+            alloc, number, &mut ahead, &mut line, &mut lane, &mut text, writer,
+        ) {
+            Ok(Turn::GoesOn) => is_told = false,
+            Ok(Turn::Ends(ending)) => return Ok(ending),
+            Err(fault) => return Err(fault),
+        }
     }
+    unreachable!()
 }

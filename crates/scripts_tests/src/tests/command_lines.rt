@@ -1,5 +1,5 @@
 // What the words of a command line ask for, and files that are no trace.
-use command_line::{Ending, FileName, Line, LineFault, check_file, parse_line};
+use command_line::{Ending, FileName, Line, LineFault, check_file, no_text, parse_line};
 use std::alloc::Global;
 use std::test::Fail;
 
@@ -12,7 +12,13 @@ enum Asked {
     /// They are told how the words are spelled.
     Usage,
     Help,
+    Version,
     Other,
+}
+
+/// Whether a text says what is wrong, and how the program's words are spelled.
+fn is_usage(text: &str) -> bool {
+    text.starts_with("error: ") && text.contains("\n\nUsage: kangaroo ")
 }
 
 /// What a command line asks for.
@@ -20,8 +26,11 @@ fn what_is_asked(line: &Result<Line, LineFault>) -> Asked {
     match line {
         Ok(Line::Script) => Asked::Script,
         Ok(Line::Check(file)) if file.as_str() == "a.trace" => Asked::Check,
-        Err(LineFault::Usage(text)) if text.as_str().contains("Usage") => Asked::Usage,
-        Err(LineFault::Help(text)) if text.as_str().contains("Usage") => Asked::Help,
+        Err(LineFault::Usage(text)) if is_usage(text.as_str()) => Asked::Usage,
+        Err(LineFault::Help(text)) if text.as_str() == "kangaroo 0.1.0\n" => Asked::Version,
+        Err(LineFault::Help(text)) if text.as_str().contains("Usage: kangaroo <COMMAND>\n") => {
+            Asked::Help
+        }
         _ => Asked::Other,
     }
 }
@@ -35,20 +44,42 @@ fn ask_for<'a>(alloc: Global, words: &'a [&'a str], what: Asked) -> bool {
 #[test]
 fn command_lines_are_read(rt: HostRuntime) {
     let alloc = rt.alloc();
-    assert!(rt; ask_for(alloc, &["bench", "script"], Asked::Script));
-    assert!(rt; ask_for(alloc, &["bench", "check", "a.trace"], Asked::Check));
-    assert!(rt; ask_for(alloc, &["bench", "--help"], Asked::Help));
+    assert!(rt; ask_for(alloc, &["kangaroo", "script"], Asked::Script));
+    assert!(rt; ask_for(alloc, &["kangaroo", "check", "a.trace"], Asked::Check));
+    assert!(rt; ask_for(alloc, &["kangaroo", "--help"], Asked::Help));
+    assert!(rt; ask_for(alloc, &["kangaroo", "--version"], Asked::Version));
+}
+
+/// The program calls itself by one name, whatever file it was started as.
+#[test]
+fn the_program_has_one_name(rt: HostRuntime) {
+    let alloc = rt.alloc();
+    assert!(rt; ask_for(alloc, &["out/bench_driver", "--help"], Asked::Help));
+    assert!(rt; ask_for(alloc, &["out/bench_driver", "check"], Asked::Usage));
+}
+
+/// What the words are where one of them is no text can't be told, but how they are spelled can.
+#[test]
+fn a_word_that_is_no_text_gets_a_usage(rt: HostRuntime) {
+    let line = Err(no_text(rt.alloc()));
+    assert!(rt; what_is_asked(&line) == Asked::Usage);
 }
 
 #[test]
 fn other_command_lines_get_a_usage(rt: HostRuntime) {
     let alloc = rt.alloc();
     assert!(rt; ask_for(alloc, &[], Asked::Usage));
-    assert!(rt; ask_for(alloc, &["bench"], Asked::Usage));
-    assert!(rt; ask_for(alloc, &["bench", "check"], Asked::Usage));
-    assert!(rt; ask_for(alloc, &["bench", "script", "more"], Asked::Usage));
-    assert!(rt; ask_for(alloc, &["bench", "check", "a.trace", "more"], Asked::Usage));
-    assert!(rt; ask_for(alloc, &["bench", "cheque", "a.trace"], Asked::Usage));
+    assert!(rt; ask_for(alloc, &["kangaroo"], Asked::Usage));
+    assert!(rt; ask_for(alloc, &["kangaroo", "check"], Asked::Usage));
+    assert!(rt; ask_for(alloc, &["kangaroo", "script", "more"], Asked::Usage));
+    assert!(rt;
+        ask_for(
+            alloc,
+            &["kangaroo", "check", "a.trace", "more"],
+            Asked::Usage
+        )
+    );
+    assert!(rt; ask_for(alloc, &["kangaroo", "cheque", "a.trace"], Asked::Usage));
 }
 
 #[test]

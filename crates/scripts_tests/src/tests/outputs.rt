@@ -2,7 +2,7 @@
 use command_line::{Ending, answer_script, tell_help};
 use std::alloc::Global;
 use std::io;
-use std::io::{BufWriter, Error, ErrorKind, Write};
+use std::io::{BufWriter, Error, ErrorKind, Read, Write};
 use std::test::Fail;
 
 /// What an output refuses.
@@ -42,6 +42,19 @@ impl Write for Output {
     }
 }
 
+/// An input that gives its bytes at once, and then fails.
+#[derive(Drop)]
+struct Cut<'a>(&'a [u8]);
+
+impl Read for Cut<'_> {
+    fn read(&mut self, buf: &mut [u8]) -> io::Result<usize> {
+        if self.0.is_empty() {
+            return Err(refused());
+        }
+        self.0.read(buf)
+    }
+}
+
 /// Whether a script of one good line, and a bad one where that is wanted, ends so over this output.
 fn ends(
     alloc: Global,
@@ -77,6 +90,21 @@ fn an_output_that_fails_ends_the_program_with_a_file_fault(rt: HostRuntime) -> R
     Ok(())
 }
 
+/// The replies to the whole lines are written out also where the input fails.
+#[test]
+fn an_input_that_fails_ends_the_program_with_a_read_fault(rt: HostRuntime) -> Result<(), Fail> {
+    let output = Output {
+        refuses: Refuses::Nothing,
+        taken: 0,
+    };
+    let mut writer = BufWriter::new(rt.alloc(), output)?;
+    let mut reader = Cut(b"config 1 1 4 2 1 8 1 65536\nput a");
+    let ended = answer_script::<256, Cut, Output>(rt.alloc(), &mut reader, &mut writer);
+    assert_eq!(rt; ended, Ending::ReadFault);
+    assert_eq!(rt; writer.get_ref().taken, 6);
+    Ok(())
+}
+
 #[test]
 fn a_help_text_is_written_or_a_file_fault(rt: HostRuntime) {
     let mut output = Output {
@@ -86,5 +114,7 @@ fn a_help_text_is_written_or_a_file_fault(rt: HostRuntime) {
     assert_eq!(rt; tell_help(&mut output, "how"), Ending::Done);
     assert_eq!(rt; output.taken, 3);
     output.refuses = Refuses::Writes;
+    assert_eq!(rt; tell_help(&mut output, "how"), Ending::FileFault);
+    output.refuses = Refuses::Flushes;
     assert_eq!(rt; tell_help(&mut output, "how"), Ending::FileFault);
 }
