@@ -2,6 +2,7 @@
 use certificate_checker::{
     JudgeFault, Judged, Verdict, check_with_hasher, judge, judge_with_hasher,
 };
+use key_hash::RandomSeed;
 use record_pages::{Key, Value};
 use std::alloc::Global;
 use std::hash::{BuildHasher, Hasher, RandomState};
@@ -119,7 +120,7 @@ fn puts_and_hits(alloc: Global) -> Result<(History, Certificate), Fail> {
 fn any_hasher_gives_the_same(rt: HostRuntime) -> Result<(), Fail> {
     let alloc = rt.alloc();
     let (history, certificate) = puts_and_hits(alloc)?;
-    let random = check_with_hasher(alloc, RandomState::new(&rt)?, &history, &certificate)?;
+    let random = check_with_hasher(alloc, RandomSeed::draw(&rt)?, &history, &certificate)?;
     assert_eq!(rt; random, Verdict::Accepted);
     let one = check_with_hasher(alloc, OneHash, &history, &certificate)?;
     assert_eq!(rt; one, Verdict::Accepted);
