@@ -1,5 +1,5 @@
 -- What a key hasher computes.
-use Rattle.std.specs.Prelude.{ℕ, zero, suc, ◌+◌, ◌-◌, ◌*◌, ◌/◌, ◌%◌, ◌^◌, List, length, if◌then◌else◌, nat_le, bit_and, bit_xor}
+use Rattle.std.specs.Prelude.{ℕ, zero, suc, ◌+◌, ◌-◌, ◌*◌, ◌/◌, ◌^◌, List, length, if◌then◌else◌, nat_le, bit_and, bit_xor}
 use Rattle.key_hash.specs.declared.key_hasher.KeyHasher.{KeyHasher}
 use Rattle.key_hash.specs.declared.random_seed.RandomSeed.{RandomSeed}
 use Rattle.key_hash.specs.Words.{word, short}
@@ -25,11 +25,11 @@ mixed_blocks multiplier bytes state (suc n) = mixed multiplier bytes (mixed_bloc
 abbrev pub after_short : KeyHasher → List ℕ → ℕ
 after_short h bytes = folded (bit_xor h.state (short bytes)) (bit_xor h.multiplier (2 * length bytes))
 
--- the state after more: their count joins the state, then all whole blocks but the last 1 to 16 bytes, then the last 16
+-- the state after more: their count, by a multiplication of its own, then the blocks of 16 bytes before the last 1 to 16 bytes, then the last 16
 abbrev pub after_long : KeyHasher → List ℕ → ℕ
 after_long h bytes =
     let n = length bytes in
-    mixed h.multiplier bytes (mixed_blocks h.multiplier bytes ((h.state + n) % 2 ^ 64) ((n - 1) / 16)) (n - 16) (n - 8)
+    mixed h.multiplier bytes (mixed_blocks h.multiplier bytes (folded (bit_xor h.state n) h.multiplier) ((n - 1) / 16)) (n - 16) (n - 8)
 
 -- the hasher after bytes
 unfoldable pub written : KeyHasher → List ℕ → KeyHasher

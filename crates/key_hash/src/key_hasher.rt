@@ -39,7 +39,7 @@ impl Hasher for KeyHasher {
             );
             return;
         }
-        let mut state = self.state.wrapping_add(len as u64);
+        let mut state = fold(self.state ^ len as u64, self.multiplier);
         let mut at = 0;
         while len - at > 16 {
             state = fold(

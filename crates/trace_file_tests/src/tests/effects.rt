@@ -159,14 +159,14 @@ fn writes_are_few_none_follows_a_failed_one_and_nothing_is_flushed(
     Ok(())
 }
 
-/// Readers that were fed a header which counts calls that do not come. Did each take a byte for each call
-/// that is counted, all would take 16 TiB, and the entries of these calls more than a process can have.
+/// Readers that were fed a header which counts calls that do not come. Did each take four bytes for each
+/// call that is counted, all would take 195 TiB, which is more than a process can have.
 #[test]
 fn no_memory_is_taken_for_calls_that_are_counted_and_do_not_come(
     rt: HostRuntime,
 ) -> Result<(), Fail> {
     let mut readers = Vec::new(rt.alloc());
-    for _ in 0..65_536u32 {
+    for _ in 0..200_000u32 {
         let mut parts = TraceReader::new(rt.alloc());
         parts.feed(&MOST)?;
         readers.push(parts)?;

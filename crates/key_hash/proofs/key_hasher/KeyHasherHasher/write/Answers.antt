@@ -21,7 +21,7 @@ loop-at-preserved c =
     let more : (at + 16) / 16 ≡ suc (at / 16) = omega arith in (
       omega arith,
       omega arith,
-      rw (more, c.fold-state.ensures, c.word_at.ensures, c.word_at-in-loop-at.ensures, ← c.loop-at.invariant.2, ← whole),
+      rw (more, c.fold-state-in-loop-at.ensures, c.word_at.ensures, c.word_at-in-loop-at.ensures, ← c.loop-at.invariant.2, ← whole),
     )
 
 pub returns : goal.returns
@@ -29,4 +29,4 @@ unfolding written
 returns c =
     let n : ℕ = length c.args.bytes.now in
     let count : (n - 1) / 16 ≡ c.loop-at.at / 16 = omega (arith, c.loop-at.invariant.0, c.loop-at.invariant.1, c.loop-at-test.false) in
-    rw (lt-leb n 8 c.if-len-le8.false, count, ← c.loop-at.invariant.2, c.fold-self-2.ensures, c.word_at-2.ensures, c.word_at-3.ensures, c.saturating_sub.ensures)
+    rw (lt-leb n 8 c.if-len-le8.false, count, ← c.fold-state.ensures, ← c.loop-at.invariant.2, c.fold-self-2.ensures, c.word_at-2.ensures, c.word_at-3.ensures, c.saturating_sub.ensures)
