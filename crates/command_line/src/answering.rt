@@ -8,10 +8,11 @@ ghost use Rattle.command_line.specs.Outcomes.{IsAnswered, IsChecked};
 use crate::ending::Ending;
 use crate::file_name::FileName;
 use certificate_checker::judge_with_hasher;
+use key_hash::RandomSeed;
 use scripts::run_script;
 use std::alloc::Global;
 use std::fs;
-use std::hash::{BuildHasher, RandomState};
+use std::hash::BuildHasher;
 use std::io::{BufWriter, Read, Write};
 use std::random::RandomSource;
 use std::rt::Files;
@@ -57,7 +58,7 @@ pub fn check_file<W: Write>(
     file: &FileName,
     writer: &mut W,
 ) -> Ending {
-    let Ok(hash_builder) = RandomState::new(rt) else {
+    let Ok(hash_builder) = RandomSeed::draw(rt) else {
         return Ending::FileFault;
     };
     match fs::open(rt, file.as_str()) {

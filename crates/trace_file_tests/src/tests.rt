@@ -10,6 +10,8 @@ use trace_file::{
     read_trace, write_trace,
 };
 
+mod effects;
+
 /// One put of `1` at `a`, from stamp 1 to stamp 3, by caller 0, and its certificate.
 const ONE_PUT: [u8; 40] = [
     0x4b, 0x47, 0x54, 0x52, 0x41, 0x43, 0x45, 0x31, 0, 0, 0, 1, 1, 0, 0, 0, 0, 0, 0, 0, 0, 0, 1, 0,

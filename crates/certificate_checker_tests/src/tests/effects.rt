@@ -2,28 +2,33 @@
 use certificate_checker::{
     JudgeFault, Judged, Verdict, check_with_hasher, judge, judge_with_hasher,
 };
+use key_hash::RandomSeed;
 use record_pages::{Key, Value};
 use std::alloc::Global;
 use std::hash::{BuildHasher, Hasher, RandomState};
 use std::io;
 use std::io::{Error, ErrorKind, Read, Write};
 use std::test::Fail;
-use trace_file::{Act, Call, Certificate, History};
+use trace_file::{Act, Call, Certificate, History, write_trace};
 
 /// A trace of no call.
 const EMPTY: [u8; 12] = *b"KGTRACE1\x00\x00\x00\x00";
 
-/// A reader that fails at one of its calls, and gives what it has at the others.
+/// A reader that fails at one of its calls, gives what it has at the others, and notes how it is called.
 #[derive(Drop)]
 struct CountedReads<'a> {
     rest: &'a [u8],
     fails_at: u32,
     calls: u32,
+    least: usize,
+    most: usize,
 }
 
 impl Read for CountedReads<'_> {
     fn read(&mut self, buf: &mut [u8]) -> io::Result<usize> {
         self.calls = self.calls.saturating_add(1);
+        self.least = self.least.min(buf.len());
+        self.most = self.most.max(buf.len());
         if self.calls == self.fails_at {
             return Err(Error::from(ErrorKind::Interrupted));
         }
@@ -115,7 +120,7 @@ fn puts_and_hits(alloc: Global) -> Result<(History, Certificate), Fail> {
 fn any_hasher_gives_the_same(rt: HostRuntime) -> Result<(), Fail> {
     let alloc = rt.alloc();
     let (history, certificate) = puts_and_hits(alloc)?;
-    let random = check_with_hasher(alloc, RandomState::new(&rt)?, &history, &certificate)?;
+    let random = check_with_hasher(alloc, RandomSeed::draw(&rt)?, &history, &certificate)?;
     assert_eq!(rt; random, Verdict::Accepted);
     let one = check_with_hasher(alloc, OneHash, &history, &certificate)?;
     assert_eq!(rt; one, Verdict::Accepted);
@@ -128,21 +133,47 @@ fn any_hasher_gives_the_same(rt: HostRuntime) -> Result<(), Fail> {
 }
 
 #[test]
-fn no_read_follows_a_failed_one(rt: HostRuntime) -> Result<(), Fail> {
-    for (fails_at, calls, line) in [
-        (0, 2, b"accepted 0 calls\n".as_slice()),
-        (1, 1, b"bad trace ReadFault at 0\n".as_slice()),
-        (2, 2, b"bad trace ReadFault at 12\n".as_slice()),
-    ] {
+fn a_piece_is_read_at_a_time_and_no_read_follows_a_failed_one_or_a_fault(
+    rt: HostRuntime,
+) -> Result<(), Fail> {
+    let (history, certificate) = puts_and_hits(rt.alloc())?;
+    let mut long = Vec::new(rt.alloc());
+    write_trace(&history, &certificate, &mut long)?;
+    assert_eq!(rt; long.len(), 12 + 400 * 28);
+    let table: [(&[u8], u32, u32, &[u8]); 9] = [
+        (&EMPTY, 0, 2, b"accepted 0 calls\n"),
+        (&EMPTY, 1, 1, b"bad trace ReadFault at 0\n"),
+        (&EMPTY, 2, 2, b"bad trace ReadFault at 12\n"),
+        (&long, 0, 4, b"accepted 400 calls\n"),
+        (&long, 3, 3, b"bad trace ReadFault at 8192\n"),
+        (&long, 4, 4, b"bad trace ReadFault at 11212\n"),
+        (
+            b"KGTRACE1\x10\x00\x00\x00",
+            0,
+            2,
+            b"bad trace Truncated at 12\n",
+        ),
+        (b"KGTRACE9", 2, 1, b"bad trace BadMagic at 7\n"),
+        (
+            b"KGTRACE1\x00\x00\x00\x00K",
+            2,
+            1,
+            b"bad trace TrailingBytes at 12\n",
+        ),
+    ];
+    for (rest, fails_at, calls, line) in table {
         let mut reader = CountedReads {
-            rest: &EMPTY,
+            rest,
             fails_at,
             calls: 0,
+            least: usize::MAX,
+            most: 0,
         };
         let mut out: Vec<u8> = Vec::new(rt.alloc());
         judge(rt.alloc(), &mut reader, &mut out)?;
         assert_eq!(rt; out.as_slice(), line);
         assert_eq!(rt; reader.calls, calls, "where read {fails_at} fails");
+        assert_eq!(rt; (reader.least, reader.most), (4096, 4096));
     }
     Ok(())
 }

@@ -1,0 +1,3 @@
+-- The definitions of key_hash.
+pub mod Hashing
+pub mod Words

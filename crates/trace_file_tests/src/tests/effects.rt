@@ -1,0 +1,179 @@
+// How often a reader and a writer are called and with what, and that memory is taken by what was read:
+// no clause says it.
+use record_pages::{Key, Value};
+use std::alloc::Global;
+use std::io;
+use std::io::{Error, ErrorKind, Read, Write};
+use std::test::Fail;
+use trace_file::{
+    Act, Call, Certificate, History, TraceFault, TraceReader, WriteTraceFault, read_trace,
+    write_trace,
+};
+
+/// How many calls the long trace has, each with 2,325 bytes, and with 4 bytes of the certificate.
+const CALLS: u32 = 100;
+
+/// How many bytes it has.
+const LONG: usize = 12 + 100 * 2329;
+
+/// A header that counts as many calls as a trace may have, 268,435,456.
+const MOST: [u8; 12] = *b"KGTRACE1\x10\x00\x00\x00";
+
+/// A reader that fails at one of its calls, gives what it has at the others, and notes how it is called.
+#[derive(Drop)]
+struct CountedReads<'a> {
+    rest: &'a [u8],
+    fails_at: u32,
+    calls: u32,
+    least: usize,
+    most: usize,
+}
+
+impl Read for CountedReads<'_> {
+    fn read(&mut self, buf: &mut [u8]) -> io::Result<usize> {
+        self.calls = self.calls.saturating_add(1);
+        self.least = self.least.min(buf.len());
+        self.most = self.most.max(buf.len());
+        if self.calls == self.fails_at {
+            return Err(Error::from(ErrorKind::Interrupted));
+        }
+        let count = self.rest.len().min(buf.len());
+        let (front, rest) = self.rest.split_at(count);
+        buf[..count].copy_from_slice(front);
+        self.rest = rest;
+        Ok(count)
+    }
+}
+
+/// A writer that fails at one of its calls, takes at most so many bytes at the others, and notes how it
+/// is called.
+#[derive(Drop)]
+struct CountedWrites {
+    fails_at: u32,
+    room: usize,
+    calls: u32,
+    flushes: u32,
+    taken: usize,
+}
+
+impl Write for CountedWrites {
+    fn write(&mut self, buf: &[u8]) -> io::Result<usize> {
+        self.calls = self.calls.saturating_add(1);
+        if self.calls == self.fails_at {
+            return Err(Error::from(ErrorKind::Interrupted));
+        }
+        let count = buf.len().min(self.room);
+        self.taken = self.taken.saturating_add(count);
+        Ok(count)
+    }
+
+    fn flush(&mut self) -> io::Result<()> {
+        self.flushes = self.flushes.saturating_add(1);
+        Ok(())
+    }
+}
+
+/// The pair of the long trace: puts with the longest key and value.
+fn long_pair(alloc: Global) -> Result<(History, Certificate), Fail> {
+    let mut history = History::new(alloc);
+    let mut certificate = Certificate::new(alloc);
+    for number in 0..CALLS {
+        history.push(Call {
+            caller: 0,
+            start: u64::from(number),
+            end: u64::from(number),
+            key: Key::new(alloc, [b'k'; 255].as_slice())?,
+            act: Act::Put(Value::new(alloc, [b'v'; 2048].as_slice())?),
+        })?;
+        certificate.push(number)?;
+    }
+    Ok((history, certificate))
+}
+
+#[test]
+fn a_piece_is_read_at_a_time_and_no_read_follows_a_failed_one_or_a_fault(
+    rt: HostRuntime,
+) -> Result<(), Fail> {
+    let (history, certificate) = long_pair(rt.alloc())?;
+    let mut long = Vec::new(rt.alloc());
+    write_trace(&history, &certificate, &mut long)?;
+    assert_eq!(rt; long.len(), LONG);
+    let table: [(&[u8], u32, u32, Option<TraceFault>); 9] = [
+        (&long, 0, 58, None),
+        (&long, 1, 1, Some(TraceFault::ReadFault { at: 0 })),
+        (&long, 30, 30, Some(TraceFault::ReadFault { at: 118_784 })),
+        (&long, 58, 58, Some(TraceFault::ReadFault { at: 232_912 })),
+        (&MOST, 0, 2, Some(TraceFault::Truncated { at: 12 })),
+        (&MOST, 2, 2, Some(TraceFault::ReadFault { at: 12 })),
+        (b"KGTRACE9", 0, 1, Some(TraceFault::BadMagic { at: 7 })),
+        (b"KGTRACE9", 2, 1, Some(TraceFault::BadMagic { at: 7 })),
+        (
+            b"KGTRACE1\x00\x00\x00\x00\x00",
+            2,
+            1,
+            Some(TraceFault::TrailingBytes { at: 12 }),
+        ),
+    ];
+    for (rest, fails_at, calls, want) in table {
+        let mut reader = CountedReads {
+            rest,
+            fails_at,
+            calls: 0,
+            least: usize::MAX,
+            most: 0,
+        };
+        let fault = read_trace(rt.alloc(), &mut reader).err();
+        assert_eq!(rt; fault, want, "where read {fails_at} fails");
+        assert_eq!(rt; reader.calls, calls, "where read {fails_at} fails");
+        assert_eq!(rt; (reader.least, reader.most), (4096, 4096));
+    }
+    Ok(())
+}
+
+#[test]
+fn writes_are_few_none_follows_a_failed_one_and_nothing_is_flushed(
+    rt: HostRuntime,
+) -> Result<(), Fail> {
+    let (history, certificate) = long_pair(rt.alloc())?;
+    // three calls are written at a time, and the last one with the certificate
+    for (fails_at, room, calls, want) in [
+        (0, usize::MAX, 34, Ok(())),
+        (0, 1, 232_912, Ok(())),
+        (1, usize::MAX, 1, Err(WriteTraceFault::WriteFault)),
+        (17, usize::MAX, 17, Err(WriteTraceFault::WriteFault)),
+        (34, usize::MAX, 34, Err(WriteTraceFault::WriteFault)),
+        (0, 0, 1, Err(WriteTraceFault::WriteFault)),
+    ] {
+        let mut writer = CountedWrites {
+            fails_at,
+            room,
+            calls: 0,
+            flushes: 0,
+            taken: 0,
+        };
+        let written = write_trace(&history, &certificate, &mut writer);
+        assert_eq!(rt; written, want, "where write {fails_at} fails");
+        assert_eq!(rt; (writer.calls, writer.flushes), (calls, 0));
+        assert_eq!(rt; writer.taken == LONG, want == Ok(()));
+    }
+    Ok(())
+}
+
+/// Readers that were fed a header which counts calls that do not come. Did each take four bytes for each
+/// call that is counted, all would take 195 TiB, which is more than a process can have.
+#[test]
+fn no_memory_is_taken_for_calls_that_are_counted_and_do_not_come(
+    rt: HostRuntime,
+) -> Result<(), Fail> {
+    let mut readers = Vec::new(rt.alloc());
+    for _ in 0..200_000u32 {
+        let mut parts = TraceReader::new(rt.alloc());
+        parts.feed(&MOST)?;
+        readers.push(parts)?;
+    }
+    for parts in readers {
+        let fault = parts.finish().err();
+        assert_eq!(rt; fault, Some(TraceFault::Truncated { at: 12 }));
+    }
+    Ok(())
+}
