@@ -1,0 +1,11 @@
+//! The entries of an index in packed words: two words an entry, chained by age and by set.
+#![tactic(auto)]
+
+mod item;
+mod node;
+mod packed_node;
+mod words;
+
+pub use item::Item;
+pub use node::Node;
+pub use packed_node::PackedNode;
