@@ -1,0 +1,3 @@
+pub mod ChainLaws
+pub mod PoolLaws
+pub mod Moves
