@@ -1,3 +1,4 @@
 pub mod ChainLaws
 pub mod PoolLaws
 pub mod Moves
+pub mod LinkLaws

@@ -2,10 +2,12 @@
 #![tactic(auto)]
 
 mod item;
+mod links;
 mod node;
 mod packed_node;
 mod words;
 
 pub use item::Item;
+pub use links::Links;
 pub use node::Node;
 pub use packed_node::PackedNode;
