@@ -2,3 +2,5 @@ pub mod ChainLaws
 pub mod PoolLaws
 pub mod Moves
 pub mod LinkLaws
+pub mod Written
+pub mod Sound

@@ -5,9 +5,13 @@ mod item;
 mod links;
 mod node;
 mod packed_node;
+mod pool;
+mod row;
 mod words;
 
 pub use item::Item;
 pub use links::Links;
 pub use node::Node;
 pub use packed_node::PackedNode;
+pub use pool::EntryPool;
+pub use row::Row;

@@ -1,8 +1,10 @@
 // The nodes and the heads of their chains.
-ghost use Rattle.std.specs.Prelude.{◌≡◌, ◌<◌, ◌^◌, length};
+ghost use Rattle.std.specs.Prelude.{◌≡◌, ◌≢◌, ◌<◌, ◌+◌, ◌^◌, ◌∷◌, length};
 ghost use Rattle.entry_pool.specs.Words.{Fits};
-ghost use Rattle.entry_pool.specs.Chains.{none, Chains};
+ghost use Rattle.entry_pool.specs.Chains.{none, Chains, IsGiven, IsTaken, IsIn, after_of};
 ghost use Rattle.entry_pool.specs.Linked.{chains_of, IsLink, put, put_next, put_free, with_node};
+
+ghost use Rattle.entry_pool.specs.Pool.{IsSound, CanGive, CanTake, bucket_of, IsBehind};
 
 use crate::item::Item;
 use crate::node::{NONE, Node};
@@ -144,5 +146,80 @@ impl Links {
         ensures count { self.new.count ≡ self.old.count }
     {
         self.nodes[at as usize] = PackedNode::new(node);
+    }
+
+    // Puts the first free node, with an item, before the others of its chains.
+    pub(crate) fn give(&mut self, item: Item) -> u32
+        requires { CanGive self.old item }
+        ensures at { result ≡ (chains_of self.old).free none }
+        ensures given { IsGiven (chains_of self.old) (chains_of self.new) result item }
+        ensures nodes { length self.new.nodes.items ≡ length self.old.nodes.items }
+        ensures heads { length self.new.heads.items ≡ length self.old.heads.items }
+        ensures count { self.new.count ≡ self.old.count + 1 }
+    {
+        let set = item.set;
+        let at = self.first_free();
+        let free = self.next(set, at);
+        let next = self.next(set, NONE);
+        let older = self.older(NONE);
+        self.set_free(free);
+        self.set_node(
+            at,
+            Node {
+                item,
+                next,
+                older,
+                newer: NONE,
+            },
+        );
+        self.set_newer(older, at);
+        self.set_older(NONE, at);
+        self.set_next(set, NONE, at);
+        self.count += 1;
+        at
+    }
+
+    // Takes a node out of its chains, and puts it before the other free ones. It is next to another one in its bucket.
+    pub(crate) fn take(&mut self, at: u32, before: u32)
+        requires { CanTake self.old at before }
+        ensures taken { IsTaken (chains_of self.old) (chains_of self.new) at before }
+        ensures nodes { length self.new.nodes.items ≡ length self.old.nodes.items }
+        ensures heads { length self.new.heads.items ≡ length self.old.heads.items }
+        ensures count { self.new.count + 1 ≡ self.old.count }
+    {
+        let set = self.item(at).set;
+        let next = self.next(set, at);
+        let older = self.older(at);
+        let newer = self.newer(at);
+        let free = self.first_free();
+        self.set_older(newer, older);
+        self.set_newer(older, newer);
+        self.set_next(set, before, next);
+        self.set_next(set, at, free);
+        self.set_free(at);
+        self.count -= 1;
+    }
+
+    // The first free node.
+    pub(crate) fn first_free(&self) -> u32
+        ensures { result ≡ (chains_of self.now).free none }
+    {
+        self.free
+    }
+
+    // What leads to a node in its set's bucket.
+    pub(crate) fn before(&self, set: u32, at: u32) -> u32
+        requires sound { IsSound self.now }
+        requires listed { IsIn at (bucket_of self.now set) }
+        ensures mark { IsIn result (none ∷ bucket_of self.now set) }
+        ensures next { IsBehind at (after_of result none (bucket_of self.now set)) }
+    {
+        let mut before = NONE;
+        let mut next = self.next(set, before);
+        while next != at {
+            before = next;
+            next = self.next(set, before);
+        }
+        before
     }
 }
