@@ -4,3 +4,4 @@ pub mod Moves
 pub mod LinkLaws
 pub mod Written
 pub mod Sound
+pub mod Settled
