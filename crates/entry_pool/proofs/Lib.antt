@@ -5,3 +5,4 @@ pub mod LinkLaws
 pub mod Written
 pub mod Sound
 pub mod Settled
+pub mod Marks

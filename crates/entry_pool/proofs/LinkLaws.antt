@@ -181,3 +181,18 @@ node-set ns hs a b f at n m lt named e = λ i. record {
       | inl s ↦ ap (λ (k : ℕ). (node_at (set ns at n) k).item) s ∙ part-at (λ x. x.item) ns at n lt ∙ ap (λ (x : Node). x.item) e ∙ ap (λ (c : Bool). cond c m.item (node_at ns j).item) (sym (eq-eqb j at s))
       | inr ne ↦ part-else (λ x. x.item) ns at j n ne ∙ ap (λ (c : Bool). cond c m.item (node_at ns j).item) (sym (ne_eqb j at ne))
     ]
+
+pub item-set : (ns : List Node) (hs : List ℕ) (a b f : ℕ) (at : ℕ) (it : Item) (n : Node) → at < length ns → n ≡ record (node_at ns at) { item = it } → chains (set ns at n) hs a b f ≡ record (chains ns hs a b f) { item = put_item at it (chains ns hs a b f).item }
+item-set ns hs a b f at it n lt e = λ i. record {
+  older = λ j. from-kept (λ x. x.older) a ns at j n lt (ap (λ (x : Node). x.older) e) i;
+  newer = λ j. from-kept (λ x. x.newer) b ns at j n lt (ap (λ (x : Node). x.newer) e) i;
+  next = λ s j. from-kept (λ x. x.next) (get_or hs s none) ns at j n lt (ap (λ (x : Node). x.next) e) i;
+  free = λ j. from-kept (λ x. x.next) f ns at j n lt (ap (λ (x : Node). x.next) e) i;
+  item = λ j. item-put j i;
+}
+  where
+    item-put : (j : ℕ) → (node_at (set ns at n) j).item ≡ put_item at it (λ k. (node_at ns k).item) j
+    item-put j = elim (cases_eq j at) [
+      | inl s ↦ ap (λ (k : ℕ). (node_at (set ns at n) k).item) s ∙ part-at (λ x. x.item) ns at n lt ∙ ap (λ (x : Node). x.item) e ∙ ap (λ (c : Bool). cond c it (node_at ns j).item) (sym (eq-eqb j at s))
+      | inr ne ↦ part-else (λ x. x.item) ns at j n ne ∙ ap (λ (c : Bool). cond c it (node_at ns j).item) (sym (ne_eqb j at ne))
+    ]

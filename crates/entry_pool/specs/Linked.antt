@@ -68,3 +68,7 @@ with_node at node c =
       free = put at node.next c.free;
       item = put_item at node.item c.item;
     }
+
+-- an item with another prediction
+abbrev pub with_prediction : ℕ → Item → Item
+with_prediction prediction item = record item { prediction = prediction }

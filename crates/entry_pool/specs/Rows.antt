@@ -1,5 +1,6 @@
 -- A pool as the list of its rows.
-use Rattle.std.specs.Prelude.{◌≡◌, ◌<◌, ◌≤◌, ℕ, ◌-◌, ◌==◌, Bool, not, cond, List, [], ◌∷◌, length, filter, map, ◌⊎◌}
+use Rattle.std.specs.Prelude.{◌≡◌, ◌<◌, ◌≤◌, ℕ, ◌-◌, ◌==◌, Bool, not, cond, if◌then◌else◌, Option, MatchOption, List, [], ◌∷◌, length, filter, map, ◌⊎◌}
+use Rattle.entry_pool.specs.Linked.{with_prediction}
 use Rattle.entry_pool.specs.declared.item.Item.{Item}
 use Rattle.entry_pool.specs.declared.row.Row.{Row}
 use Rattle.entry_pool.specs.Chains.{none, Chains, IsIn}
@@ -42,3 +43,16 @@ IsMark at rows = IsIn at (none ∷ numbers rows)
 -- the rows of nodes, by what each notes
 abbrev pub rows_of : (ℕ → Item) → List ℕ → List Row
 rows_of item ages = map (λ i. record { at = i; item = item i }) ages
+
+-- a row with another prediction
+abbrev pub repredicted : ℕ → Row → Row
+repredicted prediction r = record r { item = with_prediction prediction r.item }
+
+-- the rows where the one of this number has another prediction
+abbrev pub with_prediction_at : ℕ → ℕ → List Row → List Row
+with_prediction_at at prediction rows = map (λ r. if r.at == at then repredicted prediction r else r) rows
+
+-- what comes next behind a mark, or that nothing does
+abbrev pub IsNext : ℕ → List Row → Option Row → Type 0
+IsNext at rows found =
+    MatchOption found (rows_after at none rows ≡ []) (λ r. (rows_after at none rows ≡ r ∷ rows_after r.at none rows) × IsMark r.at rows)

@@ -2,13 +2,14 @@
 ghost use Rattle.std.specs.Prelude.{◌≡◌, ◌≢◌, ◌<◌, ◌+◌, ◌^◌, ◌∷◌, length};
 ghost use Rattle.entry_pool.specs.Words.{Fits};
 ghost use Rattle.entry_pool.specs.Chains.{none, Chains, IsGiven, IsTaken, IsIn, after_of};
-ghost use Rattle.entry_pool.specs.Linked.{chains_of, IsLink, put, put_next, put_free, with_node};
+ghost use Rattle.entry_pool.specs.Linked.{chains_of, IsLink, put, put_next, put_free, put_item, with_node, with_prediction};
 
 ghost use Rattle.entry_pool.specs.Pool.{IsSound, CanGive, CanTake, bucket_of, IsBehind};
 
 use crate::item::Item;
 use crate::node::{NONE, Node};
 use crate::packed_node::PackedNode;
+use record_pages::Prediction;
 
 /// The nodes, and the heads of their chains: `NONE` as the number of a node stands for the head.
 #[derive(Debug, Drop)]
@@ -221,5 +222,21 @@ impl Links {
             next = self.next(set, before);
         }
         before
+    }
+
+    // A held node has another prediction.
+    pub(crate) fn set_prediction(&mut self, at: u32, prediction: Prediction)
+        requires { at < length self.old.nodes.items }
+        ensures chains { chains_of self.new ≡ record (chains_of self.old) {
+            item = put_item at (with_prediction prediction ((chains_of self.old).item at))
+                (chains_of self.old).item } }
+        ensures nodes { length self.new.nodes.items ≡ length self.old.nodes.items }
+        ensures heads { length self.new.heads.items ≡ length self.old.heads.items }
+        ensures count { self.new.count ≡ self.old.count }
+    {
+        let _number = prediction.get();
+        let node = &mut self.nodes[at as usize];
+        let item = node.get().item;
+        node.set_item(Item { prediction, ..item });
     }
 }

@@ -1,10 +1,16 @@
 // The pool of rows.
-ghost use Rattle.std.specs.Prelude.{◌≡◌, ◌<◌, ◌≤◌, ◌^◌, ◌∷◌, length};
+ghost use Rattle.std.specs.Prelude.{◌≡◌, ◌<◌, ◌≤◌, ◌^◌, ◌∷◌, [], None, IfOk, length};
+ghost use Rattle.std.specs.List.{last_or};
 ghost use Rattle.entry_pool.specs.Chains.{IsDistinct};
-ghost use Rattle.entry_pool.specs.Rows.{numbers, with_rows, without_at, IsHeld};
+ghost use Rattle.entry_pool.specs.Rows.{numbers, in_set, with_rows, without_at, with_prediction_at, IsHeld, IsMark, IsNext};
 
 use crate::item::Item;
 use crate::links::Links;
+use crate::node::{NONE, Node};
+use crate::packed_node::PackedNode;
+use crate::row::Row;
+use record_pages::Prediction;
+use std::alloc::{AllocError, Global};
 use std::marker::Model;
 
 /// Items in a pool of nodes, chained by age and by set. All memory is taken when it is opened.
@@ -27,6 +33,26 @@ impl Model for EntryPool {
 }
 
 impl EntryPool {
+    /// A pool with no row, of so many sets, for so many rows. All memory is taken here.
+    pub fn open(alloc: Global, sets: u32, limit: u32) -> Result<EntryPool, AllocError>
+        requires sets { sets ≤ 65536 }
+        requires limit { limit ≤ 1048576 }
+        ensures { IfOk result (λ p. p ≡ record { sets = sets; limit = limit; rows = [] }) }
+    {
+        let nodes = free_nodes(alloc, limit)?;
+        let heads = vec![in alloc; NONE; sets as usize]?;
+        Ok(EntryPool {
+            links: Links {
+                nodes,
+                heads,
+                newest: NONE,
+                oldest: NONE,
+                free: limit.checked_sub(1).unwrap_or(NONE),
+                count: 0,
+            },
+        })
+    }
+
     /// How many rows there are.
     pub fn len(&self) -> usize
         ensures len { result ≡ length self.now.rows }
@@ -65,4 +91,92 @@ impl EntryPool {
         let before = self.links.before(set, at);
         self.links.take(at, before);
     }
+
+    /// Notes another prediction in the row with this number.
+    pub fn set_prediction(&mut self, at: u32, prediction: Prediction)
+        requires { IsHeld at self.old.rows }
+        ensures { self.new ≡ with_rows self.old (with_prediction_at at prediction self.old.rows) }
+    {
+        self.links.set_prediction(at, prediction);
+    }
+
+    /// Of the rows of a set, the next older one behind a mark: a row's number, or `NONE` for the place before the first.
+    pub fn next_in(&self, set: u32, mark: u32) -> Option<Row>
+        requires { IsMark mark (in_set set self.now.rows) }
+        ensures { IsNext mark (in_set set self.now.rows) result }
+    {
+        let at = self.links.next(set, mark);
+        if at == NONE {
+            return None;
+        }
+        Some(Row {
+            at,
+            item: self.links.item(at),
+        })
+    }
+
+    /// The next older row behind a mark: a row's number, or `NONE` for the place before the first.
+    pub fn next_older(&self, mark: u32) -> Option<Row>
+        requires { IsMark mark self.now.rows }
+        ensures { IsNext mark self.now.rows result }
+    {
+        let at = self.links.older(mark);
+        if at == NONE {
+            return None;
+        }
+        Some(Row {
+            at,
+            item: self.links.item(at),
+        })
+    }
+
+    /// The oldest row.
+    pub fn oldest(&self) -> Option<Row>
+        ensures { result ≡ last_or None self.now.rows }
+    {
+        let at = self.links.newer(NONE);
+        if at == NONE {
+            return None;
+        }
+        Some(Row {
+            at,
+            item: self.links.item(at),
+        })
+    }
+}
+
+ghost use Rattle.entry_pool.specs.Fresh.{AreFree};
+
+// Free nodes, each of which leads to the one before it.
+fn free_nodes(alloc: Global, limit: u32) -> Result<Vec<PackedNode>, AllocError>
+    requires { limit ≤ 1048576 }
+    ensures { IfOk result (λ nodes. AreFree limit nodes.items) }
+{
+    let mut nodes = Vec::with_capacity(alloc, limit as usize)?;
+    let mut before = NONE;
+    for at in 0..limit {
+        nodes.push_reserved(free_node(before));
+        before = at;
+    }
+    Ok(nodes)
+}
+
+// A free node.
+fn free_node(next: u32) -> PackedNode
+    requires { next < 2 ^ 21 }
+    ensures { result.next ≡ next }
+{
+    PackedNode::new(Node {
+        item: Item {
+            set: 0,
+            tag: 0,
+            segment: 0,
+            page: 0,
+            slot: 0,
+            prediction: Prediction::new(0).unwrap(),
+        },
+        next,
+        older: NONE,
+        newer: NONE,
+    })
 }
