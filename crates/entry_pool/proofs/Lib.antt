@@ -6,3 +6,4 @@ pub mod Written
 pub mod Sound
 pub mod Settled
 pub mod Marks
+pub mod FreshLaws

@@ -158,3 +158,8 @@ module _ (l d : Links) (at n : ℕ) (sound : IsSound l) (is : chains_of d ≡ re
         ∙ ap (λ (c : Chains). rows_of c.item (ages_of l)) is
         ∙ repredicted-rows at n (chains_of l).item (ages_of l) in
       λ i. record { sets = heads i; limit = nodes i; rows = all i }
+
+-- behind the place before the first lie all rows
+pub all-after : (rows : List Row) → rows_after none none rows ≡ rows
+all-after [] = refl
+all-after (r ∷ rs) = refl

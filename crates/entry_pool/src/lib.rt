@@ -1,6 +1,8 @@
 //! The entries of an index in packed words: two words an entry, chained by age and by set.
 #![tactic(auto)]
 
+mod by_age;
+mod in_set;
 mod item;
 mod links;
 mod node;
@@ -9,6 +11,8 @@ mod pool;
 mod row;
 mod words;
 
+pub use by_age::ByAge;
+pub use in_set::InSet;
 pub use item::Item;
 pub use links::Links;
 pub use node::Node;

@@ -4,6 +4,8 @@ ghost use Rattle.std.specs.List.{last_or};
 ghost use Rattle.entry_pool.specs.Chains.{IsDistinct};
 ghost use Rattle.entry_pool.specs.Rows.{numbers, in_set, with_rows, without_at, with_prediction_at, IsHeld, IsMark, IsNext};
 
+use crate::by_age::{ByAge, rows_by_age};
+use crate::in_set::{InSet, rows_in_set};
 use crate::item::Item;
 use crate::links::Links;
 use crate::node::{NONE, Node};
@@ -47,7 +49,7 @@ impl EntryPool {
                 heads,
                 newest: NONE,
                 oldest: NONE,
-                free: limit.checked_sub(1).unwrap_or(NONE),
+                free: last_of(limit),
                 count: 0,
             },
         })
@@ -130,6 +132,20 @@ impl EntryPool {
         })
     }
 
+    /// The rows of a set, newest first.
+    pub fn in_set(&self, set: u32) -> InSet<'_>
+        ensures { result ≡ in_set set self.now.rows }
+    {
+        rows_in_set(self, set)
+    }
+
+    /// The rows, newest first.
+    pub fn by_age(&self) -> ByAge<'_>
+        ensures { result ≡ self.now.rows }
+    {
+        rows_by_age(self)
+    }
+
     /// The oldest row.
     pub fn oldest(&self) -> Option<Row>
         ensures { result ≡ last_or None self.now.rows }
@@ -145,7 +161,7 @@ impl EntryPool {
     }
 }
 
-ghost use Rattle.entry_pool.specs.Fresh.{AreFree};
+ghost use Rattle.entry_pool.specs.Fresh.{AreFree, number_before};
 
 // Free nodes, each of which leads to the one before it.
 fn free_nodes(alloc: Global, limit: u32) -> Result<Vec<PackedNode>, AllocError>
@@ -179,4 +195,11 @@ fn free_node(next: u32) -> PackedNode
         older: NONE,
         newer: NONE,
     })
+}
+
+// The last of so many nodes.
+fn last_of(limit: u32) -> u32
+    ensures { result ≡ number_before limit }
+{
+    if limit == 0 { NONE } else { limit - 1 }
 }
