@@ -1,6 +1,5 @@
 -- What a change of links leaves of a chain.
-use Rattle.std.proofs.Common.{◌≡◌, ◌≢◌, ℕ, ◌+◌, ◌<◌, ◌≤◌, Bool, true, false, cond, eqb, List, [], ◌∷◌, ◌++◌, length, filter, inl, inr, ◌⊎◌, refl, sym, ap, subst, ◌∙◌, arith}
-use Rattle.std.proofs.lemmas.Bool.{eqb-true, eq-eqb, ne_eqb, cond_both, cases_Bool}
+use Rattle.std.proofs.Common.{◌≡◌, ◌≢◌, ℕ, List, [], ◌∷◌, ◌++◌, inl, inr, ◌⊎◌, refl, sym, subst, ◌∙◌}
 use Rattle.entry_pool.specs.Chains.{none, IsPath, IsBack, IsIn, IsDistinct, end_of, start_of}
 
 -- the links of one place go over to another, and the rest stay
@@ -54,9 +53,10 @@ start-cases (y ∷ ys) = inr (inl refl)
 pub path-unlink : (f g : ℕ → ℕ) (p : ℕ) (xs : List ℕ) (x : ℕ) (ys : List ℕ) → IsDistinct (p ∷ xs ++ x ∷ ys) → IsPath f p (xs ++ x ∷ ys) → g (end_of p xs) ≡ f x → ((y : ℕ) → IsIn y (p ∷ xs ++ ys) → y ≢ end_of p xs → g y ≡ f y) → IsPath g p (xs ++ ys)
 path-unlink f g p [] x ys apart h e same =
     path-turn f g x p ys h.1 e (λ y i. same y (inr i) (λ q. apart.0 (inr (in-same y p ys q i))))
-path-unlink f g p (z ∷ xs) x ys apart h e same =
-    (same p (inl refl) (λ q. apart.0 (in-same (end_of z xs) p (z ∷ xs ++ x ∷ ys) (sym q) (in-left (end_of z xs) (z ∷ xs) (x ∷ ys) (end-in z xs)))) ∙ h.0,
-     path-unlink f g z xs x ys apart.1 h.1 e (λ y i n. same y (inr i) n))
+path-unlink f g p (z ∷ xs) x ys apart h e same = (
+  same p (inl refl) (λ q. apart.0 (in-same (end_of z xs) p (z ∷ xs ++ x ∷ ys) (sym q) (in-left (end_of z xs) (z ∷ xs) (x ∷ ys) (end-in z xs)))) ∙ h.0,
+  path-unlink f g z xs x ys apart.1 h.1 e (λ y i n. same y (inr i) n),
+)
 
 pub back-frame : (f g : ℕ → ℕ) (p : ℕ) (xs : List ℕ) → IsBack f p xs → g none ≡ f none → ((y : ℕ) → IsIn y xs → g y ≡ f y) → IsBack g p xs
 back-frame f g p [] h e same = e ∙ h
@@ -79,12 +79,13 @@ distinct-right (x ∷ xs) ys h = distinct-right xs ys h.1
 pub back-unlink : (f g : ℕ → ℕ) (p : ℕ) (xs : List ℕ) (x : ℕ) (ys : List ℕ) → ¬ IsIn none (xs ++ x ∷ ys) → IsDistinct (xs ++ x ∷ ys) → IsBack f p (xs ++ x ∷ ys) → g (start_of none ys) ≡ f x → ((y : ℕ) → IsIn y (none ∷ xs ++ ys) → y ≢ start_of none ys → g y ≡ f y) → IsBack g p (xs ++ ys)
 back-unlink f g p [] x ys named apart h e same =
     back-turn f g x p ys (λ i. named (inr i)) apart.1 h.1 (e ∙ h.0) same
-back-unlink f g p (z ∷ xs) x ys named apart h e same =
-    (same z (inr (inl refl)) (λ q. elim (start-cases ys) [
-       | inl w ↦ named (inl (sym (q ∙ w)))
-       | inr w ↦ apart.0 (in-right z xs (x ∷ ys) (inr (in-same (start_of none ys) z ys (sym q) w)))
-     ]) ∙ h.0,
-     back-unlink f g z xs x ys (λ i. named (inr i)) apart.1 h.1 e (λ y i n. same y (later y i) n))
+back-unlink f g p (z ∷ xs) x ys named apart h e same = (
+  same z (inr (inl refl)) (λ q. elim (start-cases ys) [
+    | inl w ↦ named (inl (sym (q ∙ w)))
+    | inr w ↦ apart.0 (in-right z xs (x ∷ ys) (inr (in-same (start_of none ys) z ys (sym q) w)))
+  ]) ∙ h.0,
+  back-unlink f g z xs x ys (λ i. named (inr i)) apart.1 h.1 e (λ y i n. same y (later y i) n),
+)
   where
     later : (y : ℕ) → IsIn y (none ∷ xs ++ ys) → IsIn y (none ∷ z ∷ xs ++ ys)
     later y (inl w) = inl w

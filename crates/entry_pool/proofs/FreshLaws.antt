@@ -1,15 +1,14 @@
 -- An empty pool is sound.
-use Rattle.std.proofs.Common.{◌≡◌, ◌≢◌, ℕ, zero, suc, ◌+◌, ◌-◌, ◌<◌, ◌≤◌, List, [], ◌∷◌, ◌++◌, length, get_or, replicate, inl, inr, refl, sym, ap, subst, ◌∙◌, arith}
+use Rattle.std.proofs.Common.{◌≡◌, ℕ, zero, suc, ◌-◌, ◌<◌, ◌≤◌, List, [], ◌∷◌, length, get_or, replicate, inl, inr, refl, sym, ap, ◌∙◌, arith}
 use Rattle.std.proofs.lemmas.List.{get_or-replicate, get_or_past}
 use Rattle.std.proofs.lemmas.Bool.{cases_lt}
-use Rattle.entry_pool.specs.declared.row.Row.{Row}
 use Rattle.entry_pool.specs.declared.links.Links.{Links}
-use Rattle.entry_pool.specs.Chains.{none, IsPath, IsBack, IsIn, IsDistinct, Chains, IsPool}
-use Rattle.entry_pool.specs.Linked.{chains_of, node_at, from}
-use Rattle.entry_pool.specs.Rows.{Rows, rows_of}
+use Rattle.entry_pool.specs.Chains.{none, IsPath, IsIn, IsDistinct, IsPool}
+use Rattle.entry_pool.specs.Linked.{chains_of, node_at}
+use Rattle.entry_pool.specs.Rows.{rows_of}
 use Rattle.entry_pool.specs.Pool.{IsSound, ages_of, rows_in}
 use Rattle.entry_pool.specs.Fresh.{AreFree, number_before}
-use Rattle.entry_pool.proofs.LinkLaws.{from-head, from-node}
+use Rattle.entry_pool.proofs.LinkLaws.{from-node}
 use Rattle.entry_pool.proofs.Sound.{settled, settled-ages}
 
 pub before-none : (n : ℕ) → n ≡ 0 → none ≡ number_before n

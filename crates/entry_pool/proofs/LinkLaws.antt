@@ -1,11 +1,11 @@
 -- What a written node or head makes of the chains.
-use Rattle.std.proofs.Common.{◌≡◌, ◌≢◌, ℕ, ◌<◌, Bool, true, false, cond, eqb, not, List, length, get_or, set, inl, inr, refl, sym, ap, subst, ◌∙◌, arith}
+use Rattle.std.proofs.Common.{◌≡◌, ℕ, ◌<◌, Bool, true, false, cond, eqb, not, List, length, get_or, set, inl, inr, refl, sym, ap, ◌∙◌}
 use Rattle.std.specs.Prelude.{◌&&◌, ◌||◌}
-use Rattle.std.proofs.lemmas.Bool.{eqb-true, eq-eqb, ne_eqb, cases_Bool, cases_eq}
+use Rattle.std.proofs.lemmas.Bool.{eq-eqb, ne_eqb, cases_eq}
 use Rattle.std.proofs.lemmas.List.{get_or-set_same, get_or-set_other}
 use Rattle.entry_pool.specs.declared.item.Item.{Item}
 use Rattle.entry_pool.specs.declared.node.Node.{Node}
-use Rattle.entry_pool.specs.Chains.{none, Chains}
+use Rattle.entry_pool.specs.Chains.{none}
 use Rattle.entry_pool.specs.Linked.{blank, node_at, from, chains, put, put_next, put_free, put_item, with_node}
 
 pub from-head : (h : ℕ) (f : ℕ → ℕ) (at : ℕ) → at ≡ none → h ≡ from h f at
@@ -34,13 +34,13 @@ from-kept part h ns at j n lt e = ap (λ (v : ℕ). cond (eqb j none) h v) (part
 pub from-put : (part : Node → ℕ) (h : ℕ) (ns : List Node) (at to j : ℕ) (n : Node) → at < length ns → (at ≡ none → ⊥) → part n ≡ to → from h (λ k. part (node_at (set ns at n) k)) j ≡ put at to (from h (λ k. part (node_at ns k))) j
 from-put part h ns at to j n lt named e = elim (cases_eq j at) [
   | inl s ↦
-    ap (λ (k : ℕ). from h (λ k. part (node_at (set ns at n) k)) k) s
-    ∙ sym (from-node h (λ k. part (node_at (set ns at n) k)) at named)
-    ∙ part-at part ns at n lt ∙ e
-    ∙ ap (λ (b : Bool). cond b to (from h (λ k. part (node_at ns k)) j)) (sym (eq-eqb j at s))
+      ap (λ (k : ℕ). from h (λ k. part (node_at (set ns at n) k)) k) s
+      ∙ sym (from-node h (λ k. part (node_at (set ns at n) k)) at named)
+      ∙ part-at part ns at n lt ∙ e
+      ∙ ap (λ (b : Bool). cond b to (from h (λ k. part (node_at ns k)) j)) (sym (eq-eqb j at s))
   | inr ne ↦
-    ap (λ (v : ℕ). cond (eqb j none) h v) (part-else part ns at j n ne)
-    ∙ ap (λ (b : Bool). cond b to (from h (λ k. part (node_at ns k)) j)) (sym (ne_eqb j at ne))
+      ap (λ (v : ℕ). cond (eqb j none) h v) (part-else part ns at j n ne)
+      ∙ ap (λ (b : Bool). cond b to (from h (λ k. part (node_at ns k)) j)) (sym (ne_eqb j at ne))
 ]
 
 -- a head that leads elsewhere
@@ -48,19 +48,19 @@ pub from-lead : (h to : ℕ) (f : ℕ → ℕ) (at j : ℕ) → at ≡ none → 
 from-lead h to f at j e = elim (cases_eq j at) [
   | inl s ↦ sym (from-head to f j (s ∙ e)) ∙ ap (λ (b : Bool). cond b to (from h f j)) (sym (eq-eqb j at s))
   | inr ne ↦
-    sym (from-node to f j (λ w. ne (w ∙ sym e))) ∙ from-node h f j (λ w. ne (w ∙ sym e))
-    ∙ ap (λ (b : Bool). cond b to (from h f j)) (sym (ne_eqb j at ne))
+      sym (from-node to f j (λ w. ne (w ∙ sym e))) ∙ from-node h f j (λ w. ne (w ∙ sym e))
+      ∙ ap (λ (b : Bool). cond b to (from h f j)) (sym (ne_eqb j at ne))
 ]
 
 -- at a node, a link among the buckets or the free ones is a link
 pub put-free : (at to : ℕ) (f : ℕ → ℕ) (j : ℕ) → (at ≡ none → ⊥) → put at to f j ≡ put_free at to f j
 put-free at to f j named = elim (cases_eq j at) [
   | inl s ↦
-    ap (λ (b : Bool). cond b to (f j)) (eq-eqb j at s)
-    ∙ sym (ap (λ (b : Bool). cond (b && not (eqb j none)) to (f j)) (eq-eqb j at s) ∙ ap (λ (b : Bool). cond (not b) to (f j)) (ne_eqb j none (λ w. named (sym s ∙ w))))
+      ap (λ (b : Bool). cond b to (f j)) (eq-eqb j at s)
+      ∙ sym (ap (λ (b : Bool). cond (b && not (eqb j none)) to (f j)) (eq-eqb j at s) ∙ ap (λ (b : Bool). cond (not b) to (f j)) (ne_eqb j none (λ w. named (sym s ∙ w))))
   | inr ne ↦
-    ap (λ (b : Bool). cond b to (f j)) (ne_eqb j at ne)
-    ∙ sym (ap (λ (b : Bool). cond (b && not (eqb j none)) to (f j)) (ne_eqb j at ne))
+      ap (λ (b : Bool). cond b to (f j)) (ne_eqb j at ne)
+      ∙ sym (ap (λ (b : Bool). cond (b && not (eqb j none)) to (f j)) (ne_eqb j at ne))
 ]
 
 or-right-true : (a b : Bool) → b ≡ true → (a || b) ≡ true
@@ -70,12 +70,12 @@ or-right-true false b e = e
 pub put-next : (set' at to : ℕ) (f : ℕ → ℕ → ℕ) (s j : ℕ) → (at ≡ none → ⊥) → put at to (f s) j ≡ put_next set' at to f s j
 put-next set' at to f s j named = elim (cases_eq j at) [
   | inl q ↦
-    let there : (eqb s set' || not (eqb j none)) ≡ true = or-right-true (eqb s set') (not (eqb j none)) (ap not (ne_eqb j none (λ w. named (sym q ∙ w)))) in
-    ap (λ (b : Bool). cond b to (f s j)) (eq-eqb j at q)
-    ∙ sym (ap (λ (b : Bool). cond (b && (eqb s set' || not (eqb j none))) to (f s j)) (eq-eqb j at q) ∙ ap (λ (b : Bool). cond b to (f s j)) there)
+      let there : (eqb s set' || not (eqb j none)) ≡ true = or-right-true (eqb s set') (not (eqb j none)) (ap not (ne_eqb j none (λ w. named (sym q ∙ w)))) in
+      ap (λ (b : Bool). cond b to (f s j)) (eq-eqb j at q)
+      ∙ sym (ap (λ (b : Bool). cond (b && (eqb s set' || not (eqb j none))) to (f s j)) (eq-eqb j at q) ∙ ap (λ (b : Bool). cond b to (f s j)) there)
   | inr ne ↦
-    ap (λ (b : Bool). cond b to (f s j)) (ne_eqb j at ne)
-    ∙ sym (ap (λ (b : Bool). cond (b && (eqb s set' || not (eqb j none))) to (f s j)) (ne_eqb j at ne))
+      ap (λ (b : Bool). cond b to (f s j)) (ne_eqb j at ne)
+      ∙ sym (ap (λ (b : Bool). cond (b && (eqb s set' || not (eqb j none))) to (f s j)) (ne_eqb j at ne))
 ]
 
 module _ (ns : List Node) (hs : List ℕ) (a b f : ℕ) (at to : ℕ) where
@@ -137,19 +137,19 @@ module _ (ns : List Node) (hs : List ℕ) (a b f : ℕ) (at to : ℕ) where
   heads-at set' s j e lt = elim (cases_eq j none) [
     | inl q ↦ elim (cases_eq s set') [
       | inl w ↦
-        sym (from-head (get_or (set hs set' to) s none) (λ k. (node_at ns k).next) j q)
-        ∙ ap (λ (k : ℕ). get_or (set hs set' to) k none) w ∙ get_or-set_same hs set' to none lt
-        ∙ sym (ap (λ (t : Bool). cond (t && (eqb s set' || not (eqb j none))) to ((chains ns hs a b f).next s j)) (eq-eqb j at (q ∙ sym e)) ∙ ap (λ (t : Bool). cond (t || not (eqb j none)) to ((chains ns hs a b f).next s j)) (eq-eqb s set' w))
+          sym (from-head (get_or (set hs set' to) s none) (λ k. (node_at ns k).next) j q)
+          ∙ ap (λ (k : ℕ). get_or (set hs set' to) k none) w ∙ get_or-set_same hs set' to none lt
+          ∙ sym (ap (λ (t : Bool). cond (t && (eqb s set' || not (eqb j none))) to ((chains ns hs a b f).next s j)) (eq-eqb j at (q ∙ sym e)) ∙ ap (λ (t : Bool). cond (t || not (eqb j none)) to ((chains ns hs a b f).next s j)) (eq-eqb s set' w))
       | inr ne ↦
-        sym (from-head (get_or (set hs set' to) s none) (λ k. (node_at ns k).next) j q)
-        ∙ get_or-set_other hs set' s to none ne
-        ∙ from-head (get_or hs s none) (λ k. (node_at ns k).next) j q
-        ∙ sym (ap (λ (t : Bool). cond (t && (eqb s set' || not (eqb j none))) to ((chains ns hs a b f).next s j)) (eq-eqb j at (q ∙ sym e)) ∙ ap (λ (t : Bool). cond (t || not (eqb j none)) to ((chains ns hs a b f).next s j)) (ne_eqb s set' ne) ∙ ap (λ (t : Bool). cond (not t) to ((chains ns hs a b f).next s j)) (eq-eqb j none q))
+          sym (from-head (get_or (set hs set' to) s none) (λ k. (node_at ns k).next) j q)
+          ∙ get_or-set_other hs set' s to none ne
+          ∙ from-head (get_or hs s none) (λ k. (node_at ns k).next) j q
+          ∙ sym (ap (λ (t : Bool). cond (t && (eqb s set' || not (eqb j none))) to ((chains ns hs a b f).next s j)) (eq-eqb j at (q ∙ sym e)) ∙ ap (λ (t : Bool). cond (t || not (eqb j none)) to ((chains ns hs a b f).next s j)) (ne_eqb s set' ne) ∙ ap (λ (t : Bool). cond (not t) to ((chains ns hs a b f).next s j)) (eq-eqb j none q))
     ]
     | inr n ↦
-      sym (from-node (get_or (set hs set' to) s none) (λ k. (node_at ns k).next) j n)
-      ∙ from-node (get_or hs s none) (λ k. (node_at ns k).next) j n
-      ∙ sym (ap (λ (t : Bool). cond (t && (eqb s set' || not (eqb j none))) to ((chains ns hs a b f).next s j)) (ne_eqb j at (λ w. n (w ∙ e))))
+        sym (from-node (get_or (set hs set' to) s none) (λ k. (node_at ns k).next) j n)
+        ∙ from-node (get_or hs s none) (λ k. (node_at ns k).next) j n
+        ∙ sym (ap (λ (t : Bool). cond (t && (eqb s set' || not (eqb j none))) to ((chains ns hs a b f).next s j)) (ne_eqb j at (λ w. n (w ∙ e))))
   ]
 
   free-at : (j : ℕ) → at ≡ none → (chains ns hs a b f).free j ≡ put_free at to (chains ns hs a b f).free j

@@ -1,18 +1,18 @@
 -- Rows behind a mark, the oldest row, and rows with another prediction.
-use Rattle.std.proofs.Common.{◌≡◌, ◌≢◌, ℕ, zero, suc, ◌+◌, ◌-◌, ◌<◌, ◌≤◌, Bool, true, false, cond, eqb, Some, None, List, [], ◌∷◌, ◌++◌, length, get_or, filter, map, inl, inr, refl, sym, ap, subst, ◌∙◌, arith}
+use Rattle.std.proofs.Common.{◌≡◌, ℕ, Bool, cond, eqb, Some, None, List, [], ◌∷◌, length, filter, inl, inr, refl, sym, ap, subst, ◌∙◌, arith}
 use Rattle.std.specs.List.{last_or}
-use Rattle.std.proofs.lemmas.Bool.{eqb-true, eq-eqb, ne_eqb, cases_Bool, cases_eq}
+use Rattle.std.proofs.lemmas.Bool.{eq-eqb, ne_eqb, cases_Bool, cases_eq}
 use Rattle.entry_pool.specs.declared.item.Item.{Item}
 use Rattle.entry_pool.specs.declared.row.Row.{Row}
 use Rattle.entry_pool.specs.declared.links.Links.{Links}
 use Rattle.entry_pool.specs.Chains.{none, IsPath, IsBack, IsIn, IsDistinct, end_of, Chains, IsPool, is_in_set, after_of}
-use Rattle.entry_pool.specs.Linked.{chains_of, IsLink, put_item, with_prediction}
-use Rattle.entry_pool.specs.Rows.{Rows, with_rows, rows_of, numbers, in_set, rows_after, IsHeld, IsMark, with_prediction_at, repredicted}
+use Rattle.entry_pool.specs.Linked.{chains_of, put_item, with_prediction}
+use Rattle.entry_pool.specs.Rows.{Rows, with_rows, rows_of, numbers, in_set, rows_after, IsMark, with_prediction_at, repredicted}
 use Rattle.entry_pool.specs.Pool.{IsSound, ages_of, frees_of, rows_in, bucket_of}
 use Rattle.entry_pool.proofs.ChainLaws.{in-same, end-in}
 use Rattle.entry_pool.proofs.PoolLaws.{path-from, after-in, after-next}
 use Rattle.entry_pool.proofs.Moves.{filter-agree}
-use Rattle.entry_pool.proofs.Sound.{numbers-rows, named, settled, settled-ages, count-ages}
+use Rattle.entry_pool.proofs.Sound.{numbers-rows, settled, settled-ages, count-ages}
 
 pub rows-after : (q p : ℕ) (item : ℕ → Item) (xs : List ℕ) → rows_after q p (rows_of item xs) ≡ rows_of item (after_of q p xs)
 rows-after q p item [] = refl
@@ -76,11 +76,12 @@ next-some f item xs rows q y it path apart is mark at n noted =
     let step = next-here f xs (after_of q none xs) q path apart (mark-in item xs rows q is mark) refl (λ e. n (at ∙ e)) in
     let here : after_of q none xs ≡ y ∷ after_of y none xs = subst (λ (k : ℕ). after_of q none xs ≡ k ∷ after_of k none xs) (sym at) step.0 in
     let shown : rows_after q none (rows_of item xs) ≡ record { at = y; item = it } ∷ rows_after y none (rows_of item xs) =
-      rows-after q none item xs ∙ ap (λ (zs : List ℕ). rows_of item zs) here
-      ∙ ap (λ (w : Item). record { at = y; item = w } ∷ rows_of item (after_of y none xs)) (sym noted)
-      ∙ ap (λ (rs : List Row). record { at = y; item = it } ∷ rs) (sym (rows-after y none item xs)) in
-    (subst (λ (rs : List Row). rows_after q none rs ≡ record { at = y; item = it } ∷ rows_after y none rs) is shown,
-     inr (subst (λ (zs : List ℕ). IsIn y zs) (sym (ap (λ (rs : List Row). numbers rs) (sym is) ∙ numbers-rows item xs)) (in-same (f q) y xs (sym at) step.1)))
+    rows-after q none item xs ∙ ap (λ (zs : List ℕ). rows_of item zs) here
+    ∙ ap (λ (w : Item). record { at = y; item = w } ∷ rows_of item (after_of y none xs)) (sym noted)
+    ∙ ap (λ (rs : List Row). record { at = y; item = it } ∷ rs) (sym (rows-after y none item xs)) in (
+      subst (λ (rs : List Row). rows_after q none rs ≡ record { at = y; item = it } ∷ rows_after y none rs) is shown,
+      inr (subst (λ (zs : List ℕ). IsIn y zs) (sym (ap (λ (rs : List Row). numbers rs) (sym is) ∙ numbers-rows item xs)) (in-same (f q) y xs (sym at) step.1)),
+    )
 
 pub next-in : (f : ℕ → ℕ) (xs : List ℕ) (q y : ℕ) → IsPath f none xs → IsDistinct (none ∷ xs) → IsIn q (none ∷ xs) → y ≡ f q → (y ≡ none → ⊥) → IsIn y xs
 next-in f xs q y path apart i at n = in-same (f q) y xs (sym at) (next-here f xs (after_of q none xs) q path apart i refl (λ e. n (at ∙ e))).1
@@ -133,12 +134,12 @@ repredicted-rows at n f (x ∷ xs) =
     let rest = with_prediction_at at n (rows_of f xs) in
     let first : record { at = x; item = put_item at (with_prediction n (f at)) f x } ∷ rest ≡ cond (eqb x at) (repredicted n r) r ∷ rest = elim (cases_eq x at) [
       | inl e ↦
-        ap (λ (b : Bool). record { at = x; item = cond b (with_prediction n (f at)) (f x) } ∷ rest) (eq-eqb x at e)
-        ∙ ap (λ (k : ℕ). record { at = x; item = with_prediction n (f k) } ∷ rest) (sym e)
-        ∙ sym (ap (λ (b : Bool). cond b (repredicted n r) r ∷ rest) (eq-eqb x at e))
+          ap (λ (b : Bool). record { at = x; item = cond b (with_prediction n (f at)) (f x) } ∷ rest) (eq-eqb x at e)
+          ∙ ap (λ (k : ℕ). record { at = x; item = with_prediction n (f k) } ∷ rest) (sym e)
+          ∙ sym (ap (λ (b : Bool). cond b (repredicted n r) r ∷ rest) (eq-eqb x at e))
       | inr ne ↦
-        ap (λ (b : Bool). record { at = x; item = cond b (with_prediction n (f at)) (f x) } ∷ rest) (ne_eqb x at ne)
-        ∙ sym (ap (λ (b : Bool). cond b (repredicted n r) r ∷ rest) (ne_eqb x at ne))
+          ap (λ (b : Bool). record { at = x; item = cond b (with_prediction n (f at)) (f x) } ∷ rest) (ne_eqb x at ne)
+          ∙ sym (ap (λ (b : Bool). cond b (repredicted n r) r ∷ rest) (ne_eqb x at ne))
     ] in
     ap (λ (rs : List Row). record { at = x; item = put_item at (with_prediction n (f at)) f x } ∷ rs) (repredicted-rows at n f xs) ∙ first
 
@@ -154,9 +155,9 @@ module _ (l d : Links) (at n : ℕ) (sound : IsSound l) (is : chains_of d ≡ re
   unfolding rows_in
   repredicted-in =
       let all : rows_of (chains_of d).item (ages_of d) ≡ with_prediction_at at n (rows_of (chains_of l).item (ages_of l)) =
-        ap (λ (zs : List ℕ). rows_of (chains_of d).item zs) (settled-ages d (ages_of l) (frees_of l) pool (count-ages l sound ∙ sym count))
-        ∙ ap (λ (c : Chains). rows_of c.item (ages_of l)) is
-        ∙ repredicted-rows at n (chains_of l).item (ages_of l) in
+      ap (λ (zs : List ℕ). rows_of (chains_of d).item zs) (settled-ages d (ages_of l) (frees_of l) pool (count-ages l sound ∙ sym count))
+      ∙ ap (λ (c : Chains). rows_of c.item (ages_of l)) is
+      ∙ repredicted-rows at n (chains_of l).item (ages_of l) in
       λ i. record { sets = heads i; limit = nodes i; rows = all i }
 
 -- behind the place before the first lie all rows

@@ -1,13 +1,13 @@
 -- The pool after a node was taken out of its chains, or put into them.
-use Rattle.std.proofs.Common.{◌≡◌, ◌≢◌, ℕ, zero, suc, ◌+◌, ◌<◌, ◌≤◌, Bool, true, false, cond, eqb, List, [], ◌∷◌, ◌++◌, length, filter, inl, inr, refl, sym, ap, subst, ◌∙◌, arith, append_assoc}
+use Rattle.std.proofs.Common.{◌≡◌, ◌≢◌, ℕ, Bool, true, false, cond, eqb, List, [], ◌∷◌, ◌++◌, filter, inl, inr, refl, sym, ap, subst, ◌∙◌, arith, append_assoc}
 use Rattle.std.specs.Prelude.{◌⊎◌}
-use Rattle.std.proofs.lemmas.Bool.{eqb-true, eqb-false, eq-eqb, ne_eqb, cond_both, cases_Bool, cases_eq}
+use Rattle.std.proofs.lemmas.Bool.{eqb-true, eq-eqb, ne_eqb, cases_eq}
 use Rattle.std.proofs.lemmas.List.Elements.{filter-append}
 use Rattle.std.proofs.lemmas.List.{length-append}
 use Rattle.entry_pool.specs.declared.item.Item.{Item}
-use Rattle.entry_pool.specs.Chains.{none, IsPath, IsBack, IsIn, IsDistinct, end_of, start_of, Chains, IsPool, is_in_set, after_of, walk, IsTaken, IsGiven}
-use Rattle.entry_pool.proofs.ChainLaws.{path-turn, path-push, path-at, path-behind, path-start, path-unlink, back-frame, back-turn, back-at, back-unlink, in-left, in-right, in-cases, in-same, end-in, start-cases, distinct-right}
-use Rattle.entry_pool.proofs.PoolLaws.{filter-in, in-filter, distinct-filter, distinct-left, distinct-apart, in-moved, moved-in, distinct-moved, distinct-back}
+use Rattle.entry_pool.specs.Chains.{none, IsPath, IsBack, IsIn, IsDistinct, end_of, start_of, Chains, IsPool, is_in_set, IsTaken, IsGiven}
+use Rattle.entry_pool.proofs.ChainLaws.{path-turn, path-push, path-behind, path-start, path-unlink, back-turn, back-at, back-unlink, in-left, in-right, in-same, end-in}
+use Rattle.entry_pool.proofs.PoolLaws.{filter-in, distinct-filter, distinct-left, distinct-apart, in-moved, moved-in, distinct-moved, distinct-back}
 
 -- tests that agree on each of these keep the same of them
 pub filter-agree : (p q : ℕ → Bool) (xs : List ℕ) → ((y : ℕ) → IsIn y xs → p y ≡ q y) → filter p xs ≡ filter q xs
@@ -89,11 +89,11 @@ module _ (c d : Chains) (total x q : ℕ) (bs ys frees : List ℕ) (pool : IsPoo
       let e : filter (is_in_set c.item set) (bs ++ x ∷ ys) ≡ filter (is_in_set c.item set) (bs ++ ys) = filter-skips (is_in_set c.item set) bs x ys (ne_eqb (c.item x).set set (λ w. n (sym w))) in
       let zs = filter (is_in_set c.item set) (bs ++ x ∷ ys) in
       let kept : IsPath (d.next set) none zs = path-turn (c.next set) (d.next set) none none zs (pool.next set) (taken.next_head set n) (λ y i. taken.next_else set y
-        (λ w. elim found_in [
-          | inl h ↦ no_name (in-same y none (bs ++ x ∷ ys) (w ∙ h) (filter-in (is_in_set c.item set) y (bs ++ x ∷ ys) i).0)
-          | inr j ↦ n (sym (set_of_kept set y (bs ++ x ∷ ys) i) ∙ ap (λ (k : ℕ). (c.item k).set) w ∙ set_of_kept (c.item x).set q bs j)
-        ])
-        (λ w. n (sym (set_of_kept set y (bs ++ x ∷ ys) i) ∙ ap (λ (k : ℕ). (c.item k).set) w))) in
+      (λ w. elim found_in [
+        | inl h ↦ no_name (in-same y none (bs ++ x ∷ ys) (w ∙ h) (filter-in (is_in_set c.item set) y (bs ++ x ∷ ys) i).0)
+        | inr j ↦ n (sym (set_of_kept set y (bs ++ x ∷ ys) i) ∙ ap (λ (k : ℕ). (c.item k).set) w ∙ set_of_kept (c.item x).set q bs j)
+      ])
+      (λ w. n (sym (set_of_kept set y (bs ++ x ∷ ys) i) ∙ ap (λ (k : ℕ). (c.item k).set) w))) in
       subst (λ (vs : List ℕ). IsPath (d.next set) none vs) e kept
 
   pub remove-next : (set : ℕ) → IsPath (d.next set) none (filter (is_in_set d.item set) (bs ++ ys))
@@ -106,12 +106,12 @@ module _ (c d : Chains) (total x q : ℕ) (bs ys frees : List ℕ) (pool : IsPoo
   remove-free =
       let x_there : IsIn x (bs ++ x ∷ ys) = in-right x bs (x ∷ ys) (inl refl) in
       path-push c.free d.free none x frees pool.free taken.free_head taken.free_at (λ y i. taken.free_else y
-        (λ w. unnamed c total (bs ++ x ∷ ys) frees pool (in-right none (bs ++ x ∷ ys) frees (in-same y none frees w i)))
-        (λ w. elim found_in [
-          | inl h ↦ unnamed c total (bs ++ x ∷ ys) frees pool (in-right none (bs ++ x ∷ ys) frees (in-same y none frees (w ∙ h) i))
-          | inr j ↦ distinct-apart (bs ++ x ∷ ys) frees q pool.apart (in-left q bs (x ∷ ys) (filter-in (is_in_set c.item (c.item x).set) q bs j).0) (in-same y q frees w i)
-        ])
-        (λ w. distinct-apart (bs ++ x ∷ ys) frees x pool.apart x_there (in-same y x frees w i)))
+      (λ w. unnamed c total (bs ++ x ∷ ys) frees pool (in-right none (bs ++ x ∷ ys) frees (in-same y none frees w i)))
+      (λ w. elim found_in [
+        | inl h ↦ unnamed c total (bs ++ x ∷ ys) frees pool (in-right none (bs ++ x ∷ ys) frees (in-same y none frees (w ∙ h) i))
+        | inr j ↦ distinct-apart (bs ++ x ∷ ys) frees q pool.apart (in-left q bs (x ∷ ys) (filter-in (is_in_set c.item (c.item x).set) q bs j).0) (in-same y q frees w i)
+      ])
+      (λ w. distinct-apart (bs ++ x ∷ ys) frees x pool.apart x_there (in-same y x frees w i)))
 
   regroup : (bs ++ x ∷ ys) ++ frees ≡ bs ++ x ∷ (ys ++ frees)
   regroup = append_assoc bs (x ∷ ys) frees
@@ -155,13 +155,15 @@ module _ (c d : Chains) (total x : ℕ) (item : Item) (ages frees : List ℕ) (p
 
   push-newer : IsBack d.newer none (x ∷ ages)
   push-newer =
-      let first : c.older none ≡ start_of none ages = path-start c.older none ages pool.older in
-      (given.newer_at, back-turn c.newer d.newer none x ages (λ i. free_named (in-left none ages (x ∷ frees) i)) (distinct-left ages (x ∷ frees) pool.apart) pool.newer (ap d.newer (sym first) ∙ given.newer_first) (λ y i n. given.newer_else y
-        (λ w. elim i [
-          | inl e ↦ x_named (sym w ∙ e)
-          | inr j ↦ not_x y j w
-        ])
-        (λ w. n (w ∙ first))))
+      let first : c.older none ≡ start_of none ages = path-start c.older none ages pool.older in (
+        given.newer_at,
+        back-turn c.newer d.newer none x ages (λ i. free_named (in-left none ages (x ∷ frees) i)) (distinct-left ages (x ∷ frees) pool.apart) pool.newer (ap d.newer (sym first) ∙ given.newer_first) (λ y i n. given.newer_else y
+            (λ w. elim i [
+              | inl e ↦ x_named (sym w ∙ e)
+              | inr j ↦ not_x y j w
+            ])
+            (λ w. n (w ∙ first))),
+      )
 
   same_old : (set : ℕ) → filter (is_in_set d.item set) ages ≡ filter (is_in_set c.item set) ages
   same_old set = filter-agree (is_in_set d.item set) (is_in_set c.item set) ages (λ y i. ap (λ (it : Item). eqb it.set set) (given.item_else y (not_x y i)))
@@ -172,17 +174,17 @@ module _ (c d : Chains) (total x : ℕ) (item : Item) (ages frees : List ℕ) (p
   push-next : (set : ℕ) → IsPath (d.next set) none (filter (is_in_set d.item set) (x ∷ ages))
   push-next set = elim (cases_eq item.set set) [
     | inl e ↦
-      let zs = filter (is_in_set c.item item.set) ages in
-      let path : IsPath (d.next item.set) none (x ∷ zs) = path-push (c.next item.set) (d.next item.set) none x zs (pool.next item.set) given.next_head given.next_at (λ y i. given.next_else item.set y (not_none y (in_ages item.set y i)) (not_x y (in_ages item.set y i))) in
-      let first : is_in_set d.item item.set x ≡ true = eq-eqb (d.item x).set item.set (ap (λ (it : Item). it.set) given.item_at) in
-      let all : filter (is_in_set d.item item.set) (x ∷ ages) ≡ x ∷ zs = ap (λ (b : Bool). cond b (x ∷ filter (is_in_set d.item item.set) ages) (filter (is_in_set d.item item.set) ages)) first ∙ ap (λ (vs : List ℕ). x ∷ vs) (same_old item.set) in
-      subst (λ (s : ℕ). IsPath (d.next s) none (filter (is_in_set d.item s) (x ∷ ages))) e (subst (λ (vs : List ℕ). IsPath (d.next item.set) none vs) (sym all) path)
+        let zs = filter (is_in_set c.item item.set) ages in
+        let path : IsPath (d.next item.set) none (x ∷ zs) = path-push (c.next item.set) (d.next item.set) none x zs (pool.next item.set) given.next_head given.next_at (λ y i. given.next_else item.set y (not_none y (in_ages item.set y i)) (not_x y (in_ages item.set y i))) in
+        let first : is_in_set d.item item.set x ≡ true = eq-eqb (d.item x).set item.set (ap (λ (it : Item). it.set) given.item_at) in
+        let all : filter (is_in_set d.item item.set) (x ∷ ages) ≡ x ∷ zs = ap (λ (b : Bool). cond b (x ∷ filter (is_in_set d.item item.set) ages) (filter (is_in_set d.item item.set) ages)) first ∙ ap (λ (vs : List ℕ). x ∷ vs) (same_old item.set) in
+        subst (λ (s : ℕ). IsPath (d.next s) none (filter (is_in_set d.item s) (x ∷ ages))) e (subst (λ (vs : List ℕ). IsPath (d.next item.set) none vs) (sym all) path)
     | inr n ↦
-      let zs = filter (is_in_set c.item set) ages in
-      let path : IsPath (d.next set) none zs = path-turn (c.next set) (d.next set) none none zs (pool.next set) (given.next_heads set (λ w. n (sym w))) (λ y i. given.next_else set y (not_none y (in_ages set y i)) (not_x y (in_ages set y i))) in
-      let first : is_in_set d.item set x ≡ false = ne_eqb (d.item x).set set (λ w. n (sym (ap (λ (it : Item). it.set) given.item_at) ∙ w)) in
-      let all : filter (is_in_set d.item set) (x ∷ ages) ≡ zs = ap (λ (b : Bool). cond b (x ∷ filter (is_in_set d.item set) ages) (filter (is_in_set d.item set) ages)) first ∙ same_old set in
-      subst (λ (vs : List ℕ). IsPath (d.next set) none vs) (sym all) path
+        let zs = filter (is_in_set c.item set) ages in
+        let path : IsPath (d.next set) none zs = path-turn (c.next set) (d.next set) none none zs (pool.next set) (given.next_heads set (λ w. n (sym w))) (λ y i. given.next_else set y (not_none y (in_ages set y i)) (not_x y (in_ages set y i))) in
+        let first : is_in_set d.item set x ≡ false = ne_eqb (d.item x).set set (λ w. n (sym (ap (λ (it : Item). it.set) given.item_at) ∙ w)) in
+        let all : filter (is_in_set d.item set) (x ∷ ages) ≡ zs = ap (λ (b : Bool). cond b (x ∷ filter (is_in_set d.item set) ages) (filter (is_in_set d.item set) ages)) first ∙ same_old set in
+        subst (λ (vs : List ℕ). IsPath (d.next set) none vs) (sym all) path
   ]
 
   pub pool-push : IsPool d total (x ∷ ages) frees
@@ -193,8 +195,8 @@ module _ (c d : Chains) (total x : ℕ) (item : Item) (ages frees : List ℕ) (p
         newer = push-newer;
         next = push-next;
         free = path-turn c.free d.free x none frees pool.free.1 given.free_head (λ y i. given.free_else y
-          (λ w. free_named (in-right none ages (x ∷ frees) (inr (in-same y none frees w i))))
-          (λ w. back.0 (in-right x ages frees (in-same y x frees w i))));
+            (λ w. free_named (in-right none ages (x ∷ frees) (inr (in-same y none frees w i))))
+            (λ w. back.0 (in-right x ages frees (in-same y x frees w i))));
         apart = back;
         below = λ i h. pool.below i (moved-in ages x frees i h);
         all = omega (arith, all);

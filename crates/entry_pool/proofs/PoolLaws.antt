@@ -1,26 +1,22 @@
 -- A node taken out of the chains, and one put into them.
-use Rattle.std.proofs.Common.{◌≡◌, ◌≢◌, ℕ, zero, suc, ◌+◌, ◌<◌, ◌≤◌, Bool, true, false, cond, eqb, List, [], ◌∷◌, ◌++◌, length, filter, inl, inr, refl, sym, ap, subst, ◌∙◌, arith, append_assoc}
-use Rattle.std.specs.Prelude.{◌⊎◌}
-use Rattle.std.proofs.lemmas.Bool.{eqb-true, eqb-false, eq-eqb, ne_eqb, cond_both, cases_Bool, cases_eq}
-use Rattle.std.proofs.lemmas.List.Elements.{filter-append}
-use Rattle.std.proofs.lemmas.List.{length-append}
-use Rattle.entry_pool.specs.declared.item.Item.{Item}
-use Rattle.entry_pool.specs.Chains.{none, IsPath, IsBack, IsIn, IsDistinct, end_of, start_of, Chains, IsPool, is_in_set, after_of, walk, IsTaken, IsGiven}
-use Rattle.entry_pool.proofs.ChainLaws.{path-turn, path-push, path-at, path-behind, path-unlink, back-frame, back-turn, back-at, back-unlink, in-left, in-right, in-cases, in-same, end-in, start-cases, distinct-right}
+use Rattle.std.proofs.Common.{◌≡◌, ℕ, zero, suc, Bool, true, cond, eqb, List, [], ◌∷◌, ◌++◌, length, filter, inl, inr, refl, sym, ap, subst, ◌∙◌}
+use Rattle.std.proofs.lemmas.Bool.{eq-eqb, ne_eqb, cond_both, cases_Bool, cases_eq}
+use Rattle.entry_pool.specs.Chains.{IsPath, IsIn, IsDistinct, end_of, after_of, walk}
+use Rattle.entry_pool.proofs.ChainLaws.{in-left, in-right, in-cases, in-same}
 
 -- what a filter keeps was there, and passes
 pub filter-in : (p : ℕ → Bool) (x : ℕ) (xs : List ℕ) → IsIn x (filter p xs) → IsIn x xs × (p x ≡ true)
 filter-in p x [] h = absurd h
 filter-in p x (z ∷ xs) h = elim (cases_Bool (p z)) [
   | inl e ↦
-    let h' : IsIn x (z ∷ filter p xs) = subst (λ (b : Bool). IsIn x (cond b (z ∷ filter p xs) (filter p xs))) e h in
-    elim h' [
-      | inl q ↦ (inl q, ap p q ∙ e)
-      | inr i ↦ let r = filter-in p x xs i in (inr r.0, r.1)
-    ]
+      let h' : IsIn x (z ∷ filter p xs) = subst (λ (b : Bool). IsIn x (cond b (z ∷ filter p xs) (filter p xs))) e h in
+      elim h' [
+        | inl q ↦ (inl q, ap p q ∙ e)
+        | inr i ↦ let r = filter-in p x xs i in (inr r.0, r.1)
+      ]
   | inr e ↦
-    let h' : IsIn x (filter p xs) = subst (λ (b : Bool). IsIn x (cond b (z ∷ filter p xs) (filter p xs))) e h in
-    let r = filter-in p x xs h' in (inr r.0, r.1)
+      let h' : IsIn x (filter p xs) = subst (λ (b : Bool). IsIn x (cond b (z ∷ filter p xs) (filter p xs))) e h in
+      let r = filter-in p x xs h' in (inr r.0, r.1)
 ]
 
 pub in-filter : (p : ℕ → Bool) (x : ℕ) (xs : List ℕ) → IsIn x xs → p x ≡ true → IsIn x (filter p xs)
@@ -62,22 +58,24 @@ moved-in xs x ys y (inr i) = elim (in-cases y xs ys i) [
 
 pub distinct-moved : (xs : List ℕ) (x : ℕ) (ys : List ℕ) → IsDistinct (x ∷ xs ++ ys) → IsDistinct (xs ++ x ∷ ys)
 distinct-moved [] x ys h = h
-distinct-moved (z ∷ xs) x ys h =
-    ((λ i. elim (in-moved xs x ys z i) [
-       | inl e ↦ h.0 (inl (sym e))
-       | inr j ↦ h.1.0 j
-     ]),
-     distinct-moved xs x ys ((λ i. h.0 (inr i)), h.1.1))
+distinct-moved (z ∷ xs) x ys h = (
+  (λ i. elim (in-moved xs x ys z i) [
+    | inl e ↦ h.0 (inl (sym e))
+    | inr j ↦ h.1.0 j
+  ]),
+  distinct-moved xs x ys ((λ i. h.0 (inr i)), h.1.1),
+)
 
 pub distinct-back : (xs : List ℕ) (x : ℕ) (ys : List ℕ) → IsDistinct (xs ++ x ∷ ys) → IsDistinct (x ∷ xs ++ ys)
 distinct-back [] x ys h = h
 distinct-back (z ∷ xs) x ys h =
-    let r = distinct-back xs x ys h.1 in
-    ((λ i. elim i [
-       | inl e ↦ h.0 (in-right z xs (x ∷ ys) (inl (sym e)))
-       | inr j ↦ r.0 j
-     ]),
-     ((λ i. h.0 (moved-in xs x ys z (inr i))), r.1))
+    let r = distinct-back xs x ys h.1 in (
+      (λ i. elim i [
+        | inl e ↦ h.0 (in-right z xs (x ∷ ys) (inl (sym e)))
+        | inr j ↦ r.0 j
+      ]),
+      ((λ i. h.0 (moved-in xs x ys z (inr i))), r.1),
+    )
 
 -- the walk along a path gives its nodes
 pub walk-path : (f : ℕ → ℕ) (p : ℕ) (xs : List ℕ) → IsPath f p xs → walk (length xs) f p ≡ xs
@@ -113,14 +111,14 @@ path-from f p q [] h (inl e) = ap f e ∙ h
 path-from f p q [] h (inr i) = absurd i
 path-from f p q (x ∷ xs) h i = elim (cases_eq q p) [
   | inl e ↦
-    let here : IsPath f p (after_of p p (x ∷ xs)) = subst (λ (ys : List ℕ). IsPath f p ys) (sym (after-here p (x ∷ xs))) h in
-    subst (λ (z : ℕ). IsPath f z (after_of z p (x ∷ xs))) (sym e) here
+      let here : IsPath f p (after_of p p (x ∷ xs)) = subst (λ (ys : List ℕ). IsPath f p ys) (sym (after-here p (x ∷ xs))) h in
+      subst (λ (z : ℕ). IsPath f z (after_of z p (x ∷ xs))) (sym e) here
   | inr n ↦
-    let later : IsIn q (x ∷ xs) = elim i [
-      | inl e ↦ absurd (n e)
-      | inr j ↦ j
-    ] in
-    subst (λ (ys : List ℕ). IsPath f q ys) (sym (after-later q p x xs n)) (path-from f x q xs h.1 later)
+      let later : IsIn q (x ∷ xs) = elim i [
+        | inl e ↦ absurd (n e)
+        | inr j ↦ j
+      ] in
+      subst (λ (ys : List ℕ). IsPath f q ys) (sym (after-later q p x xs n)) (path-from f x q xs h.1 later)
 ]
 
 -- behind the next node lies the rest
@@ -128,14 +126,14 @@ pub after-next : (q p y : ℕ) (xs ys : List ℕ) → IsDistinct (p ∷ xs) → 
 after-next q p y [] ys apart e = cc
 after-next q p y (x ∷ xs) ys apart e = elim (cases_eq q p) [
   | inl s ↦
-    let here : x ∷ xs ≡ y ∷ ys = sym (subst (λ (z : ℕ). after_of z p (x ∷ xs) ≡ x ∷ xs) (sym s) (after-here p (x ∷ xs))) ∙ e in
-    let first : x ≡ y = cc in
-    let rest : xs ≡ ys = cc in
-    after-later y p x xs (λ w. apart.0 (inl (sym w ∙ sym first))) ∙ subst (λ (z : ℕ). after_of z x xs ≡ ys) first (after-here x xs ∙ rest)
+      let here : x ∷ xs ≡ y ∷ ys = sym (subst (λ (z : ℕ). after_of z p (x ∷ xs) ≡ x ∷ xs) (sym s) (after-here p (x ∷ xs))) ∙ e in
+      let first : x ≡ y = cc in
+      let rest : xs ≡ ys = cc in
+      after-later y p x xs (λ w. apart.0 (inl (sym w ∙ sym first))) ∙ subst (λ (z : ℕ). after_of z x xs ≡ ys) first (after-here x xs ∙ rest)
   | inr n ↦
-    let e' : after_of q x xs ≡ y ∷ ys = sym (after-later q p x xs n) ∙ e in
-    let inside : IsIn y xs = after-in q x xs y (subst (λ (zs : List ℕ). IsIn y zs) (sym e') (inl refl)) in
-    after-later y p x xs (λ w. apart.0 (inr (in-same y p xs w inside))) ∙ after-next q x y xs ys apart.1 e'
+      let e' : after_of q x xs ≡ y ∷ ys = sym (after-later q p x xs n) ∙ e in
+      let inside : IsIn y xs = after-in q x xs y (subst (λ (zs : List ℕ). IsIn y zs) (sym e') (inl refl)) in
+      after-later y p x xs (λ w. apart.0 (inr (in-same y p xs w inside))) ∙ after-next q x y xs ys apart.1 e'
 ]
 
 -- where a node is what is next behind q, q is the end of what is before it
@@ -143,13 +141,13 @@ pub end-found : (q p : ℕ) (bs : List ℕ) (x : ℕ) (as' ys : List ℕ) → Is
 end-found q p [] x as' ys apart e = elim (cases_eq q p) [
   | inl s ↦ s
   | inr n ↦
-    let e' : after_of q x as' ≡ x ∷ ys = sym (after-later q p x as' n) ∙ e in
-    absurd (apart.1.0 (after-in q x as' x (subst (λ (zs : List ℕ). IsIn x zs) (sym e') (inl refl))))
+      let e' : after_of q x as' ≡ x ∷ ys = sym (after-later q p x as' n) ∙ e in
+      absurd (apart.1.0 (after-in q x as' x (subst (λ (zs : List ℕ). IsIn x zs) (sym e') (inl refl))))
 ]
 end-found q p (z ∷ bs) x as' ys apart e = elim (cases_eq q p) [
   | inl s ↦
-    let here : z ∷ bs ++ x ∷ as' ≡ x ∷ ys = sym (subst (λ (w : ℕ). after_of w p (z ∷ bs ++ x ∷ as') ≡ z ∷ bs ++ x ∷ as') (sym s) (after-here p (z ∷ bs ++ x ∷ as'))) ∙ e in
-    let first : z ≡ x = cc in
-    absurd (apart.1.0 (in-right z bs (x ∷ as') (inl first)))
+      let here : z ∷ bs ++ x ∷ as' ≡ x ∷ ys = sym (subst (λ (w : ℕ). after_of w p (z ∷ bs ++ x ∷ as') ≡ z ∷ bs ++ x ∷ as') (sym s) (after-here p (z ∷ bs ++ x ∷ as'))) ∙ e in
+      let first : z ≡ x = cc in
+      absurd (apart.1.0 (in-right z bs (x ∷ as') (inl first)))
   | inr n ↦ end-found q z bs x as' ys apart.1 (sym (after-later q p z (bs ++ x ∷ as') n) ∙ e)
 ]

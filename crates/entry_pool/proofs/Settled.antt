@@ -1,19 +1,19 @@
 -- The rows after a row came or went.
-use Rattle.std.proofs.Common.{◌≡◌, ◌≢◌, ℕ, zero, suc, ◌+◌, ◌-◌, ◌<◌, ◌≤◌, ◌^◌, List, [], ◌∷◌, ◌++◌, length, filter, map, inl, inr, refl, sym, ap, subst, ◌∙◌, arith}
+use Rattle.std.proofs.Common.{◌≡◌, ◌≢◌, ℕ, ◌+◌, ◌<◌, List, [], ◌∷◌, ◌++◌, length, filter, inl, refl, sym, ap, subst, ◌∙◌, arith}
 use Rattle.std.proofs.lemmas.List.{length-append}
 use Rattle.std.proofs.lemmas.Bool.{eq-eqb}
 use Rattle.entry_pool.specs.declared.item.Item.{Item}
 use Rattle.entry_pool.specs.declared.row.Row.{Row}
 use Rattle.entry_pool.specs.declared.links.Links.{Links}
 use Rattle.entry_pool.specs.Words.{Fits}
-use Rattle.entry_pool.specs.Chains.{none, IsPath, IsIn, IsDistinct, Chains, IsPool, is_in_set, after_of, IsTaken, IsGiven, end_of}
+use Rattle.entry_pool.specs.Chains.{none, IsPath, IsIn, IsDistinct, IsPool, is_in_set, after_of, IsTaken, IsGiven, end_of}
 use Rattle.entry_pool.specs.Linked.{chains_of}
-use Rattle.entry_pool.specs.Rows.{Rows, with_rows, rows_of, numbers, without_at, IsHeld}
-use Rattle.entry_pool.specs.Pool.{IsSound, ages_of, frees_of, rows_in, bucket_of, IsBehind, CanGive, CanTake}
-use Rattle.entry_pool.proofs.ChainLaws.{path-start, in-left, in-right, in-same}
-use Rattle.entry_pool.proofs.PoolLaws.{distinct-apart, distinct-back, distinct-filter, filter-in, end-found}
+use Rattle.entry_pool.specs.Rows.{with_rows, rows_of, without_at, IsHeld}
+use Rattle.entry_pool.specs.Pool.{IsSound, ages_of, frees_of, rows_in, bucket_of, IsBehind, CanGive}
+use Rattle.entry_pool.proofs.ChainLaws.{in-right, in-same}
+use Rattle.entry_pool.proofs.PoolLaws.{distinct-apart, distinct-filter, filter-in, end-found}
 use Rattle.entry_pool.proofs.Moves.{unnamed, filter-keeps, pool-remove, pool-push}
-use Rattle.entry_pool.proofs.Sound.{path-link, Split, split, numbers-rows, length-rows, rows-same, without-split, named, below-ages, apart-ages, count-ages, bucket-path, bucket-ages, settled, settled-ages}
+use Rattle.entry_pool.proofs.Sound.{path-link, split, numbers-rows, rows-same, without-split, named, below-ages, apart-ages, count-ages, bucket-path, bucket-ages, settled, settled-ages}
 
 -- a pool that is not full has a first free node
 pub record HasFree (l : Links) : Type 0 where
@@ -92,9 +92,9 @@ module _ (l d : Links) (x : ℕ) (item : Item) (sound : IsSound l) (room : l.cou
   unfolding rows_in
   given-rows =
       let all : rows_of (chains_of d).item (ages_of d) ≡ record { at = x; item = item } ∷ rows_of (chains_of l).item (ages_of l) =
-        ap (λ (zs : List ℕ). rows_of (chains_of d).item zs) ages
-        ∙ ap (λ (it : Item). record { at = x; item = it } ∷ rows_of (chains_of d).item (ages_of l)) given.item_at
-        ∙ ap (λ (rs : List Row). record { at = x; item = item } ∷ rs) (rows-same (chains_of d).item (chains_of l).item (ages_of l) (λ y i. given.item_else y (free_apart y i))) in
+      ap (λ (zs : List ℕ). rows_of (chains_of d).item zs) ages
+      ∙ ap (λ (it : Item). record { at = x; item = it } ∷ rows_of (chains_of d).item (ages_of l)) given.item_at
+      ∙ ap (λ (rs : List Row). record { at = x; item = item } ∷ rs) (rows-same (chains_of d).item (chains_of l).item (ages_of l) (λ y i. given.item_else y (free_apart y i))) in
       λ i. record { sets = heads i; limit = nodes i; rows = all i }
 
 module _ (l d : Links) (x q : ℕ) (sound : IsSound l) (behind : IsBehind x (after_of q none (bucket_of l ((chains_of l).item x).set))) (taken : IsTaken (chains_of l) (chains_of d) x q) (nodes : length d.nodes.items ≡ length l.nodes.items) (heads : length d.heads.items ≡ length l.heads.items) (count : d.count + 1 ≡ l.count) where
@@ -131,9 +131,9 @@ module _ (l d : Links) (x q : ℕ) (sound : IsSound l) (behind : IsBehind x (aft
       let ages : ages_of d ≡ s.front ++ s.rest = settled-ages d (s.front ++ s.rest) (x ∷ frees_of l) (taken-pool s.front s.rest s.is) (less s.front s.rest s.is) in
       let apart : IsDistinct (s.front ++ x ∷ s.rest) = subst (λ (zs : List ℕ). IsDistinct zs) s.is (apart-ages l sound).1 in
       let all : rows_of (chains_of d).item (ages_of d) ≡ without_at x (rows_of (chains_of l).item (ages_of l)) =
-        ap (λ (zs : List ℕ). rows_of (chains_of d).item zs) ages
-        ∙ rows-same (chains_of d).item (chains_of l).item (s.front ++ s.rest) (λ y j. taken.item y)
-        ∙ sym (ap (λ (zs : List ℕ). without_at x (rows_of (chains_of l).item zs)) s.is ∙ without-split x (chains_of l).item s.front s.rest apart) in
+      ap (λ (zs : List ℕ). rows_of (chains_of d).item zs) ages
+      ∙ rows-same (chains_of d).item (chains_of l).item (s.front ++ s.rest) (λ y j. taken.item y)
+      ∙ sym (ap (λ (zs : List ℕ). without_at x (rows_of (chains_of l).item zs)) s.is ∙ without-split x (chains_of l).item s.front s.rest apart) in
       λ i. record { sets = heads i; limit = nodes i; rows = all i }
 
 -- what is held is among the nodes

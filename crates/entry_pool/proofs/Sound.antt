@@ -1,19 +1,17 @@
 -- What is known of a sound pool, and that it stays so.
-use Rattle.std.proofs.Common.{◌≡◌, ◌≢◌, ℕ, zero, suc, ◌+◌, ◌-◌, ◌<◌, ◌≤◌, Bool, true, false, cond, eqb, not, List, [], ◌∷◌, ◌++◌, length, get_or, filter, map, inl, inr, refl, sym, ap, subst, ◌∙◌, arith}
-use Rattle.std.specs.Prelude.{◌⊎◌}
-use Rattle.std.proofs.lemmas.Bool.{eqb-true, eq-eqb, ne_eqb, cond_both, cases_Bool, cases_eq, cases_lt}
-use Rattle.std.proofs.lemmas.List.{length-append, get_or_past}
+use Rattle.std.proofs.Common.{◌≡◌, ℕ, suc, ◌-◌, ◌<◌, ◌≤◌, Bool, cond, not, List, [], ◌∷◌, ◌++◌, length, get_or, inl, inr, refl, sym, ap, subst, ◌∙◌, arith}
+use Rattle.std.proofs.lemmas.Bool.{eq-eqb, ne_eqb, cases_lt}
+use Rattle.std.proofs.lemmas.List.{get_or_past}
 use Rattle.entry_pool.specs.declared.item.Item.{Item}
 use Rattle.entry_pool.specs.declared.row.Row.{Row}
 use Rattle.entry_pool.specs.declared.links.Links.{Links}
-use Rattle.entry_pool.specs.Words.{Fits}
-use Rattle.entry_pool.specs.Chains.{none, IsPath, IsBack, IsIn, IsDistinct, end_of, start_of, Chains, IsPool, is_in_set, after_of, walk, IsTaken, IsGiven}
-use Rattle.entry_pool.specs.Linked.{chains_of, from, IsLink, node_at}
-use Rattle.entry_pool.specs.Rows.{Rows, rows_of, numbers, without_at}
-use Rattle.entry_pool.specs.Pool.{IsSound, ages_of, frees_of, rows_in, bucket_of, IsBehind, CanGive, CanTake}
-use Rattle.entry_pool.proofs.ChainLaws.{path-start, in-left, in-right, in-same}
-use Rattle.entry_pool.proofs.PoolLaws.{filter-in, in-filter, distinct-filter, distinct-left, distinct-apart, distinct-back, walk-path, length-walk, after-in, path-from, after-next, end-found}
-use Rattle.entry_pool.proofs.Moves.{unnamed, filter-keeps, filter-skips, pool-remove, pool-push}
+use Rattle.entry_pool.specs.Chains.{none, IsPath, IsBack, IsIn, IsDistinct, IsPool, is_in_set, after_of, walk}
+use Rattle.entry_pool.specs.Linked.{chains_of, IsLink, node_at}
+use Rattle.entry_pool.specs.Rows.{rows_of, numbers, without_at}
+use Rattle.entry_pool.specs.Pool.{IsSound, ages_of, frees_of, rows_in, bucket_of, IsBehind, CanTake}
+use Rattle.entry_pool.proofs.ChainLaws.{in-left, in-right}
+use Rattle.entry_pool.proofs.PoolLaws.{filter-in, in-filter, distinct-filter, distinct-left, walk-path, length-walk, after-in, path-from, after-next}
+use Rattle.entry_pool.proofs.Moves.{unnamed}
 use Rattle.entry_pool.proofs.LinkLaws.{from-head}
 
 -- links of a path lead to its nodes
@@ -84,10 +82,11 @@ step-in f q x xs (y ∷ ys) path apart i e h n =
       | inl w ↦ absurd (n (from_q.0 ∙ sym w))
       | inr j ↦ j
     ] in
-    let next' : after_of (f q) none xs ≡ ys = subst (λ (k : ℕ). after_of k none xs ≡ ys) (sym from_q.0) next in
-    (subst (λ (k : ℕ). IsIn k (none ∷ xs)) (sym from_q.0) (inr inside),
-     subst (λ (zs : List ℕ). IsIn x zs) (sym next') later,
-     omega (arith, ap (λ (zs : List ℕ). length zs) next'))
+    let next' : after_of (f q) none xs ≡ ys = subst (λ (k : ℕ). after_of k none xs ≡ ys) (sym from_q.0) next in (
+      subst (λ (k : ℕ). IsIn k (none ∷ xs)) (sym from_q.0) (inr inside),
+      subst (λ (zs : List ℕ). IsIn x zs) (sym next') later,
+      omega (arith, ap (λ (zs : List ℕ). length zs) next'),
+    )
 
 -- the end of a search along a path
 pub step-out : (f : ℕ → ℕ) (q x : ℕ) (xs rest : List ℕ) → IsPath f none xs → IsIn q (none ∷ xs) → after_of q none xs ≡ rest → IsIn x rest → f q ≡ x → IsBehind x rest

@@ -1,9 +1,8 @@
 -- The links that are written, one after another, when a node is given or taken.
-use Rattle.std.proofs.Common.{◌≡◌, ◌≢◌, ℕ, ◌<◌, Bool, true, false, cond, eqb, not, List, length, inl, inr, refl, sym, ap, subst, ◌∙◌, arith}
+use Rattle.std.proofs.Common.{◌≡◌, ℕ, Bool, false, cond, eqb, not, inl, inr, refl, sym, ap, ◌∙◌}
 use Rattle.std.specs.Prelude.{◌&&◌, ◌||◌}
-use Rattle.std.proofs.lemmas.Bool.{eqb-true, eq-eqb, ne_eqb, cases_Bool, cases_eq}
+use Rattle.std.proofs.lemmas.Bool.{eq-eqb, ne_eqb, cases_Bool}
 use Rattle.entry_pool.specs.declared.item.Item.{Item}
-use Rattle.entry_pool.specs.declared.node.Node.{Node}
 use Rattle.entry_pool.specs.Chains.{none, Chains, IsGiven, IsTaken}
 use Rattle.entry_pool.specs.Linked.{put, put_next, put_free, put_item, with_node}
 
@@ -25,8 +24,8 @@ next-not set' at to f s j n = ap (λ (b : Bool). cond (b && (eqb s set' || not (
 next-other : (set' at to : ℕ) (f : ℕ → ℕ → ℕ) (s : ℕ) → (s ≡ set' → ⊥) → put_next set' at to f s none ≡ f s none
 next-other set' at to f s n = elim (cases_Bool (eqb none at)) [
   | inl e ↦
-    ap (λ (b : Bool). cond (b && (eqb s set' || false)) to (f s none)) e
-    ∙ ap (λ (b : Bool). cond (b || false) to (f s none)) (ne_eqb s set' n)
+      ap (λ (b : Bool). cond (b && (eqb s set' || false)) to (f s none)) e
+      ∙ ap (λ (b : Bool). cond (b || false) to (f s none)) (ne_eqb s set' n)
   | inr e ↦ ap (λ (b : Bool). cond (b && (eqb s set' || false)) to (f s none)) e
 ]
 

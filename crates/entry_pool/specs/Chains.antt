@@ -1,5 +1,5 @@
 -- Nodes chained by age, by set and as free ones. A link is the number of a node, or none.
-use Rattle.std.specs.Prelude.{◌≡◌, ◌≢◌, ℕ, zero, suc, ◌+◌, ◌<◌, ◌≤◌, ◌^◌, ◌==◌, Bool, cond, List, [], ◌∷◌, ◌++◌, length, filter, ◌⊎◌}
+use Rattle.std.specs.Prelude.{◌≡◌, ◌≢◌, ℕ, zero, suc, ◌+◌, ◌<◌, ◌==◌, Bool, cond, List, [], ◌∷◌, ◌++◌, length, filter, ◌⊎◌}
 use Rattle.entry_pool.specs.declared.item.Item.{Item}
 
 -- the link that leads nowhere; as a node's number it stands for the head of a chain

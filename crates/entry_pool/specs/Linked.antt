@@ -1,5 +1,5 @@
 -- The chains that nodes and heads make.
-use Rattle.std.specs.Prelude.{◌≡◌, ℕ, ◌<◌, ◌==◌, ◌&&◌, ◌||◌, not, if◌then◌else◌, List, slice_index_or, length, ◌⊎◌}
+use Rattle.std.specs.Prelude.{◌≡◌, ℕ, ◌<◌, ◌==◌, ◌&&◌, ◌||◌, not, if◌then◌else◌, List, slice_index_or, ◌⊎◌}
 use Rattle.entry_pool.specs.declared.item.Item.{Item}
 use Rattle.entry_pool.specs.declared.node.Node.{Node}
 use Rattle.entry_pool.specs.declared.links.Links.{Links}

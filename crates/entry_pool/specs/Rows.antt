@@ -1,9 +1,9 @@
 -- A pool as the list of its rows.
-use Rattle.std.specs.Prelude.{◌≡◌, ◌<◌, ◌≤◌, ℕ, ◌-◌, ◌==◌, Bool, not, cond, if◌then◌else◌, Option, MatchOption, List, [], ◌∷◌, length, filter, map, ◌⊎◌}
+use Rattle.std.specs.Prelude.{◌≡◌, ℕ, ◌==◌, not, cond, if◌then◌else◌, Option, MatchOption, List, [], ◌∷◌, filter, map}
 use Rattle.entry_pool.specs.Linked.{with_prediction}
 use Rattle.entry_pool.specs.declared.item.Item.{Item}
 use Rattle.entry_pool.specs.declared.row.Row.{Row}
-use Rattle.entry_pool.specs.Chains.{none, Chains, IsIn}
+use Rattle.entry_pool.specs.Chains.{none, IsIn}
 
 -- a pool: the sets that its rows may belong to, the most rows that it may have, and its rows, newest first
 pub record Rows : Type 0 where

@@ -31,10 +31,7 @@ impl<'a> Model for ByAge<'a> {
 pub(crate) fn rows_by_age(pool: &EntryPool) -> ByAge<'_>
     ensures { result ≡ pool.now.rows }
 {
-    ByAge {
-        pool,
-        mark: NONE,
-    }
+    ByAge { pool, mark: NONE }
 }
 
 impl<'a> Iterator for ByAge<'a> {

@@ -14,7 +14,6 @@ mod words;
 pub use by_age::ByAge;
 pub use in_set::InSet;
 pub use item::Item;
-pub use links::Links;
 pub use node::Node;
 pub use packed_node::PackedNode;
 pub use pool::EntryPool;

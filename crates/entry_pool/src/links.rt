@@ -3,7 +3,6 @@ ghost use Rattle.std.specs.Prelude.{◌≡◌, ◌≢◌, ◌<◌, ◌+◌, ◌^
 ghost use Rattle.entry_pool.specs.Words.{Fits};
 ghost use Rattle.entry_pool.specs.Chains.{none, Chains, IsGiven, IsTaken, IsIn, after_of};
 ghost use Rattle.entry_pool.specs.Linked.{chains_of, IsLink, put, put_next, put_free, put_item, with_node, with_prediction};
-
 ghost use Rattle.entry_pool.specs.Pool.{IsSound, CanGive, CanTake, bucket_of, IsBehind};
 
 use crate::item::Item;
@@ -11,9 +10,9 @@ use crate::node::{NONE, Node};
 use crate::packed_node::PackedNode;
 use record_pages::Prediction;
 
-/// The nodes, and the heads of their chains: `NONE` as the number of a node stands for the head.
+// The nodes, and the heads of their chains: `NONE` as the number of a node stands for the head.
 #[derive(Debug, Drop)]
-pub struct Links {
+pub(crate) struct Links {
     pub(crate) nodes: Vec<PackedNode>,
     pub(crate) heads: Vec<u32>,
     pub(crate) newest: u32,
@@ -109,8 +108,9 @@ impl Links {
         requires set { set < length self.old.heads.items }
         requires to { to < 2 ^ 21 }
         ensures chains { chains_of self.new ≡ record (chains_of self.old) {
-            next = put_next set at to (chains_of self.old).next;
-            free = put_free at to (chains_of self.old).free } }
+          next = put_next set at to (chains_of self.old).next;
+          free = put_free at to (chains_of self.old).free;
+        } }
         ensures nodes { length self.new.nodes.items ≡ length self.old.nodes.items }
         ensures heads { length self.new.heads.items ≡ length self.old.heads.items }
         ensures count { self.new.count ≡ self.old.count }
@@ -228,8 +228,9 @@ impl Links {
     pub(crate) fn set_prediction(&mut self, at: u32, prediction: Prediction)
         requires { at < length self.old.nodes.items }
         ensures chains { chains_of self.new ≡ record (chains_of self.old) {
-            item = put_item at (with_prediction prediction ((chains_of self.old).item at))
-                (chains_of self.old).item } }
+          item = put_item at (with_prediction prediction ((chains_of self.old).item at))
+              (chains_of self.old).item;
+        } }
         ensures nodes { length self.new.nodes.items ≡ length self.old.nodes.items }
         ensures heads { length self.new.heads.items ≡ length self.old.heads.items }
         ensures count { self.new.count ≡ self.old.count }

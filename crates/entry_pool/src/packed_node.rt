@@ -90,7 +90,10 @@ impl PackedNode {
         requires { older < 2 ^ 21 }
         ensures { self.new ≡ record self.old { older = older } }
     {
-        *self = PackedNode::new(Node { older, ..self.get() });
+        *self = PackedNode::new(Node {
+            older,
+            ..self.get()
+        });
     }
 
     /// Has another newer node.
@@ -98,7 +101,10 @@ impl PackedNode {
         requires { newer < 2 ^ 21 }
         ensures { self.new ≡ record self.old { newer = newer } }
     {
-        *self = PackedNode::new(Node { newer, ..self.get() });
+        *self = PackedNode::new(Node {
+            newer,
+            ..self.get()
+        });
     }
 
     /// Has another item.

@@ -102,8 +102,8 @@ impl EntryPool {
         self.links.set_prediction(at, prediction);
     }
 
-    /// Of the rows of a set, the next older one behind a mark: a row's number, or `NONE` for the place before the first.
-    pub fn next_in(&self, set: u32, mark: u32) -> Option<Row>
+    // Of the rows of a set, the next older one behind a mark: a row's number, or `NONE` for the place before the first.
+    pub(crate) fn next_in(&self, set: u32, mark: u32) -> Option<Row>
         requires { IsMark mark (in_set set self.now.rows) }
         ensures { IsNext mark (in_set set self.now.rows) result }
     {
@@ -117,8 +117,8 @@ impl EntryPool {
         })
     }
 
-    /// The next older row behind a mark: a row's number, or `NONE` for the place before the first.
-    pub fn next_older(&self, mark: u32) -> Option<Row>
+    // The next older row behind a mark: a row's number, or `NONE` for the place before the first.
+    pub(crate) fn next_older(&self, mark: u32) -> Option<Row>
         requires { IsMark mark self.now.rows }
         ensures { IsNext mark self.now.rows result }
     {

@@ -1,5 +1,5 @@
 -- The rows of a kind, dropped one after another.
-use Rattle.std.proofs.Common.{◌≡◌, ◌<◌, Bool, Some, None, List, length, not, refl, sym, ap, subst, ◌∙◌}
+use Rattle.std.proofs.Common.{◌≡◌, ◌<◌, Bool, Some, None, length, not, sym, ap, subst, ◌∙◌}
 use Rattle.std.proofs.lemmas.List.Kept.{AllPairs-filter}
 use Rattle.std.specs.Prelude.{◌==◌}
 use Rattle.entry_pool.specs.declared.row.Row.{Row}

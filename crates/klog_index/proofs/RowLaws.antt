@@ -1,17 +1,16 @@
 -- Rows and their entries: found, dropped, lowered.
-use Rattle.std.proofs.Common.{◌≡◌, ◌≢◌, ℕ, zero, suc, ◌<◌, ◌≤◌, ◌-◌, ◌+◌, Bool, true, false, cond, not, eqb, Some, None, Option, List, [], ◌∷◌, ◌++◌, length, get_or, filter, map, All, AllPairs, inl, inr, refl, sym, ap, subst, ◌∙◌, arith}
+use Rattle.std.proofs.Common.{◌≡◌, ◌≢◌, ℕ, zero, suc, ◌<◌, ◌≤◌, ◌-◌, Bool, true, false, cond, not, eqb, Some, None, Option, List, [], ◌∷◌, ◌++◌, length, get_or, filter, map, All, inl, inr, refl, sym, ap, subst, ◌∙◌, arith}
 use Rattle.std.specs.Prelude.{◌&&◌, slice_get}
 use Rattle.std.specs.List.{last_or}
 use Rattle.std.specs.Option.{option_map}
-use Rattle.std.proofs.lemmas.Bool.{cases_Bool, cond_both, eqb-true, eq-eqb, ne_eqb}
+use Rattle.std.proofs.lemmas.Bool.{cases_Bool, cond_both, eq-eqb, ne_eqb}
 use Rattle.std.proofs.lemmas.List.Elements.{All-tail, All-head}
-use Rattle.entry_pool.specs.declared.item.Item.{Item}
 use Rattle.entry_pool.specs.declared.row.Row.{Row}
 use Rattle.entry_pool.specs.Chains.{IsIn, IsDistinct}
 use Rattle.entry_pool.specs.Rows.{numbers, in_set, without_at, with_prediction_at, repredicted}
 use Rattle.klog_index.specs.declared.entry.Entry.{Entry}
 use Rattle.klog_index.specs.declared.place.Place.{Place}
-use Rattle.klog_index.specs.Entries.{without, AreApart, IsFree, lowered, with_lowered, of_set, is_of}
+use Rattle.klog_index.specs.Entries.{without, AreApart, IsFree, lowered, with_lowered, of_set}
 use Rattle.klog_index.specs.Rows.{entry_of, entries_of, RowsApart, row_of}
 
 -- two rows lie at two places
@@ -54,26 +53,26 @@ pub filter-both : {X : Type 0} (p q : X → Bool) (xs : List X) → filter q (fi
 filter-both p q [] = refl
 filter-both p q (x ∷ xs) = elim (cases_Bool (p x)) [
   | inl e ↦
-    ap (λ (b : Bool). filter q (cond b (x ∷ filter p xs) (filter p xs))) e
-    ∙ ap (λ (ys : List _). cond (q x) (x ∷ ys) ys) (filter-both p q xs)
-    ∙ sym (ap (λ (b : Bool). cond (b && q x) (x ∷ filter (λ y. p y && q y) xs) (filter (λ y. p y && q y) xs)) e)
+      ap (λ (b : Bool). filter q (cond b (x ∷ filter p xs) (filter p xs))) e
+      ∙ ap (λ (ys : List _). cond (q x) (x ∷ ys) ys) (filter-both p q xs)
+      ∙ sym (ap (λ (b : Bool). cond (b && q x) (x ∷ filter (λ y. p y && q y) xs) (filter (λ y. p y && q y) xs)) e)
   | inr e ↦
-    ap (λ (b : Bool). filter q (cond b (x ∷ filter p xs) (filter p xs))) e
-    ∙ filter-both p q xs
-    ∙ sym (ap (λ (b : Bool). cond (b && q x) (x ∷ filter (λ y. p y && q y) xs) (filter (λ y. p y && q y) xs)) e)
+      ap (λ (b : Bool). filter q (cond b (x ∷ filter p xs) (filter p xs))) e
+      ∙ filter-both p q xs
+      ∙ sym (ap (λ (b : Bool). cond (b && q x) (x ∷ filter (λ y. p y && q y) xs) (filter (λ y. p y && q y) xs)) e)
 ]
 
 pub entries-in-set : (set : ℕ) (rows : List Row) → entries_of (in_set set rows) ≡ of_set set (entries_of rows)
 entries-in-set set [] = refl
 entries-in-set set (r ∷ rs) = elim (cases_Bool (eqb r.item.set set)) [
   | inl e ↦
-    ap (λ (b : Bool). entries_of (cond b (r ∷ in_set set rs) (in_set set rs))) e
-    ∙ ap (λ (es : List Entry). entry_of r.item ∷ es) (entries-in-set set rs)
-    ∙ sym (ap (λ (b : Bool). cond b (entry_of r.item ∷ of_set set (entries_of rs)) (of_set set (entries_of rs))) e)
+      ap (λ (b : Bool). entries_of (cond b (r ∷ in_set set rs) (in_set set rs))) e
+      ∙ ap (λ (es : List Entry). entry_of r.item ∷ es) (entries-in-set set rs)
+      ∙ sym (ap (λ (b : Bool). cond b (entry_of r.item ∷ of_set set (entries_of rs)) (of_set set (entries_of rs))) e)
   | inr e ↦
-    ap (λ (b : Bool). entries_of (cond b (r ∷ in_set set rs) (in_set set rs))) e
-    ∙ entries-in-set set rs
-    ∙ sym (ap (λ (b : Bool). cond b (entry_of r.item ∷ of_set set (entries_of rs)) (of_set set (entries_of rs))) e)
+      ap (λ (b : Bool). entries_of (cond b (r ∷ in_set set rs) (in_set set rs))) e
+      ∙ entries-in-set set rs
+      ∙ sym (ap (λ (b : Bool). cond b (entry_of r.item ∷ of_set set (entries_of rs)) (of_set set (entries_of rs))) e)
 ]
 
 -- the last entry is that of the last row
@@ -108,12 +107,12 @@ pub found-row : (p : Entry → Bool) (rows : List Row) (r : Row) → row_of p ro
 found-row p [] r h = cc
 found-row p (x ∷ xs) r h = elim (cases_Bool (p (entry_of x.item))) [
   | inl e ↦
-    let w : Some x ≡ Some r = sym (first-here p x xs e) ∙ h in
-    let same : x ≡ r = cc in
-    (subst (λ (y : Row). p (entry_of y.item) ≡ true) same e, inl (ap (λ (y : Row). y.at) (sym same)))
+      let w : Some x ≡ Some r = sym (first-here p x xs e) ∙ h in
+      let same : x ≡ r = cc in
+      (subst (λ (y : Row). p (entry_of y.item) ≡ true) same e, inl (ap (λ (y : Row). y.at) (sym same)))
   | inr e ↦
-    let rest = found-row p xs r (sym (first-later p x xs e) ∙ h) in
-    (rest.0, inr rest.1)
+      let rest = found-row p xs r (sym (first-later p x xs e) ∙ h) in
+      (rest.0, inr rest.1)
 ]
 
 skip-none : (at : ℕ) (rows : List Row) → ¬ IsIn at (numbers rows) → without_at at rows ≡ rows
@@ -127,19 +126,19 @@ pub drop-found : (p : Entry → Bool) (rows : List Row) (r : Row) → IsDistinct
 drop-found p [] r apart h = cc
 drop-found p (x ∷ xs) r apart h = elim (cases_Bool (p (entry_of x.item))) [
   | inl e ↦
-    let w : Some x ≡ Some r = sym (first-here p x xs e) ∙ h in
-    let same : x ≡ r = cc in
-    let skipped : without_at r.at (x ∷ xs) ≡ xs =
+      let w : Some x ≡ Some r = sym (first-here p x xs e) ∙ h in
+      let same : x ≡ r = cc in
+      let skipped : without_at r.at (x ∷ xs) ≡ xs =
       ap (λ (b : Bool). cond (not b) (x ∷ without_at r.at xs) (without_at r.at xs)) (eq-eqb x.at r.at (ap (λ (y : Row). y.at) same))
       ∙ skip-none r.at xs (subst (λ (k : ℕ). ¬ IsIn k (numbers xs)) (ap (λ (y : Row). y.at) same) apart.0) in
-    ap (λ (rs : List Row). without p (entries_of rs)) skipped
-    ∙ sym (ap (λ (b : Bool). cond (not b) (entry_of x.item ∷ without p (entries_of xs)) (without p (entries_of xs))) e)
+      ap (λ (rs : List Row). without p (entries_of rs)) skipped
+      ∙ sym (ap (λ (b : Bool). cond (not b) (entry_of x.item ∷ without p (entries_of xs)) (without p (entries_of xs))) e)
   | inr e ↦
-    let h' = sym (first-later p x xs e) ∙ h in
-    let there = (found-row p xs r h').1 in
-    let differs : x.at ≡ r.at → ⊥ = λ q. apart.0 (subst (λ (k : ℕ). IsIn k (numbers xs)) (sym q) there) in
-    ap (λ (b : Bool). without p (entries_of (cond (not b) (x ∷ without_at r.at xs) (without_at r.at xs)))) (ne_eqb x.at r.at differs)
-    ∙ ap (λ (es : List Entry). cond (not (p (entry_of x.item))) (entry_of x.item ∷ es) es) (drop-found p xs r apart.1 h')
+      let h' = sym (first-later p x xs e) ∙ h in
+      let there = (found-row p xs r h').1 in
+      let differs : x.at ≡ r.at → ⊥ = λ q. apart.0 (subst (λ (k : ℕ). IsIn k (numbers xs)) (sym q) there) in
+      ap (λ (b : Bool). without p (entries_of (cond (not b) (x ∷ without_at r.at xs) (without_at r.at xs)))) (ne_eqb x.at r.at differs)
+      ∙ ap (λ (es : List Entry). cond (not (p (entry_of x.item))) (entry_of x.item ∷ es) es) (drop-found p xs r apart.1 h')
 ]
 
 -- where none is of the kind, all stay
@@ -148,8 +147,8 @@ keep-all p [] h = refl
 keep-all p (x ∷ xs) h = elim (cases_Bool (p (entry_of x.item))) [
   | inl e ↦ let w : Some x ≡ None = sym (first-here p x xs e) ∙ h in absurd (cc)
   | inr e ↦
-    ap (λ (b : Bool). cond (not b) (entry_of x.item ∷ without p (entries_of xs)) (without p (entries_of xs))) e
-    ∙ ap (λ (es : List Entry). entry_of x.item ∷ es) (keep-all p xs (sym (first-later p x xs e) ∙ h))
+      ap (λ (b : Bool). cond (not b) (entry_of x.item ∷ without p (entries_of xs)) (without p (entries_of xs))) e
+      ∙ ap (λ (es : List Entry). entry_of x.item ∷ es) (keep-all p xs (sym (first-later p x xs e) ∙ h))
 ]
 
 length-skip : (at : ℕ) (rows : List Row) → length (without_at at rows) ≤ length rows
@@ -178,8 +177,8 @@ lower-none p [] h = refl
 lower-none p (x ∷ xs) h = elim (cases_Bool (p (entry_of x.item))) [
   | inl e ↦ let w : Some x ≡ None = sym (first-here p x xs e) ∙ h in absurd (cc)
   | inr e ↦
-    ap (λ (b : Bool). cond b (lowered (entry_of x.item)) (entry_of x.item) ∷ with_lowered p (entries_of xs)) e
-    ∙ ap (λ (es : List Entry). entry_of x.item ∷ es) (lower-none p xs (sym (first-later p x xs e) ∙ h))
+      ap (λ (b : Bool). cond b (lowered (entry_of x.item)) (entry_of x.item) ∷ with_lowered p (entries_of xs)) e
+      ∙ ap (λ (es : List Entry). entry_of x.item ∷ es) (lower-none p xs (sym (first-later p x xs e) ∙ h))
 ]
 
 others-stay : (p : Entry → Bool) (place : Place) (x : Row) (xs : List Row) → IsKindOfPlace p place → (entry_of x.item).place ≡ place → All (LieApart x) xs → with_lowered p (entries_of xs) ≡ entries_of xs
@@ -187,8 +186,8 @@ others-stay p place x [] of here apart = refl
 others-stay p place x (y ∷ ys) of here apart = elim (cases_Bool (p (entry_of y.item))) [
   | inl e ↦ absurd (All-head (LieApart x) y ys apart (here ∙ sym (of (entry_of y.item) e)))
   | inr e ↦
-    ap (λ (b : Bool). cond b (lowered (entry_of y.item)) (entry_of y.item) ∷ with_lowered p (entries_of ys)) e
-    ∙ ap (λ (es : List Entry). entry_of y.item ∷ es) (others-stay p place x ys of here (All-tail (LieApart x) y ys apart))
+      ap (λ (b : Bool). cond b (lowered (entry_of y.item)) (entry_of y.item) ∷ with_lowered p (entries_of ys)) e
+      ∙ ap (λ (es : List Entry). entry_of y.item ∷ es) (others-stay p place x ys of here (All-tail (LieApart x) y ys apart))
 ]
 
 numbers-stay : (at n : ℕ) (rows : List Row) → ¬ IsIn at (numbers rows) → with_prediction_at at n rows ≡ rows
@@ -203,21 +202,21 @@ pub lower-found : (p : Entry → Bool) (place : Place) (rows : List Row) (r : Ro
 lower-found p place [] r of apart places h = cc
 lower-found p place (x ∷ xs) r of apart places h = elim (cases_Bool (p (entry_of x.item))) [
   | inl e ↦
-    let w : Some x ≡ Some r = sym (first-here p x xs e) ∙ h in
-    let same : x ≡ r = cc in
-    let here : entries_of (with_prediction_at x.at (x.item.prediction - 1) (x ∷ xs)) ≡ with_lowered p (entries_of (x ∷ xs)) =
+      let w : Some x ≡ Some r = sym (first-here p x xs e) ∙ h in
+      let same : x ≡ r = cc in
+      let here : entries_of (with_prediction_at x.at (x.item.prediction - 1) (x ∷ xs)) ≡ with_lowered p (entries_of (x ∷ xs)) =
       ap (λ (b : Bool). entry_of (cond b (repredicted (x.item.prediction - 1) x) x).item ∷ entries_of (with_prediction_at x.at (x.item.prediction - 1) xs)) (eq-eqb x.at x.at refl)
       ∙ ap (λ (rs : List Row). lowered (entry_of x.item) ∷ entries_of rs) (numbers-stay x.at (x.item.prediction - 1) xs apart.0)
       ∙ ap (λ (es : List Entry). lowered (entry_of x.item) ∷ es) (sym (others-stay p place x xs of (of (entry_of x.item) e) (apart-head x xs places)))
       ∙ sym (ap (λ (b : Bool). cond b (lowered (entry_of x.item)) (entry_of x.item) ∷ with_lowered p (entries_of xs)) e) in
-    subst (λ (y : Row). entries_of (with_prediction_at y.at (y.item.prediction - 1) (x ∷ xs)) ≡ with_lowered p (entries_of (x ∷ xs))) same here
+      subst (λ (y : Row). entries_of (with_prediction_at y.at (y.item.prediction - 1) (x ∷ xs)) ≡ with_lowered p (entries_of (x ∷ xs))) same here
   | inr e ↦
-    let h' = sym (first-later p x xs e) ∙ h in
-    let there = (found-row p xs r h').1 in
-    let differs : x.at ≡ r.at → ⊥ = λ q. apart.0 (subst (λ (k : ℕ). IsIn k (numbers xs)) (sym q) there) in
-    ap (λ (b : Bool). entry_of (cond b (repredicted (r.item.prediction - 1) x) x).item ∷ entries_of (with_prediction_at r.at (r.item.prediction - 1) xs)) (ne_eqb x.at r.at differs)
-    ∙ ap (λ (es : List Entry). entry_of x.item ∷ es) (lower-found p place xs r of apart.1 (apart-tail x xs places) h')
-    ∙ sym (ap (λ (b : Bool). cond b (lowered (entry_of x.item)) (entry_of x.item) ∷ with_lowered p (entries_of xs)) e)
+      let h' = sym (first-later p x xs e) ∙ h in
+      let there = (found-row p xs r h').1 in
+      let differs : x.at ≡ r.at → ⊥ = λ q. apart.0 (subst (λ (k : ℕ). IsIn k (numbers xs)) (sym q) there) in
+      ap (λ (b : Bool). entry_of (cond b (repredicted (r.item.prediction - 1) x) x).item ∷ entries_of (with_prediction_at r.at (r.item.prediction - 1) xs)) (ne_eqb x.at r.at differs)
+      ∙ ap (λ (es : List Entry). entry_of x.item ∷ es) (lower-found p place xs r of apart.1 (apart-tail x xs places) h')
+      ∙ sym (ap (λ (b : Bool). cond b (lowered (entry_of x.item)) (entry_of x.item) ∷ with_lowered p (entries_of xs)) e)
 ]
 
 places-stay : (at n : ℕ) (rows : List Row) (k : ℕ) (d : Row) → (entry_of (get_or (with_prediction_at at n rows) k d).item).place ≡ (entry_of (get_or rows k d).item).place
@@ -242,3 +241,12 @@ length-kept p [] = omega arith
 length-kept p (e ∷ es) =
     let rest = length-kept p es in
     cond_both (p e) (e ∷ filter p es) (filter p es) (λ ys. length ys ≤ length (e ∷ es)) (λ _. omega (arith, rest)) (λ _. omega (arith, rest))
+
+-- the entries of one row more
+pub entries-push : (rows : List Row) (r : Row) → entries_of (rows ++ r ∷ []) ≡ entries_of rows ++ entry_of r.item ∷ []
+entries-push [] r = refl
+entries-push (x ∷ xs) r = ap (λ (es : List Entry). entry_of x.item ∷ es) (entries-push xs r)
+
+pub same-map : {X : Type 0} (xs : List X) → map (λ (x : X). x) xs ≡ xs
+same-map [] = refl
+same-map (x ∷ xs) = ap (λ (ys : List _). x ∷ ys) (same-map xs)

@@ -1,5 +1,5 @@
 -- An index as the rows of its pool.
-use Rattle.std.specs.Prelude.{◌≡◌, ◌≢◌, ℕ, Bool, List, map, filter, AllPairs, Option, slice_get}
+use Rattle.std.specs.Prelude.{◌≢◌, Bool, List, map, filter, AllPairs, Option, slice_get}
 use Rattle.entry_pool.specs.declared.item.Item.{Item}
 use Rattle.entry_pool.specs.declared.row.Row.{Row}
 use Rattle.entry_pool.specs.Rows.{Rows}

@@ -42,7 +42,9 @@ pub(crate) fn row_on(pool: &EntryPool, segment: u16, page: u8) -> Option<Row>
     ensures apart { IsDistinct (numbers pool.now.rows) }
 {
     let _count = pool.len();
-    pool.by_age().filter(|row| lies_on(row, segment, page)).nth(0)
+    pool.by_age()
+        .filter(|row| lies_on(row, segment, page))
+        .nth(0)
 }
 
 ghost use Rattle.klog_index.specs.Rows.{entry_of};

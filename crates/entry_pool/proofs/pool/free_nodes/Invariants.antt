@@ -1,4 +1,4 @@
-use Rattle.std.proofs.Common.{◌≡◌, ◌≤◌}
+use Rattle.std.proofs.Common.{◌≡◌}
 use Rattle.entry_pool.specs.Fresh.{AreFree, number_before}
 use Rattle.entry_pool.proofs.pool.free_nodes.Given as goal
 

@@ -1,9 +1,9 @@
-use Rattle.std.proofs.Common.{◌≡◌, Option, List, Some, None, ℕ, refl, sym, ap, ◌∙◌, rules, tests}
-use Rattle.std.specs.Prelude.{◌==◌, ◌&&◌, slice_get}
+use Rattle.std.proofs.Common.{List, sym, ap, ◌∙◌, rules, tests}
+use Rattle.std.specs.Prelude.{◌==◌, slice_get}
 use Rattle.std.proofs.lemmas.Iterator.Consumers.{nth_from_yields_List, YieldsList-from_filter, YieldsList-from_first}
 use Rattle.entry_pool.specs.declared.row.Row.{Row}
 use Rattle.entry_pool.specs.Rows.{in_set}
-use Rattle.klog_index.specs.Entries.{is_at, is_on, has_tag, is_in}
+use Rattle.klog_index.specs.Entries.{is_at}
 use Rattle.klog_index.specs.Rows.{entry_of}
 use Rattle.klog_index.proofs.RowLaws.{filter-both, same-option}
 use Rattle.klog_index.proofs.rows.row_in.Goals as goal

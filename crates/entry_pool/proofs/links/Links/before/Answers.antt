@@ -1,8 +1,8 @@
 -- Each step leads to the next node of the bucket, and the one that is looked for is still ahead.
-use Rattle.std.proofs.Common.{◌≡◌, ◌<◌, ◌∷◌, ℕ, List, length, inl, refl, sym, ap, subst, ◌∙◌, arith}
+use Rattle.std.proofs.Common.{◌≡◌, ◌<◌, ◌∷◌, ℕ, List, length, inl, refl, sym, subst, ◌∙◌, arith}
 use Rattle.entry_pool.specs.Chains.{none, IsIn, after_of}
 use Rattle.entry_pool.specs.Linked.{chains_of, IsLink}
-use Rattle.entry_pool.specs.Pool.{bucket_of, IsBehind}
+use Rattle.entry_pool.specs.Pool.{bucket_of}
 use Rattle.entry_pool.proofs.PoolLaws.{after-here}
 use Rattle.entry_pool.proofs.Sound.{step-in, step-out, bucket-path, bucket-apart, mark-link}
 use Rattle.entry_pool.proofs.links.Links.before.Goals as goal
@@ -39,10 +39,11 @@ loop-next-preserved c =
     let f = (chains_of l).next c.args.set in
     let q = c.loop-next.before in
     let is : c.loop-next.next ≡ f q = c.loop-next.invariant.2 in
-    let step = step-in f q c.args.at xs (after_of q none xs) (bucket-path l c.requires.sound c.args.set) (bucket-apart l c.requires.sound c.args.set) c.loop-next.invariant.0 refl c.loop-next.invariant.1 (λ e. c.loop-next-test.true (is ∙ e)) in
-    (subst (λ (k : ℕ). IsIn k (none ∷ xs)) (sym is) step.0,
-     subst (λ (k : ℕ). IsIn c.args.at (after_of k none xs)) (sym is) step.1,
-     c.next-next-in-loop-next.ensures)
+    let step = step-in f q c.args.at xs (after_of q none xs) (bucket-path l c.requires.sound c.args.set) (bucket-apart l c.requires.sound c.args.set) c.loop-next.invariant.0 refl c.loop-next.invariant.1 (λ e. c.loop-next-test.true (is ∙ e)) in (
+      subst (λ (k : ℕ). IsIn k (none ∷ xs)) (sym is) step.0,
+      subst (λ (k : ℕ). IsIn c.args.at (after_of k none xs)) (sym is) step.1,
+      c.next-next-in-loop-next.ensures,
+    )
 
 pub returns-clause-next : goal.returns-clause-next
 returns-clause-next c =

@@ -1,7 +1,7 @@
-use Rattle.std.proofs.Common.{◌≡◌, ◌<◌, ℕ, length, ap, ◌∙◌, arith}
+use Rattle.std.proofs.Common.{◌<◌, length, ap, ◌∙◌, arith}
 use Rattle.std.proofs.lemmas.List.{get_or_read}
 use Rattle.entry_pool.specs.declared.node.Node.{Node}
-use Rattle.entry_pool.specs.Linked.{chains_of, blank, node_at}
+use Rattle.entry_pool.specs.Linked.{chains_of, blank}
 use Rattle.entry_pool.proofs.links.Links.item.Goals as goal
 
 pub returns : goal.returns

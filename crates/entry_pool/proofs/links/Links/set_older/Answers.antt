@@ -1,5 +1,5 @@
 -- The head leads elsewhere, or the node does.
-use Rattle.std.proofs.Common.{◌≡◌, ◌<◌, ℕ, length, sym, ap, ◌∙◌, arith}
+use Rattle.std.proofs.Common.{◌≡◌, ◌<◌, length, ap, ◌∙◌, arith}
 use Rattle.std.proofs.lemmas.List.{get_or_read}
 use Rattle.entry_pool.specs.declared.node.Node.{Node}
 use Rattle.entry_pool.specs.Chains.{none}

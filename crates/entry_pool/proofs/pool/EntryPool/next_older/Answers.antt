@@ -1,11 +1,10 @@
 -- What the mark leads to is what comes behind it.
-use Rattle.std.proofs.Common.{◌≡◌, ◌<◌, ℕ, length, inl, inr, sym, ap, ◌∙◌, arith}
+use Rattle.std.proofs.Common.{◌≡◌, inl, inr, arith}
 use Rattle.entry_pool.specs.Chains.{none, IsIn}
-use Rattle.entry_pool.specs.Linked.{chains_of, IsLink}
-use Rattle.entry_pool.specs.Rows.{in_set}
-use Rattle.entry_pool.specs.Pool.{ages_of, bucket_of}
-use Rattle.entry_pool.proofs.Sound.{below-ages, apart-ages, bucket-ages, bucket-path, bucket-apart, mark-link}
-use Rattle.entry_pool.proofs.Marks.{rows-are, bucket-rows, mark-in, next-none, next-some, next-in}
+use Rattle.entry_pool.specs.Linked.{chains_of}
+use Rattle.entry_pool.specs.Pool.{ages_of}
+use Rattle.entry_pool.proofs.Sound.{below-ages, apart-ages}
+use Rattle.entry_pool.proofs.Marks.{rows-are, mark-in, next-none, next-some, next-in}
 use Rattle.entry_pool.proofs.pool.EntryPool.next_older.Goals as goal
 
 pub older-at-requires : goal.older-at-requires

@@ -1,8 +1,8 @@
 -- The head's link towards newer nodes leads to the last of them.
-use Rattle.std.proofs.Common.{◌≡◌, ◌<◌, ℕ, List, None, Some, length, sym, ap, subst, ◌∙◌, arith}
+use Rattle.std.proofs.Common.{◌≡◌, List, None, sym, ap, ◌∙◌, arith}
 use Rattle.std.specs.List.{last_or}
 use Rattle.entry_pool.specs.declared.row.Row.{Row}
-use Rattle.entry_pool.specs.Chains.{none, IsIn, end_of}
+use Rattle.entry_pool.specs.Chains.{none, end_of}
 use Rattle.entry_pool.specs.Linked.{chains_of}
 use Rattle.entry_pool.specs.Pool.{ages_of}
 use Rattle.entry_pool.proofs.ChainLaws.{in-same}

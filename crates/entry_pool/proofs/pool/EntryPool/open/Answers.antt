@@ -1,5 +1,5 @@
 -- An empty pool is sound.
-use Rattle.std.proofs.Common.{◌≡◌, ◌<◌, ◌≤◌, ℕ, List, length, replicate, refl, sym, ap, ◌∙◌, arith, rules}
+use Rattle.std.proofs.Common.{◌≡◌, length, replicate, refl, arith, rules}
 use Rattle.entry_pool.specs.Chains.{none}
 use Rattle.entry_pool.proofs.FreshLaws.{fresh-sound, fresh-rows}
 use Rattle.entry_pool.proofs.pool.EntryPool.open.Goals as goal

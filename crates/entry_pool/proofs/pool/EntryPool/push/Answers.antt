@@ -1,11 +1,10 @@
 -- The first free node goes to the front of the chains.
-use Rattle.std.proofs.Common.{◌≡◌, ◌<◌, ◌≤◌, ◌^◌, ◌∷◌, List, ℕ, length, sym, ap, subst, ◌∙◌, arith}
-use Rattle.entry_pool.specs.declared.row.Row.{Row}
+use Rattle.std.proofs.Common.{◌≡◌, ◌<◌, ◌∷◌, ℕ, length, sym, ap, subst, ◌∙◌, arith}
 use Rattle.entry_pool.specs.declared.links.Links.{Links}
 use Rattle.entry_pool.specs.Linked.{chains_of}
 use Rattle.entry_pool.specs.Words.{Fits}
 use Rattle.entry_pool.specs.Rows.{Rows, with_rows}
-use Rattle.entry_pool.specs.Pool.{rows_in, ages_of, CanGive, IsSound}
+use Rattle.entry_pool.specs.Pool.{rows_in, ages_of, IsSound}
 use Rattle.entry_pool.proofs.Sound.{length-rows, count-ages}
 use Rattle.entry_pool.proofs.Settled.{can-give, given-sound, given-rows}
 use Rattle.entry_pool.proofs.pool.EntryPool.push.Goals as goal

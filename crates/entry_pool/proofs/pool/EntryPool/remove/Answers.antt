@@ -1,11 +1,10 @@
 -- The node goes out of its chains.
-use Rattle.std.proofs.Common.{◌≡◌, ◌<◌, ◌∷◌, List, ℕ, length, sym, ap, subst, ◌∙◌, arith}
+use Rattle.std.proofs.Common.{◌≡◌, ◌∷◌, ℕ, sym, ap, subst, ◌∙◌}
 use Rattle.entry_pool.specs.declared.item.Item.{Item}
 use Rattle.entry_pool.specs.Chains.{none, IsIn, after_of}
 use Rattle.entry_pool.specs.declared.links.Links.{Links}
-use Rattle.entry_pool.specs.Linked.{chains_of}
 use Rattle.entry_pool.specs.Rows.{Rows, with_rows, without_at, IsHeld}
-use Rattle.entry_pool.specs.Pool.{rows_in, ages_of, bucket_of, IsBehind, CanTake, IsSound}
+use Rattle.entry_pool.specs.Pool.{rows_in, ages_of, bucket_of, IsBehind}
 use Rattle.entry_pool.proofs.Sound.{below-ages, in-own, can-take}
 use Rattle.entry_pool.proofs.Settled.{held-ages, taken-sound, taken-rows}
 use Rattle.entry_pool.proofs.pool.EntryPool.remove.Goals as goal

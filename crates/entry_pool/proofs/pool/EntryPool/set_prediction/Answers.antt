@@ -1,4 +1,4 @@
-use Rattle.std.proofs.Common.{◌≡◌, ◌<◌, ℕ, length, sym, ap, subst, ◌∙◌, arith}
+use Rattle.std.proofs.Common.{sym, ap, subst, ◌∙◌}
 use Rattle.entry_pool.specs.Rows.{Rows, with_rows, with_prediction_at, IsHeld}
 use Rattle.entry_pool.proofs.Sound.{below-ages}
 use Rattle.entry_pool.proofs.Settled.{held-ages}

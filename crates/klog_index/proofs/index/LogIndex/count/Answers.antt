@@ -1,4 +1,4 @@
-use Rattle.std.proofs.Common.{◌≡◌, ◌≤◌, ◌<◌, ◌+◌, ◌^◌, List, length, filter, inl, inr, sym, ap, subst, ◌∙◌, rules, arith}
+use Rattle.std.proofs.Common.{◌≡◌, ◌≤◌, List, length, inl, ap, ◌∙◌, arith}
 use Rattle.std.proofs.lemmas.Iterator.Consumers.{count_from_yields_List, YieldsList-from_first}
 use Rattle.std.proofs.lemmas.List.Sums.{length-filter}
 use Rattle.klog_index.specs.declared.entry.Entry.{Entry}

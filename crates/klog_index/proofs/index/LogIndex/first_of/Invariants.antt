@@ -1,0 +1,7 @@
+use Rattle.klog_index.specs.First.{FindsFirst}
+use Rattle.klog_index.specs.Rows.{entries_of}
+use Rattle.klog_index.proofs.index.LogIndex.first_of.Given as goal
+
+-- the first of the rows so far
+abbrev pub invariant-loop-row : goal.invariant-loop-row
+invariant-loop-row l = FindsFirst l.segment (entries_of l.yielded) l.first
