@@ -1,1 +1,4 @@
 pub mod EntryLaws
+pub mod RowLaws
+pub mod Dropping
+pub mod Lowering

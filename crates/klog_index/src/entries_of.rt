@@ -1,38 +1,49 @@
 // The walk over the entries of a set.
 ghost use Rattle.std.specs.Prelude.{◌≡◌};
-ghost use Rattle.klog_index.specs.Entries.{of_set};
+ghost use Rattle.klog_index.specs.Rows.{entry_of, entries_of};
 
 use crate::entry::Entry;
-use std::collections::VecDeque;
-use std::collections::vec_deque::Iter;
+use crate::place::Place;
+use entry_pool::{InSet, Item};
 use std::marker::Model;
 
 /// The entries of a set, newest first.
 #[derive(Debug, Drop)]
 pub struct EntriesOf<'a> {
-    rest: Iter<'a, Entry>,
-    set: u32,
+    rows: InSet<'a>,
 }
 
 /// The entries that are left, newest first.
 impl<'a> Model for EntriesOf<'a> {
     ghost use Rattle.std.specs.Prelude.{List};
-    ghost use Rattle.std.specs.VecDeque.Iter.{deque_iter_rest};
     ghost use Rattle.klog_index.specs.declared.entry.Entry.{Entry};
-    ghost use Rattle.klog_index.specs.Entries.{of_set};
+    ghost use Rattle.klog_index.specs.Rows.{entries_of};
 
     ghost Value = { List Entry };
 
-    ghost view = { λ x. of_set x.set (deque_iter_rest x.rest) };
+    ghost view = { λ x. entries_of x.rows };
 }
 
-// The entries of a set among these.
-pub(crate) fn entries_in(entries: &VecDeque<Entry>, set: u32) -> EntriesOf<'_>
-    ensures { result ≡ of_set set entries.now.items }
+// The entries of these rows.
+pub(crate) fn entries_in(rows: InSet<'_>) -> EntriesOf<'_>
+    ensures { result ≡ entries_of rows.entry }
 {
-    EntriesOf {
-        rest: entries.iter(),
-        set,
+    EntriesOf { rows }
+}
+
+// The entry that an item notes.
+pub(crate) fn entry_of(item: &Item) -> Entry
+    ensures { result ≡ entry_of item.now }
+{
+    Entry {
+        set: item.set,
+        tag: item.tag,
+        place: Place {
+            segment: item.segment,
+            page: item.page,
+            slot: item.slot,
+        },
+        prediction: item.prediction,
     }
 }
 
@@ -46,11 +57,7 @@ impl<'a> Iterator for EntriesOf<'a> {
     ghost remaining = { item_count (λ rest. rest) };
 
     fn next(&mut self) -> Option<Entry> {
-        while let Some(entry) = self.rest.next() {
-            if entry.set == self.set {
-                return Some(*entry);
-            }
-        }
-        None
+        let row = self.rows.next()?;
+        Some(entry_of(&row.item))
     }
 }

@@ -1,35 +1,33 @@
-// The index of a log as a plain list.
+// The index of a log over a pool of packed entries.
 ghost use Rattle.std.specs.Prelude.{◌≡◌, ◌<◌, ◌≤◌, ◌↔◌, [], ◌∷◌, IfOk, IsErr, IsTrue, None, OnOk, OnErr, length, count_by, slice_get};
 ghost use Rattle.std.specs.List.{last_or};
 
-use crate::entries_of::{EntriesOf, entries_in};
+use crate::entries_of::{EntriesOf, entries_in, entry_of};
 use crate::entry::Entry;
 use crate::index_full::IndexFull;
 use crate::place::Place;
+use crate::rows::{row_at, row_in, row_on, row_with_tag};
+use entry_pool::{EntryPool, Item, Row};
 use record_pages::Prediction;
 use std::alloc::{AllocError, Global};
-use std::collections::VecDeque;
 use std::marker::Model;
 
 /// The live records of a log. All memory is taken when it is opened.
 #[derive(Debug, Drop)]
 pub struct LogIndex {
-    sets: u32,
-    limit: usize,
-    entries: VecDeque<Entry>,
+    pool: EntryPool,
 }
 
 /// Its entries, newest first. No two lie at one place.
 impl Model for LogIndex {
-    ghost use Rattle.std.specs.Prelude.{◌≤◌, length};
-    ghost use Rattle.std.specs.VecDeque.{deque_capacity};
-    ghost use Rattle.klog_index.specs.Entries.{Entries, AreApart};
+    ghost use Rattle.klog_index.specs.Entries.{Entries};
+    ghost use Rattle.klog_index.specs.Rows.{index_of, RowsApart};
 
     ghost Value = { Entries };
 
-    ghost view = { λ x. record { sets = x.sets; limit = x.limit; entries = x.entries.items } };
+    ghost view = { λ x. index_of x.pool };
 
-    ghost invariant = { λ x. (length x.entries.items ≤ x.limit) × (x.limit ≤ deque_capacity x.entries) × AreApart x.entries.items };
+    ghost invariant = { λ x. RowsApart x.pool.rows };
 }
 
 ghost use Rattle.klog_index.specs.Entries.{Entries, with_entries, without, with_lowered, of_set, of_tag, is_of, has_tag, is_at, is_in, is_on, IsFree, AreApart};
@@ -42,11 +40,8 @@ impl LogIndex {
         requires entries { entries ≤ 1048576 }
         ensures { IfOk result (λ x. x ≡ record { sets = sets; limit = entries; entries = [] }) }
     {
-        let limit = entries as usize;
         Ok(LogIndex {
-            sets,
-            limit,
-            entries: VecDeque::with_capacity(alloc, limit)?,
+            pool: EntryPool::open(alloc, sets, entries)?,
         })
     }
 
@@ -56,21 +51,21 @@ impl LogIndex {
         ensures within { length self.now.entries ≤ self.now.limit }
         ensures apart { AreApart self.now.entries }
     {
-        self.entries.len()
+        self.pool.len()
     }
 
     /// Whether there are no entries.
     pub fn is_empty(&self) -> bool
         ensures { IsTrue result ↔ (self.now.entries ≡ []) }
     {
-        self.entries.is_empty()
+        self.pool.len() == 0
     }
 
     /// Whether `add` would be refused.
     pub fn is_full(&self) -> bool
         ensures { IsTrue result ↔ (length self.now.entries ≡ self.now.limit) }
     {
-        self.entries.len() == self.limit
+        self.pool.len() == self.pool.limit()
     }
 
     /// Adds the entry of a new record before the others, or leaves all as it was where the index is full.
@@ -92,13 +87,20 @@ impl LogIndex {
             ∷ self.old.entries)) }
         ensures err { OnErr result (self.new ≡ self.old) }
     {
-        if self.entries.len() == self.limit {
+        if self.pool.len() == self.pool.limit() {
             return Err(IndexFull);
         }
-        self.entries.push_front_reserved(Entry {
+        let Place {
+            segment,
+            page,
+            slot,
+        } = place;
+        let _number = self.pool.push(Item {
             set,
             tag,
-            place,
+            segment,
+            page,
+            slot,
             prediction,
         });
         Ok(())
@@ -108,47 +110,39 @@ impl LogIndex {
     pub fn find(&self, set: u32, tag: u16, skip: usize) -> Option<Entry>
         ensures { result ≡ slice_get (of_tag set tag self.now.entries) skip }
     {
-        self.entries
-            .iter()
-            .filter(|e| e.set == set && e.tag == tag)
-            .nth(skip)
-            .copied()
+        self.entries_of(set).filter(|e| e.tag == tag).nth(skip)
     }
 
     /// Of the entries of a set, the one that many behind the newest.
     pub fn of_set(&self, set: u32, skip: usize) -> Option<Entry>
         ensures { result ≡ slice_get (of_set set self.now.entries) skip }
     {
-        self.entries
-            .iter()
-            .filter(|entry| entry.set == set)
-            .nth(skip)
-            .copied()
+        self.entries_of(set).nth(skip)
     }
 
     /// The entries of a set, newest first.
     pub fn entries_of(&self, set: u32) -> EntriesOf<'_>
         ensures { result ≡ of_set set self.now.entries }
     {
-        entries_in(&self.entries, set)
+        entries_in(self.pool.in_set(set))
     }
 
     /// The oldest entry.
     pub fn oldest(&self) -> Option<Entry>
         ensures { result ≡ last_or None self.now.entries }
     {
-        let count = self.entries.len();
-        if count == 0 {
-            return None;
+        match self.pool.oldest() {
+            Some(row) => Some(entry_of(&row.item)),
+            None => None,
         }
-        Some(self.entries[count - 1])
     }
 
     /// How many entries a set has.
     pub fn count(&self, set: u32) -> usize
         ensures { result ≡ count_by (is_of set) self.now.entries }
     {
-        self.entries.iter().filter(|e| e.set == set).count()
+        let _count = self.len();
+        self.entries_of(set).count()
     }
 
     /// The entry of least page, then slot, of the segment with this name.
@@ -156,8 +150,8 @@ impl LogIndex {
         ensures { FindsFirst segment self.now.entries result }
     {
         let mut first = None;
-        for i in 0..self.entries.len() {
-            first = first_with(segment, first, &self.entries[i]);
+        for row in self.pool.by_age() {
+            first = first_with(segment, first, &entry_of(&row.item));
         }
         first
     }
@@ -166,37 +160,44 @@ impl LogIndex {
     pub fn drop_tag(&mut self, set: u32, tag: u16)
         ensures { self.new ≡ with_entries self.old (without (has_tag set tag) self.old.entries) }
     {
-        self.entries.retain(|e| !(e.set == set && e.tag == tag));
+        while let Some(row) = row_with_tag(&self.pool, set, tag) {
+            self.pool.remove(row.at);
+        }
     }
 
     /// Drops the entry at a place, if there is one.
     pub fn drop_at(&mut self, place: Place)
         ensures { self.new ≡ with_entries self.old (without (is_at place) self.old.entries) }
     {
-        self.entries.retain(|e| e.place != place);
+        while let Some(row) = row_at(&self.pool, place) {
+            self.pool.remove(row.at);
+        }
     }
 
     /// Drops the entry of a set at a place, if there is one.
     pub fn drop_in(&mut self, set: u32, place: Place)
         ensures { self.new ≡ with_entries self.old (without (is_in set place) self.old.entries) }
     {
-        self.entries.retain(|e| !(e.set == set && e.place == place));
+        while let Some(row) = row_in(&self.pool, set, place) {
+            self.pool.remove(row.at);
+        }
     }
 
     /// Drops the entries of a page of the segment with this name.
     pub fn drop_page(&mut self, segment: u16, page: u8)
         ensures { self.new ≡ with_entries self.old (without (is_on segment page) self.old.entries) }
     {
-        self.entries
-            .retain(|e| !(e.place.segment == segment && e.place.page == page));
+        while let Some(row) = row_on(&self.pool, segment, page) {
+            self.pool.remove(row.at);
+        }
     }
 
     /// Lowers the prediction of the entry at a place, if there is one, by one, not below 0.
     pub fn lower(&mut self, place: Place)
         ensures { self.new ≡ with_entries self.old (with_lowered (is_at place) self.old.entries) }
     {
-        if let Some(at) = slot_of(&self.entries, place) {
-            lower_one(&mut self.entries, at);
+        if let Some(row) = row_at(&self.pool, place) {
+            lower_one(&mut self.pool, row);
         }
     }
 
@@ -205,62 +206,22 @@ impl LogIndex {
         ensures { self.new
             ≡ with_entries self.old (with_lowered (is_in set place) self.old.entries) }
     {
-        if let Some(at) = slot_in(&self.entries, set, place) {
-            lower_one(&mut self.entries, at);
+        if let Some(row) = row_in(&self.pool, set, place) {
+            lower_one(&mut self.pool, row);
         }
     }
 }
 
 ghost use Rattle.std.specs.Prelude.{◌-◌, Option, List, ℕ, ◌++◌};
-ghost use Rattle.std.specs.VecDeque.{deque_capacity};
-ghost use Rattle.klog_index.specs.Entries.{lower_at, FindsSlot};
+ghost use Rattle.entry_pool.specs.Rows.{IsHeld, with_rows, with_prediction_at};
 
-// Where the entry at a place stands in the list.
-fn slot_of(entries: &VecDeque<Entry>, place: Place) -> Option<usize>
-    ensures { FindsSlot (is_at place) entries.now.items result }
+// Lowers the prediction of one row.
+fn lower_one(pool: &mut EntryPool, row: Row)
+    requires { IsHeld row.at pool.old.rows }
+    ensures { pool.new
+        ≡ with_rows pool.old (with_prediction_at row.at (row.item.prediction - 1) pool.old.rows) }
 {
-    for i in 0..entries.len() {
-        if is_at(&entries[i], place) {
-            return Some(i);
-        }
-    }
-    None
-}
-
-// Where the entry of a set at a place stands in the list.
-fn slot_in(entries: &VecDeque<Entry>, set: u32, place: Place) -> Option<usize>
-    ensures { FindsSlot (is_in set place) entries.now.items result }
-{
-    for i in 0..entries.len() {
-        if is_in(&entries[i], set, place) {
-            return Some(i);
-        }
-    }
-    None
-}
-
-// Whether an entry lies at a place.
-fn is_at(entry: &Entry, place: Place) -> bool
-    ensures { result ≡ is_at place entry.now }
-{
-    entry.place == place
-}
-
-// Whether an entry is of a set and lies at a place.
-fn is_in(entry: &Entry, set: u32, place: Place) -> bool
-    ensures { result ≡ is_in set place entry.now }
-{
-    entry.set == set && entry.place == place
-}
-
-// Lowers the prediction of one entry.
-fn lower_one(entries: &mut VecDeque<Entry>, at: usize)
-    requires { at < length entries.old.items }
-    ensures capacity { deque_capacity entries.new ≡ deque_capacity entries.old }
-    ensures items { entries.new.items ≡ lower_at at entries.old.items }
-{
-    let entry = &mut entries[at];
-    entry.prediction = sooner(entry.prediction);
+    pool.set_prediction(row.at, sooner(row.item.prediction));
 }
 
 // A prediction one less, and not below 0.

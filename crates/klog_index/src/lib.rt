@@ -6,6 +6,7 @@ mod entry;
 mod index;
 mod index_full;
 mod place;
+mod rows;
 
 pub use entries_of::EntriesOf;
 pub use entry::Entry;

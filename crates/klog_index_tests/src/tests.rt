@@ -1,7 +1,10 @@
 //! An index with a few entries, by each of its calls.
 ghost use Rattle.std.specs.Prelude.{◌≡◌};
 
-use klog_index::{IndexFull, LogIndex, Place};
+mod compared;
+mod plain_index;
+
+use klog_index::{Entry, IndexFull, LogIndex, Place};
 use record_pages::Prediction;
 use std::alloc::Global;
 use std::test::Fail;
@@ -93,5 +96,38 @@ fn entries_are_dropped_by_kind(rt: HostRuntime) -> Result<(), Fail> {
     let mut index = with_two(rt.alloc())?;
     index.drop_page(257, 1);
     assert_eq!(rt; index.of_set(2, 0).map(|e| e.tag), Some(8));
+    Ok(())
+}
+
+#[test]
+fn the_widest_numbers_have_room(rt: HostRuntime) -> Result<(), Fail> {
+    let seven = Prediction::new(7).unwrap();
+    let widest = Place {
+        segment: 257,
+        page: 63,
+        slot: 63,
+    };
+    let mut index = LogIndex::open(rt.alloc(), 65536, 1)?;
+    index.add(65535, 65535, widest, seven)?;
+    assert_eq!(rt;
+        index.find(65535, 65535, 0),
+        Some(Entry {
+            set: 65535,
+            tag: 65535,
+            place: widest,
+            prediction: seven,
+        })
+    );
+    assert_eq!(rt; index.find(65535, 65535, 1), None);
+    assert_eq!(rt; index.add(0, 0, place(0, 0), seven), Err(IndexFull));
+    index.lower(widest);
+    assert_eq!(rt;
+        index.find(65535, 65535, 0).map(|e| e.prediction.get()),
+        Some(6)
+    );
+    index.drop_at(widest);
+    assert_eq!(rt; index.find(65535, 65535, 0), None);
+    index.add(65535, 65535, widest, seven)?;
+    assert_eq!(rt; index.oldest().map(|e| e.place), Some(widest));
     Ok(())
 }

@@ -1,23 +1,21 @@
-use Rattle.std.proofs.Common.{◌≡◌, List, length, not, ap, sym, subst, ◌∙◌, rules, arith, ◌≤◌}
-use Rattle.std.proofs.lemmas.Fn.{filter_same}
-use Rattle.klog_index.specs.declared.entry.Entry.{Entry}
-use Rattle.klog_index.specs.Entries.{has_tag, without, AreApart, Entries, with_entries}
-use Rattle.klog_index.proofs.EntryLaws.{apart_without, length-without}
+-- A row of the kind goes, and what is not of the kind stays.
+use Rattle.klog_index.specs.Entries.{has_tag}
+use Rattle.klog_index.proofs.Dropping.{dropping-none, dropping-step, dropping-held, dropping-fewer, dropping-end}
 use Rattle.klog_index.proofs.index.LogIndex.drop_tag.Goals as goal
 
-kept : (c : goal.After-retain) → c.retain.new.self.items ≡ without (has_tag c.args.set c.args.tag) c.self.inside.entries.items
-kept c = filter_same _ (λ e. not (has_tag c.args.set c.args.tag e)) _ (λ x b f h. (search rules, search rules)) _ _ c.retain.ensures.filtered
+pub loop-row-init : goal.loop-row-init
+loop-row-init c = dropping-none (has_tag c.args.set c.args.tag) c.args.self.now c.self.inside.pool c.self.view_is c.self.invariant
+
+pub remove-requires : goal.remove-requires
+remove-requires c = dropping-held (has_tag c.args.set c.args.tag) c.loop-row.self-inside.pool c.in-Some.row c.in-Some.ensures.found
+
+pub loop-row-smaller : goal.loop-row-smaller
+loop-row-smaller c =
+    dropping-fewer (has_tag c.args.set c.args.tag) c.loop-row.self-inside.pool c.remove.new.self c.in-Some.row c.in-Some.ensures.found c.remove.ensures
+
+pub loop-row-preserved : goal.loop-row-preserved
+loop-row-preserved c =
+    dropping-step (has_tag c.args.set c.args.tag) c.args.self.now c.loop-row.self-inside.pool c.remove.new.self c.in-Some.row c.loop-row.invariant c.in-Some.ensures.apart c.in-Some.ensures.found c.remove.ensures
 
 pub returns : goal.returns
-returns c =
-    let of : Entries → Entries = λ x. with_entries x (without (has_tag c.args.set c.args.tag) x.entries) in
-    let is : of (record { sets = c.self.inside.sets; limit = c.self.inside.limit; entries = c.self.inside.entries.items }) ≡ of c.args.self.now = ap of c.self.view_is in
-    ap (λ (es : List Entry). with_entries (record { sets = c.self.inside.sets; limit = c.self.inside.limit; entries = c.self.inside.entries.items }) es) (kept c) ∙ is
-
-pub invariant_of-self : goal.invariant_of-self
-invariant_of-self c =
-    let es = c.self.inside.entries.items in (
-      subst (λ (xs : List Entry). length xs ≤ c.self.inside.limit) (sym (kept c)) (omega (arith, c.self.invariant.0, length-without (has_tag c.args.set c.args.tag) es)),
-      omega (arith, c.self.invariant.1, c.retain.ensures.capacity),
-      subst AreApart (sym (kept c)) (apart_without (has_tag c.args.set c.args.tag) es c.self.invariant.2),
-    )
+returns c = dropping-end (has_tag c.args.set c.args.tag) c.args.self.now c.loop-row.self-inside.pool c.loop-row.invariant c.in_default.ensures.found

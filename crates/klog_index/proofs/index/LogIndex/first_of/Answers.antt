@@ -1,15 +1,25 @@
-use Rattle.std.proofs.Common.{◌≡◌, ◌<◌, ◌+◌, ◌++◌, ◌∷◌, [], take, get_or, List, length, sym, subst, ap, ◌∙◌, rules}
-use Rattle.std.proofs.lemmas.List.{take_more}
+-- Each row is weighed against the first so far.
+use Rattle.std.proofs.Common.{◌≡◌, ◌∷◌, ◌++◌, [], List, sym, ap, subst, ◌∙◌}
+use Rattle.std.proofs.lemmas.Iterator.Consumers.{YieldsList-end, YieldsList-from_first}
+use Rattle.entry_pool.specs.declared.row.Row.{Row}
 use Rattle.klog_index.specs.declared.entry.Entry.{Entry}
-use Rattle.klog_index.specs.First.{FindsFirst}
 use Rattle.klog_index.specs.Entries.{Entries}
+use Rattle.klog_index.specs.First.{FindsFirst}
+use Rattle.klog_index.specs.Rows.{entries_of}
+use Rattle.klog_index.proofs.RowLaws.{entries-push, same-map}
 use Rattle.klog_index.proofs.index.LogIndex.first_of.Goals as goal
 
-pub loop-i-preserved : goal.loop-i-preserved
-loop-i-preserved c =
-    let es = c.args.self.now.entries in
-    let e = c.index.result.now in
-    let lt : c.loop-i.i < length es = search rules in
-    let at : e ≡ get_or es c.loop-i.i e = c.index.ensures ∙ ap (λ (x : Entries). get_or x.entries c.loop-i.i e) c.self.view_is in
-    let more : take (c.loop-i.i + 1) es ≡ take c.loop-i.i es ++ e ∷ [] = take_more es c.loop-i.i e lt ∙ ap (λ (x : Entry). take c.loop-i.i es ++ x ∷ []) (sym at) in
-    subst (λ (xs : List Entry). FindsFirst c.args.segment xs c.first_with-first.result) (sym more) (c.first_with-first.ensures (take c.loop-i.i es) c.loop-i.invariant)
+pub loop-row-preserved : goal.loop-row-preserved
+loop-row-preserved c =
+    let es = entries_of c.loop-row.yielded in
+    let more : es ++ c.entry_of.result ∷ [] ≡ entries_of (c.loop-row.yielded ++ c.in-Some.row ∷ []) =
+    ap (λ (e : Entry). es ++ e ∷ []) c.entry_of.ensures ∙ sym (entries-push c.loop-row.yielded c.in-Some.row) in
+    subst (λ (xs : List Entry). FindsFirst c.args.segment xs c.first_with-first.result) more (c.first_with-first.ensures es c.loop-row.invariant)
+
+pub returns : goal.returns
+returns c =
+    let rows = c.self.inside.pool.rows in
+    let end = YieldsList-end (YieldsList-from_first (λ x. x) (λ rest. rest) rows cc) c.loop-row.yielded _ c.loop-row.yielded_by _ _ c.in-None.is c.next.ensures.steps in
+    let all : c.loop-row.yielded ≡ rows = sym (same-map c.loop-row.yielded) ∙ end.0 in
+    subst (λ (x : Entries). FindsFirst c.args.segment x.entries c.loop-row.first) c.self.view_is
+    (subst (λ (rs : List Row). FindsFirst c.args.segment (entries_of rs) c.loop-row.first) all c.loop-row.invariant)

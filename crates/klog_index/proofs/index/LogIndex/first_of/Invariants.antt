@@ -1,6 +1,7 @@
-use Rattle.std.proofs.Common.{take}
 use Rattle.klog_index.specs.First.{FindsFirst}
+use Rattle.klog_index.specs.Rows.{entries_of}
 use Rattle.klog_index.proofs.index.LogIndex.first_of.Given as goal
 
-abbrev pub invariant-loop-i : goal.invariant-loop-i
-invariant-loop-i l = FindsFirst l.segment (take l.i l.self.entries) l.first
+-- the first of the rows so far
+abbrev pub invariant-loop-row : goal.invariant-loop-row
+invariant-loop-row l = FindsFirst l.segment (entries_of l.yielded) l.first

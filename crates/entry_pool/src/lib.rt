@@ -1,0 +1,20 @@
+//! The entries of an index in packed words: two words an entry, chained by age and by set.
+#![tactic(auto)]
+
+mod by_age;
+mod in_set;
+mod item;
+mod links;
+mod node;
+mod packed_node;
+mod pool;
+mod row;
+mod words;
+
+pub use by_age::ByAge;
+pub use in_set::InSet;
+pub use item::Item;
+pub use node::Node;
+pub use packed_node::PackedNode;
+pub use pool::EntryPool;
+pub use row::Row;

@@ -1,0 +1,8 @@
+use Rattle.std.proofs.Common.{subst}
+use Rattle.klog_index.specs.Entries.{Entries, AreApart}
+use Rattle.klog_index.proofs.RowLaws.{apart-entries}
+use Rattle.klog_index.proofs.index.LogIndex.len.Goals as goal
+
+pub returns-clause-apart : goal.returns-clause-apart
+returns-clause-apart c =
+    subst (λ (x : Entries). AreApart x.entries) c.self.view_is (apart-entries c.self.inside.pool.rows c.self.invariant)
