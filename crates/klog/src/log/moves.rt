@@ -35,10 +35,13 @@ impl<const PAGE: usize> KLog<PAGE> {
         if self.stored == 0 {
             return Oldest::NoSegment;
         }
-        match self.index.first_of(self.name_of(self.first)) {
-            Some(entry) => Oldest::First(entry),
-            None => Oldest::Empty,
+        let Some(entry) = self.index.oldest() else {
+            return Oldest::Empty;
+        };
+        if self.number_of(entry.place.segment) != self.first {
+            return Oldest::Empty;
         }
+        Oldest::First(entry)
     }
 
     /// Frees the oldest segment on the device, none of whose records is live.
