@@ -212,8 +212,9 @@ impl<const PAGE: usize> KLog<PAGE> {
             IfOk result (Gathers self.now set (live_on (D.held device.old) self.now)) }
     {
         let mut records = TakenRecords::new(alloc);
-        for behind in 0..MAX_TAKEN {
-            let Some(entry) = self.index.of_set(set, behind) else {
+        let mut entries = self.index.entries_of(set);
+        for _ in 0..MAX_TAKEN {
+            let Some(entry) = entries.next() else {
                 return Ok(Gathered::Records(records));
             };
             let Some(taken) = self.copy(alloc, device, &entry)? else {
