@@ -21,12 +21,13 @@ use record_pages::{LogPage, PAGE_OVERHEAD, RecordRef};
 use set_hash::place;
 
 impl<const PAGE: usize> KLog<PAGE> {
-    // The record of an entry: out of a buffer, or off its page, which is read into these bytes.
+    // The record of an entry: out of a buffer, or off its page, which is read into these bytes. They are made where one
+    // is read.
     pub(super) fn fetch<'a, D: PageDevice<PAGE>>(
         &'a self,
         device: &mut D,
         entry: &Entry,
-        bytes: &'a mut [u8; PAGE],
+        bytes: &'a mut Option<[u8; PAGE]>,
     ) -> Fetched<'a>
         requires page_size { IsPageSize PAGE }
         requires room { HasRoom (D.page_count device.old) self.now }
@@ -50,7 +51,8 @@ impl<const PAGE: usize> KLog<PAGE> {
         if self.is_flushing && number == self.flushed_number() {
             return self.checked(entry, record_in(&self.flushing, entry));
         }
-        self.fetch_stored(device, entry, bytes)
+        let page = bytes.get_or_insert_with(|| [0u8; PAGE]);
+        self.fetch_stored(device, entry, page)
     }
 
     // The record of an entry whose segment is on the device, off its page, which is read into these bytes.

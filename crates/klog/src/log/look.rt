@@ -97,11 +97,12 @@ impl<const PAGE: usize> KLog<PAGE> {
             IsSpelledOn PAGE (D.held device.old) self.now →
             IfOk result (Finds (live_on (D.held device.old) self.now) key.now) }
     {
+        let mut bytes = None;
         for behind in 0..self.index.len() {
             let Some(entry) = self.index.find(placed.set, placed.tag, behind) else {
                 return Ok(Found::Absent);
             };
-            match self.ask(alloc, device, &entry, key)? {
+            match self.ask(alloc, device, &entry, key, &mut bytes)? {
                 Told::Other => {}
                 Told::Fault => return Ok(Found::Fault),
                 Told::Damaged => return Ok(Found::Damaged),
@@ -111,13 +112,14 @@ impl<const PAGE: usize> KLog<PAGE> {
         Ok(Found::Absent)
     }
 
-    // What the record of an entry says of a key.
+    // What the record of an entry says of a key. A page that is read is read into these bytes.
     fn ask<D: PageDevice<PAGE>>(
         &self,
         alloc: Global,
         device: &mut D,
         entry: &Entry,
         key: &Key,
+        bytes: &mut Option<[u8; PAGE]>,
     ) -> Result<Told, AllocError>
         requires page_size { IsPageSize PAGE }
         requires room { HasRoom (D.page_count device.old) self.now }
@@ -131,8 +133,7 @@ impl<const PAGE: usize> KLog<PAGE> {
         ensures tells { IsTrue (D.honest device.old) →
             TellsKey PAGE (D.held device.old) self.now entry.now key.now result }
     {
-        let mut bytes = [0u8; PAGE];
-        match self.fetch(device, entry, &mut bytes) {
+        match self.fetch(device, entry, bytes) {
             Fetched::Fault => Ok(Told::Fault),
             Fetched::Damaged => Ok(Told::Damaged),
             Fetched::Record(found) => {

@@ -213,11 +213,12 @@ impl<const PAGE: usize> KLog<PAGE> {
     {
         let mut records = TakenRecords::new(alloc);
         let mut entries = self.index.entries_of(set);
+        let mut bytes = None;
         for _ in 0..MAX_TAKEN {
             let Some(entry) = entries.next() else {
                 return Ok(Gathered::Records(records));
             };
-            let Some(taken) = self.copy(alloc, device, &entry)? else {
+            let Some(taken) = self.copy(alloc, device, &entry, &mut bytes)? else {
                 return Ok(Gathered::Lost(entry));
             };
             records.push(taken)?;
@@ -225,12 +226,13 @@ impl<const PAGE: usize> KLog<PAGE> {
         Ok(Gathered::Records(records))
     }
 
-    // A copy of an entry's record, or nothing where its page is lost.
+    // A copy of an entry's record, or nothing where its page is lost. A page that is read is read into these bytes.
     fn copy<D: PageDevice<PAGE>>(
         &self,
         alloc: Global,
         device: &mut D,
         entry: &Entry,
+        bytes: &mut Option<[u8; PAGE]>,
     ) -> Result<Option<TakenRecord>, AllocError>
         requires page_size { IsPageSize PAGE }
         requires room { HasRoom (D.page_count device.old) self.now }
@@ -247,8 +249,7 @@ impl<const PAGE: usize> KLog<PAGE> {
         ensures copies { IsTrue (D.honest device.old) →
             Copies PAGE (D.held device.old) self.now entry.now result }
     {
-        let mut bytes = [0u8; PAGE];
-        let Fetched::Record(found) = self.fetch(device, entry, &mut bytes) else {
+        let Fetched::Record(found) = self.fetch(device, entry, bytes) else {
             return Ok(None);
         };
         let current = RecordRef {

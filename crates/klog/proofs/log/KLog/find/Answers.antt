@@ -34,7 +34,7 @@ ask-requires g c =
     let k = c.args.self.now in
     let room : HasRoom (g.D.PageDevice.page_count c.loop-behind.device) k = search rules in
     let at = turn_at _ k c.args.placed.now.set c.args.placed.now.tag c.loop-behind.behind c.in-Some.entry _ c.self.view_is c.find.ensures c.in-Some.is in
-    (omega arith, (c.requires.page_size, (room, turn_listed k c.args.placed.now.set c.args.placed.now.tag c.loop-behind.behind c.in-Some.entry at)))
+    (omega arith, (omega (arith, c.requires.page_size.1), (c.requires.page_size, (room, turn_listed k c.args.placed.now.set c.args.placed.now.tag c.loop-behind.behind c.in-Some.entry at))))
 
 pub returns-in_err-ask-clause-buffered : goal.returns-in_err-ask-clause-buffered
 returns-in_err-ask-clause-buffered g c = λ all.

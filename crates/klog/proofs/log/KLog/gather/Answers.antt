@@ -36,7 +36,7 @@ copy-requires g c =
     let k = c.args.self.now in
     let room : HasRoom (g.D.PageDevice.page_count c.loop.device) k = search rules in
     let at = turn_at k c.args.set c.loop.counter c.in-Some.entry c.loop.entries c.next.new.self c.loop.invariant.rest c.in-Some.ensures.steps in
-    (omega arith, (c.requires.page_size, (room, turn_listed k c.args.set c.loop.counter c.in-Some.entry at)))
+    (omega arith, (omega (arith, c.requires.page_size.1), (c.requires.page_size, (room, turn_listed k c.args.set c.loop.counter c.in-Some.entry at))))
 
 pub returns-in_err-taken-clause-buffered : goal.returns-in_err-taken-clause-buffered
 returns-in_err-taken-clause-buffered g c = λ all.
