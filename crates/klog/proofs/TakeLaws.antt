@@ -19,20 +19,7 @@ use Rattle.klog.specs.Moves.{most_taken, taken_entries, taken_as, taken_of, AreC
 use Rattle.klog.specs.Take.{Copies, is_missing}
 use Rattle.klog.proofs.LiveLaws.{live_by, live_by-kept}
 use Rattle.klog.proofs.KnownLaws.{shows_live, shows_weaker}
-use Rattle.klog.proofs.LookLaws.{got, got_early, kept_of}
-
--- where a list is left from a place on, its first one stands at that place, and the others from the next one on
-pub dropped_at : {X : Type 0} (xs : List X) (n : ℕ) (x : X) (rest : List X) → drop n xs ≡ x ∷ rest → (slice_get xs n ≡ Some x) × (drop (suc n) xs ≡ rest)
-dropped_at [] zero x rest is = absurd cc
-dropped_at [] (suc n) x rest is = absurd cc
-dropped_at (y ∷ xs) zero x rest is = (cc, cc)
-dropped_at (y ∷ xs) (suc n) x rest is = let h = dropped_at xs n x rest is in (h.0, h.1)
-
--- where none is left the list ends before that place
-pub dropped_past : {X : Type 0} (xs : List X) (n : ℕ) → drop n xs ≡ [] → length xs ≤ n
-dropped_past [] n is = omega arith
-dropped_past (y ∷ xs) zero is = absurd cc
-dropped_past (y ∷ xs) (suc n) is = omega (arith, dropped_past xs n is)
+use Rattle.klog.proofs.LookLaws.{got, got_early, kept_of, dropped_at, dropped_past}
 
 -- ---- a turn: the entry that stands so far behind the newest of the set
 abbrev pub AtTurn : LogState → ℕ → ℕ → Entry → Type 0

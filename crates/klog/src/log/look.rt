@@ -6,7 +6,8 @@ ghost use Rattle.klog_index.specs.Entries.{of_tag};
 ghost use Rattle.klog.specs.Names.{HasRoom};
 ghost use Rattle.klog.specs.Shown.{IsSpelledOn, live_on, place_in};
 ghost use Rattle.klog.specs.Known.{is_buffered, AreBuffered};
-ghost use Rattle.klog.specs.Find.{is_told_fault, TellsKey, is_found_fault, IsOfTag, Finds, FindsAt};
+ghost use Rattle.std.specs.Iterator.{YieldsFirst};
+ghost use Rattle.klog.specs.Find.{with_tag, is_told_fault, TellsKey, is_found_fault, IsOfTag, Finds, FindsAt};
 ghost use Rattle.klog.specs.Look.{is_log_fault, LogLookLeaves, LogLookGives, LooksAt, lowered_in, live_lowered};
 
 use super::KLog;
@@ -14,7 +15,7 @@ use crate::fetched::Fetched;
 use crate::found::Found;
 use crate::looked::Looked;
 use crate::told::Told;
-use klog_index::{Entry, Place};
+use klog_index::{EntriesOf, Entry, Place};
 use page_device::PageDevice;
 use record_pages::{Key, Value};
 use set_hash::Placed;
@@ -98,8 +99,9 @@ impl<const PAGE: usize> KLog<PAGE> {
             IfOk result (Finds (live_on (D.held device.old) self.now) key.now) }
     {
         let mut bytes = None;
-        for behind in 0..self.index.len() {
-            let Some(entry) = self.index.find(placed.set, placed.tag, behind) else {
+        let mut entries = self.index.entries_of(placed.set);
+        for _ in 0..self.index.len() {
+            let Some(entry) = next_with_tag(&mut entries, placed.tag) else {
                 return Ok(Found::Absent);
             };
             match self.ask(alloc, device, &entry, key, &mut bytes)? {
@@ -158,4 +160,16 @@ impl<const PAGE: usize> KLog<PAGE> {
     {
         self.index.lower_in(set, place);
     }
+}
+
+// The next of these entries that has this tag.
+fn next_with_tag(entries: &mut EntriesOf<'_>, tag: u16) -> Option<Entry>
+    ensures { YieldsFirst (with_tag tag) entries.old result entries.new }
+{
+    while let Some(entry) = entries.next() {
+        if entry.tag == tag {
+            return Some(entry);
+        }
+    }
+    None
 }
