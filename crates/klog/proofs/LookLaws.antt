@@ -19,6 +19,7 @@ use Rattle.klog.specs.declared.found.Found.{Found}
 use Rattle.klog.specs.declared.found.Found.TheVariants as found
 use Rattle.klog.specs.Log.{Shape, LogState}
 use Rattle.klog.specs.Shown.{shown_on, live_on, ArePlaced, newest_with, place_in, CanStandFor, IsLiveOn, IsSpelledOn}
+use Rattle.klog.specs.Fetch.{IsPlaceOf}
 use Rattle.klog.specs.Find.{with_tag, TellsKey, Finds, FindsAt}
 use Rattle.klog.specs.Look.{lowered_in, ShowsOther, IsReached}
 use Rattle.klog.specs.Known.{is_buffered, AreBuffered, ShowsIfHad}
@@ -150,6 +151,17 @@ kept_of p xs x h = All-contains (Contains xs) (filter p xs) x (All-filter p (Con
 
 pub turn_listed : (k : LogState) (set tag behind : ℕ) (e : Entry) → AtTurn k set tag behind e → Contains k.entries e
 turn_listed k set tag behind e at = kept_of (has_tag set tag) k.entries e (got (of_tag set tag k.entries) behind e at)
+
+-- it has the set and the tag of the key
+pub turn_its : (k : LogState) (key : List ℕ) (placed : Placed) (behind : ℕ) (e : Entry) → placed ≡ place_in k.shape key → AtTurn k placed.set placed.tag behind e → IsPlaceOf k.shape key e
+turn_its k key placed behind e is at =
+    let tests : has_tag placed.set placed.tag e ≡ true =
+    All-contains (λ (x : Entry). has_tag placed.set placed.tag x ≡ true) (of_tag placed.set placed.tag k.entries) e (filter_passes (has_tag placed.set placed.tag) k.entries)
+    (got (of_tag placed.set placed.tag k.entries) behind e at) in
+    let both = and_parts (eqb e.set placed.set) (eqb e.tag placed.tag) tests in (
+      sym (ap (λ (p : Placed). p.set) is) ∙ sym (eqb-true e.set placed.set both.0),
+      sym (ap (λ (p : Placed). p.tag) is) ∙ sym (eqb-true e.tag placed.tag both.1),
+    )
 
 pub turn_buffered : (k : LogState) (set tag behind : ℕ) (e : Entry) → AtTurn k set tag behind e → AreBuffered k (of_tag set tag k.entries) → IsTrue (is_buffered k e)
 turn_buffered k set tag behind e at all = All-contains (λ e. IsTrue (is_buffered k e)) (of_tag set tag k.entries) e all (got (of_tag set tag k.entries) behind e at)

@@ -7,6 +7,7 @@ ghost use Rattle.klog.specs.Names.{HasRoom};
 ghost use Rattle.klog.specs.Shown.{IsSpelledOn, live_on, place_in};
 ghost use Rattle.klog.specs.Known.{is_buffered, AreBuffered};
 ghost use Rattle.std.specs.Iterator.{YieldsFirst};
+ghost use Rattle.klog.specs.Fetch.{IsPlaceOf};
 ghost use Rattle.klog.specs.Find.{with_tag, is_told_fault, TellsKey, is_found_fault, IsOfTag, Finds, FindsAt};
 ghost use Rattle.klog.specs.Look.{is_log_fault, LogLookLeaves, LogLookGives, LooksAt, lowered_in, live_lowered};
 
@@ -126,6 +127,7 @@ impl<const PAGE: usize> KLog<PAGE> {
         requires page_size { IsPageSize PAGE }
         requires room { HasRoom (D.page_count device.old) self.now }
         requires listed { Contains self.now.entries entry.now }
+        requires its { IsPlaceOf self.now.shape key.now entry.now }
         ensures pages { D.page_count device.new ≡ D.page_count device.old }
         ensures honest { D.honest device.new ≡ D.honest device.old }
         ensures faults { D.failures device.new
@@ -135,7 +137,7 @@ impl<const PAGE: usize> KLog<PAGE> {
         ensures tells { IsTrue (D.honest device.old) →
             TellsKey PAGE (D.held device.old) self.now entry.now key.now result }
     {
-        match self.fetch(device, entry, bytes) {
+        match self.fetch(device, entry, bytes, Some(key)) {
             Fetched::Fault => Ok(Told::Fault),
             Fetched::Damaged => Ok(Told::Damaged),
             Fetched::Record(found) => {

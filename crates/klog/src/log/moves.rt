@@ -125,7 +125,7 @@ impl<const PAGE: usize> KLog<PAGE> {
             IsSpelledOn PAGE (D.held device.new) self.new }
     {
         let mut bytes = [0u8; PAGE];
-        match self.fetch_stored(device, entry, &mut bytes) {
+        match self.fetch_stored(device, entry, &mut bytes, None) {
             Fetched::Fault => {
                 self.lose_page_of(entry);
                 Readmitted::Fault
@@ -249,7 +249,7 @@ impl<const PAGE: usize> KLog<PAGE> {
         ensures copies { IsTrue (D.honest device.old) →
             Copies PAGE (D.held device.old) self.now entry.now result }
     {
-        let Fetched::Record(found) = self.fetch(device, entry, bytes) else {
+        let Fetched::Record(found) = self.fetch(device, entry, bytes, None) else {
             return Ok(None);
         };
         let current = RecordRef {

@@ -13,7 +13,7 @@ use Rattle.page_device.specs.Device.{faults_after}
 use Rattle.klog.proofs.CallLaws.{unbuffered}
 use Rattle.klog.specs.Keeps.{IsLog}
 use Rattle.klog.proofs.OrderLaws.{newer_buffered}
-use Rattle.klog.proofs.LookLaws.{turn_at, turn_rest, turn_listed, turn_buffered, turn_before, turn_first, turn_tells, turn_reached, turn_other, turns_over, finds_of, got, got_none, all_left, all_seen}
+use Rattle.klog.proofs.LookLaws.{turn_at, turn_rest, turn_listed, turn_its, turn_buffered, turn_before, turn_first, turn_tells, turn_reached, turn_other, turns_over, finds_of, got, got_none, all_left, all_seen}
 use Rattle.klog.proofs.log.KLog.find.Goals as goal
 
 pub returns-in_default-clause-finds_at : goal.returns-in_default-clause-finds_at
@@ -35,7 +35,7 @@ ask-requires g c =
     let k = c.args.self.now in
     let room : HasRoom (g.D.PageDevice.page_count c.loop.device) k = search rules in
     let at = turn_at k c.args.placed.now.set c.args.placed.now.tag c.loop.counter c.in-Some.entry _ _ c.loop.invariant.rest c.in-Some.ensures in
-    (omega arith, (omega (arith, c.requires.page_size.1), (c.requires.page_size, (room, turn_listed k c.args.placed.now.set c.args.placed.now.tag c.loop.counter c.in-Some.entry at))))
+    (omega arith, (omega (arith, c.requires.page_size.1), (c.requires.page_size, (room, (turn_listed k c.args.placed.now.set c.args.placed.now.tag c.loop.counter c.in-Some.entry at, turn_its k c.args.key.now c.args.placed.now c.loop.counter c.in-Some.entry c.requires.place at)))))
 
 pub returns-in_err-ask-clause-buffered : goal.returns-in_err-ask-clause-buffered
 returns-in_err-ask-clause-buffered g c = λ all.
