@@ -1,5 +1,5 @@
 -- A call of the device that failed was made for a record that lies on it.
-use Rattle.std.proofs.Common.{◌≡◌, ℕ, Bool, true, false, refl, ◌∙◌, sym, arith}
+use Rattle.std.proofs.Common.{◌≡◌, ℕ, Bool, true, false, refl, arith}
 use Rattle.std.specs.Prelude.{IsTrue}
 use Rattle.page_device.specs.Device.{faults_after}
 

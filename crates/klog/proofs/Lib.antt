@@ -3,6 +3,7 @@ pub mod BufferLaws
 pub mod LiveLaws
 pub mod ShownLaws
 pub mod OrderLaws
+pub mod OldestLaws
 pub mod AppendLaws
 pub mod FlushLaws
 pub mod FetchLaws

@@ -1,25 +1,26 @@
 -- What a look-up finds among the live records.
-use Rattle.std.proofs.Common.{◌≡◌, ℕ, zero, suc, ◌+◌, ◌<◌, ◌≤◌, Bool, true, false, eqb, List, [], ◌∷◌, ◌++◌, length, get_or, take, drop, filter, Option, Some, None, All, Contains, slice_get, inl, inr, drop-cons, refl, sym, ap, subst, ◌∙◌, arith}
+use Rattle.std.proofs.Common.{◌≡◌, ℕ, zero, suc, ◌+◌, ◌<◌, ◌≤◌, Bool, true, false, cond, ◌&&◌, eqb, List, [], ◌∷◌, ◌++◌, length, get_or, take, drop, filter, Option, Some, None, All, Contains, slice_get, drop-cons, refl, sym, ap, subst, ◌∙◌, arith}
 use Rattle.std.specs.Prelude.{IsSomeAnd, IsTrue, find, Result, Ok}
 use Rattle.std.specs.declared.alloc.AllocError.{AllocError}
 use Rattle.std.specs.List.{cons_option}
 use Rattle.std.specs.Option.{option_map}
 use Rattle.std.specs.Cmp.Lexicographic.{same_text}
-use Rattle.std.proofs.lemmas.Bool.{and_from, and_parts, eq-eqb, eqb-true, false≢true, cases_lt}
+use Rattle.std.proofs.lemmas.Bool.{and_from, and_parts, eq-eqb, eqb-true, false≢true}
 use Rattle.std.proofs.lemmas.List.{take_all, take-append-drop}
 use Rattle.std.proofs.lemmas.List.Elements.{All-filter, All-cons, All-nil, All-head, All-tail, All-more, All-contains, All-contains_itself, All-take, filter_passes}
-use Rattle.std.proofs.lemmas.Option.{slice_get_within, get_or_from_slice_get, slice_get-get_or, none-some}
+use Rattle.std.proofs.lemmas.Option.{slice_get_within, get_or_from_slice_get}
 use Rattle.record_pages.specs.Recs.{Rec}
 use Rattle.record_pages.specs.Looking.{has_key}
 use Rattle.klog_index.specs.declared.entry.Entry.{Entry}
-use Rattle.klog_index.specs.Entries.{has_tag, of_tag}
+use Rattle.klog_index.specs.Entries.{is_of, has_tag, of_set, of_tag}
 use Rattle.set_hash.specs.declared.placed.Placed.{Placed}
 use Rattle.klog.specs.declared.told.Told.{Told}
 use Rattle.klog.specs.declared.found.Found.{Found}
 use Rattle.klog.specs.declared.found.Found.TheVariants as found
 use Rattle.klog.specs.Log.{Shape, LogState}
 use Rattle.klog.specs.Shown.{shown_on, live_on, ArePlaced, newest_with, place_in, CanStandFor, IsLiveOn, IsSpelledOn}
-use Rattle.klog.specs.Find.{TellsKey, Finds, FindsAt}
+use Rattle.klog.specs.Fetch.{IsPlaceOf}
+use Rattle.klog.specs.Find.{with_tag, TellsKey, Finds, FindsAt}
 use Rattle.klog.specs.Look.{lowered_in, ShowsOther, IsReached}
 use Rattle.klog.specs.Known.{is_buffered, AreBuffered, ShowsIfHad}
 use Rattle.klog.proofs.LiveLaws.{live_by, live_by-kept, length-kept}
@@ -103,8 +104,42 @@ newest_none shows key (x ∷ es) none =
 abbrev pub AtTurn : LogState → ℕ → ℕ → ℕ → Entry → Type 0
 AtTurn k set tag behind e = slice_get (of_tag set tag k.entries) behind ≡ Some e
 
-pub turn_at : (v k : LogState) (set tag behind : ℕ) (e : Entry) (o : Option Entry) → v ≡ k → o ≡ slice_get (of_tag set tag v.entries) behind → o ≡ Some e → AtTurn k set tag behind e
-turn_at v k set tag behind e o is found some = sym (ap (λ (k : LogState). slice_get (of_tag set tag k.entries) behind) is) ∙ sym found ∙ some
+-- where a list is left from a place on, its first one stands at that place, and the others from the next one on
+pub dropped_at : {X : Type 0} (xs : List X) (n : ℕ) (x : X) (rest : List X) → drop n xs ≡ x ∷ rest → (slice_get xs n ≡ Some x) × (drop (suc n) xs ≡ rest)
+dropped_at [] zero x rest is = absurd cc
+dropped_at [] (suc n) x rest is = absurd cc
+dropped_at (y ∷ xs) zero x rest is = (cc, cc)
+dropped_at (y ∷ xs) (suc n) x rest is = let h = dropped_at xs n x rest is in (h.0, h.1)
+
+-- where none is left the list ends before that place
+pub dropped_past : {X : Type 0} (xs : List X) (n : ℕ) → drop n xs ≡ [] → length xs ≤ n
+dropped_past [] n is = omega arith
+dropped_past (y ∷ xs) zero is = absurd cc
+dropped_past (y ∷ xs) (suc n) is = omega (arith, dropped_past xs n is)
+
+-- the first of those that are left stands there
+pub turn_at : (k : LogState) (set tag behind : ℕ) (e : Entry) (now rest : List Entry) → now ≡ drop behind (of_tag set tag k.entries) → now ≡ e ∷ rest → AtTurn k set tag behind e
+turn_at k set tag behind e now rest left is = (dropped_at (of_tag set tag k.entries) behind e rest (sym left ∙ is)).0
+
+-- and the others stand behind it
+pub turn_rest : (k : LogState) (set tag behind : ℕ) (e : Entry) (now rest : List Entry) → now ≡ drop behind (of_tag set tag k.entries) → now ≡ e ∷ rest → rest ≡ drop (behind + 1) (of_tag set tag k.entries)
+turn_rest k set tag behind e now rest left is =
+    let next : suc behind ≡ behind + 1 = omega arith in
+    sym (dropped_at (of_tag set tag k.entries) behind e rest (sym left ∙ is)).1 ∙ ap (λ (n : ℕ). drop n (of_tag set tag k.entries)) next
+
+-- the entries of a set that have a tag
+tag_of_set : (set tag : ℕ) (es : List Entry) → with_tag tag (of_set set es) ≡ of_tag set tag es
+tag_of_set set tag [] = refl
+tag_of_set set tag (e ∷ es) =
+    let later = tag_of_set set tag es in
+    elim (is_of set e) as (λ b. with_tag tag (cond b (e ∷ of_set set es) (of_set set es)) ≡ cond (b && eqb e.tag tag) (e ∷ of_tag set tag es) (of_tag set tag es)) [
+      | true ↦ ap (λ (xs : List Entry). cond (eqb e.tag tag) (e ∷ xs) xs) later
+      | false ↦ later
+    ]
+
+-- all are left at first
+pub all_left : (v k : LogState) (set tag : ℕ) (left : List Entry) → v ≡ k → left ≡ of_set set v.entries → with_tag tag left ≡ drop 0 (of_tag set tag k.entries)
+all_left v k set tag left same is = ap (with_tag tag) (is ∙ ap (λ (q : LogState). of_set set q.entries) same) ∙ tag_of_set set tag k.entries
 
 -- what is found at a place is there
 pub got : {X : Type 0} (xs : List X) (i : ℕ) (x : X) → slice_get xs i ≡ Some x → Contains xs x
@@ -116,6 +151,17 @@ kept_of p xs x h = All-contains (Contains xs) (filter p xs) x (All-filter p (Con
 
 pub turn_listed : (k : LogState) (set tag behind : ℕ) (e : Entry) → AtTurn k set tag behind e → Contains k.entries e
 turn_listed k set tag behind e at = kept_of (has_tag set tag) k.entries e (got (of_tag set tag k.entries) behind e at)
+
+-- it has the set and the tag of the key
+pub turn_its : (k : LogState) (key : List ℕ) (placed : Placed) (behind : ℕ) (e : Entry) → placed ≡ place_in k.shape key → AtTurn k placed.set placed.tag behind e → IsPlaceOf k.shape key e
+turn_its k key placed behind e is at =
+    let tests : has_tag placed.set placed.tag e ≡ true =
+    All-contains (λ (x : Entry). has_tag placed.set placed.tag x ≡ true) (of_tag placed.set placed.tag k.entries) e (filter_passes (has_tag placed.set placed.tag) k.entries)
+    (got (of_tag placed.set placed.tag k.entries) behind e at) in
+    let both = and_parts (eqb e.set placed.set) (eqb e.tag placed.tag) tests in (
+      sym (ap (λ (p : Placed). p.set) is) ∙ sym (eqb-true e.set placed.set both.0),
+      sym (ap (λ (p : Placed). p.tag) is) ∙ sym (eqb-true e.tag placed.tag both.1),
+    )
 
 pub turn_buffered : (k : LogState) (set tag behind : ℕ) (e : Entry) → AtTurn k set tag behind e → AreBuffered k (of_tag set tag k.entries) → IsTrue (is_buffered k e)
 turn_buffered k set tag behind e at all = All-contains (λ e. IsTrue (is_buffered k e)) (of_tag set tag k.entries) e all (got (of_tag set tag k.entries) behind e at)
@@ -234,18 +280,9 @@ finds_of bytes held k key placed found.Damaged is at spelled =
     at.2 (All-contains (IsLiveOn bytes held k) (of_tag placed.set placed.tag k.entries) at.0 (spelled_live bytes held k placed.set placed.tag spelled)
     (reached_listed bytes held k placed.set placed.tag key at.0 at.1))
 
--- where none stands at a place the list is no longer
-pub past : {X : Type 0} (xs : List X) (i : ℕ) → slice_get xs i ≡ None → length xs ≤ i
-past xs i none = elim (cases_lt i (length xs)) [
-  | inl within ↦ elim xs as (λ ys. i < length ys → slice_get ys i ≡ None → length ys ≤ i) [
-    | [] ↦ λ lt e. omega (arith, lt)
-    | y ∷ ys ↦ λ lt e. absurd (none-some (get_or (y ∷ ys) i y) (sym e ∙ slice_get-get_or (y ∷ ys) i y lt))
-  ] within none
-  | inr above ↦ above
-]
-
-pub got_none : (v k : LogState) (set tag behind : ℕ) (o : Option Entry) → v ≡ k → o ≡ slice_get (of_tag set tag v.entries) behind → o ≡ None → length (of_tag set tag k.entries) ≤ behind
-got_none v k set tag behind o is found none = past (of_tag set tag k.entries) behind (ap (λ (k : LogState). slice_get (of_tag set tag k.entries) behind) (sym is) ∙ sym found ∙ none)
+-- where none is left, none stands further behind
+pub got_none : (k : LogState) (set tag behind : ℕ) (now : List Entry) → now ≡ drop behind (of_tag set tag k.entries) → now ≡ [] → length (of_tag set tag k.entries) ≤ behind
+got_none k set tag behind now left none = dropped_past (of_tag set tag k.entries) behind (sym left ∙ none)
 
 -- all were seen when as many were asked for as there are entries
 pub all_seen : (v k : LogState) (set tag n : ℕ) → v ≡ k → length v.entries ≤ n → length (of_tag set tag k.entries) ≤ n

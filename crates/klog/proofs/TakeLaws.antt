@@ -1,5 +1,5 @@
 -- What is taken of a set's live records.
-use Rattle.std.proofs.Common.{◌≡◌, ℕ, zero, suc, ◌+◌, ◌<◌, ◌≤◌, ◌⊎◌, inl, inr, true, List, [], ◌∷◌, ◌++◌, length, take, map, Option, Some, None, All, Contains, slice_get, refl, sym, ap, subst, ◌∙◌, arith}
+use Rattle.std.proofs.Common.{◌≡◌, ℕ, zero, suc, ◌+◌, ◌<◌, ◌≤◌, ◌⊎◌, inl, inr, true, List, [], ◌∷◌, ◌++◌, length, take, drop, map, Option, Some, None, All, Contains, slice_get, refl, sym, ap, subst, ◌∙◌, arith}
 use Rattle.std.specs.Prelude.{IsSome, IsSomeAnd, IsTrue, Result, Ok}
 use Rattle.std.specs.declared.alloc.AllocError.{AllocError}
 use Rattle.std.proofs.lemmas.Bool.{false≢true}
@@ -19,14 +19,21 @@ use Rattle.klog.specs.Moves.{most_taken, taken_entries, taken_as, taken_of, AreC
 use Rattle.klog.specs.Take.{Copies, is_missing}
 use Rattle.klog.proofs.LiveLaws.{live_by, live_by-kept}
 use Rattle.klog.proofs.KnownLaws.{shows_live, shows_weaker}
-use Rattle.klog.proofs.LookLaws.{got, got_early, kept_of, past}
+use Rattle.klog.proofs.LookLaws.{got, got_early, kept_of, dropped_at, dropped_past}
 
 -- ---- a turn: the entry that stands so far behind the newest of the set
 abbrev pub AtTurn : LogState → ℕ → ℕ → Entry → Type 0
 AtTurn k set behind e = slice_get (of_set set k.entries) behind ≡ Some e
 
-pub turn_at : (v k : LogState) (set behind : ℕ) (e : Entry) (o : Option Entry) → v ≡ k → o ≡ slice_get (of_set set v.entries) behind → o ≡ Some e → AtTurn k set behind e
-turn_at v k set behind e o is found some = sym (ap (λ (k : LogState). slice_get (of_set set k.entries) behind) is) ∙ sym found ∙ some
+-- the first of those that are left stands there
+pub turn_at : (k : LogState) (set behind : ℕ) (e : Entry) (now rest : List Entry) → now ≡ drop behind (of_set set k.entries) → now ≡ e ∷ rest → AtTurn k set behind e
+turn_at k set behind e now rest left is = (dropped_at (of_set set k.entries) behind e rest (sym left ∙ is)).0
+
+-- and the others stand behind it
+pub turn_rest : (k : LogState) (set behind : ℕ) (e : Entry) (now rest : List Entry) → now ≡ drop behind (of_set set k.entries) → now ≡ e ∷ rest → rest ≡ drop (behind + 1) (of_set set k.entries)
+turn_rest k set behind e now rest left is =
+    let next : suc behind ≡ behind + 1 = omega arith in
+    sym (dropped_at (of_set set k.entries) behind e rest (sym left ∙ is)).1 ∙ ap (λ (n : ℕ). drop n (of_set set k.entries)) next
 
 pub turn_listed : (k : LogState) (set behind : ℕ) (e : Entry) → AtTurn k set behind e → Contains k.entries e
 turn_listed k set behind e at = kept_of (is_of set) k.entries e (got (of_set set k.entries) behind e at)
@@ -123,10 +130,10 @@ taken_first bytes held k set spelled =
     ∙ ap (λ (xs : List (Entry × Rec)). map (taken_as k) (take most_taken xs)) (live_by-kept (is_of set) (shown_on held k) k.entries)
 
 -- where none stands further behind, those so far are all that are taken
-pub taken_all : (v k : LogState) (set behind : ℕ) (o : Option Entry) → v ≡ k → o ≡ slice_get (of_set set v.entries) behind → o ≡ None → behind ≤ most_taken → take behind (of_set set k.entries) ≡ taken_entries k set
-taken_all v k set behind o is found none le =
+pub taken_all : (k : LogState) (set behind : ℕ) (now : List Entry) → now ≡ drop behind (of_set set k.entries) → now ≡ [] → behind ≤ most_taken → take behind (of_set set k.entries) ≡ taken_entries k set
+taken_all k set behind now left none le =
     let es = of_set set k.entries in
-    let short : length es ≤ behind = past es behind (ap (λ (k : LogState). slice_get (of_set set k.entries) behind) (sym is) ∙ sym found ∙ none) in
+    let short : length es ≤ behind = dropped_past es behind (sym left ∙ none) in
     take_all behind es short ∙ sym (take_all most_taken es (omega (arith, short, le)))
 
 -- so what lies behind records that are taken gives which they are

@@ -1,5 +1,5 @@
 -- A place that was taken is not used again while its segment is held.
-use Rattle.std.proofs.Common.{◌≡◌, ◌≢◌, ℕ, suc, Bool, true, false, cond, ◌+◌, ◌<◌, ◌≤◌, ◌==◌, List, [], ◌∷◌, length, Option, Some, None, All, refl, sym, ap, subst, ◌∙◌, arith}
+use Rattle.std.proofs.Common.{◌≡◌, ◌≢◌, ℕ, suc, Bool, true, false, cond, ◌+◌, ◌==◌, List, [], ◌∷◌, length, Option, Some, None, All, refl, sym, ap, subst, ◌∙◌, arith}
 use Rattle.std.specs.Prelude.{IsSome, nat_lt, nat_le, ◌^◌, ◌||◌}
 use Rattle.std.proofs.lemmas.Bool.{cond_both, false≢true}
 use Rattle.std.proofs.lemmas.List.Elements.{All-weaker, All-head, All-tail}
@@ -15,8 +15,8 @@ use Rattle.klog.specs.Flush.{moved_on, without_next}
 use Rattle.klog.specs.declared.flushed.Flushed.TheVariants as flushed
 use Rattle.klog.proofs.BufferLaws.{free_at, still_in}
 use Rattle.klog.proofs.ShownLaws.{entry_number}
-use Rattle.klog.specs.Shown.{shown_on, CanStandFor, IsLiveOn}
-use Rattle.klog.specs.Laws.{KeepsPlace, AppendKeepsPlaces, FlushKeepsPlaces, ListKeepsPlaces, FreeingKeepsPlaces, LiveAreAsMany}
+use Rattle.klog.specs.Shown.{shown, shown_on, CanStandFor, IsLiveOn, IsSpelled}
+use Rattle.klog.specs.Laws.{KeepsPlace, AppendKeepsPlaces, FlushKeepsPlaces, ListKeepsPlaces, FreeingKeepsPlaces, LiveAreAsMany, FramesKeepLog}
 use Rattle.klog.proofs.RingLaws.{number_again}
 use Rattle.klog.proofs.LiveLaws.{live_by}
 use Rattle.klog.proofs.MoveLaws.{segment_freed, filled_freed}
@@ -154,3 +154,10 @@ as_many bytes held k h = count (shown_on held k) k.entries (All-weaker (IsLiveOn
         step : (o : Option Rec) → shows e ≡ o → IsSome (shows e) → length (live_by shows es) ≡ length es → length (live_by shows (e ∷ es)) ≡ length (e ∷ es)
         step (Some r) is some rest = simp is (ap (λ (n : ℕ). suc n) rest)
         step None is some rest = absurd (false≢true (subst (λ (o : Option Rec). IsSome o) is some))
+
+-- a log on whose pages nothing changed is spelled, and the same records are live
+pub frames_keep : FramesKeepLog
+frames_keep bytes was is k same = (
+  λ spelled. subst (λ (pages : ℕ → Option (List ℕ)). IsSpelled bytes pages k) (sym same) spelled,
+  ap (λ (pages : ℕ → Option (List ℕ)). live_by (shown pages k) k.entries) same,
+)

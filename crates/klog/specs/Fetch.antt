@@ -7,7 +7,11 @@ use Rattle.klog.specs.declared.fetched.Fetched.{Fetched}
 use Rattle.klog.specs.declared.fetched.Fetched.TheVariants as fetched
 use Rattle.klog.specs.Log.{Shape, LogState}
 use Rattle.klog.specs.Names.{segment_of, device_page}
-use Rattle.klog.specs.Shown.{record_of_held, CanStandFor}
+use Rattle.klog.specs.Shown.{place_in, record_of_held, CanStandFor}
+
+-- a key has this entry's set and tag
+abbrev pub IsPlaceOf : Shape → List ℕ → Entry → Type 0
+IsPlaceOf shape key e = ((place_in shape key).set ≡ e.set) × ((place_in shape key).tag ≡ e.tag)
 
 -- the device failed
 abbrev pub is_fetch_fault : Fetched → Bool

@@ -1,5 +1,5 @@
 -- What the entries of a set with a tag say of a key.
-use Rattle.std.specs.Prelude.{◌≡◌, ℕ, List, Option, Some, None, All, Contains, Bool, true, false, IsTrue, Result, Ok, Err}
+use Rattle.std.specs.Prelude.{◌≡◌, ℕ, ◌==◌, filter, List, Option, Some, None, All, Contains, Bool, true, false, IsTrue, Result, Ok, Err}
 use Rattle.std.specs.declared.alloc.AllocError.{AllocError}
 use Rattle.record_pages.specs.Recs.{Rec}
 use Rattle.record_pages.specs.Looking.{has_key}
@@ -13,6 +13,10 @@ use Rattle.klog.specs.Log.{LogState}
 use Rattle.klog.specs.Shown.{newest_with, IsLiveOn}
 use Rattle.klog.specs.Known.{is_buffered, ShowsIfHad}
 use Rattle.klog.specs.Look.{ShowsOther, IsReached}
+
+-- those of these entries that have this tag
+abbrev pub with_tag : ℕ → List Entry → List Entry
+with_tag tag es = filter (λ e. e.tag == tag) es
 
 -- the device failed when a record was asked for
 abbrev pub is_told_fault : Result Told AllocError → Bool

@@ -1,5 +1,6 @@
 -- Laws of the log's definitions, for those who take records and drop them later.
 use Rattle.std.specs.Prelude.{◌≡◌, ◌≢◌, ℕ, ◌+◌, ◌<◌, ◌≤◌, List, length, Option, false}
+use Rattle.page_device.specs.Frames.{pages_from}
 use Rattle.record_pages.specs.Recs.{Rec}
 use Rattle.klog_index.specs.declared.entry.Entry.{Entry}
 use Rattle.klog.specs.declared.flushed.Flushed.{Flushed}
@@ -48,3 +49,10 @@ NamesTellNumbers =
 abbrev pub LiveAreAsMany : Type 0
 LiveAreAsMany =
     (bytes : ℕ) (held : ℕ → Option (List ℕ)) (k : LogState) → IsSpelledOn bytes held k → length (live_on held k) ≡ length k.entries
+
+-- where the pages from the number of sets on are the same, the log is spelled still and the same records are live
+abbrev pub FramesKeepLog : Type 0
+FramesKeepLog =
+    (bytes : ℕ) (was is : ℕ → Option (List ℕ)) (k : LogState)
+    → pages_from k.shape.sets is ≡ pages_from k.shape.sets was
+    → (IsSpelledOn bytes was k → IsSpelledOn bytes is k) × (live_on is k ≡ live_on was k)

@@ -5,7 +5,6 @@ use Rattle.std.specs.declared.alloc.AllocError.{AllocError}
 use Rattle.record_pages.specs.Recs.{Rec, rec}
 use Rattle.page_device.specs.Device.{faults_after}
 use Rattle.klog_index.specs.declared.entry.Entry.{Entry}
-use Rattle.klog_index.specs.declared.place.Place.{Place}
 use Rattle.klog_index.specs.Entries.{is_of, is_place, is_in, of_set, without}
 use Rattle.klog_index.specs.First.{NoneOfSegment, IsFirstOf}
 use Rattle.klog.specs.declared.oldest.Oldest.{Oldest}

@@ -1,5 +1,5 @@
 // Laws of the definitions, for those who take records and drop them later.
-ghost use Rattle.klog.specs.Laws.{AppendKeepsPlaces, FlushKeepsPlaces, ListKeepsPlaces, FreeingKeepsPlaces, NamesTellNumbers, LiveAreAsMany};
+ghost use Rattle.klog.specs.Laws.{AppendKeepsPlaces, FlushKeepsPlaces, ListKeepsPlaces, FreeingKeepsPlaces, NamesTellNumbers, LiveAreAsMany, FramesKeepLog};
 
 /// A place that is held stays held when a record is appended, which lies elsewhere.
 pub fn append_keeps_places()
@@ -29,4 +29,9 @@ pub fn names_tell_numbers()
 /// There are as many live records as entries.
 pub fn live_are_as_many()
     ensures { LiveAreAsMany }
+{}
+
+/// The log is spelled and shows as before where the pages from the number of sets on are the same.
+pub fn frames_keep_log()
+    ensures { FramesKeepLog }
 {}

@@ -21,8 +21,8 @@ mod told;
 pub use appended::Appended;
 pub use flushed::Flushed;
 pub use laws::{
-    append_keeps_places, flush_keeps_places, freeing_keeps_places, list_keeps_places,
-    live_are_as_many, names_tell_numbers,
+    append_keeps_places, flush_keeps_places, frames_keep_log, freeing_keeps_places,
+    list_keeps_places, live_are_as_many, names_tell_numbers,
 };
 pub use log::{KLog, MAX_TAKEN};
 pub use looked::Looked;

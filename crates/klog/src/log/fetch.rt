@@ -1,5 +1,5 @@
 // Reading the record of an entry.
-ghost use Rattle.std.specs.Prelude.{◌≡◌, IfSome, IsTrue, Contains, false};
+ghost use Rattle.std.specs.Prelude.{◌≡◌, ◌↔◌, IfSome, IsTrue, Contains, false};
 ghost use Rattle.std.specs.Option.{option_map};
 ghost use Rattle.page_device.specs.Device.{faults_after};
 ghost use Rattle.record_pages.specs.Sizes.{IsPageSize};
@@ -10,27 +10,30 @@ ghost use Rattle.klog.specs.Buffer.{record_in};
 ghost use Rattle.klog.specs.Names.{HasRoom};
 ghost use Rattle.klog.specs.Shown.{shown_on, record_on};
 ghost use Rattle.klog.specs.Known.{is_buffered, IsPageKnown, IsHad};
-ghost use Rattle.klog.specs.Fetch.{is_fetch_fault, IsItsOwn, stored_on, FetchGives};
+ghost use Rattle.klog.specs.Fetch.{IsPlaceOf, is_fetch_fault, IsItsOwn, stored_on, FetchGives};
 
 use super::KLog;
 use crate::buffer::SegmentBuffer;
 use crate::fetched::Fetched;
 use klog_index::Entry;
 use page_device::PageDevice;
-use record_pages::{LogPage, PAGE_OVERHEAD, RecordRef};
+use record_pages::{Key, LogPage, PAGE_OVERHEAD, RecordRef};
 use set_hash::place;
 
 impl<const PAGE: usize> KLog<PAGE> {
-    // The record of an entry: out of a buffer, or off its page, which is read into these bytes.
+    // The record of an entry: out of a buffer, or off its page, which is read into these bytes. They are made where one
+    // is read.
     pub(super) fn fetch<'a, D: PageDevice<PAGE>>(
         &'a self,
         device: &mut D,
         entry: &Entry,
-        bytes: &'a mut [u8; PAGE],
+        bytes: &'a mut Option<[u8; PAGE]>,
+        asked: Option<&Key>,
     ) -> Fetched<'a>
         requires page_size { IsPageSize PAGE }
         requires room { HasRoom (D.page_count device.old) self.now }
         requires listed { Contains self.now.entries entry.now }
+        requires asked { IfSome asked (λ key. IsPlaceOf self.now.shape key.now entry.now) }
         ensures pages { D.page_count device.new ≡ D.page_count device.old }
         ensures honest { D.honest device.new ≡ D.honest device.old }
         ensures faults { D.failures device.new
@@ -45,12 +48,13 @@ impl<const PAGE: usize> KLog<PAGE> {
     {
         let number = self.number_of(entry.place.segment);
         if number == self.filled_number() {
-            return self.checked(entry, record_in(&self.filling, entry));
+            return self.checked(entry, record_in(&self.filling, entry), asked);
         }
         if self.is_flushing && number == self.flushed_number() {
-            return self.checked(entry, record_in(&self.flushing, entry));
+            return self.checked(entry, record_in(&self.flushing, entry), asked);
         }
-        self.fetch_stored(device, entry, bytes)
+        let page = bytes.get_or_insert_with(|| [0u8; PAGE]);
+        self.fetch_stored(device, entry, page, asked)
     }
 
     // The record of an entry whose segment is on the device, off its page, which is read into these bytes.
@@ -59,10 +63,12 @@ impl<const PAGE: usize> KLog<PAGE> {
         device: &mut D,
         entry: &Entry,
         bytes: &'a mut [u8; PAGE],
+        asked: Option<&Key>,
     ) -> Fetched<'a>
         requires page_size { IsPageSize PAGE }
         requires room { HasRoom (D.page_count device.old) self.now }
         requires listed { Contains self.now.entries entry.now }
+        requires asked { IfSome asked (λ key. IsPlaceOf self.now.shape key.now entry.now) }
         ensures pages { D.page_count device.new ≡ D.page_count device.old }
         ensures honest { D.honest device.new ≡ D.honest device.old }
         ensures faults { D.failures device.new
@@ -80,12 +86,18 @@ impl<const PAGE: usize> KLog<PAGE> {
         let Ok(()) = device.read(self.device_page(number, page), bytes) else {
             return Fetched::Fault;
         };
-        self.checked(entry, record_on(bytes, number, entry))
+        self.checked(entry, record_on(bytes, number, entry), asked)
     }
 
     // The record of an entry, where there is one and it has the entry's set and tag and a record's size.
-    fn checked<'a>(&self, entry: &Entry, found: Option<RecordRef<'a>>) -> Fetched<'a>
+    fn checked<'a>(
+        &self,
+        entry: &Entry,
+        found: Option<RecordRef<'a>>,
+        asked: Option<&Key>,
+    ) -> Fetched<'a>
         requires page_size { IsPageSize PAGE }
+        requires asked { IfSome asked (λ key. IsPlaceOf self.now.shape key.now entry.now) }
         requires lawful { IfSome found (λ r. IsRecord (record_shown r)) }
         ensures no_fault { is_fetch_fault result ≡ false }
         ensures its { IsItsOwn PAGE self.now.shape entry.now result }
@@ -95,14 +107,25 @@ impl<const PAGE: usize> KLog<PAGE> {
         let Some(found) = found else {
             return Fetched::Damaged;
         };
-        let placed = place(&self.layout, found.key);
-        if placed.set != entry.set
-            || placed.tag != entry.tag
-            || found.size() > PAGE - PAGE_OVERHEAD
-        {
+        if !self.belongs(entry, found.key, asked) || found.size() > PAGE - PAGE_OVERHEAD {
             return Fetched::Damaged;
         }
         Fetched::Record(found)
+    }
+
+    // Whether a record with this key has the entry's set and tag. Of the key that is asked for that is known, and no
+    // hash is computed.
+    fn belongs(&self, entry: &Entry, key: &[u8], asked: Option<&Key>) -> bool
+        requires asked { IfSome asked (λ key. IsPlaceOf self.now.shape key.now entry.now) }
+        ensures { IsTrue result ↔ IsPlaceOf self.now.shape key.now entry.now }
+    {
+        if let Some(asked) = asked {
+            if key == asked.bytes() {
+                return true;
+            }
+        }
+        let placed = place(&self.layout, key);
+        placed.set == entry.set && placed.tag == entry.tag
     }
 }
 

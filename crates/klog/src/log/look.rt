@@ -6,7 +6,9 @@ ghost use Rattle.klog_index.specs.Entries.{of_tag};
 ghost use Rattle.klog.specs.Names.{HasRoom};
 ghost use Rattle.klog.specs.Shown.{IsSpelledOn, live_on, place_in};
 ghost use Rattle.klog.specs.Known.{is_buffered, AreBuffered};
-ghost use Rattle.klog.specs.Find.{is_told_fault, TellsKey, is_found_fault, IsOfTag, Finds, FindsAt};
+ghost use Rattle.std.specs.Iterator.{YieldsFirst};
+ghost use Rattle.klog.specs.Fetch.{IsPlaceOf};
+ghost use Rattle.klog.specs.Find.{with_tag, is_told_fault, TellsKey, is_found_fault, IsOfTag, Finds, FindsAt};
 ghost use Rattle.klog.specs.Look.{is_log_fault, LogLookLeaves, LogLookGives, LooksAt, lowered_in, live_lowered};
 
 use super::KLog;
@@ -14,7 +16,7 @@ use crate::fetched::Fetched;
 use crate::found::Found;
 use crate::looked::Looked;
 use crate::told::Told;
-use klog_index::{Entry, Place};
+use klog_index::{EntriesOf, Entry, Place};
 use page_device::PageDevice;
 use record_pages::{Key, Value};
 use set_hash::Placed;
@@ -97,11 +99,13 @@ impl<const PAGE: usize> KLog<PAGE> {
             IsSpelledOn PAGE (D.held device.old) self.now →
             IfOk result (Finds (live_on (D.held device.old) self.now) key.now) }
     {
-        for behind in 0..self.index.len() {
-            let Some(entry) = self.index.find(placed.set, placed.tag, behind) else {
+        let mut bytes = None;
+        let mut entries = self.index.entries_of(placed.set);
+        for _ in 0..self.index.len() {
+            let Some(entry) = next_with_tag(&mut entries, placed.tag) else {
                 return Ok(Found::Absent);
             };
-            match self.ask(alloc, device, &entry, key)? {
+            match self.ask(alloc, device, &entry, key, &mut bytes)? {
                 Told::Other => {}
                 Told::Fault => return Ok(Found::Fault),
                 Told::Damaged => return Ok(Found::Damaged),
@@ -111,17 +115,19 @@ impl<const PAGE: usize> KLog<PAGE> {
         Ok(Found::Absent)
     }
 
-    // What the record of an entry says of a key.
+    // What the record of an entry says of a key. A page that is read is read into these bytes.
     fn ask<D: PageDevice<PAGE>>(
         &self,
         alloc: Global,
         device: &mut D,
         entry: &Entry,
         key: &Key,
+        bytes: &mut Option<[u8; PAGE]>,
     ) -> Result<Told, AllocError>
         requires page_size { IsPageSize PAGE }
         requires room { HasRoom (D.page_count device.old) self.now }
         requires listed { Contains self.now.entries entry.now }
+        requires its { IsPlaceOf self.now.shape key.now entry.now }
         ensures pages { D.page_count device.new ≡ D.page_count device.old }
         ensures honest { D.honest device.new ≡ D.honest device.old }
         ensures faults { D.failures device.new
@@ -131,8 +137,7 @@ impl<const PAGE: usize> KLog<PAGE> {
         ensures tells { IsTrue (D.honest device.old) →
             TellsKey PAGE (D.held device.old) self.now entry.now key.now result }
     {
-        let mut bytes = [0u8; PAGE];
-        match self.fetch(device, entry, &mut bytes) {
+        match self.fetch(device, entry, bytes, Some(key)) {
             Fetched::Fault => Ok(Told::Fault),
             Fetched::Damaged => Ok(Told::Damaged),
             Fetched::Record(found) => {
@@ -157,4 +162,16 @@ impl<const PAGE: usize> KLog<PAGE> {
     {
         self.index.lower_in(set, place);
     }
+}
+
+// The next of these entries that has this tag.
+fn next_with_tag(entries: &mut EntriesOf<'_>, tag: u16) -> Option<Entry>
+    ensures { YieldsFirst (with_tag tag) entries.old result entries.new }
+{
+    while let Some(entry) = entries.next() {
+        if entry.tag == tag {
+            return Some(entry);
+        }
+    }
+    None
 }

@@ -35,10 +35,13 @@ impl<const PAGE: usize> KLog<PAGE> {
         if self.stored == 0 {
             return Oldest::NoSegment;
         }
-        match self.index.first_of(self.name_of(self.first)) {
-            Some(entry) => Oldest::First(entry),
-            None => Oldest::Empty,
+        let Some(entry) = self.index.oldest() else {
+            return Oldest::Empty;
+        };
+        if self.number_of(entry.place.segment) != self.first {
+            return Oldest::Empty;
         }
+        Oldest::First(entry)
     }
 
     /// Frees the oldest segment on the device, none of whose records is live.
@@ -122,7 +125,7 @@ impl<const PAGE: usize> KLog<PAGE> {
             IsSpelledOn PAGE (D.held device.new) self.new }
     {
         let mut bytes = [0u8; PAGE];
-        match self.fetch_stored(device, entry, &mut bytes) {
+        match self.fetch_stored(device, entry, &mut bytes, None) {
             Fetched::Fault => {
                 self.lose_page_of(entry);
                 Readmitted::Fault
@@ -209,11 +212,13 @@ impl<const PAGE: usize> KLog<PAGE> {
             IfOk result (Gathers self.now set (live_on (D.held device.old) self.now)) }
     {
         let mut records = TakenRecords::new(alloc);
-        for behind in 0..MAX_TAKEN {
-            let Some(entry) = self.index.of_set(set, behind) else {
+        let mut entries = self.index.entries_of(set);
+        let mut bytes = None;
+        for _ in 0..MAX_TAKEN {
+            let Some(entry) = entries.next() else {
                 return Ok(Gathered::Records(records));
             };
-            let Some(taken) = self.copy(alloc, device, &entry)? else {
+            let Some(taken) = self.copy(alloc, device, &entry, &mut bytes)? else {
                 return Ok(Gathered::Lost(entry));
             };
             records.push(taken)?;
@@ -221,12 +226,13 @@ impl<const PAGE: usize> KLog<PAGE> {
         Ok(Gathered::Records(records))
     }
 
-    // A copy of an entry's record, or nothing where its page is lost.
+    // A copy of an entry's record, or nothing where its page is lost. A page that is read is read into these bytes.
     fn copy<D: PageDevice<PAGE>>(
         &self,
         alloc: Global,
         device: &mut D,
         entry: &Entry,
+        bytes: &mut Option<[u8; PAGE]>,
     ) -> Result<Option<TakenRecord>, AllocError>
         requires page_size { IsPageSize PAGE }
         requires room { HasRoom (D.page_count device.old) self.now }
@@ -243,8 +249,7 @@ impl<const PAGE: usize> KLog<PAGE> {
         ensures copies { IsTrue (D.honest device.old) →
             Copies PAGE (D.held device.old) self.now entry.now result }
     {
-        let mut bytes = [0u8; PAGE];
-        let Fetched::Record(found) = self.fetch(device, entry, &mut bytes) else {
+        let Fetched::Record(found) = self.fetch(device, entry, bytes, None) else {
             return Ok(None);
         };
         let current = RecordRef {

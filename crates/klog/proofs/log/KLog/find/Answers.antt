@@ -1,5 +1,6 @@
-use Rattle.std.proofs.Common.{◌≡◌, Bool, true, refl, sym, ap, subst, ◌∙◌, rules, arith}
+use Rattle.std.proofs.Common.{◌≡◌, Bool, refl, sym, ap, subst, ◌∙◌, rules, arith}
 use Rattle.std.specs.Prelude.{IsTrue, Ok, Err}
+use Rattle.std.proofs.lemmas.List.Elements.{All-nil}
 use Rattle.std.proofs.lemmas.Result.{err_from_is_err_and}
 use Rattle.klog_index.specs.Entries.{of_tag}
 use Rattle.klog.specs.declared.told.Told.TheVariants as told
@@ -12,18 +13,18 @@ use Rattle.page_device.specs.Device.{faults_after}
 use Rattle.klog.proofs.CallLaws.{unbuffered}
 use Rattle.klog.specs.Keeps.{IsLog}
 use Rattle.klog.proofs.OrderLaws.{newer_buffered}
-use Rattle.klog.proofs.LookLaws.{turn_at, turn_listed, turn_buffered, turn_before, turn_first, turn_tells, turn_reached, turn_other, turns_over, finds_of, got, got_none, all_seen}
+use Rattle.klog.proofs.LookLaws.{turn_at, turn_rest, turn_listed, turn_its, turn_buffered, turn_before, turn_first, turn_tells, turn_reached, turn_other, turns_over, finds_of, got, got_none, all_left, all_seen}
 use Rattle.klog.proofs.log.KLog.find.Goals as goal
 
 pub returns-in_default-clause-finds_at : goal.returns-in_default-clause-finds_at
 returns-in_default-clause-finds_at g c = λ honest.
-    turns_over g.row.PAGE (g.D.PageDevice.held c.args.device.now) c.args.self.now c.args.placed.now.set c.args.placed.now.tag c.args.key.now c.loop-behind.behind
-    (got_none _ c.args.self.now c.args.placed.now.set c.args.placed.now.tag c.loop-behind.behind _ c.self.view_is c.find.ensures c.in_default.is)
-    (c.loop-behind.invariant.newer honest)
+    turns_over g.row.PAGE (g.D.PageDevice.held c.args.device.now) c.args.self.now c.args.placed.now.set c.args.placed.now.tag c.args.key.now c.loop.counter
+    (got_none c.args.self.now c.args.placed.now.set c.args.placed.now.tag c.loop.counter _ c.loop.invariant.rest c.in_default.ensures.0)
+    (c.loop.invariant.newer honest)
 
 pub returns-in_default-clause-buffered : goal.returns-in_default-clause-buffered
 returns-in_default-clause-buffered g c = λ all.
-    c.loop-behind.invariant.buffered (turn_before c.args.self.now c.args.placed.now.set c.args.placed.now.tag c.loop-behind.behind all)
+    c.loop.invariant.buffered (turn_before c.args.self.now c.args.placed.now.set c.args.placed.now.tag c.loop.counter all)
 
 pub returns-in_default-clause-finds : goal.returns-in_default-clause-finds
 returns-in_default-clause-finds g c = λ honest spelled.
@@ -32,63 +33,63 @@ returns-in_default-clause-finds g c = λ honest spelled.
 pub ask-requires : goal.ask-requires
 ask-requires g c =
     let k = c.args.self.now in
-    let room : HasRoom (g.D.PageDevice.page_count c.loop-behind.device) k = search rules in
-    let at = turn_at _ k c.args.placed.now.set c.args.placed.now.tag c.loop-behind.behind c.in-Some.entry _ c.self.view_is c.find.ensures c.in-Some.is in
-    (omega arith, (c.requires.page_size, (room, turn_listed k c.args.placed.now.set c.args.placed.now.tag c.loop-behind.behind c.in-Some.entry at)))
+    let room : HasRoom (g.D.PageDevice.page_count c.loop.device) k = search rules in
+    let at = turn_at k c.args.placed.now.set c.args.placed.now.tag c.loop.counter c.in-Some.entry _ _ c.loop.invariant.rest c.in-Some.ensures in
+    (omega arith, (omega (arith, c.requires.page_size.1), (c.requires.page_size, (room, (turn_listed k c.args.placed.now.set c.args.placed.now.tag c.loop.counter c.in-Some.entry at, turn_its k c.args.key.now c.args.placed.now c.loop.counter c.in-Some.entry c.requires.place at)))))
 
 pub returns-in_err-ask-clause-buffered : goal.returns-in_err-ask-clause-buffered
 returns-in_err-ask-clause-buffered g c = λ all.
     let k = c.args.self.now in
-    let at = turn_at _ k c.args.placed.now.set c.args.placed.now.tag c.loop-behind.behind c.in-Some.entry _ c.self.view_is c.find.ensures c.in-Some.is in
-    c.ask.ensures.buffered (turn_buffered k c.args.placed.now.set c.args.placed.now.tag c.loop-behind.behind c.in-Some.entry at all) ∙ c.loop-behind.invariant.buffered (turn_before k c.args.placed.now.set c.args.placed.now.tag c.loop-behind.behind all)
+    let at = turn_at k c.args.placed.now.set c.args.placed.now.tag c.loop.counter c.in-Some.entry _ _ c.loop.invariant.rest c.in-Some.ensures in
+    c.ask.ensures.buffered (turn_buffered k c.args.placed.now.set c.args.placed.now.tag c.loop.counter c.in-Some.entry at all) ∙ c.loop.invariant.buffered (turn_before k c.args.placed.now.set c.args.placed.now.tag c.loop.counter all)
 
 pub returns-in_err-ask-clause-finds_at : goal.returns-in_err-ask-clause-finds_at
 returns-in_err-ask-clause-finds_at g c = λ honest.
     let k = c.args.self.now in
-    let at = turn_at _ k c.args.placed.now.set c.args.placed.now.tag c.loop-behind.behind c.in-Some.entry _ c.self.view_is c.find.ensures c.in-Some.is in
+    let at = turn_at k c.args.placed.now.set c.args.placed.now.tag c.loop.counter c.in-Some.entry _ _ c.loop.invariant.rest c.in-Some.ensures in
     let held = g.D.PageDevice.held c.args.device.now in
-    let on : IsTrue (g.D.PageDevice.honest c.loop-behind.device) = subst (λ (b : Bool). IsTrue b) (sym c.loop-behind.invariant.honest) honest in
+    let on : IsTrue (g.D.PageDevice.honest c.loop.device) = subst (λ (b : Bool). IsTrue b) (sym c.loop.invariant.honest) honest in
     let failed = err_from_is_err_and c.from_residual.result c.from_residual.ensures.1 in
     let finds : FindsAt g.row.PAGE held k c.args.placed.now.set c.args.placed.now.tag c.args.key.now (Err failed.0) = (
       c.in-Some.entry,
-      turn_reached g.row.PAGE held k c.args.placed.now.set c.args.placed.now.tag c.args.key.now c.loop-behind.behind c.in-Some.entry at (c.loop-behind.invariant.newer honest),
-      turn_tells g.row.PAGE held (g.D.PageDevice.held c.loop-behind.device) k c.args.key.now c.in-Some.entry (Err failed.0) (Err failed.0) (c.loop-behind.invariant.same honest) refl (c.in_err-ask.ensures.tells on),
+      turn_reached g.row.PAGE held k c.args.placed.now.set c.args.placed.now.tag c.args.key.now c.loop.counter c.in-Some.entry at (c.loop.invariant.newer honest),
+      turn_tells g.row.PAGE held (g.D.PageDevice.held c.loop.device) k c.args.key.now c.in-Some.entry (Err failed.0) (Err failed.0) (c.loop.invariant.same honest) refl (c.in_err-ask.ensures.tells on),
     ) in
     subst (FindsAt g.row.PAGE held k c.args.placed.now.set c.args.placed.now.tag c.args.key.now) (sym failed.1) finds
 
 pub returns-in-Fault-clause-buffered : goal.returns-in-Fault-clause-buffered
 returns-in-Fault-clause-buffered g c = λ all.
     let k = c.args.self.now in
-    let at = turn_at _ k c.args.placed.now.set c.args.placed.now.tag c.loop-behind.behind c.in-Some.entry _ c.self.view_is c.find.ensures c.in-Some.is in
-    c.ask.ensures.buffered (turn_buffered k c.args.placed.now.set c.args.placed.now.tag c.loop-behind.behind c.in-Some.entry at all) ∙ c.loop-behind.invariant.buffered (turn_before k c.args.placed.now.set c.args.placed.now.tag c.loop-behind.behind all)
+    let at = turn_at k c.args.placed.now.set c.args.placed.now.tag c.loop.counter c.in-Some.entry _ _ c.loop.invariant.rest c.in-Some.ensures in
+    c.ask.ensures.buffered (turn_buffered k c.args.placed.now.set c.args.placed.now.tag c.loop.counter c.in-Some.entry at all) ∙ c.loop.invariant.buffered (turn_before k c.args.placed.now.set c.args.placed.now.tag c.loop.counter all)
 
 pub returns-in-Fault-clause-finds_at : goal.returns-in-Fault-clause-finds_at
 returns-in-Fault-clause-finds_at g c = λ honest.
     let k = c.args.self.now in
-    let at = turn_at _ k c.args.placed.now.set c.args.placed.now.tag c.loop-behind.behind c.in-Some.entry _ c.self.view_is c.find.ensures c.in-Some.is in
+    let at = turn_at k c.args.placed.now.set c.args.placed.now.tag c.loop.counter c.in-Some.entry _ _ c.loop.invariant.rest c.in-Some.ensures in
     let held = g.D.PageDevice.held c.args.device.now in
-    let failed = subst (λ (t : Told). g.D.PageDevice.failures c.ask.new.device ≡ faults_after (g.D.PageDevice.failures c.loop-behind.device) (is_told_fault (Ok t))) c.in-Fault.is c.in_ok-ask.ensures.faults in (
+    let failed = subst (λ (t : Told). g.D.PageDevice.failures c.ask.new.device ≡ faults_after (g.D.PageDevice.failures c.loop.device) (is_told_fault (Ok t))) c.in-Fault.is c.in_ok-ask.ensures.faults in (
       c.in-Some.entry,
-      turn_reached g.row.PAGE held k c.args.placed.now.set c.args.placed.now.tag c.args.key.now c.loop-behind.behind c.in-Some.entry at (c.loop-behind.invariant.newer honest),
-      unbuffered (is_buffered k c.in-Some.entry) (g.D.PageDevice.failures c.loop-behind.device) (g.D.PageDevice.failures c.ask.new.device) (λ b. ap g.D.PageDevice.failures (c.ask.ensures.buffered b)) failed,
+      turn_reached g.row.PAGE held k c.args.placed.now.set c.args.placed.now.tag c.args.key.now c.loop.counter c.in-Some.entry at (c.loop.invariant.newer honest),
+      unbuffered (is_buffered k c.in-Some.entry) (g.D.PageDevice.failures c.loop.device) (g.D.PageDevice.failures c.ask.new.device) (λ b. ap g.D.PageDevice.failures (c.ask.ensures.buffered b)) failed,
     )
 
 pub returns-in-Damaged-clause-buffered : goal.returns-in-Damaged-clause-buffered
 returns-in-Damaged-clause-buffered g c = λ all.
     let k = c.args.self.now in
-    let at = turn_at _ k c.args.placed.now.set c.args.placed.now.tag c.loop-behind.behind c.in-Some.entry _ c.self.view_is c.find.ensures c.in-Some.is in
-    c.ask.ensures.buffered (turn_buffered k c.args.placed.now.set c.args.placed.now.tag c.loop-behind.behind c.in-Some.entry at all) ∙ c.loop-behind.invariant.buffered (turn_before k c.args.placed.now.set c.args.placed.now.tag c.loop-behind.behind all)
+    let at = turn_at k c.args.placed.now.set c.args.placed.now.tag c.loop.counter c.in-Some.entry _ _ c.loop.invariant.rest c.in-Some.ensures in
+    c.ask.ensures.buffered (turn_buffered k c.args.placed.now.set c.args.placed.now.tag c.loop.counter c.in-Some.entry at all) ∙ c.loop.invariant.buffered (turn_before k c.args.placed.now.set c.args.placed.now.tag c.loop.counter all)
 
 pub returns-in-Damaged-clause-finds_at : goal.returns-in-Damaged-clause-finds_at
 returns-in-Damaged-clause-finds_at g c = λ honest.
     let k = c.args.self.now in
-    let at = turn_at _ k c.args.placed.now.set c.args.placed.now.tag c.loop-behind.behind c.in-Some.entry _ c.self.view_is c.find.ensures c.in-Some.is in
+    let at = turn_at k c.args.placed.now.set c.args.placed.now.tag c.loop.counter c.in-Some.entry _ _ c.loop.invariant.rest c.in-Some.ensures in
     let held = g.D.PageDevice.held c.args.device.now in
-    let on : IsTrue (g.D.PageDevice.honest c.loop-behind.device) = subst (λ (b : Bool). IsTrue b) (sym c.loop-behind.invariant.honest) honest in (
+    let on : IsTrue (g.D.PageDevice.honest c.loop.device) = subst (λ (b : Bool). IsTrue b) (sym c.loop.invariant.honest) honest in (
       c.in-Some.entry,
-      turn_reached g.row.PAGE held k c.args.placed.now.set c.args.placed.now.tag c.args.key.now c.loop-behind.behind c.in-Some.entry at (c.loop-behind.invariant.newer honest),
-      turn_tells g.row.PAGE held (g.D.PageDevice.held c.loop-behind.device) k c.args.key.now c.in-Some.entry (Ok c.in_ok-ask.field-0) (Ok told.Damaged)
-          (c.loop-behind.invariant.same honest) (ap Ok c.in-Damaged.is) (c.in_ok-ask.ensures.tells on),
+      turn_reached g.row.PAGE held k c.args.placed.now.set c.args.placed.now.tag c.args.key.now c.loop.counter c.in-Some.entry at (c.loop.invariant.newer honest),
+      turn_tells g.row.PAGE held (g.D.PageDevice.held c.loop.device) k c.args.key.now c.in-Some.entry (Ok c.in_ok-ask.field-0) (Ok told.Damaged)
+          (c.loop.invariant.same honest) (ap Ok c.in-Damaged.is) (c.in_ok-ask.ensures.tells on),
     )
 
 pub returns-in-Damaged-clause-finds : goal.returns-in-Damaged-clause-finds
@@ -99,62 +100,76 @@ pub returns-in-Hit-clause-its : goal.returns-in-Hit-clause-its
 returns-in-Hit-clause-its g c =
     let k = c.args.self.now in
     let is : IsLog k = subst IsLog c.self.view_is c.self.invariant.0 in
-    let at = turn_at _ k c.args.placed.now.set c.args.placed.now.tag c.loop-behind.behind c.in-Some.entry _ c.self.view_is c.find.ensures c.in-Some.is in (
-      got (of_tag c.args.placed.now.set c.args.placed.now.tag k.entries) c.loop-behind.behind c.in-Some.entry at,
-      λ here. c.ask.ensures.buffered here ∙ c.loop-behind.invariant.buffered (newer_buffered k c.args.placed.now.set c.args.placed.now.tag c.loop-behind.behind c.in-Some.entry is at here),
+    let at = turn_at k c.args.placed.now.set c.args.placed.now.tag c.loop.counter c.in-Some.entry _ _ c.loop.invariant.rest c.in-Some.ensures in (
+      got (of_tag c.args.placed.now.set c.args.placed.now.tag k.entries) c.loop.counter c.in-Some.entry at,
+      λ here. c.ask.ensures.buffered here ∙ c.loop.invariant.buffered (newer_buffered k c.args.placed.now.set c.args.placed.now.tag c.loop.counter c.in-Some.entry is at here),
     )
 
 pub returns-in-Hit-clause-buffered : goal.returns-in-Hit-clause-buffered
 returns-in-Hit-clause-buffered g c = λ all.
     let k = c.args.self.now in
-    let at = turn_at _ k c.args.placed.now.set c.args.placed.now.tag c.loop-behind.behind c.in-Some.entry _ c.self.view_is c.find.ensures c.in-Some.is in
-    c.ask.ensures.buffered (turn_buffered k c.args.placed.now.set c.args.placed.now.tag c.loop-behind.behind c.in-Some.entry at all) ∙ c.loop-behind.invariant.buffered (turn_before k c.args.placed.now.set c.args.placed.now.tag c.loop-behind.behind all)
+    let at = turn_at k c.args.placed.now.set c.args.placed.now.tag c.loop.counter c.in-Some.entry _ _ c.loop.invariant.rest c.in-Some.ensures in
+    c.ask.ensures.buffered (turn_buffered k c.args.placed.now.set c.args.placed.now.tag c.loop.counter c.in-Some.entry at all) ∙ c.loop.invariant.buffered (turn_before k c.args.placed.now.set c.args.placed.now.tag c.loop.counter all)
 
 pub returns-in-Hit-clause-finds_at : goal.returns-in-Hit-clause-finds_at
 returns-in-Hit-clause-finds_at g c = λ honest.
     let k = c.args.self.now in
-    let at = turn_at _ k c.args.placed.now.set c.args.placed.now.tag c.loop-behind.behind c.in-Some.entry _ c.self.view_is c.find.ensures c.in-Some.is in
+    let at = turn_at k c.args.placed.now.set c.args.placed.now.tag c.loop.counter c.in-Some.entry _ _ c.loop.invariant.rest c.in-Some.ensures in
     let held = g.D.PageDevice.held c.args.device.now in
-    let on : IsTrue (g.D.PageDevice.honest c.loop-behind.device) = subst (λ (b : Bool). IsTrue b) (sym c.loop-behind.invariant.honest) honest in (
-      turn_reached g.row.PAGE held k c.args.placed.now.set c.args.placed.now.tag c.args.key.now c.loop-behind.behind c.in-Some.entry at (c.loop-behind.invariant.newer honest),
-      turn_tells g.row.PAGE held (g.D.PageDevice.held c.loop-behind.device) k c.args.key.now c.in-Some.entry (Ok c.in_ok-ask.field-0) (Ok (told.Hit c.in-Hit.value))
-          (c.loop-behind.invariant.same honest) (ap Ok c.in-Hit.is) (c.in_ok-ask.ensures.tells on),
+    let on : IsTrue (g.D.PageDevice.honest c.loop.device) = subst (λ (b : Bool). IsTrue b) (sym c.loop.invariant.honest) honest in (
+      turn_reached g.row.PAGE held k c.args.placed.now.set c.args.placed.now.tag c.args.key.now c.loop.counter c.in-Some.entry at (c.loop.invariant.newer honest),
+      turn_tells g.row.PAGE held (g.D.PageDevice.held c.loop.device) k c.args.key.now c.in-Some.entry (Ok c.in_ok-ask.field-0) (Ok (told.Hit c.in-Hit.value))
+          (c.loop.invariant.same honest) (ap Ok c.in-Hit.is) (c.in_ok-ask.ensures.tells on),
     )
 
 pub returns-in-Hit-clause-finds : goal.returns-in-Hit-clause-finds
 returns-in-Hit-clause-finds g c = λ honest spelled.
     finds_of g.row.PAGE (g.D.PageDevice.held c.args.device.now) c.args.self.now c.args.key.now c.args.placed.now (found.Hit c.in-Some.entry c.in-Hit.value) c.requires.place (returns-in-Hit-clause-finds_at g c honest) spelled
 
-pub loop-behind-preserved : goal.loop-behind-preserved
-loop-behind-preserved g c =
+pub loop-preserved : goal.loop-preserved
+loop-preserved g c =
     let k = c.args.self.now in
-    let at = turn_at _ k c.args.placed.now.set c.args.placed.now.tag c.loop-behind.behind c.in-Some.entry _ c.self.view_is c.find.ensures c.in-Some.is in
+    let at = turn_at k c.args.placed.now.set c.args.placed.now.tag c.loop.counter c.in-Some.entry _ _ c.loop.invariant.rest c.in-Some.ensures in
     record {
       pages = search rules;
       honest = search rules;
       failures = search rules;
-      same = λ honest. c.ask.ensures.same (subst (λ (b : Bool). IsTrue b) (sym c.loop-behind.invariant.honest) honest) ∙ c.loop-behind.invariant.same honest;
+      same = λ honest. c.ask.ensures.same (subst (λ (b : Bool). IsTrue b) (sym c.loop.invariant.honest) honest) ∙ c.loop.invariant.same honest;
       buffered = λ all.
-          let both = turn_first (λ e. IsTrue (is_buffered k e)) k c.args.placed.now.set c.args.placed.now.tag c.loop-behind.behind c.in-Some.entry at all in
-          c.ask.ensures.buffered both.1 ∙ c.loop-behind.invariant.buffered both.0;
+          let both = turn_first (λ e. IsTrue (is_buffered k e)) k c.args.placed.now.set c.args.placed.now.tag c.loop.counter c.in-Some.entry at all in
+          c.ask.ensures.buffered both.1 ∙ c.loop.invariant.buffered both.0;
+      rest = turn_rest k c.args.placed.now.set c.args.placed.now.tag c.loop.counter c.in-Some.entry _ _ c.loop.invariant.rest c.in-Some.ensures;
       newer = λ honest.
           let held = g.D.PageDevice.held c.args.device.now in
-          let on : IsTrue (g.D.PageDevice.honest c.loop-behind.device) = subst (λ (b : Bool). IsTrue b) (sym c.loop-behind.invariant.honest) honest in
-          turn_other g.row.PAGE held k c.args.placed.now.set c.args.placed.now.tag c.args.key.now c.loop-behind.behind c.in-Some.entry at (c.loop-behind.invariant.newer honest)
-          (turn_tells g.row.PAGE held (g.D.PageDevice.held c.loop-behind.device) k c.args.key.now c.in-Some.entry (Ok c.in_ok-ask.field-0) (Ok told.Other)
-          (c.loop-behind.invariant.same honest) (ap Ok c.in-Other.is) (c.in_ok-ask.ensures.tells on));
+          let on : IsTrue (g.D.PageDevice.honest c.loop.device) = subst (λ (b : Bool). IsTrue b) (sym c.loop.invariant.honest) honest in
+          turn_other g.row.PAGE held k c.args.placed.now.set c.args.placed.now.tag c.args.key.now c.loop.counter c.in-Some.entry at (c.loop.invariant.newer honest)
+          (turn_tells g.row.PAGE held (g.D.PageDevice.held c.loop.device) k c.args.key.now c.in-Some.entry (Ok c.in_ok-ask.field-0) (Ok told.Other)
+          (c.loop.invariant.same honest) (ap Ok c.in-Other.is) (c.in_ok-ask.ensures.tells on));
     }
 
 pub returns-clause-finds_at : goal.returns-clause-finds_at
 returns-clause-finds_at g c = λ honest.
-    turns_over g.row.PAGE (g.D.PageDevice.held c.args.device.now) c.args.self.now c.args.placed.now.set c.args.placed.now.tag c.args.key.now c.loop-behind.behind
-    (all_seen _ c.args.self.now c.args.placed.now.set c.args.placed.now.tag c.loop-behind.behind c.self.view_is (omega (arith, c.loop-behind-test.false, c.len-behind-end.ensures.len)))
-    (c.loop-behind.invariant.newer honest)
+    turns_over g.row.PAGE (g.D.PageDevice.held c.args.device.now) c.args.self.now c.args.placed.now.set c.args.placed.now.tag c.args.key.now c.loop.counter
+    (all_seen _ c.args.self.now c.args.placed.now.set c.args.placed.now.tag c.loop.counter c.self.view_is (omega (arith, c.loop-test.false, c.len-end.ensures.len)))
+    (c.loop.invariant.newer honest)
 
 pub returns-clause-buffered : goal.returns-clause-buffered
 returns-clause-buffered g c = λ all.
-    c.loop-behind.invariant.buffered (turn_before c.args.self.now c.args.placed.now.set c.args.placed.now.tag c.loop-behind.behind all)
+    c.loop.invariant.buffered (turn_before c.args.self.now c.args.placed.now.set c.args.placed.now.tag c.loop.counter all)
 
 pub returns-clause-finds : goal.returns-clause-finds
 returns-clause-finds g c = λ honest spelled.
     finds_of g.row.PAGE (g.D.PageDevice.held c.args.device.now) c.args.self.now c.args.key.now c.args.placed.now found.Absent c.requires.place (returns-clause-finds_at g c honest) spelled
+
+pub loop-init : goal.loop-init
+loop-init g c =
+    let k = c.args.self.now in
+    record {
+      pages = refl;
+      honest = refl;
+      failures = refl;
+      same = λ honest. refl;
+      buffered = λ all. refl;
+      rest = all_left _ k c.args.placed.now.set c.args.placed.now.tag c.entries_of-entries.result c.self.view_is c.entries_of-entries.ensures;
+      newer = λ honest. All-nil _;
+    }

@@ -1,17 +1,19 @@
-use Rattle.std.proofs.Common.{◌≡◌, All, take}
+use Rattle.std.proofs.Common.{◌≡◌, All, take, drop}
 use Rattle.std.specs.Prelude.{IsTrue}
 use Rattle.klog_index.specs.Entries.{of_tag}
 use Rattle.klog.specs.Known.{AreBuffered}
+use Rattle.klog.specs.Find.{with_tag}
 use Rattle.klog.specs.Look.{ShowsOther}
 use Rattle.klog.proofs.log.KLog.find.Given as goal
 
-abbrev pub invariant-loop-behind : goal.invariant-loop-behind
-invariant-loop-behind g l = record {
+abbrev pub invariant-loop : goal.invariant-loop
+invariant-loop g l = record {
   pages : g.D.PageDevice.page_count l.device ≡ g.D.PageDevice.page_count l.initial.device;
   honest : g.D.PageDevice.honest l.device ≡ g.D.PageDevice.honest l.initial.device;
   failures : g.D.PageDevice.failures l.device ≡ g.D.PageDevice.failures l.initial.device;
   same : IsTrue (g.D.PageDevice.honest l.initial.device) → g.D.PageDevice.held l.device ≡ g.D.PageDevice.held l.initial.device;
-  buffered : AreBuffered l.self (take l.behind (of_tag l.placed.set l.placed.tag l.self.entries)) → l.device ≡ l.initial.device;
+  buffered : AreBuffered l.self (take l.counter (of_tag l.placed.set l.placed.tag l.self.entries)) → l.device ≡ l.initial.device;
+  rest : with_tag l.placed.tag l.entries ≡ drop l.counter (of_tag l.placed.set l.placed.tag l.self.entries);
   newer : IsTrue (g.D.PageDevice.honest l.initial.device)
-      → All (ShowsOther g.row.PAGE (g.D.PageDevice.held l.initial.device) l.self l.key) (take l.behind (of_tag l.placed.set l.placed.tag l.self.entries));
+      → All (ShowsOther g.row.PAGE (g.D.PageDevice.held l.initial.device) l.self l.key) (take l.counter (of_tag l.placed.set l.placed.tag l.self.entries));
 }

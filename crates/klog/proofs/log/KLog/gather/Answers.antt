@@ -13,129 +13,130 @@ use Rattle.klog.specs.Take.{GathersAt}
 use Rattle.klog.specs.Known.{is_buffered}
 use Rattle.klog.proofs.CallLaws.{unbuffered}
 use Rattle.klog.proofs.KnownLaws.{shows_weaker}
-use Rattle.klog.proofs.TakeLaws.{turn_at, turn_listed, turn_live, turn_taken, turn_buffered, turn_copies, turn_fails, turn_more, taken_of_copies, taken_all}
+use Rattle.klog.proofs.TakeLaws.{turn_at, turn_rest, turn_listed, turn_live, turn_taken, turn_buffered, turn_copies, turn_fails, turn_more, taken_of_copies, taken_all}
 use Rattle.klog.proofs.log.KLog.gather.Goals as goal
 
 pub returns-in_default-clause-gathers_at : goal.returns-in_default-clause-gathers_at
 returns-in_default-clause-gathers_at g c = λ honest.
     let k = c.args.self.now in
     let held = g.D.PageDevice.held c.args.device.now in
-    subst (λ (es : List Entry). AreCopies g.row.PAGE held k es c.loop-behind.records)
-    (taken_all _ k c.args.set c.loop-behind.behind _ c.self.view_is c.of_set.ensures c.in_default.is (omega (arith, c.loop-behind-test.true)))
-    (c.loop-behind.invariant.copies honest)
+    subst (λ (es : List Entry). AreCopies g.row.PAGE held k es c.loop.records)
+    (taken_all k c.args.set c.loop.counter c.loop.entries c.loop.invariant.rest c.in_default.ensures.steps.0 (omega (arith, c.loop-test.true)))
+    (c.loop.invariant.copies honest)
 
 pub returns-in_default-clause-its : goal.returns-in_default-clause-its
-returns-in_default-clause-its g c = omega (arith, c.loop-behind.invariant.count, c.loop-behind-test.true)
+returns-in_default-clause-its g c = omega (arith, c.loop.invariant.count, c.loop-test.true)
 
 pub returns-in_default-clause-gathers : goal.returns-in_default-clause-gathers
 returns-in_default-clause-gathers g c = λ honest spelled.
-    taken_of_copies g.row.PAGE (g.D.PageDevice.held c.args.device.now) c.args.self.now c.args.set c.loop-behind.records (returns-in_default-clause-gathers_at g c honest) spelled
+    taken_of_copies g.row.PAGE (g.D.PageDevice.held c.args.device.now) c.args.self.now c.args.set c.loop.records (returns-in_default-clause-gathers_at g c honest) spelled
 
 pub copy-requires : goal.copy-requires
 copy-requires g c =
     let k = c.args.self.now in
-    let room : HasRoom (g.D.PageDevice.page_count c.loop-behind.device) k = search rules in
-    let at = turn_at _ k c.args.set c.loop-behind.behind c.in-Some.entry _ c.self.view_is c.of_set.ensures c.in-Some.is in
-    (omega arith, (c.requires.page_size, (room, turn_listed k c.args.set c.loop-behind.behind c.in-Some.entry at)))
+    let room : HasRoom (g.D.PageDevice.page_count c.loop.device) k = search rules in
+    let at = turn_at k c.args.set c.loop.counter c.in-Some.entry c.loop.entries c.next.new.self c.loop.invariant.rest c.in-Some.ensures.steps in
+    (omega arith, (omega (arith, c.requires.page_size.1), (c.requires.page_size, (room, turn_listed k c.args.set c.loop.counter c.in-Some.entry at))))
 
 pub returns-in_err-taken-clause-buffered : goal.returns-in_err-taken-clause-buffered
 returns-in_err-taken-clause-buffered g c = λ all.
     let k = c.args.self.now in
-    let at = turn_at _ k c.args.set c.loop-behind.behind c.in-Some.entry _ c.self.view_is c.of_set.ensures c.in-Some.is in
-    c.copy.ensures.buffered (turn_buffered k c.args.set c.loop-behind.behind c.in-Some.entry c.loop-behind-test.true at all) ∙ c.loop-behind.invariant.buffered all
+    let at = turn_at k c.args.set c.loop.counter c.in-Some.entry c.loop.entries c.next.new.self c.loop.invariant.rest c.in-Some.ensures.steps in
+    c.copy.ensures.buffered (turn_buffered k c.args.set c.loop.counter c.in-Some.entry c.loop-test.true at all) ∙ c.loop.invariant.buffered all
 
 pub returns-in_err-taken-clause-gathers_at : goal.returns-in_err-taken-clause-gathers_at
 returns-in_err-taken-clause-gathers_at g c = λ honest.
     let k = c.args.self.now in
     let held = g.D.PageDevice.held c.args.device.now in
-    let at = turn_at _ k c.args.set c.loop-behind.behind c.in-Some.entry _ c.self.view_is c.of_set.ensures c.in-Some.is in
-    let on : IsTrue (g.D.PageDevice.honest c.loop-behind.device) = subst (λ (b : Bool). IsTrue b) (sym c.loop-behind.invariant.honest) honest in
+    let at = turn_at k c.args.set c.loop.counter c.in-Some.entry c.loop.entries c.next.new.self c.loop.invariant.rest c.in-Some.ensures.steps in
+    let on : IsTrue (g.D.PageDevice.honest c.loop.device) = subst (λ (b : Bool). IsTrue b) (sym c.loop.invariant.honest) honest in
     let failed = err_from_is_err_and c.from_residual.result c.from_residual.ensures.1 in
     let gathers : GathersAt g.row.PAGE held k c.args.set (g.D.PageDevice.failures c.args.device.now) (Err failed.0) (g.D.PageDevice.failures c.copy.new.device) = (
       c.in-Some.entry,
-      turn_taken k c.args.set c.loop-behind.behind c.in-Some.entry c.loop-behind-test.true at,
-      turn_copies g.row.PAGE held (g.D.PageDevice.held c.loop-behind.device) k c.in-Some.entry (Err failed.0) (Err failed.0) (c.loop-behind.invariant.same honest) refl (c.in_err-taken.ensures.copies on),
+      turn_taken k c.args.set c.loop.counter c.in-Some.entry c.loop-test.true at,
+      turn_copies g.row.PAGE held (g.D.PageDevice.held c.loop.device) k c.in-Some.entry (Err failed.0) (Err failed.0) (c.loop.invariant.same honest) refl (c.in_err-taken.ensures.copies on),
     ) in
     subst (λ (r : Result Gathered AllocError). GathersAt g.row.PAGE held k c.args.set (g.D.PageDevice.failures c.args.device.now) r (g.D.PageDevice.failures c.copy.new.device)) (sym failed.1) gathers
 
 pub returns-in_default-2-clause-its : goal.returns-in_default-2-clause-its
 returns-in_default-2-clause-its g c =
     let k = c.args.self.now in
-    let at = turn_at _ k c.args.set c.loop-behind.behind c.in-Some.entry _ c.self.view_is c.of_set.ensures c.in-Some.is in
-    turn_taken k c.args.set c.loop-behind.behind c.in-Some.entry c.loop-behind-test.true at
+    let at = turn_at k c.args.set c.loop.counter c.in-Some.entry c.loop.entries c.next.new.self c.loop.invariant.rest c.in-Some.ensures.steps in
+    turn_taken k c.args.set c.loop.counter c.in-Some.entry c.loop-test.true at
 
 pub returns-in_default-2-clause-buffered : goal.returns-in_default-2-clause-buffered
 returns-in_default-2-clause-buffered g c = λ all.
     let k = c.args.self.now in
-    let at = turn_at _ k c.args.set c.loop-behind.behind c.in-Some.entry _ c.self.view_is c.of_set.ensures c.in-Some.is in
-    c.copy.ensures.buffered (turn_buffered k c.args.set c.loop-behind.behind c.in-Some.entry c.loop-behind-test.true at all) ∙ c.loop-behind.invariant.buffered all
+    let at = turn_at k c.args.set c.loop.counter c.in-Some.entry c.loop.entries c.next.new.self c.loop.invariant.rest c.in-Some.ensures.steps in
+    c.copy.ensures.buffered (turn_buffered k c.args.set c.loop.counter c.in-Some.entry c.loop-test.true at all) ∙ c.loop.invariant.buffered all
 
 pub returns-in_default-2-clause-gathers_at : goal.returns-in_default-2-clause-gathers_at
 returns-in_default-2-clause-gathers_at g c = λ honest live.
     let k = c.args.self.now in
     let held = g.D.PageDevice.held c.args.device.now in
-    let on : IsTrue (g.D.PageDevice.honest c.loop-behind.device) = subst (λ (b : Bool). IsTrue b) (sym c.loop-behind.invariant.honest) honest in
-    let failed = turn_fails g.row.PAGE held (g.D.PageDevice.held c.loop-behind.device) k c.in-Some.entry c.in_ok-taken.field-0
-    _ _ _ (c.loop-behind.invariant.same honest) c.in_default-2.is c.loop-behind.invariant.failures (c.in_ok-taken.ensures.faults on) live in
-    (failed, unbuffered (is_buffered k c.in-Some.entry) (g.D.PageDevice.failures c.args.device.now) (g.D.PageDevice.failures c.copy.new.device) (λ b. ap g.D.PageDevice.failures (c.copy.ensures.buffered b) ∙ c.loop-behind.invariant.failures) failed)
+    let on : IsTrue (g.D.PageDevice.honest c.loop.device) = subst (λ (b : Bool). IsTrue b) (sym c.loop.invariant.honest) honest in
+    let failed = turn_fails g.row.PAGE held (g.D.PageDevice.held c.loop.device) k c.in-Some.entry c.in_ok-taken.field-0
+    _ _ _ (c.loop.invariant.same honest) c.in_default-2.is c.loop.invariant.failures (c.in_ok-taken.ensures.faults on) live in
+    (failed, unbuffered (is_buffered k c.in-Some.entry) (g.D.PageDevice.failures c.args.device.now) (g.D.PageDevice.failures c.copy.new.device) (λ b. ap g.D.PageDevice.failures (c.copy.ensures.buffered b) ∙ c.loop.invariant.failures) failed)
 
 pub returns-in_default-2-clause-faults : goal.returns-in_default-2-clause-faults
 returns-in_default-2-clause-faults g c = λ honest spelled.
     let k = c.args.self.now in
     let held = g.D.PageDevice.held c.args.device.now in
-    let at = turn_at _ k c.args.set c.loop-behind.behind c.in-Some.entry _ c.self.view_is c.of_set.ensures c.in-Some.is in
-    (returns-in_default-2-clause-gathers_at g c honest (turn_live g.row.PAGE held k c.args.set c.loop-behind.behind c.in-Some.entry at spelled)).0
+    let at = turn_at k c.args.set c.loop.counter c.in-Some.entry c.loop.entries c.next.new.self c.loop.invariant.rest c.in-Some.ensures.steps in
+    (returns-in_default-2-clause-gathers_at g c honest (turn_live g.row.PAGE held k c.args.set c.loop.counter c.in-Some.entry at spelled)).0
 
 pub returns-in_err-push-clause-buffered : goal.returns-in_err-push-clause-buffered
 returns-in_err-push-clause-buffered g c = λ all.
     let k = c.args.self.now in
-    let at = turn_at _ k c.args.set c.loop-behind.behind c.in-Some.entry _ c.self.view_is c.of_set.ensures c.in-Some.is in
-    c.copy.ensures.buffered (turn_buffered k c.args.set c.loop-behind.behind c.in-Some.entry c.loop-behind-test.true at all) ∙ c.loop-behind.invariant.buffered all
+    let at = turn_at k c.args.set c.loop.counter c.in-Some.entry c.loop.entries c.next.new.self c.loop.invariant.rest c.in-Some.ensures.steps in
+    c.copy.ensures.buffered (turn_buffered k c.args.set c.loop.counter c.in-Some.entry c.loop-test.true at all) ∙ c.loop.invariant.buffered all
 
 pub returns-in_err-push-clause-gathers_at : goal.returns-in_err-push-clause-gathers_at
 returns-in_err-push-clause-gathers_at g c = λ honest.
     let k = c.args.self.now in
     let held = g.D.PageDevice.held c.args.device.now in
-    let at = turn_at _ k c.args.set c.loop-behind.behind c.in-Some.entry _ c.self.view_is c.of_set.ensures c.in-Some.is in
-    let on : IsTrue (g.D.PageDevice.honest c.loop-behind.device) = subst (λ (b : Bool). IsTrue b) (sym c.loop-behind.invariant.honest) honest in
+    let at = turn_at k c.args.set c.loop.counter c.in-Some.entry c.loop.entries c.next.new.self c.loop.invariant.rest c.in-Some.ensures.steps in
+    let on : IsTrue (g.D.PageDevice.honest c.loop.device) = subst (λ (b : Bool). IsTrue b) (sym c.loop.invariant.honest) honest in
     let failed = err_from_is_err_and c.from_residual-in_err-push.result c.from_residual-in_err-push.ensures.1 in
     let gathers : GathersAt g.row.PAGE held k c.args.set (g.D.PageDevice.failures c.args.device.now) (Err failed.0) (g.D.PageDevice.failures c.copy.new.device) = (
       c.in-Some.entry,
-      turn_taken k c.args.set c.loop-behind.behind c.in-Some.entry c.loop-behind-test.true at,
+      turn_taken k c.args.set c.loop.counter c.in-Some.entry c.loop-test.true at,
       shows_weaker g.row.PAGE held k c.in-Some.entry (λ r. c.in-Some-2.taken ≡ taken_as k (c.in-Some.entry, r)) (λ r. Unit {0}) (λ r is. tt)
-          (turn_copies g.row.PAGE held (g.D.PageDevice.held c.loop-behind.device) k c.in-Some.entry (Ok c.in_ok-taken.field-0) (Ok (Some c.in-Some-2.taken)) (c.loop-behind.invariant.same honest) (ap Ok c.in-Some-2.is) (c.in_ok-taken.ensures.copies on)),
+          (turn_copies g.row.PAGE held (g.D.PageDevice.held c.loop.device) k c.in-Some.entry (Ok c.in_ok-taken.field-0) (Ok (Some c.in-Some-2.taken)) (c.loop.invariant.same honest) (ap Ok c.in-Some-2.is) (c.in_ok-taken.ensures.copies on)),
     ) in
     subst (λ (r : Result Gathered AllocError). GathersAt g.row.PAGE held k c.args.set (g.D.PageDevice.failures c.args.device.now) r (g.D.PageDevice.failures c.copy.new.device)) (sym failed.1) gathers
 
-pub loop-behind-preserved : goal.loop-behind-preserved
-loop-behind-preserved g c =
+pub loop-preserved : goal.loop-preserved
+loop-preserved g c =
     let k = c.args.self.now in
-    let at = turn_at _ k c.args.set c.loop-behind.behind c.in-Some.entry _ c.self.view_is c.of_set.ensures c.in-Some.is in
+    let at = turn_at k c.args.set c.loop.counter c.in-Some.entry c.loop.entries c.next.new.self c.loop.invariant.rest c.in-Some.ensures.steps in
     record {
       pages = search rules;
       honest = search rules;
       failures = search rules;
-      same = λ honest. c.copy.ensures.same (subst (λ (b : Bool). IsTrue b) (sym c.loop-behind.invariant.honest) honest) ∙ c.loop-behind.invariant.same honest;
-      buffered = λ all. c.copy.ensures.buffered (turn_buffered k c.args.set c.loop-behind.behind c.in-Some.entry c.loop-behind-test.true at all) ∙ c.loop-behind.invariant.buffered all;
-      count = ap (λ (rs : List TakenRecord). length rs) c.in_ok-push.ensures.ok ∙ length_push c.loop-behind.records c.in-Some-2.taken ∙ ap (λ (n : ℕ). n + 1) c.loop-behind.invariant.count;
+      same = λ honest. c.copy.ensures.same (subst (λ (b : Bool). IsTrue b) (sym c.loop.invariant.honest) honest) ∙ c.loop.invariant.same honest;
+      buffered = λ all. c.copy.ensures.buffered (turn_buffered k c.args.set c.loop.counter c.in-Some.entry c.loop-test.true at all) ∙ c.loop.invariant.buffered all;
+      rest = turn_rest k c.args.set c.loop.counter c.in-Some.entry c.loop.entries c.next.new.self c.loop.invariant.rest c.in-Some.ensures.steps;
+      count = ap (λ (rs : List TakenRecord). length rs) c.in_ok-push.ensures.ok ∙ length_push c.loop.records c.in-Some-2.taken ∙ ap (λ (n : ℕ). n + 1) c.loop.invariant.count;
       copies = λ honest.
           let held = g.D.PageDevice.held c.args.device.now in
-          let on : IsTrue (g.D.PageDevice.honest c.loop-behind.device) = subst (λ (b : Bool). IsTrue b) (sym c.loop-behind.invariant.honest) honest in
-          let shows = turn_copies g.row.PAGE held (g.D.PageDevice.held c.loop-behind.device) k c.in-Some.entry (Ok c.in_ok-taken.field-0) (Ok (Some c.in-Some-2.taken)) (c.loop-behind.invariant.same honest) (ap Ok c.in-Some-2.is) (c.in_ok-taken.ensures.copies on) in
-          let more = turn_more g.row.PAGE held k c.args.set c.loop-behind.behind c.in-Some.entry c.in-Some-2.taken c.loop-behind.records at (c.loop-behind.invariant.copies honest) shows in
-          subst (AreCopies g.row.PAGE held k (take (c.loop-behind.behind + 1) (of_set c.args.set k.entries))) (sym c.in_ok-push.ensures.ok) more;
+          let on : IsTrue (g.D.PageDevice.honest c.loop.device) = subst (λ (b : Bool). IsTrue b) (sym c.loop.invariant.honest) honest in
+          let shows = turn_copies g.row.PAGE held (g.D.PageDevice.held c.loop.device) k c.in-Some.entry (Ok c.in_ok-taken.field-0) (Ok (Some c.in-Some-2.taken)) (c.loop.invariant.same honest) (ap Ok c.in-Some-2.is) (c.in_ok-taken.ensures.copies on) in
+          let more = turn_more g.row.PAGE held k c.args.set c.loop.counter c.in-Some.entry c.in-Some-2.taken c.loop.records at (c.loop.invariant.copies honest) shows in
+          subst (AreCopies g.row.PAGE held k (take (c.loop.counter + 1) (of_set c.args.set k.entries))) (sym c.in_ok-push.ensures.ok) more;
     }
 
 pub returns-clause-gathers_at : goal.returns-clause-gathers_at
 returns-clause-gathers_at g c = λ honest.
     let k = c.args.self.now in
     let held = g.D.PageDevice.held c.args.device.now in
-    let all : c.loop-behind.behind ≡ 32 = omega (arith, c.loop-behind-test.false, c.loop-behind.auto.behind-end) in
-    subst (λ (n : ℕ). AreCopies g.row.PAGE held k (take n (of_set c.args.set k.entries)) c.loop-behind.records) all (c.loop-behind.invariant.copies honest)
+    let all : c.loop.counter ≡ 32 = omega (arith, c.loop-test.false, c.loop.auto.counter-end) in
+    subst (λ (n : ℕ). AreCopies g.row.PAGE held k (take n (of_set c.args.set k.entries)) c.loop.records) all (c.loop.invariant.copies honest)
 
 pub returns-clause-its : goal.returns-clause-its
-returns-clause-its g c = omega (arith, c.loop-behind.invariant.count, c.loop-behind-test.false, c.loop-behind.auto.behind-end)
+returns-clause-its g c = omega (arith, c.loop.invariant.count, c.loop-test.false, c.loop.auto.counter-end)
 
 pub returns-clause-gathers : goal.returns-clause-gathers
 returns-clause-gathers g c = λ honest spelled.
-    taken_of_copies g.row.PAGE (g.D.PageDevice.held c.args.device.now) c.args.self.now c.args.set c.loop-behind.records (returns-clause-gathers_at g c honest) spelled
+    taken_of_copies g.row.PAGE (g.D.PageDevice.held c.args.device.now) c.args.self.now c.args.set c.loop.records (returns-clause-gathers_at g c honest) spelled
