@@ -1,0 +1,16 @@
+use Rattle.mover.proofs.Keeping.{kept_log_read}
+use Rattle.mover.proofs.store.Store.look_log.Goals as goal
+
+pub invariant_of-self : goal.invariant_of-self
+invariant_of-self g c =
+    let s = c.self.inside in
+    let d = g.D.PageDevice in
+    kept_log_read g.row.PAGE d.page_count d.honest d.held (record { layout = s.layout; device = s.device; memory = s.memory; log = s.log; sets = s.sets; moves = s.moves }) c.self.invariant
+    c.look.new.device c.look.new.self c.look.ensures.shape c.look.ensures.pages c.look.ensures.honest c.look.ensures.same c.look.ensures.spelled
+
+pub invariant_of-self-2 : goal.invariant_of-self-2
+invariant_of-self-2 g c =
+    let s = c.self.inside in
+    let d = g.D.PageDevice in
+    kept_log_read g.row.PAGE d.page_count d.honest d.held (record { layout = s.layout; device = s.device; memory = s.memory; log = s.log; sets = s.sets; moves = s.moves }) c.self.invariant
+    c.look.new.device c.look.new.self c.look.ensures.shape c.look.ensures.pages c.look.ensures.honest c.look.ensures.same c.look.ensures.spelled
