@@ -1,11 +1,18 @@
 -- What a get gives, tier by tier.
 use Rattle.std.proofs.Common.{◌≡◌, ℕ, List, Option, Some, None, refl, sym, ap, subst, ◌∙◌}
-use Rattle.std.specs.Prelude.{IsSomeAnd}
+use Rattle.std.specs.Prelude.{IsSomeAnd, Ok, false}
+use Rattle.set_hash.specs.declared.placed.Placed.{Placed}
+use Rattle.klog_index.specs.Entries.{of_tag}
+use Rattle.klog.specs.Known.{AreBuffered}
+use Rattle.klog.specs.declared.looked.Looked.TheVariants as log
+use Rattle.klog.specs.declared.looked.Looked.{Looked as LogLooked}
+use Rattle.kset.specs.Notes.{lets_show}
+use Rattle.mover.specs.Asking.{AsksNothing, IsNotOfLog, HitsInLog}
 use Rattle.record_pages.specs.Recs.{Rec}
 use Rattle.record_pages.specs.declared.answer.Answer.{Answer}
 use Rattle.record_pages.specs.declared.answer.Answer.TheVariants.{Hit, Miss}
 use Rattle.record_pages.specs.declared.miss_cause.MissCause.TheVariants.{Absent}
-use Rattle.record_pages.specs.declared.tier.Tier.TheVariants.{Memory, Set}
+use Rattle.record_pages.specs.declared.tier.Tier.TheVariants.{Memory, Log, Set}
 use Rattle.memory_cache.specs.MemoryList.{MemoryList, value_in, after_get, pair_in, to_front_by, holding}
 use Rattle.memory_cache.specs.declared.pair.Pair.{Pair}
 use Rattle.std.specs.Option.{option_map}
@@ -13,12 +20,12 @@ use Rattle.std.proofs.lemmas.Option.{none-some}
 use Rattle.klog.specs.Shown.{place_in, live_on}
 use Rattle.kset.specs.declared.looked.Looked.TheVariants as set
 use Rattle.kset.specs.declared.looked.Looked.{Looked as SetLooked}
-use Rattle.kset.specs.Sets.{SetsState, hit_in}
+use Rattle.kset.specs.Sets.{SetsState, hit_in, notes_of}
 use Rattle.kset.specs.Shown.{visible_in, first_visible}
 use Rattle.kset.specs.Look.{LookGives as SetLookGives}
-use Rattle.mover.specs.Store.{StoreState}
+use Rattle.mover.specs.Store.{StoreState, KeepsTiers}
 use Rattle.mover.specs.Lane.{LaneState, lane_of}
-use Rattle.mover.specs.Get.{set_step, ask_set, ask_log, memory_step, get_step, StepGives, answer_of_set}
+use Rattle.mover.specs.Get.{set_step, ask_set, ask_log, memory_step, get_step, StepGives, KeepsUnlessHit, answer_of_set}
 
 -- what is said of what an option holds, more loosely
 weaker : {X : Type 0} (P Q : X → Type 0) (o : Option X) → ((x : X) → P x → Q x) → IsSomeAnd o P → IsSomeAnd o Q
@@ -77,3 +84,21 @@ get_below held key answer s between new absent raised gives =
     let same : between ≡ s = raised ∙ ap (λ m. record s { memory = m }) (not_raised key s.memory absent) in
     subst (λ o. StepGives (memory_step key (lane_of held s) o) (lane_of held s) answer new) absent
     (subst (λ x. StepGives (ask_log key (lane_of held x)) (lane_of held x) answer new) same gives)
+
+-- a get that asks nothing asks nothing of the log
+pub asks_log : {D : Type 0} (key : List ℕ) (s : StoreState D) (at : Placed) → at ≡ place_in s.log.shape key → AsksNothing key s → AreBuffered s.log (of_tag at.set at.tag s.log.entries)
+asks_log key s at is asks = subst (λ (p : Placed). AreBuffered s.log (of_tag p.set p.tag s.log.entries)) (sym is) asks.buffered
+
+-- and nothing of the key's set
+pub asks_set : {D : Type 0} (key : List ℕ) (s mid : StoreState D) (at : Placed) (looked : LogLooked) → at ≡ place_in s.log.shape key → looked ≡ log.Absent → KeepsUnlessHit (Ok looked) s mid → AsksNothing key s →
+    lets_show (notes_of mid.sets at.set) at.hash ≡ false
+asks_set key s mid at looked is absent keeps asks =
+    let kept : KeepsTiers s mid = subst (λ l. KeepsUnlessHit (Ok l) s mid) absent keeps in
+    (λ i. lets_show (notes_of (kept.sets i) (is i).set) (is i).hash) ∙ asks.denied
+
+-- what is no hit in the log needs no entry of it
+pub not_of_log : {D : Type 0} (key : List ℕ) (answer : Answer) (old new : StoreState D) (not_called : Type 0) → IsNotOfLog answer → HitsInLog key answer old new not_called
+not_of_log key (Hit value Log) old new not_called is = absurd is
+not_of_log key (Hit value Memory) old new not_called is = tt
+not_of_log key (Hit value Set) old new not_called is = tt
+not_of_log key (Miss cause) old new not_called is = tt

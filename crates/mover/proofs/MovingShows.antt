@@ -34,7 +34,7 @@ use Rattle.kset.specs.Shown.{with_flag}
 use Rattle.mover.specs.Store.{most_moves}
 use Rattle.mover.specs.Lane.{LaneState}
 use Rattle.mover.specs.Strike.{with_set}
-use Rattle.mover.specs.Visible.{pair_of, IsVisible, ShowsNoMore}
+use Rattle.mover.specs.Visible.{pair_of, IsVisible}
 use Rattle.mover.specs.Get.{Step}
 use Rattle.mover.specs.Put.{lane_appended, IsStep}
 use Rattle.mover.specs.Oldest.{oldest_in, record_of}
@@ -48,7 +48,7 @@ use Rattle.mover.specs.declared.moved.Moved.TheVariants as moved
 use Rattle.mover.specs.declared.moving.Moving.{Moving}
 use Rattle.mover.proofs.Listing.{in_filter, in_map, in_take, mapped, found_in}
 use Rattle.mover.proofs.Filling.{as_many}
-use Rattle.mover.proofs.Showing.{appended_shows}
+use Rattle.mover.proofs.Showing.{ShowsNoMore, appended_shows}
 
 -- where records of the log die nothing else is shown
 without_shows : (es : List Entry) (q : Entry × Rec → Bool) (lane : LaneState) → ShowsNoMore lane (record lane { log = with_list lane.log es; live = filter q lane.live })

@@ -7,6 +7,7 @@ use Rattle.std.specs.Cmp.Lexicographic.{bytes_decides, same_text}
 use Rattle.std.specs.Option.{option_map}
 use Rattle.record_pages.specs.Looking.{has_key}
 use Rattle.std.proofs.lemmas.Bool.{and_from, eqb-true, eqb-false, eq-eqb, false≢true}
+use Rattle.std.proofs.lemmas.Option.{none-some}
 use Rattle.std.proofs.lemmas.List.Elements.{All-contains}
 use Rattle.set_hash.specs.Fnv.{fnv1a}
 use Rattle.record_pages.specs.Recs.{Rec}
@@ -38,8 +39,34 @@ use Rattle.kset.specs.Sets.{notes_of}
 use Rattle.kset.specs.After.{after_strike, without_hash, is_one_too_many}
 use Rattle.mover.specs.Lane.{LaneState}
 use Rattle.mover.specs.Strike.{struck, removed}
-use Rattle.mover.specs.Visible.{pair_of, IsOnFlash, IsVisible, IsLogPlaced, ShowsOthers, ShowsNoMore, ShowsIt, TellsVisible}
+use Rattle.mover.specs.Visible.{pair_of, IsOnFlash, IsVisible, IsLogPlaced, ShowsFrom, TellsVisible}
 use Rattle.mover.proofs.Listing.{in_filter, in_map, in_take, mapped, split, got, found_in, found_passes}
+
+-- each pair that is visible now was visible before
+abbrev pub ShowsNoMore : LaneState → LaneState → Type 0
+ShowsNoMore old new = (p : Pair) → IsVisible new p → IsVisible old p
+
+-- each pair that is visible now was visible before, and has another key than this
+abbrev pub ShowsOthers : List ℕ → LaneState → LaneState → Type 0
+ShowsOthers key old new = (p : Pair) → IsVisible new p → IsVisible old p × (p.key ≢ key)
+
+-- each pair that is visible now is this one, or was visible before and has another key
+abbrev pub ShowsIt : Pair → LaneState → LaneState → Type 0
+ShowsIt put old new = (p : Pair) → IsVisible new p → (p ≡ put) ⊎ (IsVisible old p × (p.key ≢ put.key))
+
+some_same : {X : Type 0} {x y : X} → Some x ≡ Some y → x ≡ y
+some_same is = cc
+
+-- each of these is a case of the contract
+pub no_more : (old new : LaneState) → ShowsNoMore old new → ShowsFrom None None old new
+no_more old new shows p here = inl (shows p here, λ is. none-some p.key is)
+
+pub others : (key : List ℕ) (old new : LaneState) → ShowsOthers key old new → ShowsFrom (Some key) None old new
+others key old new shows p here = let it = shows p here in inl (it.0, λ is. it.1 (sym (some_same is)))
+
+pub it_alone : (put : Pair) (old new : LaneState) → ShowsIt put old new → ShowsFrom (Some put.key) (Some put) old new
+it_alone put old new shows p here =
+    ⊎_elim (λ is. inr (ap Some (sym is))) (λ kept. inl (kept.0, λ is. kept.1 (sym (some_same is)))) (shows p here)
 
 not_true : (b : Bool) → not b ≡ true → b ≡ true → ⊥
 not_true b fails passes = false≢true (ap not (sym passes) ∙ fails)

@@ -4,6 +4,7 @@ pub mod Visible
 pub mod Strike
 pub mod Get
 pub mod Put
+pub mod Asking
 pub mod Flush
 pub mod Oldest
 pub mod Begin

@@ -1,5 +1,5 @@
 -- The visible pairs of a lane.
-use Rattle.std.specs.Prelude.{◌≡◌, ◌≢◌, ◌⊎◌, ℕ, List, map, Contains}
+use Rattle.std.specs.Prelude.{◌≡◌, ◌≢◌, ◌⊎◌, ℕ, List, Option, Some, map, Contains}
 use Rattle.record_pages.specs.Recs.{Rec}
 use Rattle.record_pages.specs.declared.answer.Answer.{Answer}
 use Rattle.record_pages.specs.declared.answer.Answer.TheVariants.{Hit, Miss}
@@ -21,17 +21,11 @@ IsOnFlash lane p =
 abbrev pub IsVisible : LaneState → Pair → Type 0
 IsVisible lane p = Contains lane.memory.pairs p ⊎ IsOnFlash lane p
 
--- each pair that is visible now was visible before
-abbrev pub ShowsNoMore : LaneState → LaneState → Type 0
-ShowsNoMore old new = (p : Pair) → IsVisible new p → IsVisible old p
-
--- each pair that is visible now was visible before, and has another key than this
-abbrev pub ShowsOthers : List ℕ → LaneState → LaneState → Type 0
-ShowsOthers key old new = (p : Pair) → IsVisible new p → IsVisible old p × (p.key ≢ key)
-
--- each pair that is visible now is this one, or was visible before and has another key
-abbrev pub ShowsIt : Pair → LaneState → LaneState → Type 0
-ShowsIt put old new = (p : Pair) → IsVisible new p → (p ≡ put) ⊎ (IsVisible old p × (p.key ≢ put.key))
+-- The contract of every call. Each pair that is visible after it was visible before it, and the call did not strike its
+-- key; or it is the pair that the call put.
+abbrev pub ShowsFrom : Option (List ℕ) → Option Pair → LaneState → LaneState → Type 0
+ShowsFrom struck put old new =
+    (p : Pair) → IsVisible new p → (IsVisible old p × (struck ≢ Some p.key)) ⊎ (put ≡ Some p)
 
 -- the key of each live record has its entry's set and tag
 abbrev pub IsLogPlaced : LaneState → Type 0

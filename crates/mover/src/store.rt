@@ -63,10 +63,13 @@ impl<D: PageDevice<PAGE>, const PAGE: usize> Model for Store<D, PAGE> {
 }
 
 impl<D: PageDevice<PAGE>, const PAGE: usize> Store<D, PAGE> {
-    ghost use Rattle.mover.specs.Store.{opening};
-    ghost use Rattle.mover.specs.Store.{IsTooSmall};
+    ghost use Rattle.std.specs.Prelude.{IsTrue};
+    ghost use Rattle.mover.specs.Store.{opening, IsTooSmall, IsStore};
+    ghost use Rattle.mover.specs.Lane.{lane_of};
+    ghost use Rattle.mover.specs.Visible.{IsLogPlaced};
 
-    /// An empty store of this configuration over a device.
+    /// An empty store of this configuration over a device. Its refusals are tested in the order of `OpenFault`, and the
+    /// device is dropped with each.
     pub fn open(alloc: Global, config: &Config, device: D) -> Result<Self, OpenFault>
         ensures opening { IfOk result (λ s. HasNumbersOf s.layout config.now
             × (s ≡ opening s.layout device)) }
@@ -99,5 +102,24 @@ impl<D: PageDevice<PAGE>, const PAGE: usize> Store<D, PAGE> {
             sets,
             moves: 0,
         })
+    }
+
+    /// The numbers that the store was opened with.
+    pub fn layout(&self) -> Layout
+        ensures layout { result ≡ self.now.layout }
+        // What is true of every store.
+        ensures kept { IsStore PAGE D.page_count D.honest D.held self.now }
+        ensures placed { IsTrue (D.honest self.now.device) → IsLogPlaced (lane_of D.held self.now) }
+    {
+        // That live records are placed is known from the log's length.
+        let _live = self.log.len();
+        self.layout
+    }
+
+    /// The device, as it is now. What memory held is gone.
+    pub fn into_device(self) -> D
+        ensures { result ≡ self.device }
+    {
+        self.device
     }
 }

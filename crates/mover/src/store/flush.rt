@@ -1,9 +1,9 @@
 // Flushing the log.
-ghost use Rattle.std.specs.Prelude.{◌≡◌, IsTrue};
+ghost use Rattle.std.specs.Prelude.{◌≡◌, None, IsTrue};
 ghost use Rattle.page_device.specs.Device.{faults_after};
-ghost use Rattle.klog.specs.Flush.{is_page_lost};
+ghost use Rattle.klog.specs.Flush.{is_page_lost, FlushGives};
 ghost use Rattle.mover.specs.Lane.{lane_of};
-ghost use Rattle.mover.specs.Visible.{ShowsNoMore};
+ghost use Rattle.mover.specs.Visible.{ShowsFrom};
 ghost use Rattle.mover.specs.Flush.{LaneFlushes};
 
 use super::Store;
@@ -17,10 +17,15 @@ impl<D: PageDevice<PAGE>, const PAGE: usize> Store<D, PAGE> {
         ensures honest { D.honest self.new.device ≡ D.honest self.old.device }
         ensures faults { D.failures self.new.device
             ≡ faults_after (D.failures self.old.device) (is_page_lost result) }
+        ensures rest { self.new ≡ record self.old {
+          device = self.new.device;
+          log = self.new.log;
+        } }
+        ensures flushes { FlushGives self.old.log result self.new.log }
         ensures gives { IsTrue (D.honest self.old.device) →
             LaneFlushes (lane_of D.held self.old) result (lane_of D.held self.new) }
         ensures shows { IsTrue (D.honest self.old.device) →
-            ShowsNoMore (lane_of D.held self.old) (lane_of D.held self.new) }
+            ShowsFrom None None (lane_of D.held self.old) (lane_of D.held self.new) }
     {
         self.log.flush_step(&mut self.device)
     }

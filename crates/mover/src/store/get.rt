@@ -1,12 +1,16 @@
 // Looking a key up in the three tiers.
-ghost use Rattle.std.specs.Prelude.{◌≡◌, IfOk, OnOk, OnErr, IsSome, IsTrue};
+ghost use Rattle.std.specs.Prelude.{◌≡◌, None, false, IfOk, OnOk, OnErr, IsSome, IsTrue};
 ghost use Rattle.klog.specs.Shown.{place_in};
-ghost use Rattle.klog.specs.Look.{is_log_fault};
-ghost use Rattle.kset.specs.Sets.{IsPlaceIn};
+ghost use Rattle.klog.specs.Look.{is_log_fault, LogLookLeaves};
+ghost use Rattle.klog.specs.Known.{AreBuffered};
+ghost use Rattle.klog_index.specs.Entries.{of_tag};
+ghost use Rattle.kset.specs.Notes.{lets_show};
+ghost use Rattle.kset.specs.Sets.{notes_of, IsPlaceIn};
+ghost use Rattle.mover.specs.Asking.{AsksNothing, IfThen, IsNotOfLog, KeepsIfMiss, HitsInLog};
 ghost use Rattle.memory_cache.specs.MemoryList.{value_in, after_get};
 ghost use Rattle.mover.specs.Store.{KeepsTiers, OnlyReads};
 ghost use Rattle.mover.specs.Lane.{lane_of};
-ghost use Rattle.mover.specs.Visible.{ShowsNoMore, TellsVisible};
+ghost use Rattle.mover.specs.Visible.{ShowsFrom, TellsVisible};
 ghost use Rattle.mover.specs.Get.{get_step, ask_log, ask_set, StepGives, LogTells, KeepsUnlessHit, is_fault, answer_of_set};
 
 use super::Store;
@@ -26,10 +30,15 @@ impl<D: PageDevice<PAGE>, const PAGE: usize> Store<D, PAGE> {
             (lane_of D.held self.new)) }
         ensures visible { IsTrue (D.honest self.old.device) →
             IfOk result (TellsVisible key.now (lane_of D.held self.old)) }
-        ensures unasked { IsSome (value_in key.now self.old.memory.pairs) →
+        ensures in_memory { IsSome (value_in key.now self.old.memory.pairs) →
             self.new.device ≡ self.old.device }
+        ensures unasked { IfThen (AsksNothing key.now self.old)
+            (self.new.device ≡ self.old.device) }
+        ensures missed { IfOk result (λ answer. KeepsIfMiss answer self.old self.new) }
+        ensures in_buffer { IfOk result (λ answer. HitsInLog key.now answer self.old self.new
+            (self.new.device ≡ self.old.device)) }
         ensures shows { IsTrue (D.honest self.old.device) →
-            OnOk result (ShowsNoMore (lane_of D.held self.old) (lane_of D.held self.new)) }
+            OnOk result (ShowsFrom None None (lane_of D.held self.old) (lane_of D.held self.new)) }
     {
         if let Some(value) = self.recall(key)? {
             return Ok(Answer::Hit(value, Tier::Memory));
@@ -57,6 +66,11 @@ impl<D: PageDevice<PAGE>, const PAGE: usize> Store<D, PAGE> {
     fn look_below(&mut self, key: &Key) -> Result<Answer, AllocError>
         ensures reads { OnlyReads D.honest D.failures D.held self.old (is_fault result) self.new }
         ensures out_of_memory { OnErr result (KeepsTiers self.old self.new) }
+        ensures unasked { IfThen (AsksNothing key.now self.old)
+            (self.new.device ≡ self.old.device) }
+        ensures missed { IfOk result (λ answer. KeepsIfMiss answer self.old self.new) }
+        ensures in_buffer { IfOk result (λ answer. HitsInLog key.now answer self.old self.new
+            (self.new.device ≡ self.old.device)) }
         ensures gives { IsTrue (D.honest self.old.device) → IfOk result (λ answer. StepGives
             (ask_log key.now (lane_of D.held self.old)) (lane_of D.held self.old) answer
             (lane_of D.held self.new)) }
@@ -78,6 +92,11 @@ impl<D: PageDevice<PAGE>, const PAGE: usize> Store<D, PAGE> {
         requires { placed.now ≡ place_in self.old.log.shape key.now }
         ensures reads { OnlyReads D.honest D.failures D.held self.old (is_log_fault result) self.new }
         ensures keeps { KeepsUnlessHit result self.old self.new }
+        ensures unasked { IfThen (AreBuffered self.old.log
+            (of_tag placed.now.set placed.now.tag self.old.log.entries))
+            (self.new.device ≡ self.old.device) }
+        ensures in_buffer { LogLookLeaves self.old.log placed.now.set placed.now.tag result
+            self.new.log (self.new.device ≡ self.old.device) }
         ensures tells { IsTrue (D.honest self.old.device) → IfOk result (λ looked. LogTells key.now
             (lane_of D.held self.old) looked (lane_of D.held self.new)) }
     {
@@ -91,6 +110,11 @@ impl<D: PageDevice<PAGE>, const PAGE: usize> Store<D, PAGE> {
         requires its { IsPlaceIn self.old.sets placed.now }
         ensures reads { OnlyReads D.honest D.failures D.held self.old (is_fault result) self.new }
         ensures out_of_memory { OnErr result (KeepsTiers self.old self.new) }
+        ensures unasked { IfThen
+            (lets_show (notes_of self.old.sets placed.now.set) placed.now.hash ≡ false)
+            (self.new.device ≡ self.old.device) }
+        ensures missed { IfOk result (λ answer. KeepsIfMiss answer self.old self.new) }
+        ensures not_of_log { IfOk result IsNotOfLog }
         ensures gives { IsTrue (D.honest self.old.device) → IfOk result (λ answer. StepGives
             (ask_set key.now (lane_of D.held self.old)) (lane_of D.held self.old) answer
             (lane_of D.held self.new)) }

@@ -1,11 +1,11 @@
 // A whole move.
-ghost use Rattle.std.specs.Prelude.{◌≡◌, ◌<◌, ◌⊎◌, IfOk, OnErr, OnOk, IsTrue};
+ghost use Rattle.std.specs.Prelude.{◌≡◌, ◌<◌, ◌⊎◌, ◌+◌, None, IfOk, OnErr, OnOk, IsTrue};
 ghost use Rattle.policy_laws.specs.Laws.{IsLawful};
 ghost use Rattle.page_device.specs.Device.{faults_after};
 ghost use Rattle.kset.specs.Rewrite.{is_forgotten};
 ghost use Rattle.mover.specs.Store.{KeepsTiers, most_moves};
 ghost use Rattle.mover.specs.Lane.{lane_of};
-ghost use Rattle.mover.specs.Visible.{ShowsNoMore};
+ghost use Rattle.mover.specs.Visible.{ShowsFrom};
 ghost use Rattle.mover.specs.Begin.{lane_counted, begin_step};
 ghost use Rattle.mover.specs.Commit.{job_of, committed};
 ghost use Rattle.mover.specs.Whole.{MoveGives, IsPlanned, IfMoved, is_failed};
@@ -31,6 +31,8 @@ impl<D: PageDevice<PAGE>, const PAGE: usize> Store<D, PAGE> {
         ensures faults { IsTrue (D.honest self.old.device) → D.failures self.new.device
             ≡ faults_after (D.failures self.old.device) (is_failed result) }
         ensures out_of_memory { OnErr result (KeepsTiers self.old self.new) }
+        ensures number { OnErr result ((self.new.moves ≡ self.old.moves)
+            ⊎ (self.new.moves ≡ self.old.moves + 1)) }
         ensures lane_stays { IsTrue (D.honest self.old.device) →
             OnErr result ((lane_of D.held self.new ≡ lane_of D.held self.old)
             ⊎ (lane_of D.held self.new ≡ lane_counted (lane_of D.held self.old))) }
@@ -38,7 +40,7 @@ impl<D: PageDevice<PAGE>, const PAGE: usize> Store<D, PAGE> {
             self.old.layout.threshold (P.plan_of policy.now) (lane_of D.held self.old) moved
             (lane_of D.held self.new)) }
         ensures shows { IsTrue (D.honest self.old.device) →
-            OnOk result (ShowsNoMore (lane_of D.held self.old) (lane_of D.held self.new)) }
+            OnOk result (ShowsFrom None None (lane_of D.held self.old) (lane_of D.held self.new)) }
     {
         let moved = self.step(policy)?;
         Ok(moved)
@@ -51,6 +53,8 @@ impl<D: PageDevice<PAGE>, const PAGE: usize> Store<D, PAGE> {
         ensures faults { IsTrue (D.honest self.old.device) → D.failures self.new.device
             ≡ faults_after (D.failures self.old.device) (is_failed result) }
         ensures out_of_memory { OnErr result (KeepsTiers self.old self.new) }
+        ensures number { OnErr result ((self.new.moves ≡ self.old.moves)
+            ⊎ (self.new.moves ≡ self.old.moves + 1)) }
         ensures lane_stays { IsTrue (D.honest self.old.device) →
             OnErr result ((lane_of D.held self.new ≡ lane_of D.held self.old)
             ⊎ (lane_of D.held self.new ≡ lane_counted (lane_of D.held self.old))) }

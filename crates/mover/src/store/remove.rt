@@ -1,10 +1,10 @@
 // Removing a key.
-ghost use Rattle.std.specs.Prelude.{◌≡◌, IsTrue};
+ghost use Rattle.std.specs.Prelude.{◌≡◌, None, Some, IsTrue};
 ghost use Rattle.klog.specs.Shown.{place_in};
 ghost use Rattle.kset.specs.Sets.{IsPlaceIn};
 ghost use Rattle.mover.specs.Lane.{lane_of};
 ghost use Rattle.mover.specs.Strike.{struck_at, removed};
-ghost use Rattle.mover.specs.Visible.{ShowsOthers, IsLogPlaced};
+ghost use Rattle.mover.specs.Visible.{ShowsFrom, IsLogPlaced};
 
 use super::Store;
 use page_device::PageDevice;
@@ -18,11 +18,22 @@ impl<D: PageDevice<PAGE>, const PAGE: usize> Store<D, PAGE> {
         ensures device { self.new.device ≡ self.old.device }
         ensures removed { lane_of D.held self.new ≡ removed key.now (lane_of D.held self.old) }
         ensures shows { IsTrue (D.honest self.old.device) →
-            ShowsOthers key.now (lane_of D.held self.old) (lane_of D.held self.new) }
+            ShowsFrom (Some key.now) None (lane_of D.held self.old) (lane_of D.held self.new) }
     {
         let placed = self.place(key);
         self.memory.remove(key);
         self.strike(&placed);
+    }
+
+    /// The key's pair leaves every tier, as `remove` has it. No call of the device is made, and no memory taken.
+    pub fn forget(&mut self, key: &Key)
+        ensures layout { self.new.layout ≡ self.old.layout }
+        ensures device { self.new.device ≡ self.old.device }
+        ensures removed { lane_of D.held self.new ≡ removed key.now (lane_of D.held self.old) }
+        ensures shows { IsTrue (D.honest self.old.device) →
+            ShowsFrom (Some key.now) None (lane_of D.held self.old) (lane_of D.held self.new) }
+    {
+        self.remove(key);
     }
 
     // Strikes the key of a place, in the log and in its set.

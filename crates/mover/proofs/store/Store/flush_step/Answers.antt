@@ -4,7 +4,7 @@ use Rattle.mover.specs.Store.{StoreState}
 use Rattle.mover.specs.Lane.{lane_of}
 use Rattle.mover.specs.Flush.{LaneFlushes}
 use Rattle.mover.proofs.Keeping.{kept_flash, sets_framed, counted_alike}
-use Rattle.mover.proofs.Showing.{flush_shows}
+use Rattle.mover.proofs.Showing.{no_more, flush_shows}
 use Rattle.mover.proofs.Putting.{lane_flushed}
 use Rattle.mover.proofs.store.Store.flush_step.Goals as goal
 
@@ -37,4 +37,4 @@ returns-clause-shows g c = λ is.
     let old : StoreState g.row.D.Denot = record { layout = s.layout; device = s.device; memory = s.memory; log = s.log; sets = s.sets; moves = s.moves } in
     let new : StoreState g.row.D.Denot = record { layout = s.layout; device = c.flush_step.new.device; memory = s.memory; log = c.flush_step.new.self; sets = s.sets; moves = s.moves } in
     let shape = c.flush_step.ensures.shape ∙ ap (λ (x : StoreState g.row.D.Denot). x.log.shape) c.self.view_is in
-    flush_shows c.flush_step.result (lane_of d.held c.args.self.now) (lane_of d.held new) shape (returns-clause-gives g c is)
+    no_more (lane_of d.held c.args.self.now) (lane_of d.held new) (flush_shows c.flush_step.result (lane_of d.held c.args.self.now) (lane_of d.held new) shape (returns-clause-gives g c is))

@@ -1,7 +1,9 @@
 use Rattle.std.proofs.Common.{rules, ap, subst, sym}
 use Rattle.mover.specs.Lane.{lane_of}
-use Rattle.mover.specs.Visible.{ShowsOthers}
-use Rattle.mover.proofs.Showing.{removed_shows}
+use Rattle.mover.specs.Strike.{removed}
+use Rattle.mover.specs.Visible.{ShowsFrom}
+use Rattle.std.proofs.Common.{Some, None}
+use Rattle.mover.proofs.Showing.{removed_shows, others}
 use Rattle.memory_cache.specs.MemoryList.{MemoryList}
 use Rattle.mover.proofs.Keeping.{kept_memory, small_removed}
 use Rattle.mover.proofs.store.Store.remove.Goals as goal
@@ -22,4 +24,4 @@ returns-clause-shows g c = λ is.
     let d = g.D.PageDevice in
     let key = c.args.key.now in
     let old = lane_of d.held c.args.self.now in
-    subst (ShowsOthers key old) (sym (returns-clause-removed g c)) (removed_shows key old (c.place-placed.ensures.live is))
+    subst (ShowsFrom (Some key) None old) (sym (returns-clause-removed g c)) (others key old (removed key old) (removed_shows key old (c.place-placed.ensures.live is)))
