@@ -2,3 +2,4 @@ pub mod NotesLaws
 pub mod PageNotes
 pub mod LookLaws
 pub mod ShownLaws
+pub mod MovingLaws

@@ -19,7 +19,7 @@ use Rattle.kset.specs.Notes.{Notes, lets_show}
 use Rattle.kset.specs.Sets.{SetsState, hit_in}
 use Rattle.kset.specs.Pages.{IsPageOf, records_on}
 use Rattle.kset.specs.Shown.{is_visible, visible_from, first_visible}
-use Rattle.kset.specs.Telling.{page_if_of, Tells, HasKey}
+use Rattle.kset.specs.Telling.{page_if_of, SetPageTells, HasKey}
 use Rattle.kset.proofs.NotesLaws.{some_bit, lets_show-empty}
 
 -- a record that is found lies among the records
@@ -98,7 +98,7 @@ Says visible key Damaged = ⊥
 Says visible key Absent = first_visible visible key ≡ None
 Says visible key (Found slot value) = IsSomeAnd (first_visible visible key) (λ x. (x.0 ≡ slot) × (x.1.value ≡ value))
 
-says_of : (visible : List (ℕ × Rec)) (key : List ℕ) (rs : List Rec) (p : SetPageParts) (told : Told) → first_visible visible key ≡ first_with key p.records → Tells key (Some p) told → Says visible key told
+says_of : (visible : List (ℕ × Rec)) (key : List ℕ) (rs : List Rec) (p : SetPageParts) (told : Told) → first_visible visible key ≡ first_with key p.records → SetPageTells key (Some p) told → Says visible key told
 says_of visible key rs p Damaged first t = t
 says_of visible key rs p Absent first t = first ∙ t
 says_of visible key rs p (Found slot value) first t =
@@ -106,12 +106,12 @@ says_of visible key rs p (Found slot value) first t =
     subst P (sym first) t.1
 
 pub says : (size set : ℕ) (seen : Option (List ℕ)) (bytes key : List ℕ) (notes : Notes) (told : Told) →
-    lets_show notes (fnv1a key) ≡ true → ReadsPage size set seen bytes → Tells key (page_if_of set (set_page_at bytes)) told →
+    lets_show notes (fnv1a key) ≡ true → ReadsPage size set seen bytes → SetPageTells key (page_if_of set (set_page_at bytes)) told →
     Says (visible_from notes 0 (records_on seen)) key told
 says size set seen bytes key notes told shows r t =
     let first : first_visible (visible_from notes 0 (records_on seen)) key ≡ first_with key r.page.records =
     first_visible-shown notes key shows 0 (records_on seen) ∙ ap (λ (rs : List Rec). first_with key rs) r.seen_records in
-    let at : Tells key (Some r.page) told = subst (λ (o : Option SetPageParts). Tells key o told) r.read t in
+    let at : SetPageTells key (Some r.page) told = subst (λ (o : Option SetPageParts). SetPageTells key o told) r.read t in
     says_of (visible_from notes 0 (records_on seen)) key (records_on seen) r.page told first at
 
 -- a hit at the slot of the first visible record
@@ -126,7 +126,7 @@ hit_gives visible key value slot set old new s e = noted (first_visible visible 
 
 -- what was read of a set that can show a key says of the key what the visible records say
 pub told_of : (size count set : ℕ) (held : ℕ → Option (List ℕ)) (bytes key : List ℕ) (hash : ℕ) (notes : Notes) (told : Told) → hash ≡ fnv1a key → true ≡ lets_show notes hash →
-    set < count → (notes.filter ≢ empty → IsPageOf size set (pages_before count held set)) → IsKnown (held set) bytes → Tells key (page_if_of set (set_page_at bytes)) told →
+    set < count → (notes.filter ≢ empty → IsPageOf size set (pages_before count held set)) → IsKnown (held set) bytes → SetPageTells key (page_if_of set (set_page_at bytes)) told →
     Says (visible_from notes 0 (records_on (pages_before count held set))) key told
 told_of size count set held bytes key hash notes told hashed shows within paged known t =
     let has_bit = some_bit notes.filter hash (and_parts _ _ (sym shows)).0 in

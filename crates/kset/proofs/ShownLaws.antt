@@ -1,10 +1,9 @@
 -- What shows in a set after a call, for the layers above.
-use Rattle.std.proofs.Common.{◌≡◌, ◌≢◌, ℕ, ◌<◌, Bool, true, false, ◌&&◌, ◌||◌, not, cond, eqb, List, [], ◌∷◌, filter, Option, Some, None, Result, Ok, Err, ⊎_elim, refl, sym, ap, subst, ◌∙◌}
-use Rattle.std.proofs.lemmas.Bool.{cases_eq, eqb-true}
+use Rattle.std.proofs.Common.{◌≡◌, ◌≢◌, ℕ, ◌<◌, Bool, true, false, ◌&&◌, ◌||◌, not, cond, eqb, zero, suc, List, [], ◌∷◌, filter, replicate, Option, Some, None, Ok, ⊎_elim, refl, sym, ap, subst, ◌∙◌}
+use Rattle.std.proofs.lemmas.Bool.{cases_eq, eqb-true, eqb-false}
 use Rattle.std.proofs.lemmas.List.{length-set, get_or-set_other}
-use Rattle.std.specs.Prelude.{nat_le}
+use Rattle.std.specs.Prelude.{nat_le, nat_lt, slice_index_or}
 use Rattle.std.specs.FinSet.{contains, insert, len}
-use Rattle.std.specs.declared.alloc.AllocError.{AllocError}
 use Rattle.bloom.specs.Filter.{admits}
 use Rattle.bit_laws.proofs.PassingLaws.{contains-insert_nat}
 use Rattle.page_device.specs.Device.{IsKnown}
@@ -14,18 +13,14 @@ use Rattle.set_hash.specs.Place.{probes_of}
 use Rattle.record_pages.specs.Recs.{Rec}
 use Rattle.record_pages.specs.PageText.{SetPageParts}
 use Rattle.record_pages.specs.Reading.{set_page_at}
-use Rattle.kset.specs.declared.looked.Looked.{Looked}
-use Rattle.kset.specs.declared.looked.Looked.TheVariants.{Hit, Absent, Fault, Damaged}
 use Rattle.kset.specs.declared.set_read.SetRead.{SetRead}
-use Rattle.kset.specs.declared.set_read.SetRead.TheVariants.{Records, PageLost}
+use Rattle.kset.specs.declared.set_read.SetRead.TheVariants.{PageLost}
 use Rattle.kset.specs.Notes.{Notes, no_notes, lets_show, struck, with_hit}
-use Rattle.kset.specs.Sets.{SetsState, set_count, notes_of, with_notes, struck_in, forgotten, hit_in}
+use Rattle.kset.specs.Sets.{SetsState, set_count, notes_of, with_notes, struck_in, forgotten, tried, hit_in}
 use Rattle.kset.specs.Pages.{page_records, records_on}
 use Rattle.kset.specs.Shown.{is_visible, visible_from, visible_in}
-use Rattle.kset.specs.Look.{LookLeaves}
-use Rattle.kset.specs.ReadSet.{ReadLeaves}
 use Rattle.kset.specs.Telling.{page_if_of, HasKey}
-use Rattle.kset.specs.After.{without_hash, after_strike, after_reading, IsForeign}
+use Rattle.kset.specs.After.{with_set, without_hash, after_strike, shown_after_reading, IsForeign}
 use Rattle.kset.proofs.NotesLaws.{notes_of-with}
 use Rattle.kset.proofs.LookLaws.{visible_from-empty}
 
@@ -54,17 +49,53 @@ pub shown-own : (held : ℕ → Option (List ℕ)) (k : SetsState) (set : ℕ) (
     visible_in held (with_notes k set notes) set ≡ visible_from notes 0 (page_records held k set)
 shown-own held k set notes within = shown_by held k (with_notes k set notes) set notes (set_count-with k set notes) (notes_of-with k set notes within)
 
+-- what shows now, where one set shows something else and the others what they showed
+pub shown_with : {X : Type 0} (old new : ℕ → X) (set : ℕ) (shows : X) → new set ≡ shows → ((other : ℕ) → other ≢ set → new other ≡ old other) → new ≡ with_set old set shows
+shown_with {X} old new set shows own others = λ i other. at other i
+  where
+    step : (other : ℕ) (b : Bool) → eqb other set ≡ b → new other ≡ cond b shows (old other)
+    step other true same = ap new (eqb-true other set same) ∙ own
+    step other false differs = others other (eqb-false other set differs)
+
+    at : (other : ℕ) → new other ≡ with_set old set shows other
+    at other = step other (eqb other set) refl
+
+-- what shows where something else is noted of one set
+shown-with_notes : (held : ℕ → Option (List ℕ)) (k : SetsState) (set : ℕ) (notes : Notes) → set < set_count k →
+    visible_in held (with_notes k set notes) ≡ with_set (visible_in held k) set (visible_from notes 0 (page_records held k set))
+shown-with_notes held k set notes within =
+    shown_with (visible_in held k) (visible_in held (with_notes k set notes)) set (visible_from notes 0 (page_records held k set))
+    (shown-own held k set notes within) (λ other differs. shown-other held k set other notes differs)
+
 -- a hit hides nothing and shows nothing
-pub shown-hit : (held : ℕ → Option (List ℕ)) (k : SetsState) (set slot other : ℕ) → set < set_count k → visible_in held (hit_in k set slot) other ≡ visible_in held k other
-shown-hit held k set slot other within =
-    ⊎_elim
-    (λ same. subst (λ (o : ℕ). visible_in held (hit_in k set slot) o ≡ visible_in held k o) (sym same) (shown-own held k set (with_hit (notes_of k set) slot) within))
-    (λ differs. shown-other held k set other (with_hit (notes_of k set) slot) differs)
-    (cases_eq other set)
+pub shown-hit : (held : ℕ → Option (List ℕ)) (k : SetsState) (set slot : ℕ) → set < set_count k → visible_in held (hit_in k set slot) ≡ visible_in held k
+shown-hit held k set slot within = λ i other. at other i
+  where
+    at : (other : ℕ) → visible_in held (hit_in k set slot) other ≡ visible_in held k other
+    at other = ⊎_elim
+        (λ same. subst (λ (o : ℕ). visible_in held (hit_in k set slot) o ≡ visible_in held k o) (sym same) (shown-own held k set (with_hit (notes_of k set) slot) within))
+        (λ differs. shown-other held k set other (with_hit (notes_of k set) slot) differs)
+        (cases_eq other set)
+
+-- where a slot is hit in one set, each shows what it showed
+pub shown-hit_on : (was is : ℕ → Option (List ℕ)) (old new : SetsState) (set slot : ℕ) → set < set_count old → is ≡ was → new ≡ hit_in old set slot → visible_in is new ≡ visible_in was old
+shown-hit_on was is old new set slot within same hit =
+    ap (λ (held : ℕ → Option (List ℕ)). visible_in held new) same ∙ ap (visible_in was) hit ∙ shown-hit was old set slot within
 
 -- a forgotten set shows nothing
-pub shown-forgotten : (held : ℕ → Option (List ℕ)) (k : SetsState) (set : ℕ) → set < set_count k → visible_in held (forgotten k set) set ≡ []
-shown-forgotten held k set within = shown-own held k set no_notes within ∙ visible_from-empty no_notes refl 0 (page_records held k set)
+pub shown-forgotten : (held : ℕ → Option (List ℕ)) (k : SetsState) (set : ℕ) → set < set_count k → visible_in held (forgotten k set) ≡ with_set (visible_in held k) set []
+shown-forgotten held k set within =
+    shown-with_notes held k set no_notes within ∙ ap (with_set (visible_in held k) set) (visible_from-empty no_notes refl 0 (page_records held k set))
+
+-- no set shows anything where nothing is noted
+pub shown-opening : (held : ℕ → Option (List ℕ)) (k : SetsState) (count set : ℕ) → k.notes ≡ replicate count no_notes → visible_in held k set ≡ []
+shown-opening held k count set noted =
+    visible_from-empty (notes_of k set) (ap (λ (n : Notes). n.filter) (ap (λ (xs : List Notes). slice_index_or xs set no_notes) noted ∙ none count set)) 0 (page_records held k set)
+  where
+    none : (count set : ℕ) → slice_index_or (replicate count no_notes) set no_notes ≡ no_notes
+    none zero set = refl
+    none (suc count) zero = refl
+    none (suc count) (suc set) = none count set
 
 filter_again : {X : Type 0} (p q r : X → Bool) → ((x : X) → p x ≡ (q x && r x)) → (xs : List X) → filter p xs ≡ filter r (filter q xs)
 filter_again p q r splits [] = refl
@@ -124,46 +155,42 @@ visible_from-struck notes hash slot rs =
       | false ↦ λ denied. without_denied notes hash slot rs denied
     ] refl
 
--- what shows in a set in which a hash is struck
+-- what shows where a hash is struck in a set
 pub shown-struck : (held : ℕ → Option (List ℕ)) (k : SetsState) (set hash : ℕ) → set < set_count k →
-    visible_in held (struck_in k set hash) set ≡ after_strike (notes_of k set) hash (visible_in held k set)
+    visible_in held (struck_in k set hash) ≡ with_set (visible_in held k) set (after_strike (notes_of k set) hash (visible_in held k set))
 shown-struck held k set hash within =
-    shown-own held k set (struck (notes_of k set) hash) within ∙ visible_from-struck (notes_of k set) hash 0 (page_records held k set)
+    shown-with_notes held k set (struck (notes_of k set) hash) within
+    ∙ ap (with_set (visible_in held k) set) (visible_from-struck (notes_of k set) hash 0 (page_records held k set))
 
--- a look-up leaves what shows in each set
-pub shown-looked : (held : ℕ → Option (List ℕ)) (old new : SetsState) (set other : ℕ) (result : Result Looked AllocError) → set < set_count old → LookLeaves old set result new →
-    visible_in held new other ≡ visible_in held old other
-shown-looked held old new set other (Ok (Hit value)) within leaves = ap (λ (k : SetsState). visible_in held k other) leaves.2 ∙ shown-hit held old set leaves.0 other within
-shown-looked held old new set other (Ok Absent) within leaves = ap (λ (k : SetsState). visible_in held k other) leaves
-shown-looked held old new set other (Ok Fault) within leaves = ap (λ (k : SetsState). visible_in held k other) leaves
-shown-looked held old new set other (Ok Damaged) within leaves = ap (λ (k : SetsState). visible_in held k other) leaves
-shown-looked held old new set other (Err e) within leaves = ap (λ (k : SetsState). visible_in held k other) leaves
+-- where the page of a set was lost, that one shows nothing
+pub shown-lost : (was is : ℕ → Option (List ℕ)) (old new : SetsState) (set : ℕ) (read : SetRead) → set < set_count old → is ≡ was → read ≡ PageLost → new ≡ forgotten old set →
+    visible_in is new ≡ shown_after_reading (Ok read) set (visible_in was old)
+shown-lost was is old new set read within same lost leaves =
+    ap (λ (held : ℕ → Option (List ℕ)). visible_in held new) same
+    ∙ ap (visible_in was) leaves
+    ∙ shown-forgotten was old set within
+    ∙ ap (λ (r : SetRead). shown_after_reading (Ok r) set (visible_in was old)) (sym lost)
 
--- a reading leaves what shows in the other sets
-pub shown-read_other : (held : ℕ → Option (List ℕ)) (old new : SetsState) (set other : ℕ) (result : Result SetRead AllocError) → other ≢ set → ReadLeaves old set result new →
-    visible_in held new other ≡ visible_in held old other
-shown-read_other held old new set other (Ok PageLost) differs leaves = ap (λ (k : SetsState). visible_in held k other) leaves ∙ shown-other held old set other no_notes differs
-shown-read_other held old new set other (Ok (Records rs)) differs leaves = ap (λ (k : SetsState). visible_in held k other) leaves
-shown-read_other held old new set other (Err e) differs leaves = ap (λ (k : SetsState). visible_in held k other) leaves
+-- what shows in a set is settled by the page with its number
+visible_at : (was is : ℕ → Option (List ℕ)) (k : SetsState) (set : ℕ) → is set ≡ was set → visible_in is k set ≡ visible_in was k set
+visible_at was is k set same = ap (λ (known : Option (List ℕ)). visible_from (notes_of k set) 0 (records_on (cond (nat_lt set (set_count k)) known None))) same
 
--- what shows in a set that was read
-pub shown-read : (held : ℕ → Option (List ℕ)) (old new : SetsState) (set : ℕ) (result : Result SetRead AllocError) → set < set_count old → ReadLeaves old set result new →
-    visible_in held new set ≡ after_reading result (visible_in held old set)
-shown-read held old new set (Ok PageLost) within leaves = ap (λ (k : SetsState). visible_in held k set) leaves ∙ shown-forgotten held old set within
-shown-read held old new set (Ok (Records rs)) within leaves = ap (λ (k : SetsState). visible_in held k set) leaves
-shown-read held old new set (Err e) within leaves = ap (λ (k : SetsState). visible_in held k set) leaves
+-- the page of a set changed, of which something else is noted: that one shows something else, and no other
+pub shown-anew : (was is : ℕ → Option (List ℕ)) (k new : SetsState) (set : ℕ) (notes : Notes) (shows : List (ℕ × Rec)) → new ≡ with_notes (tried k) set notes →
+    ((page : ℕ) → page ≢ set → is page ≡ was page) → visible_in is new set ≡ shows → visible_in is new ≡ with_set (visible_in was k) set shows
+shown-anew was is k new set notes shows noted elsewhere own =
+    shown_with (visible_in was k) (visible_in is new) set shows own
+    (λ other differs.
+    ap (λ (n : SetsState). visible_in is n other) noted
+    ∙ shown-other is (tried k) set other notes differs
+    ∙ visible_at was is k other (elsewhere other differs))
 
--- what shows in a set does not change with the device where its pages are the same
-pub shown_on : (was is : ℕ → Option (List ℕ)) (k : SetsState) (set : ℕ) → is ≡ was → visible_in is k set ≡ visible_in was k set
-shown_on was is k set same = ap (λ (held : ℕ → Option (List ℕ)). visible_in held k set) same
-
--- a set whose page was lost shows nothing
-pub shown-lost : (held : ℕ → Option (List ℕ)) (old new : SetsState) (set : ℕ) (read : SetRead) (before : List (ℕ × Rec)) → set < set_count old → read ≡ PageLost → new ≡ forgotten old set →
-    visible_in held new set ≡ after_reading (Ok read) before
-shown-lost held old new set read before within lost leaves =
-    ap (λ (k : SetsState). visible_in held k set) leaves
-    ∙ shown-forgotten held old set within
-    ∙ ap (λ (r : SetRead). after_reading (Ok r) before) (sym lost)
+-- a set that is forgotten once its page was tried shows nothing
+pub shown-refused : (held : ℕ → Option (List ℕ)) (k new : SetsState) (set : ℕ) → set < set_count k → new ≡ forgotten (tried k) set → visible_in held new set ≡ []
+shown-refused held k new set within leaves =
+    ap (λ (n : SetsState). visible_in held n set) leaves
+    ∙ shown-own held (tried k) set no_notes within
+    ∙ visible_from-empty no_notes refl 0 (page_records held k set)
 
 -- what was read of a page that is known to be foreign is no page of the set
 pub not_foreign : (set : ℕ) (known : Option (List ℕ)) (bytes key : List ℕ) → IsForeign set known → IsKnown known bytes → HasKey key (page_if_of set (set_page_at bytes)) → ⊥

@@ -1,5 +1,6 @@
--- What shows in a set after a call.
-use Rattle.std.specs.Prelude.{◌≡◌, ℕ, ◌==◌, ◌&&◌, not, nat_le, Bool, List, [], filter, Option, None, Result, IsSomeAnd, if◌then◌else◌}
+-- What shows in the sets after a call.
+use Rattle.std.specs.Prelude.{◌≡◌, ℕ, ◌==◌, ◌&&◌, not, nat_le, Bool, List, [], filter, Option, None, Result, Ok, Err, IsSomeAnd, if◌then◌else◌}
+use Rattle.std.specs.List.{enumerate_from}
 use Rattle.std.specs.FinSet.{insert, len}
 use Rattle.std.specs.declared.alloc.AllocError.{AllocError}
 use Rattle.bloom.specs.Filter.{admits}
@@ -7,10 +8,16 @@ use Rattle.set_hash.specs.Fnv.{fnv1a}
 use Rattle.set_hash.specs.Place.{probes_of}
 use Rattle.record_pages.specs.Recs.{Rec}
 use Rattle.record_pages.specs.Reading.{set_page_at}
+use Rattle.kset.specs.declared.rewritten.Rewritten.{Rewritten}
+use Rattle.kset.specs.declared.rewritten.Rewritten.TheVariants as answers
 use Rattle.kset.specs.declared.set_read.SetRead.{SetRead}
+use Rattle.kset.specs.declared.set_read.SetRead.TheVariants as reads
 use Rattle.kset.specs.Notes.{Notes}
-use Rattle.kset.specs.ReadSet.{is_lost}
 use Rattle.kset.specs.Telling.{page_if_of}
+
+-- one set shows something else
+abbrev pub with_set : {X : Type 0} → (ℕ → X) → ℕ → X → ℕ → X
+with_set visible set shows = λ other. if other == set then shows else visible other
 
 -- a strike of this hash is one too many: the filter admits it, and with it more than eight would be struck
 abbrev pub is_one_too_many : Notes → ℕ → Bool
@@ -25,9 +32,16 @@ without_hash hash visible = filter (λ x. not (fnv1a x.1.key == hash)) visible
 abbrev pub after_strike : Notes → ℕ → List (ℕ × Rec) → List (ℕ × Rec)
 after_strike notes hash visible = if is_one_too_many notes hash then [] else without_hash hash visible
 
--- what still shows of these records once the set was read: nothing where the page was lost, else all
-abbrev pub after_reading : Result SetRead AllocError → List (ℕ × Rec) → List (ℕ × Rec)
-after_reading result visible = if is_lost result then [] else visible
+-- what shows in each set once one of them was read: nothing in that one where its page was lost, else the same
+abbrev pub shown_after_reading : Result SetRead AllocError → ℕ → (ℕ → List (ℕ × Rec)) → ℕ → List (ℕ × Rec)
+shown_after_reading (Ok reads.PageLost) set visible = with_set visible set []
+shown_after_reading (Ok (reads.Records rs)) set visible = visible
+shown_after_reading (Err e) set visible = visible
+
+-- what shows in each set once one of them was to be written with these records: just these, or nothing
+abbrev pub shown_after_rewriting : Rewritten → ℕ → List Rec → (ℕ → List (ℕ × Rec)) → ℕ → List (ℕ × Rec)
+shown_after_rewriting answers.Written set rs visible = with_set visible set (enumerate_from 0 rs)
+shown_after_rewriting answers.Forgotten set rs visible = with_set visible set []
 
 -- the bytes of a page are known, and they are no page of this set
 abbrev pub IsForeign : ℕ → Option (List ℕ) → Type 0

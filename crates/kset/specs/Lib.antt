@@ -7,3 +7,5 @@ pub mod ReadSet
 pub mod Rewrite
 pub mod Telling
 pub mod After
+pub mod Keeps
+pub mod Laws

@@ -9,23 +9,23 @@ use Rattle.kset.specs.Sets.{SetsState, hit_in}
 use Rattle.kset.specs.Shown.{first_visible}
 
 -- the answer is the device's failure
-abbrev pub is_fault : Result Looked AllocError → Bool
-is_fault (Ok looked.Fault) = true
-is_fault _ = false
+abbrev pub is_set_fault : Result Looked AllocError → Bool
+is_set_fault (Ok looked.Fault) = true
+is_set_fault _ = false
 
 -- a hit notes some slot of the page as hit; else nothing changes
-abbrev pub LookLeaves : SetsState → ℕ → Result Looked AllocError → SetsState → Type 0
-LookLeaves old set (Ok (looked.Hit value)) new = (slot : ℕ) × (slot < max_records) × (new ≡ hit_in old set slot)
-LookLeaves old set (Ok looked.Absent) new = new ≡ old
-LookLeaves old set (Ok looked.Fault) new = new ≡ old
-LookLeaves old set (Ok looked.Damaged) new = new ≡ old
-LookLeaves old set (Err e) new = new ≡ old
+abbrev pub SetLookLeaves : SetsState → ℕ → Result Looked AllocError → SetsState → Type 0
+SetLookLeaves old set (Ok (looked.Hit value)) new = (slot : ℕ) × (slot < max_records) × (new ≡ hit_in old set slot)
+SetLookLeaves old set (Ok looked.Absent) new = new ≡ old
+SetLookLeaves old set (Ok looked.Fault) new = new ≡ old
+SetLookLeaves old set (Ok looked.Damaged) new = new ≡ old
+SetLookLeaves old set (Err e) new = new ≡ old
 
 -- A hit is the first visible record of the key, whose slot is noted as hit; absent is a key that no visible record
 -- has; no page is damaged.
-abbrev pub LookGives : List (ℕ × Rec) → List ℕ → SetsState → ℕ → Looked → SetsState → Type 0
-LookGives visible key old set (looked.Hit value) new =
+abbrev pub SetLookGives : List (ℕ × Rec) → List ℕ → SetsState → ℕ → Looked → SetsState → Type 0
+SetLookGives visible key old set (looked.Hit value) new =
     IsSomeAnd (first_visible visible key) (λ x. (x.1.value ≡ value) × (new ≡ hit_in old set x.0))
-LookGives visible key old set looked.Absent new = (first_visible visible key ≡ None) × (new ≡ old)
-LookGives visible key old set looked.Fault new = new ≡ old
-LookGives visible key old set looked.Damaged new = ⊥
+SetLookGives visible key old set looked.Absent new = (first_visible visible key ≡ None) × (new ≡ old)
+SetLookGives visible key old set looked.Fault new = new ≡ old
+SetLookGives visible key old set looked.Damaged new = ⊥

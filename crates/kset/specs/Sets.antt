@@ -30,8 +30,8 @@ abbrev pub with_notes : SetsState → ℕ → Notes → SetsState
 with_notes k set notes = record k { notes = slice_set k.notes set notes }
 
 -- so many sets, with no filter bit, and no page written so far
-abbrev pub opening : ℕ → SetsState
-opening sets = record { writes = 0; notes = replicate sets no_notes }
+abbrev pub opening_sets : ℕ → SetsState
+opening_sets sets = record { writes = 0; notes = replicate sets no_notes }
 
 -- a hash is struck in a set
 abbrev pub struck_in : SetsState → ℕ → ℕ → SetsState

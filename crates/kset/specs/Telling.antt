@@ -11,13 +11,13 @@ abbrev pub page_if_of : ℕ → Option SetPageParts → Option SetPageParts
 page_if_of set read = option_and_then (λ p. if p.set == set then Some p else None) read
 
 -- what a page, where there is one, says of a key
-abbrev pub Tells : List ℕ → Option SetPageParts → Told → Type 0
-Tells key None told.Damaged = Unit {0}
-Tells key None told.Absent = ⊥
-Tells key None (told.Found slot value) = ⊥
-Tells key (Some p) told.Damaged = ⊥
-Tells key (Some p) told.Absent = first_with key p.records ≡ None
-Tells key (Some p) (told.Found slot value) =
+abbrev pub SetPageTells : List ℕ → Option SetPageParts → Told → Type 0
+SetPageTells key None told.Damaged = Unit {0}
+SetPageTells key None told.Absent = ⊥
+SetPageTells key None (told.Found slot value) = ⊥
+SetPageTells key (Some p) told.Damaged = ⊥
+SetPageTells key (Some p) told.Absent = first_with key p.records ≡ None
+SetPageTells key (Some p) (told.Found slot value) =
     (slot < max_records) × IsSomeAnd (first_with key p.records) (λ x. (x.0 ≡ slot) × (x.1.value ≡ value))
 
 -- there is a page, and a record of it has the key

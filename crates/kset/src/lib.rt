@@ -1,6 +1,7 @@
 //! The sets on flash: a page for each set, and in memory its filter, its strikes and its hits.
 #![tactic(auto)]
 
+mod laws;
 mod looked;
 mod notes;
 mod page;
@@ -11,6 +12,10 @@ mod set_records;
 mod sets;
 mod strikes;
 
+pub use laws::{
+    forgotten_show_nothing, frames_keep_sets, readings_keep_current, readings_keep_sets,
+    rewritings_keep_current, rewritings_keep_sets, strikes_keep_current, strikes_keep_sets,
+};
 pub use looked::Looked;
 pub use rewritten::Rewritten;
 pub use set_read::SetRead;

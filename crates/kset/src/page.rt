@@ -2,7 +2,7 @@
 ghost use Rattle.std.specs.Prelude.{◌≡◌, ◌≤◌, ◌<◌, IfOk, OnErr, IfSome, length};
 ghost use Rattle.record_pages.specs.Sizes.{max_records};
 ghost use Rattle.record_pages.specs.Reading.{set_page_at};
-ghost use Rattle.kset.specs.Telling.{page_if_of, Tells, HasKey};
+ghost use Rattle.kset.specs.Telling.{page_if_of, SetPageTells, HasKey};
 
 use record_pages::{Key, SetPage, Value};
 use std::alloc::{AllocError, Global};
@@ -38,7 +38,7 @@ pub(crate) fn tell<const PAGE: usize>(
     set: u32,
     key: &Key,
 ) -> Result<Told, AllocError>
-    ensures tells { IfOk result (Tells key.now (page_if_of set (set_page_at bytes.now))) }
+    ensures tells { IfOk result (SetPageTells key.now (page_if_of set (set_page_at bytes.now))) }
     ensures refused { OnErr result (HasKey key.now (page_if_of set (set_page_at bytes.now))) }
 {
     let Some(page) = page_of(bytes, set) else {

@@ -10,13 +10,14 @@ ghost use Rattle.record_pages.specs.Recs.{Rec};
 ghost use Rattle.record_pages.specs.PageText.{set_page_text};
 ghost use Rattle.set_hash.specs.Fnv.{fnv1a};
 ghost use Rattle.kset.specs.Notes.{lets_show, notes_of_page};
-ghost use Rattle.kset.specs.Sets.{SetsState, sets_code, set_count, notes_of, opening, struck_in, hit_in, forgotten, next_write, IsPlaceIn};
+ghost use Rattle.kset.specs.Sets.{SetsState, sets_code, set_count, notes_of, opening_sets, struck_in, hit_in, forgotten, next_write, IsPlaceIn};
 ghost use Rattle.kset.specs.Pages.{AreSpelledOn, page_records};
 ghost use Rattle.kset.specs.Shown.{visible_in, visible_from, first_visible, with_flags};
-ghost use Rattle.kset.specs.Look.{is_fault, LookLeaves, LookGives};
-ghost use Rattle.kset.specs.ReadSet.{is_lost, FailsOnlyIfLost, ReadLeaves, ReadGives};
+ghost use Rattle.kset.specs.Look.{is_set_fault, SetLookLeaves, SetLookGives};
+ghost use Rattle.kset.specs.ReadSet.{is_set_lost, SetFailsOnlyIfLost, SetReadLeaves, SetReadGives};
 ghost use Rattle.kset.specs.Rewrite.{is_forgotten, after_rewrite};
-ghost use Rattle.kset.specs.After.{after_strike, after_reading, IsForeign};
+ghost use Rattle.kset.specs.After.{with_set, after_strike, shown_after_reading, shown_after_rewriting, IsForeign};
+ghost use Rattle.kset.specs.Keeps.{KeepsSets};
 
 use crate::looked::Looked;
 use crate::notes::SetNotes;
@@ -56,7 +57,9 @@ impl<const PAGE: usize> KSet<PAGE> {
     /// The sets of a lane of this layout, all empty, or `AllocError` where memory was refused. All memory that
     /// strikes, hits and filters need is taken here.
     pub fn open(alloc: Global, layout: &Layout) -> Result<Self, AllocError>
-        ensures opening { IfOk result (λ k. k ≡ opening layout.now.sets) }
+        ensures opening { IfOk result (λ k. k ≡ opening_sets layout.now.sets) }
+        ensures shown { IfOk result (λ k.
+            (held : ℕ → Option (List ℕ)) → (set : ℕ) → visible_in held k set ≡ []) }
         ensures spelled { IfOk result (λ k.
             (held : ℕ → Option (List ℕ)) → AreSpelledOn PAGE held k) }
     {
@@ -87,12 +90,11 @@ impl<const PAGE: usize> KSet<PAGE> {
         requires hash { placed.now.hash ≡ fnv1a key.now }
 
         // On any device.
-        ensures pages { D.page_count device.new ≡ D.page_count device.old }
-        ensures honest { D.honest device.new ≡ D.honest device.old }
+        ensures keeps { KeepsSets PAGE D.page_count D.honest D.held device.old self.old
+            device.new self.new }
         ensures faults { D.failures device.new
-            ≡ faults_after (D.failures device.old) (is_fault result) }
-        ensures leaves { LookLeaves self.old placed.now.set result self.new }
-        ensures sizes { set_count self.new ≡ set_count self.old }
+            ≡ faults_after (D.failures device.old) (is_set_fault result) }
+        ensures leaves { SetLookLeaves self.old placed.now.set result self.new }
         ensures denied { OnFalse (lets_show (notes_of self.old placed.now.set) placed.now.hash)
             ((result ≡ Ok Looked.Absent) × (device.new ≡ device.old)) }
 
@@ -100,22 +102,18 @@ impl<const PAGE: usize> KSet<PAGE> {
         ensures same { IsTrue (D.honest device.old) → D.held device.new ≡ D.held device.old }
         ensures gives { IsTrue (D.honest device.old) →
             AreSpelledOn PAGE (D.held device.old) self.old →
-            IfOk result (λ r. LookGives (visible_in (D.held device.old) self.old placed.now.set)
+            IfOk result (λ r. SetLookGives (visible_in (D.held device.old) self.old placed.now.set)
             key.now self.old placed.now.set r self.new) }
         ensures foreign { IsTrue (D.honest device.old) →
             IsForeign placed.now.set (D.held device.old placed.now.set) →
             OnTrue (lets_show (notes_of self.old placed.now.set) placed.now.hash)
-            (OnFalse (is_fault result) (result ≡ Ok Looked.Damaged)) }
+            (OnFalse (is_set_fault result) (result ≡ Ok Looked.Damaged)) }
         ensures short { IsTrue (D.honest device.old) →
             AreSpelledOn PAGE (D.held device.old) self.old →
             OnErr result (IsSome (first_visible
             (visible_in (D.held device.old) self.old placed.now.set) key.now)) }
-        ensures shown { IsTrue (D.honest device.old) → (set : ℕ) →
-            visible_in (D.held device.new) self.new set
-            ≡ visible_in (D.held device.old) self.old set }
-        ensures spelled { IsTrue (D.honest device.old) →
-            AreSpelledOn PAGE (D.held device.old) self.old →
-            AreSpelledOn PAGE (D.held device.new) self.new }
+        ensures shown { IsTrue (D.honest device.old) →
+            visible_in (D.held device.new) self.new ≡ visible_in (D.held device.old) self.old }
     {
         if !self.notes(placed.set).lets_show(placed) {
             return Ok(Looked::Absent);
@@ -141,11 +139,10 @@ impl<const PAGE: usize> KSet<PAGE> {
         ensures struck { self.new ≡ struck_in self.old placed.now.set placed.now.hash }
         ensures sizes { set_count self.new ≡ set_count self.old }
         ensures hidden { lets_show (notes_of self.new placed.now.set) placed.now.hash ≡ false }
-        ensures shown { (held : ℕ → Option (List ℕ)) → visible_in held self.new placed.now.set
-            ≡ after_strike (notes_of self.old placed.now.set) placed.now.hash
-            (visible_in held self.old placed.now.set) }
-        ensures others { (held : ℕ → Option (List ℕ)) → (other : ℕ) → other ≢ placed.now.set →
-            visible_in held self.new other ≡ visible_in held self.old other }
+        ensures shown { (held : ℕ → Option (List ℕ)) → visible_in held self.new
+            ≡ with_set (visible_in held self.old) placed.now.set
+            (after_strike (notes_of self.old placed.now.set) placed.now.hash
+            (visible_in held self.old placed.now.set)) }
         ensures spelled { (held : ℕ → Option (List ℕ)) → AreSpelledOn PAGE held self.old →
             AreSpelledOn PAGE held self.new }
     {
@@ -157,9 +154,8 @@ impl<const PAGE: usize> KSet<PAGE> {
         requires { set < set_count self.old }
         ensures forgotten { self.new ≡ forgotten self.old set }
         ensures sizes { set_count self.new ≡ set_count self.old }
-        ensures shown { (held : ℕ → Option (List ℕ)) → visible_in held self.new set ≡ [] }
-        ensures others { (held : ℕ → Option (List ℕ)) → (other : ℕ) → other ≢ set →
-            visible_in held self.new other ≡ visible_in held self.old other }
+        ensures shown { (held : ℕ → Option (List ℕ)) →
+            visible_in held self.new ≡ with_set (visible_in held self.old) set [] }
         ensures spelled { (held : ℕ → Option (List ℕ)) → AreSpelledOn PAGE held self.old →
             AreSpelledOn PAGE held self.new }
     {
@@ -180,12 +176,11 @@ impl<const PAGE: usize> KSet<PAGE> {
         requires set { set < set_count self.old }
 
         // On any device.
-        ensures pages { D.page_count device.new ≡ D.page_count device.old }
-        ensures honest { D.honest device.new ≡ D.honest device.old }
-        ensures fails_only_if_lost { FailsOnlyIfLost (D.failures device.old) result
+        ensures keeps { KeepsSets PAGE D.page_count D.honest D.held device.old self.old
+            device.new self.new }
+        ensures fails_only_if_lost { SetFailsOnlyIfLost (D.failures device.old) result
             (D.failures device.new) }
-        ensures leaves { ReadLeaves self.old set result self.new }
-        ensures sizes { set_count self.new ≡ set_count self.old }
+        ensures leaves { SetReadLeaves self.old set result self.new }
         ensures unread { (notes_of self.old set).filter ≡ bits.empty →
             (result ≡ Ok (SetRead.Records [])) × (device.new ≡ device.old) }
 
@@ -193,24 +188,18 @@ impl<const PAGE: usize> KSet<PAGE> {
         ensures same { IsTrue (D.honest device.old) → D.held device.new ≡ D.held device.old }
         ensures faults { IsTrue (D.honest device.old) →
             AreSpelledOn PAGE (D.held device.old) self.old →
-            D.failures device.new ≡ faults_after (D.failures device.old) (is_lost result) }
+            D.failures device.new ≡ faults_after (D.failures device.old) (is_set_lost result) }
         ensures gives { IsTrue (D.honest device.old) →
             AreSpelledOn PAGE (D.held device.old) self.old →
-            IfOk result (ReadGives (with_flags (notes_of self.old set)
+            IfOk result (SetReadGives (with_flags (notes_of self.old set)
             (visible_in (D.held device.old) self.old set))) }
         ensures foreign { IsTrue (D.honest device.old) → IsForeign set (D.held device.old set) →
             (notes_of self.old set).filter ≢ bits.empty → result ≡ Ok SetRead.PageLost }
         ensures short { IsTrue (D.honest device.old) →
             AreSpelledOn PAGE (D.held device.old) self.old →
             OnErr result (visible_in (D.held device.old) self.old set ≢ []) }
-        ensures shown { IsTrue (D.honest device.old) → visible_in (D.held device.new) self.new set
-            ≡ after_reading result (visible_in (D.held device.old) self.old set) }
-        ensures others { IsTrue (D.honest device.old) → (other : ℕ) → other ≢ set →
-            visible_in (D.held device.new) self.new other
-            ≡ visible_in (D.held device.old) self.old other }
-        ensures spelled { IsTrue (D.honest device.old) →
-            AreSpelledOn PAGE (D.held device.old) self.old →
-            AreSpelledOn PAGE (D.held device.new) self.new }
+        ensures shown { IsTrue (D.honest device.old) → visible_in (D.held device.new) self.new
+            ≡ shown_after_reading result set (visible_in (D.held device.old) self.old) }
     {
         if self.notes(set).is_empty() {
             return Ok(SetRead::Records(SetRecords::new(alloc)));
@@ -240,33 +229,25 @@ impl<const PAGE: usize> KSet<PAGE> {
         requires set { set < set_count self.old }
 
         // On any device.
-        ensures pages { D.page_count device.new ≡ D.page_count device.old }
-        ensures honest { D.honest device.new ≡ D.honest device.old }
+        ensures keeps { KeepsSets PAGE D.page_count D.honest D.held device.old self.old
+            device.new self.new }
         ensures faults { D.failures device.new
             ≡ faults_after (D.failures device.old) (is_forgotten result) }
         ensures leaves { self.new ≡ after_rewrite self.old set writer.now result }
-        ensures sizes { set_count self.new ≡ set_count self.old }
-        ensures lost { OnTrue (is_forgotten result)
-            ((held : ℕ → Option (List ℕ)) → visible_in held self.new set ≡ []) }
 
         // Where it is honest.
         ensures text { IsTrue (D.honest device.old) → OnFalse (is_forgotten result)
             (D.held device.new set ≡ Some (set_page_text PAGE set (next_write self.old) writer.now)) }
         ensures records { IsTrue (D.honest device.old) → OnFalse (is_forgotten result)
             (page_records (D.held device.new) self.new set ≡ writer.now) }
-        ensures shown { IsTrue (D.honest device.old) → OnFalse (is_forgotten result)
-            (visible_in (D.held device.new) self.new set ≡ enumerate_from 0 writer.now) }
-        ensures others { IsTrue (D.honest device.old) → (other : ℕ) → other ≢ set →
-            visible_in (D.held device.new) self.new other
-            ≡ visible_in (D.held device.old) self.old other }
+        ensures shown { IsTrue (D.honest device.old) → visible_in (D.held device.new) self.new
+            ≡ shown_after_rewriting result set writer.now
+            (visible_in (D.held device.old) self.old) }
         ensures elsewhere { IsTrue (D.honest device.old) → (page : ℕ) → page ≢ set →
             D.held device.new page ≡ D.held device.old page }
         ensures apart { IsTrue (D.honest device.old) →
             pages_from (set_count self.old) (D.held device.new)
             ≡ pages_from (set_count self.old) (D.held device.old) }
-        ensures spelled { IsTrue (D.honest device.old) →
-            AreSpelledOn PAGE (D.held device.old) self.old →
-            AreSpelledOn PAGE (D.held device.new) self.new }
     {
         self.writes = self.writes.wrapping_add(1);
         let mut bytes = [0u8; PAGE];
@@ -319,6 +300,7 @@ fn visible(
     requires { length records ≤ max_records }
     ensures visible { IfOk result (λ rs.
         rs ≡ with_flags notes.now (visible_from notes.now 0 records.entry)) }
+    ensures few { IfOk result (λ rs. length rs ≤ max_records) }
     ensures short { OnErr result (visible_from notes.now 0 records.entry ≢ []) }
 {
     let mut visible = SetRecords::new(alloc);

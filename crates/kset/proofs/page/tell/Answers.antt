@@ -6,7 +6,7 @@ use Rattle.record_pages.specs.Looking.{first_with}
 use Rattle.record_pages.specs.Sizes.{max_records}
 use Rattle.record_pages.specs.PageText.{SetPageParts}
 use Rattle.kset.specs.declared.page.Told.TheVariants.{Found}
-use Rattle.kset.specs.Telling.{Tells}
+use Rattle.kset.specs.Telling.{SetPageTells}
 use Rattle.kset.proofs.LookLaws.{first_within}
 use Rattle.kset.proofs.page.tell.Goals as goal
 
@@ -23,5 +23,5 @@ returns-clause-tells g c =
     ∙ sym c.in-Some-find_key.ensures.value in
     let within : slot < max_records = omega (arith, first_within key 0 page.records (slot, shown) found, c.in-Some.ensures.few) in
     let P : Option (ℕ × Rec) → Type 0 = λ o. IsSomeAnd o (λ x. (x.0 ≡ slot) × (x.1.value ≡ value)) in
-    let told : Tells key (Some page) (Found slot value) = (within, subst P (sym found) (refl, sym c.in-Ok.ensures.ok.0)) in
-    subst (λ (o : Option SetPageParts). Tells key o (Found slot value)) c.in-Some.ensures.page told
+    let told : SetPageTells key (Some page) (Found slot value) = (within, subst P (sym found) (refl, sym c.in-Ok.ensures.ok.0)) in
+    subst (λ (o : Option SetPageParts). SetPageTells key o (Found slot value)) c.in-Some.ensures.page told

@@ -1,6 +1,5 @@
 use Rattle.std.proofs.Common.{◌∙◌, ap, arith}
 use Rattle.std.proofs.lemmas.Grind.{common_steps}
-use Rattle.kset.specs.Sets.{SetsState}
 use Rattle.kset.specs.Shown.{visible_in}
 use Rattle.kset.proofs.ShownLaws.{shown-forgotten}
 use Rattle.kset.proofs.sets.KSet.forget.Goals as goal
@@ -9,5 +8,4 @@ pub returns-clause-forgotten : goal.returns-clause-forgotten
 returns-clause-forgotten g c = grind (arith, common_steps)
 
 pub returns-clause-shown : goal.returns-clause-shown
-returns-clause-shown g c =
-    λ held. ap (λ (k : SetsState). visible_in held k c.args.set) (returns-clause-forgotten g c) ∙ shown-forgotten held c.args.self.now c.args.set c.requires
+returns-clause-shown g c = λ held. ap (visible_in held) (returns-clause-forgotten g c) ∙ shown-forgotten held c.args.self.now c.args.set c.requires

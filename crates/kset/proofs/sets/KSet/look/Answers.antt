@@ -6,7 +6,7 @@ use Rattle.kset.specs.Sets.{notes_of, set_count}
 use Rattle.kset.specs.Pages.{page_records}
 use Rattle.kset.specs.Shown.{visible_in}
 use Rattle.kset.proofs.LookLaws.{Says, told_of, hit_gives, first_visible-hidden, visible_has}
-use Rattle.kset.proofs.ShownLaws.{not_foreign}
+use Rattle.kset.proofs.ShownLaws.{shown-hit_on, not_foreign}
 use Rattle.kset.proofs.sets.KSet.look.Goals as goal
 
 pub returns-then-not-lets_show-clause-gives : goal.returns-then-not-lets_show-clause-gives
@@ -69,3 +69,8 @@ returns-in_err-tell-clause-short g c =
     λ honest spelled. on_any c.from_residual.result _
     (visible_has g.row.PAGE (set_count c.args.self.now) at.set held c.read.new.into c.args.key.now at.hash (notes_of c.args.self.now at.set)
     c.requires.hash shows c.requires.place.set (spelled at.set) (c.in-Ok.ensures.known honest) c.in_err-tell.ensures.refused)
+
+pub returns-in-Found-clause-shown : goal.returns-in-Found-clause-shown
+returns-in-Found-clause-shown g c =
+    λ honest. shown-hit_on (g.D.PageDevice.held c.args.device.now) (g.D.PageDevice.held c.read.new.self) c.args.self.now c.hit.new.self c.args.placed.now.set c.in-Found.slot
+    c.requires.place.set (c.read.ensures.same honest) c.hit.ensures

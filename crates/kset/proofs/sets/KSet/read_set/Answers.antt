@@ -45,8 +45,11 @@ returns-clause-gives g c =
 
 pub returns-in_default-clause-shown : goal.returns-in_default-clause-shown
 returns-in_default-clause-shown g c =
-    λ honest. shown-lost (g.D.PageDevice.held c.read.new.self) c.args.self.now c.lose.new.self c.args.set c.lose.result _ c.requires.set c.lose.ensures.lost c.lose.ensures.forgotten
+    λ honest. shown-lost (g.D.PageDevice.held c.args.device.now) (g.D.PageDevice.held c.read.new.self) c.args.self.now c.lose.new.self c.args.set c.lose.result
+    c.requires.set (c.read.ensures.same honest) c.lose.ensures.lost c.lose.ensures.forgotten
 
 pub returns-in_default-page_of-clause-shown : goal.returns-in_default-page_of-clause-shown
 returns-in_default-page_of-clause-shown g c =
-    λ honest. shown-lost (g.D.PageDevice.held c.read.new.self) c.args.self.now c.lose-in_default-page_of.new.self c.args.set c.lose-in_default-page_of.result _ c.requires.set c.lose-in_default-page_of.ensures.lost c.lose-in_default-page_of.ensures.forgotten
+    let lose = c.lose-in_default-page_of in
+    λ honest. shown-lost (g.D.PageDevice.held c.args.device.now) (g.D.PageDevice.held c.read.new.self) c.args.self.now lose.new.self c.args.set lose.result
+    c.requires.set (c.read.ensures.same honest) lose.ensures.lost lose.ensures.forgotten

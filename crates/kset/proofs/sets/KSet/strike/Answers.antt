@@ -18,4 +18,4 @@ returns-clause-hidden g c =
 pub returns-clause-shown : goal.returns-clause-shown
 returns-clause-shown g c =
     let at = c.args.placed.now in
-    λ held. ap (λ (k : SetsState). visible_in held k at.set) (returns-clause-struck g c) ∙ shown-struck held c.args.self.now at.set at.hash c.requires.set
+    λ held. ap (visible_in held) (returns-clause-struck g c) ∙ shown-struck held c.args.self.now at.set at.hash c.requires.set

@@ -1,0 +1,5 @@
+use Rattle.kset.proofs.ShownLaws.{shown-forgotten}
+use Rattle.kset.proofs.laws.forgotten_show_nothing.Goals as goal
+
+pub returns : goal.returns
+returns c = shown-forgotten

@@ -1,0 +1,5 @@
+use Rattle.kset.proofs.MovingLaws.{frames_keep}
+use Rattle.kset.proofs.laws.frames_keep_sets.Goals as goal
+
+pub returns : goal.returns
+returns c = frames_keep

@@ -1,0 +1,5 @@
+use Rattle.kset.proofs.MovingLaws.{readings_keep}
+use Rattle.kset.proofs.laws.readings_keep_sets.Goals as goal
+
+pub returns : goal.returns
+returns c = readings_keep

@@ -1,0 +1,5 @@
+use Rattle.kset.proofs.MovingLaws.{rewritings_keep_now}
+use Rattle.kset.proofs.laws.rewritings_keep_current.Goals as goal
+
+pub returns : goal.returns
+returns c = rewritings_keep_now

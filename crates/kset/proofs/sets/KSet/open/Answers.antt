@@ -1,0 +1,8 @@
+use Rattle.std.proofs.Common.{◌∙◌, ap, replicate}
+use Rattle.kset.specs.Notes.{Notes, no_notes}
+use Rattle.kset.specs.Sets.{SetsState}
+use Rattle.kset.proofs.ShownLaws.{shown-opening}
+use Rattle.kset.proofs.sets.KSet.open.Goals as goal
+
+pub returns-clause-shown : goal.returns-clause-shown
+returns-clause-shown g c = λ held set. shown-opening held (record { writes = 0; notes = c.loop.sets.items }) c.loop.counter set c.loop.invariant
