@@ -17,14 +17,13 @@ use Rattle.kset.specs.declared.set_read.SetRead.{SetRead}
 use Rattle.kset.specs.declared.set_read.SetRead.TheVariants as read
 use Rattle.kset.specs.Sets.{SetsState, notes_of}
 use Rattle.kset.specs.Shown.{visible_in, with_flags}
-use Rattle.kset.specs.ReadSet.{ReadLeaves, ReadGives}
-use Rattle.kset.specs.After.{after_reading}
+use Rattle.kset.specs.ReadSet.{SetReadLeaves, SetReadGives}
+use Rattle.kset.specs.After.{shown_after_reading}
 use Rattle.mover.specs.Store.{StoreState}
 use Rattle.mover.specs.Lane.{LaneState, lane_of}
 use Rattle.mover.specs.Put.{IsStep}
 use Rattle.mover.specs.Oldest.{record_of}
 use Rattle.mover.specs.Begin.{LaneTakes, LaneReads, LaneReadmits, anew_step, readmit_step}
-use Rattle.mover.proofs.Lanes.{shown_with}
 use Rattle.mover.proofs.Placing.{record_is}
 
 module _ {D : Type 0} (held : D → ℕ → Option (List ℕ)) (s : StoreState D) (d : D) (same : held d ≡ held s.device) where
@@ -59,15 +58,12 @@ module _ {D : Type 0} (held : D → ℕ → Option (List ℕ)) (s : StoreState D
   }
 
   -- a reading of a set is one of the lane's
-  pub lane_read : (q : SetsState) (set : ℕ) (answer : SetRead) → ReadLeaves s.sets set (Ok answer) q → ReadGives (with_flags (notes_of s.sets set) (visible_in (held s.device) s.sets set)) answer →
-      visible_in (held d) q set ≡ after_reading (Ok answer) (visible_in (held s.device) s.sets set) →
-      ((other : ℕ) → other ≢ set → visible_in (held d) q other ≡ visible_in (held s.device) s.sets other) →
+  pub lane_read : (q : SetsState) (set : ℕ) (answer : SetRead) → SetReadLeaves s.sets set (Ok answer) q → SetReadGives (with_flags (notes_of s.sets set) (visible_in (held s.device) s.sets set)) answer →
+      visible_in (held d) q ≡ shown_after_reading (Ok answer) set (visible_in (held s.device) s.sets) →
       ((notes_of s.sets set).filter ≡ bits.empty → answer ≢ read.PageLost) →
       LaneReads set (lane_of held s) answer (lane_of held (record s { device = d; sets = q }))
-  lane_read q set (read.Records rs) leaves gives own others asked =
-      (gives, sets_as q s.sets (visible_in (held s.device) s.sets) leaves (λ i. visible_in (same i) (leaves i)))
-  lane_read q set read.PageLost leaves gives own others asked =
-      (λ none. asked none refl, sets_as q _ _ leaves (shown_with (visible_in (held s.device) s.sets) (visible_in (held d) q) set [] own others))
+  lane_read q set (read.Records rs) leaves gives shown asked = (gives, sets_as q s.sets (visible_in (held s.device) s.sets) leaves.0 shown)
+  lane_read q set read.PageLost leaves gives shown asked = (λ none. asked none refl, sets_as q _ _ leaves shown)
 
   -- a readmission to the log is one of the lane
   pub lane_readmitted : (size : ℕ) (k : LogState) (e : Entry) (answer : Readmitted) → AreApart s.log.entries →

@@ -12,14 +12,14 @@ use Rattle.klog.specs.Log.{LogState}
 use Rattle.klog.specs.Shown.{live_on, shown}
 use Rattle.kset.specs.declared.rewritten.Rewritten.{Rewritten}
 use Rattle.kset.specs.declared.rewritten.Rewritten.TheVariants as rewritten
-use Rattle.kset.specs.Rewrite.{is_forgotten, after_rewrite}
+use Rattle.kset.specs.Rewrite.{after_rewrite}
+use Rattle.kset.specs.After.{shown_after_rewriting}
 use Rattle.kset.specs.Sets.{SetsState}
 use Rattle.kset.specs.Shown.{visible_in}
 use Rattle.mover.specs.Store.{StoreState}
 use Rattle.mover.specs.Lane.{lane_of}
-use Rattle.mover.specs.Strike.{with_set}
+use Rattle.kset.specs.After.{with_set}
 use Rattle.mover.specs.Commit.{lane_rewritten}
-use Rattle.mover.proofs.Lanes.{shown_with}
 
 -- the same later pages show the same live records
 pub live_framed : (old new : ℕ → Option (List ℕ)) (k : LogState) → pages_from k.shape.sets new ≡ pages_from k.shape.sets old → live_on new k ≡ live_on old k
@@ -28,26 +28,25 @@ live_framed old new k frame = λ i. filter_map (λ e. option_map (λ r. (e, r)) 
 -- a rewriting of a set is one of the lane
 pub lane_rewrote : {D : Type 0} (held : D → ℕ → Option (List ℕ)) (s : StoreState D) (d : D) (q : SetsState) (set : ℕ) (rs : List Rec) (answer : Rewritten) → q ≡ after_rewrite s.sets set rs answer →
     pages_from s.log.shape.sets (held d) ≡ pages_from s.log.shape.sets (held s.device) →
-    OnFalse (is_forgotten answer) (visible_in (held d) q set ≡ enumerate_from 0 rs) → OnTrue (is_forgotten answer) ((on : ℕ → Option (List ℕ)) → visible_in on q set ≡ []) →
-    ((other : ℕ) → other ≢ set → visible_in (held d) q other ≡ visible_in (held s.device) s.sets other) →
+    visible_in (held d) q ≡ shown_after_rewriting answer set rs (visible_in (held s.device) s.sets) →
     lane_of held (record s { device = d; sets = q }) ≡ lane_rewritten set rs answer (lane_of held s)
-lane_rewrote held s d q set rs answer is apart written lost others = step answer is written lost
+lane_rewrote held s d q set rs answer is apart shown = step answer is shown
   where
-    lane_as : (sets : SetsState) (shows : List (ℕ × Rec)) → q ≡ sets → visible_in (held d) q set ≡ shows →
-        lane_of held (record s { device = d; sets = q }) ≡ record (lane_of held s) { sets = sets; visible = with_set (visible_in (held s.device) s.sets) set shows }
-    lane_as sets shows e own = λ i. record {
+    lane_as : (sets : SetsState) (visible : ℕ → List (ℕ × Rec)) → q ≡ sets → visible_in (held d) q ≡ visible →
+        lane_of held (record s { device = d; sets = q }) ≡ record (lane_of held s) { sets = sets; visible = visible }
+    lane_as sets visible e f = λ i. record {
       memory = s.memory;
       log = s.log;
       live = live_framed (held s.device) (held d) s.log apart i;
       sets = e i;
-      visible = shown_with (visible_in (held s.device) s.sets) (visible_in (held d) q) set shows own others i;
+      visible = f i;
       moves = s.moves;
     }
 
-    step : (answer : Rewritten) → q ≡ after_rewrite s.sets set rs answer → OnFalse (is_forgotten answer) (visible_in (held d) q set ≡ enumerate_from 0 rs) →
-        OnTrue (is_forgotten answer) ((on : ℕ → Option (List ℕ)) → visible_in on q set ≡ []) → lane_of held (record s { device = d; sets = q }) ≡ lane_rewritten set rs answer (lane_of held s)
-    step rewritten.Written is written lost = lane_as _ (enumerate_from 0 rs) is written
-    step rewritten.Forgotten is written lost = lane_as _ [] is (lost (held d))
+    step : (answer : Rewritten) → q ≡ after_rewrite s.sets set rs answer → visible_in (held d) q ≡ shown_after_rewriting answer set rs (visible_in (held s.device) s.sets) →
+        lane_of held (record s { device = d; sets = q }) ≡ lane_rewritten set rs answer (lane_of held s)
+    step rewritten.Written is shown = lane_as _ _ is shown
+    step rewritten.Forgotten is shown = lane_as _ _ is shown
 
 -- the places of one record more
 pub map_more : {X Y : Type 0} (f : X → Y) (xs : List X) (n : ℕ) (x : X) → slice_get xs n ≡ Some x → map f (take (n + 1) xs) ≡ map f (take n xs) ++ f x ∷ []

@@ -22,7 +22,7 @@ use Rattle.kset.specs.declared.looked.Looked.TheVariants as set
 use Rattle.kset.specs.declared.looked.Looked.{Looked as SetLooked}
 use Rattle.kset.specs.Sets.{SetsState, hit_in, notes_of}
 use Rattle.kset.specs.Shown.{visible_in, first_visible}
-use Rattle.kset.specs.Look.{LookGives as SetLookGives}
+use Rattle.kset.specs.Look.{SetLookGives}
 use Rattle.mover.specs.Store.{StoreState, KeepsTiers}
 use Rattle.mover.specs.Lane.{LaneState, lane_of}
 use Rattle.mover.specs.Get.{set_step, ask_set, ask_log, memory_step, get_step, StepGives, KeepsUnlessHit, answer_of_set}
@@ -35,7 +35,7 @@ weaker P Q (Some x) to has = to x has
 module _ {D : Type 0} (held : D → ℕ → Option (List ℕ)) (s : StoreState D) (d : D) (key : List ℕ) (same : held d ≡ held s.device) where
   -- what a set gives, of the lane
   pub set_told : (q : SetsState) (n : ℕ) (looked : SetLooked) → n ≡ (place_in s.log.shape key).set → SetLookGives (visible_in (held s.device) s.sets n) key s.sets n looked q →
-      ((m : ℕ) → visible_in (held d) q m ≡ visible_in (held s.device) s.sets m) →
+      visible_in (held d) q ≡ visible_in (held s.device) s.sets →
       StepGives (ask_set key (lane_of held s)) (lane_of held s) (answer_of_set looked) (lane_of held (record s { device = d; sets = q }))
   set_told q n looked at gives shown =
       subst (λ m. StepGives (set_step m (lane_of held s) (first_visible (visible_in (held s.device) s.sets m) key)) (lane_of held s) (answer_of_set looked) (lane_of held (record s { device = d; sets = q }))) at (step looked gives)
@@ -46,7 +46,7 @@ module _ {D : Type 0} (held : D → ℕ → Option (List ℕ)) (s : StoreState D
         log = s.log;
         live = live_on (same i) s.log;
         sets = e i;
-        visible = λ m. shown m i;
+        visible = shown i;
         moves = s.moves;
       }
 

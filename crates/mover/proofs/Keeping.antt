@@ -13,8 +13,7 @@ use Rattle.mover.proofs.Listing.{found_in}
 use Rattle.klog.specs.Log.{LogState, Shape, shape_of, opening_log}
 use Rattle.klog.specs.Shown.{IsSpelled, IsSpelledOn}
 use Rattle.kset.specs.Notes.{no_notes}
-use Rattle.kset.specs.Sets.{SetsState, set_count}
-use Rattle.kset.specs.Sets.{opening as empty_sets}
+use Rattle.kset.specs.Sets.{SetsState, set_count, opening_sets}
 use Rattle.kset.specs.Pages.{AreSpelled, AreSpelledOn}
 use Rattle.mover.specs.Store.{StoreState, IsStore, IsSmall}
 
@@ -84,7 +83,7 @@ small_removed size old new key after small =
 
 -- what a store is kept by at first: nothing is in its tiers
 pub opened : {D : Type 0} (size : ℕ) (pages : D → ℕ) (honest : D → Bool) (held : D → ℕ → Option (List ℕ)) (layout : Layout) (d : D) (m : MemoryList) (k : LogState) (q : SetsState) → IsPageSize size →
-    m ≡ empty layout.memory → k ≡ opening_log (shape_of layout) → q ≡ empty_sets layout.sets → layout.sets + layout.segments * layout.segment_pages ≤ pages d →
+    m ≡ empty layout.memory → k ≡ opening_log (shape_of layout) → q ≡ opening_sets layout.sets → layout.sets + layout.segments * layout.segment_pages ≤ pages d →
     ((on : ℕ → Option (List ℕ)) → IsSpelledOn size on k) → ((on : ℕ → Option (List ℕ)) → AreSpelledOn size on q) →
     IsStore size pages honest held (record { layout = layout; device = d; memory = m; log = k; sets = q; moves = 0 })
 opened size pages honest held layout d m k q page_size memory log sets fits log_spelled sets_spelled = record {

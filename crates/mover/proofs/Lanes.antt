@@ -7,21 +7,10 @@ use Rattle.klog.specs.Log.{LogState, with_list}
 use Rattle.klog.specs.Shown.{live_on}
 use Rattle.kset.specs.Sets.{SetsState, notes_of, struck_in}
 use Rattle.kset.specs.Shown.{visible_in}
-use Rattle.kset.specs.After.{after_strike}
+use Rattle.kset.specs.After.{after_strike, with_set}
 use Rattle.mover.specs.Store.{StoreState, KeepsTiers}
 use Rattle.mover.specs.Lane.{LaneState, lane_of}
-use Rattle.mover.specs.Strike.{with_set, struck_at}
-
--- what shows now, where one set shows something else and the others what they showed
-pub shown_with : {X : Type 0} (old new : ℕ → X) (set : ℕ) (shows : X) → new set ≡ shows → ((other : ℕ) → other ≢ set → new other ≡ old other) → new ≡ with_set old set shows
-shown_with {X} old new set shows own others = λ i other. at other i
-  where
-    step : (other : ℕ) (b : Bool) → eqb other set ≡ b → new other ≡ cond b shows (old other)
-    step other true same = ap new (eqb-true other set same) ∙ own
-    step other false differs = others other (eqb-false other set differs)
-
-    at : (other : ℕ) → new other ≡ with_set old set shows other
-    at other = step other (eqb other set) refl
+use Rattle.mover.specs.Strike.{struck_at}
 
 -- lanes are the same whose parts are
 pub same_lane : (a b : LaneState) → a.memory ≡ b.memory → a.log ≡ b.log → a.live ≡ b.live → a.sets ≡ b.sets → a.visible ≡ b.visible → a.moves ≡ b.moves → a ≡ b
@@ -39,12 +28,10 @@ pub lane_struck : {D : Type 0} (held : D → ℕ → Option (List ℕ)) (s : Sto
     k ≡ with_list s.log (without (has_tag at.set at.tag) s.log.entries) →
     live_on (held s.device) k ≡ filter (λ x. not (has_tag at.set at.tag x.0)) (live_on (held s.device) s.log) →
     q ≡ struck_in s.sets at.set at.hash →
-    visible_in (held s.device) q at.set ≡ after_strike (notes_of s.sets at.set) at.hash (visible_in (held s.device) s.sets at.set) →
-    ((other : ℕ) → other ≢ at.set → visible_in (held s.device) q other ≡ visible_in (held s.device) s.sets other) →
+    visible_in (held s.device) q ≡ with_set (visible_in (held s.device) s.sets) at.set (after_strike (notes_of s.sets at.set) at.hash (visible_in (held s.device) s.sets at.set)) →
     lane_of held (record s { log = k; sets = q }) ≡ struck_at at (lane_of held s)
-lane_struck held s at k q log live sets own others =
-    same_lane (lane_of held (record s { log = k; sets = q })) (struck_at at (lane_of held s)) refl log live sets
-    (shown_with (visible_in (held s.device) s.sets) (visible_in (held s.device) q) at.set _ own others) refl
+lane_struck held s at k q log live sets shown =
+    same_lane (lane_of held (record s { log = k; sets = q })) (struck_at at (lane_of held s)) refl log live sets shown refl
 
 -- where memory sees the same, and the device holds the same, the lane is the same
 pub lane_kept : {D : Type 0} (held : D → ℕ → Option (List ℕ)) (old new : StoreState D) → KeepsTiers old new → new.moves ≡ old.moves → held new.device ≡ held old.device → lane_of held new ≡ lane_of held old

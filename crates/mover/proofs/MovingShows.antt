@@ -33,7 +33,7 @@ use Rattle.kset.specs.Sets.{SetsState, notes_of, written, tried, forgotten}
 use Rattle.kset.specs.Shown.{with_flag}
 use Rattle.mover.specs.Store.{most_moves}
 use Rattle.mover.specs.Lane.{LaneState}
-use Rattle.mover.specs.Strike.{with_set}
+use Rattle.kset.specs.After.{with_set}
 use Rattle.mover.specs.Visible.{pair_of, IsVisible}
 use Rattle.mover.specs.Get.{Step}
 use Rattle.mover.specs.Put.{lane_appended, IsStep}

@@ -25,7 +25,7 @@ use Rattle.kset.specs.Sets.{notes_of, forgotten}
 use Rattle.kset.specs.Shown.{with_flags}
 use Rattle.mover.specs.Store.{StoreState, KeepsTiers, most_moves}
 use Rattle.mover.specs.Lane.{LaneState}
-use Rattle.mover.specs.Strike.{with_set}
+use Rattle.kset.specs.After.{with_set}
 use Rattle.mover.specs.Get.{Step}
 use Rattle.mover.specs.Put.{lane_appended, IsStep}
 use Rattle.mover.specs.Oldest.{oldest_in, record_of}

@@ -12,7 +12,7 @@ use Rattle.kset.specs.declared.rewritten.Rewritten.{Rewritten}
 use Rattle.kset.specs.declared.rewritten.Rewritten.TheVariants as rewritten
 use Rattle.kset.specs.Sets.{written, tried, forgotten}
 use Rattle.mover.specs.Lane.{LaneState}
-use Rattle.mover.specs.Strike.{with_set}
+use Rattle.kset.specs.After.{with_set}
 use Rattle.mover.specs.Begin.{lane_without}
 use Rattle.mover.specs.declared.moving.Moving.{Moving}
 

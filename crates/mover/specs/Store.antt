@@ -9,8 +9,7 @@ use Rattle.memory_cache.specs.MemoryList.{MemoryList, empty}
 use Rattle.klog.specs.Log.{LogState, shape_of, opening_log}
 use Rattle.klog.specs.Names.{HasRoom}
 use Rattle.klog.specs.Shown.{IsSpelledOn}
-use Rattle.kset.specs.Sets.{SetsState, set_count}
-use Rattle.kset.specs.Sets.{opening as empty_sets}
+use Rattle.kset.specs.Sets.{SetsState, set_count, opening_sets}
 use Rattle.kset.specs.Pages.{AreSpelledOn}
 
 -- a layout, a device, the three tiers as memory sees them, and how many moves began
@@ -54,7 +53,7 @@ opening layout device = record {
   device = device;
   memory = empty layout.memory;
   log = opening_log (shape_of layout);
-  sets = empty_sets layout.sets;
+  sets = opening_sets layout.sets;
   moves = 0;
 }
 

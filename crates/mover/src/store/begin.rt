@@ -3,7 +3,7 @@ ghost use Rattle.std.specs.Prelude.{◌≡◌, ◌<◌, ◌+◌, IfOk, OnErr, Is
 ghost use Rattle.page_device.specs.Device.{faults_after};
 ghost use Rattle.klog.specs.declared.oldest.Oldest.{Oldest};
 ghost use Rattle.klog.specs.Moves.{TellsOldest, IsFirstLive, IsOfOldest, is_readmit_fault, is_taking_lost};
-ghost use Rattle.kset.specs.ReadSet.{is_lost as read_failed};
+ghost use Rattle.kset.specs.ReadSet.{is_set_lost};
 ghost use Rattle.mover.specs.Store.{KeepsTiers, most_moves};
 ghost use Rattle.mover.specs.Lane.{lane_of};
 ghost use Rattle.mover.specs.Oldest.{oldest_in};
@@ -99,7 +99,7 @@ impl<D: PageDevice<PAGE>, const PAGE: usize> Store<D, PAGE> {
         ensures writes { WritesNothing D.honest D.held self.old self.new }
         ensures keeps { KeepsUnlessForgotten result self.old self.new }
         ensures faults { IsTrue (D.honest self.old.device) → D.failures self.new.device
-            ≡ faults_after (D.failures self.old.device) (read_failed result) }
+            ≡ faults_after (D.failures self.old.device) (is_set_lost result) }
         ensures gives { IsTrue (D.honest self.old.device) → IfOk result (λ read.
             LaneReads set (lane_of D.held self.old) read (lane_of D.held self.new)) }
     {

@@ -14,14 +14,14 @@ invariant_of-self g c =
     let s = c.self.inside in
     let d = g.D.PageDevice in
     kept_set_read g.row.PAGE d.page_count d.honest d.held (record { layout = s.layout; device = s.device; memory = s.memory; log = s.log; sets = s.sets; moves = s.moves }) c.self.invariant
-    c.look.new.device c.look.new.self c.look.ensures.sizes c.look.ensures.pages c.look.ensures.honest c.look.ensures.same c.look.ensures.spelled
+    c.look.new.device c.look.new.self c.look.ensures.keeps.sizes c.look.ensures.keeps.pages c.look.ensures.keeps.honest c.look.ensures.same c.look.ensures.keeps.spelled
 
 pub invariant_of-self-2 : goal.invariant_of-self-2
 invariant_of-self-2 g c =
     let s = c.self.inside in
     let d = g.D.PageDevice in
     kept_set_read g.row.PAGE d.page_count d.honest d.held (record { layout = s.layout; device = s.device; memory = s.memory; log = s.log; sets = s.sets; moves = s.moves }) c.self.invariant
-    c.look.new.device c.look.new.self c.look.ensures.sizes c.look.ensures.pages c.look.ensures.honest c.look.ensures.same c.look.ensures.spelled
+    c.look.new.device c.look.new.self c.look.ensures.keeps.sizes c.look.ensures.keeps.pages c.look.ensures.keeps.honest c.look.ensures.same c.look.ensures.keeps.spelled
 
 pub returns-clause-gives : goal.returns-clause-gives
 returns-clause-gives g c = λ is.

@@ -19,5 +19,5 @@ returns-clause-struck g c =
     let s = c.self.inside in
     let d = g.D.PageDevice in
     lane_struck d.held (record { layout = s.layout; device = s.device; memory = s.memory; log = s.log; sets = s.sets; moves = s.moves }) c.args.placed.now c.strike.new.self c.strike-2.new.self
-    c.strike.ensures.struck (c.strike.ensures.shown (d.held s.device)) c.strike-2.ensures.struck (c.strike-2.ensures.shown (d.held s.device)) (c.strike-2.ensures.others (d.held s.device))
+    c.strike.ensures.struck (c.strike.ensures.shown (d.held s.device)) c.strike-2.ensures.struck (c.strike-2.ensures.shown (d.held s.device))
     ∙ ap (λ (x : StoreState g.row.D.Denot). struck_at c.args.placed.now (lane_of d.held x)) c.self.view_is
