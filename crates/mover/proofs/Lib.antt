@@ -1,0 +1,13 @@
+pub mod Listing
+pub mod Keeping
+pub mod Lanes
+pub mod Getting
+pub mod Putting
+pub mod Showing
+pub mod Firsts
+pub mod Placing
+pub mod Beginning
+pub mod Committing
+pub mod Filling
+pub mod MovingShows
+pub mod Ending

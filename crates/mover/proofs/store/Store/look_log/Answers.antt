@@ -1,0 +1,30 @@
+use Rattle.std.proofs.Common.{◌≡◌, subst}
+use Rattle.klog_index.specs.Entries.{of_tag}
+use Rattle.klog.specs.Known.{AreBuffered}
+use Rattle.mover.specs.Store.{StoreState}
+use Rattle.mover.proofs.Keeping.{kept_log_read}
+use Rattle.mover.proofs.store.Store.look_log.Goals as goal
+
+pub invariant_of-self : goal.invariant_of-self
+invariant_of-self g c =
+    let s = c.self.inside in
+    let d = g.D.PageDevice in
+    kept_log_read g.row.PAGE d.page_count d.honest d.held (record { layout = s.layout; device = s.device; memory = s.memory; log = s.log; sets = s.sets; moves = s.moves }) c.self.invariant
+    c.look.new.device c.look.new.self c.look.ensures.shape c.look.ensures.pages c.look.ensures.honest c.look.ensures.same c.look.ensures.spelled
+
+pub invariant_of-self-2 : goal.invariant_of-self-2
+invariant_of-self-2 g c =
+    let s = c.self.inside in
+    let d = g.D.PageDevice in
+    kept_log_read g.row.PAGE d.page_count d.honest d.held (record { layout = s.layout; device = s.device; memory = s.memory; log = s.log; sets = s.sets; moves = s.moves }) c.self.invariant
+    c.look.new.device c.look.new.self c.look.ensures.shape c.look.ensures.pages c.look.ensures.honest c.look.ensures.same c.look.ensures.spelled
+
+pub returns-clause-unasked : goal.returns-clause-unasked
+returns-clause-unasked g c = record {
+  asks_not = subst (λ (x : StoreState g.row.D.Denot). AreBuffered x.log (of_tag c.args.placed.now.set c.args.placed.now.tag x.log.entries) → c.look.new.device ≡ x.device) c.self.view_is c.look.ensures.buffered;
+}
+
+pub returns-in_err-looked-clause-unasked : goal.returns-in_err-looked-clause-unasked
+returns-in_err-looked-clause-unasked g c = record {
+  asks_not = subst (λ (x : StoreState g.row.D.Denot). AreBuffered x.log (of_tag c.args.placed.now.set c.args.placed.now.tag x.log.entries) → c.look.new.device ≡ x.device) c.self.view_is c.look.ensures.buffered;
+}

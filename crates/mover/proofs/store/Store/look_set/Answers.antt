@@ -1,0 +1,37 @@
+use Rattle.std.proofs.Common.{sym, ap, subst, ◌∙◌}
+use Rattle.std.specs.Prelude.{IsTrue}
+use Rattle.set_hash.specs.declared.placed.Placed.{Placed}
+use Rattle.mover.specs.Store.{StoreState}
+use Rattle.mover.specs.Lane.{lane_of}
+use Rattle.klog.specs.Shown.{place_in}
+use Rattle.mover.specs.Get.{StepGives, ask_set, answer_of_set}
+use Rattle.mover.proofs.Keeping.{kept_set_read}
+use Rattle.mover.proofs.Getting.{set_told}
+use Rattle.mover.proofs.store.Store.look_set.Goals as goal
+
+pub invariant_of-self : goal.invariant_of-self
+invariant_of-self g c =
+    let s = c.self.inside in
+    let d = g.D.PageDevice in
+    kept_set_read g.row.PAGE d.page_count d.honest d.held (record { layout = s.layout; device = s.device; memory = s.memory; log = s.log; sets = s.sets; moves = s.moves }) c.self.invariant
+    c.look.new.device c.look.new.self c.look.ensures.keeps.sizes c.look.ensures.keeps.pages c.look.ensures.keeps.honest c.look.ensures.same c.look.ensures.keeps.spelled
+
+pub invariant_of-self-2 : goal.invariant_of-self-2
+invariant_of-self-2 g c =
+    let s = c.self.inside in
+    let d = g.D.PageDevice in
+    kept_set_read g.row.PAGE d.page_count d.honest d.held (record { layout = s.layout; device = s.device; memory = s.memory; log = s.log; sets = s.sets; moves = s.moves }) c.self.invariant
+    c.look.new.device c.look.new.self c.look.ensures.keeps.sizes c.look.ensures.keeps.pages c.look.ensures.keeps.honest c.look.ensures.same c.look.ensures.keeps.spelled
+
+pub returns-clause-gives : goal.returns-clause-gives
+returns-clause-gives g c = λ is.
+    let s = c.self.inside in
+    let d = g.D.PageDevice in
+    let old : StoreState g.row.D.Denot = record { layout = s.layout; device = s.device; memory = s.memory; log = s.log; sets = s.sets; moves = s.moves } in
+    let new : StoreState g.row.D.Denot = record { layout = s.layout; device = c.look.new.device; memory = s.memory; log = s.log; sets = c.look.new.self; moves = s.moves } in
+    let on = subst (λ (x : StoreState g.row.D.Denot). IsTrue (d.honest x.device)) (sym c.self.view_is) is in
+    let key = c.args.key.now in
+    let at = c.requires.at ∙ ap (λ (x : StoreState g.row.D.Denot). place_in x.log.shape key) (sym c.self.view_is) in
+    let told = set_told d.held old c.look.new.device key (c.look.ensures.same on) c.look.new.self c.args.placed.now.set c.in_ok-looked.looked (ap (λ (p : Placed). p.set) at)
+    (c.in_ok-looked.ensures.gives on (c.self.invariant.sets_spelled on)) (c.look.ensures.shown on) in
+    rw c.answer_of_set.ensures (subst (λ (x : StoreState g.row.D.Denot). StepGives (ask_set key (lane_of d.held x)) (lane_of d.held x) (answer_of_set c.in_ok-looked.looked) (lane_of d.held new)) c.self.view_is told)

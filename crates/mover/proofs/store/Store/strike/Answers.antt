@@ -1,0 +1,23 @@
+use Rattle.std.proofs.Common.{refl, ap, ◌∙◌}
+use Rattle.mover.specs.Store.{StoreState}
+use Rattle.mover.specs.Lane.{lane_of}
+use Rattle.mover.specs.Strike.{struck_at}
+use Rattle.mover.proofs.Keeping.{kept_flash}
+use Rattle.mover.proofs.Lanes.{lane_struck}
+use Rattle.mover.proofs.store.Store.strike.Goals as goal
+
+pub invariant_of-self : goal.invariant_of-self
+invariant_of-self g c =
+    let s = c.self.inside in
+    let d = g.D.PageDevice in
+    kept_flash g.row.PAGE d.page_count d.honest d.held (record { layout = s.layout; device = s.device; memory = s.memory; log = s.log; sets = s.sets; moves = s.moves }) c.self.invariant
+    s.device c.strike.new.self c.strike-2.new.self c.strike.ensures.shape c.strike-2.ensures.sizes refl refl
+    (λ honest. c.strike.ensures.spelled (d.held s.device)) (λ honest. c.strike-2.ensures.spelled (d.held s.device))
+
+pub returns-clause-struck : goal.returns-clause-struck
+returns-clause-struck g c =
+    let s = c.self.inside in
+    let d = g.D.PageDevice in
+    lane_struck d.held (record { layout = s.layout; device = s.device; memory = s.memory; log = s.log; sets = s.sets; moves = s.moves }) c.args.placed.now c.strike.new.self c.strike-2.new.self
+    c.strike.ensures.struck (c.strike.ensures.shown (d.held s.device)) c.strike-2.ensures.struck (c.strike-2.ensures.shown (d.held s.device))
+    ∙ ap (λ (x : StoreState g.row.D.Denot). struck_at c.args.placed.now (lane_of d.held x)) c.self.view_is

@@ -1,0 +1,197 @@
+-- How a move begins.
+use Rattle.std.specs.Prelude.{◌≡◌, ◌≢◌, ◌<◌, ◌+◌, ℕ, List, [], filter, not, count_by, Contains, Bool, true, false, Result, Ok, Err, IsTrue, ◌⊎◌, Option, Some, None, nat_lt, if◌then◌else◌}
+use Rattle.std.specs.FinSet as bits
+use Rattle.std.specs.declared.alloc.AllocError.{AllocError}
+use Rattle.record_pages.specs.Recs.{Rec}
+use Rattle.admission.specs.Threshold.{judgement_of}
+use Rattle.admission.specs.declared.judgement.Judgement.{Judgement}
+use Rattle.admission.specs.declared.judgement.Judgement.TheVariants as judgement
+use Rattle.klog_index.specs.declared.entry.Entry.{Entry}
+use Rattle.klog_index.specs.Entries.{is_of}
+use Rattle.klog.specs.declared.oldest.Oldest.{Oldest}
+use Rattle.klog.specs.declared.oldest.Oldest.TheVariants as oldest
+use Rattle.klog.specs.declared.readmitted.Readmitted.{Readmitted}
+use Rattle.klog.specs.declared.readmitted.Readmitted.TheVariants as readmitted
+use Rattle.klog.specs.declared.set_taken.SetTaken.{SetTaken}
+use Rattle.klog.specs.declared.set_taken.SetTaken.TheVariants as taken
+use Rattle.klog.specs.declared.taken_record.TakenRecord.{TakenRecord}
+use Rattle.klog.specs.Append.{entering, is_full}
+use Rattle.klog.specs.Known.{is_buffered}
+use Rattle.klog.specs.Moves.{freed, dropped, is_taken, without_entry, live_without_entry, without_its_page, live_without_page, taken_of, taken_entries}
+use Rattle.kset.specs.declared.set_read.SetRead.{SetRead}
+use Rattle.kset.specs.declared.set_read.SetRead.TheVariants as read
+use Rattle.kset.specs.declared.set_record.SetRecord.{SetRecord}
+use Rattle.kset.specs.Sets.{notes_of, forgotten}
+use Rattle.kset.specs.Shown.{with_flags}
+use Rattle.mover.specs.Store.{StoreState, KeepsTiers, most_moves}
+use Rattle.mover.specs.Lane.{LaneState}
+use Rattle.kset.specs.After.{with_set}
+use Rattle.mover.specs.Get.{Step}
+use Rattle.mover.specs.Put.{lane_appended, IsStep}
+use Rattle.mover.specs.Oldest.{oldest_in, record_of}
+use Rattle.mover.specs.declared.begun.Begun.{Begun}
+use Rattle.mover.specs.declared.begun.Begun.TheVariants as begun
+use Rattle.mover.specs.declared.moving.Moving.{Moving}
+
+-- the oldest segment on the device is no longer held
+abbrev pub lane_freed : LaneState → LaneState
+lane_freed lane = record lane { log = freed lane.log }
+
+-- the live records of a set of which these were taken die
+abbrev pub lane_without : ℕ → List TakenRecord → LaneState → LaneState
+lane_without set ts lane = record lane {
+  log = dropped lane.log set ts;
+  live = filter (λ x. not (is_taken lane.log set ts x.0)) lane.live;
+}
+
+-- the live record of an entry dies
+abbrev pub lane_without_entry : Entry → LaneState → LaneState
+lane_without_entry e lane = record lane { log = without_entry lane.log e; live = live_without_entry e lane.live }
+
+-- the live records of an entry's page die
+abbrev pub lane_without_page : Entry → LaneState → LaneState
+lane_without_page e lane = record lane { log = without_its_page lane.log e; live = live_without_page lane.log e lane.live }
+
+-- a set is forgotten
+abbrev pub lane_forgotten : ℕ → LaneState → LaneState
+lane_forgotten set lane = record lane { sets = forgotten lane.sets set; visible = with_set lane.visible set [] }
+
+-- one move more began
+abbrev pub lane_counted : LaneState → LaneState
+lane_counted lane = record lane { moves = lane.moves + 1 }
+
+-- the visible records of a set, each with whether it was hit
+abbrev pub set_records : LaneState → ℕ → List SetRecord
+set_records lane set = with_flags (notes_of lane.sets set) (lane.visible set)
+
+-- the next move, of a set: its visible records, and the newest of it in the log
+abbrev pub moving_of : LaneState → ℕ → Moving
+moving_of lane set = record {
+  number = lane.moves + 1;
+  set = set;
+  visible = set_records lane set;
+  taken = taken_of lane.log set lane.live;
+}
+
+-- the record of an entry enters the log anew, or finds no place and is lost
+abbrev pub anew_step : ℕ → LaneState → Entry → Option Rec → Step Readmitted
+anew_step size lane e None = record { reply = readmitted.Dropped; lane = lane_without_entry e lane }
+anew_step size lane e (Some r) =
+    if is_full size (without_entry lane.log e) (entering r.key r.value)
+    then record { reply = readmitted.Dropped; lane = lane_without_entry e lane }
+    else record { reply = readmitted.Readmitted; lane = lane_appended size (lane_without_entry e lane) (entering r.key r.value) }
+
+-- a readmission of an entry, where its page is had
+abbrev pub readmit_step : ℕ → Entry → LaneState → Step Readmitted
+readmit_step size e lane = anew_step size lane e (record_of e lane.live)
+
+-- a readmission: where the device failed the live records of the entry's page die; no page is damaged
+abbrev pub LaneReadmits : ℕ → Entry → LaneState → Readmitted → LaneState → Type 0
+LaneReadmits size e old readmitted.Fault new = new ≡ lane_without_page e old
+LaneReadmits size e old readmitted.Damaged new = ⊥
+LaneReadmits size e old answer new = IsStep (readmit_step size e old) answer new
+
+-- how a move began by a readmission
+abbrev pub begun_by : Readmitted → Begun
+begun_by readmitted.Readmitted = begun.Readmitted
+begun_by readmitted.Dropped = begun.Dropped
+begun_by readmitted.Fault = begun.PageLost
+begun_by readmitted.Damaged = begun.PageLost
+
+-- what becomes of an entry of the oldest segment
+abbrev pub judged : ℕ → LaneState → Entry → Judgement
+judged least lane e = judgement_of least (count_by (is_of e.set) lane.log.entries) e.prediction
+
+-- a move begins so with an entry: its set is to move, or it is readmitted, or dropped
+abbrev pub entry_step : ℕ → LaneState → Entry → Judgement → Step Begun
+entry_step size lane e judgement.Move = record { reply = begun.Move (moving_of lane e.set); lane = lane_counted lane }
+entry_step size lane e judgement.Readmit =
+    record { reply = begun_by (readmit_step size e lane).reply; lane = (readmit_step size e lane).lane }
+entry_step size lane e judgement.Drop = record { reply = begun.Dropped; lane = lane_without_entry e lane }
+
+-- a move begins so with the oldest segment: there is none, or it is freed, or there is its first entry
+abbrev pub oldest_step : ℕ → ℕ → LaneState → Oldest → Step Begun
+oldest_step size least lane oldest.NoSegment = record { reply = begun.Nothing; lane = lane }
+oldest_step size least lane oldest.Empty = record { reply = begun.Freed; lane = lane_freed lane }
+oldest_step size least lane (oldest.First e) = entry_step size lane e (judged least lane e)
+
+-- how a move begins where no call of the device fails; there are only so many
+abbrev pub begin_step : ℕ → ℕ → LaneState → Step Begun
+begin_step size least lane =
+    if nat_lt lane.moves most_moves then oldest_step size least lane (oldest_in lane.log)
+    else record { reply = begun.Nothing; lane = lane }
+
+-- a taking of the records of a set: they stay; or one of their pages on the device is lost
+abbrev pub LaneTakes : ℕ → LaneState → SetTaken → LaneState → Type 0
+LaneTakes set old (taken.Records rs) new = (rs ≡ taken_of old.log set old.live) × (new ≡ old)
+LaneTakes set old taken.PageLost new =
+    (e : Entry) × Contains (taken_entries old.log set) e × (is_buffered old.log e ≡ false) × (new ≡ lane_without_page e old)
+
+-- a reading of the visible records of a set: they stay; or its page is lost, which is not asked for where the filter is
+-- empty, and the set is forgotten
+abbrev pub LaneReads : ℕ → LaneState → SetRead → LaneState → Type 0
+LaneReads set old (read.Records rs) new = (rs ≡ set_records old set) × (new ≡ old)
+LaneReads set old read.PageLost new = ((notes_of old.sets set).filter ≢ bits.empty) × (new ≡ lane_forgotten set old)
+
+-- the records of a set are gathered: they are to move; or a page is lost
+abbrev pub Gathers : ℕ → LaneState → Begun → LaneState → Type 0
+Gathers set old begun.PageLost new = LaneTakes set old taken.PageLost new ⊎ LaneReads set old read.PageLost new
+Gathers set old answer new = IsStep (record { reply = begun.Move (moving_of old set); lane = lane_counted old }) answer new
+
+-- a page is lost as a move begins with an entry
+abbrev pub LosesPage : ℕ → Entry → LaneState → Judgement → LaneState → Type 0
+LosesPage size e old judgement.Move new = Gathers e.set old begun.PageLost new
+LosesPage size e old judgement.Readmit new = LaneReadmits size e old readmitted.Fault new
+LosesPage size e old judgement.Drop new = ⊥
+
+-- how a move begins with an entry: by its step; or a page is lost
+abbrev pub EntryBegins : ℕ → ℕ → Entry → LaneState → Begun → LaneState → Type 0
+EntryBegins size least e old begun.PageLost new = LosesPage size e old (judged least old e) new
+EntryBegins size least e old answer new = IsStep (entry_step size old e (judged least old e)) answer new
+
+-- how a move begins: by its step; or a page is lost as it begins with the first entry of the oldest segment
+abbrev pub BeginGives : ℕ → ℕ → LaneState → Begun → LaneState → Type 0
+BeginGives size least old begun.PageLost new =
+    (old.moves < most_moves) × (e : Entry) × (oldest_in old.log ≡ oldest.First e) × LosesPage size e old (judged least old e) new
+BeginGives size least old answer new = IsStep (begin_step size least old) answer new
+
+-- a call that writes no page
+pub record WritesNothing {D : Type 0} (honest : D → Bool) (held : D → ℕ → Option (List ℕ)) (old new : StoreState D) : Type 0 where
+  pub layout : new.layout ≡ old.layout
+  pub honesty : honest new.device ≡ honest old.device
+  pub same : IsTrue (honest old.device) → held new.device ≡ held old.device
+
+-- memory sees the same, unless a page of the log is lost
+abbrev pub KeepsUnlessLost : {D : Type 0} → Result SetTaken AllocError → StoreState D → StoreState D → Type 0
+KeepsUnlessLost (Ok taken.PageLost) old new = Unit {0}
+KeepsUnlessLost (Ok (taken.Records rs)) old new = KeepsTiers old new
+KeepsUnlessLost (Err e) old new = KeepsTiers old new
+
+-- memory sees the same, unless a set is forgotten
+abbrev pub KeepsUnlessForgotten : {D : Type 0} → Result SetRead AllocError → StoreState D → StoreState D → Type 0
+KeepsUnlessForgotten (Ok read.PageLost) old new = Unit {0}
+KeepsUnlessForgotten (Ok (read.Records rs)) old new = KeepsTiers old new
+KeepsUnlessForgotten (Err e) old new = KeepsTiers old new
+
+-- a page was lost
+abbrev pub is_lost : Result Begun AllocError → Bool
+is_lost (Ok begun.PageLost) = true
+is_lost _ = false
+
+-- the set of a move is one of so many
+abbrev pub IsOfSet : ℕ → Begun → Type 0
+IsOfSet sets (begun.Move moving) = moving.set < sets
+IsOfSet sets begun.Nothing = Unit {0}
+IsOfSet sets begun.Freed = Unit {0}
+IsOfSet sets begun.Readmitted = Unit {0}
+IsOfSet sets begun.Dropped = Unit {0}
+IsOfSet sets begun.PageLost = Unit {0}
+
+-- where records are to move the tiers stay, and one move more began
+abbrev pub CountsIfMove : {D : Type 0} → Begun → StoreState D → StoreState D → Type 0
+CountsIfMove (begun.Move moving) old new = KeepsTiers old new × (new.moves ≡ old.moves + 1)
+CountsIfMove begun.Nothing old new = Unit {0}
+CountsIfMove begun.Freed old new = Unit {0}
+CountsIfMove begun.Readmitted old new = Unit {0}
+CountsIfMove begun.Dropped old new = Unit {0}
+CountsIfMove begun.PageLost old new = Unit {0}

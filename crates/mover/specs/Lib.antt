@@ -1,0 +1,12 @@
+pub mod Store
+pub mod Lane
+pub mod Visible
+pub mod Strike
+pub mod Get
+pub mod Put
+pub mod Asking
+pub mod Flush
+pub mod Oldest
+pub mod Begin
+pub mod Commit
+pub mod Whole

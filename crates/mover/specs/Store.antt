@@ -1,0 +1,71 @@
+-- A store: a device, and the tiers of a lane that share it.
+use Rattle.std.specs.Prelude.{◌≡◌, ◌<◌, ◌≤◌, ◌+◌, ◌*◌, ◌^◌, ℕ, List, Option, Bool, IsTrue, All}
+use Rattle.page_device.specs.Device.{faults_after}
+use Rattle.record_pages.specs.Sizes.{IsPageSize, object_size, room}
+use Rattle.record_pages.specs.declared.layout.Layout.{Layout}
+use Rattle.memory_cache.specs.declared.pair.Pair.{Pair}
+use Rattle.record_pages.specs.declared.config.Config.{Config}
+use Rattle.memory_cache.specs.MemoryList.{MemoryList, empty}
+use Rattle.klog.specs.Log.{LogState, shape_of, opening_log}
+use Rattle.klog.specs.Names.{HasRoom}
+use Rattle.klog.specs.Shown.{IsSpelledOn}
+use Rattle.kset.specs.Sets.{SetsState, set_count, opening_sets}
+use Rattle.kset.specs.Pages.{AreSpelledOn}
+
+-- a layout, a device, the three tiers as memory sees them, and how many moves began
+pub record StoreState (D : Type 0) : Type 0 where
+  pub layout : Layout
+  pub device : D
+  pub memory : MemoryList
+  pub log : LogState
+  pub sets : SetsState
+  pub moves : ℕ
+
+-- the most moves that a store begins
+abbrev pub most_moves : ℕ
+most_moves = 2 ^ 62
+
+-- an object fits on a page of this many bytes
+abbrev pub IsSmall : ℕ → Pair → Type 0
+IsSmall size p = object_size p.key p.value ≤ room size
+
+-- What is true of every store. Its tiers have the layout's numbers and the device has their pages; each object in memory
+-- fits on a page; and where the device is honest, each live and each visible record is on a known page or in a buffer.
+pub record IsStore {D : Type 0} (size : ℕ) (pages : D → ℕ) (honest : D → Bool) (held : D → ℕ → Option (List ℕ)) (s : StoreState D) : Type 0 where
+  pub page_size : IsPageSize size
+  pub shape : s.log.shape ≡ shape_of s.layout
+  pub counted : set_count s.sets ≡ s.layout.sets
+  pub capacity : s.memory.capacity ≡ s.layout.memory
+  pub small : All (IsSmall size) s.memory.pairs
+  pub room : HasRoom (pages s.device) s.log
+  pub numbered : s.moves ≤ most_moves
+  pub log_spelled : IsTrue (honest s.device) → IsSpelledOn size (held s.device) s.log
+  pub sets_spelled : IsTrue (honest s.device) → AreSpelledOn size (held s.device) s.sets
+
+-- the device has fewer pages than a configuration asks for
+abbrev pub IsTooSmall : Config → ℕ → Type 0
+IsTooSmall c count = count < c.sets + c.segments * c.segment_pages
+
+-- a store that was just opened: nothing in memory, in the log or in a set
+abbrev pub opening : {D : Type 0} → Layout → D → StoreState D
+opening layout device = record {
+  layout = layout;
+  device = device;
+  memory = empty layout.memory;
+  log = opening_log (shape_of layout);
+  sets = opening_sets layout.sets;
+  moves = 0;
+}
+
+-- memory sees the same in all three tiers
+pub record KeepsTiers {D : Type 0} (old new : StoreState D) : Type 0 where
+  pub memory : new.memory ≡ old.memory
+  pub log : new.log ≡ old.log
+  pub sets : new.sets ≡ old.sets
+
+-- a call that writes no page, and in which the device may have failed once
+pub record OnlyReads {D : Type 0} (honest : D → Bool) (failures : D → ℕ) (held : D → ℕ → Option (List ℕ)) (old : StoreState D) (failed : Bool) (new : StoreState D) : Type 0 where
+  pub layout : new.layout ≡ old.layout
+  pub honesty : honest new.device ≡ honest old.device
+  pub failed_once : failures new.device ≡ faults_after (failures old.device) failed
+  pub same : IsTrue (honest old.device) → held new.device ≡ held old.device

@@ -1,0 +1,37 @@
+-- The visible pairs of a lane.
+use Rattle.std.specs.Prelude.{◌≡◌, ◌≢◌, ◌⊎◌, ℕ, List, Option, Some, map, Contains}
+use Rattle.record_pages.specs.Recs.{Rec}
+use Rattle.record_pages.specs.declared.answer.Answer.{Answer}
+use Rattle.record_pages.specs.declared.answer.Answer.TheVariants.{Hit, Miss}
+use Rattle.memory_cache.specs.declared.pair.Pair.{Pair}
+use Rattle.klog.specs.Shown.{place_in, ArePlaced}
+use Rattle.mover.specs.Lane.{LaneState}
+
+-- a record's pair
+abbrev pub pair_of : Rec → Pair
+pair_of r = record { key = r.key; value = r.value }
+
+-- a pair is live in the log, or visible on the page of its key's set
+abbrev pub IsOnFlash : LaneState → Pair → Type 0
+IsOnFlash lane p =
+    Contains (map (λ x. pair_of x.1) lane.live) p
+    ⊎ Contains (map (λ x. pair_of x.1) (lane.visible (place_in lane.log.shape p.key).set)) p
+
+-- a pair is in memory, or on flash
+abbrev pub IsVisible : LaneState → Pair → Type 0
+IsVisible lane p = Contains lane.memory.pairs p ⊎ IsOnFlash lane p
+
+-- The contract of every call. Each pair that is visible after it was visible before it, and the call did not strike its
+-- key; or it is the pair that the call put.
+abbrev pub ShowsFrom : Option (List ℕ) → Option Pair → LaneState → LaneState → Type 0
+ShowsFrom struck put old new =
+    (p : Pair) → IsVisible new p → (IsVisible old p × (struck ≢ Some p.key)) ⊎ (put ≡ Some p)
+
+-- the key of each live record has its entry's set and tag
+abbrev pub IsLogPlaced : LaneState → Type 0
+IsLogPlaced lane = ArePlaced lane.log.shape lane.live
+
+-- a hit is the value of a visible pair of the key
+abbrev pub TellsVisible : List ℕ → LaneState → Answer → Type 0
+TellsVisible key lane (Hit value tier) = IsVisible lane (record { key = key; value = value })
+TellsVisible key lane (Miss cause) = Unit {0}

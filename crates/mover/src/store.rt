@@ -1,0 +1,125 @@
+// The store of a lane.
+ghost use Rattle.std.specs.Prelude.{◌≡◌, ◌<◌, ◌↔◌, ◌+◌, ◌*◌, None, Some, IfOk, OnOk, IsErrOf, IfErr};
+ghost use Rattle.record_pages.specs.declared.field.Field.{Field};
+ghost use Rattle.record_pages.specs.Sizes.{IsPageSize};
+ghost use Rattle.record_pages.specs.Asked.{HasNumbersOf};
+ghost use Rattle.record_pages.specs.Table.{first_faulty};
+
+use crate::open_fault::OpenFault;
+use klog::KLog;
+use kset::KSet;
+use memory_cache::MemoryCache;
+use page_device::PageDevice;
+use record_pages::{Config, Layout};
+use std::alloc::Global;
+use std::marker::Model;
+
+mod begin;
+mod commit;
+mod flush;
+mod get;
+mod move_whole;
+mod put;
+mod remove;
+
+/// The store of a lane: the objects in memory, the log and the sets, over one device.
+#[derive(Drop)]
+pub struct Store<D: PageDevice<PAGE>, const PAGE: usize> {
+    alloc: Global,
+    layout: Layout,
+    device: D,
+    memory: MemoryCache,
+    log: KLog<PAGE>,
+    sets: KSet<PAGE>,
+    moves: u64,
+}
+
+impl<D: PageDevice<PAGE>, const PAGE: usize> Model for Store<D, PAGE> {
+    ghost use Rattle.std.specs.Coded.{codes};
+    ghost use Rattle.kset.specs.Sets.{sets_code};
+    ghost use Rattle.mover.specs.Store.{StoreState, IsStore};
+
+    ghost Value = { StoreState D };
+
+    ghost coded = { Prim.hlevel (codes, sets_code) };
+
+    ghost view = { λ s. record {
+      layout = s.layout;
+      device = s.device;
+      memory = s.memory;
+      log = s.log;
+      sets = s.sets;
+      moves = s.moves;
+    } };
+
+    ghost invariant = { λ s. IsStore PAGE D.page_count D.honest D.held (record {
+      layout = s.layout;
+      device = s.device;
+      memory = s.memory;
+      log = s.log;
+      sets = s.sets;
+      moves = s.moves;
+    }) };
+}
+
+impl<D: PageDevice<PAGE>, const PAGE: usize> Store<D, PAGE> {
+    ghost use Rattle.std.specs.Prelude.{IsTrue};
+    ghost use Rattle.mover.specs.Store.{opening, IsTooSmall, IsStore};
+    ghost use Rattle.mover.specs.Lane.{lane_of};
+    ghost use Rattle.mover.specs.Visible.{IsLogPlaced};
+
+    /// An empty store of this configuration over a device. Its refusals are tested in the order of `OpenFault`, and the
+    /// device is dropped with each.
+    pub fn open(alloc: Global, config: &Config, device: D) -> Result<Self, OpenFault>
+        ensures opening { IfOk result (λ s. HasNumbersOf s.layout config.now
+            × (s ≡ opening s.layout device)) }
+        ensures serves { OnOk result ((first_faulty config.now ≡ None) × IsPageSize PAGE
+            × (IsTooSmall config.now (D.page_count device) → ⊥)) }
+        ensures config { IfErr result (λ fault. (field : Field) →
+            fault ≡ OpenFault.ConfigFault field → first_faulty config.now ≡ Some field) }
+        ensures page { IsErrOf result OpenFault.WrongPage
+            ↔ ((first_faulty config.now ≡ None) × (IsPageSize PAGE → ⊥)) }
+        ensures small { IsErrOf result OpenFault.DeviceTooSmall
+            ↔ ((first_faulty config.now ≡ None) × IsPageSize PAGE
+            × IsTooSmall config.now (D.page_count device)) }
+    {
+        let layout = config.check()?;
+        if PAGE < 256 || PAGE > 4096 {
+            return Err(OpenFault::WrongPage);
+        }
+        if device.pages() < layout.sets + layout.segments * layout.segment_pages {
+            return Err(OpenFault::DeviceTooSmall);
+        }
+        let memory = MemoryCache::open(alloc, layout.memory)?;
+        let log = KLog::open(alloc, &layout)?;
+        let sets = KSet::open(alloc, &layout)?;
+        Ok(Store {
+            alloc,
+            layout,
+            device,
+            memory,
+            log,
+            sets,
+            moves: 0,
+        })
+    }
+
+    /// The numbers that the store was opened with.
+    pub fn layout(&self) -> Layout
+        ensures layout { result ≡ self.now.layout }
+        // What is true of every store.
+        ensures kept { IsStore PAGE D.page_count D.honest D.held self.now }
+        ensures placed { IsTrue (D.honest self.now.device) → IsLogPlaced (lane_of D.held self.now) }
+    {
+        // That live records are placed is known from the log's length.
+        let _live = self.log.len();
+        self.layout
+    }
+
+    /// The device, as it is now. What memory held is gone.
+    pub fn into_device(self) -> D
+        ensures { result ≡ self.device }
+    {
+        self.device
+    }
+}

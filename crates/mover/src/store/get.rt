@@ -1,0 +1,137 @@
+// Looking a key up in the three tiers.
+ghost use Rattle.std.specs.Prelude.{◌≡◌, None, false, IfOk, OnOk, OnErr, IsSome, IsTrue};
+ghost use Rattle.klog.specs.Shown.{place_in};
+ghost use Rattle.klog.specs.Look.{is_log_fault, LogLookLeaves};
+ghost use Rattle.klog.specs.Known.{AreBuffered};
+ghost use Rattle.klog_index.specs.Entries.{of_tag};
+ghost use Rattle.kset.specs.Notes.{lets_show};
+ghost use Rattle.kset.specs.Sets.{notes_of, IsPlaceIn};
+ghost use Rattle.mover.specs.Asking.{AsksNothing, IfThen, IsNotOfLog, KeepsIfMiss, HitsInLog};
+ghost use Rattle.memory_cache.specs.MemoryList.{value_in, after_get};
+ghost use Rattle.mover.specs.Store.{KeepsTiers, OnlyReads};
+ghost use Rattle.mover.specs.Lane.{lane_of};
+ghost use Rattle.mover.specs.Visible.{ShowsFrom, TellsVisible};
+ghost use Rattle.mover.specs.Get.{get_step, ask_log, ask_set, StepGives, LogTells, KeepsUnlessHit, is_fault, answer_of_set};
+
+use super::Store;
+use page_device::PageDevice;
+use record_pages::{Answer, Key, MissCause, Tier, Value};
+use set_hash::Placed;
+use std::alloc::AllocError;
+
+impl<D: PageDevice<PAGE>, const PAGE: usize> Store<D, PAGE> {
+    /// The value of a key with the first tier that has it: memory, the log, its set. A fault of the device, or a page that
+    /// is not the expected one, ends the search, and changes nothing. `AllocError` changes nothing either.
+    pub fn get(&mut self, key: &Key) -> Result<Answer, AllocError>
+        ensures reads { OnlyReads D.honest D.failures D.held self.old (is_fault result) self.new }
+        ensures out_of_memory { OnErr result (KeepsTiers self.old self.new) }
+        ensures gives { IsTrue (D.honest self.old.device) → IfOk result (λ answer. StepGives
+            (get_step key.now (lane_of D.held self.old)) (lane_of D.held self.old) answer
+            (lane_of D.held self.new)) }
+        ensures visible { IsTrue (D.honest self.old.device) →
+            IfOk result (TellsVisible key.now (lane_of D.held self.old)) }
+        ensures in_memory { IsSome (value_in key.now self.old.memory.pairs) →
+            self.new.device ≡ self.old.device }
+        ensures unasked { IfThen (AsksNothing key.now self.old)
+            (self.new.device ≡ self.old.device) }
+        ensures missed { IfOk result (λ answer. KeepsIfMiss answer self.old self.new) }
+        ensures in_buffer { IfOk result (λ answer. HitsInLog key.now answer self.old self.new
+            (self.new.device ≡ self.old.device)) }
+        ensures shows { IsTrue (D.honest self.old.device) →
+            OnOk result (ShowsFrom None None (lane_of D.held self.old) (lane_of D.held self.new)) }
+    {
+        if let Some(value) = self.recall(key)? {
+            return Ok(Answer::Hit(value, Tier::Memory));
+        }
+        let answer = self.look_below(key)?;
+        Ok(answer)
+    }
+
+    // The value that memory has of a key, whose pair comes to the front.
+    fn recall(&mut self, key: &Key) -> Result<Option<Value>, AllocError>
+        ensures out_of_memory { OnErr result (self.new ≡ self.old) }
+        ensures found { IfOk result (λ found. found ≡ value_in key.now self.old.memory.pairs) }
+        ensures raised { IfOk result (λ found.
+            self.new ≡ record self.old { memory = after_get key.now self.old.memory }) }
+    {
+        let Some(found) = self.memory.peek(key) else {
+            return Ok(None);
+        };
+        let value = found.try_clone()?;
+        let _raised = self.memory.get(key);
+        Ok(Some(value))
+    }
+
+    // What the tiers on flash say of a key.
+    fn look_below(&mut self, key: &Key) -> Result<Answer, AllocError>
+        ensures reads { OnlyReads D.honest D.failures D.held self.old (is_fault result) self.new }
+        ensures out_of_memory { OnErr result (KeepsTiers self.old self.new) }
+        ensures unasked { IfThen (AsksNothing key.now self.old)
+            (self.new.device ≡ self.old.device) }
+        ensures missed { IfOk result (λ answer. KeepsIfMiss answer self.old self.new) }
+        ensures in_buffer { IfOk result (λ answer. HitsInLog key.now answer self.old self.new
+            (self.new.device ≡ self.old.device)) }
+        ensures gives { IsTrue (D.honest self.old.device) → IfOk result (λ answer. StepGives
+            (ask_log key.now (lane_of D.held self.old)) (lane_of D.held self.old) answer
+            (lane_of D.held self.new)) }
+    {
+        let placed = self.place(key);
+        match self.look_log(&placed, key)? {
+            klog::Looked::Hit(value) => Ok(Answer::Hit(value, Tier::Log)),
+            klog::Looked::Fault => Ok(Answer::Miss(MissCause::Fault)),
+            klog::Looked::Damaged => Ok(Answer::Miss(MissCause::Damaged)),
+            klog::Looked::Absent => {
+                let answer = self.look_set(&placed, key)?;
+                Ok(answer)
+            }
+        }
+    }
+
+    // What the log says of a key.
+    fn look_log(&mut self, placed: &Placed, key: &Key) -> Result<klog::Looked, AllocError>
+        requires { placed.now ≡ place_in self.old.log.shape key.now }
+        ensures reads { OnlyReads D.honest D.failures D.held self.old (is_log_fault result) self.new }
+        ensures keeps { KeepsUnlessHit result self.old self.new }
+        ensures unasked { IfThen (AreBuffered self.old.log
+            (of_tag placed.now.set placed.now.tag self.old.log.entries))
+            (self.new.device ≡ self.old.device) }
+        ensures in_buffer { LogLookLeaves self.old.log placed.now.set placed.now.tag result
+            self.new.log (self.new.device ≡ self.old.device) }
+        ensures tells { IsTrue (D.honest self.old.device) → IfOk result (λ looked. LogTells key.now
+            (lane_of D.held self.old) looked (lane_of D.held self.new)) }
+    {
+        let looked = self.log.look(self.alloc, &mut self.device, placed, key)?;
+        Ok(looked)
+    }
+
+    // What the set of a key says of it.
+    fn look_set(&mut self, placed: &Placed, key: &Key) -> Result<Answer, AllocError>
+        requires at { placed.now ≡ place_in self.old.log.shape key.now }
+        requires its { IsPlaceIn self.old.sets placed.now }
+        ensures reads { OnlyReads D.honest D.failures D.held self.old (is_fault result) self.new }
+        ensures out_of_memory { OnErr result (KeepsTiers self.old self.new) }
+        ensures unasked { IfThen
+            (lets_show (notes_of self.old.sets placed.now.set) placed.now.hash ≡ false)
+            (self.new.device ≡ self.old.device) }
+        ensures missed { IfOk result (λ answer. KeepsIfMiss answer self.old self.new) }
+        ensures not_of_log { IfOk result IsNotOfLog }
+        ensures gives { IsTrue (D.honest self.old.device) → IfOk result (λ answer. StepGives
+            (ask_set key.now (lane_of D.held self.old)) (lane_of D.held self.old) answer
+            (lane_of D.held self.new)) }
+    {
+        let looked = self.sets.look(self.alloc, &mut self.device, placed, key)?;
+        Ok(answer_of_set(looked))
+    }
+}
+
+// The answer by what a set says.
+fn answer_of_set(looked: kset::Looked) -> Answer
+    ensures { result ≡ answer_of_set looked }
+{
+    match looked {
+        kset::Looked::Hit(value) => Answer::Hit(value, Tier::Set),
+        kset::Looked::Absent => Answer::Miss(MissCause::Absent),
+        kset::Looked::Fault => Answer::Miss(MissCause::Fault),
+        kset::Looked::Damaged => Answer::Miss(MissCause::Damaged),
+    }
+}

@@ -1,0 +1,60 @@
+// Removing a key.
+ghost use Rattle.std.specs.Prelude.{◌≡◌, None, Some, IsTrue};
+ghost use Rattle.klog.specs.Shown.{place_in};
+ghost use Rattle.kset.specs.Sets.{IsPlaceIn};
+ghost use Rattle.mover.specs.Lane.{lane_of};
+ghost use Rattle.mover.specs.Strike.{struck_at, removed};
+ghost use Rattle.mover.specs.Visible.{ShowsFrom, IsLogPlaced};
+
+use super::Store;
+use page_device::PageDevice;
+use record_pages::Key;
+use set_hash::{Placed, place};
+
+impl<D: PageDevice<PAGE>, const PAGE: usize> Store<D, PAGE> {
+    /// The key's pair leaves every tier. No call of the device is made, and no memory taken.
+    pub fn remove(&mut self, key: &Key)
+        ensures layout { self.new.layout ≡ self.old.layout }
+        ensures device { self.new.device ≡ self.old.device }
+        ensures removed { lane_of D.held self.new ≡ removed key.now (lane_of D.held self.old) }
+        ensures shows { IsTrue (D.honest self.old.device) →
+            ShowsFrom (Some key.now) None (lane_of D.held self.old) (lane_of D.held self.new) }
+    {
+        let placed = self.place(key);
+        self.memory.remove(key);
+        self.strike(&placed);
+    }
+
+    /// The key's pair leaves every tier, as `remove` has it. No call of the device is made, and no memory taken.
+    pub fn forget(&mut self, key: &Key)
+        ensures layout { self.new.layout ≡ self.old.layout }
+        ensures device { self.new.device ≡ self.old.device }
+        ensures removed { lane_of D.held self.new ≡ removed key.now (lane_of D.held self.old) }
+        ensures shows { IsTrue (D.honest self.old.device) →
+            ShowsFrom (Some key.now) None (lane_of D.held self.old) (lane_of D.held self.new) }
+    {
+        self.remove(key);
+    }
+
+    // Strikes the key of a place, in the log and in its set.
+    pub(super) fn strike(&mut self, placed: &Placed)
+        requires { IsPlaceIn self.old.sets placed.now }
+        ensures layout { self.new.layout ≡ self.old.layout }
+        ensures device { self.new.device ≡ self.old.device }
+        ensures struck { lane_of D.held self.new ≡ struck_at placed.now (lane_of D.held self.old) }
+    {
+        self.log.strike(placed);
+        self.sets.strike(placed);
+    }
+
+    // Where a key belongs.
+    pub(super) fn place(&self, key: &Key) -> Placed
+        ensures at { result ≡ place_in self.now.log.shape key.now }
+        ensures its { IsPlaceIn self.now.sets result }
+        ensures live { IsTrue (D.honest self.now.device) → IsLogPlaced (lane_of D.held self.now) }
+    {
+        // That live records are placed is known from the log's length.
+        let _live = self.log.len();
+        place(&self.layout, key.bytes())
+    }
+}

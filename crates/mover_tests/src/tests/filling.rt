@@ -1,0 +1,83 @@
+//! What finds no place.
+use super::*;
+
+const BOTH_SEGMENTS: [Step; 17] = [
+    Step::Put(b"ax", b"1", 0, Pushed::Nobody),
+    Step::Put(b"bx", b"2", 0, Pushed::Logged),
+    Step::Flush(Flushed::Sealed),
+    Step::Flush(Flushed::Wrote),
+    Step::Put(b"cx", b"3", 0, Pushed::Logged),
+    Step::Flush(Flushed::Sealed),
+    Step::Flush(Flushed::Wrote),
+    Step::Put(b"dx", b"4", 0, Pushed::Logged),
+    Step::Flush(Flushed::Sealed),
+    Step::Flush(Flushed::LogFull),
+    Step::Move(Moved::Written),
+    Step::Move(Moved::Freed),
+    Step::Flush(Flushed::Wrote),
+    Step::Flush(Flushed::Nothing),
+    Step::Get(b"ax", Found::Set(b"1")),
+    Step::Get(b"bx", Found::Set(b"2")),
+    Step::Get(b"cx", Found::Set(b"3")),
+];
+
+#[test]
+fn a_full_log_waits_for_a_move(rt: HostRuntime) -> Result<(), Fail> {
+    let alloc = rt.alloc();
+    let mut opened = store(alloc, &ONE_SET)?;
+    run(&rt, alloc, &mut opened, &BOTH_SEGMENTS)
+}
+
+const ONE_ENTRY: [Step; 5] = [
+    Step::Put(b"ax", b"1", 0, Pushed::Nobody),
+    Step::Put(b"bx", b"2", 0, Pushed::Logged),
+    Step::Put(b"cx", b"3", 0, Pushed::IndexFull),
+    Step::Get(b"bx", Found::Absent),
+    Step::Get(b"ax", Found::Log(b"1")),
+];
+
+const LARGE: [u8; 200] = [b'v'; 200];
+
+// The log's two buffers have a page each, and a page has room for one of these objects.
+const BOTH_BUFFERS: [Step; 7] = [
+    Step::Put(b"ax", &LARGE, 0, Pushed::Nobody),
+    Step::Put(b"bx", &LARGE, 0, Pushed::Logged),
+    Step::Put(b"cx", &LARGE, 0, Pushed::Logged),
+    Step::Put(b"dx", &LARGE, 0, Pushed::Full),
+    Step::Get(b"cx", Found::Absent),
+    Step::Get(b"bx", Found::Log(&LARGE)),
+    Step::Get(b"ax", Found::Log(&LARGE)),
+];
+
+#[test]
+fn what_finds_no_place_in_the_log_is_lost(rt: HostRuntime) -> Result<(), Fail> {
+    let alloc = rt.alloc();
+    let mut one_entry = store(
+        alloc,
+        &Config {
+            entries: 1,
+            ..ONE_SET
+        },
+    )?;
+    run(&rt, alloc, &mut one_entry, &ONE_ENTRY)?;
+    let mut both = store(alloc, &ONE_SET)?;
+    run(&rt, alloc, &mut both, &BOTH_BUFFERS)
+}
+
+const LARGEST: [u8; 233] = [b'v'; 233];
+
+const TOO_LARGE: [u8; 234] = [b'w'; 234];
+
+// A refused put leaves the older value.
+const BY_SIZE: [Step; 3] = [
+    Step::Put(b"a", &LARGEST, 0, Pushed::Nobody),
+    Step::TooLarge(b"a", &TOO_LARGE),
+    Step::Get(b"a", Found::Memory(&LARGEST)),
+];
+
+#[test]
+fn an_object_fits_on_a_page(rt: HostRuntime) -> Result<(), Fail> {
+    let alloc = rt.alloc();
+    let mut opened = store(alloc, &ONE_SET)?;
+    run(&rt, alloc, &mut opened, &BY_SIZE)
+}
