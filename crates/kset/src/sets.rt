@@ -162,9 +162,9 @@ impl<const PAGE: usize> KSet<PAGE> {
         self.sets[set as usize] = SetNotes::empty();
     }
 
-    /// The visible records of a set, in page order, each with whether it was hit. Nothing is read where the filter is
-    /// empty. Where the page is lost the set is forgotten; `AllocError` changes nothing, and comes only where there is
-    /// a record to copy.
+    /// The visible records of a set, in page order, each with whether it was hit: no more than a page holds, whatever
+    /// the device. Nothing is read where the filter is empty. Where the page is lost the set is forgotten; `AllocError`
+    /// changes nothing, and comes only where there is a record to copy.
     pub fn read_set<D: PageDevice<PAGE>>(
         &mut self,
         alloc: Global,
