@@ -1,6 +1,9 @@
 //! An index with a few entries, by each of its calls.
 ghost use Rattle.std.specs.Prelude.{◌≡◌};
 
+mod compared;
+mod plain_index;
+
 use klog_index::{Entry, IndexFull, LogIndex, Place};
 use record_pages::Prediction;
 use std::alloc::Global;

@@ -1,0 +1,213 @@
+// One list of calls on the packed index and on the plain one.
+ghost use Rattle.std.specs.Prelude.{◌≡◌, ◌<◌};
+
+use crate::tests::plain_index::PlainIndex;
+use klog_index::{Entry, LogIndex, Place};
+use record_pages::Prediction;
+use std::alloc::Global;
+use std::test::Fail;
+
+#[derive(Clone, Copy)]
+enum Act {
+    Add,
+    DropTag,
+    DropAt,
+    DropIn,
+    DropPage,
+    Lower,
+    LowerIn,
+}
+
+// What is done, and with which set, tag, segment, page and slot.
+type Step = (Act, u8, u16, u8, u8, u8);
+
+// Chains of one set and of equal tags; the head, the middle and the tail of both chains go, and nodes are taken again.
+const STEPS: [Step; 40] = [
+    (Act::Add, 2, 9, 200, 1, 0),
+    (Act::Add, 2, 9, 200, 0, 3),
+    (Act::Add, 1, 9, 7, 0, 1),
+    (Act::Add, 2, 8, 7, 1, 0),
+    (Act::Add, 2, 9, 7, 0, 0),
+    (Act::Lower, 0, 0, 7, 0, 0),
+    (Act::LowerIn, 2, 0, 7, 0, 0),
+    (Act::LowerIn, 1, 0, 7, 0, 0),
+    (Act::DropAt, 0, 0, 7, 1, 0),
+    (Act::DropAt, 0, 0, 7, 0, 0),
+    (Act::DropAt, 0, 0, 200, 1, 0),
+    (Act::Add, 3, 65535, 255, 63, 63),
+    (Act::Add, 3, 65535, 255, 63, 62),
+    (Act::Add, 3, 65535, 255, 63, 61),
+    (Act::DropIn, 3, 0, 255, 63, 62),
+    (Act::DropIn, 2, 0, 255, 63, 61),
+    (Act::DropIn, 3, 0, 255, 63, 63),
+    (Act::DropIn, 3, 0, 255, 63, 61),
+    (Act::DropTag, 2, 9, 0, 0, 0),
+    (Act::DropTag, 1, 8, 0, 0, 0),
+    (Act::DropTag, 1, 9, 0, 0, 0),
+    (Act::Add, 0, 1, 1, 1, 1),
+    (Act::Add, 0, 1, 1, 2, 1),
+    (Act::Add, 0, 2, 1, 1, 2),
+    (Act::Add, 1, 1, 1, 1, 3),
+    (Act::Add, 0, 1, 2, 1, 1),
+    (Act::Lower, 0, 0, 1, 2, 1),
+    (Act::DropPage, 0, 0, 1, 1, 0),
+    (Act::Add, 0, 1, 1, 1, 2),
+    (Act::DropTag, 0, 1, 0, 0, 0),
+    (Act::Add, 2, 0, 3, 0, 0),
+    (Act::Add, 2, 0, 3, 0, 1),
+    (Act::Add, 2, 0, 3, 0, 2),
+    (Act::Add, 2, 1, 3, 0, 3),
+    (Act::DropTag, 2, 0, 0, 0, 0),
+    (Act::DropPage, 0, 0, 3, 0, 0),
+    (Act::DropPage, 0, 0, 3, 1, 0),
+    (Act::Add, 1, 7, 4, 0, 0),
+    (Act::Add, 1, 7, 4, 0, 0),
+    (Act::DropTag, 1, 7, 0, 0, 0),
+];
+
+// A step of both; an entry's place is made free before it is added. The answers of `add` agree.
+fn step_both(index: &mut LogIndex, plain: &mut PlainIndex, step: Step) -> Result<bool, Fail>
+    requires { index.old.sets ≡ 256 }
+    ensures { index.new.sets ≡ 256 }
+{
+    let (act, set, tag, segment, page, slot) = step;
+    let set = u32::from(set);
+    let place = Place {
+        segment: u16::from(segment),
+        page: page % 64,
+        slot: slot % 64,
+    };
+    match act {
+        Act::Add => return add_both(index, plain, set, tag, place),
+        Act::Lower => lower_both(index, plain, place),
+        Act::LowerIn => lower_in_both(index, plain, set, place),
+        Act::DropTag => drop_tag_both(index, plain, set, tag),
+        Act::DropAt => drop_at_both(index, plain, place),
+        Act::DropIn => drop_in_both(index, plain, set, place),
+        Act::DropPage => drop_page_both(index, plain, place),
+    }
+    Ok(true)
+}
+
+fn lower_both(index: &mut LogIndex, plain: &mut PlainIndex, place: Place)
+    ensures { index.new.sets ≡ index.old.sets }
+{
+    index.lower(place);
+    plain.lower(place);
+}
+
+fn lower_in_both(index: &mut LogIndex, plain: &mut PlainIndex, set: u32, place: Place)
+    ensures { index.new.sets ≡ index.old.sets }
+{
+    index.lower_in(set, place);
+    plain.lower_in(set, place);
+}
+
+fn drop_tag_both(index: &mut LogIndex, plain: &mut PlainIndex, set: u32, tag: u16)
+    ensures { index.new.sets ≡ index.old.sets }
+{
+    index.drop_tag(set, tag);
+    plain.drop_tag(set, tag);
+}
+
+fn drop_at_both(index: &mut LogIndex, plain: &mut PlainIndex, place: Place)
+    ensures { index.new.sets ≡ index.old.sets }
+{
+    index.drop_at(place);
+    plain.drop_at(place);
+}
+
+fn drop_in_both(index: &mut LogIndex, plain: &mut PlainIndex, set: u32, place: Place)
+    ensures { index.new.sets ≡ index.old.sets }
+{
+    index.drop_in(set, place);
+    plain.drop_in(set, place);
+}
+
+fn drop_page_both(index: &mut LogIndex, plain: &mut PlainIndex, place: Place)
+    ensures { index.new.sets ≡ index.old.sets }
+{
+    index.drop_page(place.segment, place.page);
+    plain.drop_page(place.segment, place.page);
+}
+
+fn add_both(
+    index: &mut LogIndex,
+    plain: &mut PlainIndex,
+    set: u32,
+    tag: u16,
+    place: Place,
+) -> Result<bool, Fail>
+    requires sets { index.old.sets ≡ 256 }
+    requires set { set < 256 }
+    requires segment { place.segment < 258 }
+    requires page { place.page < 64 }
+    requires slot { place.slot < 64 }
+    ensures { index.new.sets ≡ 256 }
+{
+    let prediction = Prediction::new(6).unwrap();
+    index.drop_at(place);
+    plain.drop_at(place);
+    let added = index.add(set, tag, place, prediction).is_ok();
+    let entry = Entry {
+        set,
+        tag,
+        place,
+        prediction,
+    };
+    Ok(plain.add(entry)? == added)
+}
+
+// Whether both give the same answers.
+fn agree(index: &LogIndex, plain: &PlainIndex) -> bool {
+    index.len() == plain.len()
+        && index.oldest() == plain.oldest()
+        && (0..5).all(|set| agree_on_set(index, plain, set))
+        && [1, 2, 3, 4, 7, 200, 255, 9]
+            .iter()
+            .all(|s| index.first_of(*s) == plain.first_of(*s))
+}
+
+fn agree_on_set(index: &LogIndex, plain: &PlainIndex, set: u32) -> bool {
+    index.count(set) == plain.count(set)
+        && walk_agrees(index, plain, set)
+        && (0..6usize).all(|k| index.of_set(set, k) == plain.of_set(set, k))
+        && [0, 1, 2, 7, 8, 9, 65535]
+            .iter()
+            .all(|tag| agree_on_tag(index, plain, set, *tag))
+}
+
+fn walk_agrees(index: &LogIndex, plain: &PlainIndex, set: u32) -> bool {
+    let mut walk = index.entries_of(set);
+    for k in 0..6usize {
+        if walk.next() != plain.of_set(set, k) {
+            return false;
+        }
+    }
+    true
+}
+
+fn agree_on_tag(index: &LogIndex, plain: &PlainIndex, set: u32, tag: u16) -> bool {
+    (0..4usize).all(|k| index.find(set, tag, k) == plain.find(set, tag, k))
+}
+
+// Whether all steps leave both with the same answers, with room for so many entries.
+fn all_agree(alloc: Global, limit: u32) -> Result<bool, Fail>
+    requires { limit < 1000 }
+{
+    let mut index = LogIndex::open(alloc, 256, limit)?;
+    let mut plain = PlainIndex::open(alloc, limit);
+    for step in STEPS {
+        if !step_both(&mut index, &mut plain, step)? || !agree(&index, &plain) {
+            return Ok(false);
+        }
+    }
+    Ok(true)
+}
+
+#[test]
+fn both_give_the_same_answers(rt: HostRuntime) -> Result<(), Fail> {
+    assert!(rt; all_agree(rt.alloc(), 1)?);
+    assert!(rt; all_agree(rt.alloc(), 64)?);
+    Ok(())
+}
