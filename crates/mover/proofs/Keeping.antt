@@ -1,5 +1,5 @@
 -- What keeps a store.
-use Rattle.std.proofs.Common.{◌≡◌, ◌≤◌, ◌+◌, ◌*◌, ℕ, List, Option, Some, None, Bool, not, refl, sym, ap, subst, ◌∙◌, arith}
+use Rattle.std.proofs.Common.{◌≡◌, ◌≤◌, ◌+◌, ◌*◌, ℕ, List, [], Option, Some, None, Bool, not, refl, sym, ap, subst, ◌∙◌, arith}
 use Rattle.std.specs.Prelude.{IsTrue, All}
 use Rattle.page_device.specs.Frames.{pages_before, pages_from}
 use Rattle.std.specs.Str.{bytes_eq}
@@ -13,14 +13,21 @@ use Rattle.mover.proofs.Listing.{found_in}
 use Rattle.klog.specs.Log.{LogState, Shape, shape_of, opening_log}
 use Rattle.klog.specs.Shown.{IsSpelled, IsSpelledOn}
 use Rattle.kset.specs.Notes.{no_notes}
-use Rattle.kset.specs.Sets.{SetsState, set_count, opening_sets}
-use Rattle.kset.specs.Pages.{AreSpelled, AreSpelledOn}
+use Rattle.kset.specs.Sets.{SetsState, set_count, notes_of, opening_sets}
+use Rattle.kset.specs.Pages.{AreSpelled, AreSpelledOn, records_on}
+use Rattle.kset.specs.Shown.{visible_in, visible_from}
+use Rattle.kset.specs.Laws.{AreOfTheirSets, IsKeyOf}
+use Rattle.record_pages.specs.Recs.{Rec}
 use Rattle.mover.specs.Store.{StoreState, IsStore, IsSmall}
 
 -- the same first pages spell the same sets
 pub sets_framed : (size : ℕ) (old new : ℕ → Option (List ℕ)) (q : SetsState) → pages_before (set_count q) new ≡ pages_before (set_count q) old →
     AreSpelledOn size old q → AreSpelledOn size new q
 sets_framed size old new q frame spelled = subst (λ pages. AreSpelled size pages q) (sym frame) spelled
+
+-- and show the same
+pub visible_framed : (old new : ℕ → Option (List ℕ)) (q : SetsState) → pages_before (set_count q) new ≡ pages_before (set_count q) old → visible_in new q ≡ visible_in old q
+visible_framed old new q frame = λ i set. visible_from (notes_of q set) 0 (records_on (frame i set))
 
 -- the same later pages spell the same log
 pub log_framed : (size : ℕ) (old new : ℕ → Option (List ℕ)) (k : LogState) → pages_from k.shape.sets new ≡ pages_from k.shape.sets old →
@@ -32,8 +39,9 @@ module _ {D : Type 0} (size : ℕ) (pages : D → ℕ) (honest : D → Bool) (he
   pub kept_flash : (d : D) (k : LogState) (q : SetsState) → k.shape ≡ s.log.shape → set_count q ≡ set_count s.sets → pages d ≡ pages s.device → honest d ≡ honest s.device →
       (IsTrue (honest s.device) → IsSpelledOn size (held s.device) s.log → IsSpelledOn size (held d) k) →
       (IsTrue (honest s.device) → AreSpelledOn size (held s.device) s.sets → AreSpelledOn size (held d) q) →
+      (IsTrue (honest s.device) → AreOfTheirSets s.log.shape.lanes s.log.shape.sets (visible_in (held s.device) s.sets) → AreOfTheirSets s.log.shape.lanes s.log.shape.sets (visible_in (held d) q)) →
       IsStore size pages honest held (record s { device = d; log = k; sets = q })
-  kept_flash d k q shape sizes same_pages same_honesty log sets = record {
+  kept_flash d k q shape sizes same_pages same_honesty log sets placed = record {
     page_size = was.page_size;
     shape = shape ∙ was.shape;
     counted = sizes ∙ was.counted;
@@ -44,6 +52,8 @@ module _ {D : Type 0} (size : ℕ) (pages : D → ℕ) (honest : D → Bool) (he
     numbered = was.numbered;
     log_spelled = λ is. let before : IsTrue (honest s.device) = sym same_honesty ∙ is in log before (was.log_spelled before);
     sets_spelled = λ is. let before : IsTrue (honest s.device) = sym same_honesty ∙ is in sets before (was.sets_spelled before);
+    sets_placed = λ is. let before : IsTrue (honest s.device) = sym same_honesty ∙ is in
+        subst (λ (h : Shape). AreOfTheirSets h.lanes h.sets (visible_in (held d) q)) (sym shape) (placed before (was.sets_placed before));
   }
 
   -- the sets and the log count the same sets
@@ -55,12 +65,14 @@ module _ {D : Type 0} (size : ℕ) (pages : D → ℕ) (honest : D → Bool) (he
       (IsTrue (honest s.device) → IsSpelledOn size (held s.device) s.log → IsSpelledOn size (held d) k) → IsStore size pages honest held (record s { device = d; log = k })
   kept_log_read d k shape same_pages same_honesty same log =
       kept_flash d k s.sets shape refl same_pages same_honesty log (λ is spelled. subst (λ on. AreSpelledOn size on s.sets) (sym (same is)) spelled)
+      (λ is placed. subst (λ on. AreOfTheirSets s.log.shape.lanes s.log.shape.sets (visible_in on s.sets)) (sym (same is)) placed)
 
   -- a call that reads a set
   pub kept_set_read : (d : D) (q : SetsState) → set_count q ≡ set_count s.sets → pages d ≡ pages s.device → honest d ≡ honest s.device → (IsTrue (honest s.device) → held d ≡ held s.device) →
-      (IsTrue (honest s.device) → AreSpelledOn size (held s.device) s.sets → AreSpelledOn size (held d) q) → IsStore size pages honest held (record s { device = d; sets = q })
-  kept_set_read d q sizes same_pages same_honesty same sets =
-      kept_flash d s.log q refl sizes same_pages same_honesty (λ is spelled. subst (λ on. IsSpelledOn size on s.log) (sym (same is)) spelled) sets
+      (IsTrue (honest s.device) → AreSpelledOn size (held s.device) s.sets → AreSpelledOn size (held d) q) →
+      (IsTrue (honest s.device) → AreOfTheirSets s.log.shape.lanes s.log.shape.sets (visible_in (held s.device) s.sets) → AreOfTheirSets s.log.shape.lanes s.log.shape.sets (visible_in (held d) q)) → IsStore size pages honest held (record s { device = d; sets = q })
+  kept_set_read d q sizes same_pages same_honesty same sets placed =
+      kept_flash d s.log q refl sizes same_pages same_honesty (λ is spelled. subst (λ on. IsSpelledOn size on s.log) (sym (same is)) spelled) sets placed
 
   -- a call that changes memory, and keeps its capacity and small objects in it
   pub kept_memory : (m : MemoryList) → m.capacity ≡ s.memory.capacity → All (IsSmall size) m.pairs → IsStore size pages honest held (record s { memory = m })
@@ -74,6 +86,7 @@ module _ {D : Type 0} (size : ℕ) (pages : D → ℕ) (honest : D → Bool) (he
     numbered = was.numbered;
     log_spelled = was.log_spelled;
     sets_spelled = was.sets_spelled;
+    sets_placed = was.sets_placed;
   }
 
 -- small objects stay small ones where one leaves
@@ -84,9 +97,9 @@ small_removed size old new key after small =
 -- what a store is kept by at first: nothing is in its tiers
 pub opened : {D : Type 0} (size : ℕ) (pages : D → ℕ) (honest : D → Bool) (held : D → ℕ → Option (List ℕ)) (layout : Layout) (d : D) (m : MemoryList) (k : LogState) (q : SetsState) → IsPageSize size →
     m ≡ empty layout.memory → k ≡ opening_log (shape_of layout) → q ≡ opening_sets layout.sets → layout.sets + layout.segments * layout.segment_pages ≤ pages d →
-    ((on : ℕ → Option (List ℕ)) → IsSpelledOn size on k) → ((on : ℕ → Option (List ℕ)) → AreSpelledOn size on q) →
+    ((on : ℕ → Option (List ℕ)) → IsSpelledOn size on k) → ((on : ℕ → Option (List ℕ)) → AreSpelledOn size on q) → ((on : ℕ → Option (List ℕ)) (set : ℕ) → visible_in on q set ≡ []) →
     IsStore size pages honest held (record { layout = layout; device = d; memory = m; log = k; sets = q; moves = 0 })
-opened size pages honest held layout d m k q page_size memory log sets fits log_spelled sets_spelled = record {
+opened size pages honest held layout d m k q page_size memory log sets fits log_spelled sets_spelled shown = record {
   page_size = page_size;
   shape = ap (λ (x : LogState). x.shape) log;
   counted = ap set_count sets ∙ length-replicate layout.sets no_notes;
@@ -95,6 +108,8 @@ opened size pages honest held layout d m k q page_size memory log sets fits log_
   room = subst (λ (h : Shape). h.sets + h.segments * h.segment_pages ≤ pages d) (sym (ap (λ (x : LogState). x.shape) log)) fits;
   log_spelled = λ _. log_spelled (held d);
   sets_spelled = λ _. sets_spelled (held d);
+  sets_placed = λ _ set.
+      subst (λ (xs : List (ℕ × Rec)). All (λ (x : ℕ × Rec). IsKeyOf k.shape.lanes k.shape.sets set x.1.key) xs) (sym (shown (held d) set)) (All-nil (λ (x : ℕ × Rec). IsKeyOf k.shape.lanes k.shape.sets set x.1.key));
   numbered = omega arith;
 }
 

@@ -11,3 +11,4 @@ pub mod Committing
 pub mod Filling
 pub mod MovingShows
 pub mod Ending
+pub mod Gathering

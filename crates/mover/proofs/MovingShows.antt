@@ -183,7 +183,7 @@ module _ (size least : ℕ) (lane : LaneState) where
       by_room false = λ p here. here
 
   -- a job is that of the next move, of some set
-  abbrev IsNext : Step Begun → Type 0
+  abbrev pub IsNext : Step Begun → Type 0
   IsNext step = (moving : Moving) → step.reply ≡ begun.Move moving → (set : ℕ) × (moving ≡ moving_of lane set) × (step.lane ≡ lane_counted lane)
 
   entry_next : (e : Entry) (j : Judgement) → IsNext (entry_step size lane e j)
@@ -202,7 +202,7 @@ module _ (size least : ℕ) (lane : LaneState) where
   oldest_next oldest.Empty = λ moving is. absurd cc
   oldest_next (oldest.First e) = entry_next e (judged least lane e)
 
-  begin_next : IsNext (begin_step size least lane)
+  pub begin_next : IsNext (begin_step size least lane)
   begin_next = by_room (nat_lt lane.moves most_moves)
     where
       by_room : (b : Bool) → IsNext (cond {A = Step Begun} b (oldest_step size least lane (oldest_in lane.log)) (record { reply = begun.Nothing; lane = lane }))

@@ -1,5 +1,5 @@
 -- How a move ends.
-use Rattle.std.specs.Prelude.{ℕ, List, [], ◌++◌, map, slice_index_or, true, false}
+use Rattle.std.specs.Prelude.{ℕ, List, [], ◌++◌, map, slice_index_or, All, true, false}
 use Rattle.std.specs.List.{enumerate_from}
 use Rattle.record_pages.specs.Recs.{Rec, rec, size}
 use Rattle.record_pages.specs.Sizes.{room}
@@ -7,6 +7,8 @@ use Rattle.policy_laws.specs.declared.item.Item.{Item}
 use Rattle.policy_laws.specs.declared.choice.Choice.{Choice}
 use Rattle.policy_laws.specs.declared.job.Job.{Job}
 use Rattle.klog.specs.declared.taken_record.TakenRecord.{TakenRecord}
+use Rattle.klog.specs.Log.{Shape}
+use Rattle.kset.specs.Laws.{IsKeyOf}
 use Rattle.kset.specs.declared.set_record.SetRecord.{SetRecord}
 use Rattle.kset.specs.declared.rewritten.Rewritten.{Rewritten}
 use Rattle.kset.specs.declared.rewritten.Rewritten.TheVariants as rewritten
@@ -61,3 +63,7 @@ lane_rewritten set rs rewritten.Forgotten lane = lane_unwritten set lane
 abbrev pub committed : Moving → List Choice → Rewritten → LaneState → LaneState
 committed moving plan rewritten lane =
     lane_without moving.set moving.taken (lane_rewritten moving.set (planned_of moving plan) rewritten lane)
+
+-- the keys of a move's records belong to its set
+abbrev pub AreOfSet : Shape → Moving → Type 0
+AreOfSet shape moving = All (λ r. IsKeyOf shape.lanes shape.sets moving.set r.key) (records_of moving)

@@ -11,6 +11,8 @@ use Rattle.klog.specs.Names.{HasRoom}
 use Rattle.klog.specs.Shown.{IsSpelledOn}
 use Rattle.kset.specs.Sets.{SetsState, set_count, opening_sets}
 use Rattle.kset.specs.Pages.{AreSpelledOn}
+use Rattle.kset.specs.Shown.{visible_in}
+use Rattle.kset.specs.Laws.{AreOfTheirSets}
 
 -- a layout, a device, the three tiers as memory sees them, and how many moves began
 pub record StoreState (D : Type 0) : Type 0 where
@@ -30,7 +32,8 @@ abbrev pub IsSmall : ℕ → Pair → Type 0
 IsSmall size p = object_size p.key p.value ≤ room size
 
 -- What is true of every store. Its tiers have the layout's numbers and the device has their pages; each object in memory
--- fits on a page; and where the device is honest, each live and each visible record is on a known page or in a buffer.
+-- fits on a page; and where the device is honest, each live and each visible record is on a known page or in a buffer,
+-- and each visible record is in the set of its key.
 pub record IsStore {D : Type 0} (size : ℕ) (pages : D → ℕ) (honest : D → Bool) (held : D → ℕ → Option (List ℕ)) (s : StoreState D) : Type 0 where
   pub page_size : IsPageSize size
   pub shape : s.log.shape ≡ shape_of s.layout
@@ -41,6 +44,7 @@ pub record IsStore {D : Type 0} (size : ℕ) (pages : D → ℕ) (honest : D →
   pub numbered : s.moves ≤ most_moves
   pub log_spelled : IsTrue (honest s.device) → IsSpelledOn size (held s.device) s.log
   pub sets_spelled : IsTrue (honest s.device) → AreSpelledOn size (held s.device) s.sets
+  pub sets_placed : IsTrue (honest s.device) → AreOfTheirSets s.log.shape.lanes s.log.shape.sets (visible_in (held s.device) s.sets)
 
 -- the device has fewer pages than a configuration asks for
 abbrev pub IsTooSmall : Config → ℕ → Type 0

@@ -5,6 +5,7 @@ use Rattle.record_pages.specs.declared.answer.Answer.{Answer}
 use Rattle.record_pages.specs.declared.answer.Answer.TheVariants.{Hit, Miss}
 use Rattle.memory_cache.specs.declared.pair.Pair.{Pair}
 use Rattle.klog.specs.Shown.{place_in, ArePlaced}
+use Rattle.kset.specs.Laws.{AreOfTheirSets}
 use Rattle.mover.specs.Lane.{LaneState}
 
 -- a record's pair
@@ -30,6 +31,10 @@ ShowsFrom struck put old new =
 -- the key of each live record has its entry's set and tag
 abbrev pub IsLogPlaced : LaneState → Type 0
 IsLogPlaced lane = ArePlaced lane.log.shape lane.live
+
+-- the key of each visible record of a set belongs to that set
+abbrev pub AreSetsPlaced : LaneState → Type 0
+AreSetsPlaced lane = AreOfTheirSets lane.log.shape.lanes lane.log.shape.sets lane.visible
 
 -- a hit is the value of a visible pair of the key
 abbrev pub TellsVisible : List ℕ → LaneState → Answer → Type 0

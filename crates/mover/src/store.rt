@@ -66,7 +66,7 @@ impl<D: PageDevice<PAGE>, const PAGE: usize> Store<D, PAGE> {
     ghost use Rattle.std.specs.Prelude.{IsTrue};
     ghost use Rattle.mover.specs.Store.{opening, IsTooSmall, IsStore};
     ghost use Rattle.mover.specs.Lane.{lane_of};
-    ghost use Rattle.mover.specs.Visible.{IsLogPlaced};
+    ghost use Rattle.mover.specs.Visible.{IsLogPlaced, AreSetsPlaced};
 
     /// An empty store of this configuration over a device. Its refusals are tested in the order of `OpenFault`, and the
     /// device is dropped with each.
@@ -110,6 +110,8 @@ impl<D: PageDevice<PAGE>, const PAGE: usize> Store<D, PAGE> {
         // What is true of every store.
         ensures kept { IsStore PAGE D.page_count D.honest D.held self.now }
         ensures placed { IsTrue (D.honest self.now.device) → IsLogPlaced (lane_of D.held self.now) }
+        ensures sets_placed { IsTrue (D.honest self.now.device) →
+            AreSetsPlaced (lane_of D.held self.now) }
     {
         // That live records are placed is known from the log's length.
         let _live = self.log.len();

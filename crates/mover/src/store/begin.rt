@@ -15,7 +15,7 @@ use crate::moving::Moving;
 use admission::{Judgement, Threshold};
 use klog::{Oldest, Readmitted, SetTaken};
 use klog_index::Entry;
-use kset::SetRead;
+use kset::{SetRead, readings_keep_sets};
 use page_device::PageDevice;
 use std::alloc::AllocError;
 
@@ -103,6 +103,7 @@ impl<D: PageDevice<PAGE>, const PAGE: usize> Store<D, PAGE> {
         ensures gives { IsTrue (D.honest self.old.device) → IfOk result (λ read.
             LaneReads set (lane_of D.held self.old) read (lane_of D.held self.new)) }
     {
+        readings_keep_sets();
         let read = self.sets.read_set(self.alloc, &mut self.device, set)?;
         Ok(read)
     }

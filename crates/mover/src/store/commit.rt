@@ -1,17 +1,18 @@
 // How a move ends.
-ghost use Rattle.std.specs.Prelude.{◌≡◌, ◌<◌, [], IsTrue};
+ghost use Rattle.std.specs.Prelude.{◌≡◌, ◌<◌, [], All, IsTrue};
 ghost use Rattle.page_device.specs.Device.{faults_after};
 ghost use Rattle.record_pages.specs.Sizes.{IsPageSize};
 ghost use Rattle.policy_laws.specs.Laws.{IsLawful};
+ghost use Rattle.kset.specs.Laws.{IsKeyOf};
 ghost use Rattle.kset.specs.Rewrite.{is_forgotten};
 ghost use Rattle.mover.specs.Lane.{lane_of};
 ghost use Rattle.mover.specs.Begin.{lane_without};
-ghost use Rattle.mover.specs.Commit.{lane_rewritten, job_of, planned_of, committed};
+ghost use Rattle.mover.specs.Commit.{lane_rewritten, job_of, planned_of, committed, AreOfSet};
 
 use super::Store;
 use crate::moving::Moving;
 use klog::TakenRecords;
-use kset::Rewritten;
+use kset::{Rewritten, rewritings_keep_sets};
 use page_device::PageDevice;
 use policy_laws::Plan;
 use record_pages::{RecordRef, SetPageWriter};
@@ -19,7 +20,9 @@ use record_pages::{RecordRef, SetPageWriter};
 impl<D: PageDevice<PAGE>, const PAGE: usize> Store<D, PAGE> {
     // Writes the page of a set anew.
     fn rewrite(&mut self, set: u32, writer: &SetPageWriter<PAGE>) -> Rewritten
-        requires { set < self.old.layout.sets }
+        requires set { set < self.old.layout.sets }
+        requires placed { IsTrue (D.honest self.old.device) → All (λ r. IsKeyOf
+            self.old.log.shape.lanes self.old.log.shape.sets set r.key) writer.now }
         ensures layout { self.new.layout ≡ self.old.layout }
         ensures honest { D.honest self.new.device ≡ D.honest self.old.device }
         ensures faults { D.failures self.new.device
@@ -27,6 +30,7 @@ impl<D: PageDevice<PAGE>, const PAGE: usize> Store<D, PAGE> {
         ensures gives { IsTrue (D.honest self.old.device) → lane_of D.held self.new
             ≡ lane_rewritten set writer.now result (lane_of D.held self.old) }
     {
+        rewritings_keep_sets();
         self.sets.rewrite(&mut self.device, set, writer)
     }
 
@@ -46,6 +50,8 @@ impl<D: PageDevice<PAGE>, const PAGE: usize> Store<D, PAGE> {
     pub(super) fn commit(&mut self, moving: &Moving, plan: &Plan) -> Rewritten
         requires set { moving.now.set < self.old.layout.sets }
         requires lawful { IsLawful (job_of PAGE moving.now) plan.now }
+        requires placed { IsTrue (D.honest self.old.device) →
+            AreOfSet self.old.log.shape moving.now }
         ensures layout { self.new.layout ≡ self.old.layout }
         ensures honest { D.honest self.new.device ≡ D.honest self.old.device }
         ensures faults { D.failures self.new.device

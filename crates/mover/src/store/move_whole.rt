@@ -7,7 +7,7 @@ ghost use Rattle.mover.specs.Store.{KeepsTiers, most_moves};
 ghost use Rattle.mover.specs.Lane.{lane_of};
 ghost use Rattle.mover.specs.Visible.{ShowsFrom};
 ghost use Rattle.mover.specs.Begin.{lane_counted, begin_step};
-ghost use Rattle.mover.specs.Commit.{job_of, committed};
+ghost use Rattle.mover.specs.Commit.{job_of, committed, AreOfSet};
 ghost use Rattle.mover.specs.Whole.{MoveGives, IsPlanned, IfMoved, is_failed};
 
 use super::Store;
@@ -65,6 +65,8 @@ impl<D: PageDevice<PAGE>, const PAGE: usize> Store<D, PAGE> {
             IfOk result (λ moved. IfMoved moved (IsPlanned PAGE (P.plan_of policy.now)
             (begin_step PAGE self.old.layout.threshold (lane_of D.held self.old)).reply)) }
     {
+        // Where the records of the lane are placed, so are those of a move.
+        let _layout = self.layout();
         match self.begin()? {
             Begun::Nothing => Ok(Moved::Nothing),
             Begun::Freed => Ok(Moved::Freed),
@@ -84,7 +86,9 @@ impl<D: PageDevice<PAGE>, const PAGE: usize> Store<D, PAGE> {
         moving: &Moving,
         policy: &P,
     ) -> Result<Rewritten, AllocError>
-        requires { moving.now.set < self.old.layout.sets }
+        requires set { moving.now.set < self.old.layout.sets }
+        requires placed { IsTrue (D.honest self.old.device) →
+            AreOfSet self.old.log.shape moving.now }
         ensures layout { self.new.layout ≡ self.old.layout }
         ensures honest { D.honest self.new.device ≡ D.honest self.old.device }
         ensures err { OnErr result (self.new ≡ self.old) }

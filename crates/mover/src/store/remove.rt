@@ -7,6 +7,7 @@ ghost use Rattle.mover.specs.Strike.{struck_at, removed};
 ghost use Rattle.mover.specs.Visible.{ShowsFrom, IsLogPlaced};
 
 use super::Store;
+use kset::strikes_keep_sets;
 use page_device::PageDevice;
 use record_pages::Key;
 use set_hash::{Placed, place};
@@ -43,6 +44,7 @@ impl<D: PageDevice<PAGE>, const PAGE: usize> Store<D, PAGE> {
         ensures device { self.new.device ≡ self.old.device }
         ensures struck { lane_of D.held self.new ≡ struck_at placed.now (lane_of D.held self.old) }
     {
+        strikes_keep_sets();
         self.log.strike(placed);
         self.sets.strike(placed);
     }

@@ -13,7 +13,7 @@ invariant_of-self g c =
     let s = c.self.inside in
     let d = g.D.PageDevice in
     kept_flash g.row.PAGE d.page_count d.honest d.held (record { layout = s.layout; device = s.device; memory = s.memory; log = s.log; sets = s.sets; moves = s.moves }) c.self.invariant
-    s.device c.append-appended.new.self s.sets c.append-appended.ensures.shape refl refl refl (λ is. c.append-appended.ensures.spelled (d.held s.device)) (λ is spelled. spelled)
+    s.device c.append-appended.new.self s.sets c.append-appended.ensures.shape refl refl refl (λ is. c.append-appended.ensures.spelled (d.held s.device)) (λ is spelled. spelled) (λ is placed. placed)
 
 pub returns-clause-gives : goal.returns-clause-gives
 returns-clause-gives g c = λ is.

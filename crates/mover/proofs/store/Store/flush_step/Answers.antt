@@ -3,9 +3,10 @@ use Rattle.std.specs.Prelude.{IsTrue}
 use Rattle.mover.specs.Store.{StoreState}
 use Rattle.mover.specs.Lane.{lane_of}
 use Rattle.mover.specs.Flush.{LaneFlushes}
-use Rattle.mover.proofs.Keeping.{kept_flash, sets_framed, counted_alike}
+use Rattle.mover.proofs.Keeping.{kept_flash, sets_framed, visible_framed, counted_alike}
 use Rattle.mover.proofs.Showing.{no_more, flush_shows}
 use Rattle.mover.proofs.Putting.{lane_flushed}
+use Rattle.kset.specs.Laws.{AreOfTheirSets}
 use Rattle.mover.proofs.store.Store.flush_step.Goals as goal
 
 pub invariant_of-self : goal.invariant_of-self
@@ -17,6 +18,7 @@ invariant_of-self g c =
     kept_flash g.row.PAGE d.page_count d.honest d.held old c.self.invariant
     c.flush_step.new.device c.flush_step.new.self s.sets c.flush_step.ensures.shape refl c.flush_step.ensures.pages c.flush_step.ensures.honest c.flush_step.ensures.spelled
     (λ is. sets_framed g.row.PAGE (d.held s.device) (d.held c.flush_step.new.device) s.sets (rw count (c.flush_step.ensures.apart is)))
+    (λ is placed. subst (AreOfTheirSets s.log.shape.lanes s.log.shape.sets) (sym (visible_framed (d.held s.device) (d.held c.flush_step.new.device) s.sets (rw count (c.flush_step.ensures.apart is)))) placed)
 
 pub returns-clause-gives : goal.returns-clause-gives
 returns-clause-gives g c = λ is.

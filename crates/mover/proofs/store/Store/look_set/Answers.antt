@@ -7,6 +7,7 @@ use Rattle.klog.specs.Shown.{place_in}
 use Rattle.mover.specs.Get.{StepGives, ask_set, answer_of_set}
 use Rattle.mover.proofs.Keeping.{kept_set_read}
 use Rattle.mover.proofs.Getting.{set_told}
+use Rattle.kset.specs.Laws.{AreOfTheirSets}
 use Rattle.mover.proofs.store.Store.look_set.Goals as goal
 
 pub invariant_of-self : goal.invariant_of-self
@@ -15,6 +16,7 @@ invariant_of-self g c =
     let d = g.D.PageDevice in
     kept_set_read g.row.PAGE d.page_count d.honest d.held (record { layout = s.layout; device = s.device; memory = s.memory; log = s.log; sets = s.sets; moves = s.moves }) c.self.invariant
     c.look.new.device c.look.new.self c.look.ensures.keeps.sizes c.look.ensures.keeps.pages c.look.ensures.keeps.honest c.look.ensures.same c.look.ensures.keeps.spelled
+    (λ is placed. subst (AreOfTheirSets s.log.shape.lanes s.log.shape.sets) (sym (c.look.ensures.shown is)) placed)
 
 pub invariant_of-self-2 : goal.invariant_of-self-2
 invariant_of-self-2 g c =
@@ -22,6 +24,7 @@ invariant_of-self-2 g c =
     let d = g.D.PageDevice in
     kept_set_read g.row.PAGE d.page_count d.honest d.held (record { layout = s.layout; device = s.device; memory = s.memory; log = s.log; sets = s.sets; moves = s.moves }) c.self.invariant
     c.look.new.device c.look.new.self c.look.ensures.keeps.sizes c.look.ensures.keeps.pages c.look.ensures.keeps.honest c.look.ensures.same c.look.ensures.keeps.spelled
+    (λ is placed. subst (AreOfTheirSets s.log.shape.lanes s.log.shape.sets) (sym (c.look.ensures.shown is)) placed)
 
 pub returns-clause-gives : goal.returns-clause-gives
 returns-clause-gives g c = λ is.

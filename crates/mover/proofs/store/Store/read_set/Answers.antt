@@ -7,6 +7,8 @@ use Rattle.mover.specs.Lane.{lane_of}
 use Rattle.mover.specs.Begin.{LaneReads}
 use Rattle.mover.proofs.Keeping.{kept_set_read}
 use Rattle.mover.proofs.Beginning.{lane_read, not_lost}
+use Rattle.kset.specs.Laws.{AreOfTheirSets}
+use Rattle.kset.specs.Shown.{visible_in}
 use Rattle.mover.proofs.store.Store.read_set.Goals as goal
 
 pub invariant_of-self : goal.invariant_of-self
@@ -15,6 +17,8 @@ invariant_of-self g c =
     let d = g.D.PageDevice in
     kept_set_read g.row.PAGE d.page_count d.honest d.held (record { layout = s.layout; device = s.device; memory = s.memory; log = s.log; sets = s.sets; moves = s.moves }) c.self.invariant
     c.read_set.new.device c.read_set.new.self c.read_set.ensures.keeps.sizes c.read_set.ensures.keeps.pages c.read_set.ensures.keeps.honest c.read_set.ensures.same c.read_set.ensures.keeps.spelled
+    (λ is placed. subst (AreOfTheirSets s.log.shape.lanes s.log.shape.sets) (sym (c.read_set.ensures.shown is))
+    (c.readings_keep_sets.ensures s.log.shape.lanes s.log.shape.sets c.args.set c.read_set.result (visible_in (d.held s.device) s.sets) placed))
 
 pub invariant_of-self-2 : goal.invariant_of-self-2
 invariant_of-self-2 g c =
@@ -22,6 +26,8 @@ invariant_of-self-2 g c =
     let d = g.D.PageDevice in
     kept_set_read g.row.PAGE d.page_count d.honest d.held (record { layout = s.layout; device = s.device; memory = s.memory; log = s.log; sets = s.sets; moves = s.moves }) c.self.invariant
     c.read_set.new.device c.read_set.new.self c.read_set.ensures.keeps.sizes c.read_set.ensures.keeps.pages c.read_set.ensures.keeps.honest c.read_set.ensures.same c.read_set.ensures.keeps.spelled
+    (λ is placed. subst (AreOfTheirSets s.log.shape.lanes s.log.shape.sets) (sym (c.read_set.ensures.shown is))
+    (c.readings_keep_sets.ensures s.log.shape.lanes s.log.shape.sets c.args.set c.read_set.result (visible_in (d.held s.device) s.sets) placed))
 
 pub returns-clause-faults : goal.returns-clause-faults
 returns-clause-faults g c = λ is.

@@ -4,6 +4,7 @@ use Rattle.mover.specs.Store.{StoreState}
 use Rattle.mover.specs.Lane.{lane_of}
 use Rattle.mover.specs.Begin.{LaneReadmits}
 use Rattle.mover.proofs.Beginning.{lane_readmitted}
+use Rattle.mover.proofs.Keeping.{kept_log_read}
 use Rattle.mover.proofs.store.Store.readmit.Goals as goal
 
 pub returns-clause-gives : goal.returns-clause-gives
@@ -16,3 +17,10 @@ returns-clause-gives g c = λ is.
     subst (λ (x : StoreState g.row.D.Denot). LaneReadmits g.row.PAGE c.args.entry.now (lane_of d.held x) c.readmit.result (lane_of d.held new)) c.self.view_is
     (lane_readmitted d.held old c.readmit.new.device (c.readmit.ensures.same on) g.row.PAGE c.readmit.new.self c.args.entry.now c.readmit.result c.len-live.ensures.apart
     (c.readmit.ensures.gives on (c.self.invariant.log_spelled on)))
+
+pub invariant_of-self : goal.invariant_of-self
+invariant_of-self g c =
+    let s = c.self.inside in
+    let d = g.D.PageDevice in
+    kept_log_read g.row.PAGE d.page_count d.honest d.held (record { layout = s.layout; device = s.device; memory = s.memory; log = s.log; sets = s.sets; moves = s.moves }) c.self.invariant
+    c.readmit.new.device c.readmit.new.self c.readmit.ensures.shape c.readmit.ensures.pages c.readmit.ensures.honest c.readmit.ensures.same c.readmit.ensures.spelled

@@ -1,9 +1,12 @@
-use Rattle.std.proofs.Common.{refl, ap, ◌∙◌}
+use Rattle.std.proofs.Common.{refl, sym, subst, ap, ◌∙◌}
 use Rattle.mover.specs.Store.{StoreState}
 use Rattle.mover.specs.Lane.{lane_of}
 use Rattle.mover.specs.Strike.{struck_at}
 use Rattle.mover.proofs.Keeping.{kept_flash}
 use Rattle.mover.proofs.Lanes.{lane_struck}
+use Rattle.kset.specs.Laws.{AreOfTheirSets}
+use Rattle.kset.specs.Sets.{notes_of}
+use Rattle.kset.specs.Shown.{visible_in}
 use Rattle.mover.proofs.store.Store.strike.Goals as goal
 
 pub invariant_of-self : goal.invariant_of-self
@@ -13,6 +16,8 @@ invariant_of-self g c =
     kept_flash g.row.PAGE d.page_count d.honest d.held (record { layout = s.layout; device = s.device; memory = s.memory; log = s.log; sets = s.sets; moves = s.moves }) c.self.invariant
     s.device c.strike.new.self c.strike-2.new.self c.strike.ensures.shape c.strike-2.ensures.sizes refl refl
     (λ honest. c.strike.ensures.spelled (d.held s.device)) (λ honest. c.strike-2.ensures.spelled (d.held s.device))
+    (λ honest placed. subst (AreOfTheirSets s.log.shape.lanes s.log.shape.sets) (sym (c.strike-2.ensures.shown (d.held s.device)))
+    (c.strikes_keep_sets.ensures s.log.shape.lanes s.log.shape.sets c.args.placed.now.set c.args.placed.now.hash (notes_of s.sets c.args.placed.now.set) (visible_in (d.held s.device) s.sets) placed))
 
 pub returns-clause-struck : goal.returns-clause-struck
 returns-clause-struck g c =
