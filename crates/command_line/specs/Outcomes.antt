@@ -14,16 +14,16 @@ pub record IsAllWritten (old new : Option (List ℕ)) (ending : Ending) (whole :
   pub ended : ending ≡ ending_of_script (Ok whole.ending)
   pub wrote : Appends old new (concat whole.replies)
 
--- what a script of these bytes wrote where the program ends so, and what of them is unread: all of it; at a failed read just
--- the replies of the lines that were whole in what was read; at want of memory those of the lines before the one that met
--- it; where a write failed nothing is said
+-- what a script of these bytes, over pages of this many bytes, wrote where the program ends so, and what of them is unread:
+-- all of it; at a failed read just the replies of the lines that were whole in what was read; at want of memory those of the
+-- lines before the one that met it; where a write failed nothing is said
 abbrev pub IsAnswered : ℕ → List ℕ → Option (List ℕ) → Option (List ℕ) → Option (List ℕ) → Ending → Type 0
-IsAnswered room bytes unread old new OutOfMemory = WroteLinesBefore room bytes unread old new
-IsAnswered room bytes unread old new ReadFault = WroteWholeLines room bytes unread old new
-IsAnswered room bytes unread old new FileFault = Unit {0}
-IsAnswered room bytes unread old new Done = IsAllWritten old new Done (script_of room bytes)
-IsAnswered room bytes unread old new Rejected = IsAllWritten old new Rejected (script_of room bytes)
-IsAnswered room bytes unread old new BadInput = IsAllWritten old new BadInput (script_of room bytes)
+IsAnswered page bytes unread old new OutOfMemory = WroteLinesBefore page bytes unread old new
+IsAnswered page bytes unread old new ReadFault = WroteWholeLines page bytes unread old new
+IsAnswered page bytes unread old new FileFault = Unit {0}
+IsAnswered page bytes unread old new Done = IsAllWritten old new Done (script_of page bytes)
+IsAnswered page bytes unread old new Rejected = IsAllWritten old new Rejected (script_of page bytes)
+IsAnswered page bytes unread old new BadInput = IsAllWritten old new BadInput (script_of page bytes)
 
 -- what a check read and wrote where the program ends so; a failed read of a trace is a bad trace
 abbrev pub IsChecked : Option (List ℕ) → Option (List ℕ) → Option (List ℕ) → Option (List ℕ) → Ending → Type 0

@@ -2,13 +2,13 @@
 ghost use Rattle.std.specs.Prelude.{◌≡◌, ◌≢◌, IfSome};
 ghost use Rattle.std.specs.Io.Buffered.{writer_contents, writer_inner};
 ghost use Rattle.std.specs.Io.KnownBytes.{Appends};
-ghost use Rattle.record_pages.specs.Sizes.{IsPageSize, room};
+ghost use Rattle.record_pages.specs.Sizes.{IsPageSize};
 ghost use Rattle.command_line.specs.Outcomes.{IsAnswered, IsChecked};
 
 use crate::ending::Ending;
-use crate::file_name::FileName;
 use certificate_checker::judge_with_hasher;
 use key_hash::RandomSeed;
+use load::FileName;
 use scripts::run_script;
 use std::alloc::Global;
 use std::fs;
@@ -26,7 +26,7 @@ pub fn answer_script<const PAGE: usize, R: Read, W: Write + Drop>(
     writer: &mut BufWriter<W>,
 ) -> Ending
     requires { IsPageSize PAGE }
-    ensures { IfSome (R.remaining reader.old) (λ bytes. IsAnswered (room PAGE)
+    ensures { IfSome (R.remaining reader.old) (λ bytes. IsAnswered PAGE
         bytes (R.remaining reader.new)
         (writer_contents W.contents writer.old) (W.contents (writer_inner writer.new)) result) }
 {

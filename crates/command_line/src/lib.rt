@@ -4,7 +4,6 @@
 mod answering;
 mod asking;
 mod ending;
-mod file_name;
 mod line;
 mod line_fault;
 mod parse;
@@ -12,7 +11,7 @@ mod parse;
 pub use answering::{answer_check, answer_script, check_file, tell_help};
 pub use asking::asked;
 pub use ending::Ending;
-pub use file_name::FileName;
 pub use line::Line;
 pub use line_fault::LineFault;
+pub use load::FileName;
 pub use parse::{no_text, parse_line};

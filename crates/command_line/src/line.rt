@@ -1,5 +1,5 @@
 // What the command line asks for.
-use crate::file_name::FileName;
+use load::FileName;
 
 /// What the words of the command line ask for.
 #[derive(Debug, Drop)]

@@ -3,11 +3,11 @@ ghost use Rattle.std.specs.Prelude.{◌≡◌, [], IfOk, OnOk, IfErr, IsSome, tr
 ghost use Rattle.clap.specs.Words.{app_of, fault_of, found_of, kind_of, rows_of, takes};
 ghost use Rattle.command_line.specs.CommandLine.{line_named, line_of_words, program, IsToldOf};
 
-use crate::file_name::FileName;
 use crate::line::Line;
 use crate::line_fault::LineFault;
 use clap::error::ErrorKind;
 use clap::{Arg, ArgMatches, Command};
+use load::FileName;
 use std::alloc::{AllocError, Global};
 use std::convert::AsStr;
 

@@ -7,8 +7,8 @@ use Rattle.entry_pool.specs.declared.row.Row.{Row}
 use Rattle.entry_pool.specs.declared.links.Links.{Links}
 use Rattle.entry_pool.specs.Chains.{none, IsPath, IsBack, IsIn, IsDistinct, end_of, Chains, IsPool, is_in_set, after_of}
 use Rattle.entry_pool.specs.Linked.{chains_of, put_item, with_prediction}
-use Rattle.entry_pool.specs.Rows.{Rows, with_rows, rows_of, numbers, in_set, rows_after, IsMark, with_prediction_at, repredicted}
-use Rattle.entry_pool.specs.Pool.{IsSound, ages_of, frees_of, rows_in, bucket_of}
+use Rattle.entry_pool.specs.Rows.{Rows, with_rows, rows_of, numbers, in_set, rows_after, IsMark, IsNext, with_prediction_at, repredicted}
+use Rattle.entry_pool.specs.Pool.{IsSound, ages_of, frees_of, rows_in, bucket_of, IsBehind}
 use Rattle.entry_pool.proofs.ChainLaws.{in-same, end-in}
 use Rattle.entry_pool.proofs.PoolLaws.{path-from, after-in, after-next}
 use Rattle.entry_pool.proofs.Moves.{filter-agree}
@@ -82,6 +82,27 @@ next-some f item xs rows q y it path apart is mark at n noted =
       subst (λ (rs : List Row). rows_after q none rs ≡ record { at = y; item = it } ∷ rows_after y none rs) is shown,
       inr (subst (λ (zs : List ℕ). IsIn y zs) (sym (ap (λ (rs : List Row). numbers rs) (sym is) ∙ numbers-rows item xs)) (in-same (f q) y xs (sym at) step.1)),
     )
+
+-- the row that comes next behind a mark, as a node of the chain
+pub record NextNode (item : ℕ → Item) (xs : List ℕ) (q : ℕ) (r : Row) : Type 0 where
+  pub inside : IsIn r.at xs
+  pub set : (item r.at).set ≡ r.item.set
+  pub behind : IsBehind r.at (after_of q none xs)
+
+pub next-node : (item : ℕ → Item) (xs : List ℕ) (rows : List Row) (q : ℕ) (r : Row) → rows_of item xs ≡ rows → IsNext q rows (Some r) → NextNode item xs q r
+next-node item xs rows q r is next = by_nodes (after_of q none xs) refl (sym (rows-after q none item xs) ∙ ap (λ (rs : List Row). rows_after q none rs) is ∙ next.0)
+  where
+    by_nodes : (ys : List ℕ) → after_of q none xs ≡ ys → rows_of item (after_of q none xs) ≡ r ∷ rows_after r.at none rows → NextNode item xs q r
+    by_nodes [] none_left shown = let none : [] ≡ r ∷ rows_after r.at none rows = sym (ap (rows_of item) none_left) ∙ shown in absurd cc
+    by_nodes (y ∷ ys) here shown =
+        let both : record { at = y; item = item y } ∷ rows_of item ys ≡ r ∷ rows_after r.at none rows = sym (ap (rows_of item) here) ∙ shown in
+        let one : record { at = y; item = item y } ≡ r = cc in
+        let at : y ≡ r.at = ap (λ (x : Row). x.at) one in
+        record {
+          inside = after-in q none xs r.at (subst (λ (zs : List ℕ). IsIn r.at zs) (sym here) (inl (sym at)));
+          set = ap (λ (k : ℕ). (item k).set) (sym at) ∙ ap (λ (x : Row). x.item.set) one;
+          behind = (ys, here ∙ ap (λ (k : ℕ). k ∷ ys) at);
+        }
 
 pub next-in : (f : ℕ → ℕ) (xs : List ℕ) (q y : ℕ) → IsPath f none xs → IsDistinct (none ∷ xs) → IsIn q (none ∷ xs) → y ≡ f q → (y ≡ none → ⊥) → IsIn y xs
 next-in f xs q y path apart i at n = in-same (f q) y xs (sym at) (next-here f xs (after_of q none xs) q path apart i refl (λ e. n (at ∙ e))).1

@@ -14,7 +14,7 @@ mod words;
 pub use by_age::ByAge;
 pub use in_set::InSet;
 pub use item::Item;
-pub use node::Node;
+pub use node::{NONE, Node};
 pub use packed_node::PackedNode;
 pub use pool::EntryPool;
 pub use row::Row;

@@ -1,5 +1,5 @@
 // The pool of rows.
-ghost use Rattle.std.specs.Prelude.{◌≡◌, ◌<◌, ◌≤◌, ◌^◌, ◌∷◌, [], None, IfOk, length};
+ghost use Rattle.std.specs.Prelude.{◌≡◌, ◌<◌, ◌≤◌, ◌^◌, ◌∷◌, [], Some, None, IfOk, length};
 ghost use Rattle.std.specs.List.{last_or};
 ghost use Rattle.entry_pool.specs.Chains.{IsDistinct};
 ghost use Rattle.entry_pool.specs.Rows.{numbers, in_set, with_rows, without_at, with_prediction_at, IsHeld, IsMark, IsNext};
@@ -94,6 +94,16 @@ impl EntryPool {
         self.links.take(at, before);
     }
 
+    /// Drops the row that comes next behind a mark among those of its set: a row's number, or `NONE` for the place
+    /// before the first.
+    pub fn remove_next(&mut self, mark: u32, row: &Row)
+        requires mark { IsMark mark (in_set row.now.item.set self.old.rows) }
+        requires next { IsNext mark (in_set row.now.item.set self.old.rows) (Some row.now) }
+        ensures { self.new ≡ with_rows self.old (without_at row.now.at self.old.rows) }
+    {
+        self.links.take(row.at, mark);
+    }
+
     /// Notes another prediction in the row with this number.
     pub fn set_prediction(&mut self, at: u32, prediction: Prediction)
         requires { IsHeld at self.old.rows }
@@ -102,8 +112,8 @@ impl EntryPool {
         self.links.set_prediction(at, prediction);
     }
 
-    // Of the rows of a set, the next older one behind a mark: a row's number, or `NONE` for the place before the first.
-    pub(crate) fn next_in(&self, set: u32, mark: u32) -> Option<Row>
+    /// Of the rows of a set, the next older one behind a mark: a row's number, or `NONE` for the place before the first.
+    pub fn next_in(&self, set: u32, mark: u32) -> Option<Row>
         requires { IsMark mark (in_set set self.now.rows) }
         ensures { IsNext mark (in_set set self.now.rows) result }
     {
@@ -117,8 +127,8 @@ impl EntryPool {
         })
     }
 
-    // The next older row behind a mark: a row's number, or `NONE` for the place before the first.
-    pub(crate) fn next_older(&self, mark: u32) -> Option<Row>
+    /// The next older row behind a mark: a row's number, or `NONE` for the place before the first.
+    pub fn next_older(&self, mark: u32) -> Option<Row>
         requires { IsMark mark self.now.rows }
         ensures { IsNext mark self.now.rows result }
     {

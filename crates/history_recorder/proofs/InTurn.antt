@@ -1,6 +1,6 @@
 -- A history whose calls stand in an order of theirs is accepted with the certificate 0, 1, 2 and so on.
-use Rattle.std.proofs.Common.{◌≡◌, ◌<◌, ◌≤◌, ◌+◌, ℕ, List, [], ◌∷◌, ◌++◌, length, get_or, map, Some, sym, ap, ◌∙◌, refl, subst, arith, append_assoc}
-use Rattle.std.specs.Prelude.{slice_get, All}
+use Rattle.std.proofs.Common.{◌≡◌, ◌<◌, ◌≤◌, ◌+◌, ℕ, Bool, Option, List, [], ◌∷◌, ◌++◌, length, get_or, map, Some, sym, ap, ◌∙◌, refl, subst, arith, append_assoc}
+use Rattle.std.specs.Prelude.{slice_get, All, IsTrue}
 use Rattle.std.specs.List.{range_with_len, filter_map}
 use Rattle.std.proofs.lemmas.List.{length-map, length_push, get_or-map}
 use Rattle.std.proofs.lemmas.List.FromFn.{length-range_with_len, get_or-range_with_len}
@@ -58,7 +58,7 @@ same_deeds (n ∷ calls) = ap (λ deeds. deed_noted n ∷ deeds) (same_deeds cal
 kept_at : (calls : List Noted) (i : ℕ) (d : Call) → i < length (map at_point calls) → get_or (map at_point calls) i d ≡ at_point (get_or calls i (noted_in d))
 kept_at calls i d within = get_or-map at_point calls i (noted_in d) d (omega (arith, length-map calls at_point))
 
-module _ (lane : Lane) (recorded : IsRecorded lane) where
+module _ {D : Type 0} (honest : D → Bool) (held : D → ℕ → Option (List ℕ)) (lane : Lane D) (recorded : IsRecorded honest held lane) where
   -- the recorded calls, each ended at its point
   abbrev ended_calls : List Call
   ended_calls = map at_point lane.calls
@@ -79,9 +79,9 @@ module _ (lane : Lane) (recorded : IsRecorded lane) where
       let end = ap (λ (c : Call). c.end) (kept_at lane.calls j d within) in
       omega (arith, started, rises, start, end, precedes)
 
-  accepted_at_points : IsAccepted ended_calls (range_with_len 0 (length lane.calls))
-  accepted_at_points = subst (λ n. IsAccepted ended_calls (range_with_len 0 n)) all (accepted_in_turn ended_calls intervals agrees (subst IsLawful (same_deeds lane.calls) recorded.lawful))
+  accepted_at_points : IsTrue (honest lane.store.device) → IsAccepted ended_calls (range_with_len 0 (length lane.calls))
+  accepted_at_points is = subst (λ n. IsAccepted ended_calls (range_with_len 0 n)) all (accepted_in_turn ended_calls intervals agrees (subst IsLawful (same_deeds lane.calls) (recorded.lawful is)))
 
   -- the same, of a history that is told by an equation
-  pub recorded_accepted : (history : List Call) → history ≡ ended_calls → IsAccepted history (range_with_len 0 (length lane.calls))
-  recorded_accepted history is = subst (λ h. IsAccepted h (range_with_len 0 (length lane.calls))) (sym is) accepted_at_points
+  pub recorded_accepted : (history : List Call) → history ≡ ended_calls → IsTrue (honest lane.store.device) → IsAccepted history (range_with_len 0 (length lane.calls))
+  recorded_accepted history same is = subst (λ h. IsAccepted h (range_with_len 0 (length lane.calls))) (sym same) (accepted_at_points is)

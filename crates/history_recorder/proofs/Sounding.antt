@@ -1,146 +1,140 @@
 -- Each step keeps what is true of every lane.
-use Rattle.std.proofs.Common.{◌≡◌, ◌<◌, ℕ, Bool, true, not, List, [], ◌∷◌, ◌++◌, length, get_or, map, Option, Some, None, sym, ap, ◌∙◌, refl, subst, inl, inr, arith}
-use Rattle.std.specs.Prelude.{All, find, option_map}
-use Rattle.std.specs.List.{AllByRecursion}
+use Rattle.std.proofs.Common.{◌≡◌, ◌≢◌, ◌<◌, ℕ, Bool, true, List, [], ◌∷◌, ◌++◌, length, Option, Some, None, sym, ap, ◌∙◌, refl, subst, inl, inr, arith}
+use Rattle.std.specs.Prelude.{All, IsTrue}
 use Rattle.std.specs.Str.{bytes_eq}
 use Rattle.std.specs.Cmp.Lexicographic.{bytes_decides}
-use Rattle.std.proofs.lemmas.Bool.{cases_Bool}
 use Rattle.std.proofs.lemmas.List.{map-append, length-append}
-use Rattle.std.proofs.lemmas.List.Elements.{All-push, All-cons, All-take, All-filter, filter_passes, recursion_from_All}
+use Rattle.std.proofs.lemmas.List.Elements.{All-push}
 use Rattle.std.proofs.lemmas.List.Quantifiers.{all_pairs_push}
 use Rattle.record_pages.specs.declared.answer.Answer.{Answer}
 use Rattle.record_pages.specs.declared.answer.Answer.TheVariants as answers
+use Rattle.record_pages.specs.declared.layout.Layout.{Layout}
+use Rattle.memory_cache.specs.declared.pair.Pair.{Pair}
 use Rattle.trace_file.specs.declared.act.Act.TheVariants.{Put, Remove, Hit, Miss}
 use Rattle.certificate_checker.specs.Deeds.{Deed}
 use Rattle.certificate_checker.specs.Current.{current}
 use Rattle.certificate_checker.specs.Latest.{IsWrite, IsLawful}
 use Rattle.certificate_checker.proofs.LatestLemmas.{current-push, deed_kept}
 use Rattle.certificate_checker.proofs.Growing.{lawful-push}
-use Rattle.memory_cache.specs.declared.pair.Pair.{Pair}
-use Rattle.memory_cache.specs.MemoryList.{MemoryList, after_get, after_put, after_remove, entered, pair_in, to_front, to_front_by, value_in, without}
+use Rattle.mover.specs.Store.{StoreState, KeepsTiers}
+use Rattle.mover.specs.Lane.{LaneState, lane_of}
+use Rattle.mover.specs.Visible.{ShowsFrom, TellsVisible}
 use Rattle.history_recorder.specs.declared.noted.Noted.{Noted}
-use Rattle.history_recorder.specs.LaneState.{answer_by}
-use Rattle.history_recorder.specs.Lane.{Lane, deed_noted, deeds_of, act_of, IsRecorded, max_calls}
+use Rattle.history_recorder.specs.Lane.{Lane, deed_noted, deeds_of, act_of, IsOfLane, IsSound, IsRecorded, max_calls}
 
--- what is found is one of the elements, and passes
-found_one : {X : Type 0} (P : X → Type 0) (t : X → Bool) (xs : List X) (x : X) → AllByRecursion P xs → find t xs ≡ Some x → P x × (t x ≡ true)
-found_one P t [] x all e = cc
-found_one P t (y ∷ ys) x all e = elim (cases_Bool (t y)) [
-  | inl passes ↦
-      let is : Some y ≡ Some x = sym (rw passes refl) ∙ e in
-      let same : y ≡ x = cc in
-      (subst P same all.0, ap t (sym same) ∙ passes)
-  | inr fails ↦ found_one P t ys x all.1 (sym (rw fails refl) ∙ e)
+-- ---- what a lane shows is what its keys have
+
+-- The law of every step. What a step shows was shown and not struck, or is what it put: where deeds give a key what was
+-- put, and leave what was not struck, the lane is sound after them.
+pub sound_by : (struck : Option (List ℕ)) (put : Option Pair) (before after : List Deed) (old new : LaneState) → ((p : Pair) → put ≡ Some p → current after p.key ≡ Some p.value) → ((p : Pair) → (struck ≢ Some p.key) → current after p.key ≡ current before p.key) → IsSound old before → ShowsFrom struck put old new → IsSound new after
+sound_by struck put before after old new puts stays sound shows = λ p shown. elim (shows p shown) [
+  | inl was ↦ stays p was.1 ∙ sound p was.0
+  | inr is ↦ puts p is
 ]
 
--- a pair of memory is what its key has after these deeds
-abbrev pub IsCurrent : List Deed → Pair → Type 0
-IsCurrent deeds p = current deeds p.key ≡ Some p.value
+-- a deed that does not write a key leaves what it has
+deed_leaves : (deeds : List Deed) (d : Deed) (key : List ℕ) → ((d.key ≡ key) → IsWrite d.act → ⊥) → current (deeds ++ d ∷ []) key ≡ current deeds key
+deed_leaves deeds d key other = current-push key deeds d ∙ deed_kept key (current deeds key) d (λ w. other w.0 w.1)
 
--- a put of this key gives it this value
-put_gives : (deeds : List Deed) (d : Deed) (p : Pair) → d.key ≡ p.key → d.act ≡ Put p.value → IsCurrent (deeds ++ d ∷ []) p
+-- a put gives its key its value
+put_gives : (deeds : List Deed) (d : Deed) (p : Pair) → d.key ≡ p.key → d.act ≡ Put p.value → current (deeds ++ d ∷ []) p.key ≡ Some p.value
 put_gives deeds d p at put =
     let same : bytes_eq d.key p.key ≡ true = (bytes_decides d.key p.key).1 at in
     current-push p.key deeds d ∙ rw (same, put) refl
 
--- a deed that does not write the key keeps what it has
-stays : (deeds : List Deed) (d : Deed) (p : Pair) → ((d.key ≡ p.key) → IsWrite d.act → ⊥) → IsCurrent deeds p → IsCurrent (deeds ++ d ∷ []) p
-stays deeds d p other is = current-push p.key deeds d ∙ deed_kept p.key (current deeds p.key) d (λ w. other w.0 w.1) ∙ is
-
+-- an answer writes nothing
 reads : (answer : Answer) → IsWrite (act_of answer) → ⊥
 reads (answers.Hit value tier) w = w
 reads (answers.Miss cause) w = w
 
-module _ (lane : Lane) (recorded : IsRecorded lane) where
-  abbrev memory : MemoryList
-  memory = lane.state.memory
+none_some : {X : Type 0} {x : X} → None ≡ Some x → ⊥
+none_some is = cc
 
-  -- the lane with this memory and these calls
-  abbrev lane_with : MemoryList → List Noted → Lane
-  lane_with list calls = record { state = record { memory = list }; calls = calls }
+some_same : {X : Type 0} {x y : X} → Some x ≡ Some y → x ≡ y
+some_same is = cc
 
-  -- the pairs of other keys are current
-  others_current : (key : List ℕ) → All (IsCurrent (deeds_of lane)) (without key memory.pairs)
-  others_current key = All-filter (λ (p : Pair). not (bytes_eq key p.key)) (IsCurrent (deeds_of lane)) memory.pairs recorded.sound
+-- after an answer
+sound_read : (deeds : List Deed) (d : Deed) (answer : Answer) (old new : LaneState) → d.act ≡ act_of answer → IsSound old deeds → ShowsFrom None None old new → IsSound new (deeds ++ d ∷ [])
+sound_read deeds d answer old new act = sound_by None None deeds (deeds ++ d ∷ []) old new (λ p no. absurd (none_some no)) (λ p other. deed_leaves deeds d p.key (λ same w. reads answer (subst IsWrite act w)))
 
-  -- the pair that memory has of a key
-  pair_found : (key : List ℕ) (pair : Pair) → pair_in key memory.pairs ≡ Some pair → IsCurrent (deeds_of lane) pair × (pair.key ≡ key)
-  pair_found key pair e =
-      let one = found_one (IsCurrent (deeds_of lane)) (λ (p : Pair). bytes_eq key p.key) memory.pairs pair (recursion_from_All _ memory.pairs recorded.sound) e in
-      (one.0, sym ((bytes_decides key pair.key).0 one.1))
+-- after a put
+sound_put : (deeds : List Deed) (d : Deed) (put : Pair) (old new : LaneState) → d.key ≡ put.key → d.act ≡ Put put.value → IsSound old deeds → ShowsFrom (Some put.key) (Some put) old new → IsSound new (deeds ++ d ∷ [])
+sound_put deeds d put old new at act = sound_by (Some put.key) (Some put) deeds (deeds ++ d ∷ []) old new (λ p is. subst (λ (x : Pair). current (deeds ++ d ∷ []) x.key ≡ Some x.value) (some_same is) (put_gives deeds d put at act)) (λ p other. deed_leaves deeds d p.key (λ same w. other (ap Some (sym at ∙ same))))
 
-  fronted : (key : List ℕ) (o : Option Pair) → pair_in key memory.pairs ≡ o → All (IsCurrent (deeds_of lane)) (to_front_by o memory.pairs)
-  fronted key None e = recorded.sound
-  fronted key (Some pair) e = All-cons (IsCurrent (deeds_of lane)) pair (without pair.key memory.pairs) (pair_found key pair e).0 (others_current pair.key)
+-- after a removal
+sound_remove : (deeds : List Deed) (d : Deed) (key : List ℕ) (old new : LaneState) → d.key ≡ key → IsSound old deeds → ShowsFrom (Some key) None old new → IsSound new (deeds ++ d ∷ [])
+sound_remove deeds d key old new at = sound_by (Some key) None deeds (deeds ++ d ∷ []) old new (λ p no. absurd (none_some no)) (λ p other. deed_leaves deeds d p.key (λ same w. other (ap Some (sym at ∙ same))))
 
-  hit_is : (key : List ℕ) (o : Option Pair) (value : List ℕ) → pair_in key memory.pairs ≡ o → act_of (answer_by (option_map (λ (p : Pair). p.value) o)) ≡ Hit value → current (deeds_of lane) key ≡ Some value
-  hit_is key None value e hit = let no : Miss ≡ Hit value = hit in cc
-  hit_is key (Some pair) value e hit =
-      let found = pair_found key pair e in
-      let both : Hit pair.value ≡ Hit value = hit in
-      let same : pair.value ≡ value = cc in
-      subst (λ k. current (deeds_of lane) k ≡ Some value) found.1 (found.0 ∙ ap Some same)
+-- a hit that tells a visible pair is its key's value
+hit_is : (deeds : List Deed) (key value : List ℕ) (lane : LaneState) (answer : Answer) → IsSound lane deeds → TellsVisible key lane answer → act_of answer ≡ Hit value → current deeds key ≡ Some value
+hit_is deeds key value lane (answers.Hit found tier) sound tells hit =
+    let both : Hit found ≡ Hit value = hit in
+    let same : found ≡ value = cc in
+    sound (record { key = key; value = found }) (inl tells) ∙ ap Some same
+hit_is deeds key value lane (answers.Miss cause) sound tells hit = let no : Miss ≡ Hit value = hit in absurd (cc)
 
-  -- a pair less, and no call
-  pub recorded_after_forget : (list : MemoryList) (key : List ℕ) → list ≡ after_remove key memory → IsRecorded (lane_with list lane.calls)
-  recorded_after_forget list key fewer = rw fewer (record {
-    sound = others_current key;
-    lawful = recorded.lawful;
+-- ---- lanes that show the same
+
+module _ {D : Type 0} (held : D → ℕ → Option (List ℕ)) where
+  -- tiers that stay over pages that stay
+  pub kept_shows : (old new : StoreState D) → held new.device ≡ held old.device → KeepsTiers old new → ShowsFrom None None (lane_of held old) (lane_of held new)
+  kept_shows old new pages keeps = λ p shown. inl (rw (sym keeps.memory, sym keeps.log, sym keeps.sets, sym keeps.flight, sym pages) shown, λ no. none_some no)
+
+-- ---- what is true of every lane
+
+module _ {D : Type 0} (honest : D → Bool) (held : D → ℕ → Option (List ℕ)) (lane : Lane D) (recorded : IsRecorded honest held lane) where
+  -- a step that is no call
+  pub recorded_step : (struck : Option (List ℕ)) (new : StoreState D) → new.layout ≡ lane.store.layout → honest new.device ≡ honest lane.store.device → (IsTrue (honest lane.store.device) → ShowsFrom struck None (lane_of held lane.store) (lane_of held new)) → IsRecorded honest held (record { store = new; lane = lane.lane; calls = lane.calls })
+  recorded_step struck new layout honesty shows = record {
+    number = subst (λ (l : Layout). lane.lane < l.lanes) (sym layout) recorded.number;
+    keys = subst (λ (l : Layout). All (λ (n : Noted). IsOfLane l lane.lane n.key) lane.calls) (sym layout) recorded.keys;
     starts = recorded.starts;
     points = recorded.points;
     few = recorded.few;
-  })
+    sound = λ is.
+        let was = subst IsTrue honesty is in
+        sound_by struck None (deeds_of lane.calls) (deeds_of lane.calls) (lane_of held lane.store) (lane_of held new) (λ p no. absurd (none_some no)) (λ p other. refl) (recorded.sound was) (shows was);
+    lawful = λ is. recorded.lawful (subst IsTrue honesty is);
+  }
+
+  -- the same, of calls that are told by an equation
+  pub recorded_still : (new : StoreState D) (calls : List Noted) → calls ≡ lane.calls → new.layout ≡ lane.store.layout → honest new.device ≡ honest lane.store.device → (IsTrue (honest lane.store.device) → ShowsFrom None None (lane_of held lane.store) (lane_of held new)) → IsRecorded honest held (record { store = new; lane = lane.lane; calls = calls })
+  recorded_still new calls same layout honesty shows = subst (λ (cs : List Noted). IsRecorded honest held (record { store = new; lane = lane.lane; calls = cs })) (sym same) (recorded_step None new layout honesty shows)
 
   -- ---- one call more
 
-  module _ (n : Noted) (start : n.start < n.point) (rises : All (λ (m : Noted). m.point < n.point) lane.calls) (room : length lane.calls < max_calls) where
+  module _ (n : Noted) (new : StoreState D) (calls : List Noted) (more : calls ≡ lane.calls ++ n ∷ []) (layout : new.layout ≡ lane.store.layout) (honesty : honest new.device ≡ honest lane.store.device) (start : n.start < n.point) (rises : All (λ (m : Noted). m.point < n.point) lane.calls) (own : IsOfLane lane.store.layout lane.lane n.key) (room : length lane.calls < max_calls) where
     -- what the calls do, with this one
     abbrev deeds_then : List Deed
-    deeds_then = deeds_of lane ++ deed_noted n ∷ []
+    deeds_then = deeds_of lane.calls ++ deed_noted n ∷ []
 
-    deeds_are : map deed_noted (lane.calls ++ n ∷ []) ≡ deeds_then
+    deeds_are : deeds_of (lane.calls ++ n ∷ []) ≡ deeds_then
     deeds_are = map-append deed_noted lane.calls (n ∷ [])
 
-    recorded_with : (list : MemoryList) → All (IsCurrent deeds_then) list.pairs → ((value : List ℕ) → n.act ≡ Hit value → current (deeds_of lane) n.key ≡ Some value) → IsRecorded (lane_with list (lane.calls ++ n ∷ []))
-    recorded_with list are here = record {
-      sound = subst (λ deeds. All (IsCurrent deeds) list.pairs) (sym deeds_are) are;
-      lawful = subst IsLawful (sym deeds_are) (lawful-push (deeds_of lane) (deed_noted n) recorded.lawful here);
+    recorded_with : (IsTrue (honest lane.store.device) → IsSound (lane_of held new) deeds_then) → (IsTrue (honest lane.store.device) → (value : List ℕ) → n.act ≡ Hit value → current (deeds_of lane.calls) n.key ≡ Some value) → IsRecorded honest held (record { store = new; lane = lane.lane; calls = calls })
+    recorded_with sound here = rw more (record {
+      number = subst (λ (l : Layout). lane.lane < l.lanes) (sym layout) recorded.number;
+      keys = subst (λ (l : Layout). All (λ (x : Noted). IsOfLane l lane.lane x.key) (lane.calls ++ n ∷ [])) (sym layout) (All-push (λ (x : Noted). IsOfLane lane.store.layout lane.lane x.key) lane.calls n recorded.keys own);
       starts = All-push (λ (x : Noted). x.start < x.point) lane.calls n recorded.starts start;
       points = all_pairs_push (λ (x y : Noted). x.point < y.point) lane.calls n recorded.points rises;
       few = omega (arith, length-append lane.calls (n ∷ []));
-    }
+      sound = λ is. subst (IsSound (lane_of held new)) (sym deeds_are) (sound (subst IsTrue honesty is));
+      lawful = λ is.
+          let was = subst IsTrue honesty is in
+          subst IsLawful (sym deeds_are) (lawful-push (deeds_of lane.calls) (deed_noted n) (recorded.lawful was) (here was));
+    })
 
-    -- whatever the call does, the pairs of other keys stay what their keys have
-    others_stay : (key : List ℕ) → n.key ≡ key → All (IsCurrent deeds_then) (without key memory.pairs)
-    others_stay key at = λ k d within.
-        let p = get_or (without key memory.pairs) k d in
-        let other = filter_passes (λ (p : Pair). not (bytes_eq key p.key)) memory.pairs k d within in
-        stays (deeds_of lane) (deed_noted n) p (λ same w. let is : bytes_eq key p.key ≡ true = (bytes_decides key p.key).1 (sym at ∙ same) in let both : not true ≡ true = ap not (sym is) ∙ other in cc) (others_current key k d within)
+    pub recorded_get : (key : List ℕ) (answer : Answer) → n.key ≡ key → n.act ≡ act_of answer → (IsTrue (honest lane.store.device) → TellsVisible key (lane_of held lane.store) answer) → (IsTrue (honest lane.store.device) → ShowsFrom None None (lane_of held lane.store) (lane_of held new)) → IsRecorded honest held (record { store = new; lane = lane.lane; calls = calls })
+    recorded_get key answer at act tells shows = recorded_with
+        (λ is. sound_read (deeds_of lane.calls) (deed_noted n) answer (lane_of held lane.store) (lane_of held new) act (recorded.sound is) (shows is))
+        (λ is value hit. subst (λ k. current (deeds_of lane.calls) k ≡ Some value) (sym at) (hit_is (deeds_of lane.calls) key value (lane_of held lane.store) answer (recorded.sound is) (tells is) (sym act ∙ hit)))
 
-    put_recorded : (pair : Pair) → n.key ≡ pair.key → n.act ≡ Put pair.value → IsRecorded (lane_with (after_put pair memory) (lane.calls ++ n ∷ []))
-    put_recorded pair at put =
-        let first = put_gives (deeds_of lane) (deed_noted n) pair at put in
-        let all = All-cons (IsCurrent deeds_then) pair (without pair.key memory.pairs) first (others_stay pair.key at) in
-        recorded_with (after_put pair memory) (All-take (IsCurrent deeds_then) memory.capacity (entered pair memory.pairs) all) (λ value hit. let both : Put pair.value ≡ Hit value = sym put ∙ hit in cc)
+    pub recorded_put : (put : Pair) → n.key ≡ put.key → n.act ≡ Put put.value → (IsTrue (honest lane.store.device) → ShowsFrom (Some put.key) (Some put) (lane_of held lane.store) (lane_of held new)) → IsRecorded honest held (record { store = new; lane = lane.lane; calls = calls })
+    recorded_put put at act shows = recorded_with
+        (λ is. sound_put (deeds_of lane.calls) (deed_noted n) put (lane_of held lane.store) (lane_of held new) at act (recorded.sound is) (shows is))
+        (λ is value hit. let both : Put put.value ≡ Hit value = sym act ∙ hit in absurd (cc))
 
-    remove_recorded : n.act ≡ Remove → IsRecorded (lane_with (after_remove n.key memory) (lane.calls ++ n ∷ []))
-    remove_recorded removal =
-        recorded_with (after_remove n.key memory) (others_stay n.key refl) (λ value hit. let both : Remove ≡ Hit value = sym removal ∙ hit in cc)
-
-    get_recorded : n.act ≡ act_of (answer_by (value_in n.key memory.pairs)) → IsRecorded (lane_with (after_get n.key memory) (lane.calls ++ n ∷ []))
-    get_recorded act =
-        let found = pair_in n.key memory.pairs in
-        let old = fronted n.key found refl in
-        recorded_with (after_get n.key memory) (λ k d within. let p = get_or (to_front n.key memory.pairs) k d in stays (deeds_of lane) (deed_noted n) p (λ same w. reads (answer_by (value_in n.key memory.pairs)) (subst IsWrite act w)) (old k d within)) (λ value hit. hit_is n.key found value refl (sym act ∙ hit))
-
-    -- the same, of lists that are told by equations
-    pub recorded_after_get : (list : MemoryList) (calls : List Noted) (key : List ℕ) (answer : Answer) → n.key ≡ key → list ≡ after_get key memory → calls ≡ lane.calls ++ n ∷ [] → answer ≡ answer_by (value_in key memory.pairs) → n.act ≡ act_of answer → IsRecorded (lane_with list calls)
-    recorded_after_get list calls key answer at front more is act =
-        rw (front, more) (subst (λ k. IsRecorded (lane_with (after_get k memory) (lane.calls ++ n ∷ []))) at (get_recorded (act ∙ ap act_of (is ∙ ap (λ k. answer_by (value_in k memory.pairs)) (sym at)))))
-
-    pub recorded_after_put : (list : MemoryList) (calls : List Noted) (pair : Pair) → n.key ≡ pair.key → n.act ≡ Put pair.value → list ≡ after_put pair memory → calls ≡ lane.calls ++ n ∷ [] → IsRecorded (lane_with list calls)
-    recorded_after_put list calls pair at put first more = rw (first, more) (put_recorded pair at put)
-
-    pub recorded_after_remove : (list : MemoryList) (calls : List Noted) (key : List ℕ) → n.key ≡ key → n.act ≡ Remove → list ≡ after_remove key memory → calls ≡ lane.calls ++ n ∷ [] → IsRecorded (lane_with list calls)
-    recorded_after_remove list calls key at removal fewer more =
-        rw (fewer, more) (subst (λ k. IsRecorded (lane_with (after_remove k memory) (lane.calls ++ n ∷ []))) at (remove_recorded removal))
+    pub recorded_remove : (key : List ℕ) → n.key ≡ key → n.act ≡ Remove → (IsTrue (honest lane.store.device) → ShowsFrom (Some key) None (lane_of held lane.store) (lane_of held new)) → IsRecorded honest held (record { store = new; lane = lane.lane; calls = calls })
+    recorded_remove key at act shows = recorded_with
+        (λ is. sound_remove (deeds_of lane.calls) (deed_noted n) key (lane_of held lane.store) (lane_of held new) at (recorded.sound is) (shows is))
+        (λ is value hit. let both : Remove ≡ Hit value = sym act ∙ hit in absurd (cc))

@@ -1,51 +1,63 @@
 -- A lane with its record, and what is true of every lane.
-use Rattle.std.specs.Prelude.{◌≡◌, ℕ, ◌-◌, ◌<◌, ◌≤◌, List, All, AllPairs, map, length, slice_get, Some}
+use Rattle.std.specs.Prelude.{◌≡◌, ℕ, ◌-◌, ◌<◌, ◌≤◌, ◌^◌, List, Option, Bool, IsTrue, All, AllPairs, map, length, slice_get, Some}
 use Rattle.std.specs.Option.{option_map_or}
 use Rattle.record_pages.specs.declared.answer.Answer.{Answer}
 use Rattle.record_pages.specs.declared.answer.Answer.TheVariants as answers
+use Rattle.record_pages.specs.declared.layout.Layout.{Layout}
+use Rattle.set_hash.specs.Fnv.{fnv1a}
+use Rattle.set_hash.specs.Place.{placed_of}
+use Rattle.memory_cache.specs.declared.pair.Pair.{Pair}
+use Rattle.mover.specs.Store.{StoreState}
+use Rattle.mover.specs.Lane.{LaneState, lane_of}
+use Rattle.mover.specs.Visible.{IsShown}
 use Rattle.trace_file.specs.declared.act.Act.{Act}
 use Rattle.trace_file.specs.declared.act.Act.TheVariants.{Hit, Miss}
 use Rattle.certificate_checker.specs.Deeds.{Deed}
 use Rattle.certificate_checker.specs.Latest.{IsLawful}
 use Rattle.certificate_checker.specs.Current.{current}
 use Rattle.history_recorder.specs.declared.noted.Noted.{Noted}
-use Rattle.history_recorder.specs.LaneState.{LaneState}
 
--- what a lane holds, and the calls that it recorded, in order
-pub record Lane : Type 0 where
-  pub state : LaneState
+-- a store, the lane's number, and the calls that it recorded, in order
+pub record Lane (D : Type 0) : Type 0 where
+  pub store : StoreState D
+  pub lane : ℕ
   pub calls : List Noted
 
 -- what a recorded call does
 abbrev pub deed_noted : Noted → Deed
 deed_noted n = record { key = n.key; act = n.act }
 
--- what the recorded calls do, in order
-abbrev pub deeds_of : Lane → List Deed
-deeds_of lane = map deed_noted lane.calls
+-- what recorded calls do, in order
+abbrev pub deeds_of : List Noted → List Deed
+deeds_of calls = map deed_noted calls
 
 -- what is recorded of an answer
 abbrev pub act_of : Answer → Act
 act_of (answers.Hit value tier) = Hit value
 act_of (answers.Miss cause) = Miss
 
--- a lane is sound: each pair that a get may show is what its key has after the recorded calls
-abbrev pub IsSound : Lane → Type 0
-IsSound lane = All (λ p. current (deeds_of lane) p.key ≡ Some p.value) lane.state.memory.pairs
+-- by this layout a key belongs to the lane with this number
+abbrev pub IsOfLane : Layout → ℕ → List ℕ → Type 0
+IsOfLane layout number key = (placed_of layout.lanes layout.sets (fnv1a key)).lane ≡ number
 
--- how many calls a lane records: 2 ^ 24
+-- a lane is sound after these deeds: each visible pair, and each of an item in flight that was not struck, is what its key has after them
+abbrev pub IsSound : LaneState → List Deed → Type 0
+IsSound lane deeds = (p : Pair) → IsShown lane p → current deeds p.key ≡ Some p.value
+
+-- how many calls a lane records
 abbrev pub max_calls : ℕ
-max_calls = 16777216
+max_calls = 2 ^ 24
 
--- what is true of every lane
-pub record IsRecorded (lane : Lane) : Type 0 where
-  pub sound : IsSound lane
-  -- each recorded hit had its key's latest value
-  pub lawful : IsLawful (deeds_of lane)
-  -- each call starts before its point, and points rise
+-- What is true of every lane. Its keys are its own, each call starts before its point, and points rise. Where its device
+-- is honest it is sound, and each recorded hit had its key's latest value.
+pub record IsRecorded {D : Type 0} (honest : D → Bool) (held : D → ℕ → Option (List ℕ)) (lane : Lane D) : Type 0 where
+  pub number : lane.lane < lane.store.layout.lanes
+  pub keys : All (λ n. IsOfLane lane.store.layout lane.lane n.key) lane.calls
   pub starts : All (λ n. n.start < n.point) lane.calls
   pub points : AllPairs (λ a b. a.point < b.point) lane.calls
   pub few : length lane.calls ≤ max_calls
+  pub sound : IsTrue (honest lane.store.device) → IsSound (lane_of held lane.store) (deeds_of lane.calls)
+  pub lawful : IsTrue (honest lane.store.device) → IsLawful (deeds_of lane.calls)
 
 -- the point of the last call, or 0 before the first
 abbrev pub last_point : List Noted → ℕ

@@ -1,4 +1,10 @@
-pub mod LaneState
+pub mod Answering
 pub mod Lane
 pub mod Merging
 pub mod Points
+pub mod Operations
+pub mod Books
+pub mod Commands
+pub mod World
+pub mod Game
+pub mod Opened

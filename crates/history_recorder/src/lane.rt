@@ -1,78 +1,103 @@
 // A lane whose calls are recorded.
-ghost use Rattle.std.specs.Prelude.{◌≡◌, ◌↔◌, ◌<◌, ◌≤◌, ◌++◌, ◌∷◌, [], All, length, map, IfOk, OnOk, OnErr, IsErrOf, IfErr, slice_get, Some, None, MatchResult};
+ghost use Rattle.std.specs.Prelude.{◌≡◌, ◌↔◌, ◌<◌, ◌≤◌, ◌++◌, ◌∷◌, [], All, length, map, IfOk, OnOk, OnErr, IsErrOf, IfErr, IsSome, IsTrue, slice_get, Some, None};
 ghost use Rattle.std.specs.List.{range_with_len};
+ghost use Rattle.record_pages.specs.declared.field.Field.{Field};
+ghost use Rattle.record_pages.specs.Asked.{HasNumbersOf};
 ghost use Rattle.record_pages.specs.Bounded.{IsKey, IsValue};
 ghost use Rattle.record_pages.specs.Sizes.{IsPageSize, object_size, room};
 ghost use Rattle.record_pages.specs.Table.{first_faulty};
+ghost use Rattle.memory_cache.specs.MemoryList.{value_in};
+ghost use Rattle.mover.specs.Store.{opening, IsTooSmall, IsStore, KeepsMoves};
+ghost use Rattle.mover.specs.Lane.{lane_of};
+ghost use Rattle.mover.specs.Visible.{IsPlaced, ShowsFrom};
+ghost use Rattle.mover.specs.Asking.{AsksNothing, IfThen};
+ghost use Rattle.mover.specs.Put.{put_step, IsStep};
+ghost use Rattle.mover.specs.Strike.{removed};
 ghost use Rattle.trace_file.specs.Calls.{value_of};
 ghost use Rattle.trace_file.specs.Lent.{act_shown};
 ghost use Rattle.certificate_checker.specs.Acceptance.{IsAccepted};
 
 use crate::call_record::CallRecord;
 use crate::got::Got;
-use crate::lane_memory::LaneMemory;
 use crate::noted::Noted;
 use crate::noted_ref::NotedRef;
-use crate::open_fault::OpenFault;
 use crate::record_fault::RecordFault;
 use crate::record_put_fault::RecordPutFault;
+use crate::recorded_parts::RecordedParts;
 use crate::removed::Removed;
 use crate::stored::Stored;
-use memory_cache::Pair;
-use record_pages::{Answer, Config, Key, MissCause, Pushed, Tier, Value, is_too_large};
+use mover::{OpenFault, Store};
+use page_device::PageDevice;
+use record_pages::{Answer, Config, Key, Layout, Pushed, Value, is_too_large};
 use std::alloc::{AllocError, Global};
 use std::marker::Model;
-use trace_file::{Act, History};
+use trace_file::Act;
+
+mod moves;
+mod steps;
 
 /// The most calls that a lane records.
 pub const MAX_CALLS: usize = 16777216;
 
-/// A lane of the cache, with a record of its calls in the order in which they were done. The bytes of the
-/// recorded calls lie in one store.
+/// A lane of the cache: its store, with a record of its calls in the order in which they were done. The bytes of the
+/// recorded calls lie in one place.
 ///
-/// Until the tiers below memory are there it keeps its objects in memory alone, serves a configuration
-/// of one lane, and loses what memory pushes out. It takes no memory before its first call.
+/// The record takes no memory before the first call. It is right of any device; that its hits are lawful is said where
+/// the device is honest.
 #[derive(Drop)]
-pub struct RecordedLane<const PAGE: usize> {
-    memory: LaneMemory,
+pub struct RecordedLane<D: PageDevice<PAGE>, const PAGE: usize> {
+    store: Store<D, PAGE>,
+    lane: u32,
     calls: CallRecord,
 }
 
-impl<const PAGE: usize> Model for RecordedLane<PAGE> {
+impl<D: PageDevice<PAGE>, const PAGE: usize> Model for RecordedLane<D, PAGE> {
+    ghost use Rattle.std.specs.Coded.{codes};
+    ghost use Rattle.kset.specs.Sets.{sets_code};
     ghost use Rattle.history_recorder.specs.Lane.{Lane, IsRecorded};
 
-    ghost Value = { Lane };
+    ghost Value = { Lane D };
 
-    ghost view = { λ a. record { state = record { memory = a.memory }; calls = a.calls } };
+    ghost coded = { Prim.hlevel (codes, sets_code) };
 
-    ghost invariant = { λ a. IsRecorded (record {
-      state = record { memory = a.memory };
+    ghost view = { λ a. record { store = a.store; lane = a.lane; calls = a.calls } };
+
+    ghost invariant = { λ a. IsRecorded D.honest D.held (record {
+      store = a.store;
+      lane = a.lane;
       calls = a.calls;
     }) };
 }
 
-impl<const PAGE: usize> RecordedLane<PAGE> {
-    ghost use Rattle.history_recorder.specs.LaneState.{opening, get_step, put_step, remove_step, forget_step};
-    ghost use Rattle.history_recorder.specs.Lane.{IsRecorded, act_of, last_point, max_calls};
+impl<D: PageDevice<PAGE>, const PAGE: usize> RecordedLane<D, PAGE> {
+    ghost use Rattle.history_recorder.specs.Lane.{IsRecorded, IsOfLane, act_of, last_point, max_calls};
+    ghost use Rattle.history_recorder.specs.Answering.{Answers, KeepsOrAnswers};
     ghost use Rattle.history_recorder.specs.Points.{at_point, noted_shown};
 
-    /// An empty lane of this configuration, which has one lane.
-    pub fn open(alloc: Global, config: &Config, lane: u32) -> Result<RecordedLane<PAGE>, OpenFault>
-        requires one { config.now.lanes ≡ 1 }
-        requires lane { lane < config.now.lanes }
-        ensures ok { IfOk result (λ opened. opened ≡ record { state = opening config.now; calls = [] }) }
-        ensures serves { OnOk result (IsPageSize PAGE × (first_faulty config.now ≡ None)) }
+    /// An empty lane with this number, over a device. Its refusals are those of `Store::open`, tested in the order of
+    /// `OpenFault`, and the device is dropped with each.
+    pub fn open(alloc: Global, config: &Config, lane: u32, device: D) -> Result<Self, OpenFault>
+        requires { lane < config.now.lanes }
+        ensures opening { IfOk result (λ opened. HasNumbersOf opened.store.layout config.now
+            × (opened ≡ record {
+              store = opening opened.store.layout device;
+              lane = lane;
+              calls = [];
+            })) }
+        ensures serves { OnOk result ((first_faulty config.now ≡ None) × IsPageSize PAGE
+            × (IsTooSmall config.now (D.page_count device) → ⊥)) }
         ensures config { IfErr result (λ fault. (field : Field) →
             fault ≡ OpenFault.ConfigFault field → first_faulty config.now ≡ Some field) }
         ensures page { IsErrOf result OpenFault.WrongPage
             ↔ ((first_faulty config.now ≡ None) × (IsPageSize PAGE → ⊥)) }
+        ensures small { IsErrOf result OpenFault.DeviceTooSmall
+            ↔ ((first_faulty config.now ≡ None) × IsPageSize PAGE
+            × IsTooSmall config.now (D.page_count device)) }
     {
-        let layout = config.check()?;
-        if PAGE < 256 || PAGE > 4096 {
-            return Err(OpenFault::WrongPage);
-        }
+        let store = Store::open(alloc, config, device)?;
         Ok(RecordedLane {
-            memory: LaneMemory::new(alloc, layout.memory),
+            store,
+            lane,
             calls: CallRecord::new(alloc),
         })
     }
@@ -80,7 +105,8 @@ impl<const PAGE: usize> RecordedLane<PAGE> {
     /// How many calls were recorded.
     pub fn len(&self) -> usize
         ensures count { result ≡ length self.now.calls }
-        ensures recorded { IsRecorded self.now }
+        // What is true of every lane.
+        ensures recorded { IsRecorded D.honest D.held self.now }
     {
         self.calls.len()
     }
@@ -90,6 +116,42 @@ impl<const PAGE: usize> RecordedLane<PAGE> {
         ensures { IsTrue result ↔ (self.now.calls ≡ []) }
     {
         self.calls.len() == 0
+    }
+
+    /// The number of the lane.
+    pub fn lane(&self) -> u32
+        ensures number { result ≡ self.now.lane }
+        ensures below { result < self.now.store.layout.lanes }
+    {
+        self.lane
+    }
+
+    /// The numbers that the lane was opened with.
+    pub fn layout(&self) -> Layout
+        ensures layout { result ≡ self.now.store.layout }
+        // What is true of every store.
+        ensures kept { IsStore PAGE D.page_count D.honest D.held self.now.store }
+        ensures placed { IsTrue (D.honest self.now.store.device) →
+            IsPlaced (lane_of D.held self.now.store) }
+    {
+        self.store.layout()
+    }
+
+    /// The configuration that the lane was opened with.
+    pub fn config(&self) -> Config
+        ensures { HasNumbersOf self.now.store.layout result }
+    {
+        let layout = self.store.layout();
+        Config {
+            lanes: layout.lanes,
+            sets: layout.sets,
+            memory: layout.memory,
+            segments: layout.segments,
+            segment_pages: layout.segment_pages,
+            entries: layout.entries,
+            threshold: layout.threshold,
+            admit: layout.admit,
+        }
     }
 
     /// The call that was recorded at a position, counted from 0, lent.
@@ -114,9 +176,11 @@ impl<const PAGE: usize> RecordedLane<PAGE> {
         self.calls.at(count - 1).point
     }
 
-    /// Answers a get and records it. A value found in memory comes to the front.
+    /// Answers a get by the store, and records it.
     ///
-    /// A refused get leaves the lane as it was: `HistoryFull` at `MAX_CALLS` calls, else `OutOfMemory`.
+    /// `HistoryFull` comes at `MAX_CALLS` calls, and changes nothing. `OutOfMemory` records nothing, and leaves the store
+    /// as it was, or as the get left it that could not be recorded: then the key's pair has come to the front of memory,
+    /// or its prediction is one less, or its slot is hit.
     pub fn get(
         &mut self,
         caller: u16,
@@ -126,8 +190,8 @@ impl<const PAGE: usize> RecordedLane<PAGE> {
     ) -> Result<Got, RecordFault>
         requires start { start < point }
         requires rises { All (λ n. n.point < point) self.old.calls }
-        ensures answer { IfOk result (λ got.
-            got.answer ≡ (get_step key.now self.old.state).reply) }
+        requires own { IsOfLane self.old.store.layout self.old.lane key.now }
+
         ensures noted { IfOk result (λ got. got.noted ≡ record {
           caller = caller;
           start = start;
@@ -135,33 +199,43 @@ impl<const PAGE: usize> RecordedLane<PAGE> {
           key = key.now;
           act = act_of got.answer;
         }) }
-        ensures after { IfOk result (λ got. self.new ≡ record {
-          state = (get_step key.now self.old.state).state;
+        ensures recorded { IfOk result (λ got. self.new ≡ record self.old {
+          store = self.new.store;
           calls = self.old.calls ++ got.noted ∷ [];
         }) }
-        ensures full { IsErrOf result RecordFault.HistoryFull ↔ (max_calls ≤ length self.old.calls) }
-        ensures err { OnErr result (self.new ≡ self.old) }
+        ensures unrecorded { OnErr result (self.new ≡ record self.old { store = self.new.store }) }
+
+        // The store's answer, and what it leaves.
+        ensures layout { self.new.store.layout ≡ self.old.store.layout }
+        ensures honest { D.honest self.new.store.device ≡ D.honest self.old.store.device }
+        ensures stays { KeepsMoves self.old.store self.new.store }
+        ensures answers { IfOk result (λ got. Answers D.honest D.failures D.held key.now
+            self.old.store got.answer self.new.store) }
+        ensures in_memory { IsSome (value_in key.now self.old.store.memory.pairs) →
+            self.new.store.device ≡ self.old.store.device }
+        ensures unasked { IfThen (AsksNothing key.now self.old.store)
+            (self.new.store.device ≡ self.old.store.device) }
+
+        // When it is refused, and what that leaves.
+        ensures full { IsErrOf result RecordFault.HistoryFull
+            ↔ (max_calls ≤ length self.old.calls) }
+        ensures full_keeps { IsErrOf result RecordFault.HistoryFull → self.new ≡ self.old }
+        ensures out_of_memory { OnErr result (KeepsOrAnswers D.honest D.failures D.held key.now
+            self.old.store self.new.store) }
     {
         if self.calls.len() >= MAX_CALLS {
             return Err(RecordFault::HistoryFull);
         }
-        let answer = answer_from(self.memory.peek(key))?;
-        let noted = Noted {
-            caller,
-            start,
-            point,
-            key: key.try_clone()?,
-            act: act_from(&answer)?,
-        };
-        self.calls.push(&noted)?;
-        self.memory.raise(key);
+        let copy = key.try_clone()?;
+        let answer = self.store.get(key)?;
+        let noted = note_get(&mut self.calls, caller, start, point, copy, &answer)?;
         Ok(Got { answer, noted })
     }
 
-    /// Puts a value and records it. The admission word is not read until there is a tier below memory.
+    /// Puts a value into the store, and records it. No call of the device is made.
     ///
-    /// A refused put leaves the lane as it was, so an older value of the key stays: `TooLarge` where the
-    /// object does not fit on a page, else `HistoryFull` at `MAX_CALLS` calls, else `OutOfMemory`.
+    /// A refused put leaves the lane as it was, so an older value of the key stays: `TooLarge` where the object does not
+    /// fit on a page, else `HistoryFull` at `MAX_CALLS` calls, else `OutOfMemory`.
     pub fn put(
         &mut self,
         caller: u16,
@@ -173,8 +247,8 @@ impl<const PAGE: usize> RecordedLane<PAGE> {
     ) -> Result<Stored, RecordPutFault>
         requires start { start < point }
         requires rises { All (λ n. n.point < point) self.old.calls }
-        ensures pushed { IfOk result (λ stored. stored.pushed
-            ≡ (put_step (record { key = key; value = value }) word self.old.state).reply) }
+        requires own { IsOfLane self.old.store.layout self.old.lane key }
+
         ensures noted { IfOk result (λ stored. stored.noted ≡ record {
           caller = caller;
           start = start;
@@ -182,16 +256,27 @@ impl<const PAGE: usize> RecordedLane<PAGE> {
           key = key;
           act = Act.Put value;
         }) }
-        ensures after { IfOk result (λ stored. self.new ≡ record {
-          state = (put_step (record { key = key; value = value }) word self.old.state).state;
+        ensures recorded { IfOk result (λ stored. self.new ≡ record self.old {
+          store = self.new.store;
           calls = self.old.calls ++ stored.noted ∷ [];
         }) }
+
+        // What becomes of the store.
+        ensures layout { self.new.store.layout ≡ self.old.store.layout }
+        ensures device { self.new.store.device ≡ self.old.store.device }
+        ensures gives { IsTrue (D.honest self.old.store.device) → IfOk result (λ stored. IsStep
+            (put_step PAGE self.old.store.layout.admit (record { key = key; value = value }) word
+            (lane_of D.held self.old.store)) stored.pushed (lane_of D.held self.new.store)) }
+        ensures shows { IsTrue (D.honest self.old.store.device) →
+            OnOk result (ShowsFrom (Some key) (Some (record { key = key; value = value }))
+            (lane_of D.held self.old.store) (lane_of D.held self.new.store)) }
+
+        // When it is refused, and what that leaves.
         ensures large { IsErrOf result RecordPutFault.TooLarge ↔ (room PAGE < object_size key value) }
         ensures full { IsErrOf result RecordPutFault.HistoryFull
             ↔ ((object_size key value ≤ room PAGE) × (max_calls ≤ length self.old.calls)) }
         ensures err { OnErr result (self.new ≡ self.old) }
     {
-        let _unread = word;
         if is_too_large::<PAGE>(&key, &value) {
             return Err(RecordPutFault::TooLarge);
         }
@@ -205,18 +290,14 @@ impl<const PAGE: usize> RecordedLane<PAGE> {
             key: key.try_clone()?,
             act: Act::Put(value.try_clone()?),
         };
-        let pair = Pair { key, value };
-        let out = put_recorded(&mut self.calls, &mut self.memory, &noted, pair)?;
-        Ok(Stored {
-            pushed: fate_of(&out),
-            noted,
-        })
+        let pushed = put_noted(&mut self.calls, &mut self.store, &noted, key, value, word)?;
+        Ok(Stored { pushed, noted })
     }
 
-    /// Takes the key's pair out, if there is one, and records the removal.
+    /// Takes the key's pair out of the store, and records the removal. No call of the device is made.
     ///
-    /// A refused removal leaves the lane as it was, so a value of the key stays: `HistoryFull` at
-    /// `MAX_CALLS` calls, else `OutOfMemory`.
+    /// A refused removal leaves the lane as it was, so a value of the key stays: `HistoryFull` at `MAX_CALLS` calls, else
+    /// `OutOfMemory`.
     pub fn remove(
         &mut self,
         caller: u16,
@@ -226,18 +307,32 @@ impl<const PAGE: usize> RecordedLane<PAGE> {
     ) -> Result<Removed, RecordFault>
         requires start { start < point }
         requires rises { All (λ n. n.point < point) self.old.calls }
-        ensures noted { IfOk result (λ removed. removed.noted ≡ record {
+        requires own { IsOfLane self.old.store.layout self.old.lane key.now }
+
+        ensures noted { IfOk result (λ removal. removal.noted ≡ record {
           caller = caller;
           start = start;
           point = point;
           key = key.now;
           act = Act.Remove;
         }) }
-        ensures after { IfOk result (λ removed. self.new ≡ record {
-          state = (remove_step key.now self.old.state).state;
-          calls = self.old.calls ++ removed.noted ∷ [];
+        ensures recorded { IfOk result (λ removal. self.new ≡ record self.old {
+          store = self.new.store;
+          calls = self.old.calls ++ removal.noted ∷ [];
         }) }
-        ensures full { IsErrOf result RecordFault.HistoryFull ↔ (max_calls ≤ length self.old.calls) }
+
+        // What becomes of the store.
+        ensures layout { self.new.store.layout ≡ self.old.store.layout }
+        ensures device { self.new.store.device ≡ self.old.store.device }
+        ensures removed { OnOk result (lane_of D.held self.new.store
+            ≡ removed key.now (lane_of D.held self.old.store)) }
+        ensures shows { IsTrue (D.honest self.old.store.device) →
+            OnOk result (ShowsFrom (Some key.now) None
+            (lane_of D.held self.old.store) (lane_of D.held self.new.store)) }
+
+        // When it is refused, and what that leaves.
+        ensures full { IsErrOf result RecordFault.HistoryFull
+            ↔ (max_calls ≤ length self.old.calls) }
         ensures err { OnErr result (self.new ≡ self.old) }
     {
         if self.calls.len() >= MAX_CALLS {
@@ -251,46 +346,27 @@ impl<const PAGE: usize> RecordedLane<PAGE> {
             act: Act::Remove,
         };
         self.calls.push(&noted)?;
-        let _removed = self.memory.remove(key);
+        self.store.remove(key);
         Ok(Removed { noted })
     }
 
-    /// Takes the key's pair out, if there is one, as a cache may at any time. That is no call of the
-    /// history, and needs no memory.
-    pub fn forget(&mut self, key: &Key)
-        ensures after { self.new ≡ record {
-          state = (forget_step key.now self.old.state).state;
-          calls = self.old.calls;
-        } }
+    /// The recorded calls as a history, in which each call ends at its point, and the device, as it is now. Where the
+    /// device is honest the history is accepted with the positions 0, 1, 2 and so on for its certificate. It takes no
+    /// memory; what memory held is gone.
+    pub fn into_parts(self) -> RecordedParts<D>
+        ensures calls { result.calls ≡ map at_point self.calls }
+        ensures device { result.device ≡ self.store.device }
+        ensures accepted { IsTrue (D.honest self.store.device) →
+            IsAccepted result.calls (range_with_len 0 (length self.calls)) }
     {
-        let _forgotten = self.memory.remove(key);
-    }
-
-    /// The recorded calls as a history, in which each call ends at its point. With the positions 0, 1, 2
-    /// and so on for its certificate it is accepted. It takes no memory.
-    pub fn into_calls(self) -> History
-        ensures calls { result ≡ map at_point self.entry.calls }
-        ensures accepted { IsAccepted result (range_with_len 0 (length self.entry.calls)) }
-    {
-        self.calls.into_history()
+        RecordedParts {
+            calls: self.calls.into_history(),
+            device: self.store.into_device(),
+        }
     }
 }
 
-ghost use Rattle.std.specs.Prelude.{option_map, IsTrue};
-ghost use Rattle.memory_cache.specs.MemoryList.{after_put, pushed_out};
-ghost use Rattle.record_pages.specs.declared.field.Field.{Field};
-ghost use Rattle.history_recorder.specs.LaneState.{answer_by, fate_of};
 ghost use Rattle.history_recorder.specs.Lane.{act_of};
-
-/// The answer by what memory has of the key.
-fn answer_from(found: Option<&Value>) -> Result<Answer, AllocError>
-    ensures { IfOk result (λ answer. answer ≡ answer_by (option_map (λ v. v.now) found.entry)) }
-{
-    match found {
-        Some(value) => Ok(Answer::Hit(value.try_clone()?, Tier::Memory)),
-        None => Ok(Answer::Miss(MissCause::Absent)),
-    }
-}
 
 /// What is recorded of an answer.
 fn act_from(answer: &Answer) -> Result<Act, AllocError>
@@ -302,34 +378,61 @@ fn act_from(answer: &Answer) -> Result<Act, AllocError>
     }
 }
 
-/// Records a put and puts its pair first in memory, and gives the pair of another key that had to leave for
-/// it. Where memory is refused, record and memory are as they were.
-fn put_recorded(
+/// Records a get by its answer. Where memory is refused the record is as it was.
+fn note_get(
     calls: &mut CallRecord,
-    memory: &mut LaneMemory,
+    caller: u16,
+    start: u64,
+    point: u64,
+    key: Key,
+    answer: &Answer,
+) -> Result<Noted, AllocError>
+    ensures noted { IfOk result (λ noted. noted ≡ record {
+      caller = caller;
+      start = start;
+      point = point;
+      key = key;
+      act = act_of answer.now;
+    }) }
+    ensures more { IfOk result (λ noted. calls.new ≡ calls.old ++ noted ∷ []) }
+    ensures err { OnErr result (calls.new ≡ calls.old) }
+{
+    let noted = Noted {
+        caller,
+        start,
+        point,
+        key,
+        act: act_from(answer)?,
+    };
+    calls.push(&noted)?;
+    Ok(noted)
+}
+
+/// Records a put and does it. Where memory is refused, record and store are as they were.
+fn put_noted<D: PageDevice<PAGE>, const PAGE: usize>(
+    calls: &mut CallRecord,
+    store: &mut Store<D, PAGE>,
     noted: &Noted,
-    pair: Pair,
-) -> Result<Option<Pair>, AllocError>
-    ensures out { IfOk result (λ out. out ≡ pushed_out pair memory.old) }
-    ensures memory { OnOk result (memory.new ≡ after_put pair memory.old) }
-    ensures calls { OnOk result (calls.new ≡ calls.old ++ noted.now ∷ []) }
-    ensures memory_kept { OnErr result (memory.new ≡ memory.old) }
+    key: Key,
+    value: Value,
+    word: u32,
+) -> Result<Pushed, AllocError>
+    ensures more { OnOk result (calls.new ≡ calls.old ++ noted.now ∷ []) }
+    ensures layout { store.new.layout ≡ store.old.layout }
+    ensures device { store.new.device ≡ store.old.device }
+    ensures gives { IsTrue (D.honest store.old.device) → IfOk result (λ pushed. IsStep
+        (put_step PAGE store.old.layout.admit (record { key = key; value = value }) word
+        (lane_of D.held store.old)) pushed (lane_of D.held store.new)) }
+    ensures shows { IsTrue (D.honest store.old.device) →
+        OnOk result (ShowsFrom (Some key) (Some (record { key = key; value = value }))
+        (lane_of D.held store.old) (lane_of D.held store.new)) }
     ensures calls_kept { OnErr result (calls.new ≡ calls.old) }
+    ensures store_kept { OnErr result (store.new ≡ store.old) }
 {
     calls.push(noted)?;
-    let Ok(out) = memory.put(pair.key, pair.value) else {
+    let Ok(pushed) = store.put(key, value, word) else {
         calls.drop_last();
         return Err(AllocError);
     };
-    Ok(out)
-}
-
-/// What becomes of the pair that left memory.
-fn fate_of(out: &Option<Pair>) -> Pushed
-    ensures { result ≡ fate_of out.now }
-{
-    match out {
-        Some(_) => Pushed::Declined,
-        None => Pushed::Nobody,
-    }
+    Ok(pushed)
 }

@@ -5,3 +5,5 @@
 mod layouts;
 #[cfg(test)]
 mod tests;
+#[cfg(test)]
+mod worlds;

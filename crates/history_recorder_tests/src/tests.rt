@@ -1,271 +1,195 @@
-// A lane of one object, and the lanes that are not opened.
+//! A recorded lane from end to end: each call with its reply and its record, in memory, in the log and in its set.
+mod run;
+
+ghost use Rattle.std.specs.Prelude.{◌≡◌, ◌<◌};
+
+use self::run::{Found, Step, has_acts, run};
 use history_recorder::{
-    Got, Noted, NotedRef, OpenFault, RecordPutFault, RecordedLane, Removed, Stored,
+    Got, Noted, NotedRef, RecordFault, RecordPutFault, RecordedLane, Removed, Stored,
 };
-use record_pages::{Answer, Config, Field, Key, MissCause, Pushed, Tier, Value};
+use klog::Flushed;
+use mover::{Moved, OpenFault};
+use page_device::{FuseDevice, MemoryDevice, PageDevice};
+use record_pages::{Answer, Config, Field, Key, MissCause, Pushed, Tier};
+use rriparoo::Rriparoo;
+use set_hash::place;
 use std::alloc::Global;
 use std::process::Abort;
 use std::test::Fail;
+use test_steps::{key, value};
 use trace_file::{Act, ActRef, History};
 
-/// A configuration of one lane that keeps one object in memory.
-fn small() -> Config
-    ensures { result.lanes ≡ 1 }
+// One lane of one set, with one object in memory and two segments of one page.
+const ONE_SET: Config = Config {
+    lanes: 1,
+    sets: 1,
+    memory: 1,
+    segments: 2,
+    segment_pages: 1,
+    entries: 8,
+    threshold: 1,
+    admit: 65536,
+};
+
+// The same with another lane beside it.
+const TWO_LANES: Config = Config {
+    lanes: 2,
+    ..ONE_SET
+};
+
+// The pages of a set and of two segments.
+fn device(alloc: Global) -> Result<MemoryDevice<256>, Fail> {
+    match MemoryDevice::new(alloc, 3) {
+        Ok(device) => Ok(device),
+        Err(_) => Ok(MemoryDevice::new(alloc, 3)?),
+    }
+}
+
+// A lane of these numbers over a device in memory, opened once more where memory was refused.
+fn lane(
+    alloc: Global,
+    config: &Config,
+    number: u32,
+) -> Result<RecordedLane<MemoryDevice<256>, 256>, Fail>
+    requires { number < config.now.lanes }
 {
-    Config {
-        lanes: 1,
-        sets: 2,
-        memory: 1,
-        segments: 2,
-        segment_pages: 1,
-        entries: 8,
-        threshold: 1,
-        admit: 65536,
+    match RecordedLane::open(alloc, config, number, device(alloc)?) {
+        Ok(lane) => Ok(lane),
+        Err(_) => Ok(RecordedLane::open(alloc, config, number, device(alloc)?)?),
     }
 }
 
-ghost use Rattle.std.specs.Prelude.{◌≡◌};
-
-/// What a get answers.
-#[derive(Clone, Copy)]
-enum Seen {
-    Value(&'static [u8]),
-    Absent,
-}
-
-/// A call of a lane, and what it gives.
-#[derive(Clone, Copy)]
-enum Step {
-    /// A key, its value, and what becomes of the pair that leaves memory.
-    Put(&'static [u8], &'static [u8], Pushed),
-    /// A key, and what is seen of it.
-    Get(&'static [u8], Seen),
-    /// A key.
-    Remove(&'static [u8]),
-    /// A key. No call is recorded.
-    Forget(&'static [u8]),
-}
-
-/// Makes each of these calls, which gives what is written beside it. The caller is the step's number, and each call
-/// takes two stamps.
-fn run(rt: &impl Abort, alloc: Global, steps: &[Step]) -> Result<RecordedLane<256>, Fail> {
-    let mut lane = RecordedLane::open(alloc, &small(), 0)?;
-    assert_eq!(rt; lane.last_point(), 0);
-    for number in 0..steps.len() {
-        assert!(rt;
-            gives(alloc, &mut lane, (number % 65536) as u16, &steps[number])?,
-            "step {number}"
-        );
-    }
-    Ok(lane)
-}
-
-fn gives(
+// A lane over a device that refuses one call.
+fn refusing(
     alloc: Global,
-    lane: &mut RecordedLane<256>,
-    caller: u16,
-    step: &Step,
-) -> Result<bool, Fail> {
-    match step {
-        Step::Put(key, value, pushed) => {
-            let stored = put(alloc, lane, caller, key, value)?;
-            Ok(stored.pushed == *pushed && is_last(lane, caller, &stored.noted))
-        }
-        Step::Get(key, seen) => {
-            let got = get(alloc, lane, caller, key)?;
-            Ok(is_seen(&got.answer, seen) && is_last(lane, caller, &got.noted))
-        }
-        Step::Remove(key) => {
-            let removed = remove(alloc, lane, caller, key)?;
-            Ok(is_last(lane, caller, &removed.noted))
-        }
-        Step::Forget(key) => {
-            lane.forget(&Key::new(alloc, key)?);
-            Ok(true)
+    call: u32,
+) -> Result<RecordedLane<FuseDevice<MemoryDevice<256>>, 256>, Fail> {
+    match RecordedLane::open(alloc, &ONE_SET, 0, FuseDevice::one(device(alloc)?, call)) {
+        Ok(lane) => Ok(lane),
+        Err(_) => {
+            let again = FuseDevice::one(device(alloc)?, call);
+            Ok(RecordedLane::open(alloc, &ONE_SET, 0, again)?)
         }
     }
 }
 
-fn put(
-    alloc: Global,
-    lane: &mut RecordedLane<256>,
-    caller: u16,
-    key: &[u8],
-    value: &[u8],
-) -> Result<Stored, Fail> {
-    let start = lane.last_point().checked_add(1).ok_or("a stamp")?;
-    let point = start.checked_add(1).ok_or("a stamp")?;
-    let key = Key::new(alloc, key)?;
-    Ok(lane.put(caller, start, point, key, Value::new(alloc, value)?, 0)?)
-}
-
-fn get(alloc: Global, lane: &mut RecordedLane<256>, caller: u16, key: &[u8]) -> Result<Got, Fail> {
-    let start = lane.last_point().checked_add(1).ok_or("a stamp")?;
-    let point = start.checked_add(1).ok_or("a stamp")?;
-    Ok(lane.get(caller, start, point, &Key::new(alloc, key)?)?)
-}
-
-fn remove(
-    alloc: Global,
-    lane: &mut RecordedLane<256>,
-    caller: u16,
-    key: &[u8],
-) -> Result<Removed, Fail> {
-    let start = lane.last_point().checked_add(1).ok_or("a stamp")?;
-    let point = start.checked_add(1).ok_or("a stamp")?;
-    Ok(lane.remove(caller, start, point, &Key::new(alloc, key)?)?)
-}
-
-fn is_seen(answer: &Answer, seen: &Seen) -> bool {
-    match (answer, seen) {
-        (Answer::Hit(value, Tier::Memory), Seen::Value(bytes)) => value.bytes() == *bytes,
-        (Answer::Miss(MissCause::Absent), Seen::Absent) => true,
-        _ => false,
-    }
-}
-
-/// Whether this is the last recorded call, made by this caller, and its stamps are the last two.
-fn is_last(lane: &RecordedLane<256>, caller: u16, noted: &Noted) -> bool {
-    if lane.is_empty() {
-        return false;
-    }
-    let last = lane.at(lane.len() - 1);
-    noted.caller == caller
-        && noted.start < noted.point
-        && noted.point == lane.last_point()
-        && is_copy(noted, last)
-}
-
-fn is_copy(noted: &Noted, last: NotedRef<'_>) -> bool {
-    noted.caller == last.caller
-        && noted.start == last.start
-        && noted.point == last.point
-        && noted.key.bytes() == last.key
-        && is_same_act(&noted.act, last.act)
-}
-
-fn is_same_act(act: &Act, lent: ActRef<'_>) -> bool {
-    match (act, lent) {
-        (Act::Put(value), ActRef::Put(bytes)) => value.bytes() == bytes,
-        (Act::Hit(value), ActRef::Hit(bytes)) => value.bytes() == bytes,
-        (Act::Remove, ActRef::Remove) => true,
-        (Act::Miss, ActRef::Miss) => true,
-        _ => false,
-    }
-}
-
-/// Whether the call at a position is of this key, and has this act's letter: put, remove, hit or miss.
-fn is_at(lane: &RecordedLane<256>, position: usize, key: &[u8], letter: u8) -> bool {
-    if position >= lane.len() {
-        return false;
-    }
-    let noted = lane.at(position);
-    noted.key == key && letter_of(noted.act) == letter
-}
-
-fn letter_of(act: ActRef<'_>) -> u8 {
-    match act {
-        ActRef::Put(_) => b'p',
-        ActRef::Remove => b'r',
-        ActRef::Hit(_) => b'h',
-        ActRef::Miss => b'm',
-    }
-}
-
-const HIT: [Step; 2] = [
-    Step::Put(b"a", b"1", Pushed::Nobody),
-    Step::Get(b"a", Seen::Value(b"1")),
+const EACH_TIER: [Step; 14] = [
+    Step::Get(b"ax", Found::Absent),
+    Step::Put(b"ax", b"1", 0, Pushed::Nobody),
+    Step::Get(b"ax", Found::Memory(b"1")),
+    Step::Put(b"bx", b"2", 0, Pushed::Logged),
+    Step::Get(b"ax", Found::Log(b"1")),
+    Step::Flush(Flushed::Sealed),
+    Step::Flush(Flushed::Wrote),
+    Step::Get(b"ax", Found::Log(b"1")),
+    Step::Move(Moved::Written),
+    Step::Get(b"ax", Found::Set(b"1")),
+    Step::Remove(b"ax"),
+    Step::Get(b"ax", Found::Absent),
+    Step::Forget(b"bx"),
+    Step::Get(b"bx", Found::Absent),
 ];
 
 #[test]
-fn a_value_that_was_put_is_a_hit_and_both_calls_are_recorded(rt: HostRuntime) -> Result<(), Fail> {
-    let lane = run(&rt, rt.alloc(), &HIT)?;
-    assert_eq!(rt; lane.len(), 2);
-    assert_eq!(rt; lane.last_point(), 4);
-    assert!(rt; is_at(&lane, 0, b"a", b'p'));
-    assert!(rt; is_at(&lane, 1, b"a", b'h'));
-    let calls = lane.into_calls();
-    assert_eq!(rt; calls.len(), 2);
-    assert!(rt; ends_at(&calls, 1, 4));
+fn a_value_is_a_hit_in_each_tier_and_each_call_is_recorded(rt: HostRuntime) -> Result<(), Fail> {
+    let mut lane = lane(rt.alloc(), &ONE_SET, 0)?;
+    assert_eq!(rt; lane.last_point(), 0);
+    assert!(rt; lane.is_empty());
+    run(&rt, rt.alloc(), &mut lane, &EACH_TIER)?;
+    assert!(rt; has_acts(&lane, b"mphphhhrmm"));
+    assert_eq!(rt; lane.last_point(), 20);
+    assert!(rt; !lane.is_empty());
     Ok(())
 }
 
-/// Whether the call at a position ends there.
+const REFUSED: [Step; 4] = [
+    Step::Put(b"ax", b"1", 0, Pushed::Nobody),
+    Step::TooLarge(b"ax", &[7; 233]),
+    Step::Get(b"ax", Found::Memory(b"1")),
+    Step::Put(b"bx", &[7; 232], 0, Pushed::Logged),
+];
+
+#[test]
+fn a_refused_put_leaves_the_older_value(rt: HostRuntime) -> Result<(), Fail> {
+    let mut lane = lane(rt.alloc(), &ONE_SET, 0)?;
+    run(&rt, rt.alloc(), &mut lane, &REFUSED)?;
+    assert!(rt; has_acts(&lane, b"php"));
+    Ok(())
+}
+
+// The write of the log's page is the first call of the device, and the second is refused.
+const FAULT: [Step; 6] = [
+    Step::Put(b"ax", b"1", 0, Pushed::Nobody),
+    Step::Put(b"bx", b"2", 0, Pushed::Logged),
+    Step::Flush(Flushed::Sealed),
+    Step::Flush(Flushed::Wrote),
+    Step::Get(b"ax", Found::Fault),
+    Step::Get(b"ax", Found::Log(b"1")),
+];
+
+#[test]
+fn a_fault_is_recorded_as_a_miss(rt: HostRuntime) -> Result<(), Fail> {
+    let mut lane = refusing(rt.alloc(), 2)?;
+    run(&rt, rt.alloc(), &mut lane, &FAULT)?;
+    assert!(rt; has_acts(&lane, b"ppmh"));
+    Ok(())
+}
+
+const PARTS: [Step; 4] = [
+    Step::Put(b"ax", b"1", 0, Pushed::Nobody),
+    Step::Get(b"ax", Found::Memory(b"1")),
+    Step::Put(b"bx", b"2", 65535, Pushed::Logged),
+    Step::Remove(b"ax"),
+];
+
+#[test]
+fn the_calls_and_the_device_are_given_back(rt: HostRuntime) -> Result<(), Fail> {
+    let mut lane = lane(rt.alloc(), &ONE_SET, 0)?;
+    run(&rt, rt.alloc(), &mut lane, &PARTS)?;
+    let parts = lane.into_parts();
+    assert_eq!(rt; parts.calls.len(), 4);
+    assert!(rt; ends_at(&parts.calls, 3, 8));
+    assert_eq!(rt; parts.device.pages(), 3);
+    Ok(())
+}
+
+// Whether the call at a position ends there.
 fn ends_at(calls: &History, position: usize, end: u64) -> bool {
     position < calls.len() && calls.at(position).end == end
 }
 
-const PUSHED_OUT: [Step; 3] = [
-    Step::Put(b"a", b"1", Pushed::Nobody),
-    Step::Put(b"b", b"", Pushed::Declined),
-    Step::Get(b"a", Seen::Absent),
+// Keys of the second of two lanes.
+const SECOND: [Step; 3] = [
+    Step::Put(b"b", b"1", 0, Pushed::Nobody),
+    Step::Put(b"d", b"2", 0, Pushed::Logged),
+    Step::Get(b"b", Found::Log(b"1")),
 ];
 
 #[test]
-fn a_pair_that_memory_pushes_out_is_missed(rt: HostRuntime) -> Result<(), Fail> {
-    let lane = run(&rt, rt.alloc(), &PUSHED_OUT)?;
-    assert_eq!(rt; lane.len(), 3);
-    assert!(rt; is_at(&lane, 1, b"b", b'p'));
-    assert!(rt; is_at(&lane, 2, b"a", b'm'));
+fn a_lane_has_its_number_and_its_keys(rt: HostRuntime) -> Result<(), Fail> {
+    let mut second = lane(rt.alloc(), &TWO_LANES, 1)?;
+    assert_eq!(rt; second.lane(), 1);
+    assert_eq!(rt; second.config(), TWO_LANES);
+    run(&rt, rt.alloc(), &mut second, &SECOND)?;
+    assert!(rt; has_acts(&second, b"pph"));
     Ok(())
 }
 
-const REMOVED: [Step; 3] = [
-    Step::Put(b"ax", b"1", Pushed::Nobody),
-    Step::Remove(b"ax"),
-    Step::Get(b"ax", Seen::Absent),
-];
-
 #[test]
-fn a_removed_key_is_missed(rt: HostRuntime) -> Result<(), Fail> {
-    let lane = run(&rt, rt.alloc(), &REMOVED)?;
-    assert_eq!(rt; lane.len(), 3);
-    assert!(rt; is_at(&lane, 1, b"ax", b'r'));
-    Ok(())
-}
-
-const FORGOTTEN: [Step; 4] = [
-    Step::Put(b"ax", b"1", Pushed::Nobody),
-    Step::Forget(b"ax"),
-    Step::Forget(b"ax"),
-    Step::Get(b"ax", Seen::Absent),
-];
-
-#[test]
-fn a_forgotten_key_is_missed_and_its_call_stays(rt: HostRuntime) -> Result<(), Fail> {
-    let lane = run(&rt, rt.alloc(), &FORGOTTEN)?;
-    assert_eq!(rt; lane.len(), 2);
-    assert!(rt; is_at(&lane, 0, b"ax", b'p'));
-    Ok(())
-}
-
-fn put_of(alloc: Global, value: usize) -> Result<Option<RecordPutFault>, Fail> {
-    let mut lane = RecordedLane::<256>::open(alloc, &small(), 0)?;
-    let bytes = vec![in alloc; b'v'; value]?;
-    match lane.put(
-        0,
-        1,
-        2,
-        Key::new(alloc, b"a")?,
-        Value::new(alloc, &bytes)?,
-        0,
-    ) {
-        Ok(_) => Ok(None),
-        Err(fault) => Ok(Some(fault)),
-    }
-}
-
-#[test]
-fn refusals_are_named(rt: HostRuntime) -> Result<(), Fail> {
-    assert_eq!(rt; put_of(rt.alloc(), 233)?, None);
-    assert_eq!(rt; put_of(rt.alloc(), 234)?, Some(RecordPutFault::TooLarge));
-    let narrow = RecordedLane::<128>::open(rt.alloc(), &small(), 0);
-    assert!(rt; matches!(&narrow, Err(OpenFault::WrongPage)));
-    let wide = RecordedLane::<4097>::open(rt.alloc(), &small(), 0);
-    assert!(rt; matches!(&wide, Err(OpenFault::WrongPage)));
-    let no_sets = Config { sets: 0, ..small() };
-    let faulty = RecordedLane::<128>::open(rt.alloc(), &no_sets, 0);
+fn a_lane_is_not_opened(rt: HostRuntime) -> Result<(), Fail> {
+    let small = MemoryDevice::<256>::new(rt.alloc(), 2)?;
+    let few = RecordedLane::open(rt.alloc(), &ONE_SET, 0, small);
+    assert!(rt; matches!(&few, Err(OpenFault::DeviceTooSmall)));
+    let none = Config { sets: 0, ..ONE_SET };
     let field = Field::Sets;
+    let faulty = RecordedLane::open(rt.alloc(), &none, 0, device(rt.alloc())?);
     assert!(rt; matches!(&faulty, Err(OpenFault::ConfigFault { field: f }) if *f == field));
+    let narrow = RecordedLane::open(
+        rt.alloc(),
+        &ONE_SET,
+        0,
+        MemoryDevice::<128>::new(rt.alloc(), 3)?,
+    );
+    assert!(rt; matches!(&narrow, Err(OpenFault::WrongPage)));
     Ok(())
 }

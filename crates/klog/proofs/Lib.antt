@@ -13,3 +13,9 @@ pub mod MoveLaws
 pub mod TakeLaws
 pub mod TakenLaws
 pub mod CallLaws
+pub mod Numbered
+pub mod PlaceLaws
+pub mod ListedLaws
+pub mod KilledLaws
+pub mod StepLaws
+pub mod PutLaws

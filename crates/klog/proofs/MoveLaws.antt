@@ -1,33 +1,28 @@
 -- What leaves the log from its oldest segment.
-use Rattle.std.proofs.Common.{◌≡◌, ◌≢◌, ℕ, zero, suc, ◌+◌, ◌<◌, ◌≤◌, Bool, true, false, cond, not, eqb, ◌&&◌, ◌||◌, List, [], ◌∷◌, ◌++◌, length, get_or, take, filter, slice_get, Option, Some, None, All, Contains, inl, inr, refl, sym, ap, subst, ◌∙◌, arith}
+use Rattle.std.proofs.Common.{◌≡◌, ◌≢◌, ℕ, zero, suc, ◌+◌, ◌<◌, ◌≤◌, Bool, true, false, cond, not, eqb, ◌&&◌, List, [], ◌∷◌, length, get_or, filter, Option, Some, None, All, Contains, inl, inr, refl, sym, ap, subst, ◌∙◌, arith}
 use Rattle.std.specs.Prelude.{IsSomeAnd}
-use Rattle.std.specs.List.{list_any}
-use Rattle.std.proofs.lemmas.Bool.{false≢true, and_from, and_parts, and_right, cases_cond, eq-eqb, eqb-true, ne_eqb}
-use Rattle.std.proofs.lemmas.Option.{slice_get_within, get_or_from_slice_get, same_Some}
+use Rattle.std.proofs.lemmas.Bool.{false≢true, and_from, and_right, cases_cond, eq-eqb, ne_eqb}
+use Rattle.std.proofs.lemmas.Option.{same_Some}
 use Rattle.std.proofs.lemmas.List.Elements.{All-contains}
-use Rattle.std.proofs.lemmas.List.{take_more, take_all}
-use Rattle.std.proofs.lemmas.List.Folds.{list_any-append}
 use Rattle.page_device.specs.Frames.{pages_from}
 use Rattle.record_pages.specs.Recs.{Rec}
 use Rattle.record_pages.specs.declared.record_ref.RecordRef.{RecordRef}
 use Rattle.record_pages.specs.Lent.{record_shown}
 use Rattle.record_pages.specs.PageText.{SpellsLogPage}
 use Rattle.klog_index.specs.declared.entry.Entry.{Entry}
-use Rattle.klog_index.specs.declared.place.Place.{Place}
-use Rattle.klog_index.specs.Entries.{is_of, is_place, is_in, without}
+use Rattle.klog_index.specs.Entries.{is_in, without}
 use Rattle.klog_index.specs.First.{NoneOfSegment}
 use Rattle.klog.specs.declared.fetched.Fetched.TheVariants as fetched
 use Rattle.klog.specs.declared.oldest.Oldest.TheVariants as oldest
 use Rattle.klog.specs.declared.readmitted.Readmitted.{Readmitted}
-use Rattle.klog.specs.declared.taken_record.TakenRecord.{TakenRecord}
 use Rattle.klog.specs.declared.readmitted.Readmitted.TheVariants as answers
 use Rattle.klog.specs.Buffer.{page_of, record_in}
-use Rattle.klog.specs.Log.{LogState, with_list}
+use Rattle.klog.specs.Log.{LogState}
 use Rattle.klog.specs.Names.{names, name_of, number_of, segment_of, flushed_number, filled_number, ring_page}
 use Rattle.klog.specs.Shown.{shown, shown_on, live_on, record_of_held, CanStandFor, IsLiveOn, IsFlushed, IsSpelledOn}
 use Rattle.klog.specs.Keeps.{IsHeld, IsLog}
 use Rattle.klog.specs.Known.{IsPageKnown, IsHad, ShowsIfHad}
-use Rattle.klog.specs.Moves.{TellsOldest, IsOfOldest, freed, is_source, is_taken, dropped, EntersAnew, MovesTo, ReadsBack}
+use Rattle.klog.specs.Moves.{TellsOldest, IsOfOldest, freed, EntersAnew, MovesTo, ReadsBack}
 use Rattle.klog.specs.Fetch.{stored_on, FetchGives}
 use Rattle.klog.proofs.RingLaws.{name_again, number_again, number_from}
 use Rattle.klog.proofs.LiveLaws.{live_contained, live_by-same, length-kept}
@@ -125,101 +120,6 @@ spelled_freed bytes held k tells log h = record {
     flushed_as bytes pages k e some same h at is below =
         let t = h (sym same ∙ at ∙ flushed_freed k some) is below in
         (t.0, ap (λ (n : ℕ). pages (ring_page k n e.place.page)) same ∙ t.1, subst (λ (n : ℕ). SpellsLogPage bytes t.0 (record { segment = n; page = e.place.page; records = page_of k.flushing e.place.page })) (sym same) t.2)
-
--- ---- what was taken is dropped
-
--- what passes two tests, one after the other
-filter_twice : (p q both : Entry → Bool) (es : List Entry) → ((e : Entry) → both e ≡ (p e && q e)) → filter q (filter p es) ≡ filter both es
-filter_twice p q both [] is = refl
-filter_twice p q both (e ∷ es) is = step (filter_twice p q both es is) (p e) (q e) refl refl
-  where
-    step : filter q (filter p es) ≡ filter both es → (a b : Bool) → p e ≡ a → q e ≡ b → filter q (filter p (e ∷ es)) ≡ filter both (e ∷ es)
-    step rest true true pe qe = simp (is e, pe, qe) (ap (λ (xs : List Entry). e ∷ xs) rest)
-    step rest true false pe qe = simp (is e, pe, qe) rest
-    step rest false true pe qe = simp (is e, pe) rest
-    step rest false false pe qe = simp (is e, pe) rest
-
--- tests that agree keep the same
-filter_as : (p q : Entry → Bool) (es : List Entry) → ((e : Entry) → p e ≡ q e) → filter p es ≡ filter q es
-filter_as p q [] same = refl
-filter_as p q (e ∷ es) same =
-    ap (λ (b : Bool). cond b (e ∷ filter p es) (filter p es)) (same e) ∙ ap (λ (xs : List Entry). cond (q e) (e ∷ xs) xs) (filter_as p q es same)
-
--- where all pass, all are kept
-filter_whole : (p : Entry → Bool) (es : List Entry) → ((e : Entry) → p e ≡ true) → es ≡ filter p es
-filter_whole p [] passes = refl
-filter_whole p (e ∷ es) passes =
-    ap (λ (xs : List Entry). e ∷ xs) (filter_whole p es passes) ∙ sym (ap (λ (b : Bool). cond b (e ∷ filter p es) (filter p es)) (passes e))
-
--- one place is of one segment
-place_segment : (p q : Place) → is_place p q ≡ true → p.segment ≡ q.segment
-place_segment p q is =
-    eqb-true p.segment q.segment (and_parts (eqb p.segment q.segment) (eqb p.page q.page) (and_parts (eqb p.segment q.segment && eqb p.page q.page) (eqb p.slot q.slot) is).0).0
-
--- a record was taken of what lies at its place, if that is of its segment
-source_is : (k : LogState) (t : TakenRecord) (e : Entry) (b : Bool) → eqb (number_of k t.place.segment) t.segment ≡ b → is_source k t e ≡ (is_place e.place t.place && b)
-source_is k t e b is = step (is_place e.place t.place) refl
-  where
-    step : (c : Bool) → is_place e.place t.place ≡ c → (c && eqb (segment_of k e) t.segment) ≡ (c && b)
-    step true at = ap (λ (n : ℕ). eqb (number_of k n) t.segment) (place_segment e.place t.place at) ∙ is
-    step false at = refl
-
--- so where its segment is held what lies at its place is dropped
-pub dropped_held : (k : LogState) (set : ℕ) (t : TakenRecord) (es : List Entry) → number_of k t.place.segment ≡ t.segment → without (is_in set t.place) es ≡ without (is_taken k set (t ∷ [])) es
-dropped_held k set t es held =
-    filter_as (λ e. not (is_in set t.place e)) (λ e. not (is_taken k set (t ∷ []) e)) es
-    (λ e. ap (λ (b : Bool). not (is_of set e && b)) (each (is_place e.place t.place) (is_source k t e) (source_is k t e true (eq-eqb (number_of k t.place.segment) t.segment held))))
-  where
-    each : (c s : Bool) → s ≡ (c && true) → c ≡ (s || false)
-    each true s is = sym (ap (λ (b : Bool). b || false) is)
-    each false s is = sym (ap (λ (b : Bool). b || false) is)
-
--- and where it is not nothing is
-pub dropped_past : (k : LogState) (set : ℕ) (t : TakenRecord) → (number_of k t.place.segment ≡ t.segment → ⊥) → k ≡ dropped k set (t ∷ [])
-dropped_past k set t other =
-    ap (with_list k) (filter_whole (λ e. not (is_taken k set (t ∷ []) e)) k.entries
-    (λ e. each (is_of set e) (is_place e.place t.place) (is_source k t e) (source_is k t e false (ne_eqb (number_of k t.place.segment) t.segment other))))
-  where
-    each : (a c s : Bool) → s ≡ (c && false) → not (a && (s || false)) ≡ true
-    each true true s is = ap (λ (b : Bool). not (b || false)) is
-    each true false s is = ap (λ (b : Bool). not (b || false)) is
-    each false c s is = refl
-
--- what was taken as none is none
-pub dropped_none : (k : LogState) (set : ℕ) → k ≡ dropped k set []
-dropped_none k set = ap (with_list k) (filter_whole (λ e. not (is_taken k set [] e)) k.entries (λ e. each (is_of set e)))
-  where
-    each : (a : Bool) → not (a && false) ≡ true
-    each true = refl
-    each false = refl
-
--- one record more
-dropped_more : (k : LogState) (set : ℕ) (ts : List TakenRecord) (t : TakenRecord) → dropped (dropped k set ts) set (t ∷ []) ≡ dropped k set (ts ++ t ∷ [])
-dropped_more k set ts t =
-    ap (with_list k)
-    (filter_twice (λ e. not (is_taken k set ts e)) (λ e. not (is_taken k set (t ∷ []) e)) (λ e. not (is_taken k set (ts ++ t ∷ []) e)) k.entries
-    (λ e. ap (λ (b : Bool). not (is_of set e && b)) (list_any-append (λ t. is_source k t e) ts (t ∷ [])) ∙ each (is_of set e) (list_any (λ t. is_source k t e) ts) (list_any (λ t. is_source k t e) (t ∷ []))))
-  where
-    each : (a b d : Bool) → not (a && (b || d)) ≡ (not (a && b) && not (a && d))
-    each true true true = refl
-    each true true false = refl
-    each true false true = refl
-    each true false false = refl
-    each false true true = refl
-    each false true false = refl
-    each false false true = refl
-    each false false false = refl
-
--- one turn of dropping
-pub dropped_turn : (k was now : LogState) (set : ℕ) (ts : List TakenRecord) (i : ℕ) (t : TakenRecord) → slice_get ts i ≡ Some t → was ≡ dropped k set (take i ts) → now ≡ dropped was set (t ∷ []) → now ≡ dropped k set (take (i + 1) ts)
-dropped_turn k was now set ts i t at before after =
-    let more : take (i + 1) ts ≡ take i ts ++ t ∷ [] =
-    take_more ts i t (slice_get_within ts i t at) ∙ ap (λ (x : TakenRecord). take i ts ++ x ∷ []) (get_or_from_slice_get ts i t t at) in
-    after ∙ ap (λ (x : LogState). dropped x set (t ∷ [])) before ∙ dropped_more k set (take i ts) t ∙ ap (dropped k set) (sym more)
-
--- all are dropped at the end
-pub dropped_all : (k now : LogState) (set n : ℕ) (ts : List TakenRecord) → length ts ≤ n → now ≡ dropped k set (take n ts) → now ≡ dropped k set ts
-dropped_all k now set n ts le is = is ∙ ap (dropped k set) (take_all n ts le)
 
 -- ---- an entry is dropped
 

@@ -52,7 +52,7 @@ stays_put bytes k r e h = record {
 }
 
 -- where the filled segment is sealed
-stays_sealed : (k : LogState) (e : Entry) → k.is_flushing ≡ false → IsHeld k e → IsHeld (sealed k) e
+pub stays_sealed : (k : LogState) (e : Entry) → k.is_flushing ≡ false → IsHeld k e → IsHeld (sealed k) e
 stays_sealed k e idle h =
     let was : filled_number k ≡ flushed_number k = ap (λ (t : Bool). cond t (flushed_number k + 1) (flushed_number k)) idle in
     record {

@@ -12,3 +12,7 @@ pub mod Flush
 pub mod Moves
 pub mod Laws
 pub mod Take
+pub mod Segments
+pub mod Steps
+pub mod SegmentLaws
+pub mod Sources

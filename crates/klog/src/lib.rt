@@ -13,7 +13,9 @@ mod log;
 mod looked;
 mod oldest;
 mod readmitted;
+mod segment_laws;
 mod set_taken;
+mod sources;
 mod taken_record;
 mod taken_records;
 mod told;
@@ -28,6 +30,10 @@ pub use log::{KLog, MAX_TAKEN};
 pub use looked::Looked;
 pub use oldest::Oldest;
 pub use readmitted::Readmitted;
+pub use segment_laws::{
+    appends_put_last, entry_dies, freeing_takes_oldest, lost_pages_die, pages_are_done,
+    sealing_flushes, segments_tell_live, strikes_kill, taken_die,
+};
 pub use set_taken::SetTaken;
 pub use taken_record::TakenRecord;
 pub use taken_records::TakenRecords;

@@ -1,5 +1,5 @@
 -- The rows of a kind, dropped one after another.
-use Rattle.std.proofs.Common.{◌≡◌, ◌<◌, Bool, Some, None, length, not, sym, ap, subst, ◌∙◌}
+use Rattle.std.proofs.Common.{◌≡◌, ◌<◌, Bool, true, Some, None, length, not, sym, ap, subst, ◌∙◌}
 use Rattle.std.proofs.lemmas.List.Kept.{AllPairs-filter}
 use Rattle.std.specs.Prelude.{◌==◌}
 use Rattle.entry_pool.specs.declared.row.Row.{Row}
@@ -7,8 +7,8 @@ use Rattle.entry_pool.specs.Chains.{IsDistinct}
 use Rattle.entry_pool.specs.Rows.{Rows, numbers, with_rows, without_at, IsHeld}
 use Rattle.klog_index.specs.declared.entry.Entry.{Entry}
 use Rattle.klog_index.specs.Entries.{Entries, with_entries, without}
-use Rattle.klog_index.specs.Rows.{entries_of, index_of, RowsApart, row_of}
-use Rattle.klog_index.proofs.RowLaws.{LieApart, found-row, drop-found, keep-all, fewer}
+use Rattle.klog_index.specs.Rows.{entry_of, entries_of, index_of, RowsApart, row_of}
+use Rattle.klog_index.proofs.RowLaws.{LieApart, IsRow, found-row, drop-found, drop-row, keep-all, fewer}
 
 -- what is not of the kind is as it was
 pub record IsDropping (p : Entry → Bool) (old : Entries) (pool : Rows) : Type 0 where
@@ -30,6 +30,16 @@ dropping-step p old pool new r now apart found is =
       sets = now.sets;
       limit = now.limit;
       kept = drop-found p pool.rows r apart (sym found) ∙ now.kept;
+      apart = AllPairs-filter LieApart (λ (x : Row). not (x.at == r.at)) pool.rows now.apart;
+    })
+
+-- the same of a row of the kind that a walk came to
+pub dropping-at : (p : Entry → Bool) (old : Entries) (pool new : Rows) (r : Row) → IsDropping p old pool → p (entry_of r.item) ≡ true → IsRow r pool.rows → IsDistinct (numbers pool.rows) → new ≡ with_rows pool (without_at r.at pool.rows) → IsDropping p old new
+dropping-at p old pool new r now its listed apart is =
+    subst (λ (x : Rows). IsDropping p old x) (sym is) (record {
+      sets = now.sets;
+      limit = now.limit;
+      kept = drop-row p pool.rows r apart listed its ∙ now.kept;
       apart = AllPairs-filter LieApart (λ (x : Row). not (x.at == r.at)) pool.rows now.apart;
     })
 

@@ -1,6 +1,6 @@
 -- Rows and their entries: found, dropped, lowered.
 use Rattle.std.proofs.Common.{◌≡◌, ◌≢◌, ℕ, zero, suc, ◌<◌, ◌≤◌, ◌-◌, Bool, true, false, cond, not, eqb, Some, None, Option, List, [], ◌∷◌, ◌++◌, length, get_or, filter, map, All, inl, inr, refl, sym, ap, subst, ◌∙◌, arith}
-use Rattle.std.specs.Prelude.{◌&&◌, slice_get}
+use Rattle.std.specs.Prelude.{◌&&◌, slice_get, ◌⊎◌}
 use Rattle.std.specs.List.{last_or}
 use Rattle.std.specs.Option.{option_map}
 use Rattle.std.proofs.lemmas.Bool.{cases_Bool, cond_both, eq-eqb, ne_eqb}
@@ -140,6 +140,31 @@ drop-found p (x ∷ xs) r apart h = elim (cases_Bool (p (entry_of x.item))) [
       ap (λ (b : Bool). without p (entries_of (cond (not b) (x ∷ without_at r.at xs) (without_at r.at xs)))) (ne_eqb x.at r.at differs)
       ∙ ap (λ (es : List Entry). cond (not (p (entry_of x.item))) (entry_of x.item ∷ es) es) (drop-found p xs r apart.1 h')
 ]
+
+-- this very row is among these
+abbrev pub IsRow : Row → List Row → Type 0
+IsRow r [] = ⊥
+IsRow r (x ∷ xs) = (r ≡ x) ⊎ IsRow r xs
+
+row-number : (r : Row) (rows : List Row) → IsRow r rows → IsIn r.at (numbers rows)
+row-number r [] h = h
+row-number r (x ∷ xs) (inl same) = inl (ap (λ (y : Row). y.at) same)
+row-number r (x ∷ xs) (inr i) = inr (row-number r xs i)
+
+-- without a row of the kind, the entries that are not of the kind are the same
+pub drop-row : (p : Entry → Bool) (rows : List Row) (r : Row) → IsDistinct (numbers rows) → IsRow r rows → p (entry_of r.item) ≡ true → without p (entries_of (without_at r.at rows)) ≡ without p (entries_of rows)
+drop-row p [] r apart h its = absurd h
+drop-row p (x ∷ xs) r apart (inl same) its =
+    let e : p (entry_of x.item) ≡ true = ap (λ (y : Row). p (entry_of y.item)) (sym same) ∙ its in
+    let skipped : without_at r.at (x ∷ xs) ≡ xs =
+    ap (λ (b : Bool). cond (not b) (x ∷ without_at r.at xs) (without_at r.at xs)) (eq-eqb x.at r.at (ap (λ (y : Row). y.at) (sym same)))
+    ∙ skip-none r.at xs (subst (λ (k : ℕ). ¬ IsIn k (numbers xs)) (ap (λ (y : Row). y.at) (sym same)) apart.0) in
+    ap (λ (rs : List Row). without p (entries_of rs)) skipped
+    ∙ sym (ap (λ (b : Bool). cond (not b) (entry_of x.item ∷ without p (entries_of xs)) (without p (entries_of xs))) e)
+drop-row p (x ∷ xs) r apart (inr i) its =
+    let differs : x.at ≡ r.at → ⊥ = λ q. apart.0 (subst (λ (k : ℕ). IsIn k (numbers xs)) (sym q) (row-number r xs i)) in
+    ap (λ (b : Bool). without p (entries_of (cond (not b) (x ∷ without_at r.at xs) (without_at r.at xs)))) (ne_eqb x.at r.at differs)
+    ∙ ap (λ (es : List Entry). cond (not (p (entry_of x.item))) (entry_of x.item ∷ es) es) (drop-row p xs r apart.1 i its)
 
 -- where none is of the kind, all stay
 pub keep-all : (p : Entry → Bool) (rows : List Row) → row_of p rows ≡ None → without p (entries_of rows) ≡ entries_of rows

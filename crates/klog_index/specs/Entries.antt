@@ -1,6 +1,5 @@
 -- An index as the list of its entries.
-use Rattle.std.specs.Prelude.{◌≡◌, ◌≢◌, ℕ, zero, suc, ◌-◌, ◌<◌, List, [], ◌∷◌, length, Option, MatchOption, Bool, true, false, not, ◌==◌, ◌&&◌, filter, map, All, AllPairs, if◌then◌else◌}
-use Rattle.std.specs.List.{HoldsAt}
+use Rattle.std.specs.Prelude.{◌≡◌, ◌≢◌, ℕ, ◌-◌, List, Bool, not, ◌==◌, ◌&&◌, filter, map, All, AllPairs, if◌then◌else◌}
 use Rattle.klog_index.specs.declared.place.Place.{Place}
 use Rattle.klog_index.specs.declared.entry.Entry.{Entry}
 
@@ -34,6 +33,10 @@ is_in set place e = is_of set e && is_at place e
 abbrev pub is_on : ℕ → ℕ → Entry → Bool
 is_on segment page e = e.place.segment == segment && e.place.page == page
 
+-- the entry is of this set and passes a test
+abbrev pub passes_of : ℕ → (Entry → Bool) → Entry → Bool
+passes_of set test e = is_of set e && test e
+
 -- the entries of a set
 abbrev pub of_set : ℕ → List Entry → List Entry
 of_set set es = filter (is_of set) es
@@ -53,16 +56,6 @@ lowered e = record e { prediction = e.prediction - 1 }
 -- the entries with those of a kind lowered
 abbrev pub with_lowered : (Entry → Bool) → List Entry → List Entry
 with_lowered is_asked es = map (λ e. if is_asked e then lowered e else e) es
-
--- entry i lowered
-abbrev pub lower_at : ℕ → List Entry → List Entry
-lower_at i [] = []
-lower_at zero (e ∷ es) = lowered e ∷ es
-lower_at (suc i) (e ∷ es) = e ∷ lower_at i es
-
--- an entry of a kind is at this place of the list, or none is of it
-abbrev pub FindsSlot : (Entry → Bool) → List Entry → Option ℕ → Type 0
-FindsSlot p es found = MatchOption found (All (λ e. p e ≡ false) es) (λ i. (i < length es) × HoldsAt (λ e. p e ≡ true) es i)
 
 -- an index with other entries
 abbrev pub with_entries : Entries → List Entry → Entries

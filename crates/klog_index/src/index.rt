@@ -4,10 +4,11 @@ ghost use Rattle.std.specs.List.{last_or};
 
 use crate::entries_of::{EntriesOf, entries_in, entry_of};
 use crate::entry::Entry;
+use crate::entry_test::{EntryTest, HasTag, LiesAt};
 use crate::index_full::IndexFull;
 use crate::place::Place;
-use crate::rows::{row_at, row_in, row_on, row_with_tag};
-use entry_pool::{EntryPool, Item, Row};
+use crate::rows::{lies_on, row_at, row_behind, row_behind_in, row_in};
+use entry_pool::{EntryPool, Item, NONE, Row};
 use record_pages::Prediction;
 use std::alloc::{AllocError, Global};
 use std::marker::Model;
@@ -30,7 +31,7 @@ impl Model for LogIndex {
     ghost invariant = { λ x. RowsApart x.pool.rows };
 }
 
-ghost use Rattle.klog_index.specs.Entries.{Entries, with_entries, without, with_lowered, of_set, of_tag, is_of, has_tag, is_at, is_in, is_on, IsFree, AreApart};
+ghost use Rattle.klog_index.specs.Entries.{Entries, with_entries, without, with_lowered, of_set, of_tag, is_of, passes_of, has_tag, is_at, is_in, is_on, IsFree, AreApart};
 ghost use Rattle.klog_index.specs.First.{FindsFirst};
 
 impl LogIndex {
@@ -160,8 +161,21 @@ impl LogIndex {
     pub fn drop_tag(&mut self, set: u32, tag: u16)
         ensures { self.new ≡ with_entries self.old (without (has_tag set tag) self.old.entries) }
     {
-        while let Some(row) = row_with_tag(&self.pool, set, tag) {
-            self.pool.remove(row.at);
+        self.drop_passing(set, &HasTag { tag });
+    }
+
+    /// Drops the entries of a set that pass a test, in one walk along the set's entries.
+    pub fn drop_passing<T: EntryTest>(&mut self, set: u32, test: &T)
+        ensures { self.new ≡ with_entries self.old
+            (without (passes_of set (T.passing test.now)) self.old.entries) }
+    {
+        let mut mark = NONE;
+        while let Some(row) = row_behind_in(&self.pool, set, mark) {
+            if test.passes(&entry_of(&row.item)) {
+                self.pool.remove_next(mark, &row);
+            } else {
+                mark = row.at;
+            }
         }
     }
 
@@ -178,17 +192,20 @@ impl LogIndex {
     pub fn drop_in(&mut self, set: u32, place: Place)
         ensures { self.new ≡ with_entries self.old (without (is_in set place) self.old.entries) }
     {
-        while let Some(row) = row_in(&self.pool, set, place) {
-            self.pool.remove(row.at);
-        }
+        self.drop_passing(set, &LiesAt { place });
     }
 
-    /// Drops the entries of a page of the segment with this name.
+    /// Drops the entries of a page of the segment with this name, in one walk along all entries.
     pub fn drop_page(&mut self, segment: u16, page: u8)
         ensures { self.new ≡ with_entries self.old (without (is_on segment page) self.old.entries) }
     {
-        while let Some(row) = row_on(&self.pool, segment, page) {
-            self.pool.remove(row.at);
+        let mut mark = NONE;
+        while let Some(row) = row_behind(&self.pool, mark) {
+            if lies_on(&row, segment, page) {
+                self.pool.remove(row.at);
+            } else {
+                mark = row.at;
+            }
         }
     }
 

@@ -3,6 +3,7 @@
 
 mod entries_of;
 mod entry;
+mod entry_test;
 mod index;
 mod index_full;
 mod place;
@@ -10,6 +11,7 @@ mod rows;
 
 pub use entries_of::EntriesOf;
 pub use entry::Entry;
+pub use entry_test::EntryTest;
 pub use index::LogIndex;
 pub use index_full::IndexFull;
 pub use place::Place;

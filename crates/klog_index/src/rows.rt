@@ -1,22 +1,13 @@
-// The first row of a kind.
+// The first row of a kind, and the next row of a walk.
 ghost use Rattle.std.specs.Prelude.{◌≡◌};
 ghost use Rattle.entry_pool.specs.Chains.{IsDistinct};
-ghost use Rattle.entry_pool.specs.Rows.{numbers};
-ghost use Rattle.klog_index.specs.Entries.{has_tag, is_at, is_in, is_on};
+ghost use Rattle.entry_pool.specs.Rows.{numbers, in_set, IsMark, IsNext};
+ghost use Rattle.klog_index.specs.Entries.{is_at, is_in, is_on};
 ghost use Rattle.klog_index.specs.Rows.{row_of};
 
 use crate::entries_of::entry_of;
 use crate::place::Place;
 use entry_pool::{EntryPool, Row};
-
-// The newest row of a set with a tag.
-pub(crate) fn row_with_tag(pool: &EntryPool, set: u32, tag: u16) -> Option<Row>
-    ensures found { result ≡ row_of (has_tag set tag) pool.now.rows }
-    ensures apart { IsDistinct (numbers pool.now.rows) }
-{
-    let _count = pool.len();
-    pool.in_set(set).filter(|row| row.item.tag == tag).nth(0)
-}
 
 // The row of a set at a place.
 pub(crate) fn row_in(pool: &EntryPool, set: u32, place: Place) -> Option<Row>
@@ -36,15 +27,24 @@ pub(crate) fn row_at(pool: &EntryPool, place: Place) -> Option<Row>
     pool.by_age().filter(|row| lies_at(row, place)).nth(0)
 }
 
-// The newest row on a page of the segment with this name.
-pub(crate) fn row_on(pool: &EntryPool, segment: u16, page: u8) -> Option<Row>
-    ensures found { result ≡ row_of (is_on segment page) pool.now.rows }
+// The next older row behind a mark.
+pub(crate) fn row_behind(pool: &EntryPool, mark: u32) -> Option<Row>
+    requires { IsMark mark pool.now.rows }
+    ensures next { IsNext mark pool.now.rows result }
     ensures apart { IsDistinct (numbers pool.now.rows) }
 {
     let _count = pool.len();
-    pool.by_age()
-        .filter(|row| lies_on(row, segment, page))
-        .nth(0)
+    pool.next_older(mark)
+}
+
+// Of the rows of a set, the next older one behind a mark.
+pub(crate) fn row_behind_in(pool: &EntryPool, set: u32, mark: u32) -> Option<Row>
+    requires { IsMark mark (in_set set pool.now.rows) }
+    ensures next { IsNext mark (in_set set pool.now.rows) result }
+    ensures apart { IsDistinct (numbers pool.now.rows) }
+{
+    let _count = pool.len();
+    pool.next_in(set, mark)
 }
 
 ghost use Rattle.klog_index.specs.Rows.{entry_of};
@@ -57,7 +57,7 @@ fn lies_at(row: &Row, place: Place) -> bool
 }
 
 // Whether a row lies on a page of the segment with this name.
-fn lies_on(row: &Row, segment: u16, page: u8) -> bool
+pub(crate) fn lies_on(row: &Row, segment: u16, page: u8) -> bool
     ensures { result ≡ is_on segment page (entry_of row.now.item) }
 {
     row.item.segment == segment && row.item.page == page

@@ -3,6 +3,7 @@ ghost use Rattle.std.specs.Prelude.{◌≡◌};
 
 mod compared;
 mod plain_index;
+mod whole;
 
 use klog_index::{Entry, IndexFull, LogIndex, Place};
 use record_pages::Prediction;

@@ -1,5 +1,5 @@
 -- How a move begins, tier by tier.
-use Rattle.std.proofs.Common.{◌≡◌, ◌≢◌, ℕ, List, [], Option, Some, refl, sym, subst}
+use Rattle.std.proofs.Common.{◌≡◌, ◌≢◌, ℕ, List, [], Option, Some, None, refl, sym, ap, subst, ◌∙◌}
 use Rattle.std.specs.Prelude.{Result, Ok}
 use Rattle.std.specs.FinSet as bits
 use Rattle.std.specs.declared.alloc.AllocError.{AllocError}
@@ -23,7 +23,11 @@ use Rattle.mover.specs.Store.{StoreState}
 use Rattle.mover.specs.Lane.{LaneState, lane_of}
 use Rattle.mover.specs.Put.{IsStep}
 use Rattle.mover.specs.Oldest.{record_of}
-use Rattle.mover.specs.Begin.{LaneTakes, LaneReads, LaneReadmits, anew_step, readmit_step}
+use Rattle.mover.specs.Begin.{LaneTakes, LaneReads, LaneReadmits, anew_step, readmit_step, began_by, moves_after, BeginsFlight, BeginLeaves, AnswersBusy}
+use Rattle.mover.specs.Flight.{Flight}
+use Rattle.mover.specs.declared.begin.Begin.{Begin}
+use Rattle.mover.specs.declared.begin.Begin.TheVariants as begin
+use Rattle.policy_laws.specs.declared.job.Job.{Job}
 use Rattle.mover.proofs.Placing.{record_is}
 
 module _ {D : Type 0} (held : D → ℕ → Option (List ℕ)) (s : StoreState D) (d : D) (same : held d ≡ held s.device) where
@@ -35,6 +39,7 @@ module _ {D : Type 0} (held : D → ℕ → Option (List ℕ)) (s : StoreState D
     log = e i;
     live = f i;
     sets = s.sets;
+    flight = s.flight;
     visible = visible_in (same i) s.sets;
     moves = s.moves;
   }
@@ -53,6 +58,7 @@ module _ {D : Type 0} (held : D → ℕ → Option (List ℕ)) (s : StoreState D
     log = s.log;
     live = live_on (same i) s.log;
     sets = e i;
+    flight = s.flight;
     visible = f i;
     moves = s.moves;
   }
@@ -92,3 +98,36 @@ module _ {D : Type 0} (held : D → ℕ → Option (List ℕ)) (s : StoreState D
 -- where no record is read no page is lost
 pub not_lost : (answer : SetRead) (given : Result SetRead AllocError) → given ≡ Ok (read.Records []) → given ≡ Ok answer → answer ≢ read.PageLost
 not_lost answer given is was lost = absurd cc
+
+-- a readmission begins no move
+pub none_counted : (r : Readmitted) (b : Begin) (moves : ℕ) → b ≡ began_by r → moves_after (Ok b) moves ≡ moves
+none_counted r b moves is = ap (λ (x : Begin). moves_after (Ok x) moves) is ∙ step r
+  where
+    step : (r : Readmitted) → moves_after (Ok (began_by r)) moves ≡ moves
+    step readmitted.Readmitted = refl
+    step readmitted.Dropped = refl
+    step readmitted.Fault = refl
+    step readmitted.Damaged = refl
+
+pub none_flies : (size : ℕ) (r : Readmitted) (b : Begin) (old new : Option Flight) → b ≡ began_by r → new ≡ old → BeginsFlight size (Ok b) old new
+none_flies size r b old new is same = subst (λ (x : Begin). BeginsFlight size (Ok x) old new) (sym is) (step r)
+  where
+    step : (r : Readmitted) → BeginsFlight size (Ok (began_by r)) old new
+    step readmitted.Readmitted = same
+    step readmitted.Dropped = same
+    step readmitted.Fault = same
+    step readmitted.Damaged = same
+
+pub none_leaves : {D : Type 0} (r : Readmitted) (b : Begin) (old new : StoreState D) → b ≡ began_by r → BeginLeaves (Ok b) old new
+none_leaves r b old new is = subst (λ (x : Begin). BeginLeaves (Ok x) old new) (sym is) (step r)
+  where
+    step : (r : Readmitted) → BeginLeaves (Ok (began_by r)) old new
+    step readmitted.Readmitted = tt
+    step readmitted.Dropped = tt
+    step readmitted.Fault = tt
+    step readmitted.Damaged = tt
+
+-- where there is a job no move was in flight
+pub was_free : (o : Option Flight) (job : Job) (P : Type 0) → AnswersBusy o (Ok (begin.Job job)) P → o ≡ None
+was_free None job P is = refl
+was_free (Some f) job P is = let same = is.0 in absurd cc

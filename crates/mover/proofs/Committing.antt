@@ -1,9 +1,8 @@
 -- How a move ends, tier by tier.
-use Rattle.std.proofs.Common.{append_assoc, ◌≡◌, ◌≢◌, ◌+◌, ℕ, List, [], ◌∷◌, ◌++◌, map, take, Option, Some, sym, ap, ◌∙◌}
+use Rattle.std.proofs.Common.{append_assoc, ◌≡◌, ◌+◌, ℕ, List, [], ◌∷◌, ◌++◌, map, take, Option, Some, sym, ap, ◌∙◌}
 use Rattle.std.specs.Prelude.{slice_get}
-use Rattle.std.specs.List.{filter_map, enumerate_from}
+use Rattle.std.specs.List.{filter_map}
 use Rattle.std.specs.Option.{option_map}
-use Rattle.std.specs.Bool.{OnTrue, OnFalse}
 use Rattle.std.proofs.lemmas.List.{take_more, map-append}
 use Rattle.std.proofs.lemmas.Option.{slice_get_within, get_or_from_slice_get}
 use Rattle.page_device.specs.Frames.{pages_from}
@@ -18,7 +17,6 @@ use Rattle.kset.specs.Sets.{SetsState}
 use Rattle.kset.specs.Shown.{visible_in}
 use Rattle.mover.specs.Store.{StoreState}
 use Rattle.mover.specs.Lane.{lane_of}
-use Rattle.kset.specs.After.{with_set}
 use Rattle.mover.specs.Commit.{lane_rewritten}
 
 -- the same later pages show the same live records
@@ -39,6 +37,7 @@ lane_rewrote held s d q set rs answer is apart shown = step answer is shown
       log = s.log;
       live = live_framed (held s.device) (held d) s.log apart i;
       sets = e i;
+      flight = s.flight;
       visible = f i;
       moves = s.moves;
     }

@@ -1,13 +1,19 @@
 -- What a get gives, tier by tier.
-use Rattle.std.proofs.Common.{◌≡◌, ℕ, List, Option, Some, None, refl, sym, ap, subst, ◌∙◌}
-use Rattle.std.specs.Prelude.{IsSomeAnd, Ok, false}
+use Rattle.std.proofs.Common.{◌≡◌, ℕ, Bool, List, Option, Some, None, refl, sym, ap, subst, ◌∙◌}
+use Rattle.std.specs.Prelude.{IsSomeAnd, Result, Ok, Err, false}
+use Rattle.std.specs.Result.{IsErr}
+use Rattle.std.specs.declared.alloc.AllocError.{AllocError}
 use Rattle.set_hash.specs.declared.placed.Placed.{Placed}
 use Rattle.klog_index.specs.Entries.{of_tag}
 use Rattle.klog.specs.Known.{AreBuffered}
+use Rattle.klog.specs.Look.{LogLookGives, LogLookLeaves, is_log_fault, lowered_in, live_lowered}
+use Rattle.klog.specs.Log.{LogState}
+use Rattle.klog_index.specs.declared.entry.Entry.{Entry}
 use Rattle.klog.specs.declared.looked.Looked.TheVariants as log
 use Rattle.klog.specs.declared.looked.Looked.{Looked as LogLooked}
 use Rattle.kset.specs.Notes.{lets_show}
-use Rattle.mover.specs.Asking.{AsksNothing, IsNotOfLog, HitsInLog}
+use Rattle.page_device.specs.Device.{faults_after}
+use Rattle.mover.specs.Asking.{AsksNothing, IsNotOfLog, KeepsIfMiss, HitsInLog}
 use Rattle.record_pages.specs.Recs.{Rec}
 use Rattle.record_pages.specs.declared.answer.Answer.{Answer}
 use Rattle.record_pages.specs.declared.answer.Answer.TheVariants.{Hit, Miss}
@@ -17,15 +23,16 @@ use Rattle.memory_cache.specs.MemoryList.{MemoryList, value_in, after_get, pair_
 use Rattle.memory_cache.specs.declared.pair.Pair.{Pair}
 use Rattle.std.specs.Option.{option_map}
 use Rattle.std.proofs.lemmas.Option.{none-some}
-use Rattle.klog.specs.Shown.{place_in, live_on}
+use Rattle.std.proofs.lemmas.Bool.{false≢true}
+use Rattle.klog.specs.Shown.{place_in, live_on, newest_with}
 use Rattle.kset.specs.declared.looked.Looked.TheVariants as set
 use Rattle.kset.specs.declared.looked.Looked.{Looked as SetLooked}
 use Rattle.kset.specs.Sets.{SetsState, hit_in, notes_of}
 use Rattle.kset.specs.Shown.{visible_in, first_visible}
-use Rattle.kset.specs.Look.{SetLookGives}
-use Rattle.mover.specs.Store.{StoreState, KeepsTiers}
+use Rattle.kset.specs.Look.{SetLookGives, is_set_fault}
+use Rattle.mover.specs.Store.{StoreState, KeepsTiers, OnlyReads}
 use Rattle.mover.specs.Lane.{LaneState, lane_of}
-use Rattle.mover.specs.Get.{set_step, ask_set, ask_log, memory_step, get_step, StepGives, KeepsUnlessHit, answer_of_set}
+use Rattle.mover.specs.Get.{LogTells, lane_lowered, is_fault, log_step, set_step, ask_set, ask_log, memory_step, get_step, StepGives, KeepsUnlessHit, answer_of_set}
 
 -- what is said of what an option holds, more loosely
 weaker : {X : Type 0} (P Q : X → Type 0) (o : Option X) → ((x : X) → P x → Q x) → IsSomeAnd o P → IsSomeAnd o Q
@@ -46,6 +53,7 @@ module _ {D : Type 0} (held : D → ℕ → Option (List ℕ)) (s : StoreState D
         log = s.log;
         live = live_on (same i) s.log;
         sets = e i;
+        flight = s.flight;
         visible = shown i;
         moves = s.moves;
       }
@@ -62,6 +70,34 @@ module _ {D : Type 0} (held : D → ℕ → Option (List ℕ)) (s : StoreState D
           subst (λ o. StepGives (set_step n (lane_of held s) o) (lane_of held s) (Miss Absent) (lane_of held (record s { device = d; sets = q }))) (sym gives.0) (refl, lane_as s.sets gives.1)
       step set.Fault gives = lane_as s.sets gives
       step set.Damaged gives = gives
+
+module _ {D : Type 0} (held : D → ℕ → Option (List ℕ)) (s : StoreState D) (d : D) (key : List ℕ) (same : held d ≡ held s.device) where
+  -- what the log gives, of the lane
+  pub log_told : (k : LogState) (looked : LogLooked) → LogLookGives (live_on (held s.device) s.log) key s.log looked k (live_on (held d) k) →
+      LogTells key (lane_of held s) looked (lane_of held (record s { device = d; log = k }))
+  log_told k looked gives = step looked gives
+    where
+      lane_as : (log : LogState) (live : List (Entry × Rec)) → k ≡ log → live_on (held d) k ≡ live → lane_of held (record s { device = d; log = k }) ≡ record (lane_of held s) { log = log; live = live }
+      lane_as log live e f = λ i. record {
+        memory = s.memory;
+        log = e i;
+        live = f i;
+        sets = s.sets;
+        visible = visible_in (same i) s.sets;
+        flight = s.flight;
+        moves = s.moves;
+      }
+
+      hit : (value : List ℕ) (o : Option (Entry × Rec)) → IsSomeAnd o (λ x. (x.1.value ≡ value) × (k ≡ lowered_in s.log x.0.set x.0.place) × (live_on (held d) k ≡ live_lowered x.0.set x.0.place (live_on (held s.device) s.log))) →
+          IsSomeAnd o (λ x. (x.1.value ≡ value) × (lane_of held (record s { device = d; log = k }) ≡ lane_lowered (lane_of held s) x.0))
+      hit value None has = absurd has
+      hit value (Some x) has = (has.0, lane_as _ _ has.1 has.2)
+
+      step : (looked : LogLooked) → LogLookGives (live_on (held s.device) s.log) key s.log looked k (live_on (held d) k) → LogTells key (lane_of held s) looked (lane_of held (record s { device = d; log = k }))
+      step (log.Hit value) gives = hit value (newest_with (live_on (held s.device) s.log) key) gives
+      step log.Absent gives = (gives.0, lane_as s.log (live_on (held s.device) s.log) gives.1 gives.2)
+      step log.Fault gives = lane_as s.log (live_on (held s.device) s.log) gives.0 gives.1
+      step log.Damaged gives = gives
 
 -- a hit in memory is the answer
 pub get_hit : (key value : List ℕ) (old new : LaneState) → Some value ≡ value_in key old.memory.pairs → new ≡ record old { memory = after_get key old.memory } →
@@ -102,3 +138,62 @@ not_of_log key (Hit value Log) old new not_called is = absurd is
 not_of_log key (Hit value Memory) old new not_called is = tt
 not_of_log key (Hit value Set) old new not_called is = tt
 not_of_log key (Miss cause) old new not_called is = tt
+
+-- a hit in the log needs the device for no page in a buffer
+pub hits_in_log : {D : Type 0} (key value : List ℕ) (old new : StoreState D) (at : Placed) (looked : LogLooked) (not_called : Type 0) → at ≡ place_in old.log.shape key → looked ≡ log.Hit value → LogLookLeaves old.log at.set at.tag (Ok looked) new.log not_called →
+    HitsInLog key (Hit value Log) old new not_called
+hits_in_log key value old new at looked not_called placed is leaves =
+    subst (λ (p : Placed). LogLookLeaves old.log p.set p.tag (Ok (log.Hit value)) new.log not_called) placed (subst (λ l. LogLookLeaves old.log at.set at.tag (Ok l) new.log not_called) is leaves)
+
+-- where the log has the key, that is the answer of the tiers below memory
+pub log_hit_gives : (key value : List ℕ) (old new : LaneState) (looked : LogLooked) → looked ≡ log.Hit value → LogTells key old looked new → StepGives (ask_log key old) old (Hit value Log) new
+log_hit_gives key value old new looked is tells = step (newest_with old.live key) (subst (λ l. LogTells key old l new) is tells)
+  where
+    step : (o : Option (Entry × Rec)) → IsSomeAnd o (λ x. (x.1.value ≡ value) × (new ≡ lane_lowered old x.0)) → StepGives (log_step key old o) old (Hit value Log) new
+    step None has = absurd has
+    step (Some x) has = (ap (λ v. Hit v Log) (sym has.0), has.1)
+
+-- where the device fails in the log nothing changes
+pub log_fault_gives : (key : List ℕ) (old new : LaneState) (looked : LogLooked) → looked ≡ log.Fault → LogTells key old looked new → new ≡ old
+log_fault_gives key old new looked is tells = subst (λ l. LogTells key old l new) is tells
+
+-- where the log lacks the key, its set's answer is that of the tiers below memory
+pub log_absent_gives : (key : List ℕ) (old mid new : LaneState) (looked : LogLooked) (answer : Answer) → looked ≡ log.Absent → LogTells key old looked mid → StepGives (ask_set key mid) mid answer new → StepGives (ask_log key old) old answer new
+log_absent_gives key old mid new looked answer is tells gives =
+    let absent = subst (λ l. LogTells key old l mid) is tells in
+    subst (λ o. StepGives (log_step key old o) old answer new) (sym absent.0) (subst (λ (l : LaneState). StepGives (ask_set key l) l answer new) absent.1 gives)
+
+-- a look into the log that failed not, and then one into a set
+pub reads_after : {D : Type 0} (honest : D → Bool) (failures : D → ℕ) (held : D → ℕ → Option (List ℕ)) (old mid new : StoreState D) (looked : LogLooked) (failed : Bool) → looked ≡ log.Absent → OnlyReads honest failures held old (is_log_fault (Ok looked)) mid →
+    OnlyReads honest failures held mid failed new → OnlyReads honest failures held old failed new
+reads_after honest failures held old mid new looked failed is first next =
+    let calm : OnlyReads honest failures held old false mid = subst (λ l. OnlyReads honest failures held old (is_log_fault (Ok l)) mid) is first in
+    record {
+      layout = next.layout ∙ calm.layout;
+      honesty = next.honesty ∙ calm.honesty;
+      failed_once = next.failed_once ∙ ap (λ n. faults_after n failed) calm.failed_once;
+      same = λ on. next.same (calm.honesty ∙ on) ∙ calm.same on;
+    }
+
+-- a miss in both changes nothing
+pub missed_after : {D : Type 0} (old mid new : StoreState D) (looked : LogLooked) (answer : Answer) → looked ≡ log.Absent → KeepsUnlessHit (Ok looked) old mid → KeepsIfMiss answer mid new → KeepsIfMiss answer old new
+missed_after old mid new looked (Hit value tier) is keeps next = tt
+missed_after old mid new looked (Miss cause) is keeps next =
+    let kept : KeepsTiers old mid = subst (λ l. KeepsUnlessHit (Ok l) old mid) is keeps in
+    record { memory = next.memory ∙ kept.memory; log = next.log ∙ kept.log; sets = next.sets ∙ kept.sets; flight = next.flight ∙ kept.flight }
+
+-- a set's fault is the answer's
+pub set_faulty : (looked : SetLooked) → is_fault (Ok (answer_of_set looked)) ≡ is_set_fault (Ok looked)
+set_faulty (set.Hit value) = refl
+set_faulty set.Absent = refl
+set_faulty set.Fault = refl
+set_faulty set.Damaged = refl
+
+-- what a get asks of the tiers below does not hang on memory
+pub asks_below : {D : Type 0} (key : List ℕ) (old mid : StoreState D) (m : MemoryList) → mid ≡ record old { memory = m } → AsksNothing key old → AsksNothing key mid
+asks_below key old mid m is asks = subst (AsksNothing key) (sym is) (record { buffered = asks.buffered; denied = asks.denied })
+
+-- want of memory is no fault
+pub no_fault : (r : Result Answer AllocError) → IsErr r → is_fault r ≡ false
+no_fault (Ok x) is = absurd (false≢true is)
+no_fault (Err e) is = refl

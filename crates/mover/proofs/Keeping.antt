@@ -1,6 +1,6 @@
 -- What keeps a store.
 use Rattle.std.proofs.Common.{◌≡◌, ◌≤◌, ◌+◌, ◌*◌, ℕ, List, [], Option, Some, None, Bool, not, refl, sym, ap, subst, ◌∙◌, arith}
-use Rattle.std.specs.Prelude.{IsTrue, All}
+use Rattle.std.specs.Prelude.{IsTrue, All, IfSome}
 use Rattle.page_device.specs.Frames.{pages_before, pages_from}
 use Rattle.std.specs.Str.{bytes_eq}
 use Rattle.std.proofs.lemmas.List.{length-replicate}
@@ -18,7 +18,8 @@ use Rattle.kset.specs.Pages.{AreSpelled, AreSpelledOn, records_on}
 use Rattle.kset.specs.Shown.{visible_in, visible_from}
 use Rattle.kset.specs.Laws.{AreOfTheirSets, IsKeyOf}
 use Rattle.record_pages.specs.Recs.{Rec}
-use Rattle.mover.specs.Store.{StoreState, IsStore, IsSmall}
+use Rattle.mover.specs.Flight.{Flight, IsFlightOf, AreOfSet}
+use Rattle.mover.specs.Store.{StoreState, IsStore, IsSmall, most_moves}
 
 -- the same first pages spell the same sets
 pub sets_framed : (size : ℕ) (old new : ℕ → Option (List ℕ)) (q : SetsState) → pages_before (set_count q) new ≡ pages_before (set_count q) old →
@@ -50,6 +51,9 @@ module _ {D : Type 0} (size : ℕ) (pages : D → ℕ) (honest : D → Bool) (he
     room = subst (λ (h : Shape). h.sets + h.segments * h.segment_pages ≤ pages d) (sym shape)
         (subst (λ n. s.log.shape.sets + s.log.shape.segments * s.log.shape.segment_pages ≤ n) (sym same_pages) was.room);
     numbered = was.numbered;
+    flight = subst (λ (h : Shape). IfSome s.flight (IsFlightOf h s.moves)) (sym shape) was.flight;
+    flight_placed = λ is. let before : IsTrue (honest s.device) = sym same_honesty ∙ is in
+        subst (λ (h : Shape). IfSome s.flight (λ (f : Flight). AreOfSet h f.moving)) (sym shape) (was.flight_placed before);
     log_spelled = λ is. let before : IsTrue (honest s.device) = sym same_honesty ∙ is in log before (was.log_spelled before);
     sets_spelled = λ is. let before : IsTrue (honest s.device) = sym same_honesty ∙ is in sets before (was.sets_spelled before);
     sets_placed = λ is. let before : IsTrue (honest s.device) = sym same_honesty ∙ is in
@@ -84,6 +88,26 @@ module _ {D : Type 0} (size : ℕ) (pages : D → ℕ) (honest : D → Bool) (he
     small = small;
     room = was.room;
     numbered = was.numbered;
+    flight = was.flight;
+    flight_placed = was.flight_placed;
+    log_spelled = was.log_spelled;
+    sets_spelled = was.sets_spelled;
+    sets_placed = was.sets_placed;
+  }
+
+  -- a call that changes the move in flight
+  pub kept_flight : (o : Option Flight) (n : ℕ) → n ≤ most_moves → IfSome o (IsFlightOf s.log.shape n) → (IsTrue (honest s.device) → IfSome o (λ f. AreOfSet s.log.shape f.moving)) →
+      IsStore size pages honest held (record s { flight = o; moves = n })
+  kept_flight o n few flight placed = record {
+    page_size = was.page_size;
+    shape = was.shape;
+    counted = was.counted;
+    capacity = was.capacity;
+    small = was.small;
+    room = was.room;
+    numbered = few;
+    flight = flight;
+    flight_placed = placed;
     log_spelled = was.log_spelled;
     sets_spelled = was.sets_spelled;
     sets_placed = was.sets_placed;
@@ -98,7 +122,7 @@ small_removed size old new key after small =
 pub opened : {D : Type 0} (size : ℕ) (pages : D → ℕ) (honest : D → Bool) (held : D → ℕ → Option (List ℕ)) (layout : Layout) (d : D) (m : MemoryList) (k : LogState) (q : SetsState) → IsPageSize size →
     m ≡ empty layout.memory → k ≡ opening_log (shape_of layout) → q ≡ opening_sets layout.sets → layout.sets + layout.segments * layout.segment_pages ≤ pages d →
     ((on : ℕ → Option (List ℕ)) → IsSpelledOn size on k) → ((on : ℕ → Option (List ℕ)) → AreSpelledOn size on q) → ((on : ℕ → Option (List ℕ)) (set : ℕ) → visible_in on q set ≡ []) →
-    IsStore size pages honest held (record { layout = layout; device = d; memory = m; log = k; sets = q; moves = 0 })
+    IsStore size pages honest held (record { layout = layout; device = d; memory = m; log = k; sets = q; flight = None; moves = 0 })
 opened size pages honest held layout d m k q page_size memory log sets fits log_spelled sets_spelled shown = record {
   page_size = page_size;
   shape = ap (λ (x : LogState). x.shape) log;
@@ -111,6 +135,8 @@ opened size pages honest held layout d m k q page_size memory log sets fits log_
   sets_placed = λ _ set.
       subst (λ (xs : List (ℕ × Rec)). All (λ (x : ℕ × Rec). IsKeyOf k.shape.lanes k.shape.sets set x.1.key) xs) (sym (shown (held d) set)) (All-nil (λ (x : ℕ × Rec). IsKeyOf k.shape.lanes k.shape.sets set x.1.key));
   numbered = omega arith;
+  flight = tt;
+  flight_placed = λ _. tt;
 }
 
 -- what holds of each pair in memory holds of each still where one comes to the front

@@ -1,6 +1,7 @@
 pub mod Listing
 pub mod Keeping
 pub mod Lanes
+pub mod Flying
 pub mod Getting
 pub mod Putting
 pub mod Showing
@@ -10,5 +11,12 @@ pub mod Beginning
 pub mod Committing
 pub mod Filling
 pub mod MovingShows
+pub mod Plans
 pub mod Ending
+pub mod Flushing
 pub mod Gathering
+pub mod Marking
+pub mod OrderKept
+pub mod MoveKept
+pub mod StepLaws
+pub mod WholeLaws

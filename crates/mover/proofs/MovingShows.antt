@@ -1,16 +1,14 @@
 -- Which pairs a move shows.
 use Rattle.std.proofs.Common.{◌≡◌, ◌<◌, ◌+◌, ℕ, Bool, true, false, eqb, not, List, [], ◌∷◌, length, filter, map, take, get_or, Option, Some, None, Contains, cond, inl, inr, ⊎_elim, refl, sym, ap, subst, ◌∙◌, arith}
-use Rattle.std.specs.Prelude.{find, nat_lt}
+use Rattle.std.specs.Prelude.{find, nat_lt, IsSomeAnd}
 use Rattle.std.specs.List.{enumerate_from}
 use Rattle.std.specs.Option.{option_map}
 use Rattle.std.proofs.lemmas.Bool.{eqb-true}
-use Rattle.std.proofs.lemmas.Option.{none-some}
-use Rattle.std.proofs.lemmas.List.Elements.{All-contains, Contains-append_cases, Contains-get_or}
+use Rattle.std.proofs.lemmas.Option.{none-some, slice_get-get_or}
+use Rattle.std.proofs.lemmas.List.Elements.{All-contains, Contains-append_cases}
 use Rattle.record_pages.specs.Recs.{Rec, rec}
 use Rattle.memory_cache.specs.declared.pair.Pair.{Pair}
-use Rattle.policy_laws.specs.declared.job.Job.{Job}
 use Rattle.policy_laws.specs.declared.choice.Choice.{Choice}
-use Rattle.policy_laws.specs.Laws.{IsLawful}
 use Rattle.admission.specs.declared.judgement.Judgement.{Judgement}
 use Rattle.admission.specs.declared.judgement.Judgement.TheVariants as judgement
 use Rattle.klog_index.specs.declared.entry.Entry.{Entry}
@@ -34,24 +32,28 @@ use Rattle.kset.specs.Shown.{with_flag}
 use Rattle.mover.specs.Store.{most_moves}
 use Rattle.mover.specs.Lane.{LaneState}
 use Rattle.kset.specs.After.{with_set}
-use Rattle.mover.specs.Visible.{pair_of, IsVisible}
+use Rattle.mover.specs.Visible.{pair_of, IsVisible, IsShown, IsLogPlaced, AreSetsPlaced}
+use Rattle.kset.specs.Laws.{IsKeyOf}
 use Rattle.mover.specs.Get.{Step}
-use Rattle.mover.specs.Put.{lane_appended, IsStep}
+use Rattle.mover.specs.Put.{lane_appended}
 use Rattle.mover.specs.Oldest.{oldest_in, record_of}
-use Rattle.mover.specs.Begin.{lane_without_entry, lane_without_page, lane_counted, moving_of, set_records, anew_step, readmit_step, begun_by, judged, entry_step, oldest_step, begin_step, LosesPage}
-use Rattle.mover.specs.Commit.{records_of, planned, planned_of, job_of, items_of, lane_rewritten, committed}
-use Rattle.mover.specs.Whole.{end_step, whole_step, move_step, MoveGives, IsPlanned, IfMoved}
-use Rattle.mover.specs.declared.begun.Begun.{Begun}
-use Rattle.mover.specs.declared.begun.Begun.TheVariants as begun
-use Rattle.mover.specs.declared.moved.Moved.{Moved}
-use Rattle.mover.specs.declared.moved.Moved.TheVariants as moved
-use Rattle.mover.specs.declared.moving.Moving.{Moving}
-use Rattle.mover.proofs.Listing.{in_filter, in_map, in_take, mapped, found_in}
+use Rattle.mover.specs.Begin.{lane_without_entry, lane_without_page, lane_forgotten, lane_begun, moving_of, set_records, anew_step, judged, entry_step, oldest_step, next_step, begin_step_by, begin_step, LosesPage, BeginGives}
+use Rattle.mover.specs.Flight.{Flight, records_of, unstruck, is_struck, IsUnstruck}
+use Rattle.mover.specs.Job.{job_of, items_of}
+use Rattle.mover.specs.Commit.{planned, planned_of, lane_rewritten, landed, committed, IsFitting, Commits, CommitGives, given_up, AbortGives}
+use Rattle.mover.specs.declared.begin.Begin.{Begin}
+use Rattle.mover.specs.declared.begin.Begin.TheVariants as begin
+use Rattle.mover.specs.declared.committed.Committed.{Committed}
+use Rattle.mover.specs.declared.committed.Committed.TheVariants as answers
+use Rattle.mover.specs.declared.aborted.Aborted.{Aborted}
+use Rattle.mover.specs.declared.aborted.Aborted.TheVariants as aborted
+use Rattle.mover.proofs.Listing.{in_filter, in_map, in_take, mapped, found_in, got}
 use Rattle.mover.proofs.Filling.{as_many}
-use Rattle.mover.proofs.Showing.{ShowsNoMore, appended_shows}
+use Rattle.mover.proofs.Showing.{SeesNoMore, ShowsNoMore, sees_no_more, sees_none, appended_shows}
+use Rattle.mover.proofs.Gathering.{moving_placed}
 
 -- where records of the log die nothing else is shown
-without_shows : (es : List Entry) (q : Entry × Rec → Bool) (lane : LaneState) → ShowsNoMore lane (record lane { log = with_list lane.log es; live = filter q lane.live })
+without_shows : (es : List Entry) (q : Entry × Rec → Bool) (lane : LaneState) → SeesNoMore lane (record lane { log = with_list lane.log es; live = filter q lane.live })
 without_shows es q lane p (inl memory) = inl memory
 without_shows es q lane p (inr (inl live)) =
     let found = in_map (λ (x : Entry × Rec). pair_of x.1) (filter q lane.live) p live in
@@ -60,7 +62,7 @@ without_shows es q lane p (inr (inr visible)) = inr (inr visible)
 
 -- where a set shows other records, each of which was visible, nothing else is shown
 set_shows : (lane : LaneState) (sets : SetsState) (set : ℕ) (shows : List (ℕ × Rec)) → ((p : Pair) → Contains (map (λ (x : ℕ × Rec). pair_of x.1) shows) p → (place_in lane.log.shape p.key).set ≡ set → IsVisible lane p) →
-    ShowsNoMore lane (record lane { sets = sets; visible = with_set lane.visible set shows })
+    SeesNoMore lane (record lane { sets = sets; visible = with_set lane.visible set shows })
 set_shows lane sets set shows was p (inl memory) = inl memory
 set_shows lane sets set shows was p (inr (inl live)) = inr (inl live)
 set_shows lane sets set shows was p (inr (inr visible)) = step (eqb (place_in lane.log.shape p.key).set set) refl visible
@@ -70,18 +72,18 @@ set_shows lane sets set shows was p (inr (inr visible)) = step (eqb (place_in la
     step false differs here = inr (inr here)
 
 -- nothing is in an empty list
-nothing : {X : Type 0} (f : X → Pair) (p : Pair) → Contains (map f []) p → ⊥
+pub nothing : {X : Type 0} (f : X → Pair) (p : Pair) → Contains (map f []) p → ⊥
 nothing f p h = let lt = (in_map f [] p h).1.1 in omega (arith, lt)
 
-forgotten_shows : (lane : LaneState) (set : ℕ) (sets : SetsState) → ShowsNoMore lane (record lane { sets = sets; visible = with_set lane.visible set [] })
+forgotten_shows : (lane : LaneState) (set : ℕ) (sets : SetsState) → SeesNoMore lane (record lane { sets = sets; visible = with_set lane.visible set [] })
 forgotten_shows lane set sets = set_shows lane sets set [] (λ p h its. absurd (nothing (λ (x : ℕ × Rec). pair_of x.1) p h))
 
 -- where a page of the log is lost nothing else is shown
-page_shows : (old : LaneState) (e : Entry) → ShowsNoMore old (lane_without_page e old)
+page_shows : (old : LaneState) (e : Entry) → SeesNoMore old (lane_without_page e old)
 page_shows old e = without_shows (without_its_page old.log e).entries (λ (x : Entry × Rec). not (is_on_page old.log (segment_of old.log e) e.place.page x.0)) old
 
 -- a readmission shows what was live
-readmitted_shows : (size : ℕ) (e : Entry) (x : Entry × Rec) (r : Rec) (lane : LaneState) → Contains lane.live x → x.1 ≡ r → ShowsNoMore lane (lane_appended size (lane_without_entry e lane) (entering r.key r.value))
+readmitted_shows : (size : ℕ) (e : Entry) (x : Entry × Rec) (r : Rec) (lane : LaneState) → Contains lane.live x → x.1 ≡ r → SeesNoMore lane (lane_appended size (lane_without_entry e lane) (entering r.key r.value))
 readmitted_shows size e x r lane live is p here =
     ⊎_elim (λ it. inr (inl (mapped (λ (y : Entry × Rec). pair_of y.1) lane.live x p live (ap pair_of is ∙ sym it))))
     (λ rest. without_shows (without_entry lane.log e).entries (λ (y : Entry × Rec). not (is_in e.set e.place y.0)) lane p rest)
@@ -111,33 +113,6 @@ moving_visible lane set r h its =
         let c = in_filter (λ (x : Entry × Rec). is_of set x.0) lane.live b.0 (in_take most_taken (filter (λ (x : Entry × Rec). is_of set x.0) lane.live) b.0 b.1) in
         inr (inl (mapped (λ (x : Entry × Rec). pair_of x.1) lane.live b.0 (pair_of r) c.0 (ap (λ (t : TakenRecord). pair_of t.stored) b.2 ∙ ap pair_of a.2)))
 
--- a commit shows what was visible
-committed_shows : (size : ℕ) (lane : LaneState) (set : ℕ) (plan : List Choice) (answer : Rewritten) → IsLawful (job_of size (moving_of lane set)) plan →
-    ShowsNoMore lane (committed (moving_of lane set) plan answer (lane_counted lane))
-committed_shows size lane set plan answer lawful p here = by_answer answer here
-  where
-    moves : (q : Pair) → Contains (map (λ (x : ℕ × Rec). pair_of x.1) (enumerate_from 0 (planned_of (moving_of lane set) plan))) q → (place_in lane.log.shape q.key).set ≡ set → IsVisible lane q
-    moves q h its =
-        let rs = records_of (moving_of lane set) in
-        let a = in_map pair_of (planned_of (moving_of lane set) plan) q (subst (λ ps. Contains ps q) (numbered (planned_of (moving_of lane set) plan) 0) h) in
-        let b = in_map (planned rs) plan a.0 a.1 in
-        let within = All-contains (λ (c : Choice). c.item < length (items_of (moving_of lane set))) plan b.0 lawful.in_range b.1 in
-        let lt : b.0.item < length rs = omega (arith, as_many (moving_of lane set), within) in
-        let r = get_or rs b.0.item (rec [] [] 0) in
-        let is : pair_of r ≡ q = ap pair_of b.2 ∙ a.2 in
-        subst (IsVisible lane) is (moving_visible lane set r (Contains-get_or rs b.0.item (rec [] [] 0) lt) (ap (λ (x : Pair). (place_in lane.log.shape x.key).set) is ∙ its))
-
-    ts : List TakenRecord
-    ts = taken_of lane.log set lane.live
-
-    by_answer : (answer : Rewritten) → IsVisible (committed (moving_of lane set) plan answer (lane_counted lane)) p → IsVisible lane p
-    by_answer rewritten.Written here =
-        set_shows (lane_counted lane) (written lane.sets set (planned_of (moving_of lane set) plan)) set (enumerate_from 0 (planned_of (moving_of lane set) plan)) moves p
-        (without_shows (dropped lane.log set ts).entries (λ (x : Entry × Rec). not (is_taken lane.log set ts x.0)) (lane_rewritten set (planned_of (moving_of lane set) plan) rewritten.Written (lane_counted lane)) p here)
-    by_answer rewritten.Forgotten here =
-        forgotten_shows (lane_counted lane) set (forgotten (tried lane.sets) set) p
-        (without_shows (dropped lane.log set ts).entries (λ (x : Entry × Rec). not (is_taken lane.log set ts x.0)) (lane_rewritten set (planned_of (moving_of lane set) plan) rewritten.Forgotten (lane_counted lane)) p here)
-
 -- the record of an entry is live
 recorded : (e : Entry) (live : List (Entry × Rec)) (r : Rec) → record_of e live ≡ Some r → (x : Entry × Rec) × Contains live x × (x.1 ≡ r)
 recorded e live r at = step (find (λ x. is_in e.set e.place x.0) live) refl at
@@ -146,24 +121,33 @@ recorded e live r at = step (find (λ x. is_in e.set e.place x.0) live) refl at
     step None is e' = absurd (none-some r e')
     step (Some x) is e' = (x, found_in (λ x. is_in e.set e.place x.0) live x is, cc)
 
-module _ (size least : ℕ) (lane : LaneState) where
-  -- what becomes of an entry shows what was visible
+-- a move that begins shows what was visible
+pub lane_begun_shows : (lane : LaneState) (set : ℕ) → IsLogPlaced lane → AreSetsPlaced lane → ShowsNoMore lane (lane_begun lane set)
+lane_begun_shows lane set log sets p (inl visible) = inl visible
+lane_begun_shows lane set log sets p (inr held) =
+    let r = held.0 in
+    let listed : Contains (records_of (moving_of lane set)) r = got (records_of (moving_of lane set)) held.1.item r held.1.found in
+    let its = All-contains (λ (x : Rec). IsKeyOf lane.log.shape.lanes lane.log.shape.sets set x.key) (records_of (moving_of lane set)) r (moving_placed lane set log sets) listed in
+    inl (subst (IsVisible lane) held.2 (moving_visible lane set r listed its))
+
+module _ (size least : ℕ) (lane : LaneState) (log : IsLogPlaced lane) (sets : AreSetsPlaced lane) where
+  -- what becomes of an entry shows what was shown
   entry_shows : (e : Entry) (j : Judgement) → ShowsNoMore lane (entry_step size lane e j).lane
-  entry_shows e judgement.Move = λ p here. here
-  entry_shows e judgement.Drop = dropped_shows e
+  entry_shows e judgement.Move = lane_begun_shows lane e.set log sets
+  entry_shows e judgement.Drop = sees_no_more lane (lane_without_entry e lane) refl (dropped_shows e)
     where
-      dropped_shows : (e : Entry) → ShowsNoMore lane (lane_without_entry e lane)
+      dropped_shows : (e : Entry) → SeesNoMore lane (lane_without_entry e lane)
       dropped_shows e = without_shows (without_entry lane.log e).entries (λ (y : Entry × Rec). not (is_in e.set e.place y.0)) lane
   entry_shows e judgement.Readmit = by_record (record_of e lane.live) refl
     where
       gone : ShowsNoMore lane (lane_without_entry e lane)
-      gone = without_shows (without_entry lane.log e).entries (λ (y : Entry × Rec). not (is_in e.set e.place y.0)) lane
+      gone = sees_no_more lane (lane_without_entry e lane) refl (without_shows (without_entry lane.log e).entries (λ (y : Entry × Rec). not (is_in e.set e.place y.0)) lane)
 
       by_full : (r : Rec) (x : Entry × Rec) → Contains lane.live x → x.1 ≡ r → (b : Bool) →
           ShowsNoMore lane (cond {A = Step Readmitted} b (record { reply = readmitted.Dropped; lane = lane_without_entry e lane })
           (record { reply = readmitted.Readmitted; lane = lane_appended size (lane_without_entry e lane) (entering r.key r.value) })).lane
       by_full r x live is true = gone
-      by_full r x live is false = readmitted_shows size e x r lane live is
+      by_full r x live is false = sees_no_more lane (lane_appended size (lane_without_entry e lane) (entering r.key r.value)) refl (readmitted_shows size e x r lane live is)
 
       by_record : (o : Option Rec) → record_of e lane.live ≡ o → ShowsNoMore lane (anew_step size lane e o).lane
       by_record None at = gone
@@ -174,88 +158,111 @@ module _ (size least : ℕ) (lane : LaneState) where
   oldest_shows oldest.Empty = λ p here. here
   oldest_shows (oldest.First e) = entry_shows e (judged least lane e)
 
-  -- so does how a move begins
-  begin_shows : ShowsNoMore lane (begin_step size least lane).lane
-  begin_shows = by_room (nat_lt lane.moves most_moves)
+  next_shows : ShowsNoMore lane (next_step size least lane).lane
+  next_shows = by_room (nat_lt lane.moves most_moves)
     where
-      by_room : (b : Bool) → ShowsNoMore lane (cond {A = Step Begun} b (oldest_step size least lane (oldest_in lane.log)) (record { reply = begun.Nothing; lane = lane })).lane
+      by_room : (b : Bool) → ShowsNoMore lane (cond {A = Step Begin} b (oldest_step size least lane (oldest_in lane.log)) (record { reply = begin.Nothing; lane = lane })).lane
       by_room true = oldest_shows (oldest_in lane.log)
       by_room false = λ p here. here
 
-  -- a job is that of the next move, of some set
-  abbrev pub IsNext : Step Begun → Type 0
-  IsNext step = (moving : Moving) → step.reply ≡ begun.Move moving → (set : ℕ) × (moving ≡ moving_of lane set) × (step.lane ≡ lane_counted lane)
-
-  entry_next : (e : Entry) (j : Judgement) → IsNext (entry_step size lane e j)
-  entry_next e judgement.Move moving is = (e.set, cc, refl)
-  entry_next e judgement.Drop moving is = absurd cc
-  entry_next e judgement.Readmit moving is = by_reply (readmit_step size e lane).reply is
+  -- so does how a move begins
+  pub begin_shows : ShowsNoMore lane (begin_step size least lane).lane
+  begin_shows = by_flight lane.flight
     where
-      by_reply : (a : Readmitted) → begun_by a ≡ begun.Move moving → (set : ℕ) × (moving ≡ moving_of lane set) × ((readmit_step size e lane).lane ≡ lane_counted lane)
-      by_reply readmitted.Readmitted is = absurd cc
-      by_reply readmitted.Dropped is = absurd cc
-      by_reply readmitted.Fault is = absurd cc
-      by_reply readmitted.Damaged is = absurd cc
-
-  oldest_next : (o : Oldest) → IsNext (oldest_step size least lane o)
-  oldest_next oldest.NoSegment = λ moving is. absurd cc
-  oldest_next oldest.Empty = λ moving is. absurd cc
-  oldest_next (oldest.First e) = entry_next e (judged least lane e)
-
-  pub begin_next : IsNext (begin_step size least lane)
-  begin_next = by_room (nat_lt lane.moves most_moves)
-    where
-      by_room : (b : Bool) → IsNext (cond {A = Step Begun} b (oldest_step size least lane (oldest_in lane.log)) (record { reply = begun.Nothing; lane = lane }))
-      by_room true = oldest_next (oldest_in lane.log)
-      by_room false = λ moving is. absurd cc
-
-  -- a move that ends by a lawful plan shows what was visible
-  whole_shows : (plan_of : Job → List Choice) (answer : Rewritten) → IsPlanned size plan_of (begin_step size least lane).reply → ShowsNoMore lane (whole_step size least plan_of answer lane).lane
-  whole_shows plan_of answer lawful = by_begun (begin_step size least lane).reply refl lawful
-    where
-      by_begun : (b : Begun) → (begin_step size least lane).reply ≡ b → IsPlanned size plan_of b → ShowsNoMore lane (end_step size plan_of answer b (begin_step size least lane).lane).lane
-      by_begun begun.Nothing is lawful = begin_shows
-      by_begun begun.Freed is lawful = begin_shows
-      by_begun begun.Readmitted is lawful = begin_shows
-      by_begun begun.Dropped is lawful = begin_shows
-      by_begun begun.PageLost is lawful = begin_shows
-      by_begun (begun.Move moving) is lawful =
-          let next = begin_next moving is in
-          subst (λ (l : LaneState). ShowsNoMore lane (committed moving (plan_of (job_of size moving)) answer l)) (sym next.2)
-          (subst (λ (m : Moving). ShowsNoMore lane (committed m (plan_of (job_of size m)) answer (lane_counted lane))) (sym next.1)
-          (committed_shows size lane next.0 (plan_of (job_of size (moving_of lane next.0))) answer
-          (subst (λ (m : Moving). IsLawful (job_of size m) (plan_of (job_of size m))) next.1 lawful)))
+      by_flight : (o : Option Flight) → ShowsNoMore lane (begin_step_by size least lane o).lane
+      by_flight None = next_shows
+      by_flight (Some f) = λ p here. here
 
 -- a page that is lost as a move begins shows nothing more
 lost_shows : (size : ℕ) (e : Entry) (old new : LaneState) (j : Judgement) → LosesPage size e old j new → ShowsNoMore old new
 lost_shows size e old new judgement.Drop lost = absurd lost
-lost_shows size e old new judgement.Readmit lost = subst (ShowsNoMore old) (sym lost) (page_shows old e)
+lost_shows size e old new judgement.Readmit lost = subst (ShowsNoMore old) (sym lost) (sees_no_more old (lane_without_page e old) refl (page_shows old e))
 lost_shows size e old new judgement.Move lost =
-    ⊎_elim (λ log. subst (ShowsNoMore old) (sym log.3) (page_shows old log.0)) (λ set. subst (ShowsNoMore old) (sym set.1) (forgotten_shows old e.set (forgotten old.sets e.set))) lost
+    ⊎_elim (λ log. subst (ShowsNoMore old) (sym log.3) (sees_no_more old (lane_without_page log.0 old) refl (page_shows old log.0)))
+    (λ set. subst (ShowsNoMore old) (sym set.1) (sees_no_more old (lane_forgotten e.set old) refl (forgotten_shows old e.set (forgotten old.sets e.set)))) lost
 
--- what a move answers without a rewriting leaves its beginning
-plain : (size : ℕ) (plan_of : Job → List Choice) (answer : Moved) (b : Begun) (between new : LaneState) → (answer ≡ moved.Written → ⊥) → IsStep (end_step size plan_of rewritten.Written b between) answer new → new ≡ between
-plain size plan_of answer (begun.Move moving) between new not_written is = absurd (not_written is.0)
-plain size plan_of answer begun.Nothing between new not_written is = is.1
-plain size plan_of answer begun.Freed between new not_written is = is.1
-plain size plan_of answer begun.Readmitted between new not_written is = is.1
-plain size plan_of answer begun.Dropped between new not_written is = is.1
-plain size plan_of answer begun.PageLost between new not_written is = is.1
-
--- a move shows nothing that was not visible
-pub move_shows : (size least : ℕ) (plan_of : Job → List Choice) (old : LaneState) (answer : Moved) (new : LaneState) → MoveGives size least plan_of old answer new →
-    IfMoved answer (IsPlanned size plan_of (begin_step size least old).reply) → ShowsNoMore old new
-move_shows size least plan_of old answer new gives lawful = step answer gives lawful
+-- what a beginning leaves shows nothing that was not shown
+pub begun_shows : (size least : ℕ) (old : LaneState) (b : Begin) (new : LaneState) → IsLogPlaced old → AreSetsPlaced old → BeginGives size least old b new → ShowsNoMore old new
+begun_shows size least old b new log sets = by_answer b
   where
-    begun_so : (answer : Moved) → (answer ≡ moved.Written → ⊥) → IsStep (move_step size least plan_of old) answer new → ShowsNoMore old new
-    begun_so answer differs gives =
-        subst (ShowsNoMore old) (sym (plain size plan_of answer (begin_step size least old).reply (begin_step size least old).lane new differs gives)) (begin_shows size least old)
+    stepped : new ≡ (begin_step size least old).lane → ShowsNoMore old new
+    stepped is = subst (ShowsNoMore old) (sym is) (begin_shows size least old log sets)
 
-    step : (answer : Moved) → MoveGives size least plan_of old answer new → IfMoved answer (IsPlanned size plan_of (begin_step size least old).reply) → ShowsNoMore old new
-    step moved.Nothing gives lawful = begun_so moved.Nothing (λ is. absurd cc) gives
-    step moved.Freed gives lawful = begun_so moved.Freed (λ is. absurd cc) gives
-    step moved.Readmitted gives lawful = begun_so moved.Readmitted (λ is. absurd cc) gives
-    step moved.Dropped gives lawful = begun_so moved.Dropped (λ is. absurd cc) gives
-    step moved.PageLost gives lawful = lost_shows size gives.1 old new (judged least old gives.1) gives.3
-    step moved.Written gives lawful = subst (ShowsNoMore old) (sym gives.1) (whole_shows size least old plan_of rewritten.Written lawful)
-    step moved.Forgotten gives lawful = subst (ShowsNoMore old) (sym gives.1) (whole_shows size least old plan_of rewritten.Forgotten lawful)
+    by_answer : (b : Begin) → BeginGives size least old b new → ShowsNoMore old new
+    by_answer begin.PageLost gives = lost_shows size gives.2 old new (judged least old gives.2) gives.4
+    by_answer begin.Nothing gives = stepped gives.1
+    by_answer begin.Busy gives = stepped gives.1
+    by_answer begin.Freed gives = stepped gives.1
+    by_answer begin.Readmitted gives = stepped gives.1
+    by_answer begin.Dropped gives = stepped gives.1
+    by_answer (begin.Job job) gives = stepped gives.1
+
+-- ---- commits
+
+-- what is not is false
+is_not : (b : Bool) → not b ≡ true → b ≡ false
+is_not true e = sym e
+is_not false e = refl
+
+-- each record that a plan keeps is that of an item which was not struck
+kept_held : (size : ℕ) (f : Flight) (plan : List Choice) (q : Pair) → IsFitting (job_of size f.moving) plan → Contains (map (λ (x : ℕ × Rec). pair_of x.1) (enumerate_from 0 (planned_of f.moving (unstruck f plan)))) q →
+    (r : Rec) × IsUnstruck f r × (pair_of r ≡ q)
+kept_held size f plan q fitting h =
+    let rs = records_of f.moving in
+    let a = in_map pair_of (planned_of f.moving (unstruck f plan)) q (subst (λ ps. Contains ps q) (numbered (planned_of f.moving (unstruck f plan)) 0) h) in
+    let b = in_map (planned rs) (unstruck f plan) a.0 a.1 in
+    let listed = in_filter (λ (c : Choice). not (is_struck f c.item)) plan b.0 b.1 in
+    let within = All-contains (λ (c : Choice). c.item < length (items_of f.moving)) plan b.0 fitting.in_range listed.0 in
+    let lt : b.0.item < length rs = omega (arith, as_many f.moving, within) in
+    (get_or rs b.0.item (rec [] [] 0), record { item = b.0.item; found = slice_get-get_or rs b.0.item (rec [] [] 0) lt; not_struck = is_not (is_struck f b.0.item) listed.1 }, ap pair_of b.2 ∙ a.2)
+
+-- where a set shows other records, each of which was shown, nothing else is shown
+set_shown : (lane : LaneState) (sets : SetsState) (set : ℕ) (shows : List (ℕ × Rec)) → ((p : Pair) → Contains (map (λ (x : ℕ × Rec). pair_of x.1) shows) p → IsShown lane p) →
+    (p : Pair) → IsVisible (record lane { sets = sets; visible = with_set lane.visible set shows }) p → IsShown lane p
+set_shown lane sets set shows was p (inl memory) = inl (inl memory)
+set_shown lane sets set shows was p (inr (inl live)) = inl (inr (inl live))
+set_shown lane sets set shows was p (inr (inr visible)) = step (eqb (place_in lane.log.shape p.key).set set) visible
+  where
+    step : (b : Bool) → Contains (map (λ (x : ℕ × Rec). pair_of x.1) (cond b shows (lane.visible (place_in lane.log.shape p.key).set))) p → IsShown lane p
+    step true here = was p here
+    step false here = inl (inr (inr here))
+
+-- a commit shows what was shown
+pub committed_shows : (size : ℕ) (f : Flight) (plan : List Choice) (answer : Rewritten) (lane : LaneState) → lane.flight ≡ Some f → IsFitting (job_of size f.moving) plan → ShowsNoMore lane (committed f plan answer lane)
+committed_shows size f plan answer lane flying fitting p (inr held) = absurd held
+committed_shows size f plan answer lane flying fitting p (inl here) = by_answer answer here
+  where
+    rs : List Rec
+    rs = planned_of f.moving (unstruck f plan)
+
+    gone : Entry × Rec → Bool
+    gone x = not (is_taken lane.log f.moving.set f.moving.taken x.0)
+
+    kept : (q : Pair) → Contains (map (λ (x : ℕ × Rec). pair_of x.1) (enumerate_from 0 rs)) q → IsShown lane q
+    kept q h = inr (subst (λ (o : Option Flight). IsSomeAnd o (λ g. (r : Rec) × IsUnstruck g r × (pair_of r ≡ q))) (sym flying) (kept_held size f plan q fitting h))
+
+    by_answer : (answer : Rewritten) → IsVisible (landed f plan answer lane) p → IsShown lane p
+    by_answer rewritten.Written here =
+        set_shown lane (written lane.sets f.moving.set rs) f.moving.set (enumerate_from 0 rs) kept p
+        (without_shows (dropped lane.log f.moving.set f.moving.taken).entries gone (lane_rewritten f.moving.set rs rewritten.Written lane) p here)
+    by_answer rewritten.Forgotten here =
+        set_shown lane (forgotten (tried lane.sets) f.moving.set) f.moving.set [] (λ q h. absurd (nothing (λ (x : ℕ × Rec). pair_of x.1) q h)) p
+        (without_shows (dropped lane.log f.moving.set f.moving.taken).entries gone (lane_rewritten f.moving.set rs rewritten.Forgotten lane) p here)
+
+-- so does each answer of a commit
+pub commit_shows : (size : ℕ) (plan : List Choice) (number : ℕ) (old : LaneState) (answer : Committed) (new : LaneState) → CommitGives size plan number old answer new → ShowsNoMore old new
+commit_shows size plan number old answer new = by_answer answer
+  where
+    so : (ended : Rewritten) → Commits size plan number ended old new → ShowsNoMore old new
+    so ended is = subst (ShowsNoMore old) (sym is.4) (committed_shows size is.0 plan ended old is.1 is.3)
+
+    by_answer : (answer : Committed) → CommitGives size plan number old answer new → ShowsNoMore old new
+    by_answer answers.Written is = so rewritten.Written is
+    by_answer answers.Forgotten is = so rewritten.Forgotten is
+    by_answer answers.StalePlan is = subst (ShowsNoMore old) (sym is.1) (λ p here. here)
+    by_answer answers.BadPlan is = subst (ShowsNoMore old) (sym is.1) (λ p here. here)
+
+-- and each of an abort
+pub abort_shows : (number : ℕ) (old : LaneState) (answer : Aborted) (new : LaneState) → AbortGives number old answer new → ShowsNoMore old new
+abort_shows number old aborted.Aborted new is = subst (ShowsNoMore old) (sym is.1) (sees_none old (given_up old) refl (λ p here. here))
+abort_shows number old aborted.StalePlan new is = subst (ShowsNoMore old) (sym is.1) (λ p here. here)

@@ -1,6 +1,6 @@
 -- Which pairs a step shows.
 use Rattle.std.proofs.Common.{◌≡◌, ◌≢◌, ◌⊎◌, ℕ, Bool, true, false, eqb, not, List, [], filter, map, Option, Some, None, Contains, cond, inl, inr, ⊎_elim, refl, sym, ap, subst, ◌∙◌}
-use Rattle.std.specs.Prelude.{nat_lt, length}
+use Rattle.std.specs.Prelude.{nat_lt, length, IfSome, IsSomeAnd}
 use Rattle.std.proofs.Common.{arith}
 use Rattle.std.specs.Str.{bytes_eq}
 use Rattle.std.specs.Cmp.Lexicographic.{bytes_decides, same_text}
@@ -39,23 +39,37 @@ use Rattle.kset.specs.Sets.{notes_of}
 use Rattle.kset.specs.After.{after_strike, without_hash, is_one_too_many}
 use Rattle.mover.specs.Lane.{LaneState}
 use Rattle.mover.specs.Strike.{struck, removed}
-use Rattle.mover.specs.Visible.{pair_of, IsOnFlash, IsVisible, IsLogPlaced, ShowsFrom, TellsVisible}
+use Rattle.mover.specs.Visible.{pair_of, IsOnFlash, IsVisible, IsHeldInFlight, IsShown, IsLogPlaced, ShowsFrom, TellsVisible}
+use Rattle.mover.specs.Flight.{Flight, flight_struck, IsUnstruck, IsFlightOf}
+use Rattle.mover.proofs.Flying.{still_unstruck}
 use Rattle.mover.proofs.Listing.{in_filter, in_map, in_take, mapped, split, got, found_in, found_passes}
 
 -- each pair that is visible now was visible before
-abbrev pub ShowsNoMore : LaneState → LaneState → Type 0
-ShowsNoMore old new = (p : Pair) → IsVisible new p → IsVisible old p
+abbrev pub SeesNoMore : LaneState → LaneState → Type 0
+SeesNoMore old new = (p : Pair) → IsVisible new p → IsVisible old p
 
 -- each pair that is visible now was visible before, and has another key than this
-abbrev pub ShowsOthers : List ℕ → LaneState → LaneState → Type 0
-ShowsOthers key old new = (p : Pair) → IsVisible new p → IsVisible old p × (p.key ≢ key)
+abbrev pub SeesOthers : List ℕ → LaneState → LaneState → Type 0
+SeesOthers key old new = (p : Pair) → IsVisible new p → IsVisible old p × (p.key ≢ key)
 
 -- each pair that is visible now is this one, or was visible before and has another key
-abbrev pub ShowsIt : Pair → LaneState → LaneState → Type 0
-ShowsIt put old new = (p : Pair) → IsVisible new p → (p ≡ put) ⊎ (IsVisible old p × (p.key ≢ put.key))
+abbrev pub SeesIt : Pair → LaneState → LaneState → Type 0
+SeesIt put old new = (p : Pair) → IsVisible new p → (p ≡ put) ⊎ (IsVisible old p × (p.key ≢ put.key))
 
 some_same : {X : Type 0} {x y : X} → Some x ≡ Some y → x ≡ y
 some_same is = cc
+
+-- each pair that is shown now was shown before
+abbrev pub ShowsNoMore : LaneState → LaneState → Type 0
+ShowsNoMore old new = (p : Pair) → IsShown new p → IsShown old p
+
+-- each pair that is shown now was shown before, and has another key than this
+abbrev pub ShowsOthers : List ℕ → LaneState → LaneState → Type 0
+ShowsOthers key old new = (p : Pair) → IsShown new p → IsShown old p × (p.key ≢ key)
+
+-- each pair that is shown now is this one, or was shown before and has another key
+abbrev pub ShowsIt : Pair → LaneState → LaneState → Type 0
+ShowsIt put old new = (p : Pair) → IsShown new p → (p ≡ put) ⊎ (IsShown old p × (p.key ≢ put.key))
 
 -- each of these is a case of the contract
 pub no_more : (old new : LaneState) → ShowsNoMore old new → ShowsFrom None None old new
@@ -67,6 +81,32 @@ others key old new shows p here = let it = shows p here in inl (it.0, λ is. it.
 pub it_alone : (put : Pair) (old new : LaneState) → ShowsIt put old new → ShowsFrom (Some put.key) (Some put) old new
 it_alone put old new shows p here =
     ⊎_elim (λ is. inr (ap Some (sym is))) (λ kept. inl (kept.0, λ is. kept.1 (sym (some_same is)))) (shows p here)
+
+-- one contract after another
+pub then : (old mid new : LaneState) → ShowsFrom None None old mid → ShowsFrom None None mid new → ShowsFrom None None old new
+then old mid new first next p here = ⊎_elim (λ kept. first p kept.0) (λ none. absurd (none-some p none)) (next p here)
+
+-- where the same move is in flight no more is shown where no more is visible
+pub sees_no_more : (old new : LaneState) → new.flight ≡ old.flight → SeesNoMore old new → ShowsNoMore old new
+sees_no_more old new same sees p (inl visible) = inl (sees p visible)
+sees_no_more old new same sees p (inr held) = inr (subst (λ (o : Option Flight). IsSomeAnd o (λ f. (r : Rec) × IsUnstruck f r × (pair_of r ≡ p))) same held)
+
+-- where none is in flight too
+pub sees_none : (old new : LaneState) → new.flight ≡ None → SeesNoMore old new → ShowsNoMore old new
+sees_none old new same sees p (inl visible) = inl (sees p visible)
+sees_none old new same sees p (inr held) = absurd (subst (λ (o : Option Flight). IsSomeAnd o (λ f. (r : Rec) × IsUnstruck f r × (pair_of r ≡ p))) same held)
+
+-- what is in flight after a strike was so before it, and has another key
+pub struck_flight : (key : List ℕ) (lane : LaneState) (p : Pair) → IfSome lane.flight (IsFlightOf lane.log.shape lane.moves) → IsSomeAnd (option_map (flight_struck (fnv1a key)) lane.flight) (λ f. (r : Rec) × IsUnstruck f r × (pair_of r ≡ p)) →
+    IsHeldInFlight lane p × (p.key ≢ key)
+struck_flight key lane p = step lane.flight
+  where
+    step : (o : Option Flight) → IfSome o (IsFlightOf lane.log.shape lane.moves) → IsSomeAnd (option_map (flight_struck (fnv1a key)) o) (λ f. (r : Rec) × IsUnstruck f r × (pair_of r ≡ p)) →
+        IsSomeAnd o (λ f. (r : Rec) × IsUnstruck f r × (pair_of r ≡ p)) × (p.key ≢ key)
+    step None was held = absurd held
+    step (Some f) was held =
+        let still = still_unstruck (fnv1a key) lane.log.shape lane.moves f was held.0 held.1 in
+        ((held.0, still.0, held.2), λ same. still.1 (ap fnv1a (ap (λ (q : Pair). q.key) held.2 ∙ same)))
 
 not_true : (b : Bool) → not b ≡ true → b ≡ true → ⊥
 not_true b fails passes = false≢true (ap not (sym passes) ∙ fails)
@@ -117,9 +157,13 @@ struck_shows key lane p placed (inr visible) = step (eqb (place_in lane.log.shap
         (inr here, λ same. eqb-false _ _ differs (ap (λ (k : List ℕ). (place_in lane.log.shape k).set) same))
 
 -- a removal shows only other keys
-pub removed_shows : (key : List ℕ) (lane : LaneState) → IsLogPlaced lane → ShowsOthers key lane (removed key lane)
-removed_shows key lane placed p (inl here) = let kept = without_key key lane.memory.pairs p here in (inl kept.0, kept.1)
-removed_shows key lane placed p (inr flash) = let kept = struck_shows key (record lane { memory = record { capacity = lane.memory.capacity; pairs = without key lane.memory.pairs } }) p placed flash in (inr kept.0, kept.1)
+pub removed_sees : (key : List ℕ) (lane : LaneState) → IsLogPlaced lane → SeesOthers key lane (removed key lane)
+removed_sees key lane placed p (inl here) = let kept = without_key key lane.memory.pairs p here in (inl kept.0, kept.1)
+removed_sees key lane placed p (inr flash) = let kept = struck_shows key (record lane { memory = record { capacity = lane.memory.capacity; pairs = without key lane.memory.pairs } }) p placed flash in (inr kept.0, kept.1)
+
+pub removed_shows : (key : List ℕ) (lane : LaneState) → IsLogPlaced lane → IfSome lane.flight (IsFlightOf lane.log.shape lane.moves) → ShowsOthers key lane (removed key lane)
+removed_shows key lane placed flying p (inl visible) = let kept = removed_sees key lane placed p visible in (inl kept.0, kept.1)
+removed_shows key lane placed flying p (inr held) = let kept = struck_flight key lane p flying held in (inr kept.0, kept.1)
 
 -- where a pair of memory comes to the front, no other pair is there
 raised_shows : (key : List ℕ) (pairs : List Pair) (p : Pair) → (o : Option Pair) → pair_in key pairs ≡ o → Contains (to_front_by o pairs) p → Contains pairs p
@@ -136,35 +180,57 @@ lowered_shows set place live p here =
     mapped (λ (x : Entry × Rec). pair_of x.1) live inner.0 p inner.1 (ap (λ (x : Entry × Rec). pair_of x.1) inner.2 ∙ outer.2)
 
 -- a get shows nothing that was not visible
-step_shows : (key : List ℕ) (lane : LaneState) → ShowsNoMore lane (get_step key lane).lane
+step_shows : (key : List ℕ) (lane : LaneState) → SeesNoMore lane (get_step key lane).lane
 step_shows key lane = by_memory (value_in key lane.memory.pairs)
   where
-    by_set : (n : ℕ) (o : Option (ℕ × Rec)) → ShowsNoMore lane (set_step n lane o).lane
+    by_set : (n : ℕ) (o : Option (ℕ × Rec)) → SeesNoMore lane (set_step n lane o).lane
     by_set n None p here = here
     by_set n (Some x) p here = here
 
-    by_log : (o : Option (Entry × Rec)) → ShowsNoMore lane (log_step key lane o).lane
+    by_log : (o : Option (Entry × Rec)) → SeesNoMore lane (log_step key lane o).lane
     by_log None p here = by_set (place_in lane.log.shape key).set (first_visible (lane.visible (place_in lane.log.shape key).set) key) p here
     by_log (Some x) p (inl memory) = inl memory
     by_log (Some x) p (inr (inl live)) = inr (inl (lowered_shows x.0.set x.0.place lane.live p live))
     by_log (Some x) p (inr (inr visible)) = inr (inr visible)
 
-    by_memory : (o : Option (List ℕ)) → ShowsNoMore lane (memory_step key lane o).lane
+    by_memory : (o : Option (List ℕ)) → SeesNoMore lane (memory_step key lane o).lane
     by_memory None p here = by_log (newest_with lane.live key) p here
     by_memory (Some value) p (inl memory) = inl (raised_shows key lane.memory.pairs p (pair_in key lane.memory.pairs) refl memory)
     by_memory (Some value) p (inr flash) = inr flash
 
+-- nor does it change the move in flight
+step_flies : (key : List ℕ) (lane : LaneState) → (get_step key lane).lane.flight ≡ lane.flight
+step_flies key lane = by_memory (value_in key lane.memory.pairs)
+  where
+    by_set : (n : ℕ) (o : Option (ℕ × Rec)) → (set_step n lane o).lane.flight ≡ lane.flight
+    by_set n None = refl
+    by_set n (Some x) = refl
+
+    by_log : (o : Option (Entry × Rec)) → (log_step key lane o).lane.flight ≡ lane.flight
+    by_log None = by_set (place_in lane.log.shape key).set (first_visible (lane.visible (place_in lane.log.shape key).set) key)
+    by_log (Some x) = refl
+
+    by_memory : (o : Option (List ℕ)) → (memory_step key lane o).lane.flight ≡ lane.flight
+    by_memory None = by_log (newest_with lane.live key)
+    by_memory (Some value) = refl
+
 -- nor does what a get leaves
 pub get_shows : (key : List ℕ) (old new : LaneState) (answer : Answer) → StepGives (get_step key old) old answer new → ShowsNoMore old new
-get_shows key old new (Hit value tier) gives = subst (ShowsNoMore old) (sym gives.1) (step_shows key old)
-get_shows key old new (Miss Absent) gives = subst (ShowsNoMore old) (sym gives.1) (step_shows key old)
-get_shows key old new (Miss Fault) same = subst (ShowsNoMore old) (sym same) (λ p here. here)
-get_shows key old new (Miss Damaged) gives = absurd gives
+get_shows key old new answer gives = by_answer answer gives
+  where
+    stepped : new ≡ (get_step key old).lane → ShowsNoMore old new
+    stepped is = subst (ShowsNoMore old) (sym is) (sees_no_more old (get_step key old).lane (step_flies key old) (step_shows key old))
+
+    by_answer : (answer : Answer) → StepGives (get_step key old) old answer new → ShowsNoMore old new
+    by_answer (Hit value tier) gives = stepped gives.1
+    by_answer (Miss Absent) gives = stepped gives.1
+    by_answer (Miss Fault) same = subst (ShowsNoMore old) (sym same) (λ p here. here)
+    by_answer (Miss Damaged) gives = absurd gives
 
 -- ---- puts
 
 -- a pair that is stored is shown, and else only other keys
-stored_shows : (put : Pair) (lane : LaneState) → IsLogPlaced lane → ShowsIt put lane (stored put lane)
+stored_shows : (put : Pair) (lane : LaneState) → IsLogPlaced lane → SeesIt put lane (stored put lane)
 stored_shows put lane placed p (inl here) =
     ⊎_elim (λ first. inl (sym first)) (λ behind. let kept = without_key put.key lane.memory.pairs p behind in inr (inl kept.0, kept.1))
     (split p put (without put.key lane.memory.pairs) (in_take lane.memory.capacity (entered put lane.memory.pairs) p here))
@@ -172,7 +238,7 @@ stored_shows put lane placed p (inr flash) =
     let kept = struck_shows put.key (record lane { memory = after_put put lane.memory }) p placed flash in inr (inr kept.0, kept.1)
 
 -- a log with one more record has the shape that it had
-shape_appended : (size : ℕ) (k : LogState) (r : Rec) → (appended size k r).shape ≡ k.shape
+pub shape_appended : (size : ℕ) (k : LogState) (r : Rec) → (appended size k r).shape ≡ k.shape
 shape_appended size k r = step (can_add size (filling_buffer k) r)
   where
     step : (b : Bool) → (put_on size (cond b k (sealed k)) r).shape ≡ k.shape
@@ -198,9 +264,9 @@ append_shows size lane r p = step (nat_lt (length lane.log.entries) lane.log.sha
     step true true here = inr here
     step true false here = appended_shows size lane r p here
 
--- a put shows its pair, and else only other keys
-pub put_shows : (size admit word : ℕ) (put : Pair) (lane : LaneState) → IsLogPlaced lane → ShowsIt put lane (put_step size admit put word lane).lane
-put_shows size admit word put lane placed = by_pushed (pushed_out put lane.memory) refl
+-- a put makes its pair visible, and else only other keys
+pub put_sees : (size admit word : ℕ) (put : Pair) (lane : LaneState) → IsLogPlaced lane → SeesIt put lane (put_step size admit put word lane).lane
+put_sees size admit word put lane placed = by_pushed (pushed_out put lane.memory) refl
   where
     pushed_from : (out : Pair) → pushed_out put lane.memory ≡ Some out → (out ≡ put) ⊎ (IsVisible lane out × (out.key ≢ put.key))
     pushed_from out is =
@@ -212,19 +278,45 @@ put_shows size admit word put lane placed = by_pushed (pushed_out put lane.memor
     entering_from out p is (inr here) = stored_shows put lane placed p here
 
     by_word : (out : Pair) → pushed_out put lane.memory ≡ Some out → (b : Bool) →
-        ShowsIt put lane (cond {A = Step Pushed} b (append_step size (entering out.key out.value) (stored put lane)) (record { reply = Declined; lane = stored put lane })).lane
+        SeesIt put lane (cond {A = Step Pushed} b (append_step size (entering out.key out.value) (stored put lane)) (record { reply = Declined; lane = stored put lane })).lane
     by_word out is true p here = entering_from out p is (append_shows size (stored put lane) (entering out.key out.value) p here)
     by_word out is false p here = stored_shows put lane placed p here
 
-    by_pushed : (o : Option Pair) → pushed_out put lane.memory ≡ o → ShowsIt put lane (push_step size admit word o (stored put lane)).lane
+    by_pushed : (o : Option Pair) → pushed_out put lane.memory ≡ o → SeesIt put lane (push_step size admit word o (stored put lane)).lane
     by_pushed None is = stored_shows put lane placed
     by_pushed (Some out) is = by_word out is (is_admitted admit word)
+
+-- a put leaves of the move in flight what its strike does
+pub put_flies : (size admit word : ℕ) (put : Pair) (lane : LaneState) → (put_step size admit put word lane).lane.flight ≡ option_map (flight_struck (fnv1a put.key)) lane.flight
+put_flies size admit word put lane = by_pushed (pushed_out put lane.memory)
+  where
+    entered_flies : (r : Rec) (a b : Bool) → (cond {A = Step Pushed} a (cond b (record { reply = Full; lane = stored put lane }) (record { reply = Logged; lane = lane_appended size (stored put lane) r })) (record { reply = IndexFull; lane = stored put lane })).lane.flight
+        ≡ option_map (flight_struck (fnv1a put.key)) lane.flight
+    entered_flies r false b = refl
+    entered_flies r true true = refl
+    entered_flies r true false = refl
+
+    by_word : (out : Pair) (b : Bool) → (cond {A = Step Pushed} b (append_step size (entering out.key out.value) (stored put lane)) (record { reply = Declined; lane = stored put lane })).lane.flight ≡ option_map (flight_struck (fnv1a put.key)) lane.flight
+    by_word out true = entered_flies (entering out.key out.value) (nat_lt (length (stored put lane).log.entries) (stored put lane).log.shape.limit) (is_full size (stored put lane).log (entering out.key out.value))
+    by_word out false = refl
+
+    by_pushed : (o : Option Pair) → (push_step size admit word o (stored put lane)).lane.flight ≡ option_map (flight_struck (fnv1a put.key)) lane.flight
+    by_pushed None = refl
+    by_pushed (Some out) = by_word out (is_admitted admit word)
+
+-- a put shows its pair, and else only other keys
+pub put_shows : (size admit word : ℕ) (put : Pair) (lane : LaneState) → IsLogPlaced lane → IfSome lane.flight (IsFlightOf lane.log.shape lane.moves) → ShowsIt put lane (put_step size admit put word lane).lane
+put_shows size admit word put lane placed flying p (inl visible) =
+    ⊎_elim (λ it. inl it) (λ kept. inr (inl kept.0, kept.1)) (put_sees size admit word put lane placed p visible)
+put_shows size admit word put lane placed flying p (inr held) =
+    let kept = struck_flight put.key lane p flying (subst (λ (o : Option Flight). IsSomeAnd o (λ f. (r : Rec) × IsUnstruck f r × (pair_of r ≡ p))) (put_flies size admit word put lane) held) in
+    inr (inr kept.0, kept.1)
 
 -- ---- flush steps
 
 -- a flush step shows nothing that was not visible
-pub flush_shows : (flushed : Flushed) (old new : LaneState) → new.log.shape ≡ old.log.shape → LaneFlushes old flushed new → ShowsNoMore old new
-flush_shows flushed old new shape gives p here = step (subst (λ (l : LaneState). IsVisible l p) gives.1 here)
+flush_sees : (flushed : Flushed) (old new : LaneState) → new.log.shape ≡ old.log.shape → LaneFlushes old flushed new → SeesNoMore old new
+flush_sees flushed old new shape gives p here = step (subst (λ (l : LaneState). IsVisible l p) gives.1 here)
   where
     lost : (b : Bool) → Contains (map (λ (x : Entry × Rec). pair_of x.1) (cond b (filter (λ (x : Entry × Rec). not (is_on_page old.log (flushed_number old.log) old.log.done x.0)) old.live) old.live)) p →
         Contains (map (λ (x : Entry × Rec). pair_of x.1) old.live) p
@@ -237,6 +329,9 @@ flush_shows flushed old new shape gives p here = step (subst (λ (l : LaneState)
     step (inl memory) = inl memory
     step (inr (inl live)) = inr (inl (lost (is_page_lost flushed) live))
     step (inr (inr visible)) = inr (inr (subst (λ (h : Shape). Contains (map (λ (x : ℕ × Rec). pair_of x.1) (old.visible (place_in h p.key).set)) p) shape visible))
+
+pub flush_shows : (flushed : Flushed) (old new : LaneState) → new.log.shape ≡ old.log.shape → LaneFlushes old flushed new → ShowsNoMore old new
+flush_shows flushed old new shape gives = sees_no_more old new (ap (λ (l : LaneState). l.flight) gives.1) (flush_sees flushed old new shape gives)
 
 -- a get answers the value of a visible pair of its key
 answer_visible : (key : List ℕ) (lane : LaneState) → TellsVisible key lane (get_step key lane).reply

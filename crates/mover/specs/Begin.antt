@@ -1,8 +1,10 @@
 -- How a move begins.
-use Rattle.std.specs.Prelude.{◌≡◌, ◌≢◌, ◌<◌, ◌+◌, ℕ, List, [], filter, not, count_by, Contains, Bool, true, false, Result, Ok, Err, IsTrue, ◌⊎◌, Option, Some, None, nat_lt, if◌then◌else◌}
+use Rattle.std.specs.Prelude.{◌≡◌, ◌≢◌, ◌<◌, ◌≤◌, ◌+◌, ℕ, length, IsSomeAnd, List, [], filter, not, count_by, Contains, Bool, true, false, Result, Ok, Err, IsTrue, ◌⊎◌, Option, Some, None, nat_lt, if◌then◌else◌}
 use Rattle.std.specs.FinSet as bits
 use Rattle.std.specs.declared.alloc.AllocError.{AllocError}
 use Rattle.record_pages.specs.Recs.{Rec}
+use Rattle.record_pages.specs.Sizes.{max_records}
+use Rattle.policy_laws.specs.declared.job.Job.{Job}
 use Rattle.admission.specs.Threshold.{judgement_of}
 use Rattle.admission.specs.declared.judgement.Judgement.{Judgement}
 use Rattle.admission.specs.declared.judgement.Judgement.TheVariants as judgement
@@ -17,7 +19,7 @@ use Rattle.klog.specs.declared.set_taken.SetTaken.TheVariants as taken
 use Rattle.klog.specs.declared.taken_record.TakenRecord.{TakenRecord}
 use Rattle.klog.specs.Append.{entering, is_full}
 use Rattle.klog.specs.Known.{is_buffered}
-use Rattle.klog.specs.Moves.{freed, dropped, is_taken, without_entry, live_without_entry, without_its_page, live_without_page, taken_of, taken_entries}
+use Rattle.klog.specs.Moves.{freed, dropped, is_taken, without_entry, live_without_entry, without_its_page, live_without_page, taken_of, taken_entries, most_taken}
 use Rattle.kset.specs.declared.set_read.SetRead.{SetRead}
 use Rattle.kset.specs.declared.set_read.SetRead.TheVariants as read
 use Rattle.kset.specs.declared.set_record.SetRecord.{SetRecord}
@@ -29,9 +31,11 @@ use Rattle.kset.specs.After.{with_set}
 use Rattle.mover.specs.Get.{Step}
 use Rattle.mover.specs.Put.{lane_appended, IsStep}
 use Rattle.mover.specs.Oldest.{oldest_in, record_of}
-use Rattle.mover.specs.declared.begun.Begun.{Begun}
-use Rattle.mover.specs.declared.begun.Begun.TheVariants as begun
+use Rattle.mover.specs.declared.begin.Begin.{Begin}
+use Rattle.mover.specs.declared.begin.Begin.TheVariants as begin
 use Rattle.mover.specs.declared.moving.Moving.{Moving}
+use Rattle.mover.specs.Flight.{Flight, just_begun, is_struck}
+use Rattle.mover.specs.Job.{job_of}
 
 -- the oldest segment on the device is no longer held
 abbrev pub lane_freed : LaneState → LaneState
@@ -56,7 +60,7 @@ lane_without_page e lane = record lane { log = without_its_page lane.log e; live
 abbrev pub lane_forgotten : ℕ → LaneState → LaneState
 lane_forgotten set lane = record lane { sets = forgotten lane.sets set; visible = with_set lane.visible set [] }
 
--- one move more began
+-- one move more began, and was given up
 abbrev pub lane_counted : LaneState → LaneState
 lane_counted lane = record lane { moves = lane.moves + 1 }
 
@@ -72,6 +76,10 @@ moving_of lane set = record {
   visible = set_records lane set;
   taken = taken_of lane.log set lane.live;
 }
+
+-- one move more began, of this set, and is in flight
+abbrev pub lane_begun : LaneState → ℕ → LaneState
+lane_begun lane set = record (lane_counted lane) { flight = Some (just_begun lane.log.shape (moving_of lane set)) }
 
 -- the record of an entry enters the log anew, or finds no place and is lost
 abbrev pub anew_step : ℕ → LaneState → Entry → Option Rec → Step Readmitted
@@ -92,34 +100,42 @@ LaneReadmits size e old readmitted.Damaged new = ⊥
 LaneReadmits size e old answer new = IsStep (readmit_step size e old) answer new
 
 -- how a move began by a readmission
-abbrev pub begun_by : Readmitted → Begun
-begun_by readmitted.Readmitted = begun.Readmitted
-begun_by readmitted.Dropped = begun.Dropped
-begun_by readmitted.Fault = begun.PageLost
-begun_by readmitted.Damaged = begun.PageLost
+abbrev pub began_by : Readmitted → Begin
+began_by readmitted.Readmitted = begin.Readmitted
+began_by readmitted.Dropped = begin.Dropped
+began_by readmitted.Fault = begin.PageLost
+began_by readmitted.Damaged = begin.PageLost
 
 -- what becomes of an entry of the oldest segment
 abbrev pub judged : ℕ → LaneState → Entry → Judgement
 judged least lane e = judgement_of least (count_by (is_of e.set) lane.log.entries) e.prediction
 
 -- a move begins so with an entry: its set is to move, or it is readmitted, or dropped
-abbrev pub entry_step : ℕ → LaneState → Entry → Judgement → Step Begun
-entry_step size lane e judgement.Move = record { reply = begun.Move (moving_of lane e.set); lane = lane_counted lane }
+abbrev pub entry_step : ℕ → LaneState → Entry → Judgement → Step Begin
+entry_step size lane e judgement.Move = record { reply = begin.Job (job_of size (moving_of lane e.set)); lane = lane_begun lane e.set }
 entry_step size lane e judgement.Readmit =
-    record { reply = begun_by (readmit_step size e lane).reply; lane = (readmit_step size e lane).lane }
-entry_step size lane e judgement.Drop = record { reply = begun.Dropped; lane = lane_without_entry e lane }
+    record { reply = began_by (readmit_step size e lane).reply; lane = (readmit_step size e lane).lane }
+entry_step size lane e judgement.Drop = record { reply = begin.Dropped; lane = lane_without_entry e lane }
 
 -- a move begins so with the oldest segment: there is none, or it is freed, or there is its first entry
-abbrev pub oldest_step : ℕ → ℕ → LaneState → Oldest → Step Begun
-oldest_step size least lane oldest.NoSegment = record { reply = begun.Nothing; lane = lane }
-oldest_step size least lane oldest.Empty = record { reply = begun.Freed; lane = lane_freed lane }
+abbrev pub oldest_step : ℕ → ℕ → LaneState → Oldest → Step Begin
+oldest_step size least lane oldest.NoSegment = record { reply = begin.Nothing; lane = lane }
+oldest_step size least lane oldest.Empty = record { reply = begin.Freed; lane = lane_freed lane }
 oldest_step size least lane (oldest.First e) = entry_step size lane e (judged least lane e)
 
--- how a move begins where no call of the device fails; there are only so many
-abbrev pub begin_step : ℕ → ℕ → LaneState → Step Begun
-begin_step size least lane =
+-- how a move begins where none is in flight and no call of the device fails; there are only so many
+abbrev pub next_step : ℕ → ℕ → LaneState → Step Begin
+next_step size least lane =
     if nat_lt lane.moves most_moves then oldest_step size least lane (oldest_in lane.log)
-    else record { reply = begun.Nothing; lane = lane }
+    else record { reply = begin.Nothing; lane = lane }
+
+-- how a move begins where no call of the device fails
+abbrev pub begin_step_by : ℕ → ℕ → LaneState → Option Flight → Step Begin
+begin_step_by size least lane None = next_step size least lane
+begin_step_by size least lane (Some f) = record { reply = begin.Busy; lane = lane }
+
+abbrev pub begin_step : ℕ → ℕ → LaneState → Step Begin
+begin_step size least lane = begin_step_by size least lane lane.flight
 
 -- a taking of the records of a set: they stay; or one of their pages on the device is lost
 abbrev pub LaneTakes : ℕ → LaneState → SetTaken → LaneState → Type 0
@@ -134,25 +150,25 @@ LaneReads set old (read.Records rs) new = (rs ≡ set_records old set) × (new �
 LaneReads set old read.PageLost new = ((notes_of old.sets set).filter ≢ bits.empty) × (new ≡ lane_forgotten set old)
 
 -- the records of a set are gathered: they are to move; or a page is lost
-abbrev pub Gathers : ℕ → LaneState → Begun → LaneState → Type 0
-Gathers set old begun.PageLost new = LaneTakes set old taken.PageLost new ⊎ LaneReads set old read.PageLost new
-Gathers set old answer new = IsStep (record { reply = begun.Move (moving_of old set); lane = lane_counted old }) answer new
+abbrev pub Gathers : ℕ → ℕ → LaneState → Begin → LaneState → Type 0
+Gathers size set old begin.PageLost new = LaneTakes set old taken.PageLost new ⊎ LaneReads set old read.PageLost new
+Gathers size set old answer new = IsStep (record { reply = begin.Job (job_of size (moving_of old set)); lane = lane_begun old set }) answer new
 
 -- a page is lost as a move begins with an entry
 abbrev pub LosesPage : ℕ → Entry → LaneState → Judgement → LaneState → Type 0
-LosesPage size e old judgement.Move new = Gathers e.set old begun.PageLost new
+LosesPage size e old judgement.Move new = Gathers size e.set old begin.PageLost new
 LosesPage size e old judgement.Readmit new = LaneReadmits size e old readmitted.Fault new
 LosesPage size e old judgement.Drop new = ⊥
 
 -- how a move begins with an entry: by its step; or a page is lost
-abbrev pub EntryBegins : ℕ → ℕ → Entry → LaneState → Begun → LaneState → Type 0
-EntryBegins size least e old begun.PageLost new = LosesPage size e old (judged least old e) new
+abbrev pub EntryBegins : ℕ → ℕ → Entry → LaneState → Begin → LaneState → Type 0
+EntryBegins size least e old begin.PageLost new = LosesPage size e old (judged least old e) new
 EntryBegins size least e old answer new = IsStep (entry_step size old e (judged least old e)) answer new
 
 -- how a move begins: by its step; or a page is lost as it begins with the first entry of the oldest segment
-abbrev pub BeginGives : ℕ → ℕ → LaneState → Begun → LaneState → Type 0
-BeginGives size least old begun.PageLost new =
-    (old.moves < most_moves) × (e : Entry) × (oldest_in old.log ≡ oldest.First e) × LosesPage size e old (judged least old e) new
+abbrev pub BeginGives : ℕ → ℕ → LaneState → Begin → LaneState → Type 0
+BeginGives size least old begin.PageLost new =
+    (old.flight ≡ None) × (old.moves < most_moves) × (e : Entry) × (oldest_in old.log ≡ oldest.First e) × LosesPage size e old (judged least old e) new
 BeginGives size least old answer new = IsStep (begin_step size least old) answer new
 
 -- a call that writes no page
@@ -174,24 +190,51 @@ KeepsUnlessForgotten (Ok (read.Records rs)) old new = KeepsTiers old new
 KeepsUnlessForgotten (Err e) old new = KeepsTiers old new
 
 -- a page was lost
-abbrev pub is_lost : Result Begun AllocError → Bool
-is_lost (Ok begun.PageLost) = true
+abbrev pub is_lost : Result Begin AllocError → Bool
+is_lost (Ok begin.PageLost) = true
 is_lost _ = false
 
--- the set of a move is one of so many
-abbrev pub IsOfSet : ℕ → Begun → Type 0
-IsOfSet sets (begun.Move moving) = moving.set < sets
-IsOfSet sets begun.Nothing = Unit {0}
-IsOfSet sets begun.Freed = Unit {0}
-IsOfSet sets begun.Readmitted = Unit {0}
-IsOfSet sets begun.Dropped = Unit {0}
-IsOfSet sets begun.PageLost = Unit {0}
+-- how many moves began, after a call that answers so
+abbrev pub moves_after : Result Begin AllocError → ℕ → ℕ
+moves_after (Ok (begin.Job job)) moves = moves + 1
+moves_after _ moves = moves
 
--- where records are to move the tiers stay, and one move more began
-abbrev pub CountsIfMove : {D : Type 0} → Begun → StoreState D → StoreState D → Type 0
-CountsIfMove (begun.Move moving) old new = KeepsTiers old new × (new.moves ≡ old.moves + 1)
-CountsIfMove begun.Nothing old new = Unit {0}
-CountsIfMove begun.Freed old new = Unit {0}
-CountsIfMove begun.Readmitted old new = Unit {0}
-CountsIfMove begun.Dropped old new = Unit {0}
-CountsIfMove begun.PageLost old new = Unit {0}
+-- a job has this number
+abbrev pub IsNumbered : ℕ → Begin → Type 0
+IsNumbered number (begin.Job job) = job.number ≡ number
+IsNumbered number begin.Nothing = Unit {0}
+IsNumbered number begin.Busy = Unit {0}
+IsNumbered number begin.Freed = Unit {0}
+IsNumbered number begin.Readmitted = Unit {0}
+IsNumbered number begin.Dropped = Unit {0}
+IsNumbered number begin.PageLost = Unit {0}
+
+-- where a move is in flight that is answered, and this holds; else it is not answered
+abbrev pub AnswersBusy : Option Flight → Result Begin AllocError → Type 0 → Type 0
+AnswersBusy (Some f) result P = (result ≡ Ok begin.Busy) × P
+AnswersBusy None result P = result ≢ Ok begin.Busy
+
+-- the move of a job is in flight, and no item of it is struck
+abbrev pub IsJustBegun : ℕ → Job → Flight → Type 0
+IsJustBegun size job f = (job ≡ job_of size f.moving) × ((item : ℕ) → is_struck f item ≡ false)
+
+-- where there is a job its move is in flight; else the same is in flight as before
+abbrev pub BeginsFlight : ℕ → Result Begin AllocError → Option Flight → Option Flight → Type 0
+BeginsFlight size (Ok (begin.Job job)) old new = IsSomeAnd new (IsJustBegun size job)
+BeginsFlight size _ old new = new ≡ old
+
+-- a beginning that answers nothing leaves the store; one with a job leaves all that memory sees but the move in flight
+abbrev pub BeginLeaves : {D : Type 0} → Result Begin AllocError → StoreState D → StoreState D → Type 0
+BeginLeaves (Ok begin.Nothing) old new = new ≡ old
+BeginLeaves (Ok (begin.Job job)) old new = KeepsTiers old (record new { flight = old.flight })
+BeginLeaves _ old new = Unit {0}
+
+-- no more records are taken than a taking takes
+abbrev pub TakesFew : SetTaken → Type 0
+TakesFew (taken.Records rs) = length rs ≤ most_taken
+TakesFew taken.PageLost = Unit {0}
+
+-- no more records are read than a page holds
+abbrev pub ReadsFew : SetRead → Type 0
+ReadsFew (read.Records rs) = length rs ≤ max_records
+ReadsFew read.PageLost = Unit {0}

@@ -1,42 +1,27 @@
 -- How a move ends.
-use Rattle.std.specs.Prelude.{ℕ, List, [], ◌++◌, map, slice_index_or, All, true, false}
+use Rattle.std.specs.Prelude.{◌≡◌, ◌≢◌, ◌<◌, ◌≤◌, ℕ, List, [], length, map, sum_by, slice_index_or, All, AllPairs, Option, Some, None, Bool, true, false}
 use Rattle.std.specs.List.{enumerate_from}
-use Rattle.record_pages.specs.Recs.{Rec, rec, size}
-use Rattle.record_pages.specs.Sizes.{room}
-use Rattle.policy_laws.specs.declared.item.Item.{Item}
+use Rattle.record_pages.specs.Recs.{Rec, rec}
+use Rattle.record_pages.specs.Sizes.{max_records}
 use Rattle.policy_laws.specs.declared.choice.Choice.{Choice}
 use Rattle.policy_laws.specs.declared.job.Job.{Job}
-use Rattle.klog.specs.declared.taken_record.TakenRecord.{TakenRecord}
-use Rattle.klog.specs.Log.{Shape}
-use Rattle.kset.specs.Laws.{IsKeyOf}
-use Rattle.kset.specs.declared.set_record.SetRecord.{SetRecord}
+use Rattle.policy_laws.specs.Laws.{size_at}
 use Rattle.kset.specs.declared.rewritten.Rewritten.{Rewritten}
 use Rattle.kset.specs.declared.rewritten.Rewritten.TheVariants as rewritten
+use Rattle.klog.specs.Moves.{dropped}
+use Rattle.kset.specs.Rewrite.{after_rewrite}
 use Rattle.kset.specs.Sets.{written, tried, forgotten}
+use Rattle.mover.specs.Store.{StoreState}
 use Rattle.mover.specs.Lane.{LaneState}
 use Rattle.kset.specs.After.{with_set}
 use Rattle.mover.specs.Begin.{lane_without}
+use Rattle.mover.specs.Flight.{Flight, records_of, unstruck, IsInFlight}
+use Rattle.mover.specs.Job.{job_of}
 use Rattle.mover.specs.declared.moving.Moving.{Moving}
-
--- what a policy knows of a visible record of the set
-abbrev pub old_item : SetRecord → Item
-old_item x = record { size = size x.stored; prediction = x.stored.pred; hit = x.hit; fresh = false }
-
--- what a policy knows of a record of the log
-abbrev pub fresh_item : TakenRecord → Item
-fresh_item t = record { size = size t.stored; prediction = t.stored.pred; hit = false; fresh = true }
-
--- the items of a move: the visible records of the set in page order, then those of the log, newest first
-abbrev pub items_of : Moving → List Item
-items_of moving = map old_item moving.visible ++ map fresh_item moving.taken
-
--- the job of a move
-abbrev pub job_of : ℕ → Moving → Job
-job_of page moving = record { number = moving.number; set = moving.set; room = room page; items = items_of moving }
-
--- the records of a move, in the order of its items
-abbrev pub records_of : Moving → List Rec
-records_of moving = map (λ x. x.stored) moving.visible ++ map (λ t. t.stored) moving.taken
+use Rattle.mover.specs.declared.committed.Committed.{Committed}
+use Rattle.mover.specs.declared.committed.Committed.TheVariants as answers
+use Rattle.mover.specs.declared.aborted.Aborted.{Aborted}
+use Rattle.mover.specs.declared.aborted.Aborted.TheVariants as aborted
 
 -- the record of a choice, with the prediction that the plan gives it
 abbrev pub planned : List Rec → Choice → Rec
@@ -59,11 +44,92 @@ abbrev pub lane_rewritten : ℕ → List Rec → Rewritten → LaneState → Lan
 lane_rewritten set rs rewritten.Written lane = lane_written set rs lane
 lane_rewritten set rs rewritten.Forgotten lane = lane_unwritten set lane
 
--- the lane after a move: its set is written anew with the plan's records, or forgotten; and the taken records die
-abbrev pub committed : Moving → List Choice → Rewritten → LaneState → LaneState
-committed moving plan rewritten lane =
-    lane_without moving.set moving.taken (lane_rewritten moving.set (planned_of moving plan) rewritten lane)
+-- a set is written anew with the records of the plan's choices that were not struck, or forgotten; and the taken records die
+abbrev pub landed : Flight → List Choice → Rewritten → LaneState → LaneState
+landed f plan rewritten lane =
+    lane_without f.moving.set f.moving.taken (lane_rewritten f.moving.set (planned_of f.moving (unstruck f plan)) rewritten lane)
 
--- the keys of a move's records belong to its set
-abbrev pub AreOfSet : Shape → Moving → Type 0
-AreOfSet shape moving = All (λ r. IsKeyOf shape.lanes shape.sets moving.set r.key) (records_of moving)
+-- the lane after a move, which is no more in flight
+abbrev pub committed : Flight → List Choice → Rewritten → LaneState → LaneState
+committed f plan rewritten lane = record (landed f plan rewritten lane) { flight = None }
+
+-- the same in a store, with this device
+abbrev pub landed_in : {D : Type 0} → Flight → List Choice → Rewritten → StoreState D → D → StoreState D
+landed_in f plan rewritten s device = record s {
+  device = device;
+  log = dropped s.log f.moving.set f.moving.taken;
+  sets = after_rewrite s.sets f.moving.set (planned_of f.moving (unstruck f plan)) rewritten;
+  flight = None;
+}
+
+-- a plan names items of its job, none twice, that fit on a page, struck ones included
+pub record IsFitting (job : Job) (plan : List Choice) : Type 0 where
+  pub in_range : All (λ choice. choice.item < length job.items) plan
+  pub distinct : AllPairs (λ a b. a.item ≢ b.item) plan
+  pub within : sum_by (λ choice. size_at job.items choice.item) plan ≤ job.room
+  pub few : length plan ≤ max_records
+
+-- a move with this number is in flight, and the plan fits
+abbrev pub IsFittingIn : ℕ → List Choice → ℕ → Option Flight → Type 0
+IsFittingIn size plan number flight =
+    (f : Flight) × (flight ≡ Some f) × (f.moving.number ≡ number) × IsFitting (job_of size f.moving) plan
+
+-- a move with this number is in flight, and the plan does not fit
+abbrev pub IsBadIn : ℕ → List Choice → ℕ → Option Flight → Type 0
+IsBadIn size plan number flight =
+    (f : Flight) × (flight ≡ Some f) × (f.moving.number ≡ number) × (¬ IsFitting (job_of size f.moving) plan)
+
+-- when each answer of a commit comes
+abbrev pub CommitAnswers : ℕ → List Choice → ℕ → Option Flight → Committed → Type 0
+CommitAnswers size plan number flight answers.Written = IsFittingIn size plan number flight
+CommitAnswers size plan number flight answers.Forgotten = IsFittingIn size plan number flight
+CommitAnswers size plan number flight answers.StalePlan = ¬ IsInFlight flight number
+CommitAnswers size plan number flight answers.BadPlan = IsBadIn size plan number flight
+
+-- the move in flight landed in a store by a plan
+abbrev pub Lands : {D : Type 0} → List Choice → Rewritten → StoreState D → StoreState D → Type 0
+Lands plan rewritten old new = (f : Flight) × (old.flight ≡ Some f) × (new ≡ landed_in f plan rewritten old new.device)
+
+-- what a commit leaves: each refusal the same store
+abbrev pub CommitLeaves : {D : Type 0} → List Choice → StoreState D → Committed → StoreState D → Type 0
+CommitLeaves plan old answers.Written new = Lands plan rewritten.Written old new
+CommitLeaves plan old answers.Forgotten new = Lands plan rewritten.Forgotten old new
+CommitLeaves plan old answers.StalePlan new = new ≡ old
+CommitLeaves plan old answers.BadPlan new = new ≡ old
+
+-- how a move ended by a rewriting
+abbrev pub committed_by : Rewritten → Committed
+committed_by rewritten.Written = answers.Written
+committed_by rewritten.Forgotten = answers.Forgotten
+
+-- the page was not written
+abbrev pub is_unwritten : Committed → Bool
+is_unwritten answers.Forgotten = true
+is_unwritten _ = false
+
+-- a move with this number is in flight, the plan fits, and the move ends by it
+abbrev pub Commits : ℕ → List Choice → ℕ → Rewritten → LaneState → LaneState → Type 0
+Commits size plan number rewritten old new =
+    (f : Flight) × (old.flight ≡ Some f) × (f.moving.number ≡ number) × IsFitting (job_of size f.moving) plan
+    × (new ≡ committed f plan rewritten old)
+
+-- when each answer of a commit comes, and what it leaves
+abbrev pub CommitGives : ℕ → List Choice → ℕ → LaneState → Committed → LaneState → Type 0
+CommitGives size plan number old answers.Written new = Commits size plan number rewritten.Written old new
+CommitGives size plan number old answers.Forgotten new = Commits size plan number rewritten.Forgotten old new
+CommitGives size plan number old answers.StalePlan new = (¬ IsInFlight old.flight number) × (new ≡ old)
+CommitGives size plan number old answers.BadPlan new = IsBadIn size plan number old.flight × (new ≡ old)
+
+-- no move is in flight any more
+abbrev pub given_up : LaneState → LaneState
+given_up lane = record lane { flight = None }
+
+-- when each answer of an abort comes, and what it leaves
+abbrev pub AbortGives : ℕ → LaneState → Aborted → LaneState → Type 0
+AbortGives number old aborted.Aborted new = IsInFlight old.flight number × (new ≡ given_up old)
+AbortGives number old aborted.StalePlan new = (¬ IsInFlight old.flight number) × (new ≡ old)
+
+-- a store after an abort: no move is in flight any more, or the same store
+abbrev pub after_abort : {D : Type 0} → Aborted → StoreState D → StoreState D
+after_abort aborted.Aborted s = record s { flight = None }
+after_abort aborted.StalePlan s = s

@@ -1,3 +1,4 @@
+pub mod Flight
 pub mod Store
 pub mod Lane
 pub mod Visible
@@ -7,6 +8,8 @@ pub mod Put
 pub mod Asking
 pub mod Flush
 pub mod Oldest
+pub mod Job
 pub mod Begin
 pub mod Commit
 pub mod Whole
+pub mod Laws

@@ -1,5 +1,5 @@
 -- A store: a device, and the tiers of a lane that share it.
-use Rattle.std.specs.Prelude.{◌≡◌, ◌<◌, ◌≤◌, ◌+◌, ◌*◌, ◌^◌, ℕ, List, Option, Bool, IsTrue, All}
+use Rattle.std.specs.Prelude.{◌≡◌, ◌<◌, ◌≤◌, ◌+◌, ◌*◌, ◌^◌, ℕ, List, Option, None, IfSome, Bool, IsTrue, All}
 use Rattle.page_device.specs.Device.{faults_after}
 use Rattle.record_pages.specs.Sizes.{IsPageSize, object_size, room}
 use Rattle.record_pages.specs.declared.layout.Layout.{Layout}
@@ -13,14 +13,16 @@ use Rattle.kset.specs.Sets.{SetsState, set_count, opening_sets}
 use Rattle.kset.specs.Pages.{AreSpelledOn}
 use Rattle.kset.specs.Shown.{visible_in}
 use Rattle.kset.specs.Laws.{AreOfTheirSets}
+use Rattle.mover.specs.Flight.{Flight, IsFlightOf, AreOfSet}
 
--- a layout, a device, the three tiers as memory sees them, and how many moves began
+-- a layout, a device, the three tiers as memory sees them, the move in flight, and how many moves began
 pub record StoreState (D : Type 0) : Type 0 where
   pub layout : Layout
   pub device : D
   pub memory : MemoryList
   pub log : LogState
   pub sets : SetsState
+  pub flight : Option Flight
   pub moves : ℕ
 
 -- the most moves that a store begins
@@ -32,8 +34,8 @@ abbrev pub IsSmall : ℕ → Pair → Type 0
 IsSmall size p = object_size p.key p.value ≤ room size
 
 -- What is true of every store. Its tiers have the layout's numbers and the device has their pages; each object in memory
--- fits on a page; and where the device is honest, each live and each visible record is on a known page or in a buffer,
--- and each visible record is in the set of its key.
+-- fits on a page; a move in flight is one of this store; and where the device is honest, each live and each visible record is on a known
+-- page or in a buffer, and each visible record and each record in flight is in the set of its key.
 pub record IsStore {D : Type 0} (size : ℕ) (pages : D → ℕ) (honest : D → Bool) (held : D → ℕ → Option (List ℕ)) (s : StoreState D) : Type 0 where
   pub page_size : IsPageSize size
   pub shape : s.log.shape ≡ shape_of s.layout
@@ -42,9 +44,11 @@ pub record IsStore {D : Type 0} (size : ℕ) (pages : D → ℕ) (honest : D →
   pub small : All (IsSmall size) s.memory.pairs
   pub room : HasRoom (pages s.device) s.log
   pub numbered : s.moves ≤ most_moves
+  pub flight : IfSome s.flight (IsFlightOf s.log.shape s.moves)
   pub log_spelled : IsTrue (honest s.device) → IsSpelledOn size (held s.device) s.log
   pub sets_spelled : IsTrue (honest s.device) → AreSpelledOn size (held s.device) s.sets
   pub sets_placed : IsTrue (honest s.device) → AreOfTheirSets s.log.shape.lanes s.log.shape.sets (visible_in (held s.device) s.sets)
+  pub flight_placed : IsTrue (honest s.device) → IfSome s.flight (λ f. AreOfSet s.log.shape f.moving)
 
 -- the device has fewer pages than a configuration asks for
 abbrev pub IsTooSmall : Config → ℕ → Type 0
@@ -58,14 +62,21 @@ opening layout device = record {
   memory = empty layout.memory;
   log = opening_log (shape_of layout);
   sets = opening_sets layout.sets;
+  flight = None;
   moves = 0;
 }
 
--- memory sees the same in all three tiers
+-- memory sees the same in all three tiers, and the same move is in flight
 pub record KeepsTiers {D : Type 0} (old new : StoreState D) : Type 0 where
   pub memory : new.memory ≡ old.memory
   pub log : new.log ≡ old.log
   pub sets : new.sets ≡ old.sets
+  pub flight : new.flight ≡ old.flight
+
+-- the same move is in flight, and as many began
+pub record KeepsMoves {D : Type 0} (old new : StoreState D) : Type 0 where
+  pub flight : new.flight ≡ old.flight
+  pub moves : new.moves ≡ old.moves
 
 -- a call that writes no page, and in which the device may have failed once
 pub record OnlyReads {D : Type 0} (honest : D → Bool) (failures : D → ℕ) (held : D → ℕ → Option (List ℕ)) (old : StoreState D) (failed : Bool) (new : StoreState D) : Type 0 where

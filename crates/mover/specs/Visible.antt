@@ -1,11 +1,12 @@
 -- The visible pairs of a lane.
-use Rattle.std.specs.Prelude.{◌≡◌, ◌≢◌, ◌⊎◌, ℕ, List, Option, Some, map, Contains}
+use Rattle.std.specs.Prelude.{◌≡◌, ◌≢◌, ◌⊎◌, ℕ, List, Option, Some, IfSome, IsSomeAnd, map, Contains}
 use Rattle.record_pages.specs.Recs.{Rec}
 use Rattle.record_pages.specs.declared.answer.Answer.{Answer}
 use Rattle.record_pages.specs.declared.answer.Answer.TheVariants.{Hit, Miss}
 use Rattle.memory_cache.specs.declared.pair.Pair.{Pair}
 use Rattle.klog.specs.Shown.{place_in, ArePlaced}
 use Rattle.kset.specs.Laws.{AreOfTheirSets}
+use Rattle.mover.specs.Flight.{IsUnstruck, AreOfSet}
 use Rattle.mover.specs.Lane.{LaneState}
 
 -- a record's pair
@@ -22,11 +23,19 @@ IsOnFlash lane p =
 abbrev pub IsVisible : LaneState → Pair → Type 0
 IsVisible lane p = Contains lane.memory.pairs p ⊎ IsOnFlash lane p
 
--- The contract of every call. Each pair that is visible after it was visible before it, and the call did not strike its
--- key; or it is the pair that the call put.
+-- a pair is that of an item of the move in flight that was not struck
+abbrev pub IsHeldInFlight : LaneState → Pair → Type 0
+IsHeldInFlight lane p = IsSomeAnd lane.flight (λ f. (r : Rec) × IsUnstruck f r × (pair_of r ≡ p))
+
+-- a pair is visible, or it may become so by the move in flight
+abbrev pub IsShown : LaneState → Pair → Type 0
+IsShown lane p = IsVisible lane p ⊎ IsHeldInFlight lane p
+
+-- The contract of every call. Each pair that is visible after it, or an item in flight that is not struck, was one of these
+-- before it, and the call did not strike its key; or it is the pair that the call put.
 abbrev pub ShowsFrom : Option (List ℕ) → Option Pair → LaneState → LaneState → Type 0
 ShowsFrom struck put old new =
-    (p : Pair) → IsVisible new p → (IsVisible old p × (struck ≢ Some p.key)) ⊎ (put ≡ Some p)
+    (p : Pair) → IsShown new p → (IsShown old p × (struck ≢ Some p.key)) ⊎ (put ≡ Some p)
 
 -- the key of each live record has its entry's set and tag
 abbrev pub IsLogPlaced : LaneState → Type 0
@@ -35,6 +44,16 @@ IsLogPlaced lane = ArePlaced lane.log.shape lane.live
 -- the key of each visible record of a set belongs to that set
 abbrev pub AreSetsPlaced : LaneState → Type 0
 AreSetsPlaced lane = AreOfTheirSets lane.log.shape.lanes lane.log.shape.sets lane.visible
+
+-- the key of each record in flight belongs to the move's set
+abbrev pub IsFlightPlaced : LaneState → Type 0
+IsFlightPlaced lane = IfSome lane.flight (λ f. AreOfSet lane.log.shape f.moving)
+
+-- each record of a lane lies where its key belongs
+pub record IsPlaced (lane : LaneState) : Type 0 where
+  pub log : IsLogPlaced lane
+  pub sets : AreSetsPlaced lane
+  pub flight : IsFlightPlaced lane
 
 -- a hit is the value of a visible pair of the key
 abbrev pub TellsVisible : List ℕ → LaneState → Answer → Type 0

@@ -1,18 +1,18 @@
 -- A whole move.
-use Rattle.std.specs.Prelude.{ℕ, List, Bool, true, false, Result, Ok}
+use Rattle.std.specs.Prelude.{◌≡◌, ◌≢◌, ℕ, List, Option, Some, None, Bool, true, false, Result, Ok}
 use Rattle.std.specs.declared.alloc.AllocError.{AllocError}
 use Rattle.policy_laws.specs.declared.choice.Choice.{Choice}
 use Rattle.policy_laws.specs.declared.job.Job.{Job}
-use Rattle.policy_laws.specs.Laws.{IsLawful}
 use Rattle.kset.specs.declared.rewritten.Rewritten.{Rewritten}
 use Rattle.kset.specs.declared.rewritten.Rewritten.TheVariants as rewritten
 use Rattle.mover.specs.Lane.{LaneState}
 use Rattle.mover.specs.Get.{Step}
 use Rattle.mover.specs.Put.{IsStep}
 use Rattle.mover.specs.Begin.{begin_step, BeginGives}
-use Rattle.mover.specs.Commit.{job_of, committed}
-use Rattle.mover.specs.declared.begun.Begun.{Begun}
-use Rattle.mover.specs.declared.begun.Begun.TheVariants as begun
+use Rattle.mover.specs.Flight.{Flight}
+use Rattle.mover.specs.Commit.{committed}
+use Rattle.mover.specs.declared.begin.Begin.{Begin}
+use Rattle.mover.specs.declared.begin.Begin.TheVariants as begin
 use Rattle.mover.specs.declared.moved.Moved.{Moved}
 use Rattle.mover.specs.declared.moved.Moved.TheVariants as moved
 
@@ -21,20 +21,25 @@ abbrev pub moved_by : Rewritten → Moved
 moved_by rewritten.Written = moved.Written
 moved_by rewritten.Forgotten = moved.Forgotten
 
+-- the move in flight ends by a plan
+abbrev pub ended_by : List Choice → Rewritten → Option Flight → LaneState → LaneState
+ended_by plan ended None lane = lane
+ended_by plan ended (Some f) lane = committed f plan ended lane
+
 -- a move that began so ends by the policy's plan, where there is a job; else it is over
-abbrev pub end_step : ℕ → (Job → List Choice) → Rewritten → Begun → LaneState → Step Moved
-end_step size plan_of ended (begun.Move moving) lane =
-    record { reply = moved_by ended; lane = committed moving (plan_of (job_of size moving)) ended lane }
-end_step size plan_of ended begun.Nothing lane = record { reply = moved.Nothing; lane = lane }
-end_step size plan_of ended begun.Freed lane = record { reply = moved.Freed; lane = lane }
-end_step size plan_of ended begun.Readmitted lane = record { reply = moved.Readmitted; lane = lane }
-end_step size plan_of ended begun.Dropped lane = record { reply = moved.Dropped; lane = lane }
-end_step size plan_of ended begun.PageLost lane = record { reply = moved.PageLost; lane = lane }
+abbrev pub end_step : (Job → List Choice) → Rewritten → Begin → LaneState → Step Moved
+end_step plan_of ended (begin.Job job) lane = record { reply = moved_by ended; lane = ended_by (plan_of job) ended lane.flight lane }
+end_step plan_of ended begin.Nothing lane = record { reply = moved.Nothing; lane = lane }
+end_step plan_of ended begin.Busy lane = record { reply = moved.Busy; lane = lane }
+end_step plan_of ended begin.Freed lane = record { reply = moved.Freed; lane = lane }
+end_step plan_of ended begin.Readmitted lane = record { reply = moved.Readmitted; lane = lane }
+end_step plan_of ended begin.Dropped lane = record { reply = moved.Dropped; lane = lane }
+end_step plan_of ended begin.PageLost lane = record { reply = moved.PageLost; lane = lane }
 
 -- a whole move where the device reads each page, and writes that of the set or does not
 abbrev pub whole_step : ℕ → ℕ → (Job → List Choice) → Rewritten → LaneState → Step Moved
 whole_step size least plan_of ended lane =
-    end_step size plan_of ended (begin_step size least lane).reply (begin_step size least lane).lane
+    end_step plan_of ended (begin_step size least lane).reply (begin_step size least lane).lane
 
 -- a whole move where no call of the device fails
 abbrev pub move_step : ℕ → ℕ → (Job → List Choice) → LaneState → Step Moved
@@ -42,25 +47,21 @@ move_step size least plan_of lane = whole_step size least plan_of rewritten.Writ
 
 -- what a whole move answers and does: its step; or a page is lost as it begins; or the set's page is not written
 abbrev pub MoveGives : ℕ → ℕ → (Job → List Choice) → LaneState → Moved → LaneState → Type 0
-MoveGives size least plan_of old moved.PageLost new = BeginGives size least old begun.PageLost new
+MoveGives size least plan_of old moved.PageLost new = BeginGives size least old begin.PageLost new
 MoveGives size least plan_of old moved.Forgotten new =
     IsStep (whole_step size least plan_of rewritten.Forgotten old) moved.Forgotten new
 MoveGives size least plan_of old answer new = IsStep (move_step size least plan_of old) answer new
 
--- where a move has a job, the policy's plan of it is a lawful one
-abbrev pub IsPlanned : ℕ → (Job → List Choice) → Begun → Type 0
-IsPlanned size plan_of (begun.Move moving) = IsLawful (job_of size moving) (plan_of (job_of size moving))
-IsPlanned size plan_of begun.Nothing = Unit {0}
-IsPlanned size plan_of begun.Freed = Unit {0}
-IsPlanned size plan_of begun.Readmitted = Unit {0}
-IsPlanned size plan_of begun.Dropped = Unit {0}
-IsPlanned size plan_of begun.PageLost = Unit {0}
+-- the move in flight ends by a plan, and that is answered
+abbrev pub EndGives : List Choice → LaneState → Moved → LaneState → Type 0
+EndGives plan old moved.Written new = new ≡ ended_by plan rewritten.Written old.flight old
+EndGives plan old moved.Forgotten new = new ≡ ended_by plan rewritten.Forgotten old.flight old
+EndGives plan old _ new = ⊥
 
--- where the records of a set moved, this holds
-abbrev pub IfMoved : Moved → Type 0 → Type 0
-IfMoved moved.Written P = P
-IfMoved moved.Forgotten P = P
-IfMoved _ P = Unit {0}
+-- where a move is in flight that is answered, and this holds; else it is not answered
+abbrev pub MovesBusy : Option Flight → Result Moved AllocError → Type 0 → Type 0
+MovesBusy (Some f) result P = (result ≡ Ok moved.Busy) × P
+MovesBusy None result P = result ≢ Ok moved.Busy
 
 -- the device failed: a page was not read, or not written
 abbrev pub is_failed : Result Moved AllocError → Bool

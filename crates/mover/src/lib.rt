@@ -1,12 +1,26 @@
 //! The store of a lane: memory, the log and the sets, over one device.
 #![tactic(auto)]
 
-mod begun;
+mod aborted;
+mod begin;
+mod committed;
+mod fitting;
+mod flight;
+mod laws;
+mod mark;
+mod marks;
 mod moved;
 mod moving;
 mod open_fault;
 mod store;
 
+pub use aborted::Aborted;
+pub use begin::Begin;
+pub use committed::Committed;
+pub use laws::{
+    abort_shows, begin_shows, commit_shows, flush_shows, get_shows, opening_shows_nothing,
+    put_shows, removal_shows, stores_are_in_order, whole_move_shows,
+};
 pub use moved::Moved;
 pub use open_fault::OpenFault;
 pub use store::Store;

@@ -1,7 +1,9 @@
 // The records that a move is about.
 ghost use Rattle.std.specs.Prelude.{◌≡◌, ◌++◌, map, OnOk};
-ghost use Rattle.mover.specs.Commit.{old_item, fresh_item};
+ghost use Rattle.mover.specs.Job.{old_item, fresh_item};
 
+use crate::mark::Mark;
+use crate::marks::Marks;
 use klog::TakenRecords;
 use kset::SetRecords;
 use policy_laws::{Item, Items, Job};
@@ -18,9 +20,20 @@ pub(crate) struct Moving {
 }
 
 impl Moving {
-    ghost use Rattle.std.specs.Prelude.{◌≡◌, ◌<◌, ◌++◌, length, map, slice_get, Some, IfOk};
-    ghost use Rattle.record_pages.specs.Sizes.{IsPageSize};
-    ghost use Rattle.mover.specs.Commit.{records_of, job_of, old_item, fresh_item};
+    ghost use Rattle.std.specs.Prelude.{◌≡◌, ◌<◌, ◌≤◌, ◌+◌, length, map, slice_get, Some, IfOk};
+    ghost use Rattle.record_pages.specs.Sizes.{IsPageSize, max_records};
+    ghost use Rattle.klog.specs.Log.{Shape};
+    ghost use Rattle.klog.specs.Moves.{most_taken};
+    ghost use Rattle.mover.specs.Flight.{records_of, fresh_mark};
+    ghost use Rattle.mover.specs.Job.{job_of};
+
+    /// How many records there are.
+    pub(crate) fn len(&self) -> usize
+        requires { length (records_of self.now) ≤ max_records + most_taken }
+        ensures { result ≡ length (records_of self.now) }
+    {
+        self.visible.len() + self.taken.len()
+    }
 
     /// The record with this number: those of the page come first.
     pub(crate) fn record(&self, number: usize) -> &Record
@@ -49,6 +62,19 @@ impl Moving {
             room: (PAGE - PAGE_OVERHEAD) as u32,
             items,
         })
+    }
+
+    /// A mark for each record, none of them struck, or `AllocError` where memory was refused.
+    pub(crate) fn marks(&self, alloc: Global) -> Result<Marks, AllocError>
+        requires { length (records_of self.now) ≤ max_records + most_taken }
+        ensures { IfOk result (λ marks. (shape : Shape) →
+            marks ≡ map (fresh_mark shape) (records_of self.now)) }
+    {
+        let mut marks = Marks::new(alloc);
+        for number in 0..self.len() {
+            marks.push(Mark::of(self.record(number)))?;
+        }
+        Ok(marks)
     }
 }
 

@@ -5,6 +5,7 @@ ghost use Rattle.record_pages.specs.Sizes.{IsPageSize};
 ghost use Rattle.record_pages.specs.Asked.{HasNumbersOf};
 ghost use Rattle.record_pages.specs.Table.{first_faulty};
 
+use crate::flight::Flight;
 use crate::open_fault::OpenFault;
 use klog::KLog;
 use kset::KSet;
@@ -14,9 +15,11 @@ use record_pages::{Config, Layout};
 use std::alloc::Global;
 use std::marker::Model;
 
+mod abort;
 mod begin;
 mod commit;
 mod flush;
+mod gather;
 mod get;
 mod move_whole;
 mod put;
@@ -31,6 +34,7 @@ pub struct Store<D: PageDevice<PAGE>, const PAGE: usize> {
     memory: MemoryCache,
     log: KLog<PAGE>,
     sets: KSet<PAGE>,
+    flight: Option<Flight>,
     moves: u64,
 }
 
@@ -49,6 +53,7 @@ impl<D: PageDevice<PAGE>, const PAGE: usize> Model for Store<D, PAGE> {
       memory = s.memory;
       log = s.log;
       sets = s.sets;
+      flight = s.flight;
       moves = s.moves;
     } };
 
@@ -58,6 +63,7 @@ impl<D: PageDevice<PAGE>, const PAGE: usize> Model for Store<D, PAGE> {
       memory = s.memory;
       log = s.log;
       sets = s.sets;
+      flight = s.flight;
       moves = s.moves;
     }) };
 }
@@ -66,13 +72,15 @@ impl<D: PageDevice<PAGE>, const PAGE: usize> Store<D, PAGE> {
     ghost use Rattle.std.specs.Prelude.{IsTrue};
     ghost use Rattle.mover.specs.Store.{opening, IsTooSmall, IsStore};
     ghost use Rattle.mover.specs.Lane.{lane_of};
-    ghost use Rattle.mover.specs.Visible.{IsLogPlaced, AreSetsPlaced};
+    ghost use Rattle.mover.specs.Visible.{IsPlaced, IsShown};
+    ghost use Rattle.memory_cache.specs.declared.pair.Pair.{Pair};
 
     /// An empty store of this configuration over a device. Its refusals are tested in the order of `OpenFault`, and the
     /// device is dropped with each.
     pub fn open(alloc: Global, config: &Config, device: D) -> Result<Self, OpenFault>
         ensures opening { IfOk result (λ s. HasNumbersOf s.layout config.now
             × (s ≡ opening s.layout device)) }
+        ensures shows { IfOk result (λ s. (p : Pair) → IsShown (lane_of D.held s) p → ⊥) }
         ensures serves { OnOk result ((first_faulty config.now ≡ None) × IsPageSize PAGE
             × (IsTooSmall config.now (D.page_count device) → ⊥)) }
         ensures config { IfErr result (λ fault. (field : Field) →
@@ -100,6 +108,7 @@ impl<D: PageDevice<PAGE>, const PAGE: usize> Store<D, PAGE> {
             memory,
             log,
             sets,
+            flight: None,
             moves: 0,
         })
     }
@@ -109,9 +118,7 @@ impl<D: PageDevice<PAGE>, const PAGE: usize> Store<D, PAGE> {
         ensures layout { result ≡ self.now.layout }
         // What is true of every store.
         ensures kept { IsStore PAGE D.page_count D.honest D.held self.now }
-        ensures placed { IsTrue (D.honest self.now.device) → IsLogPlaced (lane_of D.held self.now) }
-        ensures sets_placed { IsTrue (D.honest self.now.device) →
-            AreSetsPlaced (lane_of D.held self.now) }
+        ensures placed { IsTrue (D.honest self.now.device) → IsPlaced (lane_of D.held self.now) }
     {
         // That live records are placed is known from the log's length.
         let _live = self.log.len();

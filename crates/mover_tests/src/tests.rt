@@ -5,6 +5,7 @@ mod losing;
 mod moving;
 mod opening;
 mod run;
+mod splitting;
 mod striking;
 
 use self::losing::LosingDevice;

@@ -1,12 +1,12 @@
 -- A numeral is the decimal text of its value.
-use Rattle.std.proofs.Common.{◌≡◌, ◌≢◌, ◌<◌, ◌≤◌, ◌^◌, ◌*◌, ◌+◌, ◌-◌, ℕ, Bool, true, false, ◌&&◌, ◌||◌, not, List, length, get_or, fold, Option, Some, None, IfSome, sym, ap, ◌∙◌, refl, rules, arith, inl, inr, ◌⊎◌, nat_lt, ◌==◌, subst}
+use Rattle.std.proofs.Common.{◌≡◌, ◌<◌, ◌^◌, ◌*◌, ◌+◌, ◌-◌, ℕ, true, false, ◌&&◌, ◌||◌, not, List, length, get_or, fold, None, IfSome, sym, ap, refl, rules, arith, inl, inr, ◌⊎◌, nat_lt, ◌==◌}
 use Rattle.std.specs.Fmt.{decimal}
 use Rattle.std.specs.Cmp.{first_so, second_so}
 use Rattle.std.proofs.lemmas.Bool.{cases_Bool}
 use Rattle.std.proofs.lemmas.Bool.Decides.{nat_tests}
 use Rattle.std.proofs.lemmas.Fmt.{decimal-digits_value, length-decimal-le}
 use Rattle.std.proofs.lemmas.Str.Parse.{IsNumeralModel, numerals_by_fold}
-use borrow.Author.Tests.{ltb-true, ltb-false}
+use borrow.Author.Tests.{ltb-true}
 use Rattle.script_words.specs.Words.{are_digits, is_numeral, value_of, number_of}
 
 own : IsNumeralModel (λ ds. are_digits ds ≡ true) value_of

@@ -1,9 +1,9 @@
 -- The commands that a script's lines spell.
-use Rattle.std.specs.Prelude.{◌≡◌, ℕ, Bool, ◌&&◌, List, [], ◌∷◌, length, ◌==◌, nat_le, nat_lt, if◌then◌else◌, Option, Some, None, option_map, option_and_then, slice_index_or, codes}
+use Rattle.std.specs.Prelude.{ℕ, Bool, ◌&&◌, List, [], length, ◌==◌, nat_le, nat_lt, if◌then◌else◌, Option, Some, None, option_map, option_and_then, slice_index_or, codes}
 use Rattle.std.specs.Str.{bytes_eq}
 use Rattle.script_words.specs.Words.{words_of, number_of}
 use Rattle.script_words.specs.declared.command.Command.{Command}
-use Rattle.script_words.specs.declared.command.Command.TheVariants.{Put, Get, Remove, Forget, Verdict, Trace}
+use Rattle.script_words.specs.declared.command.Command.TheVariants.{Put, Get, Remove, Forget, Flush, Move, Verdict, Trace}
 
 -- that many words, and this is the first
 abbrev pub is_named : List (List ℕ) → ℕ → List ℕ → Bool
@@ -30,15 +30,17 @@ put_words key value word =
 abbrev pub put_of : List (List ℕ) → Option Command
 put_of words = put_words (slice_index_or words 1 []) (slice_index_or words 2 []) (slice_index_or words 3 [])
 
--- put KEY VALUE WORD, get KEY, remove KEY, forget KEY, verdict or trace
+-- put KEY VALUE WORD, get KEY, remove KEY, forget KEY, flush, move, verdict or trace
 abbrev pub command_of_words : List (List ℕ) → Option Command
 command_of_words words =
     if is_named words 1 (codes "verdict") then Some Verdict
     else (if is_named words 1 (codes "trace") then Some Trace
+    else (if is_named words 1 (codes "flush") then Some Flush
+    else (if is_named words 1 (codes "move") then Some Move
     else (if is_named words 2 (codes "get") then at_key Get words
     else (if is_named words 2 (codes "remove") then at_key Remove words
     else (if is_named words 2 (codes "forget") then at_key Forget words
-    else (if is_named words 4 (codes "put") then put_of words else None)))))
+    else (if is_named words 4 (codes "put") then put_of words else None)))))))
 
 -- the command that a line spells, if it spells one
 abbrev pub command_of : List ℕ → Option Command

@@ -1,8 +1,8 @@
 -- The first line of a script: its configuration, and the first faulty field.
-use Rattle.std.specs.Prelude.{◌≡◌, ℕ, Bool, List, [], ◌∷◌, ◌++◌, length, nat_le, ◌==◌, if◌then◌else◌, Option, Some, None, codes, option_and_then, option_map, slice_index_or}
+use Rattle.std.specs.Prelude.{ℕ, List, [], ◌==◌, if◌then◌else◌, Option, Some, None, codes, option_and_then, option_map, slice_index_or}
 use Rattle.record_pages.specs.declared.config.Config.{Config}
 use Rattle.record_pages.specs.declared.field.Field.{Field}
-use Rattle.record_pages.specs.declared.field.Field.TheVariants.{Lanes, Sets, Memory, Segments, SegmentPages, Entries, Threshold, Admit}
+use Rattle.record_pages.specs.declared.field.Field.TheVariants.{Lanes}
 use Rattle.record_pages.specs.Table.{first_faulty}
 use Rattle.script_words.specs.Words.{words_of, number_of}
 use Rattle.script_words.specs.Commands.{is_named}

@@ -17,6 +17,10 @@ pub enum Command {
     Remove(Key),
     /// Has the cache forget a key, which is no call of the history.
     Forget(Key),
+    /// Has the log write or seal one step of what it holds back.
+    Flush,
+    /// Has one move made whole: from the oldest of the log into its set.
+    Move,
     /// Asks for the verdict on the calls so far.
     Verdict,
     /// Asks for the trace of the calls so far.
@@ -83,6 +87,10 @@ fn command_of_words(alloc: Global, words: &[&[u8]]) -> Result<Option<Command>, A
         Ok(Some(Command::Verdict))
     } else if is_named(words, 1, b"trace") {
         Ok(Some(Command::Trace))
+    } else if is_named(words, 1, b"flush") {
+        Ok(Some(Command::Flush))
+    } else if is_named(words, 1, b"move") {
+        Ok(Some(Command::Move))
     } else if is_named(words, 2, b"get") {
         Ok(key(alloc, words[1])?.map(Command::Get))
     } else if is_named(words, 2, b"remove") {
@@ -96,13 +104,16 @@ fn command_of_words(alloc: Global, words: &[&[u8]]) -> Result<Option<Command>, A
     }
 }
 
-/// The command that a line spells.
+/// The command that a line spells. It takes memory for the command's key and value, and none for the
+/// line's words.
 pub fn parse_command(alloc: Global, line: &[u8]) -> Result<Option<Command>, AllocError>
     ensures { IfOk result (λ command. command ≡ command_of line.now) }
 {
-    match words(alloc, line) {
-        Ok(Some(words)) => command_of_words(alloc, &words),
-        Ok(None) => Ok(None),
-        Err(refused) => Err(refused),
+    match words(line) {
+        Some(words) => match command_of_words(alloc, &words) {
+            Ok(command) => Ok(command),
+            Err(refused) => Err(refused),
+        },
+        None => Ok(None),
     }
 }

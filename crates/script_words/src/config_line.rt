@@ -1,11 +1,10 @@
 // The first line of a script.
-ghost use Rattle.std.specs.Prelude.{◌≡◌, ◌<◌, length, map, slice_index_or, [], IfOk};
+ghost use Rattle.std.specs.Prelude.{◌≡◌, ◌<◌, length, map, slice_index_or, []};
 ghost use Rattle.script_words.specs.Configs.{number_at, config_of_words, config_of};
 
 use crate::command::is_named;
 use crate::words::{number, words};
 use record_pages::Config;
-use std::alloc::{AllocError, Global};
 
 /// The number that one of the words writes.
 #[tactic(auto, unfolding(crate::specs::Configs::number_at))]
@@ -35,13 +34,12 @@ fn config_of_words(words: &[&[u8]]) -> Option<Config>
     })
 }
 
-/// The configuration that a line spells.
-pub fn parse_config(alloc: Global, line: &[u8]) -> Result<Option<Config>, AllocError>
-    ensures { IfOk result (λ config. config ≡ config_of line.now) }
+/// The configuration that a line spells. It takes no memory.
+pub fn parse_config(line: &[u8]) -> Option<Config>
+    ensures { result ≡ config_of line.now }
 {
-    match words(alloc, line) {
-        Ok(Some(words)) => Ok(config_of_words(&words)),
-        Ok(None) => Ok(None),
-        Err(refused) => Err(refused),
+    match words(line) {
+        Some(words) => config_of_words(&words),
+        None => None,
     }
 }

@@ -1,10 +1,13 @@
 // The words and numbers of a script's lines.
-ghost use Rattle.std.specs.Prelude.{◌≡◌, ◌^◌, ◌<◌, ◌≤◌, ◌&&◌, ◌==◌, nat_le, ℕ, true, not, length, slice_index, IfOk, IfSome, IsTrue, option_map, map};
+ghost use Rattle.std.specs.Prelude.{◌≡◌, ◌^◌, ◌<◌, ◌≤◌, ◌&&◌, ◌==◌, nat_le, ℕ, true, not, length, slice_index, IfNone, IfSome, IsTrue, Some, map};
 ghost use Rattle.std.specs.Fmt.{decimal};
 ghost use Rattle.std.specs.List.{list_all};
 ghost use Rattle.script_words.specs.Words.{is_word, words_of, are_digits, is_numeral, value_of, number_of};
 
-use std::alloc::{AllocError, Global};
+use arrayvec::ArrayVec;
+
+/// The most words of a line that spells something: `config` and eight numbers.
+const MAX_WORDS: usize = 9;
 
 /// Whether bytes are a word.
 pub(crate) fn is_word(bytes: &[u8]) -> bool
@@ -27,17 +30,16 @@ fn are_words(parts: &[&[u8]]) -> bool
     parts.iter().all(|part| is_word(part))
 }
 
-/// The words of a line.
-pub(crate) fn words<'a>(alloc: Global, line: &'a [u8]) -> Result<Option<Vec<&'a [u8]>>, AllocError>
-    ensures { IfOk result (λ found.
-        option_map (λ words. map (λ w. w.now) words.items) found ≡ words_of line.now) }
+/// The words of a line that has at most `MAX_WORDS` of them. It takes no memory.
+pub(crate) fn words<'a>(line: &'a [u8]) -> Option<ArrayVec<&'a [u8], MAX_WORDS>>
+    ensures words { IfSome result (λ words. words_of line.now ≡ Some (map (λ w. w.now) words.items)) }
+    ensures none { IfNone result (IfSome (words_of line.now) (λ words. 9 < length words)) }
 {
-    let parts: Vec<&[u8]> = line.split(|b| *b == b' ').collect(alloc)?;
-    if are_words(&parts) {
-        Ok(Some(parts))
-    } else {
-        Ok(None)
-    }
+    let mut parts: ArrayVec<&[u8], MAX_WORDS> = ArrayVec::new();
+    let Ok(()) = parts.extend(line.split(|b| *b == b' ')) else {
+        return None;
+    };
+    if are_words(&parts) { Some(parts) } else { None }
 }
 
 /// What up to ten digits write.

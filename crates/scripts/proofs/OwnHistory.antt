@@ -10,7 +10,7 @@ use Rattle.certificate_checker.specs.Orders.{Agrees}
 use Rattle.certificate_checker.specs.Latest.{IsLawful}
 use Rattle.certificate_checker.specs.Acceptance.{IsAccepted}
 use Rattle.history_recorder.specs.declared.noted.Noted.{Noted}
-use Rattle.history_recorder.specs.Lane.{Lane, deed_noted, IsRecorded}
+use Rattle.history_recorder.specs.Lane.{deed_noted, deeds_of}
 use Rattle.history_recorder.proofs.InTurn.{accepted_in_turn}
 use Rattle.scripts.specs.Own.{ended, own_history, own_certificate, HasStamps}
 
@@ -57,18 +57,18 @@ numbered calls stamps i d less =
     let last : n.0.point + 1 ≡ 3 * i + 3 = omega (arith, point) in
     (ap (λ (c : Call). c.start) is ∙ start, ap (λ (c : Call). c.end) is ∙ last)
 
-module _ (lane : Lane) (recorded : IsRecorded lane) (stamps : HasStamps lane.calls) where
+module _ (recorded : List Noted) (done : IsLawful (deeds_of recorded)) (stamps : HasStamps recorded) where
   abbrev calls : List Call
-  calls = own_history lane
+  calls = own_history recorded
 
   intervals : All (λ (call : Call). call.start ≤ call.end) calls
-  intervals k d within = let h = numbered lane.calls stamps k d within in omega (arith, h.0, h.1)
+  intervals k d within = let h = numbered recorded stamps k d within in omega (arith, h.0, h.1)
 
   agrees : Agrees calls
   agrees i j d less within precedes =
-      let first = numbered lane.calls stamps i d (omega arith) in
-      let second = numbered lane.calls stamps j d within in
+      let first = numbered recorded stamps i d (omega arith) in
+      let second = numbered recorded stamps j d within in
       omega (arith, first.0, second.1, precedes)
 
-  pub accepted : IsAccepted calls (own_certificate lane)
-  accepted = subst (λ n. IsAccepted calls (range_with_len 0 n)) (length-map lane.calls ended) (accepted_in_turn calls intervals agrees (subst IsLawful (same_deeds lane.calls) recorded.lawful))
+  pub accepted : IsAccepted calls (own_certificate recorded)
+  accepted = subst (λ n. IsAccepted calls (range_with_len 0 n)) (length-map recorded ended) (accepted_in_turn calls intervals agrees (subst IsLawful (same_deeds recorded) done))

@@ -1,10 +1,10 @@
 -- What reading the next line and answering it do.
 use Rattle.std.specs.Prelude.{◌≡◌, ℕ, true, false, List, Option}
 use Rattle.std.specs.Io.KnownBytes.{Appends, IsAtEnd, Keeps, prepend_known}
-use Rattle.history_recorder.specs.Lane.{Lane}
 use Rattle.script_words.specs.declared.line_read.LineRead.{LineRead}
 use Rattle.script_words.specs.Lines.{Ahead, Takes}
 use Rattle.scripts.specs.declared.turn.Turn.{Turn}
+use Rattle.scripts.specs.Own.{Opened}
 use Rattle.scripts.specs.Script.{reply_to_read}
 
 -- bytes went from the reader to those read ahead, in turn, and were known to be over only at the reader's end
@@ -14,10 +14,10 @@ pub record Moves (old : Ahead) (unread : Option (List ℕ)) (new : Ahead) (left 
   pub going : new.over ≡ false → old.over ≡ false
 
 -- a line was taken, and its reply was written
-pub record Answers (room number : ℕ) (lane next : Option Lane) (ahead left : Ahead) (old new : Option (List ℕ)) (turn : Turn) : Type 0 where
+pub record Answers (page number : ℕ) (opened next : Option Opened) (ahead left : Ahead) (old new : Option (List ℕ)) (turn : Turn) : Type 0 where
   pub read : LineRead
   pub line : List ℕ
   pub takes : Takes ahead read line left
-  pub turn_is : turn ≡ (reply_to_read room number lane read line).turn
-  pub lane_is : next ≡ (reply_to_read room number lane read line).lane
-  pub wrote : Appends old new (reply_to_read room number lane read line).text
+  pub turn_is : turn ≡ (reply_to_read page number opened read line).turn
+  pub next_is : next ≡ (reply_to_read page number opened read line).opened
+  pub wrote : Appends old new (reply_to_read page number opened read line).text

@@ -1,22 +1,31 @@
--- What a script's commands reply, and the lane after them.
-use Rattle.std.specs.Prelude.{ℕ, ◌≤◌, List, [], ◌∷◌, ◌++◌, length, nat_lt, ◌==◌, if◌then◌else◌, codes}
+-- What a script's commands reply, and its lane after them.
+use Rattle.std.specs.Prelude.{ℕ, List, ◌++◌, length, nat_lt, ◌==◌, if◌then◌else◌, codes}
 use Rattle.record_pages.specs.declared.answer.Answer.{Answer}
 use Rattle.record_pages.specs.declared.answer.Answer.TheVariants.{Hit, Miss}
 use Rattle.record_pages.specs.declared.miss_cause.MissCause.{MissCause}
 use Rattle.record_pages.specs.declared.miss_cause.MissCause.TheVariants.{Absent, Fault, Damaged}
 use Rattle.record_pages.specs.declared.tier.Tier.{Tier}
 use Rattle.record_pages.specs.declared.tier.Tier.TheVariants.{Memory, Log, Set}
-use Rattle.record_pages.specs.Sizes.{object_size}
+use Rattle.record_pages.specs.Sizes.{object_size, room}
 use Rattle.trace_file.specs.declared.act.Act.TheVariants as acts
 use Rattle.hex.specs.Hex.{encode_lower}
 use Rattle.trace_file.specs.Text.{trace_text}
 use Rattle.certificate_checker.specs.declared.verdict.Verdict.TheVariants.{Accepted}
 use Rattle.certificate_checker.specs.VerdictLine.{verdict_line}
-use Rattle.history_recorder.specs.LaneState.{get_step, put_step, remove_step, forget_step}
-use Rattle.history_recorder.specs.Lane.{Lane, act_of, max_calls}
+use Rattle.klog.specs.declared.flushed.Flushed.{Flushed}
+use Rattle.klog.specs.declared.flushed.Flushed.TheVariants as flushed
+use Rattle.rriparoo.specs.Rriparoo.{rriparoo_plan}
+use Rattle.mover.specs.declared.moved.Moved.{Moved}
+use Rattle.mover.specs.declared.moved.Moved.TheVariants as moved
+use Rattle.mover.specs.Get.{Step, get_step}
+use Rattle.mover.specs.Put.{put_step}
+use Rattle.mover.specs.Strike.{removed}
+use Rattle.mover.specs.Flush.{flush_step}
+use Rattle.mover.specs.Whole.{move_step}
+use Rattle.history_recorder.specs.Lane.{act_of, max_calls}
 use Rattle.script_words.specs.declared.command.Command.{Command}
-use Rattle.script_words.specs.declared.command.Command.TheVariants.{Put, Get, Remove, Forget, Verdict, Trace}
-use Rattle.scripts.specs.Own.{after_call, own_history, own_certificate}
+use Rattle.script_words.specs.declared.command.Command.TheVariants.{Put, Get, Remove, Forget, Flush, Move, Verdict, Trace}
+use Rattle.scripts.specs.Own.{Opened, after_call, with_lane, own_history, own_certificate}
 
 -- an empty value is printed as -
 abbrev pub shown : List ℕ → List ℕ
@@ -39,34 +48,63 @@ abbrev pub answer_text : Answer → List ℕ
 answer_text (Hit value tier) = codes "hit " ++ shown value ++ codes " " ++ tier_text tier
 answer_text (Miss cause) = codes "miss " ++ cause_text cause
 
--- a reply with its line feed, and the lane after it
+-- how a reply names what a flush step did
+abbrev pub flush_text : Flushed → List ℕ
+flush_text flushed.Nothing = codes "nothing"
+flush_text flushed.Wrote = codes "wrote"
+flush_text flushed.PageLost = codes "page lost"
+flush_text flushed.Sealed = codes "sealed"
+flush_text flushed.LogFull = codes "log full"
+
+-- how a reply names what a move did
+abbrev pub move_text : Moved → List ℕ
+move_text moved.Nothing = codes "nothing"
+move_text moved.Busy = codes "busy"
+move_text moved.Readmitted = codes "readmitted"
+move_text moved.Dropped = codes "dropped"
+move_text moved.PageLost = codes "page lost"
+move_text moved.Freed = codes "freed"
+move_text moved.Written = codes "written"
+move_text moved.Forgotten = codes "forgotten"
+
+-- a reply with its line feed, and the script's lane after it
 pub record Reply : Type 0 where
   pub text : List ℕ
-  pub lane : Lane
+  pub opened : Opened
 
 -- a reply with its line feed
-abbrev pub reply : List ℕ → Lane → Reply
-reply text lane = record { text = text ++ codes "\n"; lane = lane }
+abbrev pub reply : List ℕ → Opened → Reply
+reply text opened = record { text = text ++ codes "\n"; opened = opened }
 
--- the reply to a command, where objects have this much room, and the lane after it
-abbrev pub reply_to : ℕ → Lane → Command → Reply
-reply_to room lane (Put key value word) =
-    if nat_lt room (object_size key value) then reply (codes "too large") lane
-    else (if nat_lt (length lane.calls) max_calls then
-    reply (codes "stored") (after_call lane (put_step (record { key = key; value = value }) word lane.state).state key (acts.Put value))
-    else reply (codes "history full") lane)
-reply_to room lane (Get key) =
-    if nat_lt (length lane.calls) max_calls then
-    reply (answer_text (get_step key lane.state).reply)
-    (after_call lane (get_step key lane.state).state key (act_of (get_step key lane.state).reply))
-    else reply (codes "history full") lane
-reply_to room lane (Remove key) =
-    if nat_lt (length lane.calls) max_calls then
-    reply (codes "removed") (after_call lane (remove_step key lane.state).state key acts.Remove)
-    else reply (codes "history full") lane
-reply_to room lane (Forget key) =
-    reply (codes "forgotten") (record { state = (forget_step key lane.state).state; calls = lane.calls })
+-- the reply to a call, unless the history is full
+abbrev pub unless_full : Opened → Reply → Reply
+unless_full o r = if nat_lt (length o.calls) max_calls then r else reply (codes "history full") o
+
+-- the reply to a get, by its step
+abbrev pub reply_to_get : Opened → List ℕ → Step Answer → Reply
+reply_to_get o key step = reply (answer_text step.reply) (after_call o step.lane key (act_of step.reply))
+
+-- the reply to a flush, by its step
+abbrev pub reply_to_flush : Opened → Step Flushed → Reply
+reply_to_flush o step = reply (flush_text step.reply) (with_lane o step.lane)
+
+-- the reply to a move, by its step
+abbrev pub reply_to_move : Opened → Step Moved → Reply
+reply_to_move o step = reply (move_text step.reply) (with_lane o step.lane)
+
+-- The reply to a command over pages of this many bytes, and the script's lane after it. Each call of a device succeeds, and
+-- moves go by the plans of Rriparoo.
+abbrev pub reply_to : ℕ → Opened → Command → Reply
+reply_to page o (Put key value word) =
+    if nat_lt (room page) (object_size key value) then reply (codes "too large") o
+    else unless_full o (reply (codes "stored") (after_call o
+    (put_step page o.admit (record { key = key; value = value }) word o.lane).lane key (acts.Put value)))
+reply_to page o (Get key) = unless_full o (reply_to_get o key (get_step key o.lane))
+reply_to page o (Remove key) = unless_full o (reply (codes "removed") (after_call o (removed key o.lane) key acts.Remove))
+reply_to page o (Forget key) = reply (codes "forgotten") (with_lane o (removed key o.lane))
+reply_to page o Flush = reply_to_flush o (flush_step o.lane)
+reply_to page o Move = reply_to_move o (move_step page o.threshold rriparoo_plan o.lane)
 -- every verdict of a script is an accepted line
-reply_to room lane Verdict = reply (verdict_line Accepted (length lane.calls)) lane
+reply_to page o Verdict = reply (verdict_line Accepted (length o.calls)) o
 -- every trace of a script is that of its calls so far, in lower case hexadecimal
-reply_to room lane Trace = reply (encode_lower (trace_text (own_history lane) (own_certificate lane))) lane
+reply_to page o Trace = reply (encode_lower (trace_text (own_history o.calls) (own_certificate o.calls))) o

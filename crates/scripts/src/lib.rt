@@ -1,6 +1,7 @@
 //! Scripts of a cache: each line is answered, and its calls are recorded and judged.
 #![tactic(auto)]
 
+mod open_lane_fault;
 mod recording;
 mod replies;
 mod script;
@@ -9,6 +10,7 @@ mod script_lane;
 mod scripted;
 mod turn;
 
+pub use open_lane_fault::OpenLaneFault;
 pub use recording::Recording;
 pub use script::run_script;
 pub use script_fault::ScriptFault;

@@ -1,11 +1,13 @@
 // The texts of a script's replies.
 ghost use Rattle.std.specs.Prelude.{◌≡◌, ◌++◌, OnOk, length};
-ghost use Rattle.record_pages.specs.Sizes.{room};
-ghost use Rattle.scripts.specs.Replies.{shown, answer_text, tier_text, cause_text, reply_to};
+ghost use Rattle.scripts.specs.Own.{seen_of};
+ghost use Rattle.scripts.specs.Replies.{shown, answer_text, tier_text, cause_text, flush_text, move_text, reply_to};
 
 use crate::script_lane::ScriptLane;
 use certificate_checker::verdict_line_of;
 use history_recorder::{RecordFault, RecordPutFault};
+use klog::Flushed;
+use mover::Moved;
 use record_pages::{Answer, Key, MissCause, Tier, Value};
 use script_words::Command;
 use std::alloc::{AllocError, Global};
@@ -36,6 +38,35 @@ fn cause_name(cause: MissCause) -> &'static str
         MissCause::Absent => "absent",
         MissCause::Fault => "fault",
         MissCause::Damaged => "damaged",
+    }
+}
+
+/// How a reply names what a flush step did.
+fn flush_name(flushed: Flushed) -> &'static str
+    ensures { result.now ≡ flush_text flushed }
+{
+    match flushed {
+        Flushed::Nothing => "nothing",
+        Flushed::Wrote => "wrote",
+        Flushed::PageLost => "page lost",
+        Flushed::Sealed => "sealed",
+        Flushed::LogFull => "log full",
+    }
+}
+
+/// How a reply names what a move did.
+fn move_name(moved: Moved) -> &'static str
+    ensures { result.now ≡ move_text moved }
+{
+    match moved {
+        Moved::Nothing => "nothing",
+        Moved::Busy => "busy",
+        Moved::Readmitted => "readmitted",
+        Moved::Dropped => "dropped",
+        Moved::PageLost => "page lost",
+        Moved::Freed => "freed",
+        Moved::Written => "written",
+        Moved::Forgotten => "forgotten",
     }
 }
 
@@ -75,16 +106,19 @@ fn get_reply<const PAGE: usize>(
     text: &mut Vec<u8>,
 ) -> Result<(), AllocError>
     ensures text { OnOk result (text.new.items
-        ≡ text.old.items ++ (reply_to (room PAGE) lane.old (Command.Get key.now)).text) }
-    ensures lane { OnOk result (lane.new
-        ≡ (reply_to (room PAGE) lane.old (Command.Get key.now)).lane) }
+        ≡ text.old.items ++ (reply_to PAGE (seen_of lane.old) (Command.Get key.now)).text) }
+    ensures lane { OnOk result (seen_of lane.new
+        ≡ (reply_to PAGE (seen_of lane.old) (Command.Get key.now)).opened) }
 {
     match lane.get(key) {
         Ok(got) => {
             append_answer(text, &got.answer)?;
             append(text, b"\n")
         }
-        Err(RecordFault::HistoryFull) => append(text, b"history full\n"),
+        Err(RecordFault::HistoryFull) => {
+            append(text, b"history full\n")?;
+            Ok(())
+        }
         Err(RecordFault::OutOfMemory) => Err(AllocError),
     }
 }
@@ -98,12 +132,12 @@ fn put_reply<const PAGE: usize>(
     text: &mut Vec<u8>,
 ) -> Result<(), AllocError>
     ensures text { OnOk result (text.new.items
-        ≡ text.old.items ++ (reply_to (room PAGE) lane.old (Command.Put key value word)).text) }
-    ensures lane { OnOk result (lane.new
-        ≡ (reply_to (room PAGE) lane.old (Command.Put key value word)).lane) }
+        ≡ text.old.items ++ (reply_to PAGE (seen_of lane.old) (Command.Put key value word)).text) }
+    ensures lane { OnOk result (seen_of lane.new
+        ≡ (reply_to PAGE (seen_of lane.old) (Command.Put key value word)).opened) }
 {
     match lane.put(key, value, word) {
-        Ok(_) => append(text, b"stored\n"),
+        Ok(_stored) => append(text, b"stored\n"),
         Err(RecordPutFault::TooLarge) => append(text, b"too large\n"),
         Err(RecordPutFault::HistoryFull) => append(text, b"history full\n"),
         Err(RecordPutFault::OutOfMemory) => Err(AllocError),
@@ -117,12 +151,12 @@ fn remove_reply<const PAGE: usize>(
     text: &mut Vec<u8>,
 ) -> Result<(), AllocError>
     ensures text { OnOk result (text.new.items
-        ≡ text.old.items ++ (reply_to (room PAGE) lane.old (Command.Remove key.now)).text) }
-    ensures lane { OnOk result (lane.new
-        ≡ (reply_to (room PAGE) lane.old (Command.Remove key.now)).lane) }
+        ≡ text.old.items ++ (reply_to PAGE (seen_of lane.old) (Command.Remove key.now)).text) }
+    ensures lane { OnOk result (seen_of lane.new
+        ≡ (reply_to PAGE (seen_of lane.old) (Command.Remove key.now)).opened) }
 {
     match lane.remove(key) {
-        Ok(_) => append(text, b"removed\n"),
+        Ok(_removed) => append(text, b"removed\n"),
         Err(RecordFault::HistoryFull) => append(text, b"history full\n"),
         Err(RecordFault::OutOfMemory) => Err(AllocError),
     }
@@ -135,12 +169,42 @@ fn forget_reply<const PAGE: usize>(
     text: &mut Vec<u8>,
 ) -> Result<(), AllocError>
     ensures text { OnOk result (text.new.items
-        ≡ text.old.items ++ (reply_to (room PAGE) lane.old (Command.Forget key.now)).text) }
-    ensures lane { OnOk result (lane.new
-        ≡ (reply_to (room PAGE) lane.old (Command.Forget key.now)).lane) }
+        ≡ text.old.items ++ (reply_to PAGE (seen_of lane.old) (Command.Forget key.now)).text) }
+    ensures lane { OnOk result (seen_of lane.new
+        ≡ (reply_to PAGE (seen_of lane.old) (Command.Forget key.now)).opened) }
 {
     lane.forget(key);
     append(text, b"forgotten\n")
+}
+
+/// A flush step of a script.
+fn flush_reply<const PAGE: usize>(
+    lane: &mut ScriptLane<PAGE>,
+    text: &mut Vec<u8>,
+) -> Result<(), AllocError>
+    ensures text { OnOk result (text.new.items
+        ≡ text.old.items ++ (reply_to PAGE (seen_of lane.old) Command.Flush).text) }
+    ensures lane { OnOk result (seen_of lane.new
+        ≡ (reply_to PAGE (seen_of lane.old) Command.Flush).opened) }
+{
+    let flushed = lane.flush_step();
+    append(text, flush_name(flushed).as_bytes())?;
+    append(text, b"\n")
+}
+
+/// A whole move of a script.
+fn move_reply<const PAGE: usize>(
+    lane: &mut ScriptLane<PAGE>,
+    text: &mut Vec<u8>,
+) -> Result<(), AllocError>
+    ensures text { OnOk result (text.new.items
+        ≡ text.old.items ++ (reply_to PAGE (seen_of lane.old) Command.Move).text) }
+    ensures lane { OnOk result (seen_of lane.new
+        ≡ (reply_to PAGE (seen_of lane.old) Command.Move).opened) }
+{
+    let moved = lane.move_whole()?;
+    append(text, move_name(moved).as_bytes())?;
+    append(text, b"\n")
 }
 
 /// The verdict on a script's calls so far.
@@ -150,7 +214,7 @@ fn verdict_reply<const PAGE: usize>(
     text: &mut Vec<u8>,
 ) -> Result<(), AllocError>
     ensures { OnOk result (text.new.items
-        ≡ text.old.items ++ (reply_to (room PAGE) lane.now Command.Verdict).text) }
+        ≡ text.old.items ++ (reply_to PAGE (seen_of lane.now) Command.Verdict).text) }
 {
     let recording = lane.recording(alloc)?;
     let line = verdict_line_of(alloc, &recording.history, &recording.certificate)?;
@@ -166,7 +230,7 @@ fn trace_reply<const PAGE: usize>(
     text: &mut Vec<u8>,
 ) -> Result<(), AllocError>
     ensures { OnOk result (text.new.items
-        ≡ text.old.items ++ (reply_to (room PAGE) lane.now Command.Trace).text) }
+        ≡ text.old.items ++ (reply_to PAGE (seen_of lane.now) Command.Trace).text) }
 {
     let trace = lane.trace(alloc)?;
     let line = hex::encode(alloc, trace.as_slice())?;
@@ -182,14 +246,16 @@ pub(crate) fn answer_command<const PAGE: usize>(
     text: &mut Vec<u8>,
 ) -> Result<(), AllocError>
     ensures text { OnOk result (text.new.items
-        ≡ text.old.items ++ (reply_to (room PAGE) lane.old command).text) }
-    ensures lane { OnOk result (lane.new ≡ (reply_to (room PAGE) lane.old command).lane) }
+        ≡ text.old.items ++ (reply_to PAGE (seen_of lane.old) command).text) }
+    ensures lane { OnOk result (seen_of lane.new ≡ (reply_to PAGE (seen_of lane.old) command).opened) }
 {
     match command {
         Command::Put(key, value, word) => put_reply(lane, key, value, word, text),
         Command::Get(key) => get_reply(lane, &key, text),
         Command::Remove(key) => remove_reply(lane, &key, text),
         Command::Forget(key) => forget_reply(lane, &key, text),
+        Command::Flush => flush_reply(lane, text),
+        Command::Move => move_reply(lane, text),
         Command::Verdict => verdict_reply(alloc, lane, text),
         Command::Trace => trace_reply(alloc, lane, text),
     }

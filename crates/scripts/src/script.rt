@@ -2,13 +2,16 @@
 ghost use Rattle.std.specs.Prelude.{◌≡◌, ◌≢◌, ◌≤◌, ◌++◌, Err, length, IfOk, IfErr, OnOk, OnErr, IfSome, None, true, false, codes};
 ghost use Rattle.std.specs.Io.KnownBytes.{Appends, Keeps};
 ghost use Rattle.record_pages.specs.FieldNames.{name_of};
-ghost use Rattle.record_pages.specs.Sizes.{IsPageSize, room};
+ghost use Rattle.record_pages.specs.Sizes.{IsPageSize};
 ghost use Rattle.script_words.specs.Commands.{command_of};
 ghost use Rattle.script_words.specs.Configs.{config_of, faulty};
 ghost use Rattle.script_words.specs.Lines.{feeds, is_ready};
 ghost use Rattle.scripts.specs.Script.{script_of, reply_to_read, reply_to_line, bad_line, on_config, open_by, on_command, IsWhole, WroteAt};
+ghost use Rattle.std.specs.Option.{option_map};
+ghost use Rattle.scripts.specs.Own.{seen_of};
 ghost use Rattle.scripts.specs.Reading.{Answers, Moves};
 
+use crate::open_lane_fault::OpenLaneFault;
 use crate::replies::{answer_command, append};
 use crate::script_fault::ScriptFault;
 use crate::script_lane::ScriptLane;
@@ -57,7 +60,7 @@ fn open_lane<const PAGE: usize>(
     ensures text { OnOk result (text.new.items
         ≡ text.old.items ++ (open_by config.now (faulty config.now)).text) }
     ensures turn { IfOk result (λ turn. turn ≡ (open_by config.now (faulty config.now)).turn) }
-    ensures lane { OnOk result (lane.new ≡ (open_by config.now (faulty config.now)).lane) }
+    ensures lane { OnOk result (option_map seen_of lane.new ≡ (open_by config.now (faulty config.now)).opened) }
 {
     match ScriptLane::open(alloc, config) {
         Ok(opened) => {
@@ -65,7 +68,8 @@ fn open_lane<const PAGE: usize>(
             *lane = Some(opened);
             Ok(Turn::GoesOn)
         }
-        Err(field) => append_bad_config(field, text),
+        Err(OpenLaneFault::BadConfig { field }) => append_bad_config(field, text),
+        Err(OpenLaneFault::OutOfMemory) => Err(AllocError),
     }
 }
 
@@ -82,9 +86,9 @@ fn answer_first<const PAGE: usize>(
     ensures text { OnOk result (text.new.items
         ≡ text.old.items ++ (on_config number (config_of line.now)).text) }
     ensures turn { IfOk result (λ turn. turn ≡ (on_config number (config_of line.now)).turn) }
-    ensures lane { OnOk result (lane.new ≡ (on_config number (config_of line.now)).lane) }
+    ensures lane { OnOk result (option_map seen_of lane.new ≡ (on_config number (config_of line.now)).opened) }
 {
-    match parse_config(alloc, line)? {
+    match parse_config(line) {
         Some(config) => open_lane(alloc, &config, lane, text),
         None => append_bad_line(alloc, number, text),
     }
@@ -99,11 +103,11 @@ fn answer_further<const PAGE: usize>(
     text: &mut Vec<u8>,
 ) -> Result<Turn, AllocError>
     ensures text { OnOk result (text.new.items
-        ≡ text.old.items ++ (on_command (room PAGE) number lane.old (command_of line.now)).text) }
+        ≡ text.old.items ++ (on_command PAGE number (seen_of lane.old) (command_of line.now)).text) }
     ensures turn { IfOk result (λ turn. turn
-        ≡ (on_command (room PAGE) number lane.old (command_of line.now)).turn) }
-    ensures lane { OnOk result (Some lane.new
-        ≡ (on_command (room PAGE) number lane.old (command_of line.now)).lane) }
+        ≡ (on_command PAGE number (seen_of lane.old) (command_of line.now)).turn) }
+    ensures lane { OnOk result (Some (seen_of lane.new)
+        ≡ (on_command PAGE number (seen_of lane.old) (command_of line.now)).opened) }
 {
     match parse_command(alloc, line)? {
         Some(command) => {
@@ -125,11 +129,11 @@ fn answer_line<const PAGE: usize>(
     requires page { IsPageSize PAGE }
     requires short { length line.now ≤ 4096 }
     ensures text { OnOk result (text.new.items
-        ≡ text.old.items ++ (reply_to_line (room PAGE) number lane.old line.now).text) }
+        ≡ text.old.items ++ (reply_to_line PAGE number (option_map seen_of lane.old) line.now).text) }
     ensures turn { IfOk result (λ turn. turn
-        ≡ (reply_to_line (room PAGE) number lane.old line.now).turn) }
-    ensures lane { OnOk result (lane.new
-        ≡ (reply_to_line (room PAGE) number lane.old line.now).lane) }
+        ≡ (reply_to_line PAGE number (option_map seen_of lane.old) line.now).turn) }
+    ensures lane { OnOk result (option_map seen_of lane.new
+        ≡ (reply_to_line PAGE number (option_map seen_of lane.old) line.now).opened) }
 {
     if number > MAX_LINES {
         return append_bad_line(alloc, number, text);
@@ -152,11 +156,11 @@ fn answer_read<const PAGE: usize>(
     requires page { IsPageSize PAGE }
     requires short { length line.now ≤ 4096 }
     ensures text { OnOk result (text.new.items
-        ≡ text.old.items ++ (reply_to_read (room PAGE) number lane.old read line.now).text) }
+        ≡ text.old.items ++ (reply_to_read PAGE number (option_map seen_of lane.old) read line.now).text) }
     ensures turn { IfOk result (λ turn. turn
-        ≡ (reply_to_read (room PAGE) number lane.old read line.now).turn) }
-    ensures lane { OnOk result (lane.new
-        ≡ (reply_to_read (room PAGE) number lane.old read line.now).lane) }
+        ≡ (reply_to_read PAGE number (option_map seen_of lane.old) read line.now).turn) }
+    ensures lane { OnOk result (option_map seen_of lane.new
+        ≡ (reply_to_read PAGE number (option_map seen_of lane.old) read line.now).opened) }
 {
     match read {
         LineRead::Line => answer_line(alloc, number, line, lane, text),
@@ -227,7 +231,8 @@ fn answer_next<const PAGE: usize, W: Write>(
 ) -> Result<Turn, ScriptFault>
     requires page { IsPageSize PAGE }
     requires ready { is_ready ahead.old ≡ true }
-    ensures ok { IfOk result (λ turn. Answers (room PAGE) number lane.old lane.new
+    ensures ok { IfOk result (λ turn. Answers PAGE number
+        (option_map seen_of lane.old) (option_map seen_of lane.new)
         ahead.old ahead.new (W.contents writer.old) (W.contents writer.new) turn) }
     ensures memory { IfErr result (λ fault. fault ≡ ScriptFault.OutOfMemory
         → Keeps (W.contents writer.old) (W.contents writer.new)) }
@@ -256,9 +261,9 @@ pub fn run_script<const PAGE: usize, R: Read, W: Write>(
 ) -> Result<Scripted, ScriptFault>
     requires { IsPageSize PAGE }
     ensures ok { IfOk result (λ ending. IfSome (R.remaining reader.old) (λ bytes.
-        IsWhole (W.contents writer.old) (W.contents writer.new) ending (script_of (room PAGE) bytes))) }
+        IsWhole (W.contents writer.old) (W.contents writer.new) ending (script_of PAGE bytes))) }
     ensures err { IfErr result (λ fault. IfSome (R.remaining reader.old) (λ bytes.
-        WroteAt (room PAGE) bytes (R.remaining reader.new)
+        WroteAt PAGE bytes (R.remaining reader.new)
         (W.contents writer.old) (W.contents writer.new) fault)) }
 {
     let mut ahead = ReadAhead::new(alloc);

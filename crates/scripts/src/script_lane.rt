@@ -1,125 +1,160 @@
 // The one lane of a script, whose calls have the script's numbers.
-ghost use Rattle.std.specs.Prelude.{◌≡◌, ◌↔◌, ◌<◌, ◌≤◌, [], length, IfOk, OnErr, IsErrOf, None, Some, MatchResult};
+ghost use Rattle.std.specs.Prelude.{◌≡◌, ◌≢◌, ◌↔◌, ◌<◌, ◌≤◌, ◌+◌, ◌*◌, [], length, IfOk, IfErr, OnOk, OnErr, IsErrOf, None, Some};
+ghost use Rattle.record_pages.specs.declared.field.Field.{Field};
 ghost use Rattle.record_pages.specs.Sizes.{IsPageSize, object_size, room};
+ghost use Rattle.rriparoo.specs.Rriparoo.{rriparoo_plan};
 ghost use Rattle.trace_file.specs.Text.{IsTrace};
 ghost use Rattle.certificate_checker.specs.Acceptance.{IsAccepted};
-ghost use Rattle.history_recorder.specs.LaneState.{opening, get_step, put_step, remove_step, forget_step};
+ghost use Rattle.mover.specs.Get.{get_step};
+ghost use Rattle.mover.specs.Put.{put_step};
+ghost use Rattle.mover.specs.Strike.{removed};
+ghost use Rattle.mover.specs.Flush.{flush_step};
+ghost use Rattle.mover.specs.Whole.{move_step};
 ghost use Rattle.history_recorder.specs.Lane.{act_of, max_calls};
 ghost use Rattle.script_words.specs.Configs.{faulty};
-ghost use Rattle.scripts.specs.Own.{after_call, own_history, own_certificate};
+ghost use Rattle.scripts.specs.Own.{seen_of, opened_by, after_call, with_lane, own_history, own_certificate};
 
+use crate::open_lane_fault::OpenLaneFault;
 use crate::recording::Recording;
-use history_recorder::{
-    Got, OpenFault, RecordFault, RecordPutFault, RecordedLane, Removed, Stored,
-};
-use record_pages::{Config, Field, Key, Value};
+use history_recorder::{Got, RecordFault, RecordPutFault, RecordedLane, Removed, Stored};
+use klog::Flushed;
+use mover::{Moved, OpenFault};
+use page_device::MemoryDevice;
+use record_pages::{Config, Field, Key, Layout, Value};
+use rriparoo::Rriparoo;
 use std::alloc::{AllocError, Global};
 use std::marker::Model;
 use trace_file::{Certificate, History, WriteTraceFault, write_trace};
 
-/// The lane of a script. Its call number `i`, from 0, has caller 0, start `3i + 1`, point `3i + 2` and
-/// end `3i + 3`.
+/// The lane of a script, over a device in memory with just enough pages. Its call number `i`, from 0, has caller 0,
+/// start `3i + 1`, point `3i + 2` and end `3i + 3`. Its moves go by the plans of `Rriparoo`.
 #[derive(Drop)]
 pub struct ScriptLane<const PAGE: usize> {
-    lane: RecordedLane<PAGE>,
+    lane: RecordedLane<MemoryDevice<PAGE>, PAGE>,
 }
 
 impl<const PAGE: usize> Model for ScriptLane<PAGE> {
+    ghost use Rattle.std.specs.Coded.{codes};
+    ghost use Rattle.kset.specs.Sets.{sets_code};
     ghost use Rattle.history_recorder.specs.Lane.{Lane};
-    ghost use Rattle.scripts.specs.Own.{HasStamps};
+    ghost use Rattle.scripts.specs.Own.{Pages, IsOfScript};
 
-    ghost Value = { Lane };
+    ghost Value = { Lane Pages };
+
+    ghost coded = { Prim.hlevel (codes, sets_code) };
 
     ghost view = { λ s. s.lane };
 
-    ghost invariant = { λ s. HasStamps s.lane.calls };
+    ghost invariant = { λ s. IsOfScript s.lane };
 }
 
 impl<const PAGE: usize> ScriptLane<PAGE> {
-    /// An empty lane of this configuration, or the first faulty field. A script has one lane.
-    pub fn open(alloc: Global, config: &Config) -> Result<ScriptLane<PAGE>, Field>
+    /// An empty lane of this configuration. A script has one lane.
+    pub fn open(alloc: Global, config: &Config) -> Result<ScriptLane<PAGE>, OpenLaneFault>
         requires { IsPageSize PAGE }
-        ensures { MatchResult result
-            (λ lane. (faulty config.now ≡ None) × (lane ≡ record { state = opening config.now; calls = [] }))
-            (λ field. faulty config.now ≡ Some field) }
+        ensures ok { IfOk result (λ lane.
+            (faulty config.now ≡ None) × (seen_of lane ≡ opened_by config.now)) }
+        ensures bad { IfErr result (λ fault. (field : Field) →
+            fault ≡ OpenLaneFault.BadConfig field → faulty config.now ≡ Some field) }
     {
+        let layout = match config.check() {
+            Ok(layout) => layout,
+            Err(fault) => return Err(OpenLaneFault::BadConfig { field: fault.field }),
+        };
         if config.lanes != 1 {
-            return Err(match config.check() {
-                Ok(_) => Field::Lanes,
-                Err(fault) => fault.field,
+            return Err(OpenLaneFault::BadConfig {
+                field: Field::Lanes,
             });
         }
-        match RecordedLane::open(alloc, config, 0) {
+        let device = MemoryDevice::new(alloc, pages_of(&layout))?;
+        match RecordedLane::open(alloc, config, 0, device) {
             Ok(lane) => Ok(ScriptLane { lane }),
-            Err(OpenFault::ConfigFault { field }) => Err(field),
+            Err(OpenFault::OutOfMemory) => Err(OpenLaneFault::OutOfMemory),
+            Err(OpenFault::ConfigFault { .. }) => unreachable!(),
             Err(OpenFault::WrongPage) => unreachable!(),
+            Err(OpenFault::DeviceTooSmall) => unreachable!(),
         }
     }
 
     /// Answers a get as the script's next call. A refused call takes no number.
     pub fn get(&mut self, key: &Key) -> Result<Got, RecordFault>
         ensures answer { IfOk result (λ got.
-            got.answer ≡ (get_step key.now self.old.state).reply) }
-        ensures after { IfOk result (λ got. self.new ≡ after_call self.old
-            (get_step key.now self.old.state).state key.now (act_of got.answer)) }
+            got.answer ≡ (get_step key.now (seen_of self.old).lane).reply) }
+        ensures after { IfOk result (λ got. seen_of self.new ≡ after_call (seen_of self.old)
+            (get_step key.now (seen_of self.old).lane).lane key.now (act_of got.answer)) }
         ensures full { IsErrOf result RecordFault.HistoryFull ↔ (max_calls ≤ length self.old.calls) }
-        ensures err { OnErr result (self.new ≡ self.old) }
+        ensures full_keeps { IsErrOf result RecordFault.HistoryFull → self.new ≡ self.old }
+        ensures no_call { OnErr result (self.new.calls ≡ self.old.calls) }
     {
         let count = self.lane.len() as u64;
-        match self.lane.get(0, 3 * count + 1, 3 * count + 2, key) {
-            Ok(got) => Ok(got),
-            Err(fault) => Err(fault),
-        }
+        let got = self.lane.get(0, 3 * count + 1, 3 * count + 2, key)?;
+        Ok(got)
     }
 
-    /// Puts a value as the script's next call. A refused call takes no number.
+    /// Puts a value as the script's next call. A refused call takes no number, and leaves the lane as it was.
     pub fn put(&mut self, key: Key, value: Value, word: u32) -> Result<Stored, RecordPutFault>
-        ensures after { IfOk result (λ _. self.new ≡ after_call self.old
-            (put_step (record { key = key; value = value }) word self.old.state).state key (Act.Put value)) }
+        ensures after { IfOk result (λ _. seen_of self.new ≡ after_call (seen_of self.old)
+            (put_step PAGE self.old.store.layout.admit (record { key = key; value = value }) word
+            (seen_of self.old).lane).lane key (Act.Put value)) }
         ensures large { IsErrOf result RecordPutFault.TooLarge ↔ (room PAGE < object_size key value) }
         ensures full { IsErrOf result RecordPutFault.HistoryFull
             ↔ ((object_size key value ≤ room PAGE) × (max_calls ≤ length self.old.calls)) }
         ensures err { OnErr result (self.new ≡ self.old) }
     {
         let count = self.lane.len() as u64;
-        match self
+        let stored = self
             .lane
-            .put(0, 3 * count + 1, 3 * count + 2, key, value, word)
-        {
-            Ok(stored) => Ok(stored),
-            Err(fault) => Err(fault),
-        }
+            .put(0, 3 * count + 1, 3 * count + 2, key, value, word)?;
+        Ok(stored)
     }
 
-    /// Removes a key as the script's next call. A refused call takes no number.
+    /// Removes a key as the script's next call. A refused call takes no number, and leaves the lane as it was.
     pub fn remove(&mut self, key: &Key) -> Result<Removed, RecordFault>
-        ensures after { IfOk result (λ _. self.new ≡ after_call self.old
-            (remove_step key.now self.old.state).state key.now Act.Remove) }
+        ensures after { IfOk result (λ _. seen_of self.new ≡ after_call (seen_of self.old)
+            (removed key.now (seen_of self.old).lane) key.now Act.Remove) }
         ensures full { IsErrOf result RecordFault.HistoryFull ↔ (max_calls ≤ length self.old.calls) }
         ensures err { OnErr result (self.new ≡ self.old) }
     {
         let count = self.lane.len() as u64;
-        match self.lane.remove(0, 3 * count + 1, 3 * count + 2, key) {
-            Ok(removed) => Ok(removed),
-            Err(fault) => Err(fault),
-        }
+        let removed = self.lane.remove(0, 3 * count + 1, 3 * count + 2, key)?;
+        Ok(removed)
     }
 
     /// Has the lane forget a key. It is no call of the script's history.
     pub fn forget(&mut self, key: &Key)
-        ensures { self.new ≡ record {
-          state = (forget_step key.now self.old.state).state;
-          calls = self.old.calls;
-        } }
+        ensures { seen_of self.new
+            ≡ with_lane (seen_of self.old) (removed key.now (seen_of self.old).lane) }
     {
         self.lane.forget(key);
+    }
+
+    /// One step of flushing the log. It is no call of the script's history.
+    pub fn flush_step(&mut self) -> Flushed
+        ensures answer { result ≡ (flush_step (seen_of self.old).lane).reply }
+        ensures after { seen_of self.new
+            ≡ with_lane (seen_of self.old) (flush_step (seen_of self.old).lane).lane }
+    {
+        self.lane.flush_step()
+    }
+
+    /// A whole move by the plan of `Rriparoo`. It is no call of the script's history. After `AllocError` the calls and
+    /// the tiers are as they were.
+    pub fn move_whole(&mut self) -> Result<Moved, AllocError>
+        ensures answer { IfOk result (λ moved. moved ≡ (move_step PAGE self.old.store.layout.threshold
+            rriparoo_plan (seen_of self.old).lane).reply) }
+        ensures after { OnOk result (seen_of self.new ≡ with_lane (seen_of self.old)
+            (move_step PAGE self.old.store.layout.threshold rriparoo_plan (seen_of self.old).lane).lane) }
+        ensures no_call { OnErr result (self.new.calls ≡ self.old.calls) }
+    {
+        let moved = self.lane.move_whole(&Rriparoo)?;
+        Ok(moved)
     }
 
     /// The calls so far as a history, with the certificate of their order. The pair is accepted.
     /// `AllocError` comes where memory was refused.
     pub fn recording(&self, alloc: Global) -> Result<Recording, AllocError>
-        ensures history { IfOk result (λ r. r.history ≡ own_history self.now) }
-        ensures certificate { IfOk result (λ r. r.certificate ≡ own_certificate self.now) }
+        ensures history { IfOk result (λ r. r.history ≡ own_history self.now.calls) }
+        ensures certificate { IfOk result (λ r. r.certificate ≡ own_certificate self.now.calls) }
         ensures accepted { IfOk result (λ r. IsAccepted r.history r.certificate) }
         ensures few { IfOk result (λ r. length r.history ≤ max_calls) }
         ensures as_many { IfOk result (λ r. length r.certificate ≡ length r.history) }
@@ -139,9 +174,9 @@ impl<const PAGE: usize> ScriptLane<PAGE> {
     /// The trace of the calls so far, which are accepted. `AllocError` comes where memory was refused.
     pub fn trace(&self, alloc: Global) -> Result<Vec<u8>, AllocError>
         ensures trace { IfOk result (λ bytes. IsTrace bytes.items
-            (own_history self.now) (own_certificate self.now)) }
+            (own_history self.now.calls) (own_certificate self.now.calls)) }
         ensures accepted { IfOk result (λ _. IsAccepted
-            (own_history self.now) (own_certificate self.now)) }
+            (own_history self.now.calls) (own_certificate self.now.calls)) }
     {
         let recording = self.recording(alloc)?;
         let mut bytes = Vec::new(alloc);
@@ -162,6 +197,13 @@ ghost use Rattle.scripts.specs.Own.{ended};
 
 use history_recorder::NotedRef;
 use trace_file::{Act, CallRef};
+
+/// How many pages the sets and the log of a layout ask for.
+fn pages_of(layout: &Layout) -> u32
+    ensures { result ≡ layout.now.sets + layout.now.segments * layout.now.segment_pages }
+{
+    layout.sets + layout.segments * layout.segment_pages
+}
 
 /// A recorded call, with its end.
 fn with_end(noted: NotedRef<'_>) -> CallRef<'_>

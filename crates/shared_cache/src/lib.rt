@@ -1,9 +1,38 @@
-//! The clock of running threads: one word that never falls, and the seats that draw stamps from it.
+//! A cache that threads share: its lanes, each under a lock of its own, the clock that they draw stamps from, the passes of
+//! its callers, and the history that is left of it with an order of its calls.
 #![tactic(auto)]
 
+mod act_fault;
+mod acted;
+mod books;
+mod boxed;
+mod cache;
+mod call_fault;
+mod claims;
 mod clock;
 mod clock_full;
 mod clock_rule;
+mod comparing;
+mod copying;
+mod ending;
+mod finish_fault;
+mod finished;
+mod lane_claims;
+mod listed;
+mod open_cache_fault;
+mod opening;
+mod outcome;
+mod performing;
 
+pub use act_fault::ActFault;
+pub use acted::Acted;
+pub use books::{LaneBook, Pass};
+pub use cache::SharedCache;
+pub use call_fault::CallFault;
 pub use clock::{Clock, ClockSeat, LAST_STAMP};
 pub use clock_full::ClockFull;
+pub use finish_fault::FinishFault;
+pub use finished::Finished;
+pub use listed::Listed;
+pub use open_cache_fault::OpenCacheFault;
+pub use outcome::Outcome;

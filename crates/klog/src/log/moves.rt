@@ -16,6 +16,7 @@ use crate::gathered::Gathered;
 use crate::oldest::Oldest;
 use crate::readmitted::Readmitted;
 use crate::set_taken::SetTaken;
+use crate::sources::Sources;
 use crate::taken_record::TakenRecord;
 use crate::taken_records::TakenRecords;
 use klog_index::Entry;
@@ -68,19 +69,12 @@ impl<const PAGE: usize> KLog<PAGE> {
         ensures shown { (held : ℕ → Option (List ℕ)) → live_on held self.new
             ≡ filter (λ x. not (is_taken self.old set taken.now x.0)) (live_on held self.old) }
     {
-        for number in 0..taken.len() {
-            self.drop_one(set, taken.at(number));
-        }
-    }
-
-    // Drops the live record of a set that was taken as this one, where its segment is still held.
-    fn drop_one(&mut self, set: u32, taken: &TakenRecord)
-        ensures { self.new ≡ dropped self.old set (taken.now ∷ []) }
-    {
-        if self.number_of(taken.place.segment) != taken.segment {
-            return;
-        }
-        self.index.drop_in(set, taken.place);
+        let sources = Sources {
+            taken,
+            first: self.first,
+            names: self.names(),
+        };
+        self.index.drop_passing(set, &sources);
     }
 
     /// Drops a live record, that of this entry.

@@ -22,7 +22,7 @@ enum Act {
 type Step = (Act, u8, u16, u8, u8, u8);
 
 // Chains of one set and of equal tags; the head, the middle and the tail of both chains go, and nodes are taken again.
-const STEPS: [Step; 40] = [
+const STEPS: [Step; 49] = [
     (Act::Add, 2, 9, 200, 1, 0),
     (Act::Add, 2, 9, 200, 0, 3),
     (Act::Add, 1, 9, 7, 0, 1),
@@ -63,6 +63,15 @@ const STEPS: [Step; 40] = [
     (Act::Add, 1, 7, 4, 0, 0),
     (Act::Add, 1, 7, 4, 0, 0),
     (Act::DropTag, 1, 7, 0, 0, 0),
+    (Act::Add, 1, 7, 9, 0, 0),
+    (Act::Add, 1, 6, 9, 0, 1),
+    (Act::Add, 1, 7, 9, 0, 2),
+    (Act::Add, 1, 6, 9, 1, 3),
+    (Act::Add, 1, 7, 9, 0, 4),
+    (Act::DropTag, 1, 7, 0, 0, 0),
+    (Act::Add, 1, 7, 9, 0, 2),
+    (Act::DropTag, 1, 6, 0, 0, 0),
+    (Act::DropPage, 0, 0, 9, 0, 0),
 ];
 
 // A step of both; an entry's place is made free before it is added. The answers of `add` agree.

@@ -1,21 +1,20 @@
 // How a move begins.
-ghost use Rattle.std.specs.Prelude.{◌≡◌, ◌<◌, ◌+◌, IfOk, OnErr, IsTrue};
+ghost use Rattle.std.specs.Prelude.{◌≡◌, ◌≢◌, ◌<◌, None, Ok, IfOk, OnErr, IsTrue};
 ghost use Rattle.page_device.specs.Device.{faults_after};
 ghost use Rattle.klog.specs.declared.oldest.Oldest.{Oldest};
-ghost use Rattle.klog.specs.Moves.{TellsOldest, IsFirstLive, IsOfOldest, is_readmit_fault, is_taking_lost};
-ghost use Rattle.kset.specs.ReadSet.{is_set_lost};
-ghost use Rattle.mover.specs.Store.{KeepsTiers, most_moves};
+ghost use Rattle.mover.specs.declared.begin.Begin.{Begin};
+ghost use Rattle.klog.specs.Moves.{TellsOldest, IsFirstLive, IsOfOldest, is_readmit_fault};
+ghost use Rattle.mover.specs.Store.{KeepsTiers, KeepsMoves, most_moves};
 ghost use Rattle.mover.specs.Lane.{lane_of};
+ghost use Rattle.mover.specs.Visible.{ShowsFrom};
 ghost use Rattle.mover.specs.Oldest.{oldest_in};
-ghost use Rattle.mover.specs.Begin.{WritesNothing, BeginGives, EntryBegins, LaneReadmits, LaneTakes, LaneReads, lane_freed, lane_without_entry, is_lost, KeepsUnlessLost, IsOfSet, CountsIfMove, KeepsUnlessForgotten, Gathers, begun_by, judged};
+ghost use Rattle.mover.specs.Begin.{WritesNothing, BeginGives, EntryBegins, LaneReadmits, lane_freed, lane_without_entry, is_lost, began_by, judged, moves_after, IsNumbered, AnswersBusy, BeginsFlight, BeginLeaves};
 
 use super::Store;
-use crate::begun::Begun;
-use crate::moving::Moving;
+use crate::begin::Begin;
 use admission::{Judgement, Threshold};
-use klog::{Oldest, Readmitted, SetTaken};
+use klog::{Oldest, Readmitted};
 use klog_index::Entry;
-use kset::{SetRead, readings_keep_sets};
 use page_device::PageDevice;
 use std::alloc::AllocError;
 
@@ -54,20 +53,11 @@ impl<D: PageDevice<PAGE>, const PAGE: usize> Store<D, PAGE> {
         self.log.drop_entry(entry);
     }
 
-    // The number of the next move, which is counted.
-    fn next_number(&mut self) -> u64
-        requires { self.old.moves < most_moves }
-        ensures number { result ≡ self.old.moves + 1 }
-        ensures counted { self.new ≡ record self.old { moves = self.old.moves + 1 } }
-    {
-        self.moves += 1;
-        self.moves
-    }
-
     // Adds the record of an entry of the oldest segment to the log anew.
     fn readmit(&mut self, entry: &Entry) -> Readmitted
         requires { IsOfOldest self.old.log entry.now }
         ensures writes { WritesNothing D.honest D.held self.old self.new }
+        ensures stays { KeepsMoves self.old self.new }
         ensures faults { D.failures self.new.device
             ≡ faults_after (D.failures self.old.device) (is_readmit_fault result) }
         ensures gives { IsTrue (D.honest self.old.device) →
@@ -77,59 +67,62 @@ impl<D: PageDevice<PAGE>, const PAGE: usize> Store<D, PAGE> {
         let _live = self.log.len();
         self.log.readmit(&mut self.device, entry)
     }
-
-    // The newest live records of a set in the log.
-    fn take_set(&mut self, set: u32) -> Result<SetTaken, AllocError>
-        ensures moves { self.new.moves ≡ self.old.moves }
-        ensures writes { WritesNothing D.honest D.held self.old self.new }
-        ensures keeps { KeepsUnlessLost result self.old self.new }
-        ensures faults { IsTrue (D.honest self.old.device) → D.failures self.new.device
-            ≡ faults_after (D.failures self.old.device) (is_taking_lost result) }
-        ensures gives { IsTrue (D.honest self.old.device) → IfOk result (λ taken.
-            LaneTakes set (lane_of D.held self.old) taken (lane_of D.held self.new)) }
-    {
-        let taken = self.log.take_set(self.alloc, &mut self.device, set)?;
-        Ok(taken)
-    }
-
-    // The visible records of a set.
-    fn read_set(&mut self, set: u32) -> Result<SetRead, AllocError>
-        requires { set < self.old.layout.sets }
-        ensures moves { self.new.moves ≡ self.old.moves }
-        ensures writes { WritesNothing D.honest D.held self.old self.new }
-        ensures keeps { KeepsUnlessForgotten result self.old self.new }
-        ensures faults { IsTrue (D.honest self.old.device) → D.failures self.new.device
-            ≡ faults_after (D.failures self.old.device) (is_set_lost result) }
-        ensures gives { IsTrue (D.honest self.old.device) → IfOk result (λ read.
-            LaneReads set (lane_of D.held self.old) read (lane_of D.held self.new)) }
-    {
-        readings_keep_sets();
-        let read = self.sets.read_set(self.alloc, &mut self.device, set)?;
-        Ok(read)
-    }
 }
 
 impl<D: PageDevice<PAGE>, const PAGE: usize> Store<D, PAGE> {
-    // Begins a move: by the first live entry of the oldest segment on the device.
-    pub(super) fn begin(&mut self) -> Result<Begun, AllocError>
+    /// Begins a move: by the first live entry of the oldest segment on the device. Where there is a job it is in flight
+    /// until it is committed or aborted with its number; numbers start at 1, rise with each job, and none is given again.
+    ///
+    /// Where memory is refused the store stays as it was, and no number is spent.
+    pub fn move_begin(&mut self) -> Result<Begin, AllocError>
         ensures writes { WritesNothing D.honest D.held self.old self.new }
         ensures out_of_memory { OnErr result (KeepsTiers self.old self.new) }
-        ensures number { OnErr result (self.new.moves ≡ self.old.moves) }
-        ensures its { IfOk result (IsOfSet self.old.layout.sets) }
-        ensures keeps { IfOk result (λ begun. CountsIfMove begun self.old self.new) }
+        ensures number { self.new.moves ≡ moves_after result self.old.moves }
+        ensures numbered { IfOk result (IsNumbered self.new.moves) }
+        ensures flies { BeginsFlight PAGE result self.old.flight self.new.flight }
+        ensures leaves { BeginLeaves result self.old self.new }
+        ensures busy { AnswersBusy self.old.flight result (self.new ≡ self.old) }
+        ensures faults { IsTrue (D.honest self.old.device) → D.failures self.new.device
+            ≡ faults_after (D.failures self.old.device) (is_lost result) }
+        ensures gives { IsTrue (D.honest self.old.device) → IfOk result (λ begun. BeginGives PAGE
+            self.old.layout.threshold (lane_of D.held self.old) begun (lane_of D.held self.new)) }
+        ensures lane_stays { IsTrue (D.honest self.old.device) →
+            OnErr result (lane_of D.held self.new ≡ lane_of D.held self.old) }
+        ensures shows { IsTrue (D.honest self.old.device) →
+            ShowsFrom None None (lane_of D.held self.old) (lane_of D.held self.new) }
+    {
+        // Where the records of the lane are placed, so are those of a move.
+        let _layout = self.layout();
+        if self.flight.is_some() {
+            return Ok(Begin::Busy);
+        }
+        let begun = self.begin_oldest()?;
+        Ok(begun)
+    }
+
+    // Begins a move where none is in flight.
+    fn begin_oldest(&mut self) -> Result<Begin, AllocError>
+        requires { self.old.flight ≡ None }
+        ensures writes { WritesNothing D.honest D.held self.old self.new }
+        ensures out_of_memory { OnErr result (KeepsTiers self.old self.new) }
+        ensures number { self.new.moves ≡ moves_after result self.old.moves }
+        ensures numbered { IfOk result (IsNumbered self.new.moves) }
+        ensures flies { BeginsFlight PAGE result self.old.flight self.new.flight }
+        ensures leaves { BeginLeaves result self.old self.new }
+        ensures free { result ≢ Ok Begin.Busy }
         ensures faults { IsTrue (D.honest self.old.device) → D.failures self.new.device
             ≡ faults_after (D.failures self.old.device) (is_lost result) }
         ensures gives { IsTrue (D.honest self.old.device) → IfOk result (λ begun. BeginGives PAGE
             self.old.layout.threshold (lane_of D.held self.old) begun (lane_of D.held self.new)) }
     {
         if self.moves == MAX_MOVES {
-            return Ok(Begun::Nothing);
+            return Ok(Begin::Nothing);
         }
         match self.oldest() {
-            Oldest::NoSegment => Ok(Begun::Nothing),
+            Oldest::NoSegment => Ok(Begin::Nothing),
             Oldest::Empty => {
                 self.free_oldest();
-                Ok(Begun::Freed)
+                Ok(Begin::Freed)
             }
             Oldest::First(entry) => {
                 let begun = self.begin_with(&entry)?;
@@ -139,15 +132,18 @@ impl<D: PageDevice<PAGE>, const PAGE: usize> Store<D, PAGE> {
     }
 
     // Begins a move with an entry of the oldest segment on the device.
-    fn begin_with(&mut self, entry: &Entry) -> Result<Begun, AllocError>
+    fn begin_with(&mut self, entry: &Entry) -> Result<Begin, AllocError>
+        requires free { self.old.flight ≡ None }
         requires oldest { IsOfOldest self.old.log entry.now }
         requires set { entry.now.set < self.old.layout.sets }
         requires number { self.old.moves < most_moves }
         ensures writes { WritesNothing D.honest D.held self.old self.new }
         ensures out_of_memory { OnErr result (KeepsTiers self.old self.new) }
-        ensures number { OnErr result (self.new.moves ≡ self.old.moves) }
-        ensures its { IfOk result (IsOfSet self.old.layout.sets) }
-        ensures keeps { IfOk result (λ begun. CountsIfMove begun self.old self.new) }
+        ensures number { self.new.moves ≡ moves_after result self.old.moves }
+        ensures numbered { IfOk result (IsNumbered self.new.moves) }
+        ensures flies { BeginsFlight PAGE result self.old.flight self.new.flight }
+        ensures leaves { BeginLeaves result self.old self.new }
+        ensures free { result ≢ Ok Begin.Busy }
         ensures faults { IsTrue (D.honest self.old.device) → D.failures self.new.device
             ≡ faults_after (D.failures self.old.device) (is_lost result) }
         ensures gives { IsTrue (D.honest self.old.device) → IfOk result (λ begun. EntryBegins PAGE
@@ -159,10 +155,10 @@ impl<D: PageDevice<PAGE>, const PAGE: usize> Store<D, PAGE> {
                 let begun = self.gather(entry.set)?;
                 Ok(begun)
             }
-            Judgement::Readmit => Ok(begun_by(self.readmit(entry))),
+            Judgement::Readmit => Ok(began_by(self.readmit(entry))),
             Judgement::Drop => {
                 self.drop_entry(entry);
-                Ok(Begun::Dropped)
+                Ok(Begin::Dropped)
             }
         }
     }
@@ -177,44 +173,16 @@ impl<D: PageDevice<PAGE>, const PAGE: usize> Store<D, PAGE> {
         };
         threshold.judge(self.log.count(entry.set), entry.prediction)
     }
-
-    // The records of a set that are to move.
-    fn gather(&mut self, set: u32) -> Result<Begun, AllocError>
-        requires set { set < self.old.layout.sets }
-        requires number { self.old.moves < most_moves }
-        ensures writes { WritesNothing D.honest D.held self.old self.new }
-        ensures out_of_memory { OnErr result (KeepsTiers self.old self.new) }
-        ensures number { OnErr result (self.new.moves ≡ self.old.moves) }
-        ensures its { IfOk result (IsOfSet self.old.layout.sets) }
-        ensures keeps { IfOk result (λ begun. CountsIfMove begun self.old self.new) }
-        ensures faults { IsTrue (D.honest self.old.device) → D.failures self.new.device
-            ≡ faults_after (D.failures self.old.device) (is_lost result) }
-        ensures gives { IsTrue (D.honest self.old.device) → IfOk result (λ begun.
-            Gathers set (lane_of D.held self.old) begun (lane_of D.held self.new)) }
-    {
-        let SetTaken::Records(taken) = self.take_set(set)? else {
-            return Ok(Begun::PageLost);
-        };
-        let SetRead::Records(visible) = self.read_set(set)? else {
-            return Ok(Begun::PageLost);
-        };
-        Ok(Begun::Move(Moving {
-            number: self.next_number(),
-            set,
-            visible,
-            taken,
-        }))
-    }
 }
 
 // How a move began by a readmission.
-fn begun_by(readmitted: Readmitted) -> Begun
-    ensures { result ≡ begun_by readmitted }
+fn began_by(readmitted: Readmitted) -> Begin
+    ensures { result ≡ began_by readmitted }
 {
     match readmitted {
-        Readmitted::Readmitted => Begun::Readmitted,
-        Readmitted::Dropped => Begun::Dropped,
-        Readmitted::Fault => Begun::PageLost,
-        Readmitted::Damaged => Begun::PageLost,
+        Readmitted::Readmitted => Begin::Readmitted,
+        Readmitted::Dropped => Begin::Dropped,
+        Readmitted::Fault => Begin::PageLost,
+        Readmitted::Damaged => Begin::PageLost,
     }
 }

@@ -1,16 +1,21 @@
-// How a move ends.
-ghost use Rattle.std.specs.Prelude.{◌≡◌, ◌<◌, [], All, IsTrue};
+// How a move ends by a plan.
+ghost use Rattle.std.specs.Prelude.{◌≡◌, ◌<◌, [], None, All, IsTrue};
 ghost use Rattle.page_device.specs.Device.{faults_after};
 ghost use Rattle.record_pages.specs.Sizes.{IsPageSize};
-ghost use Rattle.policy_laws.specs.Laws.{IsLawful};
+ghost use Rattle.klog.specs.Moves.{dropped};
 ghost use Rattle.kset.specs.Laws.{IsKeyOf};
-ghost use Rattle.kset.specs.Rewrite.{is_forgotten};
+ghost use Rattle.kset.specs.Rewrite.{is_forgotten, after_rewrite};
 ghost use Rattle.mover.specs.Lane.{lane_of};
+ghost use Rattle.mover.specs.Visible.{ShowsFrom};
 ghost use Rattle.mover.specs.Begin.{lane_without};
-ghost use Rattle.mover.specs.Commit.{lane_rewritten, job_of, planned_of, committed, AreOfSet};
+ghost use Rattle.mover.specs.Flight.{unstruck, IsFlightOf, AreOfSet};
+ghost use Rattle.mover.specs.Job.{job_of};
+ghost use Rattle.mover.specs.Commit.{lane_rewritten, planned_of, landed, landed_in, IsFitting, CommitGives, CommitAnswers, CommitLeaves, is_unwritten, committed_by};
 
 use super::Store;
-use crate::moving::Moving;
+use crate::committed::Committed;
+use crate::fitting::is_fitting;
+use crate::flight::Flight;
 use klog::TakenRecords;
 use kset::{Rewritten, rewritings_keep_sets};
 use page_device::PageDevice;
@@ -23,10 +28,13 @@ impl<D: PageDevice<PAGE>, const PAGE: usize> Store<D, PAGE> {
         requires set { set < self.old.layout.sets }
         requires placed { IsTrue (D.honest self.old.device) → All (λ r. IsKeyOf
             self.old.log.shape.lanes self.old.log.shape.sets set r.key) writer.now }
-        ensures layout { self.new.layout ≡ self.old.layout }
         ensures honest { D.honest self.new.device ≡ D.honest self.old.device }
         ensures faults { D.failures self.new.device
             ≡ faults_after (D.failures self.old.device) (is_forgotten result) }
+        ensures leaves { self.new ≡ record self.old {
+          device = self.new.device;
+          sets = after_rewrite self.old.sets set writer.now result;
+        } }
         ensures gives { IsTrue (D.honest self.old.device) → lane_of D.held self.new
             ≡ lane_rewritten set writer.now result (lane_of D.held self.old) }
     {
@@ -36,8 +44,7 @@ impl<D: PageDevice<PAGE>, const PAGE: usize> Store<D, PAGE> {
 
     // Drops the records that were taken of a set.
     fn drop_taken(&mut self, set: u32, taken: &TakenRecords)
-        ensures layout { self.new.layout ≡ self.old.layout }
-        ensures device { self.new.device ≡ self.old.device }
+        ensures leaves { self.new ≡ record self.old { log = dropped self.old.log set taken.now } }
         ensures dropped { lane_of D.held self.new
             ≡ lane_without set taken.now (lane_of D.held self.old) }
     {
@@ -46,40 +53,81 @@ impl<D: PageDevice<PAGE>, const PAGE: usize> Store<D, PAGE> {
 }
 
 impl<D: PageDevice<PAGE>, const PAGE: usize> Store<D, PAGE> {
-    // Ends a move by a plan: its set is written anew with the plan's records, and the taken records leave the log.
-    pub(super) fn commit(&mut self, moving: &Moving, plan: &Plan) -> Rewritten
-        requires set { moving.now.set < self.old.layout.sets }
-        requires lawful { IsLawful (job_of PAGE moving.now) plan.now }
+    /// Ends the move with this number by a plan, if it is the one in flight: its set is written anew with the plan's items
+    /// that were not struck since the move began, or forgotten where the device fails; and what was taken of the log
+    /// leaves it. Hits since the move began are not seen. No memory is taken.
+    ///
+    /// `StalePlan` and `BadPlan` change nothing and make no call of the device; after `BadPlan` the move stays in flight.
+    pub fn move_commit(&mut self, plan: &Plan, number: u64) -> Committed
+        ensures honest { D.honest self.new.device ≡ D.honest self.old.device }
+        ensures faults { D.failures self.new.device
+            ≡ faults_after (D.failures self.old.device) (is_unwritten result) }
+        ensures answers { CommitAnswers PAGE plan.now number self.old.flight result }
+        ensures leaves { CommitLeaves plan.now self.old result self.new }
+        ensures gives { IsTrue (D.honest self.old.device) → CommitGives PAGE plan.now number
+            (lane_of D.held self.old) result (lane_of D.held self.new) }
+        ensures shows { IsTrue (D.honest self.old.device) →
+            ShowsFrom None None (lane_of D.held self.old) (lane_of D.held self.new) }
+    {
+        // What is true of every store is true of its move in flight.
+        let _layout = self.layout();
+        let Some(flight) = self.take_flight(number) else {
+            return Committed::StalePlan;
+        };
+        if !is_fitting::<PAGE>(&flight.moving, plan) {
+            self.flight = Some(flight);
+            return Committed::BadPlan;
+        }
+        committed_by(self.land(&flight, plan))
+    }
+
+    // Writes what a plan keeps of a move, and drops what was taken of the log.
+    fn land(&mut self, flight: &Flight, plan: &Plan) -> Rewritten
+        requires free { self.old.flight ≡ None }
+        requires its { IsFlightOf self.old.log.shape self.old.moves flight.now }
         requires placed { IsTrue (D.honest self.old.device) →
-            AreOfSet self.old.log.shape moving.now }
-        ensures layout { self.new.layout ≡ self.old.layout }
+            AreOfSet self.old.log.shape flight.now.moving }
+        requires fitting { IsFitting (job_of PAGE flight.now.moving) plan.now }
         ensures honest { D.honest self.new.device ≡ D.honest self.old.device }
         ensures faults { D.failures self.new.device
             ≡ faults_after (D.failures self.old.device) (is_forgotten result) }
+        ensures leaves { self.new ≡ landed_in flight.now plan.now result self.old self.new.device }
         ensures gives { IsTrue (D.honest self.old.device) → lane_of D.held self.new
-            ≡ committed moving.now plan.now result (lane_of D.held self.old) }
+            ≡ landed flight.now plan.now result (lane_of D.held self.old) }
     {
         // The size of pages is known from the store.
         let _ = &self.alloc;
         let mut writer = SetPageWriter::new();
-        fill(&mut writer, moving, plan);
-        let rewritten = self.rewrite(moving.set, &writer);
-        self.drop_taken(moving.set, &moving.taken);
+        fill(&mut writer, flight, plan);
+        let rewritten = self.rewrite(flight.moving.set, &writer);
+        self.drop_taken(flight.moving.set, &flight.moving.taken);
         rewritten
     }
 }
 
-// Puts the records of a plan on an empty page.
-fn fill<const PAGE: usize>(writer: &mut SetPageWriter<PAGE>, moving: &Moving, plan: &Plan)
+// Puts the records of a plan that were not struck on an empty page.
+fn fill<const PAGE: usize>(writer: &mut SetPageWriter<PAGE>, flight: &Flight, plan: &Plan)
     requires page_size { IsPageSize PAGE }
     requires empty { writer.old ≡ [] }
-    requires lawful { IsLawful (job_of PAGE moving.now) plan.now }
-    ensures { writer.new ≡ planned_of moving.now plan.now }
+    requires fitting { IsFitting (job_of PAGE flight.now.moving) plan.now }
+    ensures { writer.new ≡ planned_of flight.now.moving (unstruck flight.now plan.now) }
 {
     for number in 0..plan.len() {
         let choice = plan.at(number);
-        let record = moving.record(choice.item);
-        let anew = RecordRef::new(&record.key, &record.value, choice.prediction);
-        writer.push(anew);
+        if !flight.marks.is_struck(choice.item) {
+            let record = flight.moving.record(choice.item);
+            let anew = RecordRef::new(&record.key, &record.value, choice.prediction);
+            writer.push(anew);
+        }
+    }
+}
+
+// How a move ended by a rewriting.
+fn committed_by(rewritten: Rewritten) -> Committed
+    ensures { result ≡ committed_by rewritten }
+{
+    match rewritten {
+        Rewritten::Written => Committed::Written,
+        Rewritten::Forgotten => Committed::Forgotten,
     }
 }

@@ -4,7 +4,7 @@ ghost use Rattle.page_device.specs.Device.{faults_after};
 ghost use Rattle.klog.specs.Flush.{is_page_lost, FlushGives};
 ghost use Rattle.mover.specs.Lane.{lane_of};
 ghost use Rattle.mover.specs.Visible.{ShowsFrom};
-ghost use Rattle.mover.specs.Flush.{LaneFlushes};
+ghost use Rattle.mover.specs.Flush.{LaneFlushes, StepsUnlessLost};
 
 use super::Store;
 use klog::Flushed;
@@ -24,6 +24,8 @@ impl<D: PageDevice<PAGE>, const PAGE: usize> Store<D, PAGE> {
         ensures flushes { FlushGives self.old.log result self.new.log }
         ensures gives { IsTrue (D.honest self.old.device) →
             LaneFlushes (lane_of D.held self.old) result (lane_of D.held self.new) }
+        ensures steps { IsTrue (D.honest self.old.device) →
+            StepsUnlessLost (lane_of D.held self.old) result (lane_of D.held self.new) }
         ensures shows { IsTrue (D.honest self.old.device) →
             ShowsFrom None None (lane_of D.held self.old) (lane_of D.held self.new) }
     {

@@ -8,7 +8,7 @@ ghost use Rattle.kset.specs.Notes.{lets_show};
 ghost use Rattle.kset.specs.Sets.{notes_of, IsPlaceIn};
 ghost use Rattle.mover.specs.Asking.{AsksNothing, IfThen, IsNotOfLog, KeepsIfMiss, HitsInLog};
 ghost use Rattle.memory_cache.specs.MemoryList.{value_in, after_get};
-ghost use Rattle.mover.specs.Store.{KeepsTiers, OnlyReads};
+ghost use Rattle.mover.specs.Store.{KeepsTiers, KeepsMoves, OnlyReads};
 ghost use Rattle.mover.specs.Lane.{lane_of};
 ghost use Rattle.mover.specs.Visible.{ShowsFrom, TellsVisible};
 ghost use Rattle.mover.specs.Get.{get_step, ask_log, ask_set, StepGives, LogTells, KeepsUnlessHit, is_fault, answer_of_set};
@@ -24,6 +24,7 @@ impl<D: PageDevice<PAGE>, const PAGE: usize> Store<D, PAGE> {
     /// is not the expected one, ends the search, and changes nothing. `AllocError` changes nothing either.
     pub fn get(&mut self, key: &Key) -> Result<Answer, AllocError>
         ensures reads { OnlyReads D.honest D.failures D.held self.old (is_fault result) self.new }
+        ensures stays { KeepsMoves self.old self.new }
         ensures out_of_memory { OnErr result (KeepsTiers self.old self.new) }
         ensures gives { IsTrue (D.honest self.old.device) → IfOk result (λ answer. StepGives
             (get_step key.now (lane_of D.held self.old)) (lane_of D.held self.old) answer
@@ -65,6 +66,7 @@ impl<D: PageDevice<PAGE>, const PAGE: usize> Store<D, PAGE> {
     // What the tiers on flash say of a key.
     fn look_below(&mut self, key: &Key) -> Result<Answer, AllocError>
         ensures reads { OnlyReads D.honest D.failures D.held self.old (is_fault result) self.new }
+        ensures stays { KeepsMoves self.old self.new }
         ensures out_of_memory { OnErr result (KeepsTiers self.old self.new) }
         ensures unasked { IfThen (AsksNothing key.now self.old)
             (self.new.device ≡ self.old.device) }
@@ -91,6 +93,7 @@ impl<D: PageDevice<PAGE>, const PAGE: usize> Store<D, PAGE> {
     fn look_log(&mut self, placed: &Placed, key: &Key) -> Result<klog::Looked, AllocError>
         requires { placed.now ≡ place_in self.old.log.shape key.now }
         ensures reads { OnlyReads D.honest D.failures D.held self.old (is_log_fault result) self.new }
+        ensures stays { KeepsMoves self.old self.new }
         ensures keeps { KeepsUnlessHit result self.old self.new }
         ensures unasked { IfThen (AreBuffered self.old.log
             (of_tag placed.now.set placed.now.tag self.old.log.entries))
@@ -109,6 +112,7 @@ impl<D: PageDevice<PAGE>, const PAGE: usize> Store<D, PAGE> {
         requires at { placed.now ≡ place_in self.old.log.shape key.now }
         requires its { IsPlaceIn self.old.sets placed.now }
         ensures reads { OnlyReads D.honest D.failures D.held self.old (is_fault result) self.new }
+        ensures stays { KeepsMoves self.old self.new }
         ensures out_of_memory { OnErr result (KeepsTiers self.old self.new) }
         ensures unasked { IfThen
             (lets_show (notes_of self.old.sets placed.now.set) placed.now.hash ≡ false)

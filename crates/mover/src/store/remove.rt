@@ -1,5 +1,5 @@
 // Removing a key.
-ghost use Rattle.std.specs.Prelude.{◌≡◌, None, Some, IsTrue};
+ghost use Rattle.std.specs.Prelude.{◌≡◌, None, Some, IfSome, IsTrue};
 ghost use Rattle.klog.specs.Shown.{place_in};
 ghost use Rattle.kset.specs.Sets.{IsPlaceIn};
 ghost use Rattle.mover.specs.Lane.{lane_of};
@@ -7,6 +7,7 @@ ghost use Rattle.mover.specs.Strike.{struck_at, removed};
 ghost use Rattle.mover.specs.Visible.{ShowsFrom, IsLogPlaced};
 
 use super::Store;
+use crate::flight::Flight;
 use kset::strikes_keep_sets;
 use page_device::PageDevice;
 use record_pages::Key;
@@ -37,7 +38,7 @@ impl<D: PageDevice<PAGE>, const PAGE: usize> Store<D, PAGE> {
         self.remove(key);
     }
 
-    // Strikes the key of a place, in the log and in its set.
+    // Strikes the key of a place, in the log, in its set and in the move in flight.
     pub(super) fn strike(&mut self, placed: &Placed)
         requires { IsPlaceIn self.old.sets placed.now }
         ensures layout { self.new.layout ≡ self.old.layout }
@@ -47,6 +48,7 @@ impl<D: PageDevice<PAGE>, const PAGE: usize> Store<D, PAGE> {
         strikes_keep_sets();
         self.log.strike(placed);
         self.sets.strike(placed);
+        strike_flight(&mut self.flight, placed.hash);
     }
 
     // Where a key belongs.
@@ -54,9 +56,22 @@ impl<D: PageDevice<PAGE>, const PAGE: usize> Store<D, PAGE> {
         ensures at { result ≡ place_in self.now.log.shape key.now }
         ensures its { IsPlaceIn self.now.sets result }
         ensures live { IsTrue (D.honest self.now.device) → IsLogPlaced (lane_of D.held self.now) }
+        ensures flying { IfSome self.now.flight (IsFlightOf self.now.log.shape self.now.moves) }
     {
         // That live records are placed is known from the log's length.
         let _live = self.log.len();
         place(&self.layout, key.bytes())
+    }
+}
+
+ghost use Rattle.std.specs.Option.{option_map};
+ghost use Rattle.mover.specs.Flight.{flight_struck, IsFlightOf};
+
+// A key of this hash is struck in the move in flight, if there is one.
+fn strike_flight(flight: &mut Option<Flight>, hash: u64)
+    ensures { flight.new ≡ option_map (flight_struck hash) flight.old }
+{
+    if let Some(flying) = flight {
+        flying.strike(hash);
     }
 }

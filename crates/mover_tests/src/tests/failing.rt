@@ -101,7 +101,10 @@ const REFUSALS: [Refusal; 11] = [
 ];
 
 // A store over a device that refuses one call.
-fn refusing(alloc: Global, call: u32) -> Result<Store<FuseDevice<MemoryDevice<256>>, 256>, Fail> {
+pub fn refusing(
+    alloc: Global,
+    call: u32,
+) -> Result<Store<FuseDevice<MemoryDevice<256>>, 256>, Fail> {
     match Store::open(alloc, &ONE_SET, FuseDevice::one(device(alloc)?, call)) {
         Ok(store) => Ok(store),
         Err(_) => Ok(Store::open(alloc, &ONE_SET, FuseDevice::one(device(alloc)?, call))?),

@@ -1,6 +1,8 @@
 //! Calls of a store, each with what it gives.
 use super::*;
-use record_pages::{Answer, Key, MissCause, PutFault, Tier, Value};
+use mover::{Aborted, Begin, Committed};
+use policy_laws::{Choice, Item, Job, Plan};
+use record_pages::{Answer, Key, MissCause, Prediction, PutFault, Tier, Value};
 
 /// What a get is to find.
 #[derive(Clone, Copy)]
@@ -11,6 +13,30 @@ pub enum Found {
     Absent,
     Fault,
     Damaged,
+}
+
+/// What is to be known of an item.
+#[derive(Clone, Copy)]
+pub struct Known {
+    pub size: u32,
+    pub prediction: u8,
+    pub hit: bool,
+    pub fresh: bool,
+}
+
+/// How a move is to begin.
+#[derive(Clone, Copy)]
+pub enum Began {
+    Nothing,
+    Busy,
+    Freed,
+    Readmitted,
+    Dropped,
+    PageLost,
+    /// The number of the move, whose set is 0, and its items.
+    Job(u64, &'static [Known]),
+    /// The number of the move, and how many items it has.
+    Items(u64, usize),
 }
 
 /// A call of a store, and what it gives.
@@ -28,6 +54,11 @@ pub enum Step {
     Forget(&'static [u8]),
     Flush(Flushed),
     Move(Moved),
+    Begin(Began),
+    /// The items that a plan keeps, each with prediction 6, and the number of its move.
+    Commit(&'static [usize], u64, Committed),
+    /// The number of a move.
+    Abort(u64, Aborted),
 }
 
 /// Makes each of these calls, which gives what is written beside it.
@@ -64,7 +95,27 @@ fn gives<D: PageDevice<PAGE>, const PAGE: usize>(
             Ok(true)
         }
         Step::Flush(wanted) => Ok(store.flush_step() == *wanted),
+        _ => {
+            let given = moves(alloc, store, step)?;
+            Ok(given)
+        }
+    }
+}
+
+// Whether a call of a move gives what is written beside it.
+fn moves<D: PageDevice<PAGE>, const PAGE: usize>(
+    alloc: Global,
+    store: &mut Store<D, PAGE>,
+    step: &Step,
+) -> Result<bool, Fail> {
+    match step {
         Step::Move(wanted) => Ok(moved(store)? == *wanted),
+        Step::Begin(wanted) => Ok(is_begun(begun(store)?, wanted)),
+        Step::Commit(items, number, wanted) => {
+            Ok(store.move_commit(&plan(alloc, items)?, *number) == *wanted)
+        }
+        Step::Abort(number, wanted) => Ok(store.move_abort(*number) == *wanted),
+        _ => Ok(false),
     }
 }
 
@@ -104,6 +155,73 @@ fn moved<D: PageDevice<PAGE>, const PAGE: usize>(
         Ok(moved) => Ok(moved),
         Err(_) => Ok(store.move_whole(&Rriparoo)?),
     }
+}
+
+fn begun<D: PageDevice<PAGE>, const PAGE: usize>(
+    store: &mut Store<D, PAGE>,
+) -> Result<Begin, Fail> {
+    match store.move_begin() {
+        Ok(begun) => Ok(begun),
+        Err(_) => Ok(store.move_begin()?),
+    }
+}
+
+// A plan that keeps these items, made once more where memory was refused.
+fn plan(alloc: Global, items: &[usize]) -> Result<Plan, Fail> {
+    let mut plan = Plan::new(alloc);
+    let Some(prediction) = Prediction::new(Prediction::ENTERING) else {
+        return Ok(plan);
+    };
+    for number in 0..items.len() {
+        keep(&mut plan, items[number], prediction)?;
+    }
+    Ok(plan)
+}
+
+// One more item is kept, tried once more where memory was refused.
+fn keep(plan: &mut Plan, item: usize, prediction: Prediction) -> Result<(), Fail> {
+    match plan.push(Choice { item, prediction }) {
+        Ok(()) => Ok(()),
+        Err(_) => Ok(plan.push(Choice { item, prediction })?),
+    }
+}
+
+fn is_begun(begun: Begin, wanted: &Began) -> bool {
+    match (begun, wanted) {
+        (Begin::Job(job), Began::Job(number, items)) => {
+            job.number == *number && job.set == 0 && job.room == 238 && are_known(&job, items)
+        }
+        (Begin::Job(job), Began::Items(number, count)) => {
+            job.number == *number && job.items.len() == *count
+        }
+        (Begin::Nothing, Began::Nothing) => true,
+        (Begin::Busy, Began::Busy) => true,
+        (Begin::Freed, Began::Freed) => true,
+        (Begin::Readmitted, Began::Readmitted) => true,
+        (Begin::Dropped, Began::Dropped) => true,
+        (Begin::PageLost, Began::PageLost) => true,
+        _ => false,
+    }
+}
+
+// Whether these are the items of a job, in their order.
+fn are_known(job: &Job, wanted: &[Known]) -> bool {
+    if job.items.len() != wanted.len() {
+        return false;
+    }
+    for number in 0..job.items.len() {
+        if !is_known(job.items.at(number), &wanted[number]) {
+            return false;
+        }
+    }
+    true
+}
+
+fn is_known(item: Item, wanted: &Known) -> bool {
+    item.size == wanted.size
+        && item.prediction.get() == wanted.prediction
+        && item.hit == wanted.hit
+        && item.fresh == wanted.fresh
 }
 
 fn is_put(answer: Result<Pushed, PutFault>, wanted: Pushed) -> bool {

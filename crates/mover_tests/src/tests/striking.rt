@@ -64,7 +64,7 @@ fn where_none_is_admitted_a_pair_is_lost(rt: HostRuntime) -> Result<(), Fail> {
     run(&rt, alloc, &mut opened, &NONE_ADMITTED)
 }
 
-const ELEVEN: [Step; 14] = [
+pub const ELEVEN: [Step; 14] = [
     Step::Put(b"ax", b"1", 0, Pushed::Nobody),
     Step::Put(b"bx", b"1", 0, Pushed::Logged),
     Step::Put(b"cx", b"1", 0, Pushed::Logged),

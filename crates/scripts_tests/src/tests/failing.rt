@@ -1,4 +1,4 @@
-// Readers that are slow or fail, and a writer that fails.
+// Readers that are slow or fail, a writer that fails, and memory that may be refused.
 use scripts::{ScriptFault, Scripted, run_script};
 use std::alloc::Global;
 use std::io;
@@ -98,4 +98,34 @@ fn a_writer_may_fail(rt: HostRuntime) {
     let mut input = b"config 1 1 4 2 1 8 1 65536\n".as_slice();
     let given_up = run_script::<4096, &[u8], Broken>(rt.alloc(), &mut input, &mut Broken);
     assert_eq!(rt; given_up, Err(ScriptFault::WriteFault));
+}
+
+const TIERS: &[u8] =
+    b"config 1 1 1 2 1 8 2 65536\nput ax 1 0\nput bx 2 0\nget ax\nflush\nflush\nmove\nmove\nget ax\nremove ax\nverdict\ntrace\n";
+
+const TIERS_REPLIES: &[u8] =
+    b"ready\nstored\nstored\nhit 1 log\nsealed\nwrote\nreadmitted\nfreed\nhit 1 log\nremoved\naccepted 5 calls\n4b4754524143453100000005010000000000000000000100000000000000030261780001310100000000000000000004000000000000000602627800013203000000000000000000070000000000000009026178000131030000000000000000000a000000000000000c026178000131020000000000000000000d000000000000000f0261780000000000000001000000020000000300000004\n";
+
+/// Whether this is all that the script above must write where it ended so, or where it was given up, the
+/// replies of its first lines.
+fn wrote_first_replies(out: &[u8], ending: Result<Scripted, ScriptFault>) -> bool {
+    match ending {
+        Ok(_) => out == TIERS_REPLIES,
+        Err(fault) => {
+            fault == ScriptFault::OutOfMemory
+                && TIERS_REPLIES.starts_with(out)
+                && (out.is_empty() || out.ends_with(b"\n"))
+        }
+    }
+}
+
+/// Memory may be refused here, since it is when the tests are tried with a growth that fails.
+#[test]
+fn a_script_that_lacks_memory_has_answered_the_lines_before(rt: HostRuntime) -> Result<(), Fail> {
+    let mut out: Vec<u8> = Vec::new(rt.alloc());
+    out.reserve(TIERS_REPLIES.len())?;
+    let mut reader = TIERS;
+    let ending = run_script::<256, &[u8], Vec<u8>>(rt.alloc(), &mut reader, &mut out);
+    assert!(rt; wrote_first_replies(out.as_slice(), ending));
+    Ok(())
 }

@@ -3,9 +3,9 @@ use scripts::{Scripted, run_script};
 use std::alloc::Global;
 use std::test::Fail;
 
-const GOOD: [&[u8]; 2] = [b"put a 1 4294967295", b"put ~ ! 0"];
+const GOOD: [&[u8]; 4] = [b"put a 1 4294967295", b"put ~ ! 0", b"flush", b"move"];
 
-const BAD: [&[u8]; 16] = [
+const BAD: [&[u8]; 21] = [
     b"put a 1 4294967296",
     b"put a 1 10000000000",
     b"put a 1 00",
@@ -21,6 +21,11 @@ const BAD: [&[u8]; 16] = [
     b"put a \x80 0",
     b"config 1 1 4 2 1 8 1 65536",
     b"Verdict",
+    b"flush x",
+    b"move x",
+    b"flush ",
+    b"Move",
+    b"flushes",
     b"",
 ];
 

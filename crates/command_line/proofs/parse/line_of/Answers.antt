@@ -1,7 +1,7 @@
 -- The file that was found for the subcommand's argument.
-use Rattle.std.proofs.Common.{◌≡◌, ◌∙◌, ap, sym, refl, true, false, codes, Option, Some, None, rules, option_map}
+use Rattle.std.proofs.Common.{◌≡◌, ◌∙◌, ap, true, codes, Option, Some, None, rules, option_map}
 use Rattle.std.specs.Str.{bytes_eq}
-use Rattle.clap.specs.Words.{Row, Text, first_of, first_value, found_of, rows_of}
+use Rattle.clap.specs.Words.{Text, first_value, found_of, rows_of}
 use Rattle.clap.proofs.WalkLemmas.{first_value-rows}
 use Rattle.clap.specs.declared.parser.matches.Found.{Found}
 use Rattle.command_line.specs.declared.line.Line.TheVariants.{Check}

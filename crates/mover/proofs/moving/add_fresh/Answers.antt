@@ -1,6 +1,6 @@
 use Rattle.std.proofs.Common.{◌≡◌, ap, ◌∙◌}
 use Rattle.record_pages.specs.Recs.{size}
-use Rattle.mover.specs.Commit.{fresh_item}
+use Rattle.mover.specs.Job.{fresh_item}
 use Rattle.mover.proofs.Committing.{added_more}
 use Rattle.mover.proofs.moving.add_fresh.Goals as goal
 

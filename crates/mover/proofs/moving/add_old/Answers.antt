@@ -1,6 +1,6 @@
 use Rattle.std.proofs.Common.{◌≡◌, ap, ◌∙◌}
 use Rattle.record_pages.specs.Recs.{size}
-use Rattle.mover.specs.Commit.{old_item}
+use Rattle.mover.specs.Job.{old_item}
 use Rattle.mover.proofs.Committing.{added_more}
 use Rattle.mover.proofs.moving.add_old.Goals as goal
 

@@ -11,4 +11,4 @@ pub returns-clause-greatest : goal.returns-clause-greatest
 returns-clause-greatest g c =
     let calls = c.self.inside.calls in
     let last : slice_get calls (length calls - 1) ≡ Some (noted_shown c.at.result) = subst (λ n. slice_get calls (n - 1) ≡ Some (noted_shown c.at.result)) c.len-count.ensures c.at.ensures.call in
-    subst (λ (l : Lane). All (λ (m : Noted). m.point ≤ c.at.result.point) l.calls) c.self.view_is (last_greatest calls (noted_shown c.at.result) c.self.invariant.points last)
+    subst (λ (l : Lane g.row.D.Denot). All (λ (m : Noted). m.point ≤ c.at.result.point) l.calls) c.self.view_is (last_greatest calls (noted_shown c.at.result) c.self.invariant.points last)

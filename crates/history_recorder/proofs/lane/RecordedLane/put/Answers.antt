@@ -1,17 +1,37 @@
--- The lane after the put, by what it was.
-use Rattle.std.proofs.Common.{◌<◌, sym, ap, subst, arith}
-use Rattle.std.specs.Prelude.{All}
+-- The lane after a put that was recorded.
+use Rattle.std.proofs.Common.{◌<◌, Some, ap, sym, subst, arith}
+use Rattle.std.specs.Prelude.{All, IsTrue}
+use Rattle.memory_cache.specs.declared.pair.Pair.{Pair}
+use Rattle.mover.specs.Lane.{lane_of}
+use Rattle.mover.specs.Put.{put_step, IsStep}
+use Rattle.mover.specs.Visible.{ShowsFrom}
 use Rattle.trace_file.specs.declared.act.Act.TheVariants.{Put}
 use Rattle.history_recorder.specs.declared.noted.Noted.{Noted}
-use Rattle.memory_cache.specs.declared.pair.Pair.{Pair}
-use Rattle.history_recorder.specs.Lane.{Lane}
-use Rattle.history_recorder.proofs.Sounding.{recorded_after_put}
+use Rattle.history_recorder.specs.Lane.{Lane, IsOfLane}
+use Rattle.history_recorder.proofs.Sounding.{recorded_put}
 use Rattle.history_recorder.proofs.lane.RecordedLane.put.Goals as goal
 
 pub invariant_of-self-2 : goal.invariant_of-self-2
 invariant_of-self-2 g c =
-    let lane : Lane = record { state = record { memory = c.self.inside.memory }; calls = c.self.inside.calls } in
+    let d = g.D.PageDevice in
+    let old : Lane g.row.D.Denot = record { store = c.self.inside.store; lane = c.self.inside.lane; calls = c.self.inside.calls } in
     let n : Noted = record { caller = c.args.caller; start = c.args.start; point = c.args.point; key = c.in_ok-try_clone.field-0; act = Put c.in_ok-try_clone-2.field-0 } in
-    let pair : Pair = record { key = c.args.key; value = c.args.value } in
-    let rises = subst (λ (l : Lane). All (λ (m : Noted). m.point < c.args.point) l.calls) (sym c.self.view_is) c.requires.rises in
-    recorded_after_put lane c.self.invariant n c.requires.start rises (omega arith) c.put_recorded.new.memory c.put_recorded.new.calls pair c.in_ok-try_clone.ensures (ap Put c.in_ok-try_clone-2.ensures) c.in_ok-out.ensures.memory c.in_ok-out.ensures.calls
+    let put : Pair = record { key = c.args.key; value = c.args.value } in
+    let did = c.in_ok-pushed.ensures in
+    let rises = subst (λ (l : Lane g.row.D.Denot). All (λ (m : Noted). m.point < c.args.point) l.calls) (sym c.self.view_is) c.requires.rises in
+    let own = subst (λ (l : Lane g.row.D.Denot). IsOfLane l.store.layout l.lane c.args.key) (sym c.self.view_is) c.requires.own in
+    recorded_put d.honest d.held old c.self.invariant n c.put_noted.new.store c.put_noted.new.calls did.more did.layout (ap d.honest did.device) c.requires.start rises
+    (subst (IsOfLane old.store.layout old.lane) (sym c.in_ok-try_clone.ensures) own)
+    (omega arith) put c.in_ok-try_clone.ensures (ap Put c.in_ok-try_clone-2.ensures) did.shows
+
+pub returns-clause-gives : goal.returns-clause-gives
+returns-clause-gives g c =
+    let d = g.D.PageDevice in
+    let put : Pair = record { key = c.args.key; value = c.args.value } in
+    subst (λ (old : Lane g.row.D.Denot). IsTrue (d.honest old.store.device) → IsStep (put_step g.row.PAGE old.store.layout.admit put c.args.word (lane_of d.held old.store)) c.in_ok-pushed.pushed (lane_of d.held c.put_noted.new.store)) c.self.view_is c.in_ok-pushed.ensures.gives
+
+pub returns-clause-shows : goal.returns-clause-shows
+returns-clause-shows g c =
+    let d = g.D.PageDevice in
+    let put : Pair = record { key = c.args.key; value = c.args.value } in
+    subst (λ (old : Lane g.row.D.Denot). IsTrue (d.honest old.store.device) → ShowsFrom (Some put.key) (Some put) (lane_of d.held old.store) (lane_of d.held c.put_noted.new.store)) c.self.view_is c.in_ok-pushed.ensures.shows

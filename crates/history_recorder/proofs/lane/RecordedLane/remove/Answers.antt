@@ -1,15 +1,26 @@
--- The lane after the removal, by what it was.
-use Rattle.std.proofs.Common.{◌<◌, sym, subst, refl, arith}
-use Rattle.std.specs.Prelude.{All}
+-- The lane after a removal that was recorded.
+use Rattle.std.proofs.Common.{◌<◌, Some, None, refl, ap, sym, subst, arith}
+use Rattle.std.specs.Prelude.{All, IsTrue}
+use Rattle.mover.specs.Lane.{lane_of}
+use Rattle.mover.specs.Visible.{ShowsFrom}
 use Rattle.trace_file.specs.declared.act.Act.TheVariants.{Remove}
 use Rattle.history_recorder.specs.declared.noted.Noted.{Noted}
-use Rattle.history_recorder.specs.Lane.{Lane}
-use Rattle.history_recorder.proofs.Sounding.{recorded_after_remove}
+use Rattle.history_recorder.specs.Lane.{Lane, IsOfLane}
+use Rattle.history_recorder.proofs.Sounding.{recorded_remove}
 use Rattle.history_recorder.proofs.lane.RecordedLane.remove.Goals as goal
 
 pub invariant_of-self-2 : goal.invariant_of-self-2
 invariant_of-self-2 g c =
-    let lane : Lane = record { state = record { memory = c.self.inside.memory }; calls = c.self.inside.calls } in
+    let d = g.D.PageDevice in
+    let old : Lane g.row.D.Denot = record { store = c.self.inside.store; lane = c.self.inside.lane; calls = c.self.inside.calls } in
     let n : Noted = record { caller = c.args.caller; start = c.args.start; point = c.args.point; key = c.in_ok-try_clone.field-0; act = Remove } in
-    let rises = subst (λ (l : Lane). All (λ (m : Noted). m.point < c.args.point) l.calls) (sym c.self.view_is) c.requires.rises in
-    recorded_after_remove lane c.self.invariant n c.requires.start rises (omega arith) c.remove-removed.new.self c.push.new.self c.args.key.now c.in_ok-try_clone.ensures refl c.remove-removed.ensures.after c.in_ok-push.ensures.ok
+    let rises = subst (λ (l : Lane g.row.D.Denot). All (λ (m : Noted). m.point < c.args.point) l.calls) (sym c.self.view_is) c.requires.rises in
+    let own = subst (λ (l : Lane g.row.D.Denot). IsOfLane l.store.layout l.lane c.args.key.now) (sym c.self.view_is) c.requires.own in
+    recorded_remove d.honest d.held old c.self.invariant n c.remove.new.self c.push.new.self c.in_ok-push.ensures.ok c.remove.ensures.layout (ap d.honest c.remove.ensures.device) c.requires.start rises
+    (subst (IsOfLane old.store.layout old.lane) (sym c.in_ok-try_clone.ensures) own)
+    (omega arith) c.args.key.now c.in_ok-try_clone.ensures refl c.remove.ensures.shows
+
+pub returns-clause-shows : goal.returns-clause-shows
+returns-clause-shows g c =
+    let d = g.D.PageDevice in
+    subst (λ (old : Lane g.row.D.Denot). IsTrue (d.honest old.store.device) → ShowsFrom (Some c.args.key.now) None (lane_of d.held old.store) (lane_of d.held c.remove.new.self)) c.self.view_is c.remove.ensures.shows

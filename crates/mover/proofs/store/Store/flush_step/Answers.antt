@@ -6,6 +6,7 @@ use Rattle.mover.specs.Flush.{LaneFlushes}
 use Rattle.mover.proofs.Keeping.{kept_flash, sets_framed, visible_framed, counted_alike}
 use Rattle.mover.proofs.Showing.{no_more, flush_shows}
 use Rattle.mover.proofs.Putting.{lane_flushed}
+use Rattle.mover.proofs.Flushing.{flush_steps}
 use Rattle.kset.specs.Laws.{AreOfTheirSets}
 use Rattle.mover.proofs.store.Store.flush_step.Goals as goal
 
@@ -13,7 +14,7 @@ pub invariant_of-self : goal.invariant_of-self
 invariant_of-self g c =
     let s = c.self.inside in
     let d = g.D.PageDevice in
-    let old : StoreState g.row.D.Denot = record { layout = s.layout; device = s.device; memory = s.memory; log = s.log; sets = s.sets; moves = s.moves } in
+    let old : StoreState g.row.D.Denot = record { layout = s.layout; device = s.device; memory = s.memory; log = s.log; sets = s.sets; flight = s.flight; moves = s.moves } in
     let count = counted_alike g.row.PAGE d.page_count d.honest d.held old c.self.invariant in
     kept_flash g.row.PAGE d.page_count d.honest d.held old c.self.invariant
     c.flush_step.new.device c.flush_step.new.self s.sets c.flush_step.ensures.shape refl c.flush_step.ensures.pages c.flush_step.ensures.honest c.flush_step.ensures.spelled
@@ -24,8 +25,8 @@ pub returns-clause-gives : goal.returns-clause-gives
 returns-clause-gives g c = λ is.
     let s = c.self.inside in
     let d = g.D.PageDevice in
-    let old : StoreState g.row.D.Denot = record { layout = s.layout; device = s.device; memory = s.memory; log = s.log; sets = s.sets; moves = s.moves } in
-    let new : StoreState g.row.D.Denot = record { layout = s.layout; device = c.flush_step.new.device; memory = s.memory; log = c.flush_step.new.self; sets = s.sets; moves = s.moves } in
+    let old : StoreState g.row.D.Denot = record { layout = s.layout; device = s.device; memory = s.memory; log = s.log; sets = s.sets; flight = s.flight; moves = s.moves } in
+    let new : StoreState g.row.D.Denot = record { layout = s.layout; device = c.flush_step.new.device; memory = s.memory; log = c.flush_step.new.self; sets = s.sets; flight = s.flight; moves = s.moves } in
     let on = subst (λ (x : StoreState g.row.D.Denot). IsTrue (d.honest x.device)) (sym c.self.view_is) is in
     let count = counted_alike g.row.PAGE d.page_count d.honest d.held old c.self.invariant in
     subst (λ (x : StoreState g.row.D.Denot). LaneFlushes (lane_of d.held x) c.flush_step.result (lane_of d.held new)) c.self.view_is
@@ -36,7 +37,14 @@ pub returns-clause-shows : goal.returns-clause-shows
 returns-clause-shows g c = λ is.
     let s = c.self.inside in
     let d = g.D.PageDevice in
-    let old : StoreState g.row.D.Denot = record { layout = s.layout; device = s.device; memory = s.memory; log = s.log; sets = s.sets; moves = s.moves } in
-    let new : StoreState g.row.D.Denot = record { layout = s.layout; device = c.flush_step.new.device; memory = s.memory; log = c.flush_step.new.self; sets = s.sets; moves = s.moves } in
+    let old : StoreState g.row.D.Denot = record { layout = s.layout; device = s.device; memory = s.memory; log = s.log; sets = s.sets; flight = s.flight; moves = s.moves } in
+    let new : StoreState g.row.D.Denot = record { layout = s.layout; device = c.flush_step.new.device; memory = s.memory; log = c.flush_step.new.self; sets = s.sets; flight = s.flight; moves = s.moves } in
     let shape = c.flush_step.ensures.shape ∙ ap (λ (x : StoreState g.row.D.Denot). x.log.shape) c.self.view_is in
     no_more (lane_of d.held c.args.self.now) (lane_of d.held new) (flush_shows c.flush_step.result (lane_of d.held c.args.self.now) (lane_of d.held new) shape (returns-clause-gives g c is))
+
+pub returns-clause-steps : goal.returns-clause-steps
+returns-clause-steps g c = λ is.
+    let s = c.self.inside in
+    let d = g.D.PageDevice in
+    let new : StoreState g.row.D.Denot = record { layout = s.layout; device = c.flush_step.new.device; memory = s.memory; log = c.flush_step.new.self; sets = s.sets; flight = s.flight; moves = s.moves } in
+    flush_steps c.flush_step.result (lane_of d.held c.args.self.now) (lane_of d.held new) (returns-clause-gives g c is)

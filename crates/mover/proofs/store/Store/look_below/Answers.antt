@@ -1,5 +1,8 @@
-use Rattle.std.proofs.Common.{◌∙◌}
-use Rattle.mover.proofs.Getting.{asks_log, asks_set, not_of_log}
+use Rattle.std.proofs.Common.{◌≡◌, false, sym, subst, ◌∙◌}
+use Rattle.mover.specs.Lane.{lane_of}
+use Rattle.mover.specs.Store.{OnlyReads}
+use Rattle.mover.specs.Get.{is_fault}
+use Rattle.mover.proofs.Getting.{asks_log, asks_set, not_of_log, hits_in_log, log_hit_gives, log_fault_gives, log_absent_gives, reads_after, missed_after, no_fault}
 use Rattle.mover.proofs.store.Store.look_below.Goals as goal
 
 pub returns-in_err-value-clause-unasked : goal.returns-in_err-value-clause-unasked
@@ -36,3 +39,37 @@ returns-in_ok-answer-in-Absent-clause-unasked g c = record {
 
 pub returns-in_ok-answer-in-Absent-clause-in_buffer : goal.returns-in_ok-answer-in-Absent-clause-in_buffer
 returns-in_ok-answer-in-Absent-clause-in_buffer g c = not_of_log c.args.key.now c.in_ok-answer-in-Absent.answer c.args.self.now c.look_set.new.self _ c.in_ok-answer-in-Absent.ensures.not_of_log
+
+pub returns-in-Hit-clause-in_buffer : goal.returns-in-Hit-clause-in_buffer
+returns-in-Hit-clause-in_buffer g c = hits_in_log c.args.key.now c.in-Hit.value c.args.self.now c.look_log.new.self c.place-placed.result c.in_ok-value.field-0 _ c.place-placed.ensures.at c.in-Hit.is c.in_ok-value.ensures.in_buffer
+
+pub returns-in-Hit-clause-gives : goal.returns-in-Hit-clause-gives
+returns-in-Hit-clause-gives g c = λ is.
+    let held = g.D.PageDevice.held in
+    log_hit_gives c.args.key.now c.in-Hit.value (lane_of held c.args.self.now) (lane_of held c.look_log.new.self) c.in_ok-value.field-0 c.in-Hit.is (c.in_ok-value.ensures.tells is)
+
+pub returns-in-Fault-clause-gives : goal.returns-in-Fault-clause-gives
+returns-in-Fault-clause-gives g c = λ is.
+    let held = g.D.PageDevice.held in
+    log_fault_gives c.args.key.now (lane_of held c.args.self.now) (lane_of held c.look_log.new.self) c.in_ok-value.field-0 c.in-Fault.is (c.in_ok-value.ensures.tells is)
+
+pub returns-in_ok-answer-in-Absent-clause-gives : goal.returns-in_ok-answer-in-Absent-clause-gives
+returns-in_ok-answer-in-Absent-clause-gives g c = λ is.
+    let held = g.D.PageDevice.held in
+    log_absent_gives c.args.key.now (lane_of held c.args.self.now) (lane_of held c.look_log.new.self) (lane_of held c.look_set.new.self) c.in_ok-value.field-0 c.in_ok-answer-in-Absent.answer c.in-Absent.is (c.in_ok-value.ensures.tells is)
+    (c.in_ok-answer-in-Absent.ensures.gives (c.look_log.ensures.reads.honesty ∙ is))
+
+pub returns-in_ok-answer-in-Absent-clause-reads : goal.returns-in_ok-answer-in-Absent-clause-reads
+returns-in_ok-answer-in-Absent-clause-reads g c =
+    let d = g.D.PageDevice in
+    reads_after d.honest d.failures d.held c.args.self.now c.look_log.new.self c.look_set.new.self c.in_ok-value.field-0 _ c.in-Absent.is c.in_ok-value.ensures.reads c.in_ok-answer-in-Absent.ensures.reads
+
+pub returns-in_ok-answer-in-Absent-clause-missed : goal.returns-in_ok-answer-in-Absent-clause-missed
+returns-in_ok-answer-in-Absent-clause-missed g c = missed_after c.args.self.now c.look_log.new.self c.look_set.new.self c.in_ok-value.field-0 c.in_ok-answer-in-Absent.answer c.in-Absent.is c.in_ok-value.ensures.keeps c.in_ok-answer-in-Absent.ensures.missed
+
+pub returns-in_err-answer-in-Absent-clause-reads : goal.returns-in_err-answer-in-Absent-clause-reads
+returns-in_err-answer-in-Absent-clause-reads g c =
+    let d = g.D.PageDevice in
+    let calm : is_fault c.from_residual-in_err-answer-in-Absent.result ≡ false = no_fault c.from_residual-in_err-answer-in-Absent.result c.from_residual-in_err-answer-in-Absent.ensures.0 in
+    subst (λ b. OnlyReads d.honest d.failures d.held c.args.self.now b c.look_set.new.self) (sym calm)
+    (reads_after d.honest d.failures d.held c.args.self.now c.look_log.new.self c.look_set.new.self c.in_ok-value.field-0 false c.in-Absent.is c.in_ok-value.ensures.reads c.in_err-answer-in-Absent.ensures.reads)

@@ -1,7 +1,11 @@
-use Rattle.std.proofs.Common.{◌≡◌, subst}
+use Rattle.std.proofs.Common.{◌≡◌, sym, subst}
+use Rattle.std.specs.Prelude.{IsTrue}
 use Rattle.klog_index.specs.Entries.{of_tag}
 use Rattle.klog.specs.Known.{AreBuffered}
 use Rattle.mover.specs.Store.{StoreState}
+use Rattle.mover.specs.Lane.{lane_of}
+use Rattle.mover.specs.Get.{LogTells}
+use Rattle.mover.proofs.Getting.{log_told}
 use Rattle.mover.proofs.Keeping.{kept_log_read}
 use Rattle.mover.proofs.store.Store.look_log.Goals as goal
 
@@ -9,14 +13,14 @@ pub invariant_of-self : goal.invariant_of-self
 invariant_of-self g c =
     let s = c.self.inside in
     let d = g.D.PageDevice in
-    kept_log_read g.row.PAGE d.page_count d.honest d.held (record { layout = s.layout; device = s.device; memory = s.memory; log = s.log; sets = s.sets; moves = s.moves }) c.self.invariant
+    kept_log_read g.row.PAGE d.page_count d.honest d.held (record { layout = s.layout; device = s.device; memory = s.memory; log = s.log; sets = s.sets; flight = s.flight; moves = s.moves }) c.self.invariant
     c.look.new.device c.look.new.self c.look.ensures.shape c.look.ensures.pages c.look.ensures.honest c.look.ensures.same c.look.ensures.spelled
 
 pub invariant_of-self-2 : goal.invariant_of-self-2
 invariant_of-self-2 g c =
     let s = c.self.inside in
     let d = g.D.PageDevice in
-    kept_log_read g.row.PAGE d.page_count d.honest d.held (record { layout = s.layout; device = s.device; memory = s.memory; log = s.log; sets = s.sets; moves = s.moves }) c.self.invariant
+    kept_log_read g.row.PAGE d.page_count d.honest d.held (record { layout = s.layout; device = s.device; memory = s.memory; log = s.log; sets = s.sets; flight = s.flight; moves = s.moves }) c.self.invariant
     c.look.new.device c.look.new.self c.look.ensures.shape c.look.ensures.pages c.look.ensures.honest c.look.ensures.same c.look.ensures.spelled
 
 pub returns-clause-unasked : goal.returns-clause-unasked
@@ -28,3 +32,13 @@ pub returns-in_err-looked-clause-unasked : goal.returns-in_err-looked-clause-una
 returns-in_err-looked-clause-unasked g c = record {
   asks_not = subst (λ (x : StoreState g.row.D.Denot). AreBuffered x.log (of_tag c.args.placed.now.set c.args.placed.now.tag x.log.entries) → c.look.new.device ≡ x.device) c.self.view_is c.look.ensures.buffered;
 }
+
+pub returns-clause-tells : goal.returns-clause-tells
+returns-clause-tells g c = λ is.
+    let s = c.self.inside in
+    let d = g.D.PageDevice in
+    let old : StoreState g.row.D.Denot = record { layout = s.layout; device = s.device; memory = s.memory; log = s.log; sets = s.sets; flight = s.flight; moves = s.moves } in
+    let new : StoreState g.row.D.Denot = record { layout = s.layout; device = c.look.new.device; memory = s.memory; log = c.look.new.self; sets = s.sets; flight = s.flight; moves = s.moves } in
+    let on = subst (λ (x : StoreState g.row.D.Denot). IsTrue (d.honest x.device)) (sym c.self.view_is) is in
+    subst (λ (x : StoreState g.row.D.Denot). LogTells c.args.key.now (lane_of d.held x) c.in_ok-looked.looked (lane_of d.held new)) c.self.view_is
+    (log_told d.held old c.look.new.device c.args.key.now (c.look.ensures.same on) c.look.new.self c.in_ok-looked.looked (c.in_ok-looked.ensures.gives on (c.self.invariant.log_spelled on)))

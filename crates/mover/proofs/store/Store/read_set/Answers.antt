@@ -1,4 +1,4 @@
-use Rattle.std.proofs.Common.{◌≡◌, refl, sym, subst, Ok}
+use Rattle.std.proofs.Common.{◌≡◌, refl, sym, ap, subst, ◌∙◌, Ok}
 use Rattle.std.specs.Prelude.{IsTrue}
 use Rattle.page_device.specs.Device.{faults_after}
 use Rattle.kset.specs.ReadSet.{is_set_lost}
@@ -15,7 +15,7 @@ pub invariant_of-self : goal.invariant_of-self
 invariant_of-self g c =
     let s = c.self.inside in
     let d = g.D.PageDevice in
-    kept_set_read g.row.PAGE d.page_count d.honest d.held (record { layout = s.layout; device = s.device; memory = s.memory; log = s.log; sets = s.sets; moves = s.moves }) c.self.invariant
+    kept_set_read g.row.PAGE d.page_count d.honest d.held (record { layout = s.layout; device = s.device; memory = s.memory; log = s.log; sets = s.sets; flight = s.flight; moves = s.moves }) c.self.invariant
     c.read_set.new.device c.read_set.new.self c.read_set.ensures.keeps.sizes c.read_set.ensures.keeps.pages c.read_set.ensures.keeps.honest c.read_set.ensures.same c.read_set.ensures.keeps.spelled
     (λ is placed. subst (AreOfTheirSets s.log.shape.lanes s.log.shape.sets) (sym (c.read_set.ensures.shown is))
     (c.readings_keep_sets.ensures s.log.shape.lanes s.log.shape.sets c.args.set c.read_set.result (visible_in (d.held s.device) s.sets) placed))
@@ -24,7 +24,7 @@ pub invariant_of-self-2 : goal.invariant_of-self-2
 invariant_of-self-2 g c =
     let s = c.self.inside in
     let d = g.D.PageDevice in
-    kept_set_read g.row.PAGE d.page_count d.honest d.held (record { layout = s.layout; device = s.device; memory = s.memory; log = s.log; sets = s.sets; moves = s.moves }) c.self.invariant
+    kept_set_read g.row.PAGE d.page_count d.honest d.held (record { layout = s.layout; device = s.device; memory = s.memory; log = s.log; sets = s.sets; flight = s.flight; moves = s.moves }) c.self.invariant
     c.read_set.new.device c.read_set.new.self c.read_set.ensures.keeps.sizes c.read_set.ensures.keeps.pages c.read_set.ensures.keeps.honest c.read_set.ensures.same c.read_set.ensures.keeps.spelled
     (λ is placed. subst (AreOfTheirSets s.log.shape.lanes s.log.shape.sets) (sym (c.read_set.ensures.shown is))
     (c.readings_keep_sets.ensures s.log.shape.lanes s.log.shape.sets c.args.set c.read_set.result (visible_in (d.held s.device) s.sets) placed))
@@ -41,9 +41,18 @@ pub returns-clause-gives : goal.returns-clause-gives
 returns-clause-gives g c = λ is.
     let s = c.self.inside in
     let d = g.D.PageDevice in
-    let old : StoreState g.row.D.Denot = record { layout = s.layout; device = s.device; memory = s.memory; log = s.log; sets = s.sets; moves = s.moves } in
-    let new : StoreState g.row.D.Denot = record { layout = s.layout; device = c.read_set.new.device; memory = s.memory; log = s.log; sets = c.read_set.new.self; moves = s.moves } in
+    let old : StoreState g.row.D.Denot = record { layout = s.layout; device = s.device; memory = s.memory; log = s.log; sets = s.sets; flight = s.flight; moves = s.moves } in
+    let new : StoreState g.row.D.Denot = record { layout = s.layout; device = c.read_set.new.device; memory = s.memory; log = s.log; sets = c.read_set.new.self; flight = s.flight; moves = s.moves } in
     let on = subst (λ (x : StoreState g.row.D.Denot). IsTrue (d.honest x.device)) (sym c.self.view_is) is in
     subst (λ (x : StoreState g.row.D.Denot). LaneReads c.args.set (lane_of d.held x) c.in_ok-read.read (lane_of d.held new)) c.self.view_is
     (lane_read d.held old c.read_set.new.device (c.read_set.ensures.same on) c.read_set.new.self c.args.set c.in_ok-read.read c.in_ok-read.ensures.leaves (c.in_ok-read.ensures.gives on (c.self.invariant.sets_spelled on))
     (c.in_ok-read.ensures.shown on) (λ none. not_lost c.in_ok-read.read (Ok c.in_ok-read.read) (c.in_ok-read.ensures.unread none).0 refl))
+
+pub returns-clause-writes : goal.returns-clause-writes
+returns-clause-writes g c =
+    let d = g.D.PageDevice in
+    record {
+      layout = ap (λ (x : StoreState g.row.D.Denot). x.layout) c.self.view_is;
+      honesty = c.read_set.ensures.keeps.honest ∙ ap (λ (x : StoreState g.row.D.Denot). d.honest x.device) c.self.view_is;
+      same = λ is. c.read_set.ensures.same (subst (λ (x : StoreState g.row.D.Denot). IsTrue (d.honest x.device)) (sym c.self.view_is) is) ∙ ap (λ (x : StoreState g.row.D.Denot). d.held x.device) c.self.view_is;
+    }

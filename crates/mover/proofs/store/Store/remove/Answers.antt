@@ -12,7 +12,7 @@ pub invariant_of-self : goal.invariant_of-self
 invariant_of-self g c =
     let s = c.self.inside in
     let d = g.D.PageDevice in
-    kept_memory g.row.PAGE d.page_count d.honest d.held (record { layout = s.layout; device = s.device; memory = s.memory; log = s.log; sets = s.sets; moves = s.moves }) c.self.invariant
+    kept_memory g.row.PAGE d.page_count d.honest d.held (record { layout = s.layout; device = s.device; memory = s.memory; log = s.log; sets = s.sets; flight = s.flight; moves = s.moves }) c.self.invariant
     c.remove.new.self (ap (λ (m : MemoryList). m.capacity) c.remove.ensures.after)
     (small_removed g.row.PAGE s.memory c.remove.new.self c.args.key.now c.remove.ensures.after c.self.invariant.small)
 
@@ -24,4 +24,4 @@ returns-clause-shows g c = λ is.
     let d = g.D.PageDevice in
     let key = c.args.key.now in
     let old = lane_of d.held c.args.self.now in
-    subst (ShowsFrom (Some key) None old) (sym (returns-clause-removed g c)) (others key old (removed key old) (removed_shows key old (c.place-placed.ensures.live is)))
+    subst (ShowsFrom (Some key) None old) (sym (returns-clause-removed g c)) (others key old (removed key old) (removed_shows key old (c.place-placed.ensures.live is) c.place-placed.ensures.flying))

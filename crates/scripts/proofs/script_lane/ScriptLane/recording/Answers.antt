@@ -1,5 +1,5 @@
 -- One call more, and what the whole says.
-use Rattle.std.proofs.Common.{◌≡◌, length, take, map, sym, ap, ◌∙◌, subst, arith}
+use Rattle.std.proofs.Common.{◌≡◌, length, take, map, refl, sym, ap, ◌∙◌, subst, arith}
 use Rattle.std.specs.List.{range_with_len}
 use Rattle.std.proofs.lemmas.List.{length-map}
 use Rattle.std.proofs.lemmas.List.FromFn.{length-range_with_len}
@@ -21,16 +21,16 @@ loop-position-preserved g c =
 
 pub returns-clause-accepted : goal.returns-clause-accepted
 returns-clause-accepted g c =
-    let lane = c.self.inside.lane in
-    let all : c.loop-position.position ≡ length lane.calls = omega (arith, c.len-position-end.ensures.count) in
-    let history = c.loop-position.invariant.calls ∙ ap (map ended) (ap (λ n. take n lane.calls) all ∙ take-length lane.calls) in
+    let calls = c.self.inside.lane.calls in
+    let all : c.loop-position.position ≡ length calls = omega (arith, c.len-position-end.ensures.count) in
+    let history = c.loop-position.invariant.calls ∙ ap (map ended) (ap (λ n. take n calls) all ∙ take-length calls) in
     let certificate = c.loop-position.invariant.places ∙ ap (range_with_len 0) all in
-    subst (λ h. IsAccepted h c.loop-position.certificate) (sym history) (subst (λ p. IsAccepted (own_history lane) p) (sym certificate) (accepted lane c.len-position-end.ensures.recorded c.self.invariant))
+    subst (λ h. IsAccepted h c.loop-position.certificate) (sym history) (subst (λ p. IsAccepted (own_history calls) p) (sym certificate) (accepted calls (c.len-position-end.ensures.recorded.lawful refl) c.self.invariant.stamps))
 
 pub returns-clause-as_many : goal.returns-clause-as_many
 returns-clause-as_many g c =
-    let lane = c.self.inside.lane in
-    let all : c.loop-position.position ≡ length lane.calls = omega (arith, c.len-position-end.ensures.count) in
-    let history = c.loop-position.invariant.calls ∙ ap (map ended) (ap (λ n. take n lane.calls) all ∙ take-length lane.calls) in
+    let calls = c.self.inside.lane.calls in
+    let all : c.loop-position.position ≡ length calls = omega (arith, c.len-position-end.ensures.count) in
+    let history = c.loop-position.invariant.calls ∙ ap (map ended) (ap (λ n. take n calls) all ∙ take-length calls) in
     let certificate = c.loop-position.invariant.places ∙ ap (range_with_len 0) all in
-    ap length certificate ∙ length-range_with_len 0 (length lane.calls) ∙ sym (ap length history ∙ length-map lane.calls ended)
+    ap length certificate ∙ length-range_with_len 0 (length calls) ∙ sym (ap length history ∙ length-map calls ended)

@@ -1,0 +1,12 @@
+// What an act of a lane gives.
+use crate::noted::Noted;
+use crate::reply::Reply;
+
+/// What an act of a lane gives.
+#[derive(Debug, Drop)]
+pub(crate) struct Acted {
+    /// The reply to the caller.
+    pub(crate) reply: Reply,
+    /// The call as it was recorded, unless it was refused.
+    pub(crate) noted: Option<Noted>,
+}

@@ -1,0 +1,45 @@
+// What a caller asks of a lane.
+ghost use Rattle.std.specs.Prelude.{◌≡◌, IfOk};
+ghost use Rattle.history_recorder.specs.Operations.{key_of};
+
+use record_pages::{Key, Value};
+use std::alloc::AllocError;
+
+/// What a caller asks of the lane of a key.
+#[derive(Debug, Drop)]
+pub enum Operation {
+    /// The value of a key.
+    Get(Key),
+    /// To keep a value of a key. A pair that memory pushes out for it is admitted to flash where the low 16 bits of
+    /// the word are below the configuration's `admit`.
+    Put(Key, Value, u32),
+    /// To keep no value of a key.
+    Remove(Key),
+}
+
+impl Operation {
+    /// A copy of the operation, or `AllocError` where memory was refused.
+    pub fn try_clone(&self) -> Result<Operation, AllocError>
+        ensures { IfOk result (λ copy. copy ≡ self.now) }
+    {
+        match self {
+            Operation::Get(key) => Ok(Operation::Get(key.try_clone()?)),
+            Operation::Put(key, value, word) => {
+                let key = key.try_clone()?;
+                Ok(Operation::Put(key, value.try_clone()?, *word))
+            }
+            Operation::Remove(key) => Ok(Operation::Remove(key.try_clone()?)),
+        }
+    }
+
+    /// The key that it is about.
+    pub fn key(&self) -> &Key
+        ensures { result.now ≡ key_of self.now }
+    {
+        match self {
+            Operation::Get(key) => key,
+            Operation::Put(key, _, _) => key,
+            Operation::Remove(key) => key,
+        }
+    }
+}

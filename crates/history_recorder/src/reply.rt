@@ -1,0 +1,33 @@
+// What an event is replied.
+use crate::record_fault::RecordFault;
+use crate::record_put_fault::RecordPutFault;
+use klog::Flushed;
+use mover::{Aborted, Begin, Committed};
+use record_pages::{Answer, Pushed};
+use std::alloc::AllocError;
+
+/// What an event is replied. The steps of a lane are replied with their result, a refusal included; an act that is
+/// refused ends its call, which is then in no history.
+#[derive(Debug, Drop)]
+pub enum Reply {
+    /// The event did not apply, and nothing changed.
+    Ignored,
+    /// A call began, with this stamp as its start.
+    Begun(u64),
+    /// A call ended, with this stamp as its end.
+    Ended(u64),
+    /// The result of a get.
+    Got(Result<Answer, RecordFault>),
+    /// The result of a put.
+    Stored(Result<Pushed, RecordPutFault>),
+    /// The result of a removal.
+    Removed(Result<(), RecordFault>),
+    /// What a flush step did.
+    Flushed(Flushed),
+    /// How a move began, or that memory was refused.
+    MoveBegun(Result<Begin, AllocError>),
+    /// How a move ended by a plan, or why it did not.
+    Committed(Committed),
+    /// Whether a move was given up.
+    Aborted(Aborted),
+}

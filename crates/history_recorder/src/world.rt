@@ -1,0 +1,114 @@
+// A world of lanes and callers.
+ghost use Rattle.std.specs.Prelude.{◌≡◌, ◌<◌, ◌≤◌, ◌+◌, ◌*◌, ◌↔◌, length, map, Any, IfOk, IfErr, OnOk, IsTrue};
+ghost use Rattle.record_pages.specs.Asked.{HasNumbersOf};
+ghost use Rattle.mover.specs.Store.{IsTooSmall};
+
+use crate::boxed_device::BoxedDevice;
+use crate::lane::RecordedLane;
+use crate::open_world_fault::OpenWorldFault;
+use page_device::PageDevice;
+use record_pages::{Config, Layout};
+use std::alloc::{AllocError, Global};
+use std::marker::Model;
+
+/// The lanes of a cache, each over a device of its own, and a number of callers, to which nothing happened yet.
+#[derive(Drop)]
+pub struct World<D: PageDevice<PAGE>, const PAGE: usize> {
+    pub(crate) layout: Layout,
+    pub(crate) callers: u16,
+    pub(crate) lanes: Vec<Box<RecordedLane<BoxedDevice<D>, PAGE>>>,
+}
+
+impl<D: PageDevice<PAGE>, const PAGE: usize> Model for World<D, PAGE> {
+    ghost use Rattle.history_recorder.specs.Game.{unboxed};
+    ghost use Rattle.history_recorder.specs.Opened.{Opened, AreTheLanes, devices_of};
+
+    ghost Value = { Opened D };
+
+    ghost view = { λ w. record { layout = w.layout; devices = devices_of w.lanes.items; callers = w.callers } };
+
+    ghost invariant = { λ w. AreTheLanes D.honest D.held w.layout (unboxed w.lanes.items) };
+}
+
+impl<D: PageDevice<PAGE>, const PAGE: usize> World<D, PAGE> {
+    ghost use Rattle.history_recorder.specs.Game.{unboxed};
+    ghost use Rattle.history_recorder.specs.Opened.{AreTheLanes, devices_of, CanOpen, RefusesWorld};
+
+    /// A world of this configuration, with one device for each lane in the lanes' order, and so many callers, numbered
+    /// from 0. Its refusals are tested in the order of `OpenWorldFault`, and the devices are dropped with each.
+    pub fn open(
+        alloc: Global,
+        config: &Config,
+        devices: Vec<D>,
+        callers: u16,
+    ) -> Result<Self, OpenWorldFault>
+        ensures opening { IfOk result (λ w. HasNumbersOf w.layout config.now
+            × (w ≡ record { layout = w.layout; devices = devices.items; callers = callers })) }
+        ensures serves { OnOk result (CanOpen PAGE config.now (map D.page_count devices.items) callers) }
+        ensures refused { IfErr result (RefusesWorld PAGE config.now (map D.page_count devices.items)
+            callers) }
+    {
+        let layout = config.check()?;
+        if callers == 0 {
+            return Err(OpenWorldFault::NoCallers);
+        }
+        if devices.len() != layout.lanes as usize {
+            return Err(OpenWorldFault::DeviceCount);
+        }
+        if PAGE < 256 || PAGE > 4096 {
+            return Err(OpenWorldFault::WrongPage);
+        }
+        let needed = layout.sets + layout.segments * layout.segment_pages;
+        if is_one_below(devices.as_slice(), needed) {
+            return Err(OpenWorldFault::DeviceTooSmall);
+        }
+        let lanes = open_lanes(alloc, config, &layout, devices)?;
+        Ok(World {
+            layout,
+            callers,
+            lanes,
+        })
+    }
+}
+
+ghost use Rattle.history_recorder.specs.Game.{unboxed};
+ghost use Rattle.history_recorder.specs.Opened.{AreTheLanes, devices_of};
+
+/// Whether one of the devices has fewer pages than are needed.
+fn is_one_below<D: PageDevice<PAGE>, const PAGE: usize>(devices: &[D], needed: u32) -> bool
+    ensures { IsTrue result ↔ Any (λ pages. pages < needed) (map D.page_count devices.now) }
+{
+    for device in devices {
+        if device.pages() < needed {
+            return true;
+        }
+    }
+    false
+}
+
+/// The lanes of these devices, in their order.
+fn open_lanes<D: PageDevice<PAGE>, const PAGE: usize>(
+    alloc: Global,
+    config: &Config,
+    layout: &Layout,
+    devices: Vec<D>,
+) -> Result<Vec<Box<RecordedLane<BoxedDevice<D>, PAGE>>>, AllocError>
+    requires layout { HasNumbersOf layout.now config.now }
+    requires one_each { length devices.items ≡ layout.now.lanes }
+    ensures devices { IfOk result (λ lanes. devices_of lanes.items ≡ devices.items) }
+    ensures opened { IfOk result (λ lanes. AreTheLanes D.honest D.held layout.now
+        (unboxed lanes.items)) }
+{
+    let mut lanes = Vec::new(alloc);
+    let mut number = 0;
+    for device in devices {
+        let boxed = BoxedDevice::new(Box::new(alloc, device)?);
+        let Ok(lane) = RecordedLane::open(alloc, config, number, boxed) else {
+            return Err(AllocError);
+        };
+        let _count = lane.len();
+        lanes.push(Box::new(alloc, lane)?)?;
+        number += 1;
+    }
+    Ok(lanes)
+}

@@ -1,0 +1,339 @@
+//! Calls of a recorded lane, each with what it gives. A call that memory is refused records nothing, and is made once more.
+ghost use Rattle.std.specs.Prelude.{◌≡◌, IsTrue};
+
+use super::*;
+
+/// What a get is to find.
+#[derive(Clone, Copy)]
+pub enum Found {
+    Memory(&'static [u8]),
+    Log(&'static [u8]),
+    Set(&'static [u8]),
+    Absent,
+    Fault,
+}
+
+/// A call of a lane, and what it gives.
+#[derive(Clone, Copy)]
+pub enum Step {
+    /// A key, its value, the word, and what becomes of the pair that leaves memory.
+    Put(&'static [u8], &'static [u8], u32, Pushed),
+    /// A key, and a value that is too large with it.
+    TooLarge(&'static [u8], &'static [u8]),
+    /// A key, and what is found of it.
+    Get(&'static [u8], Found),
+    /// A key.
+    Remove(&'static [u8]),
+    /// A key. No call is recorded.
+    Forget(&'static [u8]),
+    Flush(Flushed),
+    Move(Moved),
+}
+
+/// Makes each of these calls, which gives what is written beside it and is recorded, last, or is no call of the
+/// history. The caller is the step's number, and each call takes two stamps.
+pub fn run<D: PageDevice<PAGE>, const PAGE: usize>(
+    rt: &impl Abort,
+    alloc: Global,
+    lane: &mut RecordedLane<D, PAGE>,
+    steps: &[Step],
+) -> Result<(), Fail> {
+    for number in 0..steps.len() {
+        let caller = (number % 65536) as u16;
+        assert!(rt;
+            gives(alloc, lane, caller, &steps[number])?,
+            "step {number}"
+        );
+    }
+    Ok(())
+}
+
+// Whether a call gives what is written beside it, and is recorded as it must.
+fn gives<D: PageDevice<PAGE>, const PAGE: usize>(
+    alloc: Global,
+    lane: &mut RecordedLane<D, PAGE>,
+    caller: u16,
+    step: &Step,
+) -> Result<bool, Fail> {
+    match step {
+        Step::Put(name, bytes, word, pushed) => {
+            put_gives(alloc, lane, caller, name, bytes, *word, *pushed)
+        }
+        Step::TooLarge(name, bytes) => refuses(alloc, lane, caller, name, bytes),
+        Step::Get(name, found) => get_gives(alloc, lane, caller, name, found),
+        Step::Remove(name) => removes(alloc, lane, caller, name),
+        Step::Forget(name) => forgets(alloc, lane, name),
+        Step::Flush(flushed) => Ok(flushes(lane, *flushed)),
+        Step::Move(wanted) => moves(lane, *wanted),
+    }
+}
+
+fn put_gives<D: PageDevice<PAGE>, const PAGE: usize>(
+    alloc: Global,
+    lane: &mut RecordedLane<D, PAGE>,
+    caller: u16,
+    name: &[u8],
+    bytes: &[u8],
+    word: u32,
+    pushed: Pushed,
+) -> Result<bool, Fail> {
+    let before = lane.len();
+    let stored = stored(put(alloc, lane, caller, name, bytes, word)?)?;
+    Ok(stored.pushed == pushed && is_last(lane, before, caller, &stored.noted))
+}
+
+fn refuses<D: PageDevice<PAGE>, const PAGE: usize>(
+    alloc: Global,
+    lane: &mut RecordedLane<D, PAGE>,
+    caller: u16,
+    name: &[u8],
+    bytes: &[u8],
+) -> Result<bool, Fail> {
+    let before = lane.len();
+    let answer = put(alloc, lane, caller, name, bytes, 0)?;
+    Ok(is_too_large(answer) && lane.len() == before)
+}
+
+fn get_gives<D: PageDevice<PAGE>, const PAGE: usize>(
+    alloc: Global,
+    lane: &mut RecordedLane<D, PAGE>,
+    caller: u16,
+    name: &[u8],
+    found: &Found,
+) -> Result<bool, Fail> {
+    let before = lane.len();
+    let got = get(alloc, lane, caller, name)?;
+    Ok(is_found(&got.answer, found) && is_last(lane, before, caller, &got.noted))
+}
+
+fn removes<D: PageDevice<PAGE>, const PAGE: usize>(
+    alloc: Global,
+    lane: &mut RecordedLane<D, PAGE>,
+    caller: u16,
+    name: &[u8],
+) -> Result<bool, Fail> {
+    let before = lane.len();
+    let removed = remove(alloc, lane, caller, name)?;
+    Ok(is_last(lane, before, caller, &removed.noted))
+}
+
+fn forgets<D: PageDevice<PAGE>, const PAGE: usize>(
+    alloc: Global,
+    lane: &mut RecordedLane<D, PAGE>,
+    name: &[u8],
+) -> Result<bool, Fail> {
+    let before = lane.len();
+    let key = key(alloc, name)?;
+    lane.forget(&key);
+    Ok(lane.len() == before)
+}
+
+fn flushes<D: PageDevice<PAGE>, const PAGE: usize>(
+    lane: &mut RecordedLane<D, PAGE>,
+    flushed: Flushed,
+) -> bool {
+    let before = lane.len();
+    lane.flush_step() == flushed && lane.len() == before
+}
+
+fn moves<D: PageDevice<PAGE>, const PAGE: usize>(
+    lane: &mut RecordedLane<D, PAGE>,
+    wanted: Moved,
+) -> Result<bool, Fail> {
+    let before = lane.len();
+    let moved = moved(lane)?;
+    Ok(moved == wanted && lane.len() == before)
+}
+
+// Whether a key belongs to a lane.
+fn is_own<D: PageDevice<PAGE>, const PAGE: usize>(lane: &RecordedLane<D, PAGE>, key: &Key) -> bool
+    ensures { IsTrue result → IsOfLane lane.now.store.layout lane.now.lane key.now }
+{
+    let layout = lane.layout();
+    place(&layout, key.bytes()).lane == lane.lane()
+}
+
+ghost use Rattle.history_recorder.specs.Lane.{IsOfLane};
+
+// Puts a pair, once more where memory was refused.
+fn put<D: PageDevice<PAGE>, const PAGE: usize>(
+    alloc: Global,
+    lane: &mut RecordedLane<D, PAGE>,
+    caller: u16,
+    name: &[u8],
+    bytes: &[u8],
+    word: u32,
+) -> Result<Result<Stored, RecordPutFault>, Fail> {
+    match put_once(alloc, lane, caller, name, bytes, word)? {
+        Err(RecordPutFault::OutOfMemory) => {
+            let again = put_once(alloc, lane, caller, name, bytes, word)?;
+            Ok(again)
+        }
+        Ok(stored) => Ok(Ok(stored)),
+        Err(fault) => Ok(Err(fault)),
+    }
+}
+
+fn put_once<D: PageDevice<PAGE>, const PAGE: usize>(
+    alloc: Global,
+    lane: &mut RecordedLane<D, PAGE>,
+    caller: u16,
+    name: &[u8],
+    bytes: &[u8],
+    word: u32,
+) -> Result<Result<Stored, RecordPutFault>, Fail> {
+    let start = lane.last_point().checked_add(1).ok_or("a stamp")?;
+    let point = start.checked_add(1).ok_or("a stamp")?;
+    let key = key(alloc, name)?;
+    let value = value(alloc, bytes)?;
+    if !is_own(lane, &key) {
+        return Err("a key of another lane".into());
+    }
+    Ok(lane.put(caller, start, point, key, value, word))
+}
+
+// Gets a key, once more where memory was refused.
+fn get<D: PageDevice<PAGE>, const PAGE: usize>(
+    alloc: Global,
+    lane: &mut RecordedLane<D, PAGE>,
+    caller: u16,
+    name: &[u8],
+) -> Result<Got, Fail> {
+    match get_once(alloc, lane, caller, name)? {
+        Ok(got) => Ok(got),
+        Err(_) => Ok(get_once(alloc, lane, caller, name)??),
+    }
+}
+
+fn get_once<D: PageDevice<PAGE>, const PAGE: usize>(
+    alloc: Global,
+    lane: &mut RecordedLane<D, PAGE>,
+    caller: u16,
+    name: &[u8],
+) -> Result<Result<Got, RecordFault>, Fail> {
+    let start = lane.last_point().checked_add(1).ok_or("a stamp")?;
+    let point = start.checked_add(1).ok_or("a stamp")?;
+    let key = key(alloc, name)?;
+    if !is_own(lane, &key) {
+        return Err("a key of another lane".into());
+    }
+    Ok(lane.get(caller, start, point, &key))
+}
+
+// Removes a key, once more where memory was refused.
+fn remove<D: PageDevice<PAGE>, const PAGE: usize>(
+    alloc: Global,
+    lane: &mut RecordedLane<D, PAGE>,
+    caller: u16,
+    name: &[u8],
+) -> Result<Removed, Fail> {
+    match remove_once(alloc, lane, caller, name)? {
+        Ok(removed) => Ok(removed),
+        Err(_) => Ok(remove_once(alloc, lane, caller, name)??),
+    }
+}
+
+fn remove_once<D: PageDevice<PAGE>, const PAGE: usize>(
+    alloc: Global,
+    lane: &mut RecordedLane<D, PAGE>,
+    caller: u16,
+    name: &[u8],
+) -> Result<Result<Removed, RecordFault>, Fail> {
+    let start = lane.last_point().checked_add(1).ok_or("a stamp")?;
+    let point = start.checked_add(1).ok_or("a stamp")?;
+    let key = key(alloc, name)?;
+    if !is_own(lane, &key) {
+        return Err("a key of another lane".into());
+    }
+    Ok(lane.remove(caller, start, point, &key))
+}
+
+fn moved<D: PageDevice<PAGE>, const PAGE: usize>(
+    lane: &mut RecordedLane<D, PAGE>,
+) -> Result<Moved, Fail> {
+    match lane.move_whole(&Rriparoo) {
+        Ok(moved) => Ok(moved),
+        Err(_) => Ok(lane.move_whole(&Rriparoo)?),
+    }
+}
+
+fn stored(answer: Result<Stored, RecordPutFault>) -> Result<Stored, Fail> {
+    Ok(answer?)
+}
+
+fn is_too_large(answer: Result<Stored, RecordPutFault>) -> bool {
+    match answer {
+        Err(RecordPutFault::TooLarge) => true,
+        _ => false,
+    }
+}
+
+fn is_found(answer: &Answer, wanted: &Found) -> bool {
+    match (answer, wanted) {
+        (Answer::Hit(value, Tier::Memory), Found::Memory(bytes)) => value.bytes() == *bytes,
+        (Answer::Hit(value, Tier::Log), Found::Log(bytes)) => value.bytes() == *bytes,
+        (Answer::Hit(value, Tier::Set), Found::Set(bytes)) => value.bytes() == *bytes,
+        (Answer::Miss(MissCause::Absent), Found::Absent) => true,
+        (Answer::Miss(MissCause::Fault), Found::Fault) => true,
+        _ => false,
+    }
+}
+
+// Whether this is the one call that was recorded behind so many, made by this caller, and its stamps are the last two.
+fn is_last<D: PageDevice<PAGE>, const PAGE: usize>(
+    lane: &RecordedLane<D, PAGE>,
+    before: usize,
+    caller: u16,
+    noted: &Noted,
+) -> bool {
+    if before >= lane.len() || lane.len() - before != 1 {
+        return false;
+    }
+    noted.caller == caller
+        && noted.start < noted.point
+        && noted.point == lane.last_point()
+        && is_copy(noted, lane.at(before))
+}
+
+fn is_copy(noted: &Noted, last: NotedRef<'_>) -> bool {
+    noted.caller == last.caller
+        && noted.start == last.start
+        && noted.point == last.point
+        && noted.key.bytes() == last.key
+        && is_same_act(&noted.act, last.act)
+}
+
+fn is_same_act(act: &Act, lent: ActRef<'_>) -> bool {
+    match (act, lent) {
+        (Act::Put(value), ActRef::Put(bytes)) => value.bytes() == bytes,
+        (Act::Hit(value), ActRef::Hit(bytes)) => value.bytes() == bytes,
+        (Act::Remove, ActRef::Remove) => true,
+        (Act::Miss, ActRef::Miss) => true,
+        _ => false,
+    }
+}
+
+/// Whether the calls of a lane have these acts, in order: put, remove, hit or miss.
+pub fn has_acts<D: PageDevice<PAGE>, const PAGE: usize>(
+    lane: &RecordedLane<D, PAGE>,
+    letters: &[u8],
+) -> bool {
+    if lane.len() != letters.len() {
+        return false;
+    }
+    for number in 0..letters.len() {
+        if number >= lane.len() || letter_of(lane.at(number).act) != letters[number] {
+            return false;
+        }
+    }
+    true
+}
+
+fn letter_of(act: ActRef<'_>) -> u8 {
+    match act {
+        ActRef::Put(_) => b'p',
+        ActRef::Remove => b'r',
+        ActRef::Hit(_) => b'h',
+        ActRef::Miss => b'm',
+    }
+}

@@ -1,0 +1,335 @@
+//! Worlds in which events are played: the replies, the history and the certificate of each.
+use certificate_checker::{Verdict, check};
+use history_recorder::{Event, OpenWorldFault, Operation, Played, Replies, Reply, World, play};
+use klog::Flushed;
+use mover::{Aborted, Begin, Committed};
+use page_device::MemoryDevice;
+use policy_laws::{Choice, Plan};
+use record_pages::{Answer, Config, Field, Prediction};
+use std::alloc::Global;
+use std::test::Fail;
+use test_steps::{key, value};
+use trace_file::{ActRef, CallRef, Certificate, History};
+
+/// An event.
+#[derive(Clone, Copy)]
+enum Happens {
+    Get(u16, &'static [u8]),
+    Put(u16, &'static [u8], &'static [u8]),
+    Remove(u16, &'static [u8]),
+    Act(u16),
+    End(u16),
+    Flush(u32),
+    MoveBegin(u32),
+    /// The lane, the only item that is kept, and the number of the move.
+    Commit(u32, usize, u64),
+    Abort(u32, u64),
+}
+
+/// A call of a history: its caller, start, end, key, and what it did: p, h, m or r, with the value.
+#[derive(Clone, Copy)]
+struct Called(u16, u64, u64, &'static [u8], u8, &'static [u8]);
+
+/// A world of so many lanes, with room for so many objects in memory, and of three callers.
+#[derive(Clone, Copy)]
+struct Row {
+    lanes: u32,
+    memory: u32,
+    /// Each event, and the letter of its reply.
+    events: &'static [(Happens, u8)],
+    history: &'static [Called],
+    certificate: &'static [u32],
+}
+
+fn config(row: &Row) -> Config {
+    Config {
+        lanes: row.lanes,
+        sets: 1,
+        memory: row.memory,
+        segments: 2,
+        segment_pages: 1,
+        entries: 8,
+        threshold: 1,
+        admit: 65536,
+    }
+}
+
+fn world(alloc: Global, row: &Row) -> Result<World<MemoryDevice<256>, 256>, Fail> {
+    let mut devices = Vec::new(alloc);
+    for _ in 0..row.lanes {
+        devices.push(MemoryDevice::new(alloc, 3)?)?;
+    }
+    Ok(World::open(alloc, &config(row), devices, 3)?)
+}
+
+fn event(alloc: Global, happens: &Happens) -> Result<Event, Fail> {
+    match happens {
+        Happens::Get(caller, name) => Ok(Event::Begin(*caller, Operation::Get(key(alloc, name)?))),
+        Happens::Put(caller, name, bytes) => {
+            let operation = Operation::Put(key(alloc, name)?, value(alloc, bytes)?, 0);
+            Ok(Event::Begin(*caller, operation))
+        }
+        Happens::Remove(caller, name) => {
+            Ok(Event::Begin(*caller, Operation::Remove(key(alloc, name)?)))
+        }
+        Happens::Act(caller) => Ok(Event::Act(*caller)),
+        Happens::End(caller) => Ok(Event::End(*caller)),
+        Happens::Flush(lane) => Ok(Event::Flush(*lane)),
+        Happens::MoveBegin(lane) => Ok(Event::MoveBegin(*lane)),
+        Happens::Commit(lane, item, number) => {
+            Ok(Event::Commit(*lane, plan(alloc, *item)?, *number))
+        }
+        Happens::Abort(lane, number) => Ok(Event::Abort(*lane, *number)),
+    }
+}
+
+fn plan(alloc: Global, item: usize) -> Result<Plan, Fail> {
+    let mut plan = Plan::new(alloc);
+    let Some(prediction) = Prediction::new(6) else {
+        return Err("no prediction".into());
+    };
+    plan.push(Choice { item, prediction })?;
+    Ok(plan)
+}
+
+fn events(alloc: Global, row: &Row) -> Result<Vec<Event>, Fail> {
+    let mut events = Vec::new(alloc);
+    for happens in row.events {
+        events.push(event(alloc, &happens.0)?)?;
+    }
+    Ok(events)
+}
+
+// The letter of a reply.
+fn letter(reply: &Reply) -> u8 {
+    match reply {
+        Reply::Ignored => b'-',
+        Reply::Begun(_) => b'b',
+        Reply::Ended(_) => b'e',
+        Reply::Got(Ok(Answer::Hit(_, _))) => b'h',
+        Reply::Got(Ok(Answer::Miss(_))) => b'm',
+        Reply::Got(Err(_)) => b'x',
+        Reply::Stored(Ok(_)) => b'p',
+        Reply::Stored(Err(_)) => b'x',
+        Reply::Removed(Ok(())) => b'r',
+        Reply::Removed(Err(_)) => b'x',
+        Reply::Flushed(Flushed::Sealed) => b's',
+        Reply::Flushed(Flushed::Wrote) => b'w',
+        Reply::Flushed(_) => b'f',
+        Reply::MoveBegun(Ok(Begin::Job(_))) => b'j',
+        Reply::MoveBegun(_) => b'n',
+        Reply::Committed(Committed::Written) => b'W',
+        Reply::Committed(Committed::StalePlan) => b'S',
+        Reply::Committed(Committed::BadPlan) => b'B',
+        Reply::Committed(Committed::Forgotten) => b'F',
+        Reply::Aborted(Aborted::Aborted) => b'A',
+        Reply::Aborted(Aborted::StalePlan) => b'S',
+    }
+}
+
+fn are_replied(replies: &Replies, events: &[(Happens, u8)]) -> bool {
+    if replies.len() != events.len() {
+        return false;
+    }
+    for number in 0..events.len() {
+        if letter(replies.at(number)) != events[number].1 {
+            return false;
+        }
+    }
+    true
+}
+
+fn is_call(call: &CallRef<'_>, wanted: &Called) -> bool {
+    let did = match call.act {
+        ActRef::Put(value) => wanted.4 == b'p' && value == wanted.5,
+        ActRef::Hit(value) => wanted.4 == b'h' && value == wanted.5,
+        ActRef::Miss => wanted.4 == b'm',
+        ActRef::Remove => wanted.4 == b'r',
+    };
+    did && call.caller == wanted.0
+        && call.start == wanted.1
+        && call.end == wanted.2
+        && call.key == wanted.3
+}
+
+fn is_history(history: &History, wanted: &[Called]) -> bool {
+    if history.len() != wanted.len() {
+        return false;
+    }
+    for position in 0..wanted.len() {
+        if !is_call(&history.at(position), &wanted[position]) {
+            return false;
+        }
+    }
+    true
+}
+
+fn lists(certificate: &Certificate, positions: &[u32]) -> bool {
+    if certificate.len() != positions.len() {
+        return false;
+    }
+    for place in 0..positions.len() {
+        if certificate.at(place) != positions[place] {
+            return false;
+        }
+    }
+    true
+}
+
+fn is_played(played: &Played, row: &Row) -> bool {
+    are_replied(&played.replies, row.events)
+        && is_history(&played.history, row.history)
+        && lists(&played.certificate, row.certificate)
+}
+
+fn plays(alloc: Global, row: &Row) -> Result<bool, Fail> {
+    let played = play(alloc, world(alloc, row)?, events(alloc, row)?.as_slice())?;
+    let verdict = check(alloc, &played.history, &played.certificate)?;
+    Ok(is_played(&played, row) && verdict == Verdict::Accepted)
+}
+
+const ROWS: [Row; 5] = [
+    // A get that is done behind the put that began before it.
+    Row {
+        lanes: 1,
+        memory: 4,
+        events: &[
+            (Happens::Put(0, b"a", b"1"), b'b'),
+            (Happens::Get(1, b"a"), b'b'),
+            (Happens::Act(0), b'p'),
+            (Happens::Act(1), b'h'),
+            (Happens::End(1), b'e'),
+            (Happens::End(0), b'e'),
+        ],
+        history: &[
+            Called(0, 1, 6, b"a", b'p', b"1"),
+            Called(1, 2, 5, b"a", b'h', b"1"),
+        ],
+        certificate: &[0, 1],
+    },
+    // The same, done before it.
+    Row {
+        lanes: 1,
+        memory: 4,
+        events: &[
+            (Happens::Put(0, b"a", b"1"), b'b'),
+            (Happens::Get(1, b"a"), b'b'),
+            (Happens::Act(1), b'm'),
+            (Happens::Act(0), b'p'),
+            (Happens::End(1), b'e'),
+            (Happens::End(0), b'e'),
+        ],
+        history: &[
+            Called(1, 2, 5, b"a", b'm', b""),
+            Called(0, 1, 6, b"a", b'p', b"1"),
+        ],
+        certificate: &[0, 1],
+    },
+    // Two lanes; the second is done first.
+    Row {
+        lanes: 2,
+        memory: 4,
+        events: &[
+            (Happens::Put(0, b"a", b"1"), b'b'),
+            (Happens::Put(1, b"b", b"2"), b'b'),
+            (Happens::Act(1), b'p'),
+            (Happens::Act(0), b'p'),
+            (Happens::End(0), b'e'),
+            (Happens::End(1), b'e'),
+        ],
+        history: &[
+            Called(0, 1, 5, b"a", b'p', b"1"),
+            Called(1, 2, 6, b"b", b'p', b"2"),
+        ],
+        certificate: &[1, 0],
+    },
+    // A key is removed while its object is in flight, and the move does not bring it back.
+    Row {
+        lanes: 1,
+        memory: 1,
+        events: &[
+            (Happens::Put(0, b"ax", b"1"), b'b'),
+            (Happens::Act(0), b'p'),
+            (Happens::End(0), b'e'),
+            (Happens::Put(0, b"bx", b"2"), b'b'),
+            (Happens::Act(0), b'p'),
+            (Happens::End(0), b'e'),
+            (Happens::Flush(0), b's'),
+            (Happens::Flush(0), b'w'),
+            (Happens::MoveBegin(0), b'j'),
+            (Happens::Remove(0, b"ax"), b'b'),
+            (Happens::Act(0), b'r'),
+            (Happens::Commit(0, 0, 1), b'W'),
+            (Happens::Get(0, b"ax"), b'-'),
+            (Happens::End(0), b'e'),
+            (Happens::Get(0, b"ax"), b'b'),
+            (Happens::Act(0), b'm'),
+            (Happens::MoveBegin(3), b'-'),
+        ],
+        history: &[
+            Called(0, 1, 3, b"ax", b'p', b"1"),
+            Called(0, 4, 6, b"bx", b'p', b"2"),
+            Called(0, 7, 9, b"ax", b'r', b""),
+            Called(0, 10, 12, b"ax", b'm', b""),
+        ],
+        certificate: &[0, 1, 2, 3],
+    },
+    // Callers and ends that are not there, and plans that are stale or bad.
+    Row {
+        lanes: 1,
+        memory: 1,
+        events: &[
+            (Happens::Get(3, b"ax"), b'-'),
+            (Happens::Act(0), b'-'),
+            (Happens::End(0), b'-'),
+            (Happens::Put(2, b"ax", b"1"), b'b'),
+            (Happens::Act(2), b'p'),
+            (Happens::Act(2), b'-'),
+            (Happens::End(2), b'e'),
+            (Happens::End(2), b'-'),
+            (Happens::Put(2, b"bx", b"2"), b'b'),
+            (Happens::Act(2), b'p'),
+            (Happens::Flush(0), b's'),
+            (Happens::Flush(0), b'w'),
+            (Happens::Commit(0, 0, 1), b'S'),
+            (Happens::MoveBegin(0), b'j'),
+            (Happens::MoveBegin(0), b'n'),
+            (Happens::Commit(0, 1, 1), b'B'),
+            (Happens::Abort(0, 2), b'S'),
+            (Happens::Abort(0, 1), b'A'),
+            (Happens::Get(1, b"ax"), b'b'),
+        ],
+        history: &[
+            Called(2, 1, 3, b"ax", b'p', b"1"),
+            Called(2, 4, 7, b"bx", b'p', b"2"),
+        ],
+        certificate: &[0, 1],
+    },
+];
+
+#[test]
+fn events_are_played(rt: HostRuntime) -> Result<(), Fail> {
+    for number in 0..ROWS.len() {
+        assert!(rt; plays(rt.alloc(), &ROWS[number])?, "row {number}");
+    }
+    Ok(())
+}
+
+#[test]
+fn a_world_is_not_opened(rt: HostRuntime) -> Result<(), Fail> {
+    let config = config(&ROWS[0]);
+    let none = World::<MemoryDevice<256>, 256>::open(rt.alloc(), &config, Vec::new(rt.alloc()), 0);
+    assert!(rt; matches!(&none, Err(OpenWorldFault::NoCallers)));
+    let few = World::<MemoryDevice<256>, 256>::open(rt.alloc(), &config, Vec::new(rt.alloc()), 1);
+    assert!(rt; matches!(&few, Err(OpenWorldFault::DeviceCount)));
+    let faulty = Config { sets: 0, ..config };
+    let field = Field::Sets;
+    let refused = World::<MemoryDevice<256>, 256>::open(
+        rt.alloc(),
+        &faulty,
+        Vec::new(rt.alloc()),
+        0,
+    );
+    assert!(rt; matches!(&refused, Err(OpenWorldFault::ConfigFault { field: f }) if *f == field));
+    Ok(())
+}

@@ -1,0 +1,12 @@
+//! What a run asks of the cache: the settings of a load, and the operations of its callers.
+#![tactic(auto)]
+
+mod file_name;
+mod load;
+mod operations;
+mod setting;
+
+pub use file_name::FileName;
+pub use load::Load;
+pub use operations::next_operation;
+pub use setting::Setting;

@@ -1,0 +1,67 @@
+// The operations of a load, by random words.
+ghost use Rattle.std.specs.Prelude.{◌≡◌, ◌<◌, ◌≤◌, ◌++◌, codes, take, length, IfOk};
+ghost use Rattle.std.specs.Fmt.{decimal};
+ghost use Rattle.std.specs.List.{repeat};
+ghost use Rattle.load.specs.Operations.{key_of, value_of, next_of};
+
+use crate::load::Load;
+use history_recorder::Operation;
+use rand_core::utils::NextWord;
+use rand_pcg::Lcg64Xsh32;
+use record_pages::{Key, KeyFault, Value, ValueFault};
+use std::alloc::{AllocError, Global};
+
+/// The key that a word names.
+fn key(alloc: Global, load: &Load, word: u32) -> Result<Key, AllocError>
+    ensures { IfOk result (λ key. key ≡ key_of load.now word) }
+{
+    let text = format!(in alloc; "k{}", word % load.keys)?;
+    match Key::new(alloc, text.as_bytes()) {
+        Ok(key) => Ok(key),
+        Err(_) => Err(AllocError),
+    }
+}
+
+/// The value of a caller's operation with this number.
+fn value(alloc: Global, load: &Load, caller: u16, number: u32) -> Result<Value, AllocError>
+    ensures { IfOk result (λ value. value ≡ value_of load.now caller number) }
+{
+    let [a, b] = caller.to_be_bytes();
+    let [c, d, e, f] = number.to_be_bytes();
+    let len = load.value_bytes as usize;
+    let bytes = [a, b, c, d, e, f].repeat(alloc, len / 6 + 1)?;
+    match Value::new(alloc, &bytes[..len]) {
+        Ok(value) => Ok(value),
+        Err(_) => Err(AllocError),
+    }
+}
+
+/// The operation of this number that a caller does next, by its generator's next words: one for the
+/// kind, one for the key, and for a put one more, its word of admission.
+///
+/// The words are drawn before memory is taken, so the generator is past them also where memory is
+/// refused.
+pub fn next_operation(
+    alloc: Global,
+    generator: &mut Lcg64Xsh32,
+    load: &Load,
+    caller: u16,
+    number: u32,
+) -> Result<Operation, AllocError>
+    ensures operation { IfOk result (λ operation. operation
+        ≡ (next_of load.now caller number generator.old).operation) }
+    ensures generator { generator.new ≡ (next_of load.now caller number generator.old).generator }
+{
+    let kind = generator.next_word() % 100;
+    let word = generator.next_word();
+    if kind < load.gets {
+        Ok(Operation::Get(key(alloc, load, word)?))
+    } else if kind < load.gets + load.removes {
+        Ok(Operation::Remove(key(alloc, load, word)?))
+    } else {
+        let admission = generator.next_word();
+        let key = key(alloc, load, word)?;
+        let value = value(alloc, load, caller, number)?;
+        Ok(Operation::Put(key, value, admission))
+    }
+}

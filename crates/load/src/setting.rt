@@ -1,0 +1,127 @@
+// The numbers of a load, with their names, ranges and defaults.
+ghost use Rattle.std.specs.Prelude.{◌≡◌, ◌≤◌};
+ghost use Rattle.load.specs.Settings.{row_of, is_admitted};
+
+/// A number of a load, which an option of its name gives.
+#[derive(Clone, Copy, Debug, PartialEq, Eq)]
+pub enum Setting {
+    /// Lanes: the independent parts of the cache.
+    Lanes,
+    /// Sets of each lane.
+    Sets,
+    /// Objects in memory of each lane.
+    Memory,
+    /// Log segments on the device of each lane.
+    Segments,
+    /// Pages of a segment.
+    SegmentPages,
+    /// Entries of each lane's log index.
+    Entries,
+    /// The least number of objects of a set that move from the log together.
+    Threshold,
+    /// How many of 65,536 pairs pushed out of memory enter the log.
+    Admit,
+    /// Callers, each in a thread of its own.
+    Callers,
+    /// Operations of each caller.
+    Operations,
+    /// Keys that the callers share.
+    Keys,
+    /// Bytes of each value.
+    ValueBytes,
+    /// Gets, in per cent of the operations.
+    Gets,
+    /// Removes, in per cent of the operations.
+    Removes,
+    /// Workers that flush and move, each in a thread of its own.
+    Workers,
+    /// The seed of the callers' random words.
+    Seed,
+}
+
+impl Setting {
+    /// The name of its option, without the two dashes.
+    pub fn name(self) -> &'static str
+        ensures { result.now ≡ (row_of self).name }
+    {
+        match self {
+            Setting::Lanes => "lanes",
+            Setting::Sets => "sets",
+            Setting::Memory => "memory",
+            Setting::Segments => "segments",
+            Setting::SegmentPages => "segment-pages",
+            Setting::Entries => "entries",
+            Setting::Threshold => "threshold",
+            Setting::Admit => "admit",
+            Setting::Callers => "callers",
+            Setting::Operations => "operations",
+            Setting::Keys => "keys",
+            Setting::ValueBytes => "value-bytes",
+            Setting::Gets => "gets",
+            Setting::Removes => "removes",
+            Setting::Workers => "workers",
+            Setting::Seed => "seed",
+        }
+    }
+
+    /// The least number that it may be.
+    pub fn least(self) -> u32
+        ensures value { result ≡ (row_of self).least }
+        ensures order { result ≤ (row_of self).greatest }
+    {
+        match self {
+            Setting::Admit
+            | Setting::ValueBytes
+            | Setting::Gets
+            | Setting::Removes
+            | Setting::Seed => 0,
+            Setting::Segments => 2,
+            _ => 1,
+        }
+    }
+
+    /// The greatest number that it may be.
+    pub fn greatest(self) -> u32
+        ensures { result ≡ (row_of self).greatest }
+    {
+        match self {
+            Setting::Lanes | Setting::Workers => 16,
+            Setting::Threshold => 32,
+            Setting::SegmentPages | Setting::Callers => 64,
+            Setting::Gets | Setting::Removes => 100,
+            Setting::Segments => 256,
+            Setting::ValueBytes => 2048,
+            Setting::Sets | Setting::Admit => 65536,
+            Setting::Operations | Setting::Keys => 1000000,
+            Setting::Memory | Setting::Entries => 1048576,
+            Setting::Seed => 4294967295,
+        }
+    }
+
+    /// The number that it is where none is given, in decimal.
+    pub fn default_word(self) -> &'static str
+        ensures { result.now ≡ (row_of self).default }
+    {
+        match self {
+            Setting::Lanes | Setting::SegmentPages | Setting::Callers => "4",
+            Setting::Sets | Setting::Memory => "64",
+            Setting::Segments => "8",
+            Setting::Entries => "4096",
+            Setting::Threshold | Setting::Workers => "2",
+            Setting::Admit => "65536",
+            Setting::Operations => "10000",
+            Setting::Keys => "1000",
+            Setting::ValueBytes => "100",
+            Setting::Gets => "70",
+            Setting::Removes => "5",
+            Setting::Seed => "1",
+        }
+    }
+
+    /// Whether it may be this number.
+    pub fn admits(self, number: u32) -> bool
+        ensures { result ≡ is_admitted self number }
+    {
+        self.least() <= number && number <= self.greatest()
+    }
+}

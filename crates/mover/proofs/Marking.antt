@@ -1,0 +1,74 @@
+-- The marks of a move in flight, under a strike.
+use Rattle.std.proofs.Common.{◌≡◌, ◌≢◌, ℕ, Bool, true, false, ◌||◌, eqb, List, map, Option, Some, None, inl, inr, ⊎_elim, refl, sym, ap, subst, ◌∙◌}
+use Rattle.std.specs.Prelude.{IfSome, IsSomeAnd, slice_get}
+use Rattle.std.specs.Option.{option_map, option_map_or}
+use Rattle.std.proofs.lemmas.Bool.{eq-eqb, false≢true}
+use Rattle.std.proofs.lemmas.Option.{slice_get-map, none-some}
+use Rattle.set_hash.specs.Fnv.{fnv1a}
+use Rattle.record_pages.specs.Recs.{Rec}
+use Rattle.memory_cache.specs.declared.pair.Pair.{Pair}
+use Rattle.klog.specs.Log.{Shape}
+use Rattle.klog.specs.Shown.{place_in}
+use Rattle.mover.specs.declared.mark.Mark.{Mark}
+use Rattle.mover.specs.Flight.{Flight, records_of, mark_struck, flight_struck, is_struck, IsUnstruck}
+use Rattle.mover.specs.Lane.{LaneState}
+use Rattle.mover.specs.Put.{put_step}
+use Rattle.mover.specs.Strike.{removed}
+use Rattle.mover.specs.Visible.{pair_of, IsHeldInFlight, IsLogPlaced}
+use Rattle.mover.specs.Laws.{AreMarked}
+use Rattle.mover.proofs.Flying.{hashes_stay}
+use Rattle.mover.proofs.Showing.{ShowsOthers, ShowsIt, removed_sees, put_sees, put_flies}
+
+-- the items of a move stay marked under a strike
+pub struck_marked : (hash : ℕ) (shape : Shape) (o : Option Flight) → IfSome o (AreMarked shape) → IfSome (option_map (flight_struck hash) o) (AreMarked shape)
+struck_marked hash shape None was = tt
+struck_marked hash shape (Some f) was = hashes_stay hash f.marks ∙ was
+
+-- the mark of a record
+mark_is : (shape : Shape) (f : Flight) → AreMarked shape f → (item : ℕ) (r : Rec) → slice_get (records_of f.moving) item ≡ Some r → option_map (λ (m : Mark). m.hash) (slice_get f.marks item) ≡ Some (fnv1a r.key)
+mark_is shape f marked item r found =
+    sym (slice_get-map (λ (m : Mark). m.hash) f.marks item) ∙ ap (λ ns. slice_get ns item) marked ∙ slice_get-map (λ (x : Rec). (place_in shape x.key).hash) (records_of f.moving) item
+    ∙ ap (option_map (λ (x : Rec). (place_in shape x.key).hash)) found
+
+-- what is not struck after a strike was not struck before it, and has another hash
+clear_before : (hash : ℕ) (shape : Shape) (f : Flight) → AreMarked shape f → (r : Rec) → IsUnstruck (flight_struck hash f) r → IsUnstruck f r × (fnv1a r.key ≢ hash)
+clear_before hash shape f marked r is = let it = step (slice_get f.marks is.item) refl (mark_is shape f marked is.item r is.found) in (record { item = is.item; found = is.found; not_struck = it.0 }, it.1)
+  where
+    parts : (m : Mark) (a b : Bool) → m.struck ≡ a → eqb m.hash hash ≡ b → (a || b) ≡ false → (m.struck ≡ false) × (m.hash ≢ hash)
+    parts m true b at_a at_b e = absurd (false≢true (sym e))
+    parts m false true at_a at_b e = absurd (false≢true (sym e))
+    parts m false false at_a at_b e = (at_a, λ same. false≢true (sym at_b ∙ eq-eqb m.hash hash same))
+
+    step : (o : Option Mark) → slice_get f.marks is.item ≡ o → option_map (λ (m : Mark). m.hash) o ≡ Some (fnv1a r.key) → (is_struck f is.item ≡ false) × (fnv1a r.key ≢ hash)
+    step None at its = absurd (none-some (fnv1a r.key) its)
+    step (Some m) at its =
+        let hashed : m.hash ≡ fnv1a r.key = cc in
+        let struck : slice_get (map (mark_struck hash) f.marks) is.item ≡ Some (mark_struck hash m) = slice_get-map (mark_struck hash) f.marks is.item ∙ ap (option_map (mark_struck hash)) at in
+        let clear : (m.struck || eqb m.hash hash) ≡ false = sym (ap (λ (o : Option Mark). option_map_or (λ (x : Mark). x.struck) o false) struck) ∙ is.not_struck in
+        let both = parts m m.struck (eqb m.hash hash) refl refl clear in
+        (ap (λ (o : Option Mark). option_map_or (λ (x : Mark). x.struck) o false) at ∙ both.0, λ same. both.1 (hashed ∙ same))
+
+-- what is in flight after a strike was so before it, and has another key
+held_before : (key : List ℕ) (lane : LaneState) (p : Pair) → IfSome lane.flight (AreMarked lane.log.shape) → IsSomeAnd (option_map (flight_struck (fnv1a key)) lane.flight) (λ f. (r : Rec) × IsUnstruck f r × (pair_of r ≡ p)) →
+    IsHeldInFlight lane p × (p.key ≢ key)
+held_before key lane p = step lane.flight
+  where
+    step : (o : Option Flight) → IfSome o (AreMarked lane.log.shape) → IsSomeAnd (option_map (flight_struck (fnv1a key)) o) (λ f. (r : Rec) × IsUnstruck f r × (pair_of r ≡ p)) →
+        IsSomeAnd o (λ f. (r : Rec) × IsUnstruck f r × (pair_of r ≡ p)) × (p.key ≢ key)
+    step None marked held = absurd held
+    step (Some f) marked held =
+        let still = clear_before (fnv1a key) lane.log.shape f marked held.0 held.1 in
+        ((held.0, still.0, held.2), λ same. still.1 (ap fnv1a (ap (λ (q : Pair). q.key) held.2 ∙ same)))
+
+-- a removal shows only other keys
+pub removal_others : (key : List ℕ) (lane : LaneState) → IsLogPlaced lane → IfSome lane.flight (AreMarked lane.log.shape) → ShowsOthers key lane (removed key lane)
+removal_others key lane placed marked p (inl visible) = let kept = removed_sees key lane placed p visible in (inl kept.0, kept.1)
+removal_others key lane placed marked p (inr held) = let kept = held_before key lane p marked held in (inr kept.0, kept.1)
+
+-- a put shows its pair, and else only other keys
+pub put_alone : (size admit word : ℕ) (put : Pair) (lane : LaneState) → IsLogPlaced lane → IfSome lane.flight (AreMarked lane.log.shape) → ShowsIt put lane (put_step size admit put word lane).lane
+put_alone size admit word put lane placed marked p (inl visible) =
+    ⊎_elim (λ it. inl it) (λ kept. inr (inl kept.0, kept.1)) (put_sees size admit word put lane placed p visible)
+put_alone size admit word put lane placed marked p (inr held) =
+    let kept = held_before put.key lane p marked (subst (λ (o : Option Flight). IsSomeAnd o (λ f. (r : Rec) × IsUnstruck f r × (pair_of r ≡ p))) (put_flies size admit word put lane) held) in
+    inr (inr kept.0, kept.1)

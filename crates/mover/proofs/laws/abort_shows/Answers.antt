@@ -1,0 +1,5 @@
+use Rattle.mover.proofs.StepLaws.{abort_law}
+use Rattle.mover.proofs.laws.abort_shows.Goals as goal
+
+pub returns : goal.returns
+returns c = abort_law

@@ -1,0 +1,5 @@
+use Rattle.mover.proofs.StepLaws.{begin_law}
+use Rattle.mover.proofs.laws.begin_shows.Goals as goal
+
+pub returns : goal.returns
+returns c = begin_law

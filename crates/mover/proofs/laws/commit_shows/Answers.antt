@@ -1,0 +1,5 @@
+use Rattle.mover.proofs.StepLaws.{commit_law}
+use Rattle.mover.proofs.laws.commit_shows.Goals as goal
+
+pub returns : goal.returns
+returns c = commit_law

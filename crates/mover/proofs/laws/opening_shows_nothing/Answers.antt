@@ -1,0 +1,5 @@
+use Rattle.mover.proofs.WholeLaws.{opening_law}
+use Rattle.mover.proofs.laws.opening_shows_nothing.Goals as goal
+
+pub returns : goal.returns
+returns c = opening_law

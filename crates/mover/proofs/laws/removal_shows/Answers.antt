@@ -1,0 +1,5 @@
+use Rattle.mover.proofs.StepLaws.{removal_law}
+use Rattle.mover.proofs.laws.removal_shows.Goals as goal
+
+pub returns : goal.returns
+returns c = removal_law

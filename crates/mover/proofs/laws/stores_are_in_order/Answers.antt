@@ -1,0 +1,5 @@
+use Rattle.mover.proofs.WholeLaws.{stores_law}
+use Rattle.mover.proofs.laws.stores_are_in_order.Goals as goal
+
+pub returns : goal.returns
+returns c = stores_law

@@ -1,0 +1,5 @@
+use Rattle.mover.proofs.WholeLaws.{whole_move_law}
+use Rattle.mover.proofs.laws.whole_move_shows.Goals as goal
+
+pub returns : goal.returns
+returns c = whole_move_law

@@ -1,0 +1,21 @@
+// How a move began.
+use policy_laws::Job;
+
+/// How a move began.
+#[derive(Debug, Drop)]
+pub enum Begin {
+    /// No segment is on the device, or as many moves began as a store begins.
+    Nothing,
+    /// A move is in flight.
+    Busy,
+    /// The oldest segment had no live record, and is free.
+    Freed,
+    /// The first live record of the oldest segment entered the log anew.
+    Readmitted,
+    /// It was dropped.
+    Dropped,
+    /// A page was lost, and no move began.
+    PageLost,
+    /// The records of its set are to move, by a plan for this job.
+    Job(Job),
+}

@@ -1,0 +1,116 @@
+// Gathering the records of a move.
+ghost use Rattle.std.specs.Prelude.{◌≡◌, ◌≢◌, ◌<◌, ◌≤◌, ◌+◌, None, Ok, Some, length, IfOk, OnErr, IsTrue};
+ghost use Rattle.page_device.specs.Device.{faults_after};
+ghost use Rattle.record_pages.specs.Sizes.{max_records};
+ghost use Rattle.klog.specs.Moves.{is_taking_lost, most_taken};
+ghost use Rattle.kset.specs.ReadSet.{is_set_lost};
+ghost use Rattle.mover.specs.Store.{KeepsTiers, most_moves};
+ghost use Rattle.mover.specs.Lane.{lane_of};
+ghost use Rattle.mover.specs.Flight.{records_of, just_begun, AreOfSet};
+ghost use Rattle.mover.specs.Job.{job_of};
+ghost use Rattle.mover.specs.declared.begin.Begin.{Begin};
+ghost use Rattle.mover.specs.Begin.{WritesNothing, LaneTakes, LaneReads, is_lost, KeepsUnlessLost, KeepsUnlessForgotten, Gathers, moves_after, IsNumbered, BeginsFlight, BeginLeaves, TakesFew, ReadsFew};
+
+use super::Store;
+use crate::begin::Begin;
+use crate::flight::Flight;
+use crate::moving::Moving;
+use klog::SetTaken;
+use kset::{SetRead, readings_keep_sets};
+use page_device::PageDevice;
+use policy_laws::Job;
+use std::alloc::AllocError;
+
+impl<D: PageDevice<PAGE>, const PAGE: usize> Store<D, PAGE> {
+    // The newest live records of a set in the log.
+    fn take_set(&mut self, set: u32) -> Result<SetTaken, AllocError>
+        ensures moves { self.new.moves ≡ self.old.moves }
+        ensures flight { self.new.flight ≡ self.old.flight }
+        ensures few { IfOk result TakesFew }
+        ensures writes { WritesNothing D.honest D.held self.old self.new }
+        ensures keeps { KeepsUnlessLost result self.old self.new }
+        ensures faults { IsTrue (D.honest self.old.device) → D.failures self.new.device
+            ≡ faults_after (D.failures self.old.device) (is_taking_lost result) }
+        ensures gives { IsTrue (D.honest self.old.device) → IfOk result (λ taken.
+            LaneTakes set (lane_of D.held self.old) taken (lane_of D.held self.new)) }
+    {
+        let taken = self.log.take_set(self.alloc, &mut self.device, set)?;
+        Ok(taken)
+    }
+
+    // The visible records of a set.
+    fn read_set(&mut self, set: u32) -> Result<SetRead, AllocError>
+        requires { set < self.old.layout.sets }
+        ensures moves { self.new.moves ≡ self.old.moves }
+        ensures flight { self.new.flight ≡ self.old.flight }
+        ensures few { IfOk result ReadsFew }
+        ensures writes { WritesNothing D.honest D.held self.old self.new }
+        ensures keeps { KeepsUnlessForgotten result self.old self.new }
+        ensures faults { IsTrue (D.honest self.old.device) → D.failures self.new.device
+            ≡ faults_after (D.failures self.old.device) (is_set_lost result) }
+        ensures gives { IsTrue (D.honest self.old.device) → IfOk result (λ read.
+            LaneReads set (lane_of D.held self.old) read (lane_of D.held self.new)) }
+    {
+        readings_keep_sets();
+        let read = self.sets.read_set(self.alloc, &mut self.device, set)?;
+        Ok(read)
+    }
+}
+
+impl<D: PageDevice<PAGE>, const PAGE: usize> Store<D, PAGE> {
+    // Gathers the records of a set that are to move, which are in flight from then on.
+    pub(super) fn gather(&mut self, set: u32) -> Result<Begin, AllocError>
+        requires free { self.old.flight ≡ None }
+        requires set { set < self.old.layout.sets }
+        requires number { self.old.moves < most_moves }
+        ensures writes { WritesNothing D.honest D.held self.old self.new }
+        ensures out_of_memory { OnErr result (KeepsTiers self.old self.new) }
+        ensures number { self.new.moves ≡ moves_after result self.old.moves }
+        ensures numbered { IfOk result (IsNumbered self.new.moves) }
+        ensures flies { BeginsFlight PAGE result self.old.flight self.new.flight }
+        ensures leaves { BeginLeaves result self.old self.new }
+        ensures free { result ≢ Ok Begin.Busy }
+        ensures faults { IsTrue (D.honest self.old.device) → D.failures self.new.device
+            ≡ faults_after (D.failures self.old.device) (is_lost result) }
+        ensures gives { IsTrue (D.honest self.old.device) → IfOk result (λ begun.
+            Gathers PAGE set (lane_of D.held self.old) begun (lane_of D.held self.new)) }
+    {
+        // Where the records of the lane are placed, so are those of a move.
+        let _layout = self.layout();
+        let SetTaken::Records(taken) = self.take_set(set)? else {
+            return Ok(Begin::PageLost);
+        };
+        let SetRead::Records(visible) = self.read_set(set)? else {
+            return Ok(Begin::PageLost);
+        };
+        let job = self.fly(Moving {
+            number: self.moves + 1,
+            set,
+            visible,
+            taken,
+        })?;
+        Ok(Begin::Job(job))
+    }
+
+    // The next move is in flight from now on; its job.
+    fn fly(&mut self, moving: Moving) -> Result<Job, AllocError>
+        requires set { moving.set < self.old.layout.sets }
+        requires number { moving.number ≡ self.old.moves + 1 }
+        requires room { self.old.moves < most_moves }
+        requires few { length (records_of moving) ≤ max_records + most_taken }
+        requires placed { IsTrue (D.honest self.old.device) →
+            AreOfSet self.old.log.shape moving }
+        ensures job { IfOk result (λ job. job ≡ job_of PAGE moving) }
+        ensures flies { IfOk result (λ job. self.new ≡ record self.old {
+          flight = Some (just_begun self.old.log.shape moving);
+          moves = self.old.moves + 1;
+        }) }
+        ensures err { OnErr result (self.new ≡ self.old) }
+    {
+        let job = moving.job::<PAGE>(self.alloc)?;
+        let marks = moving.marks(self.alloc)?;
+        self.flight = Some(Flight { moving, marks });
+        self.moves += 1;
+        Ok(job)
+    }
+}

@@ -1,0 +1,42 @@
+use Rattle.std.proofs.Common.{rules, ◌≡◌, ◌≤◌, length, sym, subst, ◌∙◌}
+use Rattle.certificate_checker.proofs.LaneEnds.{placed_apart}
+use Rattle.shared_cache.specs.Finished.{AreOver, lane_by}
+use Rattle.shared_cache.proofs.LanesOver.{rise_over, few_in, lanes_over, placed_over, lanes_as_claims}
+use Rattle.shared_cache.proofs.cache.SharedCache.finish.Goals as goal
+
+pub lay_out-requires-clause-rise : goal.lay_out-requires-clause-rise
+lay_out-requires-clause-rise g c =
+    let by = lane_by c.self.inside.config in
+    let all = subst (λ ls. AreOver g.D.PageDevice.honest by 0 ls c.in_ok-claims.devices.items) (sym c.in_ok-lanes.ensures.calls) c.in_ok-claims.ensures.over in
+    rise_over g.D.PageDevice.honest by 0 c.in_ok-lanes.lanes.items c.in_ok-claims.devices.items all
+
+pub lay_out-requires-clause-few : goal.lay_out-requires-clause-few
+lay_out-requires-clause-few g c =
+    let by = lane_by c.self.inside.config in
+    let all = subst (λ ls. AreOver g.D.PageDevice.honest by 0 ls c.in_ok-claims.devices.items) (sym c.in_ok-lanes.ensures.calls) c.in_ok-claims.ensures.over in
+    let count : length c.in_ok-lanes.lanes.items ≡ c.self.inside.layout.lanes =
+    lanes_as_claims c.in_ok-lanes.lanes.items c.in_ok-claims.claims.items c.in_ok-lanes.ensures.calls ∙ c.in_ok-claims.ensures.count ∙ c.self.invariant.books in
+    let few : length c.in_ok-lanes.lanes.items ≤ 16 = search rules in
+    few_in g.D.PageDevice.honest by c.in_ok-lanes.lanes.items c.in_ok-claims.devices.items all few
+
+pub returns-clause-finished : goal.returns-clause-finished
+returns-clause-finished g c =
+    let by = lane_by c.self.inside.config in
+    let all = subst (λ ls. AreOver g.D.PageDevice.honest by 0 ls c.in_ok-claims.devices.items) (sym c.in_ok-lanes.ensures.calls) c.in_ok-claims.ensures.over in
+    let count : length c.in_ok-lanes.lanes.items ≡ c.self.inside.layout.lanes =
+    lanes_as_claims c.in_ok-lanes.lanes.items c.in_ok-claims.claims.items c.in_ok-lanes.ensures.calls ∙ c.in_ok-claims.ensures.count ∙ c.self.invariant.books in
+    record {
+      lanes = c.in_ok-lanes.lanes.items;
+      count = rw (← c.self.view_is) count;
+      listed = c.in_ok-lanes.ensures.listed;
+      points_rise = rise_over g.D.PageDevice.honest by 0 c.in_ok-lanes.lanes.items c.in_ok-claims.devices.items all;
+      laid_out = c.in-Ok.ensures.laid_out;
+    }
+
+pub returns-clause-accepted : goal.returns-clause-accepted
+returns-clause-accepted g c =
+    let by = lane_by c.self.inside.config in
+    let all = subst (λ ls. AreOver g.D.PageDevice.honest by 0 ls c.in_ok-claims.devices.items) (sym c.in_ok-lanes.ensures.calls) c.in_ok-claims.ensures.over in
+    λ is. c.in-Ok.ensures.accepted
+    (lanes_over g.D.PageDevice.honest by 0 c.in_ok-lanes.lanes.items c.in_ok-claims.devices.items all c.in_ok-lanes.ensures.ended is)
+    (placed_apart by c.in_ok-lanes.lanes.items (placed_over g.D.PageDevice.honest by c.in_ok-lanes.lanes.items c.in_ok-claims.devices.items all))

@@ -1,0 +1,13 @@
+use Rattle.std.proofs.Common.{◌≡◌, ℕ, ◌+◌, length}
+use Rattle.certificate_checker.specs.Lanes.{Stamped}
+use Rattle.shared_cache.specs.Finished.{weigh_lanes, weigh_passes, recorded_in}
+use Rattle.shared_cache.proofs.claims.claim_passes.Given as goal
+
+abbrev pub invariant-loop-pass : goal.invariant-loop-pass
+invariant-loop-pass l = record {
+  weighed : (h : Stamped → ℕ) → weigh_lanes h 0 l.claims.items + weigh_passes h l.left.items ≡ weigh_lanes h 0 l.initial.claims.items + weigh_passes h l.fn.passes.items;
+  calls : recorded_in l.claims.items ≡ recorded_in l.initial.claims.items;
+}
+
+abbrev pub decreases-loop-pass : goal.decreases-loop-pass
+decreases-loop-pass l = length l.left.items

@@ -1,0 +1,15 @@
+use Rattle.std.proofs.Common.{◌≡◌, ℕ, ◌+◌, length}
+use Rattle.certificate_checker.specs.Lanes.{Stamped}
+use Rattle.shared_cache.specs.Finished.{AreOver, lane_by, weigh_lanes, recorded_in}
+use Rattle.shared_cache.proofs.ending.take_apart.Given as goal
+
+abbrev pub invariant-loop-lock : goal.invariant-loop-lock
+invariant-loop-lock g l = record {
+  over : AreOver g.D.PageDevice.honest (lane_by l.config) 0 (recorded_in l.claims.items) l.devices.items;
+  unclaimed : (h : Stamped → ℕ) → weigh_lanes h 0 l.claims.items ≡ 0;
+  devices : length l.devices.items ≡ length l.claims.items;
+  left : length l.claims.items + length l.left.items ≡ length l.fn.books.items;
+}
+
+abbrev pub decreases-loop-lock : goal.decreases-loop-lock
+decreases-loop-lock g l = length l.left.items

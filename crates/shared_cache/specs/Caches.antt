@@ -1,0 +1,55 @@
+-- A shared cache, as contracts see it, and a call of it.
+use Rattle.std.specs.Prelude.{◌≡◌, ◌≢◌, ℕ, ◌<◌, List, ◌++◌, ◌∷◌, [], length, Any, Some, None}
+use Rattle.record_pages.specs.Sizes.{IsPageSize}
+use Rattle.record_pages.specs.Table.{first_faulty}
+use Rattle.mover.specs.Store.{IsTooSmall}
+use Rattle.shared_cache.specs.declared.open_cache_fault.OpenCacheFault.{OpenCacheFault}
+use Rattle.shared_cache.specs.declared.open_cache_fault.OpenCacheFault.TheVariants.{ConfigFault, NoCallers, DeviceCount, WrongPage, DeviceTooSmall, OutOfMemory}
+use Rattle.record_pages.specs.Asked.{HasNumbersOf}
+use Rattle.record_pages.specs.declared.config.Config.{Config}
+use Rattle.record_pages.specs.declared.layout.Layout.{Layout}
+use Rattle.history_recorder.specs.declared.operation.Operation.{Operation}
+use Rattle.history_recorder.specs.Operations.{key_of, lane_of_key}
+use Rattle.shared_cache.specs.declared.outcome.Outcome.{Outcome}
+use Rattle.shared_cache.specs.Acts.{made, listing}
+use Rattle.shared_cache.specs.Passes.{Ticket, IsEnd}
+use Rattle.shared_cache.specs.Stamps.{ClockId}
+
+-- a cache: its clock, its numbers, and how many callers it has
+pub record Cache : Type 0 where
+  pub clock : ClockId
+  pub layout : Layout
+  pub callers : ℕ
+
+-- what is true of every cache: a book for each lane, and the numbers of its configuration
+pub record IsCache (layout : Layout) (config : Config) (count : ℕ) : Type 0 where
+  pub numbers : HasNumbersOf layout config
+  pub books : count ≡ layout.lanes
+
+-- A call was made, and gave this: its pass lists one call more, last, of the lane of its key, at some position there. It
+-- started above all that the pass had seen, was done above its start, and ended where the pass has seen the clock last.
+pub record IsMade (layout : Layout) (operation : Operation) (old : Ticket) (outcome : Outcome) (new : Ticket) : Type 0 where
+  pub position : ℕ
+  pub start : ℕ
+  pub point : ℕ
+  pub listed : new.calls ≡ old.calls ++ listing (lane_of_key layout (key_of operation)) position (made old.caller start point operation outcome) new.sight.seen ∷ []
+  pub started : old.sight.seen < start
+  pub acted : start < point
+  pub ended : IsEnd point new.sight.seen
+
+-- the same caller at the same clock
+pub record KeepsTie (old new : Ticket) : Type 0 where
+  pub caller : new.caller ≡ old.caller
+  pub clock : new.sight.clock ≡ old.sight.clock
+
+-- when each refusal of an opening comes; the first that applies is answered
+abbrev pub ExplainsOpening : {D : Type 0} → ℕ → (D → ℕ) → Config → List D → ℕ → OpenCacheFault → Type 0
+ExplainsOpening size pages config devices callers (ConfigFault field) = first_faulty config ≡ Some field
+ExplainsOpening size pages config devices callers NoCallers = (first_faulty config ≡ None) × (callers ≡ 0)
+ExplainsOpening size pages config devices callers DeviceCount =
+    (first_faulty config ≡ None) × (0 < callers) × (length devices ≢ config.lanes)
+ExplainsOpening size pages config devices callers WrongPage =
+    (first_faulty config ≡ None) × (0 < callers) × (length devices ≡ config.lanes) × (¬ IsPageSize size)
+ExplainsOpening size pages config devices callers DeviceTooSmall =
+    (first_faulty config ≡ None) × (0 < callers) × (length devices ≡ config.lanes) × IsPageSize size × Any (λ d. IsTooSmall config (pages d)) devices
+ExplainsOpening size pages config devices callers OutOfMemory = Unit {0}

@@ -1,0 +1,431 @@
+// What a lane's lock keeps, and what a caller carries. Nothing outside this file lists a call in a pass, or has a book
+// record one.
+ghost use Rattle.std.specs.Prelude.{◌≡◌, ◌≢◌, ◌↔◌, ◌+◌, ◌<◌, ◌≤◌, ◌^◌, ◌++◌, ◌∷◌, [], All, IfOk, IfErr, OnOk, OnErr, IsTrue, Some, ◌⊎◌, length, map, max, option_copied, slice_set};
+ghost use Rattle.std.specs.Vec.{vec_capacity};
+ghost use Rattle.record_pages.specs.Asked.{HasNumbersOf};
+ghost use Rattle.page_device.specs.Device.{faults_after};
+ghost use Rattle.klog.specs.Flush.{is_page_lost, FlushGives};
+ghost use Rattle.mover.specs.Store.{opening};
+ghost use Rattle.mover.specs.Lane.{lane_of};
+ghost use Rattle.mover.specs.Flush.{LaneFlushes};
+ghost use Rattle.history_recorder.specs.Lane.{IsOfLane, last_point, max_calls};
+ghost use Rattle.history_recorder.specs.Operations.{key_of, lane_of_key};
+ghost use Rattle.history_recorder.specs.Points.{noted_in};
+ghost use Rattle.shared_cache.specs.Passes.{former, with_end, IsTimely, new_ticket, most_lanes};
+ghost use Rattle.shared_cache.specs.Finished.{IsOver};
+ghost use Rattle.shared_cache.specs.Acts.{ActGives, ActLeaves, Explains, IsBook, IsFitting, Stands, listing, made};
+
+use crate::act_fault::ActFault;
+use crate::acted::Acted;
+use crate::boxed::Boxed;
+use crate::clock::{Clock, ClockSeat};
+use crate::clock_full::ClockFull;
+use crate::comparing::is_recorded_as;
+use crate::copying::copy_of;
+use crate::listed::Listed;
+use crate::performing::perform;
+use history_recorder::{MAX_CALLS, Operation, RecordedLane, RecordedParts};
+use klog::Flushed;
+use page_device::PageDevice;
+use record_pages::Config;
+use std::alloc::{AllocError, Global};
+use std::marker::Model;
+
+/// The most lanes of a cache.
+pub(crate) const MAX_LANES: usize = 16;
+
+/// The right of one caller to make calls, one at a time, with a list of those that it made.
+///
+/// It has a seat at the clock of its cache, so a call starts above all that the pass has seen, and the pass has seen
+/// the call's end once it returns.
+#[derive(Drop)]
+pub struct Pass {
+    caller: u16,
+    seat: ClockSeat,
+    calls: Vec<Listed>,
+    // For each lane the place in the list of its last call.
+    former: [Option<usize>; MAX_LANES],
+}
+
+impl Model for Pass {
+    ghost use Rattle.shared_cache.specs.Passes.{Ticket, IsPass};
+
+    ghost Value = { Ticket };
+
+    ghost view = { λ p. record { caller = p.caller; sight = p.seat; calls = p.calls.items } };
+
+    ghost invariant = { λ p. IsPass p.seat.seen p.calls.items p.former };
+}
+
+impl Pass {
+    /// The pass of a caller that has made no call.
+    pub(crate) fn new(alloc: Global, caller: u16, seat: ClockSeat) -> Pass
+        ensures { result ≡ new_ticket caller seat }
+    {
+        Pass {
+            caller,
+            seat,
+            calls: Vec::new(alloc),
+            former: [None; MAX_LANES],
+        }
+    }
+
+    /// The number of its caller, counted from 0.
+    pub fn caller(&self) -> u16
+        ensures { result ≡ self.now.caller }
+    {
+        self.caller
+    }
+
+    /// How many calls it lists.
+    pub fn len(&self) -> usize
+        ensures count { result ≡ length self.now.calls }
+        ensures timely { All (IsTimely self.now.sight.seen) self.now.calls }
+    {
+        self.calls.len()
+    }
+
+    /// Whether it lists no call.
+    pub fn is_empty(&self) -> bool
+        ensures { IsTrue result ↔ (self.now.calls ≡ []) }
+    {
+        self.calls.is_empty()
+    }
+
+    /// The greatest stamp that it has seen. After a call that succeeded, that is the call's end.
+    pub fn seen(&self) -> u64
+        ensures seen { result ≡ self.now.sight.seen }
+        ensures within { result < 2 ^ 63 }
+    {
+        self.seat.seen()
+    }
+
+    /// Has seen a stamp that its caller was told of, so that the next call starts above it: each call that ended at or
+    /// before that stamp precedes the next one. It takes no step of the clock. A stamp past the last one, `LAST_STAMP`,
+    /// is refused with `ClockFull`, and changes nothing.
+    pub fn meet(&mut self, stamp: u64) -> Result<(), ClockFull>
+        ensures met { OnOk result ((stamp < 2 ^ 63)
+            × (self.new.sight.seen ≡ max stamp self.old.sight.seen)) }
+        ensures full { OnErr result ((2 ^ 63 ≤ stamp) × (self.new ≡ self.old)) }
+        ensures calls { self.new.calls ≡ self.old.calls }
+        ensures same { (self.new.caller ≡ self.old.caller)
+            × (self.new.sight.clock ≡ self.old.sight.clock) }
+    {
+        self.seat.meet(stamp)
+    }
+
+    /// Draws the start of a call.
+    pub(crate) fn start(&mut self, clock: &Clock) -> Result<u64, ClockFull>
+        requires { self.old.sight.clock ≡ clock.now }
+        ensures start { IfOk result (λ start. (self.old.sight.seen < start)
+            × (self.new.sight.seen ≡ start)) }
+        ensures full { OnErr result (self.new.sight.seen + 1 ≡ 2 ^ 63) }
+        ensures grows { self.old.sight.seen ≤ self.new.sight.seen }
+        ensures calls { self.new.calls ≡ self.old.calls }
+        ensures same { (self.new.caller ≡ self.old.caller)
+            × (self.new.sight.clock ≡ self.old.sight.clock) }
+    {
+        clock.tick(&mut self.seat)
+    }
+
+    /// Draws the end of the call that was listed last: a stamp above its point, or the last one where the clock is full.
+    pub(crate) fn end(&mut self, clock: &Clock)
+        requires { self.old.sight.clock ≡ clock.now }
+        ensures calls { self.new.calls ≡ with_end self.new.sight.seen self.old.calls }
+        ensures grows { self.old.sight.seen ≤ self.new.sight.seen }
+        ensures later { self.new.sight.seen + 1 ≢ 2 ^ 63 → self.old.sight.seen < self.new.sight.seen }
+        ensures same { (self.new.caller ≡ self.old.caller)
+            × (self.new.sight.clock ≡ self.old.sight.clock) }
+    {
+        let end = self.draw_end(clock);
+        set_end(&mut self.calls, end);
+    }
+
+    /// The calls that it lists, each of which ends at its point or later.
+    pub(crate) fn into_calls(self) -> Vec<Listed>
+        ensures calls { result.items ≡ self.calls }
+        ensures ended { All (λ l. l.call.point ≤ l.end) self.calls }
+    {
+        let Pass {
+            caller: _,
+            seat: _,
+            calls,
+            former: _,
+        } = self;
+        calls
+    }
+
+    /// Draws a stamp, or takes the last one where the clock is full.
+    fn draw_end(&mut self, clock: &Clock) -> u64
+        requires { self.old.sight.clock ≡ clock.now }
+        ensures end { (result ≡ self.new.sight.seen) × (self.old.sight.seen ≤ result) }
+        ensures later { result + 1 ≢ 2 ^ 63 → self.old.sight.seen < result }
+        ensures calls { self.new.calls ≡ self.old.calls }
+        ensures same { (self.new.caller ≡ self.old.caller)
+            × (self.new.sight.clock ≡ self.old.sight.clock) }
+    {
+        match clock.tick(&mut self.seat) {
+            Ok(end) => end,
+            Err(ClockFull) => self.seat.seen(),
+        }
+    }
+
+    /// Draws the point of a call, above all that it has seen and above another stamp.
+    fn draw_point(&mut self, clock: &Clock, after: u64) -> Result<u64, ClockFull>
+        requires clock { self.old.sight.clock ≡ clock.now }
+        requires after { after < 2 ^ 63 }
+        ensures point { IfOk result (λ point. (after < point) × (self.old.sight.seen < point)
+            × (self.new.sight.seen ≡ point) × (point < 2 ^ 63)) }
+        ensures full { OnErr result (self.new.sight.seen + 1 ≡ 2 ^ 63) }
+        ensures grows { self.old.sight.seen ≤ self.new.sight.seen }
+        ensures calls { self.new.calls ≡ self.old.calls }
+        ensures same { (self.new.caller ≡ self.old.caller)
+            × (self.new.sight.clock ≡ self.old.sight.clock) }
+    {
+        clock.observe(&mut self.seat, after);
+        clock.tick(&mut self.seat)
+    }
+
+    /// The last call that it lists of a lane. It takes one step.
+    fn former(&self, lane: u32) -> Option<&Listed>
+        requires { lane < most_lanes }
+        ensures { option_copied result ≡ former lane self.now.calls }
+    {
+        match self.former[lane as usize] {
+            Some(place) => Some(&self.calls[place]),
+            None => None,
+        }
+    }
+}
+
+/// What the lock of a lane keeps: the lane with its record. Contracts see the recorded lane.
+#[derive(Drop)]
+pub struct LaneBook<D: PageDevice<PAGE>, const PAGE: usize> {
+    alloc: Global,
+    recorded: RecordedLane<Boxed<D>, PAGE>,
+}
+
+impl<D: PageDevice<PAGE>, const PAGE: usize> Model for LaneBook<D, PAGE> {
+    ghost use Rattle.std.specs.Coded.{codes};
+    ghost use Rattle.kset.specs.Sets.{sets_code};
+    ghost use Rattle.history_recorder.specs.Lane.{Lane};
+    ghost use Rattle.shared_cache.specs.Acts.{IsBook};
+
+    ghost Value = { Lane D };
+
+    ghost coded = { Prim.hlevel (codes, sets_code) };
+
+    ghost view = { λ b. b.recorded };
+
+    ghost invariant = { λ b. IsBook b.recorded };
+}
+
+impl<D: PageDevice<PAGE>, const PAGE: usize> LaneBook<D, PAGE> {
+    /// The empty book of a lane over a device, or `AllocError` where it was not opened.
+    pub(crate) fn new(
+        alloc: Global,
+        config: &Config,
+        lane: u32,
+        device: D,
+    ) -> Result<LaneBook<D, PAGE>, AllocError>
+        requires { lane < config.now.lanes }
+        ensures { IfOk result (λ book. HasNumbersOf book.store.layout config.now
+            × (book ≡ record {
+              store = opening book.store.layout device;
+              lane = lane;
+              calls = [];
+            })) }
+    {
+        let boxed = Boxed::new(alloc, device)?;
+        let Ok(recorded) = RecordedLane::open(alloc, config, lane, boxed) else {
+            return Err(AllocError);
+        };
+        Ok(LaneBook { alloc, recorded })
+    }
+
+    /// The number of its lane.
+    pub fn lane(&self) -> u32
+        ensures number { result ≡ self.now.lane }
+        ensures below { result < self.now.store.layout.lanes }
+    {
+        self.recorded.lane()
+    }
+
+    /// The configuration that its lane was opened with.
+    pub fn config(&self) -> Config
+        ensures { HasNumbersOf self.now.store.layout result }
+    {
+        self.recorded.config()
+    }
+
+    /// Whether it is of the lane with this number, and of this configuration.
+    pub(crate) fn is_of(&self, lane: u32, config: &Config) -> bool
+        ensures { IsTrue result →
+            ((self.now.lane ≡ lane) × HasNumbersOf self.now.store.layout config.now) }
+    {
+        let own = self.config();
+        self.recorded.lane() == lane && own == *config
+    }
+
+    /// The point of its last call, or 0 before the first.
+    fn last_point(&self) -> u64
+        ensures greatest { All (λ n. n.point ≤ result) self.now.calls }
+        ensures within { result < 2 ^ 63 }
+    {
+        self.recorded.last_point()
+    }
+
+    /// All that a call does while it holds the lock of its lane: it makes sure that the pass's former call of this lane
+    /// still stands where it was recorded, draws the call's point, has the lane answer and record it, and lists it in the
+    /// pass with its position and, until its end is drawn, its point for its end.
+    ///
+    /// A refused call is not recorded and not listed. `HistoryLost`, `HistoryFull` and `ClockFull` leave the book as it
+    /// was, and so does `OutOfMemory` of a put or a removal; of a get it may come behind the answer, when the pair has
+    /// come to the front of memory, its prediction is one less, or its slot is hit.
+    pub fn act(
+        &mut self,
+        clock: &Clock,
+        pass: &mut Pass,
+        start: u64,
+        operation: Operation,
+    ) -> Result<Acted, ActFault>
+        requires clock { pass.old.sight.clock ≡ clock.now }
+        requires start { start ≤ pass.old.sight.seen }
+        requires own { IsOfLane self.old.store.layout self.old.lane (key_of operation) }
+        requires fits { IsFitting PAGE operation }
+
+        // One call more in the book, last, and its step of the store.
+        ensures recorded { IfOk result (λ acted. self.new ≡ record self.old {
+          store = self.new.store;
+          calls = self.old.calls ++ made pass.old.caller start acted.point operation acted.outcome ∷ [];
+        }) }
+        ensures gives { IfOk result (λ acted. ActGives D.honest D.failures D.held PAGE operation
+            self.old.store acted.outcome self.new.store) }
+
+        // One call more in the pass, last, with its position in the book.
+        ensures listed { IfOk result (λ acted. pass.new.calls ≡ pass.old.calls
+            ++ listing self.old.lane (length self.old.calls)
+            (made pass.old.caller start acted.point operation acted.outcome) acted.point ∷ []) }
+        ensures point { IfOk result (λ acted. (pass.old.sight.seen < acted.point)
+            × All (λ n. n.point < acted.point) self.old.calls
+            × (pass.new.sight.seen ≡ acted.point)) }
+        ensures same { (pass.new.caller ≡ pass.old.caller)
+            × (pass.new.sight.clock ≡ pass.old.sight.clock) }
+
+        // When it is refused, and what that leaves.
+        ensures stands { OnOk result (Stands self.old pass.old
+            × (length self.old.calls < max_calls)) }
+        ensures refused { IfErr result (Explains self.old pass.old pass.new.sight.seen) }
+        ensures unlisted { OnErr result (pass.new.calls ≡ pass.old.calls) }
+        ensures unrecorded { OnErr result (self.new ≡ record self.old { store = self.new.store }) }
+        ensures kept { IfErr result (λ fault. fault ≢ ActFault.OutOfMemory → self.new ≡ self.old) }
+        ensures out_of_memory { OnErr result ((self.new.store ≡ self.old.store)
+            ⊎ ActLeaves D.honest D.failures D.held PAGE operation self.old.store self.new.store) }
+    {
+        self.check(pass)?;
+        let position = self.recorded.len();
+        if position >= MAX_CALLS {
+            return Err(ActFault::HistoryFull);
+        }
+        let Ok(point) = pass.draw_point(clock, self.last_point()) else {
+            return Err(ActFault::ClockFull);
+        };
+        let lane = self.recorded.lane();
+        pass.calls.reserve(1)?;
+        let done = perform(&mut self.recorded, pass.caller, start, point, operation)?;
+        let listed = Listed {
+            lane,
+            position,
+            call: done.noted,
+            end: point,
+        };
+        list(&mut pass.calls, &mut pass.former, listed);
+        Ok(Acted {
+            outcome: done.outcome,
+            point,
+        })
+    }
+
+    /// Whether the pass's former call of this lane stands at its position. `HistoryLost` has a copy of what stands there
+    /// else, and is `OutOfMemory` where that copy is refused.
+    fn check(&self, pass: &Pass) -> Result<(), ActFault>
+        ensures stands { OnOk result (Stands self.now pass.now) }
+        ensures refused { IfErr result (λ fault. Explains self.now pass.now 0 fault
+            × (fault ≢ ActFault.ClockFull) × (fault ≢ ActFault.HistoryFull)) }
+    {
+        let Some(listed) = pass.former(self.recorded.lane()) else {
+            return Ok(());
+        };
+        let position = listed.position;
+        if position >= self.recorded.len() {
+            return Err(ActFault::HistoryLost {
+                position,
+                found: None,
+            });
+        }
+        let recorded = self.recorded.at(position);
+        if is_recorded_as(&listed.call, &recorded) {
+            return Ok(());
+        }
+        let found = copy_of(self.alloc, &recorded)?;
+        Err(ActFault::HistoryLost {
+            position,
+            found: Some(found),
+        })
+    }
+
+    /// One step of flushing the log of its lane. No call is recorded, and no memory taken.
+    pub fn flush(&mut self) -> Flushed
+        ensures unrecorded { self.new ≡ record self.old { store = self.new.store } }
+        ensures layout { self.new.store.layout ≡ self.old.store.layout }
+        ensures honest { D.honest self.new.store.device ≡ D.honest self.old.store.device }
+        ensures faults { D.failures self.new.store.device
+            ≡ faults_after (D.failures self.old.store.device) (is_page_lost result) }
+        ensures rest { self.new.store ≡ record self.old.store {
+          device = self.new.store.device;
+          log = self.new.store.log;
+        } }
+        ensures flushes { FlushGives self.old.store.log result self.new.store.log }
+        ensures gives { IsTrue (D.honest self.old.store.device) →
+            LaneFlushes (lane_of D.held self.old.store) result (lane_of D.held self.new.store) }
+    {
+        self.recorded.flush_step()
+    }
+
+    /// The calls of a lane that is over, each of which ends at its point, and its device.
+    pub(crate) fn into_parts(self) -> RecordedParts<D>
+        ensures { IsOver D.honest (lane_of_key self.store.layout) self.lane
+            (map noted_in result.calls) result.device }
+    {
+        let _count = self.recorded.len();
+        let RecordedParts { calls, device } = self.recorded.into_parts();
+        RecordedParts {
+            calls,
+            device: device.into_inner(),
+        }
+    }
+}
+
+/// Lists a call for which there is room, and notes its place as that of the lane's last call.
+fn list(calls: &mut Vec<Listed>, former: &mut [Option<usize>; MAX_LANES], call: Listed)
+    requires lane { call.lane < most_lanes }
+    requires room { length calls.old.items < vec_capacity calls.old }
+    ensures calls { calls.new.items ≡ calls.old.items ++ call ∷ [] }
+    ensures former { former.new ≡ slice_set former.old call.lane (Some (length calls.old.items)) }
+{
+    let lane = call.lane as usize;
+    former[lane] = Some(calls.len());
+    calls.push_reserved(call);
+}
+
+/// Gives the last call, if there is one, this end.
+#[tactic(auto, using(crate::proofs::Passing::with_end_set))]
+fn set_end(calls: &mut Vec<Listed>, end: u64)
+    ensures { calls.new.items ≡ with_end end calls.old.items }
+{
+    let count = calls.len();
+    if count > 0 {
+        let last = &mut calls[count - 1];
+        last.end = end;
+    }
+}

@@ -1,0 +1,301 @@
+// A cache that threads share.
+ghost use Rattle.std.specs.Prelude.{◌≡◌, ◌≢◌, ◌↔◌, ◌+◌, ◌^◌, ◌<◌, ◌≤◌, ℕ, All, Any, Err, None, IfErr, IfOk, IsTrue, OnOk, OnErr, IsErrOf, length, slice_index_or};
+ghost use Rattle.record_pages.specs.Asked.{HasNumbersOf};
+ghost use Rattle.record_pages.specs.Sizes.{IsPageSize, object_size, room};
+ghost use Rattle.record_pages.specs.Table.{first_faulty};
+ghost use Rattle.mover.specs.Store.{IsTooSmall};
+ghost use Rattle.certificate_checker.specs.Acceptance.{IsAccepted};
+ghost use Rattle.history_recorder.specs.declared.operation.Operation.{Operation};
+ghost use Rattle.shared_cache.specs.declared.outcome.Outcome.{Outcome};
+ghost use Rattle.shared_cache.specs.Acts.{IsFitting, Suits};
+ghost use Rattle.shared_cache.specs.Caches.{ExplainsOpening, IsMade, KeepsTie};
+ghost use Rattle.shared_cache.specs.Finished.{IsFinished, IsLeastMissing};
+ghost use Rattle.shared_cache.specs.Passes.{Ticket, new_ticket};
+ghost use Rattle.shared_cache.specs.Stamps.{new_sight};
+
+use crate::act_fault::ActFault;
+use crate::books::{LaneBook, Pass};
+use crate::call_fault::CallFault;
+use crate::claims::missing;
+use crate::clock::Clock;
+use crate::ending::{ended_lanes, take_apart};
+use crate::finish_fault::FinishFault;
+use crate::finished::Finished;
+use crate::open_cache_fault::OpenCacheFault;
+use crate::opening::{books_of, is_one_too_small, passes_of};
+use crate::outcome::Outcome;
+use history_recorder::{Operation, lay_out};
+use klog::Flushed;
+use page_device::PageDevice;
+use record_pages::{Answer, Config, Key, Layout, Pushed, Value, is_too_large};
+use set_hash::place;
+use std::alloc::{AllocError, Global};
+use std::marker::Model;
+use std::sync::{Mutex, Wait};
+
+/// A cache that threads share: its lanes, each under a lock of its own, and their clock.
+#[derive(Drop)]
+pub struct SharedCache<D: PageDevice<PAGE>, const PAGE: usize> {
+    alloc: Global,
+    config: Config,
+    layout: Layout,
+    callers: u16,
+    clock: Clock,
+    books: Vec<Mutex<LaneBook<D, PAGE>>>,
+}
+
+impl<D: PageDevice<PAGE>, const PAGE: usize> Model for SharedCache<D, PAGE> {
+    ghost use Rattle.std.specs.Prelude.{length};
+    ghost use Rattle.shared_cache.specs.Caches.{Cache, IsCache};
+
+    ghost Value = { Cache };
+
+    ghost view = { λ c. record { clock = c.clock; layout = c.layout; callers = c.callers } };
+
+    ghost invariant = { λ c. IsCache c.layout c.config (length c.books.items) };
+}
+
+impl<D: PageDevice<PAGE>, const PAGE: usize> SharedCache<D, PAGE> {
+    /// A cache of this configuration with empty lanes, one over each device, and a pass for each caller, numbered from 0.
+    /// Its refusals are tested in the order of `OpenCacheFault`.
+    pub fn open(
+        alloc: Global,
+        config: &Config,
+        devices: Vec<D>,
+        callers: u16,
+    ) -> Result<(Self, Vec<Pass>), OpenCacheFault>
+        ensures numbers { IfOk result (λ opened. HasNumbersOf opened.0.layout config.now
+            × (opened.0.callers ≡ callers)) }
+        ensures many { IfOk result (λ opened. length opened.1.items ≡ callers) }
+        ensures passes { IfOk result (λ opened. (caller : ℕ) (d : Ticket) → caller < callers →
+            slice_index_or opened.1.items caller d
+            ≡ new_ticket caller (new_sight opened.0.clock)) }
+        ensures serves { OnOk result ((first_faulty config.now ≡ None) × (0 < callers)
+            × (length devices.items ≡ config.now.lanes) × IsPageSize PAGE
+            × (Any (λ d. IsTooSmall config.now (D.page_count d)) devices.items → ⊥)) }
+        ensures refused { IfErr result
+            (ExplainsOpening PAGE D.page_count config.now devices.items callers) }
+    {
+        let layout = match config.check() {
+            Ok(layout) => layout,
+            Err(fault) => return Err(OpenCacheFault::ConfigFault(fault.field)),
+        };
+        if callers == 0 {
+            return Err(OpenCacheFault::NoCallers);
+        }
+        if devices.len() != layout.lanes as usize {
+            return Err(OpenCacheFault::DeviceCount);
+        }
+        if PAGE < 256 || PAGE > 4096 {
+            return Err(OpenCacheFault::WrongPage);
+        }
+        let pages = layout.sets + layout.segments * layout.segment_pages;
+        if is_one_too_small(pages, devices.as_slice()) {
+            return Err(OpenCacheFault::DeviceTooSmall);
+        }
+        let Ok(opened) = Self::made(alloc, config, layout, devices, callers) else {
+            return Err(OpenCacheFault::OutOfMemory);
+        };
+        Ok(opened)
+    }
+
+    /// A cache and its passes, once nothing but memory can be refused.
+    fn made(
+        alloc: Global,
+        config: &Config,
+        layout: Layout,
+        devices: Vec<D>,
+        callers: u16,
+    ) -> Result<(Self, Vec<Pass>), AllocError>
+        requires numbers { HasNumbersOf layout config.now }
+        requires callers { 0 < callers }
+        requires devices { length devices.items ≡ layout.lanes }
+        ensures numbers { IfOk result (λ opened. (opened.0.layout ≡ layout)
+            × (opened.0.callers ≡ callers)) }
+        ensures many { IfOk result (λ opened. length opened.1.items ≡ callers) }
+        ensures passes { IfOk result (λ opened. (caller : ℕ) (d : Ticket) → caller < callers →
+            slice_index_or opened.1.items caller d
+            ≡ new_ticket caller (new_sight opened.0.clock)) }
+    {
+        let (clock, seats) = Clock::new(alloc, callers)?;
+        let passes = passes_of(alloc, &clock, callers, seats)?;
+        let books = books_of(alloc, config, devices)?;
+        let cache = SharedCache {
+            alloc,
+            config: *config,
+            layout,
+            callers,
+            clock,
+            books,
+        };
+        Ok((cache, passes))
+    }
+
+    /// Looks a key up. The refusals are those of `CallFault` but `TooLarge`.
+    ///
+    /// A refused get is not recorded. Where memory was refused behind the answer, the key's pair has come to the front
+    /// of memory, or its prediction is one less, or its slot is hit.
+    pub fn get<R: Wait>(&self, rt: &R, pass: &mut Pass, key: &Key) -> Result<Answer, CallFault>
+        requires { pass.old.sight.clock ≡ self.now.clock }
+        ensures made { IfOk result (λ answer.
+            IsMade self.now.layout (Operation.Get key.now) pass.old (Outcome.Got answer) pass.new) }
+        ensures refused { OnErr result (pass.new.calls ≡ pass.old.calls) }
+        ensures full { result ≡ Err CallFault.ClockFull → pass.new.sight.seen + 1 ≡ 2 ^ 63 }
+        ensures small { result ≢ Err CallFault.TooLarge }
+        ensures tie { KeepsTie pass.old pass.new }
+    {
+        let Ok(key) = key.try_clone() else {
+            return Err(CallFault::OutOfMemory);
+        };
+        match self.call(rt, pass, Operation::Get(key)) {
+            Ok(Outcome::Got(answer)) => Ok(answer),
+            Ok(_) => unreachable!(),
+            Err(fault) => Err(fault),
+        }
+    }
+
+    /// Puts a value. A refused put leaves the lane as it was, so an older value of the key stays.
+    pub fn put<R: Wait>(
+        &self,
+        rt: &R,
+        pass: &mut Pass,
+        key: Key,
+        value: Value,
+        word: u32,
+    ) -> Result<Pushed, CallFault>
+        requires { pass.old.sight.clock ≡ self.now.clock }
+        ensures made { IfOk result (λ pushed. IsMade self.now.layout
+            (Operation.Put key value word) pass.old (Outcome.Stored pushed) pass.new) }
+        ensures large { IsErrOf result CallFault.TooLarge ↔ (room PAGE < object_size key value) }
+        ensures refused { OnErr result (pass.new.calls ≡ pass.old.calls) }
+        ensures full { result ≡ Err CallFault.ClockFull → pass.new.sight.seen + 1 ≡ 2 ^ 63 }
+        ensures tie { KeepsTie pass.old pass.new }
+    {
+        if is_too_large::<PAGE>(&key, &value) {
+            return Err(CallFault::TooLarge);
+        }
+        match self.call(rt, pass, Operation::Put(key, value, word)) {
+            Ok(Outcome::Stored(pushed)) => Ok(pushed),
+            Ok(_) => unreachable!(),
+            Err(fault) => Err(fault),
+        }
+    }
+
+    /// Removes a key. A refused removal leaves the lane as it was. The refusals are those of `CallFault` but `TooLarge`.
+    pub fn remove<R: Wait>(&self, rt: &R, pass: &mut Pass, key: &Key) -> Result<(), CallFault>
+        requires { pass.old.sight.clock ≡ self.now.clock }
+        ensures made { OnOk result (IsMade self.now.layout
+            (Operation.Remove key.now) pass.old Outcome.Removed pass.new) }
+        ensures refused { OnErr result (pass.new.calls ≡ pass.old.calls) }
+        ensures full { result ≡ Err CallFault.ClockFull → pass.new.sight.seen + 1 ≡ 2 ^ 63 }
+        ensures small { result ≢ Err CallFault.TooLarge }
+        ensures tie { KeepsTie pass.old pass.new }
+    {
+        let Ok(key) = key.try_clone() else {
+            return Err(CallFault::OutOfMemory);
+        };
+        match self.call(rt, pass, Operation::Remove(key)) {
+            Ok(Outcome::Removed) => Ok(()),
+            Ok(_) => unreachable!(),
+            Err(fault) => Err(fault),
+        }
+    }
+
+    /// One step of flushing a lane's log, in one hold of its lock.
+    pub fn flush_round<R: Wait>(&self, rt: &R, lane: u32) -> Flushed
+        requires { lane < self.now.layout.lanes }
+    {
+        let mut guard = self.books[lane as usize].lock(rt);
+        let book = &mut *guard;
+        book.flush()
+    }
+
+    /// Ends the cache: lays its lanes' calls out as one history, with the ends that the passes list and the certificate
+    /// that lists the calls by point and lane, and hands the devices back.
+    ///
+    /// Where the devices are honest the checker accepts the pair. The refusals are those of `FinishFault`, in its order.
+    pub fn finish(self, passes: Vec<Pass>) -> Result<Finished<D>, FinishFault>
+        ensures missing { (caller : ℕ) → (result ≡ Err (FinishFault.MissingPass caller))
+            ↔ IsLeastMissing self.callers passes.items caller }
+        ensures finished { IfOk result (λ finished.
+            IsFinished self.layout.lanes passes.items finished.history finished.certificate) }
+        ensures accepted { IfOk result (λ finished. All (λ d. IsTrue (D.honest d)) finished.devices.items
+            → IsAccepted finished.history finished.certificate) }
+        ensures devices { IfOk result (λ finished. length finished.devices.items ≡ self.layout.lanes) }
+    {
+        let SharedCache {
+            alloc,
+            config,
+            layout: _,
+            callers,
+            clock: _,
+            books,
+        } = self;
+        if let Some(caller) = missing(callers, passes.as_slice()) {
+            return Err(FinishFault::MissingPass { caller });
+        }
+        let (claims, devices) = take_apart(alloc, &config, books)?;
+        let lanes = ended_lanes(alloc, claims, passes)?;
+        let Ok((history, certificate)) = lay_out(alloc, lanes) else {
+            return Err(FinishFault::OutOfMemory);
+        };
+        Ok(Finished {
+            history,
+            certificate,
+            devices,
+        })
+    }
+
+    /// A whole call: its start, one act in one hold of the lock of its lane, and its end.
+    fn call<R: Wait>(
+        &self,
+        rt: &R,
+        pass: &mut Pass,
+        operation: Operation,
+    ) -> Result<Outcome, CallFault>
+        requires clock { pass.old.sight.clock ≡ self.now.clock }
+        requires fits { IsFitting PAGE operation }
+        ensures made { IfOk result (λ outcome.
+            IsMade self.now.layout operation pass.old outcome pass.new) }
+        ensures suits { IfOk result (Suits operation) }
+        ensures refused { OnErr result (pass.new.calls ≡ pass.old.calls) }
+        ensures full { result ≡ Err CallFault.ClockFull → pass.new.sight.seen + 1 ≡ 2 ^ 63 }
+        ensures small { result ≢ Err CallFault.TooLarge }
+        ensures tie { KeepsTie pass.old pass.new }
+    {
+        let Ok(start) = pass.start(&self.clock) else {
+            return Err(CallFault::ClockFull);
+        };
+        let lane = place(&self.layout, operation.key().bytes()).lane;
+        let mut guard = self.books[lane as usize].lock(rt);
+        let book = &mut *guard;
+        if !book.is_of(lane, &self.config) {
+            return Err(CallFault::WrongLane);
+        }
+        match book.act(&self.clock, pass, start, operation) {
+            Ok(acted) => {
+                drop(guard);
+                pass.end(&self.clock);
+                Ok(acted.outcome)
+            }
+            Err(fault) => Err(refused(fault, lane)),
+        }
+    }
+}
+
+/// The refusal of a call whose act was refused in this lane.
+fn refused(fault: ActFault, lane: u32) -> CallFault
+    ensures full { result ≡ CallFault.ClockFull → fault ≡ ActFault.ClockFull }
+    ensures small { result ≢ CallFault.TooLarge }
+{
+    match fault {
+        ActFault::OutOfMemory => CallFault::OutOfMemory,
+        ActFault::ClockFull => CallFault::ClockFull,
+        ActFault::HistoryFull => CallFault::HistoryFull,
+        ActFault::HistoryLost { position, found } => CallFault::HistoryLost {
+            lane,
+            position,
+            found,
+        },
+    }
+}

@@ -1,0 +1,121 @@
+// The calls of all lanes, while the passes claim them.
+ghost use Rattle.std.specs.Prelude.{◌≡◌, ◌≢◌, ◌↔◌, ℕ, ◌≤◌, ◌<◌, ◌+◌, All, IfOk, OnOk, IfErr, IfSome, IfNone, Err, length, map, sum_by, true};
+ghost use Rattle.certificate_checker.specs.declared.done.Done.{Done};
+ghost use Rattle.certificate_checker.specs.Lanes.{Stamped, stamped};
+ghost use Rattle.shared_cache.specs.Passes.{IsTimely, most_lanes};
+ghost use Rattle.shared_cache.specs.Finished.{IsEnded, noted_of, weigh_slots, weigh_lanes, weigh_calls, weigh_passes, recorded_in, recorded_of, has_pass, IsLeastMissing};
+
+use crate::books::Pass;
+use crate::finish_fault::FinishFault;
+use crate::lane_claims::{LaneClaims, Unready};
+use crate::listed::Listed;
+use history_recorder::Dones;
+use std::alloc::Global;
+use std::collections::VecDeque;
+
+/// The least of so many callers that has no pass. It is quick where each pass stands at its caller's number.
+pub(crate) fn missing(callers: u16, passes: &[Pass]) -> Option<u16>
+    ensures some { IfSome result (λ caller. IsLeastMissing callers passes.now caller) }
+    ensures none { IfNone result
+        ((caller : ℕ) → caller < callers → has_pass passes.now caller ≡ true) }
+{
+    for caller in 0..callers {
+        if !has(passes, caller) {
+            return Some(caller);
+        }
+    }
+    None
+}
+
+/// Whether a pass of the caller is there.
+fn has(passes: &[Pass], caller: u16) -> bool
+    ensures { result ≡ has_pass passes.now caller }
+{
+    let place = caller as usize;
+    if place < passes.len() && passes[place].caller() == caller {
+        return true;
+    }
+    passes.iter().any(|pass| pass.caller() == caller)
+}
+
+/// Claims the calls that passes list, in their order. The first that is not as it is listed is strange.
+pub(crate) fn claim_passes(
+    claims: &mut Vec<LaneClaims>,
+    passes: Vec<Pass>,
+) -> Result<(), FinishFault>
+    ensures claimed { OnOk result ((h : Stamped → ℕ) → weigh_lanes h 0 claims.new.items
+        ≡ weigh_lanes h 0 claims.old.items + weigh_passes h passes.items) }
+    ensures calls { OnOk result (recorded_in claims.new.items ≡ recorded_in claims.old.items) }
+    ensures has_all { (caller : ℕ) → result ≢ Err (FinishFault.MissingPass caller) }
+{
+    let mut left = VecDeque::from(passes);
+    while let Some(pass) = left.pop_front() {
+        let caller = pass.caller();
+        if let Err(call) = claim_calls(claims, pass.into_calls()) {
+            return Err(FinishFault::Strange { caller, call });
+        }
+    }
+    Ok(())
+}
+
+/// Claims listed calls, in their order. At `Err` the call at that place is not as it is listed.
+fn claim_calls(claims: &mut Vec<LaneClaims>, calls: Vec<Listed>) -> Result<(), usize>
+    requires { All (λ l. l.call.point ≤ l.end) calls.items }
+    ensures claimed { OnOk result ((h : Stamped → ℕ) → weigh_lanes h 0 claims.new.items
+        ≡ weigh_lanes h 0 claims.old.items + weigh_calls h calls.items) }
+    ensures calls { OnOk result (recorded_in claims.new.items ≡ recorded_in claims.old.items) }
+    ensures strange { IfErr result (λ place. place < length calls.items) }
+{
+    let mut left = VecDeque::from(calls);
+    let mut place = 0;
+    while let Some(listed) = left.pop_front() {
+        let lane = listed.lane as usize;
+        if lane >= claims.len() {
+            return Err(place);
+        }
+        let of_lane = &mut claims[lane];
+        if !of_lane.claim(listed) {
+            return Err(place);
+        }
+        place += 1;
+    }
+    Ok(())
+}
+
+/// The lanes' calls with their ends, if each call was claimed.
+pub(crate) fn close_claims(
+    alloc: Global,
+    claims: Vec<LaneClaims>,
+) -> Result<Vec<Dones>, FinishFault>
+    requires { length claims.items ≤ most_lanes }
+    ensures weighed { IfOk result (λ lanes. (h : Stamped → ℕ) →
+        sum_by h (stamped lanes.items) ≡ weigh_lanes h 0 claims.items) }
+    ensures calls { IfOk result (λ lanes. recorded_of lanes.items ≡ recorded_in claims.items) }
+    ensures ended { IfOk result (λ lanes. All (All IsEnded) lanes.items) }
+    ensures has_all { (caller : ℕ) → result ≢ Err (FinishFault.MissingPass caller) }
+{
+    let mut lanes = Vec::new(alloc);
+    let mut left = VecDeque::from(claims);
+    while let Some(of_lane) = left.pop_front() {
+        let dones = close_lane(alloc, lanes.len() as u32, of_lane)?;
+        let Ok(()) = lanes.push(dones) else {
+            return Err(FinishFault::OutOfMemory);
+        };
+    }
+    Ok(lanes)
+}
+
+/// The calls of a lane with their ends, if each was claimed.
+fn close_lane(alloc: Global, lane: u32, claims: LaneClaims) -> Result<Dones, FinishFault>
+    ensures weighed { IfOk result (λ dones. (h : Done → ℕ) →
+        sum_by h dones ≡ weigh_slots h claims.slots) }
+    ensures calls { IfOk result (λ dones. map noted_of dones ≡ claims.calls) }
+    ensures ended { IfOk result (All IsEnded) }
+    ensures has_all { (caller : ℕ) → result ≢ Err (FinishFault.MissingPass caller) }
+{
+    match claims.close(alloc) {
+        Ok(dones) => Ok(dones),
+        Err(Unready::OutOfMemory) => Err(FinishFault::OutOfMemory),
+        Err(Unready::Unclaimed { position }) => Err(FinishFault::Unlisted { lane, position }),
+    }
+}

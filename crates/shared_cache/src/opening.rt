@@ -1,0 +1,71 @@
+// The parts of a new cache.
+ghost use Rattle.std.specs.Prelude.{◌≡◌, ◌↔◌, ℕ, ◌<◌, ◌≤◌, All, Any, IfOk, IsTrue, length, slice_index_or};
+ghost use Rattle.shared_cache.specs.Stamps.{ClockId, new_sight};
+ghost use Rattle.shared_cache.specs.Passes.{Ticket, new_ticket};
+
+use crate::books::{LaneBook, Pass};
+use crate::clock::{Clock, ClockSeat};
+use page_device::PageDevice;
+use record_pages::Config;
+use std::alloc::{AllocError, Global};
+use std::collections::VecDeque;
+use std::sync::Mutex;
+
+/// A pass for each of so many callers, numbered from 0, each with one of the clock's new seats.
+pub(crate) fn passes_of(
+    alloc: Global,
+    clock: &Clock,
+    callers: u16,
+    seats: Vec<ClockSeat>,
+) -> Result<Vec<Pass>, AllocError>
+    requires many { length seats.items ≡ callers }
+    requires new { All (λ s. s ≡ new_sight clock.now) seats.items }
+    ensures many { IfOk result (λ passes. length passes.items ≡ callers) }
+    ensures new { IfOk result (λ passes. (caller : ℕ) (d : Ticket) → caller < callers →
+        slice_index_or passes.items caller d ≡ new_ticket caller (new_sight clock.now)) }
+{
+    let mut seats = seats;
+    let mut passes = Vec::with_capacity(alloc, usize::from(callers))?;
+    for caller in 0..callers {
+        let Some(seat) = seats.pop() else {
+            unreachable!()
+        };
+        passes.push(Pass::new(alloc, caller, seat))?;
+    }
+    Ok(passes)
+}
+
+/// An empty book for each lane, each under its lock.
+pub(crate) fn books_of<D: PageDevice<PAGE>, const PAGE: usize>(
+    alloc: Global,
+    config: &Config,
+    devices: Vec<D>,
+) -> Result<Vec<Mutex<LaneBook<D, PAGE>>>, AllocError>
+    requires { length devices.items ≡ config.now.lanes }
+    ensures { IfOk result (λ books. length books.items ≡ config.now.lanes) }
+{
+    let mut books = Vec::with_capacity(alloc, config.lanes as usize)?;
+    let mut devices = VecDeque::from(devices);
+    for lane in 0..config.lanes {
+        let Some(device) = devices.pop_front() else {
+            unreachable!()
+        };
+        books.push(Mutex::new(LaneBook::new(alloc, config, lane, device)?))?;
+    }
+    Ok(books)
+}
+
+/// Whether some device has fewer pages than this.
+pub(crate) fn is_one_too_small<D: PageDevice<PAGE>, const PAGE: usize>(
+    pages: u32,
+    devices: &[D],
+) -> bool
+    ensures { IsTrue result ↔ Any (λ d. D.page_count d < pages) devices.now }
+{
+    for device in devices {
+        if device.pages() < pages {
+            return true;
+        }
+    }
+    false
+}
