@@ -1,19 +1,23 @@
 -- What writes into a page leave there.
-use Rattle.std.proofs.Common.{◌≡◌, ℕ, ◌+◌, ◌-◌, ◌^◌, ◌<◌, ◌≤◌, List, [], ◌∷◌, ◌++◌, length, take, drop, replicate, get_or, Option, Some, true, refl, sym, ap, subst, ◌∙◌, append_assoc, arith}
-use Rattle.std.specs.Prelude.{is_some, IsTrue, All, nat_le}
+use Rattle.std.proofs.Common.{inl, inr, ◌≡◌, ℕ, suc, ◌+◌, ◌-◌, ◌*◌, ◌^◌, ◌<◌, ◌≤◌, List, [], ◌∷◌, ◌++◌, length, take, drop, replicate, get_or, Option, Some, true, refl, sym, ap, subst, ◌∙◌, append_assoc, arith}
+use Rattle.std.specs.Prelude.{is_some, IsTrue, All, nat_le, slice_get, slice_set}
 use Rattle.std.specs.Option.{option_map_or}
 use Rattle.std.specs.Int.{w16, to_be_bytes}
-use Rattle.std.proofs.lemmas.Bool.{and_parts, and_from, leb-true, le-leb}
-use Rattle.std.proofs.lemmas.List.{append-nil, take-append-drop, length-append, take_more}
+use Rattle.std.specs.List.{AllByRecursion}
+use Rattle.std.proofs.Math.Seq.{take-append_seam}
+use Rattle.std.proofs.lemmas.Grind.{get_or-set_at}
+use Rattle.std.proofs.lemmas.Bool.{cases_eq, and_parts, and_from, leb-true, le-leb}
+use Rattle.std.proofs.lemmas.List.{append-nil, take-append-drop, take-append-le, take_all, length-append, length-drop, take_more, get_or-set_other}
+use Rattle.std.proofs.lemmas.Option.{slice_get_cases}
 use Rattle.std.proofs.lemmas.List.Concat.{flat_map-append}
 use Rattle.std.proofs.lemmas.List.Elements.{All-nil, All-push, recursion_from_All}
-use Rattle.std.proofs.lemmas.List.Sums.{sum_by_push}
+use Rattle.std.proofs.lemmas.List.Sums.{sum_by-cons, sum_by_push}
 use Rattle.record_pages.specs.Sizes.{room}
 use Rattle.record_pages.specs.Recs.{Rec, IsRecord, size, sizes, fit}
 use Rattle.record_pages.specs.PageText.{record_text, records_text, body_text, padded_to, set_head, log_head, set_page_text, log_page_text, SpellsSetPage, SpellsLogPage}
-use Rattle.record_pages.specs.Reading.{records_at, records_of}
-use Rattle.record_pages.specs.Making.{HoldsRecords, IsInTheMaking}
-use Rattle.record_pages.proofs.RecordLaws.{records_again, length-records_text}
+use Rattle.record_pages.specs.Reading.{record_at, records_at, records_of}
+use Rattle.record_pages.specs.Making.{HoldsRecords, IsInTheMaking, AreStarts}
+use Rattle.record_pages.proofs.RecordLaws.{records_again, record_from, length-records_text}
 
 -- ---- records that fit
 
@@ -97,6 +101,51 @@ holds_push page bytes used count old r bytes' used' making shown is fits text en
       each = All-push IsRecord old r h.each is;
       fits = fits;
     }
+
+-- a record is read where it begins
+pub reads_from : (page : ℕ) (bytes : List ℕ) (used count : ℕ) (rs : List Rec) (slot start : ℕ) (r : Rec) → HoldsRecords page bytes used count rs → slice_get rs slot ≡ Some r → start ≡ sizes (take slot rs) → record_at (drop start bytes) ≡ Some (r, records_text (drop (suc slot) rs) ++ drop used bytes)
+reads_from page bytes used count rs slot start r h at start_is =
+    ap (λ (n : ℕ). record_at (drop n bytes)) start_is
+    ∙ ap (λ (t : List ℕ). record_at (drop (sizes (take slot rs)) t)) (sym (take-append-drop used bytes) ∙ ap (λ (t : List ℕ). t ++ drop used bytes) h.text)
+    ∙ record_from rs slot (drop used bytes) r (recursion_from_All IsRecord rs h.each) at
+
+-- the record at a place, and that it is read there
+pub record Stands (rs : List Rec) (slot : ℕ) (bytes : List ℕ) : Type 0 where
+  pub r : Rec
+  pub rest : List ℕ
+  pub at : slice_get rs slot ≡ Some r
+  pub read : record_at bytes ≡ Some (r, rest)
+
+pub stands : (page : ℕ) (bytes : List ℕ) (used count : ℕ) (rs : List Rec) (slot start : ℕ) → HoldsRecords page bytes used count rs → slot < length rs → start ≡ sizes (take slot rs) → Stands rs slot (take (length bytes - start) (drop start bytes))
+stands page bytes used count rs slot start h within start_is = elim (slice_get_cases rs slot).1 [
+  | inl x ↦ record {
+    r = x.0;
+    rest = records_text (drop (suc slot) rs) ++ drop used bytes;
+    at = x.2;
+    read = ap record_at (take_all (length bytes - start) (drop start bytes) (omega (arith, length-drop start bytes)))
+        ∙ reads_from page bytes used count rs slot start x.0 h x.2 start_is;
+  }
+  | inr past ↦ absurd (omega (arith, past.0, within))
+]
+
+-- where a record more begins is noted
+pub starts_push : (rs : List Rec) (starts : List ℕ) (r : Rec) → AreStarts rs starts → length rs < length starts → AreStarts (rs ++ r ∷ []) (slice_set starts (length rs) (sizes rs))
+starts_push rs starts r old enough slot within = elim (cases_eq slot (length rs)) [
+  | inl same ↦
+      get_or-set_at starts (length rs) slot (sizes rs) 0 same enough
+      ∙ ap sizes (sym (ap (λ (n : ℕ). take n (rs ++ r ∷ [])) same ∙ take-append_seam rs (r ∷ [])))
+  | inr other ↦
+      let lt : slot < length rs = omega (arith, within, other, length-append rs (r ∷ [])) in
+      get_or-set_other starts (length rs) slot (sizes rs) 0 other ∙ old slot lt ∙ ap sizes (sym (take-append-le slot rs (r ∷ []) (omega (arith, lt))))
+]
+
+sizes_within : (rs : List Rec) → AllByRecursion IsRecord rs → sizes rs ≤ 2307 * length rs
+sizes_within [] each = omega arith
+sizes_within (r ∷ rs) each = omega (arith, each.0.key.1, each.0.value, sizes_within rs each.1, sum_by-cons size r rs)
+
+-- what the records on a page take is far below 2 ^ 32
+pub sizes_small : (page : ℕ) (rs : List Rec) → IsTrue (fit page rs) → All IsRecord rs → sizes rs < 2 ^ 32
+sizes_small page rs fits each = omega (arith, (fit_parts page rs fits).few, sizes_within rs (recursion_from_All IsRecord rs each))
 
 -- ---- whole pages
 

@@ -1,12 +1,12 @@
 -- The records that are read are the records that were spelled, and what was spelled is read again.
 use Rattle.std.proofs.Common.{◌≡◌, ℕ, zero, suc, ◌+◌, ◌^◌, ◌<◌, ◌≤◌, true, false, cond, eqb, ltb, get_or, Bool, List, [], ◌∷◌, ◌++◌, length, take, drop, Option, Some, None, refl, sym, ap, subst, ◌∙◌, append_assoc, arith}
-use Rattle.std.specs.Prelude.{◌||◌, is_some}
+use Rattle.std.specs.Prelude.{◌||◌, is_some, slice_get}
 use Rattle.std.specs.Option.{option_map_or}
 use Rattle.std.proofs.lemmas.List.Sums.{sum_by-cons}
 use Rattle.std.specs.List.{AllByRecursion}
 use Rattle.std.specs.Int.{w16, to_be_bytes, from_be_bytes}
 use Rattle.std.proofs.lemmas.Bool.{eqb-false, ltb-false, or_parts, or_from, ne_eqb, le-ltb}
-use Rattle.std.proofs.lemmas.List.{take_at, drop_at, take-append-drop, length-append, length-take, length-drop}
+use Rattle.std.proofs.lemmas.List.{take_at, drop_at, take-append-drop, drop-drop, length-append, length-take, length-drop}
 use Rattle.record_pages.specs.Recs.{Rec, rec, IsRecord, size, sizes}
 use Rattle.record_pages.specs.PageText.{record_text, records_text}
 use Rattle.record_pages.specs.Reading.{◌>>=◌, number_at, byte_at, is_bad, record_at, records_at, records_of}
@@ -98,6 +98,22 @@ records_again (r ∷ rs) rest each =
     let regrouped : (record_text r ++ records_text rs) ++ rest ≡ record_text r ++ (records_text rs ++ rest) = append_assoc (record_text r) (records_text rs) rest in
     ap (records_at (suc (length rs))) regrouped ∙ rw (record_again r (records_text rs ++ rest) each.0, records_again rs rest each.1) refl
 
+pub length-record_text : (r : Rec) → length (record_text r) ≡ size r
+length-record_text r = omega (arith, length-append r.key r.value)
+
+-- a record is read again where it begins
+pub record_from : (rs : List Rec) (slot : ℕ) (tail : List ℕ) (r : Rec) → AllByRecursion IsRecord rs → slice_get rs slot ≡ Some r → record_at (drop (sizes (take slot rs)) (records_text rs ++ tail)) ≡ Some (r, records_text (drop (suc slot) rs) ++ tail)
+unfolding records_text
+record_from [] slot tail r each e = absurd cc
+record_from (x ∷ rs) zero tail r each e =
+    ap record_at (append_assoc (record_text x) (records_text rs) tail) ∙ record_again x (records_text rs ++ tail) each.0 ∙ ap (λ (y : Rec). Some (y, records_text rs ++ tail)) (some_is x r e)
+record_from (x ∷ rs) (suc n) tail r each e =
+    let m = sizes (take n rs) in
+    let rest = records_text rs ++ tail in
+    let split : drop (size x + m) ((record_text x ++ records_text rs) ++ tail) ≡ drop m rest =
+    ap (drop (size x + m)) (append_assoc (record_text x) (records_text rs) tail) ∙ sym (drop-drop m (size x) (record_text x ++ rest)) ∙ ap (drop m) (drop_at (record_text x) rest (size x) (length-record_text x)) in
+    ap (λ (k : ℕ). record_at (drop k ((record_text x ++ records_text rs) ++ tail))) (sum_by-cons size x (take n rs)) ∙ ap record_at split ∙ record_from rs n tail r each.1 e
+
 -- as many as were asked for
 records_at-length : (n : ℕ) (bytes : List ℕ) (x : List Rec × List ℕ) → records_at n bytes ≡ Some x → length x.0 ≡ n
 unfolding records_at
@@ -113,9 +129,6 @@ there n (Some x) each e = each x refl
 
 pub records_of-length : (n : ℕ) (bytes : List ℕ) → is_some (records_at n bytes) ≡ true → length (records_of n bytes) ≡ n
 records_of-length n bytes e = there n (records_at n bytes) (records_at-length n bytes) e
-
-pub length-record_text : (r : Rec) → length (record_text r) ≡ size r
-length-record_text r = omega (arith, length-append r.key r.value)
 
 pub length-records_text : (rs : List Rec) → length (records_text rs) ≡ sizes rs
 unfolding records_text

@@ -1,5 +1,5 @@
 -- What a page in the making is.
-use Rattle.std.specs.Prelude.{◌≡◌, ℕ, List, IsTrue, length, take, All}
+use Rattle.std.specs.Prelude.{◌≡◌, ℕ, ◌<◌, List, IsTrue, length, take, slice_index_or, All}
 use Rattle.record_pages.specs.Recs.{Rec, IsRecord, sizes, fit}
 use Rattle.record_pages.specs.PageText.{records_text}
 use Rattle.record_pages.specs.Reading.{records_of}
@@ -15,3 +15,7 @@ pub record HoldsRecords (page : ℕ) (bytes : List ℕ) (used count : ℕ) (rs :
 -- the bytes and the counts of a page in the making agree
 abbrev pub IsInTheMaking : ℕ → List ℕ → ℕ → ℕ → Type 0
 IsInTheMaking page bytes used count = HoldsRecords page bytes used count (records_of count bytes)
+
+-- it is noted of each record how many bytes stand before it
+abbrev pub AreStarts : List Rec → List ℕ → Type 0
+AreStarts rs starts = (slot : ℕ) → slot < length rs → slice_index_or starts slot 0 ≡ sizes (take slot rs)

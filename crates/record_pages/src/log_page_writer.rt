@@ -1,10 +1,13 @@
 // A log page in the making.
-ghost use Rattle.std.specs.Prelude.{◌≡◌, ◌↔◌, [], ◌∷◌, ◌++◌, List, IsTrue, length, All};
+ghost use Rattle.std.specs.Prelude.{◌≡◌, ◌↔◌, [], ◌∷◌, ◌++◌, List, IsTrue, IfSome, length, slice_get, All};
+ghost use Rattle.std.specs.Option.{option_map};
 ghost use Rattle.record_pages.specs.Sizes.{IsPageSize};
 ghost use Rattle.record_pages.specs.Recs.{Rec, IsRecord, fit};
 ghost use Rattle.record_pages.specs.Lent.{record_shown};
 ghost use Rattle.record_pages.specs.PageText.{log_page_text, SpellsLogPage};
+ghost use Rattle.record_pages.specs.Making.{AreStarts};
 
+use crate::object::MAX_RECORDS;
 use crate::page_body::PageBody;
 use crate::put::{put, put_log_header, zero_from};
 use crate::record_ref::RecordRef;
@@ -15,12 +18,16 @@ use std::marker::Model;
 #[derive(Debug, Drop)]
 pub struct LogPageWriter<const PAGE: usize> {
     body: PageBody<PAGE>,
+    // Where the bytes of each record begin.
+    starts: [u32; MAX_RECORDS],
 }
 
 impl<const PAGE: usize> Model for LogPageWriter<PAGE> {
     ghost Value = { List Rec };
 
     ghost view = { λ w. w.body };
+
+    ghost invariant = { λ w. AreStarts w.body w.starts };
 }
 
 impl<const PAGE: usize> LogPageWriter<PAGE> {
@@ -30,6 +37,7 @@ impl<const PAGE: usize> LogPageWriter<PAGE> {
     {
         LogPageWriter {
             body: PageBody::new(),
+            starts: [0; MAX_RECORDS],
         }
     }
 
@@ -63,6 +71,8 @@ impl<const PAGE: usize> LogPageWriter<PAGE> {
         requires fits { IsTrue (fit PAGE (self.old ++ record_shown added ∷ [])) }
         ensures { self.new ≡ self.old ++ record_shown added.entry ∷ [] }
     {
+        let slot = self.body.len() as usize;
+        self.starts[slot] = self.body.text().len() as u32;
         self.body.push(added);
     }
 
@@ -71,6 +81,17 @@ impl<const PAGE: usize> LogPageWriter<PAGE> {
         ensures { self.new ≡ [] }
     {
         self.body.clear();
+    }
+
+    /// The record that lies so many places on, or nothing where there are fewer. It takes one step.
+    pub fn at(&self, slot: usize) -> Option<RecordRef<'_>>
+        ensures value { option_map record_shown result ≡ slice_get self.now slot }
+        ensures lawful { IfSome result (λ r. IsRecord (record_shown r)) }
+    {
+        if slot >= self.body.len() as usize {
+            return None;
+        }
+        Some(self.body.there(slot, self.starts[slot] as usize))
     }
 
     /// A walk over the records so far.

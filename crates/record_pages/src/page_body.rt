@@ -1,5 +1,5 @@
 // The records of a page in the making, in the bytes that they take on a page, without a header.
-ghost use Rattle.std.specs.Prelude.{◌≡◌, ◌+◌, [], ◌∷◌, ◌++◌, List, IsTrue, length, All};
+ghost use Rattle.std.specs.Prelude.{◌≡◌, ◌+◌, ◌<◌, [], ◌∷◌, ◌++◌, List, IsTrue, Some, length, take, slice_get, All};
 ghost use Rattle.record_pages.specs.Recs.{Rec, IsRecord, size, sizes, fit};
 ghost use Rattle.record_pages.specs.Lent.{record_shown};
 ghost use Rattle.record_pages.specs.PageText.{records_text};
@@ -9,7 +9,7 @@ ghost use Rattle.record_pages.specs.Making.{IsInTheMaking};
 use crate::object::{MAX_RECORDS, PAGE_OVERHEAD};
 use crate::put::put_record;
 use crate::record_ref::RecordRef;
-use crate::records::{Records, records_in};
+use crate::records::{Records, record_there, records_in};
 use std::marker::Model;
 
 // The records pushed so far, in order.
@@ -82,6 +82,18 @@ impl<const PAGE: usize> PageBody<PAGE> {
         ensures size { length result.now ≡ sizes self.now }
     {
         &self.bytes[..self.used]
+    }
+
+    // The record at a place, whose bytes begin so far on. It takes one step.
+    pub(crate) fn there(&self, slot: usize, start: usize) -> RecordRef<'_>
+        requires place { slot < length self.now }
+        requires start { start ≡ sizes (take slot self.now) }
+        ensures value { slice_get self.now slot ≡ Some (record_shown result) }
+        ensures lawful { IsRecord (record_shown result) }
+    {
+        let bytes = &self.bytes[..];
+        let (record, _) = record_there(&bytes[start..]);
+        record
     }
 
     // A walk over the records so far.

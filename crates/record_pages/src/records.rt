@@ -172,7 +172,7 @@ fn record_at(bytes: &[u8]) -> Option<(RecordRef<'_>, &[u8])>
 }
 
 // The record at the front, which is there, and the bytes behind it. Nothing is tested again.
-fn record_there(bytes: &[u8]) -> (RecordRef<'_>, &[u8])
+pub(crate) fn record_there(bytes: &[u8]) -> (RecordRef<'_>, &[u8])
     requires { is_some (record_at bytes.now) ≡ true }
     ensures value { record_at bytes.now ≡ Some (record_shown result.0, result.1.now) }
     ensures lawful { IsRecord (record_shown result.0) }

@@ -162,5 +162,5 @@ fn record_in<'a, const PAGE: usize>(
     let Some(page) = buffer.page(entry.place.page as usize) else {
         return None;
     };
-    page.records().at(entry.place.slot as usize)
+    page.at(entry.place.slot as usize)
 }
