@@ -13,6 +13,7 @@ use Rattle.record_pages.specs.declared.layout.Layout.{Layout}
 use Rattle.record_pages.specs.Asked.{HasNumbersOf}
 use Rattle.mover.specs.Lane.{lane_of}
 use Rattle.mover.specs.Store.{opening}
+use Rattle.mover.specs.Laws.{opening_lane as opening_state}
 use Rattle.history_recorder.specs.declared.event.Event.{Event}
 use Rattle.history_recorder.specs.declared.reply.Reply.{Reply}
 use Rattle.history_recorder.specs.Lane.{Lane, IsRecorded}
@@ -120,11 +121,11 @@ module _ {D : Type 0} (honest : D → Bool) (held : D → ℕ → Option (List �
           subst (λ a. IsWellKept a l.lane (honest l.store.device) l.calls (lane_of held l.store)) (ap (λ (m : Lane D). m.store.layout) (opened.opened.each i l at)) (record { starts = r.starts; points = r.points; few = r.few; its = r.keys; lawful = r.lawful; sound = r.sound })
 
 -- the world of lanes that were just opened
-states_opened : {D : Type 0} (held : D → ℕ → Option (List ℕ)) (layout : Layout) (boxes : List (Box (Lane D))) → All (λ (l : Lane D). l.store ≡ opening layout l.store.device) (unboxed boxes) → map (state_in held) (unboxed boxes) ≡ map (λ device. lane_of held (opening layout device)) (devices_of boxes)
+states_opened : {D : Type 0} (held : D → ℕ → Option (List ℕ)) (layout : Layout) (boxes : List (Box (Lane D))) → All (λ (l : Lane D). l.store ≡ opening layout l.store.device) (unboxed boxes) → map (state_in held) (unboxed boxes) ≡ map (opening_state layout) (map held (devices_of boxes))
 states_opened held layout [] h = refl
 states_opened {D} held layout (b ∷ boxes) h =
     ap (λ s. s ∷ map (state_in held) (unboxed boxes)) (ap (lane_of held) (All-head (λ (l : Lane D). l.store ≡ opening layout l.store.device) (box_value b) (unboxed boxes) h))
-    ∙ ap (λ ss. lane_of held (opening layout (box_value b).store.device) ∷ ss) (states_opened held layout boxes (All-tail (λ (l : Lane D). l.store ≡ opening layout l.store.device) (box_value b) (unboxed boxes) h))
+    ∙ ap (λ ss. opening_state layout (held (box_value b).store.device) ∷ ss) (states_opened held layout boxes (All-tail (λ (l : Lane D). l.store ≡ opening layout l.store.device) (box_value b) (unboxed boxes) h))
 
 pub world_opened : {D : Type 0} (honest : D → Bool) (held : D → ℕ → Option (List ℕ)) (layout : Layout) (callers : ℕ) (boxes : List (Box (Lane D))) → AreTheLanes honest held layout (unboxed boxes) → world_of (state_in held) (opening_books layout.lanes callers) (unboxed boxes) ≡ opening_world held (record { layout = layout; devices = devices_of boxes; callers = callers })
 world_opened honest held layout callers boxes opened =
