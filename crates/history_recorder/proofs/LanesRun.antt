@@ -1,6 +1,6 @@
 -- Each step of a lane in a run keeps what is true of it and of the calls that it recorded.
-use Rattle.std.proofs.Common.{◌≡◌, ◌<◌, ℕ, true, List, [], ◌∷◌, ◌++◌, length, Option, Some, None, sym, ap, refl, subst, inl, inr, arith}
-use Rattle.std.specs.Prelude.{All, IsTrue, Ok, Err}
+use Rattle.std.proofs.Common.{◌≡◌, ◌<◌, ℕ, true, List, [], ◌∷◌, ◌++◌, length, Some, None, sym, refl, subst, inl, inr, arith}
+use Rattle.std.specs.Prelude.{All, Ok, Err}
 use Rattle.std.proofs.lemmas.List.{map-append, length-append}
 use Rattle.std.proofs.lemmas.List.Elements.{All-push}
 use Rattle.std.proofs.lemmas.List.Quantifiers.{all_pairs_push}
@@ -43,14 +43,17 @@ module _ (layout : Layout) (lane : ℕ) (calls : List Noted) (old new : LaneStat
 
   -- a step that is no call
   still : StepsInOrder None None old new → IsKeptLane layout lane calls new
-  still steps = (record {
-    starts = well.starts;
-    points = well.points;
-    few = well.few;
-    its = well.its;
-    lawful = well.lawful;
-    sound = λ is. sound_by None None (deeds_of calls) (deeds_of calls) old new (λ p no. absurd (none_some no)) (λ p other. refl) (well.sound is) steps.shows;
-  }, steps.order)
+  still steps = (
+    record {
+      starts = well.starts;
+      points = well.points;
+      few = well.few;
+      its = well.its;
+      lawful = well.lawful;
+      sound = λ is. sound_by None None (deeds_of calls) (deeds_of calls) old new (λ p no. absurd (none_some no)) (λ p other. refl) (well.sound is) steps.shows;
+    },
+    steps.order,
+  )
 
   -- a background step
   pub behind_kept : (size : ℕ) (event : Event) (reply : Reply) → IsBackground size layout event old reply new → IsKeptLane layout lane calls new
@@ -65,15 +68,17 @@ module _ (layout : Layout) (lane : ℕ) (calls : List Noted) (old new : LaneStat
 
   with_call : (n : Noted) → n.start < n.point → All (λ (m : Noted). m.point < n.point) calls → IsOfLane layout lane n.key → HasRoomFor (length calls) → IsSound new (deeds_of calls ++ deed_noted n ∷ []) → ((value : List ℕ) → n.act ≡ acts.Hit value → current (deeds_of calls) n.key ≡ Some value) → IsInOrder new → IsKeptLane layout lane (calls ++ n ∷ []) new
   with_call n start rises own room sound hits order =
-      let more = map-append deed_noted calls (n ∷ []) in
-      (record {
-        starts = All-push (λ (m : Noted). m.start < m.point) calls n well.starts start;
-        points = all_pairs_push (λ (a b : Noted). a.point < b.point) calls n well.points rises;
-        few = omega (arith, length-append calls (n ∷ []), room);
-        its = All-push (λ (m : Noted). IsOfLane layout lane m.key) calls n well.its own;
-        lawful = λ is. subst IsLawful (sym more) (lawful-push (deeds_of calls) (deed_noted n) (well.lawful is) hits);
-        sound = λ is. subst (IsSound new) (sym more) sound;
-      }, order)
+      let more = map-append deed_noted calls (n ∷ []) in (
+        record {
+          starts = All-push (λ (m : Noted). m.start < m.point) calls n well.starts start;
+          points = all_pairs_push (λ (a b : Noted). a.point < b.point) calls n well.points rises;
+          few = omega (arith, length-append calls (n ∷ []), room);
+          its = All-push (λ (m : Noted). IsOfLane layout lane m.key) calls n well.its own;
+          lawful = λ is. subst IsLawful (sym more) (lawful-push (deeds_of calls) (deed_noted n) (well.lawful is) hits);
+          sound = λ is. subst (IsSound new) (sym more) sound;
+        },
+        order,
+      )
 
   module _ (size caller start point : ℕ) (began : start < point) (rises : All (λ (m : Noted). m.point < point) calls) where
     got_kept : (key : List ℕ) (answer : Answer) → IsOfLane layout lane key → HasRoomFor (length calls) → StepGives (get_step key old) old answer new → IsKeptLane layout lane (calls ++ record { caller = caller; start = start; point = point; key = key; act = act_of answer } ∷ []) new

@@ -1,7 +1,7 @@
 -- Each event of a run keeps what is true of its world, and what is true at its end makes its history accepted.
 use Rattle.std.proofs.Common.{◌≡◌, ◌<◌, ◌≤◌, ◌+◌, ℕ, zero, suc, true, List, [], ◌∷◌, ◌++◌, length, set, map, replicate, Option, Some, None, sym, ap, ◌∙◌, refl, subst, arith}
-use Rattle.std.specs.Prelude.{All, IsTrue, slice_get, slice_set, slice_index_or, option_map}
-use Rattle.std.proofs.lemmas.List.{map-set, length-map}
+use Rattle.std.specs.Prelude.{All, slice_get, slice_set, slice_index_or, option_map}
+use Rattle.std.proofs.lemmas.List.{map-set}
 use Rattle.std.proofs.lemmas.List.Elements.{All-nil, All-cons}
 use Rattle.std.proofs.lemmas.Option.{get_or_from_slice_get, same_Some}
 use Rattle.record_pages.specs.declared.layout.Layout.{Layout}
@@ -17,19 +17,18 @@ use Rattle.history_recorder.specs.declared.event.Event.{Event}
 use Rattle.history_recorder.specs.declared.event.Event.TheVariants as events
 use Rattle.history_recorder.specs.declared.noted.Noted.{Noted}
 use Rattle.history_recorder.specs.declared.operation.Operation.{Operation}
-use Rattle.history_recorder.specs.declared.phase.Phase.{Phase}
 use Rattle.history_recorder.specs.declared.phase.Phase.TheVariants as phases
 use Rattle.history_recorder.specs.declared.reply.Reply.{Reply}
 use Rattle.history_recorder.specs.declared.reply.Reply.TheVariants as replies
 use Rattle.history_recorder.specs.Operations.{key_of, lane_of, act_done, noted_by, calls_with, AnswersAt}
 use Rattle.history_recorder.specs.Commands.{IsOperation, IsBackground}
-use Rattle.history_recorder.specs.Books.{Books, opening_books, noted_of, lane_at, booked, drawn, after_act, after_act_in, after_event, books_after, dones, IsDoing, IsReplied, HasStarted}
+use Rattle.history_recorder.specs.Books.{Books, noted_of, lane_at, booked, drawn, after_act, after_act_in, after_event, books_after, dones, IsDoing, IsReplied, HasStarted}
 use Rattle.history_recorder.specs.World.{World, OneSteps, LanesStep, Happens, IsRun, IsSoundWorld}
 use Rattle.history_recorder.specs.Game.{IsGame, IsWellKept, last_world}
 use Rattle.history_recorder.specs.Opened.{beginning}
 use Rattle.history_recorder.specs.Laws.{RunsAreSound, RunsAreAccepted}
 use Rattle.history_recorder.proofs.Indexing.{map_has, set_nothing, all_set, all_then, at_so}
-use Rattle.history_recorder.proofs.Booking.{GoesOn, event_on, same_on, opening_kept, begin_records, end_records, call_noted, noted_at}
+use Rattle.history_recorder.proofs.Booking.{GoesOn, event_on, same_on, opening_kept, end_records, call_noted, noted_at}
 use Rattle.history_recorder.proofs.GameKept.{game_books, game_step, booked_of, counted_at, reached, sound_world}
 use Rattle.history_recorder.proofs.Ended.{ends_lanes, ends_apart}
 use Rattle.history_recorder.proofs.Opening.{no_deed}
@@ -100,11 +99,11 @@ module _ (size : ℕ) (layout : Layout) (w : World) (running : IsRunning layout 
       one_stepped (after_act layout books caller start operation (act_done operation reply)) states at (λ was is. IsOperation size layout operation was reply is) (λ calls. calls_with calls (noted_by caller start (books.number + 1) operation reply)) on step
       (λ l here. act_records layout books caller start operation l.calls (act_done operation reply) (booked_of (λ (m : LaneRun). layout) (λ (m : LaneRun). m.lane) (λ (m : LaneRun). true) (λ (m : LaneRun). m.calls) (λ (m : LaneRun). m.state) layout books lanes running.going at l here))
       (λ l is here was does.
-          let counted = counted_at (λ (m : LaneRun). layout) (λ (m : LaneRun). m.lane) (λ (m : LaneRun). true) (λ (m : LaneRun). m.calls) (λ (m : LaneRun). m.state) layout books lanes running.going at l here in
-          let past = reached (λ (m : LaneRun). layout) (λ (m : LaneRun). m.lane) (λ (m : LaneRun). true) (λ (m : LaneRun). m.calls) (λ (m : LaneRun). m.state) layout books lanes running.going at l here in
-          acted_kept layout l.lane l.calls l.state is was size caller start (books.number + 1) (omega (arith, began))
-          (all_then (λ (m : Noted). m.point ≤ books.number) (λ (m : Noted). m.point < books.number + 1) l.calls (λ m below. omega (arith, below)) past)
-          operation reply (sym (running.going.numbers at l here)) (subst (λ n. AnswersAt size n operation reply) counted answers) does)
+      let counted = counted_at (λ (m : LaneRun). layout) (λ (m : LaneRun). m.lane) (λ (m : LaneRun). true) (λ (m : LaneRun). m.calls) (λ (m : LaneRun). m.state) layout books lanes running.going at l here in
+      let past = reached (λ (m : LaneRun). layout) (λ (m : LaneRun). m.lane) (λ (m : LaneRun). true) (λ (m : LaneRun). m.calls) (λ (m : LaneRun). m.state) layout books lanes running.going at l here in
+      acted_kept layout l.lane l.calls l.state is was size caller start (books.number + 1) (omega (arith, began))
+      (all_then (λ (m : Noted). m.point ≤ books.number) (λ (m : Noted). m.point < books.number + 1) l.calls (λ m below. omega (arith, below)) past)
+      operation reply (sym (running.going.numbers at l here)) (subst (λ n. AnswersAt size n operation reply) counted answers) does)
 
   -- the start and the operation of a caller are those that it began
   same_call : (caller start other : ℕ) (operation another : Operation) → IsDoing w.books caller (phases.Began start operation) → IsDoing w.books caller (phases.Began other another) → another ≡ operation
@@ -204,15 +203,17 @@ module _ (layout : Layout) where
   -- a lane that was just opened
   kept_first : (number : ℕ) (held : ℕ → Option (List ℕ)) → IsKeptLane layout number [] (opening_lane layout held)
   kept_first number held =
-      let law = opening_law held layout in
-      (record {
-        starts = λ k d within. absurd (omega (arith, within));
-        points = λ i j d less within. absurd (omega (arith, within));
-        few = omega arith;
-        its = λ k d within. absurd (omega (arith, within));
-        lawful = λ is before after deed value split. absurd (no_deed before after deed split);
-        sound = λ is p shown. absurd (law.1 p shown);
-      }, law.0)
+      let law = opening_law held layout in (
+        record {
+          starts = λ k d within. absurd (omega (arith, within));
+          points = λ i j d less within. absurd (omega (arith, within));
+          few = omega arith;
+          its = λ k d within. absurd (omega (arith, within));
+          lawful = λ is before after deed value split. absurd (no_deed before after deed split);
+          sound = λ is p shown. absurd (law.1 p shown);
+        },
+        law.0,
+      )
 
   kept_from : (number : ℕ) (pages : List (ℕ → Option (List ℕ))) → All (λ (l : LaneRun). IsWellKept layout l.lane true l.calls l.state) (lanes_from layout number pages) × All (λ (l : LaneRun). IsInOrder l.state) (lanes_from layout number pages)
   kept_from number [] = (All-nil (λ (l : LaneRun). IsWellKept layout l.lane true l.calls l.state), All-nil (λ (l : LaneRun). IsInOrder l.state))
