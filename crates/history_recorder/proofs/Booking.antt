@@ -153,7 +153,7 @@ noted_at lanes lane calls at =
     let had = map_has noted_of lanes lane calls at in
     ap noted_of (get_or_from_slice_get lanes lane had.0 [] had.1) ∙ had.2
 
-call_noted : (lanes : List (List Booked)) (lane : ℕ) (c : Booked) → map noted_of (with_call lanes lane c) ≡ slice_set (map noted_of lanes) lane (noted_of (lane_at lanes lane) ++ c.noted ∷ [])
+pub call_noted : (lanes : List (List Booked)) (lane : ℕ) (c : Booked) → map noted_of (with_call lanes lane c) ≡ slice_set (map noted_of lanes) lane (noted_of (lane_at lanes lane) ++ c.noted ∷ [])
 call_noted [] lane c = refl
 call_noted (calls ∷ lanes) zero c = ap (λ ns. ns ∷ map noted_of lanes) (map-append (λ (b : Booked). b.noted) calls (c ∷ []))
 call_noted (calls ∷ lanes) (suc lane) c = ap (λ ns. noted_of calls ∷ ns) (call_noted lanes lane c)

@@ -31,7 +31,7 @@ module _ {L : Type 0} (layout_of : L → Layout) (lane_is : L → ℕ) (honest :
   }
 
   -- one of them took a step
-  game_step : (lanes : List L) (i : ℕ) (was is : L) → slice_get lanes i ≡ Some was → layout_of is ≡ layout_of was → lane_is is ≡ lane_is was → IsWellKept (layout_of is) (lane_is is) (honest is) (calls_of is) (state is) → map noted_of new.lanes ≡ set (map noted_of old.lanes) i (calls_of is) → IsGame layout_of lane_is honest calls_of state layout old lanes → IsGame layout_of lane_is honest calls_of state layout new (set lanes i is)
+  pub game_step : (lanes : List L) (i : ℕ) (was is : L) → slice_get lanes i ≡ Some was → layout_of is ≡ layout_of was → lane_is is ≡ lane_is was → IsWellKept (layout_of is) (lane_is is) (honest is) (calls_of is) (state is) → map noted_of new.lanes ≡ set (map noted_of old.lanes) i (calls_of is) → IsGame layout_of lane_is honest calls_of state layout old lanes → IsGame layout_of lane_is honest calls_of state layout new (set lanes i is)
   game_step lanes i was is here same_layout same_lane well linked kept =
       let at : layout_of is ≡ layout = same_layout ∙ at_so (λ l. layout_of l ≡ layout) lanes i was kept.layouts here in
       record {

@@ -12,6 +12,7 @@ use Rattle.certificate_checker.specs.Acceptance.{IsAccepted}
 use Rattle.history_recorder.specs.declared.noted.Noted.{Noted}
 use Rattle.history_recorder.specs.Lane.{Lane, deed_noted, IsRecorded}
 use Rattle.history_recorder.specs.Points.{at_point, noted_in}
+use Rattle.history_recorder.specs.Laws.{AcceptedInTurn}
 
 -- ---- the order is the history
 
@@ -29,7 +30,7 @@ all_from front (x ∷ rest) =
 in_order_all : (calls : List Call) → in_order calls (range_with_len 0 (length calls)) ≡ calls
 in_order_all calls = all_from [] calls
 
-pub accepted_in_turn : (calls : List Call) → All (λ (call : Call). call.start ≤ call.end) calls → Agrees calls → IsLawful (map deed_of calls) → IsAccepted calls (range_with_len 0 (length calls))
+pub accepted_in_turn : AcceptedInTurn
 accepted_in_turn calls intervals agrees lawful =
     let n = length calls in
     record {

@@ -20,3 +20,5 @@ pub mod EventsPlayed
 pub mod LanesPlayed
 pub mod Ended
 pub mod WorldsOpened
+pub mod LanesRun
+pub mod RunsKept

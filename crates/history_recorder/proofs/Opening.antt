@@ -9,7 +9,7 @@ use Rattle.history_recorder.specs.declared.noted.Noted.{Noted}
 use Rattle.history_recorder.specs.Lane.{IsRecorded}
 
 -- no deed is among none
-no_deed : (before after : List Deed) (deed : Deed) → [] ≡ before ++ deed ∷ after → ⊥
+pub no_deed : (before after : List Deed) (deed : Deed) → [] ≡ before ++ deed ∷ after → ⊥
 no_deed [] after deed split = cc
 no_deed (x ∷ before) after deed split = cc
 

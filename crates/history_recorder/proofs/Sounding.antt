@@ -47,26 +47,26 @@ reads : (answer : Answer) → IsWrite (act_of answer) → ⊥
 reads (answers.Hit value tier) w = w
 reads (answers.Miss cause) w = w
 
-none_some : {X : Type 0} {x : X} → None ≡ Some x → ⊥
+pub none_some : {X : Type 0} {x : X} → None ≡ Some x → ⊥
 none_some is = cc
 
 some_same : {X : Type 0} {x y : X} → Some x ≡ Some y → x ≡ y
 some_same is = cc
 
 -- after an answer
-sound_read : (deeds : List Deed) (d : Deed) (answer : Answer) (old new : LaneState) → d.act ≡ act_of answer → IsSound old deeds → ShowsFrom None None old new → IsSound new (deeds ++ d ∷ [])
+pub sound_read : (deeds : List Deed) (d : Deed) (answer : Answer) (old new : LaneState) → d.act ≡ act_of answer → IsSound old deeds → ShowsFrom None None old new → IsSound new (deeds ++ d ∷ [])
 sound_read deeds d answer old new act = sound_by None None deeds (deeds ++ d ∷ []) old new (λ p no. absurd (none_some no)) (λ p other. deed_leaves deeds d p.key (λ same w. reads answer (subst IsWrite act w)))
 
 -- after a put
-sound_put : (deeds : List Deed) (d : Deed) (put : Pair) (old new : LaneState) → d.key ≡ put.key → d.act ≡ Put put.value → IsSound old deeds → ShowsFrom (Some put.key) (Some put) old new → IsSound new (deeds ++ d ∷ [])
+pub sound_put : (deeds : List Deed) (d : Deed) (put : Pair) (old new : LaneState) → d.key ≡ put.key → d.act ≡ Put put.value → IsSound old deeds → ShowsFrom (Some put.key) (Some put) old new → IsSound new (deeds ++ d ∷ [])
 sound_put deeds d put old new at act = sound_by (Some put.key) (Some put) deeds (deeds ++ d ∷ []) old new (λ p is. subst (λ (x : Pair). current (deeds ++ d ∷ []) x.key ≡ Some x.value) (some_same is) (put_gives deeds d put at act)) (λ p other. deed_leaves deeds d p.key (λ same w. other (ap Some (sym at ∙ same))))
 
 -- after a removal
-sound_remove : (deeds : List Deed) (d : Deed) (key : List ℕ) (old new : LaneState) → d.key ≡ key → IsSound old deeds → ShowsFrom (Some key) None old new → IsSound new (deeds ++ d ∷ [])
+pub sound_remove : (deeds : List Deed) (d : Deed) (key : List ℕ) (old new : LaneState) → d.key ≡ key → IsSound old deeds → ShowsFrom (Some key) None old new → IsSound new (deeds ++ d ∷ [])
 sound_remove deeds d key old new at = sound_by (Some key) None deeds (deeds ++ d ∷ []) old new (λ p no. absurd (none_some no)) (λ p other. deed_leaves deeds d p.key (λ same w. other (ap Some (sym at ∙ same))))
 
 -- a hit that tells a visible pair is its key's value
-hit_is : (deeds : List Deed) (key value : List ℕ) (lane : LaneState) (answer : Answer) → IsSound lane deeds → TellsVisible key lane answer → act_of answer ≡ Hit value → current deeds key ≡ Some value
+pub hit_is : (deeds : List Deed) (key value : List ℕ) (lane : LaneState) (answer : Answer) → IsSound lane deeds → TellsVisible key lane answer → act_of answer ≡ Hit value → current deeds key ≡ Some value
 hit_is deeds key value lane (answers.Hit found tier) sound tells hit =
     let both : Hit found ≡ Hit value = hit in
     let same : found ≡ value = cc in

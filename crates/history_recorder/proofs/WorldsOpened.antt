@@ -11,17 +11,22 @@ use Rattle.std.proofs.lemmas.Option.{same_Some}
 use Rattle.record_pages.specs.declared.config.Config.{Config}
 use Rattle.record_pages.specs.declared.layout.Layout.{Layout}
 use Rattle.record_pages.specs.Asked.{HasNumbersOf}
+use Rattle.trace_file.specs.declared.call.Call.{Call}
+use Rattle.certificate_checker.specs.Acceptance.{IsAccepted}
+use Rattle.certificate_checker.specs.Lanes.{IsLaidOut}
 use Rattle.mover.specs.Lane.{lane_of}
 use Rattle.mover.specs.Store.{opening}
+use Rattle.mover.specs.Laws.{opening_lane as opening_state}
 use Rattle.history_recorder.specs.declared.event.Event.{Event}
 use Rattle.history_recorder.specs.declared.reply.Reply.{Reply}
 use Rattle.history_recorder.specs.Lane.{Lane, IsRecorded}
-use Rattle.history_recorder.specs.Books.{Books, opening_books, noted_of}
+use Rattle.history_recorder.specs.Books.{Books, opening_books, noted_of, books_after, dones}
 use Rattle.history_recorder.specs.World.{World, IsSoundRun}
 use Rattle.history_recorder.specs.Game.{IsGame, IsWellKept, AreHonest, SoundRunTo, unboxed, world_of, layout_in, honest_in, state_in}
 use Rattle.history_recorder.specs.Opened.{Opened, AreOpened, AreOpenedOver, AreTheLanes, opening_lane, opening_world, devices_of}
 use Rattle.history_recorder.proofs.Booking.{opening_kept}
 use Rattle.history_recorder.proofs.Indexing.{all_by_index, at_so}
+use Rattle.history_recorder.proofs.RunsKept.{accepted_runs}
 
 -- layouts with the same numbers are the same
 pub same_layout : (a b : Layout) (c : Config) → HasNumbersOf a c → HasNumbersOf b c → a ≡ b
@@ -120,11 +125,11 @@ module _ {D : Type 0} (honest : D → Bool) (held : D → ℕ → Option (List �
           subst (λ a. IsWellKept a l.lane (honest l.store.device) l.calls (lane_of held l.store)) (ap (λ (m : Lane D). m.store.layout) (opened.opened.each i l at)) (record { starts = r.starts; points = r.points; few = r.few; its = r.keys; lawful = r.lawful; sound = r.sound })
 
 -- the world of lanes that were just opened
-states_opened : {D : Type 0} (held : D → ℕ → Option (List ℕ)) (layout : Layout) (boxes : List (Box (Lane D))) → All (λ (l : Lane D). l.store ≡ opening layout l.store.device) (unboxed boxes) → map (state_in held) (unboxed boxes) ≡ map (λ device. lane_of held (opening layout device)) (devices_of boxes)
+states_opened : {D : Type 0} (held : D → ℕ → Option (List ℕ)) (layout : Layout) (boxes : List (Box (Lane D))) → All (λ (l : Lane D). l.store ≡ opening layout l.store.device) (unboxed boxes) → map (state_in held) (unboxed boxes) ≡ map (opening_state layout) (map held (devices_of boxes))
 states_opened held layout [] h = refl
 states_opened {D} held layout (b ∷ boxes) h =
     ap (λ s. s ∷ map (state_in held) (unboxed boxes)) (ap (lane_of held) (All-head (λ (l : Lane D). l.store ≡ opening layout l.store.device) (box_value b) (unboxed boxes) h))
-    ∙ ap (λ ss. lane_of held (opening layout (box_value b).store.device) ∷ ss) (states_opened held layout boxes (All-tail (λ (l : Lane D). l.store ≡ opening layout l.store.device) (box_value b) (unboxed boxes) h))
+    ∙ ap (λ ss. opening_state layout (held (box_value b).store.device) ∷ ss) (states_opened held layout boxes (All-tail (λ (l : Lane D). l.store ≡ opening layout l.store.device) (box_value b) (unboxed boxes) h))
 
 pub world_opened : {D : Type 0} (honest : D → Bool) (held : D → ℕ → Option (List ℕ)) (layout : Layout) (callers : ℕ) (boxes : List (Box (Lane D))) → AreTheLanes honest held layout (unboxed boxes) → world_of (state_in held) (opening_books layout.lanes callers) (unboxed boxes) ≡ opening_world held (record { layout = layout; devices = devices_of boxes; callers = callers })
 world_opened honest held layout callers boxes opened =
@@ -147,3 +152,13 @@ module _ {D : Type 0} (honest : D → Bool) (held : D → ℕ → Option (List �
       let a = run (honest_game all) in
       let r : IsSoundRun size played (world_of (state_in held) books (unboxed game)) es rs = record { worlds = a.worlds; run = a.run; sound = a.sound } in
       subst (λ (x : Opened D). IsSoundRun size x.layout (opening_world held x) es rs) view (subst (λ l. IsSoundRun size l (opening_world held (record { layout = layout; devices = devices_of boxes; callers = callers })) es rs) is_layout (subst (λ s. IsSoundRun size played s es rs) opening_is r))
+
+  -- a run over them has one device for each lane, and so its history is accepted as it is laid out
+  pub accepted_opened : (size : ℕ) (played : Layout) (books end : Books) (es : List Event) (rs : List Reply) (history : List Call) (certificate : List ℕ) → AreTheLanes honest held layout (unboxed boxes) → played ≡ layout → books ≡ opening_books layout.lanes callers → IsSoundRun size w.layout (opening_world held w) es rs → end ≡ books_after played books es rs → IsLaidOut (dones end) history certificate → IsAccepted history certificate
+  accepted_opened size played books end es rs history certificate opened is_layout is_books run is_end laid =
+      let one_each : length (map held (devices_of boxes)) ≡ layout.lanes =
+      length-map (devices_of boxes) held ∙ length-map boxes (λ (b : Box (Lane D)). (box_value b).store.device) ∙ sym (length-map boxes (λ (b : Box (Lane D)). box_value b)) ∙ opened.all in
+      let at_end : end ≡ books_after layout (opening_books layout.lanes callers) es rs =
+      is_end ∙ ap (λ l. books_after l books es rs) is_layout ∙ ap (λ b. books_after layout b es rs) is_books in
+      let its = subst (λ (x : Opened D). IsSoundRun size x.layout (opening_world held x) es rs) (sym view) run in
+      accepted_runs size layout callers (map held (devices_of boxes)) es rs its.worlds history certificate one_each its.run (subst (λ b. IsLaidOut (dones b) history certificate) at_end laid)

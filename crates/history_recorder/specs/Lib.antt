@@ -8,3 +8,4 @@ pub mod Commands
 pub mod World
 pub mod Game
 pub mod Opened
+pub mod Laws

@@ -7,7 +7,7 @@ use Rattle.record_pages.specs.declared.layout.Layout.{Layout}
 use Rattle.record_pages.specs.Sizes.{IsPageSize}
 use Rattle.record_pages.specs.Table.{first_faulty}
 use Rattle.mover.specs.Store.{opening, IsTooSmall}
-use Rattle.mover.specs.Lane.{lane_of}
+use Rattle.mover.specs.Laws.{opening_lane as opening_state}
 use Rattle.history_recorder.specs.declared.open_world_fault.OpenWorldFault.{OpenWorldFault}
 use Rattle.history_recorder.specs.declared.open_world_fault.OpenWorldFault.TheVariants as faults
 use Rattle.history_recorder.specs.Lane.{Lane, IsRecorded}
@@ -25,12 +25,17 @@ pub record Opened (D : Type 0) : Type 0 where
 abbrev pub books_of : {D : Type 0} → Opened D → Books
 books_of w = opening_books w.layout.lanes w.callers
 
--- as the world of a run: nothing happened yet, and each lane is that of a store that was just opened
-abbrev pub opening_world : {D : Type 0} → (D → ℕ → Option (List ℕ)) → Opened D → World
-opening_world held w = record {
-  books = books_of w;
-  states = map (λ device. lane_of held (opening w.layout device)) w.devices;
+-- The world of a run as it begins: nothing happened yet, and each lane is that of a store that was just opened over a device
+-- that holds these pages.
+abbrev pub beginning : Layout → ℕ → List (ℕ → Option (List ℕ)) → World
+beginning layout callers pages = record {
+  books = opening_books layout.lanes callers;
+  states = map (opening_state layout) pages;
 }
+
+-- as the world of a run, over what each device holds
+abbrev pub opening_world : {D : Type 0} → (D → ℕ → Option (List ℕ)) → Opened D → World
+opening_world held w = beginning w.layout w.callers (map held w.devices)
 
 -- a lane with this number that was just opened over its device
 abbrev pub opening_lane : {D : Type 0} → Layout → ℕ → D → Lane D

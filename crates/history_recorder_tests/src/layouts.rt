@@ -69,9 +69,12 @@ fn lanes_of(alloc: Global, rows: &[&[Put]]) -> Result<Vec<Dones>, Fail>
     Ok(lanes)
 }
 
-/// Whether the lanes of a row are laid out as it says, and the checker accepts that.
+/// Whether the lanes of a row are laid out as it says, once more where memory was refused, and the checker accepts that.
 fn is_laid_out(alloc: Global, row: &Row) -> Result<bool, Fail> {
-    let (history, certificate) = lay_out(alloc, lanes_of(alloc, row.lanes)?)?;
+    let (history, certificate) = match lay_out(alloc, lanes_of(alloc, row.lanes)?) {
+        Ok(laid) => laid,
+        Err(_) => lay_out(alloc, lanes_of(alloc, row.lanes)?)?,
+    };
     let verdict = check(alloc, &history, &certificate)?;
     Ok(
         has_keys(&history, row.keys)

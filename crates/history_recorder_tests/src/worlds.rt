@@ -117,7 +117,8 @@ fn letter(reply: &Reply) -> u8 {
         Reply::Flushed(Flushed::Wrote) => b'w',
         Reply::Flushed(_) => b'f',
         Reply::MoveBegun(Ok(Begin::Job(_))) => b'j',
-        Reply::MoveBegun(_) => b'n',
+        Reply::MoveBegun(Ok(_)) => b'n',
+        Reply::MoveBegun(Err(_)) => b'x',
         Reply::Committed(Committed::Written) => b'W',
         Reply::Committed(Committed::StalePlan) => b'S',
         Reply::Committed(Committed::BadPlan) => b'B',
@@ -182,13 +183,48 @@ fn is_played(played: &Played, row: &Row) -> bool {
         && lists(&played.certificate, row.certificate)
 }
 
+// Whether a row is played as it says, and accepted. Where memory was refused to one of its acts or moves, what was answered
+// is accepted too, and it is played once more.
 fn plays(alloc: Global, row: &Row) -> Result<bool, Fail> {
-    let played = play(alloc, world(alloc, row)?, events(alloc, row)?.as_slice())?;
-    let verdict = check(alloc, &played.history, &played.certificate)?;
-    Ok(is_played(&played, row) && verdict == Verdict::Accepted)
+    let first = played(alloc, row)?;
+    let accepted = is_accepted(alloc, &first)?;
+    Ok(accepted && (is_played(&first, row) || is_refused(&first) && plays_again(alloc, row)?))
 }
 
-const ROWS: [Row; 5] = [
+fn plays_again(alloc: Global, row: &Row) -> Result<bool, Fail> {
+    let again = played(alloc, row)?;
+    let accepted = is_accepted(alloc, &again)?;
+    Ok(accepted && is_played(&again, row))
+}
+
+// What is played of a row, once more where memory was refused to `play` itself.
+fn played(alloc: Global, row: &Row) -> Result<Played, Fail> {
+    let events = events(alloc, row)?;
+    match play(alloc, world(alloc, row)?, events.as_slice()) {
+        Ok(played) => Ok(played),
+        Err(_) => Ok(play(alloc, world(alloc, row)?, events.as_slice())?),
+    }
+}
+
+fn is_accepted(alloc: Global, played: &Played) -> Result<bool, Fail> {
+    let verdict = match check(alloc, &played.history, &played.certificate) {
+        Ok(verdict) => verdict,
+        Err(_) => check(alloc, &played.history, &played.certificate)?,
+    };
+    Ok(verdict == Verdict::Accepted)
+}
+
+// Whether an act or the beginning of a move was refused.
+fn is_refused(played: &Played) -> bool {
+    for number in 0..played.replies.len() {
+        if letter(played.replies.at(number)) == b'x' {
+            return true;
+        }
+    }
+    false
+}
+
+const ROWS: [Row; 6] = [
     // A get that is done behind the put that began before it.
     Row {
         lanes: 1,
@@ -305,6 +341,53 @@ const ROWS: [Row; 5] = [
         ],
         certificate: &[0, 1],
     },
+    // Moves in flight in both lanes. A put strikes the item of the first, whose new value is found and not the moved one.
+    Row {
+        lanes: 2,
+        memory: 1,
+        events: &[
+            (Happens::Put(0, b"a", b"1"), b'b'),
+            (Happens::Act(0), b'p'),
+            (Happens::End(0), b'e'),
+            (Happens::Put(0, b"c", b"2"), b'b'),
+            (Happens::Act(0), b'p'),
+            (Happens::End(0), b'e'),
+            (Happens::Put(1, b"b", b"3"), b'b'),
+            (Happens::Act(1), b'p'),
+            (Happens::End(1), b'e'),
+            (Happens::Put(1, b"d", b"4"), b'b'),
+            (Happens::Act(1), b'p'),
+            (Happens::End(1), b'e'),
+            (Happens::Flush(0), b's'),
+            (Happens::Flush(1), b's'),
+            (Happens::Flush(0), b'w'),
+            (Happens::Flush(1), b'w'),
+            (Happens::MoveBegin(0), b'j'),
+            (Happens::MoveBegin(1), b'j'),
+            (Happens::Put(2, b"a", b"5"), b'b'),
+            (Happens::Act(2), b'p'),
+            (Happens::Commit(1, 0, 1), b'W'),
+            (Happens::Commit(0, 0, 1), b'W'),
+            (Happens::Abort(1, 1), b'S'),
+            (Happens::End(2), b'e'),
+            (Happens::Get(0, b"b"), b'b'),
+            (Happens::Act(0), b'h'),
+            (Happens::End(0), b'e'),
+            (Happens::Get(1, b"a"), b'b'),
+            (Happens::Act(1), b'h'),
+            (Happens::End(1), b'e'),
+        ],
+        history: &[
+            Called(0, 1, 3, b"a", b'p', b"1"),
+            Called(0, 4, 6, b"c", b'p', b"2"),
+            Called(2, 13, 15, b"a", b'p', b"5"),
+            Called(1, 19, 21, b"a", b'h', b"5"),
+            Called(1, 7, 9, b"b", b'p', b"3"),
+            Called(1, 10, 12, b"d", b'p', b"4"),
+            Called(0, 16, 18, b"b", b'h', b"3"),
+        ],
+        certificate: &[0, 1, 4, 5, 2, 6, 3],
+    },
 ];
 
 #[test]
@@ -331,5 +414,27 @@ fn a_world_is_not_opened(rt: HostRuntime) -> Result<(), Fail> {
         0,
     );
     assert!(rt; matches!(&refused, Err(OpenWorldFault::ConfigFault { field: f }) if *f == field));
+    Ok(())
+}
+
+// The fault of a world of one lane over a device of so many pages.
+fn fault_over<const PAGE: usize>(
+    alloc: Global,
+    pages: u32,
+) -> Result<Option<OpenWorldFault>, Fail> {
+    let mut devices = Vec::new(alloc);
+    devices.push(MemoryDevice::<PAGE>::new(alloc, pages)?)?;
+    let opened = World::<MemoryDevice<PAGE>, PAGE>::open(alloc, &config(&ROWS[0]), devices, 1);
+    Ok(opened.err())
+}
+
+#[test]
+fn a_world_is_not_opened_over_small_devices_or_pages(rt: HostRuntime) -> Result<(), Fail> {
+    let small = fault_over::<256>(rt.alloc(), 2)?;
+    assert!(rt; small == Some(OpenWorldFault::DeviceTooSmall));
+    let narrow = fault_over::<128>(rt.alloc(), 2)?;
+    assert!(rt; narrow == Some(OpenWorldFault::WrongPage));
+    let large = fault_over::<256>(rt.alloc(), 3)?;
+    assert!(rt; large.is_none());
     Ok(())
 }

@@ -47,3 +47,36 @@ fn store(alloc: Global, config: &Config) -> Result<Store<MemoryDevice<256>, 256>
         Err(_) => Ok(Store::open(alloc, config, device(alloc)?)?),
     }
 }
+
+/// An empty store's configuration, and tables of its calls, which are made one after the other.
+#[derive(Clone, Copy)]
+struct Row {
+    config: Config,
+    tables: &'static [&'static [Step]],
+}
+
+// Makes the calls of each row, of a store of its own.
+fn run_rows(rt: &impl Abort, alloc: Global, rows: &[Row]) -> Result<(), Fail> {
+    for number in 0..rows.len() {
+        run_row(rt, alloc, &rows[number])?;
+    }
+    Ok(())
+}
+
+fn run_row(rt: &impl Abort, alloc: Global, row: &Row) -> Result<(), Fail> {
+    let mut opened = store(alloc, &row.config)?;
+    run_tables(rt, alloc, &mut opened, row.tables)
+}
+
+// Makes the calls of these tables, one after the other.
+fn run_tables<D: PageDevice<PAGE>, const PAGE: usize>(
+    rt: &impl Abort,
+    alloc: Global,
+    store: &mut Store<D, PAGE>,
+    tables: &[&[Step]],
+) -> Result<(), Fail> {
+    for number in 0..tables.len() {
+        run(rt, alloc, store, tables[number])?;
+    }
+    Ok(())
+}

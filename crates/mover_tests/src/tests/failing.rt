@@ -101,14 +101,16 @@ const REFUSALS: [Refusal; 11] = [
 ];
 
 // A store over a device that refuses one call.
-pub fn refusing(
-    alloc: Global,
-    call: u32,
-) -> Result<Store<FuseDevice<MemoryDevice<256>>, 256>, Fail> {
+fn refusing(alloc: Global, call: u32) -> Result<Store<FuseDevice<MemoryDevice<256>>, 256>, Fail> {
     match Store::open(alloc, &ONE_SET, FuseDevice::one(device(alloc)?, call)) {
         Ok(store) => Ok(store),
         Err(_) => Ok(Store::open(alloc, &ONE_SET, FuseDevice::one(device(alloc)?, call))?),
     }
+}
+
+/// Makes each of these calls of an empty store, whose device refuses one call.
+pub fn run_refusing(rt: &impl Abort, alloc: Global, call: u32, steps: &[Step]) -> Result<(), Fail> {
+    run(rt, alloc, &mut refusing(alloc, call)?, steps)
 }
 
 // Two objects are moved one after the other.
@@ -128,7 +130,7 @@ fn two_moves(rt: &impl Abort, alloc: Global, refusal: &Refusal) -> Result<(), Fa
         Step::Get(b"bx", refusal.found[0]),
         Step::Get(b"ax", refusal.found[1]),
     ];
-    run(rt, alloc, &mut refusing(alloc, refusal.call)?, &steps)
+    run_refusing(rt, alloc, refusal.call, &steps)
 }
 
 #[test]
@@ -151,8 +153,7 @@ const READ_AGAIN: [Step; 6] = [
 
 #[test]
 fn a_fault_changes_nothing(rt: HostRuntime) -> Result<(), Fail> {
-    let alloc = rt.alloc();
-    run(&rt, alloc, &mut refusing(alloc, 2)?, &READ_AGAIN)
+    run_refusing(&rt, rt.alloc(), 2, &READ_AGAIN)
 }
 
 // The log's page is not what was written.
@@ -200,9 +201,12 @@ fn losing(alloc: Global, lost: u32) -> Result<Store<LosingDevice, 256>, Fail> {
     }
 }
 
+fn run_losing(rt: &impl Abort, alloc: Global, lost: u32, steps: &[Step]) -> Result<(), Fail> {
+    run(rt, alloc, &mut losing(alloc, lost)?, steps)
+}
+
 #[test]
 fn a_strange_page_is_damaged(rt: HostRuntime) -> Result<(), Fail> {
-    let alloc = rt.alloc();
-    run(&rt, alloc, &mut losing(alloc, 1)?, &LOG_DAMAGED)?;
-    run(&rt, alloc, &mut losing(alloc, 0)?, &SET_DAMAGED)
+    run_losing(&rt, rt.alloc(), 1, &LOG_DAMAGED)?;
+    run_losing(&rt, rt.alloc(), 0, &SET_DAMAGED)
 }

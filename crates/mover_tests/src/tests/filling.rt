@@ -21,11 +21,14 @@ const BOTH_SEGMENTS: [Step; 17] = [
     Step::Get(b"cx", Found::Set(b"3")),
 ];
 
+const WAITING: [Row; 1] = [Row {
+    config: ONE_SET,
+    tables: &[&BOTH_SEGMENTS],
+}];
+
 #[test]
 fn a_full_log_waits_for_a_move(rt: HostRuntime) -> Result<(), Fail> {
-    let alloc = rt.alloc();
-    let mut opened = store(alloc, &ONE_SET)?;
-    run(&rt, alloc, &mut opened, &BOTH_SEGMENTS)
+    run_rows(&rt, rt.alloc(), &WAITING)
 }
 
 const ONE_ENTRY: [Step; 5] = [
@@ -49,19 +52,23 @@ const BOTH_BUFFERS: [Step; 7] = [
     Step::Get(b"ax", Found::Log(&LARGE)),
 ];
 
-#[test]
-fn what_finds_no_place_in_the_log_is_lost(rt: HostRuntime) -> Result<(), Fail> {
-    let alloc = rt.alloc();
-    let mut one_entry = store(
-        alloc,
-        &Config {
+const NO_PLACE: [Row; 2] = [
+    Row {
+        config: Config {
             entries: 1,
             ..ONE_SET
         },
-    )?;
-    run(&rt, alloc, &mut one_entry, &ONE_ENTRY)?;
-    let mut both = store(alloc, &ONE_SET)?;
-    run(&rt, alloc, &mut both, &BOTH_BUFFERS)
+        tables: &[&ONE_ENTRY],
+    },
+    Row {
+        config: ONE_SET,
+        tables: &[&BOTH_BUFFERS],
+    },
+];
+
+#[test]
+fn what_finds_no_place_in_the_log_is_lost(rt: HostRuntime) -> Result<(), Fail> {
+    run_rows(&rt, rt.alloc(), &NO_PLACE)
 }
 
 const LARGEST: [u8; 233] = [b'v'; 233];
@@ -75,9 +82,12 @@ const BY_SIZE: [Step; 3] = [
     Step::Get(b"a", Found::Memory(&LARGEST)),
 ];
 
+const SIZES: [Row; 1] = [Row {
+    config: ONE_SET,
+    tables: &[&BY_SIZE],
+}];
+
 #[test]
 fn an_object_fits_on_a_page(rt: HostRuntime) -> Result<(), Fail> {
-    let alloc = rt.alloc();
-    let mut opened = store(alloc, &ONE_SET)?;
-    run(&rt, alloc, &mut opened, &BY_SIZE)
+    run_rows(&rt, rt.alloc(), &SIZES)
 }

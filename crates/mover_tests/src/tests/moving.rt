@@ -7,17 +7,17 @@ const IN_MEMORY: [Step; 3] = [
     Step::Get(b"b", Found::Absent),
 ];
 
+const MEMORY: [Row; 1] = [Row {
+    config: Config {
+        memory: 4,
+        ..ONE_SET
+    },
+    tables: &[&IN_MEMORY],
+}];
+
 #[test]
 fn what_was_put_is_in_memory(rt: HostRuntime) -> Result<(), Fail> {
-    let alloc = rt.alloc();
-    let mut opened = store(
-        alloc,
-        &Config {
-            memory: 4,
-            ..ONE_SET
-        },
-    )?;
-    run(&rt, alloc, &mut opened, &IN_MEMORY)
+    run_rows(&rt, rt.alloc(), &MEMORY)
 }
 
 const THROUGH_ALL_TIERS: [Step; 20] = [
@@ -43,11 +43,14 @@ const THROUGH_ALL_TIERS: [Step; 20] = [
     Step::Get(b"cx", Found::Absent),
 ];
 
+const TIERS: [Row; 1] = [Row {
+    config: ONE_SET,
+    tables: &[&THROUGH_ALL_TIERS],
+}];
+
 #[test]
 fn an_object_goes_through_the_tiers(rt: HostRuntime) -> Result<(), Fail> {
-    let alloc = rt.alloc();
-    let mut opened = store(alloc, &ONE_SET)?;
-    run(&rt, alloc, &mut opened, &THROUGH_ALL_TIERS)
+    run_rows(&rt, rt.alloc(), &TIERS)
 }
 
 const DROPPED: [Step; 7] = [
@@ -76,15 +79,24 @@ const READMITTED: [Step; 12] = [
     Step::Get(b"bx", Found::Memory(b"2")),
 ];
 
+const ALONE: [Row; 2] = [
+    Row {
+        config: Config {
+            threshold: 2,
+            ..ONE_SET
+        },
+        tables: &[&DROPPED],
+    },
+    Row {
+        config: Config {
+            threshold: 2,
+            ..ONE_SET
+        },
+        tables: &[&READMITTED],
+    },
+];
+
 #[test]
 fn what_moves_alone_is_dropped_or_readmitted(rt: HostRuntime) -> Result<(), Fail> {
-    let alloc = rt.alloc();
-    let pairs = Config {
-        threshold: 2,
-        ..ONE_SET
-    };
-    let mut dropping = store(alloc, &pairs)?;
-    run(&rt, alloc, &mut dropping, &DROPPED)?;
-    let mut readmitting = store(alloc, &pairs)?;
-    run(&rt, alloc, &mut readmitting, &READMITTED)
+    run_rows(&rt, rt.alloc(), &ALONE)
 }

@@ -1,5 +1,5 @@
 //! Moves that begin in one call and end in another.
-use super::failing::refusing;
+use super::failing::run_refusing;
 use super::run::{Began, Known};
 use super::*;
 use mover::{Aborted, Committed};
@@ -30,7 +30,7 @@ const PUT_BETWEEN: [Step; 13] = [
 ];
 
 // One of the two objects of a move is removed before its plan comes.
-const REMOVED_BETWEEN: [Step; 9] = [
+const REMOVED_BETWEEN: [Step; 10] = [
     Step::Put(b"ax", b"1", 0, Pushed::Nobody),
     Step::Put(b"bx", b"2", 0, Pushed::Logged),
     Step::Flush(Flushed::Sealed),
@@ -40,6 +40,7 @@ const REMOVED_BETWEEN: [Step; 9] = [
     Step::Remove(b"ax"),
     Step::Commit(&[0, 1], 1, Committed::Written),
     Step::Get(b"bx", Found::Set(b"2")),
+    Step::Get(b"ax", Found::Absent),
 ];
 
 // Of four objects one is put anew, one removed, one forgotten.
@@ -62,22 +63,27 @@ const STRUCK_BETWEEN: [Step; 16] = [
     Step::Get(b"dx", Found::Set(b"4")),
 ];
 
-#[test]
-fn what_is_struck_before_its_plan_comes_is_not_written(rt: HostRuntime) -> Result<(), Fail> {
-    let alloc = rt.alloc();
-    let mut halved = store(
-        alloc,
-        &Config {
+const STRUCK: [Row; 3] = [
+    Row {
+        config: Config {
             admit: 32768,
             ..ONE_SET
         },
-    )?;
-    run(&rt, alloc, &mut halved, &PUT_BETWEEN)?;
-    let mut opened = store(alloc, &ONE_SET)?;
-    run(&rt, alloc, &mut opened, &REMOVED_BETWEEN)?;
-    run(&rt, alloc, &mut opened, &[Step::Get(b"ax", Found::Absent)])?;
-    let mut struck = store(alloc, &ONE_SET)?;
-    run(&rt, alloc, &mut struck, &STRUCK_BETWEEN)
+        tables: &[&PUT_BETWEEN],
+    },
+    Row {
+        config: ONE_SET,
+        tables: &[&REMOVED_BETWEEN],
+    },
+    Row {
+        config: ONE_SET,
+        tables: &[&STRUCK_BETWEEN],
+    },
+];
+
+#[test]
+fn what_is_struck_before_its_plan_comes_is_not_written(rt: HostRuntime) -> Result<(), Fail> {
+    run_rows(&rt, rt.alloc(), &STRUCK)
 }
 
 // A neighbour of one tag takes the record out of the log, and not the item out of the move.
@@ -108,18 +114,29 @@ const OTHER_SET: [Step; 9] = [
     Step::Get(b"a", Found::Set(b"1")),
 ];
 
-#[test]
-fn a_key_of_the_same_tag_leaves_the_item(rt: HostRuntime) -> Result<(), Fail> {
-    let alloc = rt.alloc();
-    let mut opened = store(alloc, &ONE_SET)?;
-    run(&rt, alloc, &mut opened, &NEIGHBOUR)?;
-    let two_sets = Config { sets: 2, ..ONE_SET };
-    let larger = match MemoryDevice::new(alloc, 4) {
+const ONE_TAG: [Row; 1] = [Row {
+    config: ONE_SET,
+    tables: &[&NEIGHBOUR],
+}];
+
+// A store of two sets.
+fn two_sets(alloc: Global) -> Result<Store<MemoryDevice<256>, 256>, Fail> {
+    let config = Config { sets: 2, ..ONE_SET };
+    let device = match MemoryDevice::new(alloc, 4) {
         Ok(device) => device,
         Err(_) => MemoryDevice::new(alloc, 4)?,
     };
-    let mut parted = Store::<MemoryDevice<256>, 256>::open(alloc, &two_sets, larger)?;
-    run(&rt, alloc, &mut parted, &OTHER_SET)
+    Ok(Store::open(alloc, &config, device)?)
+}
+
+fn run_in_two_sets(rt: &impl Abort, alloc: Global, steps: &[Step]) -> Result<(), Fail> {
+    run(rt, alloc, &mut two_sets(alloc)?, steps)
+}
+
+#[test]
+fn a_key_of_the_same_tag_leaves_the_item(rt: HostRuntime) -> Result<(), Fail> {
+    run_rows(&rt, rt.alloc(), &ONE_TAG)?;
+    run_in_two_sets(&rt, rt.alloc(), &OTHER_SET)
 }
 
 // Ten objects are in the set, and one more is to join them.
@@ -152,19 +169,17 @@ const NINE_BETWEEN: [Step; 17] = [
     Step::Get(b"kx", Found::Set(b"1")),
 ];
 
+const FORGOTTEN: [Row; 1] = [Row {
+    config: Config {
+        entries: 16,
+        ..ONE_SET
+    },
+    tables: &[&striking::ELEVEN, &TEN_AND_ONE, &NINE_BETWEEN],
+}];
+
 #[test]
 fn a_forgotten_set_is_written_again(rt: HostRuntime) -> Result<(), Fail> {
-    let alloc = rt.alloc();
-    let mut opened = store(
-        alloc,
-        &Config {
-            entries: 16,
-            ..ONE_SET
-        },
-    )?;
-    run(&rt, alloc, &mut opened, &striking::ELEVEN)?;
-    run(&rt, alloc, &mut opened, &TEN_AND_ONE)?;
-    run(&rt, alloc, &mut opened, &NINE_BETWEEN)
+    run_rows(&rt, rt.alloc(), &FORGOTTEN)
 }
 
 // The page with one of the objects is lost before the plan comes: it is the third call of the device that fails.
@@ -220,10 +235,9 @@ const SECOND_FORGOTTEN: [Step; 15] = [
 
 #[test]
 fn a_refused_call_between_loses_what_it_must(rt: HostRuntime) -> Result<(), Fail> {
-    let alloc = rt.alloc();
-    run(&rt, alloc, &mut refusing(alloc, 3)?, &LOST_BETWEEN)?;
-    run(&rt, alloc, &mut refusing(alloc, 3)?, &FIRST_FORGOTTEN)?;
-    run(&rt, alloc, &mut refusing(alloc, 8)?, &SECOND_FORGOTTEN)
+    run_refusing(&rt, rt.alloc(), 3, &LOST_BETWEEN)?;
+    run_refusing(&rt, rt.alloc(), 3, &FIRST_FORGOTTEN)?;
+    run_refusing(&rt, rt.alloc(), 8, &SECOND_FORGOTTEN)
 }
 
 // A move that is given up leaves its records where they were; its number is never good again.
@@ -260,12 +274,14 @@ const KEPT_NOTHING: [Step; 3] = [
     Step::Begin(Began::Freed),
 ];
 
+const NUMBERED: [Row; 1] = [Row {
+    config: ONE_SET,
+    tables: &[&GIVEN_UP, &KEPT_NOTHING],
+}];
+
 #[test]
 fn a_number_is_good_once(rt: HostRuntime) -> Result<(), Fail> {
-    let alloc = rt.alloc();
-    let mut opened = store(alloc, &ONE_SET)?;
-    run(&rt, alloc, &mut opened, &GIVEN_UP)?;
-    run(&rt, alloc, &mut opened, &KEPT_NOTHING)
+    run_rows(&rt, rt.alloc(), &NUMBERED)
 }
 
 const HALF: [u8; 100] = [b'v'; 100];
@@ -273,7 +289,7 @@ const HALF: [u8; 100] = [b'v'; 100];
 const LARGE_ITEM: Known = Known { size: 106, ..FRESH };
 
 // Two of these objects fit on a page; an item that was struck counts.
-const TOO_LARGE_TOGETHER: [Step; 12] = [
+const TOO_LARGE_TOGETHER: [Step; 13] = [
     Step::Put(b"ax", &HALF, 0, Pushed::Nobody),
     Step::Put(b"bx", &HALF, 0, Pushed::Logged),
     Step::Put(b"cx", &HALF, 0, Pushed::Logged),
@@ -286,17 +302,15 @@ const TOO_LARGE_TOGETHER: [Step; 12] = [
     Step::Commit(&[0, 1, 2], 1, Committed::BadPlan),
     Step::Commit(&[0, 1], 1, Committed::Written),
     Step::Get(b"cx", Found::Set(&HALF)),
+    Step::Get(b"bx", Found::Set(&HALF)),
 ];
+
+const FITTING: [Row; 1] = [Row {
+    config: ONE_SET,
+    tables: &[&TOO_LARGE_TOGETHER],
+}];
 
 #[test]
 fn a_plan_has_to_fit_on_a_page(rt: HostRuntime) -> Result<(), Fail> {
-    let alloc = rt.alloc();
-    let mut opened = store(alloc, &ONE_SET)?;
-    run(&rt, alloc, &mut opened, &TOO_LARGE_TOGETHER)?;
-    run(
-        &rt,
-        alloc,
-        &mut opened,
-        &[Step::Get(b"bx", Found::Set(&HALF))],
-    )
+    run_rows(&rt, rt.alloc(), &FITTING)
 }

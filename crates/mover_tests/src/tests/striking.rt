@@ -10,11 +10,14 @@ const ONE_TAG: [Step; 5] = [
     Step::Get(b"b", Found::Log(b"2")),
 ];
 
+const NEIGHBOURS: [Row; 1] = [Row {
+    config: ONE_SET,
+    tables: &[&ONE_TAG],
+}];
+
 #[test]
 fn a_put_strikes_its_neighbours_of_one_tag(rt: HostRuntime) -> Result<(), Fail> {
-    let alloc = rt.alloc();
-    let mut opened = store(alloc, &ONE_SET)?;
-    run(&rt, alloc, &mut opened, &ONE_TAG)
+    run_rows(&rt, rt.alloc(), &NEIGHBOURS)
 }
 
 // What is on flash of a key is hidden by a put of it, also once the new pair was lost.
@@ -32,17 +35,17 @@ const PUT_ANEW: [Step; 11] = [
     Step::Get(b"cx", Found::Memory(b"5")),
 ];
 
+const HIDDEN: [Row; 1] = [Row {
+    config: Config {
+        admit: 32768,
+        ..ONE_SET
+    },
+    tables: &[&PUT_ANEW],
+}];
+
 #[test]
 fn a_put_hides_what_is_on_flash(rt: HostRuntime) -> Result<(), Fail> {
-    let alloc = rt.alloc();
-    let mut opened = store(
-        alloc,
-        &Config {
-            admit: 32768,
-            ..ONE_SET
-        },
-    )?;
-    run(&rt, alloc, &mut opened, &PUT_ANEW)
+    run_rows(&rt, rt.alloc(), &HIDDEN)
 }
 
 const NONE_ADMITTED: [Step; 3] = [
@@ -51,17 +54,17 @@ const NONE_ADMITTED: [Step; 3] = [
     Step::Get(b"ax", Found::Absent),
 ];
 
+const LOST: [Row; 1] = [Row {
+    config: Config {
+        admit: 0,
+        ..ONE_SET
+    },
+    tables: &[&NONE_ADMITTED],
+}];
+
 #[test]
 fn where_none_is_admitted_a_pair_is_lost(rt: HostRuntime) -> Result<(), Fail> {
-    let alloc = rt.alloc();
-    let mut opened = store(
-        alloc,
-        &Config {
-            admit: 0,
-            ..ONE_SET
-        },
-    )?;
-    run(&rt, alloc, &mut opened, &NONE_ADMITTED)
+    run_rows(&rt, rt.alloc(), &LOST)
 }
 
 pub const ELEVEN: [Step; 14] = [
@@ -98,16 +101,15 @@ const NINE_STRIKES: [Step; 14] = [
     Step::Get(b"kx", Found::Memory(b"1")),
 ];
 
+const NINTH: [Row; 1] = [Row {
+    config: Config {
+        entries: 16,
+        ..ONE_SET
+    },
+    tables: &[&ELEVEN, &NINE_STRIKES],
+}];
+
 #[test]
 fn the_ninth_strike_forgets_the_set(rt: HostRuntime) -> Result<(), Fail> {
-    let alloc = rt.alloc();
-    let mut opened = store(
-        alloc,
-        &Config {
-            entries: 16,
-            ..ONE_SET
-        },
-    )?;
-    run(&rt, alloc, &mut opened, &ELEVEN)?;
-    run(&rt, alloc, &mut opened, &NINE_STRIKES)
+    run_rows(&rt, rt.alloc(), &NINTH)
 }

@@ -1,12 +1,12 @@
 -- From the events that were played on lanes that were just opened.
 use Rattle.std.proofs.Common.{◌≤◌, ap, sym, ◌∙◌, subst, length, arith}
-use Rattle.std.specs.Prelude.{All, AllPairs}
+use Rattle.std.specs.Prelude.{All}
 use Rattle.std.specs.List.{flat_map}
-use Rattle.certificate_checker.specs.Lanes.{calls_of, IsLane, AreApart, PointsRise}
+use Rattle.certificate_checker.specs.Lanes.{calls_of, PointsRise, IsLaidOut}
 use Rattle.history_recorder.specs.Books.{Books, dones}
 use Rattle.history_recorder.specs.Game.{unboxed, layout_in, honest_in, state_in}
-use Rattle.history_recorder.proofs.Ended.{ends_rise, ends_few, ends_apart, ends_lanes}
-use Rattle.history_recorder.proofs.WorldsOpened.{opened_game, honest_game, run_opened}
+use Rattle.history_recorder.proofs.Ended.{ends_rise, ends_few}
+use Rattle.history_recorder.proofs.WorldsOpened.{opened_game, run_opened, accepted_opened}
 use Rattle.history_recorder.proofs.playing.play.Goals as goal
 
 pub lay_out-requires-clause-rise : goal.lay_out-requires-clause-rise
@@ -28,8 +28,8 @@ pub returns-clause-run : goal.returns-clause-run
 returns-clause-run g c =
     run_opened g.D.PageDevice.honest g.D.PageDevice.held c.args.world c.world.inside.layout c.world.inside.callers c.world.inside.lanes.items c.new-game.result.lanes.items c.world.view_is c.new-game.ensures.lanes g.row.PAGE c.new-game.result.layout c.new-game.result.ledger c.args.events.now c.in_ok-replies.replies _ c.world.invariant c.new-game.ensures.layout (c.new-game.ensures.ledger ∙ c.in_ok-ledger.ensures) c.in_ok-replies.ensures.played.run
 
+-- by the law of runs
 pub returns-clause-accepted : goal.returns-clause-accepted
 returns-clause-accepted g c = λ honest.
-    let same = c.in_ok-dones.ensures ∙ ap dones c.into_books.ensures in
-    let honests = c.in_ok-replies.ensures.played.honesty (honest_game g.D.PageDevice.honest g.D.PageDevice.held c.args.world c.world.inside.layout c.world.inside.callers c.world.inside.lanes.items c.new-game.result.lanes.items c.world.view_is c.new-game.ensures.lanes honest) in
-    c.in_ok-history.ensures.accepted (subst (All IsLane) (sym same) (ends_lanes layout_in (λ l. l.lane) (honest_in g.D.PageDevice.honest) (λ l. l.calls) (state_in g.D.PageDevice.held) c.new-game.result.layout c.run.new.self.ledger (unboxed c.run.new.self.lanes.items) c.in_ok-replies.ensures.played.kept honests)) (subst (AllPairs AreApart) (sym same) (ends_apart layout_in (λ l. l.lane) (honest_in g.D.PageDevice.honest) (λ l. l.calls) (state_in g.D.PageDevice.held) c.new-game.result.layout c.run.new.self.ledger (unboxed c.run.new.self.lanes.items) c.in_ok-replies.ensures.played.kept))
+    accepted_opened g.D.PageDevice.honest g.D.PageDevice.held c.args.world c.world.inside.layout c.world.inside.callers c.world.inside.lanes.items c.new-game.result.lanes.items c.world.view_is c.new-game.ensures.lanes g.row.PAGE c.new-game.result.layout c.new-game.result.ledger c.run.new.self.ledger c.args.events.now c.in_ok-replies.replies c.in_ok-history.history c.in_ok-history.certificate c.world.invariant c.new-game.ensures.layout (c.new-game.ensures.ledger ∙ c.in_ok-ledger.ensures) (returns-clause-run g c honest) c.in_ok-replies.ensures.played.booked
+    (subst (λ ds. IsLaidOut ds c.in_ok-history.history c.in_ok-history.certificate) (c.in_ok-dones.ensures ∙ ap dones c.into_books.ensures) c.in_ok-history.ensures.laid_out)
