@@ -1,11 +1,12 @@
 // The rounds of a shared cache: what it does in the background, a lane at a time.
 ghost use Rattle.std.specs.Prelude.{◌≡◌, ◌↔◌, ◌<◌};
 ghost use Rattle.mover.specs.declared.committed.Committed.{Committed};
-ghost use Rattle.mover.specs.declared.moved.Moved.{Moved};
+ghost use Rattle.shared_cache.specs.declared.moved.Moved.{Moved};
 
 use super::SharedCache;
+use crate::moved::Moved;
 use klog::Flushed;
-use mover::{Begin, Committed, Moved};
+use mover::{Begin, Committed};
 use page_device::PageDevice;
 use policy_laws::{EvictionPolicy, Job, Plan};
 use std::alloc::AllocError;
@@ -26,8 +27,8 @@ impl<D: PageDevice<PAGE>, P: EvictionPolicy + Drop, const PAGE: usize> SharedCac
     /// another; the policy makes its plan under no lock, so other calls of the lane go on meanwhile.
     ///
     /// `Written` and `Forgotten` end a move by the plan. `Freed`, `Readmitted`, `Dropped` and `PageLost` are done in the
-    /// first hold. `Nothing` and `Busy` did nothing: no segment is on the device; the move in flight is another round's,
-    /// as it would be too if this round's own had ended before its plan came.
+    /// first hold. `Nothing` and `Busy` did nothing. `StalePlan` and `BadPlan` change nothing in the second hold; neither
+    /// comes while each round ends its own move and the policy keeps its laws.
     ///
     /// `AllocError` in the first hold leaves the lane's tiers as they were, and no move in flight. Where it is the policy
     /// that is refused memory, the move is given up in a hold of its own: the tiers are as other calls left them, no move
@@ -86,14 +87,17 @@ impl<D: PageDevice<PAGE>, P: EvictionPolicy + Drop, const PAGE: usize> SharedCac
     }
 }
 
-/// What a round did that ended its move so. Where there was no move to end by its plan, the lane's moves are another's.
+/// What a round did whose plan was answered so.
 fn moved_by(committed: Committed) -> Moved
     ensures written { (result ≡ Moved.Written) ↔ (committed ≡ Committed.Written) }
     ensures forgotten { (result ≡ Moved.Forgotten) ↔ (committed ≡ Committed.Forgotten) }
+    ensures stale { (result ≡ Moved.StalePlan) ↔ (committed ≡ Committed.StalePlan) }
+    ensures bad { (result ≡ Moved.BadPlan) ↔ (committed ≡ Committed.BadPlan) }
 {
     match committed {
         Committed::Written => Moved::Written,
         Committed::Forgotten => Moved::Forgotten,
-        Committed::StalePlan | Committed::BadPlan => Moved::Busy,
+        Committed::StalePlan => Moved::StalePlan,
+        Committed::BadPlan => Moved::BadPlan,
     }
 }
