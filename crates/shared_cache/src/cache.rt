@@ -35,7 +35,7 @@ use std::sync::{Mutex, Wait};
 
 mod rounds;
 
-/// A cache that threads share: its lanes, each under a lock of its own, and their clock.
+/// A cache that threads share: its lanes, each under a lock of its own, their clock, and the policy of their moves.
 #[derive(Drop)]
 pub struct SharedCache<D: PageDevice<PAGE>, P: EvictionPolicy + Drop, const PAGE: usize> {
     alloc: Global,

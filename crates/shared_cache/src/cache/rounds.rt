@@ -23,16 +23,17 @@ impl<D: PageDevice<PAGE>, P: EvictionPolicy + Drop, const PAGE: usize> SharedCac
     }
 
     /// Moves the objects of a set from the oldest segment of a lane's log to their page, by the policy's plan; or
-    /// readmits or drops one, or frees the segment. It begins the move in one hold of the lane's lock and ends it in
-    /// another; the policy makes its plan under no lock, so other calls of the lane go on meanwhile.
+    /// readmits or drops one, or frees the segment. A move begins in one hold of the lane's lock and ends in another. The
+    /// policy makes its plan under no lock, so that calls of the lane go on meanwhile.
     ///
-    /// `Written` and `Forgotten` end a move by the plan. `Freed`, `Readmitted`, `Dropped` and `PageLost` are done in the
-    /// first hold. `Nothing` and `Busy` did nothing. `StalePlan` and `BadPlan` change nothing in the second hold; neither
-    /// comes while each round ends its own move and the policy keeps its laws.
+    /// `Written` and `Forgotten` end a move by the plan: the set's page is written, or could not be and the set is
+    /// forgotten. `Freed`, `Readmitted`, `Dropped` and `PageLost` are done in the first hold. `Nothing` and `Busy` do
+    /// nothing: no segment is on the device; the move in flight is another round's. `StalePlan` and `BadPlan` would change
+    /// nothing in the second hold; neither comes while each round ends its own move and the policy keeps its laws.
     ///
-    /// `AllocError` in the first hold leaves the lane's tiers as they were, and no move in flight. Where it is the policy
-    /// that is refused memory, the move is given up in a hold of its own: the tiers are as other calls left them, no move
-    /// of this round is in flight, and its number is not given again.
+    /// `AllocError` of the first hold leaves the lane as it was. Where it is the policy that is refused memory, the move
+    /// is given up in a hold of its own: the lane's tiers are as the calls meanwhile left them, none of this round's is in
+    /// flight, and its number is not given again.
     pub fn move_round<R: Wait>(&self, rt: &R, lane: u32) -> Result<Moved, AllocError>
         requires { lane < self.now.layout.lanes }
     {
