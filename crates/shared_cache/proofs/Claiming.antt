@@ -9,7 +9,7 @@ use Rattle.std.proofs.lemmas.Bool.{ltb-true}
 use Rattle.std.specs.Option.{option_map_or}
 use Rattle.history_recorder.specs.declared.noted.Noted.{Noted}
 use Rattle.certificate_checker.specs.declared.done.Done.{Done}
-use Rattle.shared_cache.specs.Finished.{noted_of, IsEnded, AreClaimed, weigh_slots}
+use Rattle.shared_cache.specs.Claimed.{noted_of, IsEnded, AreClaimed, weigh_slots}
 
 -- no call is claimed
 pub claimed_none : (cs : List Noted) (n : ℕ) → n ≡ length cs → AreClaimed cs (replicate n None)

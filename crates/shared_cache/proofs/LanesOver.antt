@@ -18,7 +18,8 @@ use Rattle.history_recorder.specs.declared.noted.Noted.{Noted}
 use Rattle.history_recorder.specs.Lane.{Lane, IsRecorded, deed_noted, max_calls}
 use Rattle.history_recorder.specs.Operations.{lane_of_key}
 use Rattle.history_recorder.specs.Points.{at_point, noted_in}
-use Rattle.shared_cache.specs.Finished.{Claims, noted_of, recorded_in, recorded_of, weigh_slots, weigh_lanes, lane_by, IsEnded, IsOver, AreOver}
+use Rattle.shared_cache.specs.Claimed.{Claims, noted_of, recorded_in, recorded_of, weigh_slots, weigh_lanes, IsEnded}
+use Rattle.shared_cache.specs.Over.{lane_by, IsOver, AreOver}
 
 -- one lane more is over
 pub over_more : {D : Type 0} (honest : D → Bool) (lane_of : List ℕ → ℕ) (n k : ℕ) (cs : List (List Noted)) (ds : List D) (c : List Noted) (d : D)

@@ -8,7 +8,8 @@ use Rattle.certificate_checker.specs.declared.done.Done.{Done}
 use Rattle.certificate_checker.specs.Lanes.{Stamped, stamp, stamped, stamped_from}
 use Rattle.shared_cache.specs.declared.listed.Listed.{Listed}
 use Rattle.shared_cache.specs.Passes.{Ticket}
-use Rattle.shared_cache.specs.Finished.{Claims, done_of, weigh_slots, weigh_lanes, weigh_calls, weigh_passes, recorded_in, recorded_of, noted_of, IsEnded}
+use Rattle.shared_cache.specs.Finished.{done_of, weigh_calls, weigh_passes}
+use Rattle.shared_cache.specs.Claimed.{Claims, weigh_slots, weigh_lanes, recorded_in, recorded_of, noted_of, IsEnded}
 
 -- one call more is claimed in a lane
 pub lane_claimed : (h : Stamped → ℕ) (n k : ℕ) (cs : List Claims) (i : ℕ) (c u : Claims) (d : Done)

@@ -12,7 +12,7 @@ ghost use Rattle.history_recorder.specs.Lane.{IsOfLane, last_point, max_calls};
 ghost use Rattle.history_recorder.specs.Operations.{key_of, lane_of_key};
 ghost use Rattle.history_recorder.specs.Points.{noted_in};
 ghost use Rattle.shared_cache.specs.Passes.{former, with_end, IsTimely, new_ticket, most_lanes};
-ghost use Rattle.shared_cache.specs.Finished.{IsOver};
+ghost use Rattle.shared_cache.specs.Over.{IsOver};
 ghost use Rattle.shared_cache.specs.Acts.{ActGives, ActLeaves, Explains, IsBook, IsFitting, Stands, listing, made};
 
 use crate::act_fault::ActFault;

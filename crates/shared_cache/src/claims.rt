@@ -3,7 +3,8 @@ ghost use Rattle.std.specs.Prelude.{◌≡◌, ◌≢◌, ◌↔◌, ℕ, ◌≤
 ghost use Rattle.certificate_checker.specs.declared.done.Done.{Done};
 ghost use Rattle.certificate_checker.specs.Lanes.{Stamped, stamped};
 ghost use Rattle.shared_cache.specs.Passes.{IsTimely, most_lanes};
-ghost use Rattle.shared_cache.specs.Finished.{IsEnded, noted_of, weigh_slots, weigh_lanes, weigh_calls, weigh_passes, recorded_in, recorded_of, has_pass, IsLeastMissing};
+ghost use Rattle.shared_cache.specs.Finished.{weigh_calls, weigh_passes, has_pass, IsLeastMissing};
+ghost use Rattle.shared_cache.specs.Claimed.{IsEnded, noted_of, weigh_slots, weigh_lanes, recorded_in, recorded_of};
 
 use crate::books::Pass;
 use crate::finish_fault::FinishFault;

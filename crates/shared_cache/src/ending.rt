@@ -3,7 +3,9 @@ ghost use Rattle.std.specs.Prelude.{◌≡◌, ◌≢◌, ◌≤◌, ℕ, All, I
 ghost use Rattle.history_recorder.specs.Points.{noted_in};
 ghost use Rattle.certificate_checker.specs.Lanes.{Stamped, stamped};
 ghost use Rattle.shared_cache.specs.Passes.{most_lanes};
-ghost use Rattle.shared_cache.specs.Finished.{AreOver, IsOver, IsEnded, lane_by, recorded_in, recorded_of, weigh_lanes, weigh_passes};
+ghost use Rattle.shared_cache.specs.Finished.{weigh_passes};
+ghost use Rattle.shared_cache.specs.Claimed.{IsEnded, recorded_in, recorded_of, weigh_lanes};
+ghost use Rattle.shared_cache.specs.Over.{AreOver, IsOver, lane_by};
 
 use crate::books::{LaneBook, Pass};
 use crate::claims::{claim_passes, close_claims};

@@ -3,7 +3,8 @@ ghost use Rattle.std.specs.Prelude.{◌≡◌, ℕ, ◌<◌, ◌≤◌, ◌+◌,
 ghost use Rattle.trace_file.specs.declared.call.Call.{Call};
 ghost use Rattle.history_recorder.specs.Points.{noted_in};
 ghost use Rattle.certificate_checker.specs.declared.done.Done.{Done};
-ghost use Rattle.shared_cache.specs.Finished.{IsEnded, noted_of, done_of, weigh_slots};
+ghost use Rattle.shared_cache.specs.Finished.{done_of};
+ghost use Rattle.shared_cache.specs.Claimed.{IsEnded, noted_of, weigh_slots};
 
 use crate::comparing::is_recorded_as;
 use crate::listed::Listed;
@@ -24,7 +25,7 @@ pub(crate) struct LaneClaims {
 impl Model for LaneClaims {
     ghost use Rattle.std.specs.Prelude.{map};
     ghost use Rattle.history_recorder.specs.Points.{noted_in};
-    ghost use Rattle.shared_cache.specs.Finished.{Claims, AreClaimed};
+    ghost use Rattle.shared_cache.specs.Claimed.{Claims, AreClaimed};
 
     ghost Value = { Claims };
 

@@ -1,6 +1,7 @@
 use Rattle.std.proofs.Common.{◌≡◌, ℕ, ◌+◌, ◌≤◌, All, length}
 use Rattle.certificate_checker.specs.Lanes.{Stamped}
-use Rattle.shared_cache.specs.Finished.{weigh_lanes, weigh_calls, recorded_in}
+use Rattle.shared_cache.specs.Finished.{weigh_calls}
+use Rattle.shared_cache.specs.Claimed.{weigh_lanes, recorded_in}
 use Rattle.shared_cache.proofs.claims.claim_calls.Given as goal
 
 abbrev pub invariant-loop-listed : goal.invariant-loop-listed

@@ -1,6 +1,7 @@
 use Rattle.std.proofs.Common.{◌≡◌, ℕ, ◌+◌, length}
 use Rattle.certificate_checker.specs.Lanes.{Stamped}
-use Rattle.shared_cache.specs.Finished.{weigh_lanes, weigh_passes, recorded_in}
+use Rattle.shared_cache.specs.Finished.{weigh_passes}
+use Rattle.shared_cache.specs.Claimed.{weigh_lanes, recorded_in}
 use Rattle.shared_cache.proofs.claims.claim_passes.Given as goal
 
 abbrev pub invariant-loop-pass : goal.invariant-loop-pass

@@ -1,6 +1,6 @@
 use Rattle.std.proofs.Common.{◌≡◌, ℕ, ◌+◌, ◌≤◌, ◌++◌, All, length, sum_by}
 use Rattle.certificate_checker.specs.Lanes.{Stamped, stamped}
-use Rattle.shared_cache.specs.Finished.{weigh_lanes, recorded_in, recorded_of, IsEnded}
+use Rattle.shared_cache.specs.Claimed.{weigh_lanes, recorded_in, recorded_of, IsEnded}
 use Rattle.shared_cache.specs.Passes.{most_lanes}
 use Rattle.shared_cache.proofs.claims.close_claims.Given as goal
 

@@ -1,5 +1,5 @@
 use Rattle.std.proofs.Common.{rules}
-use Rattle.shared_cache.specs.Finished.{lane_by}
+use Rattle.shared_cache.specs.Over.{lane_by}
 use Rattle.shared_cache.proofs.LanesOver.{over_claimed, unclaimed_more}
 use Rattle.shared_cache.proofs.ending.take_apart.Goals as goal
 

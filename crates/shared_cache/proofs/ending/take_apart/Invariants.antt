@@ -1,6 +1,7 @@
 use Rattle.std.proofs.Common.{◌≡◌, ℕ, ◌+◌, length}
 use Rattle.certificate_checker.specs.Lanes.{Stamped}
-use Rattle.shared_cache.specs.Finished.{AreOver, lane_by, weigh_lanes, recorded_in}
+use Rattle.shared_cache.specs.Claimed.{weigh_lanes, recorded_in}
+use Rattle.shared_cache.specs.Over.{AreOver, lane_by}
 use Rattle.shared_cache.proofs.ending.take_apart.Given as goal
 
 abbrev pub invariant-loop-lock : goal.invariant-loop-lock

@@ -1,6 +1,6 @@
 use Rattle.std.proofs.Common.{rules, ◌≡◌, ◌≤◌, length, sym, subst, ◌∙◌}
 use Rattle.certificate_checker.proofs.LaneEnds.{placed_apart}
-use Rattle.shared_cache.specs.Finished.{AreOver, lane_by}
+use Rattle.shared_cache.specs.Over.{AreOver, lane_by}
 use Rattle.shared_cache.proofs.LanesOver.{rise_over, few_in, lanes_over, placed_over, lanes_as_claims}
 use Rattle.shared_cache.proofs.cache.SharedCache.finish.Goals as goal
 

@@ -3,7 +3,8 @@ use Rattle.std.proofs.lemmas.Option.{slice_get-map}
 use Rattle.std.specs.Option.{option_map}
 use Rattle.history_recorder.specs.Points.{noted_in}
 use Rattle.history_recorder.specs.declared.noted.Noted.{Noted}
-use Rattle.shared_cache.specs.Finished.{noted_of, done_of}
+use Rattle.shared_cache.specs.Finished.{done_of}
+use Rattle.shared_cache.specs.Claimed.{noted_of}
 use Rattle.shared_cache.proofs.Claiming.{claimed_set, weigh_set, got}
 use Rattle.shared_cache.proofs.lane_claims.LaneClaims.claim.Goals as goal
 
