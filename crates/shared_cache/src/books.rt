@@ -3,12 +3,8 @@
 ghost use Rattle.std.specs.Prelude.{◌≡◌, ◌≢◌, ◌↔◌, ◌+◌, ◌<◌, ◌≤◌, ◌^◌, ◌++◌, ◌∷◌, [], All, IfOk, IfErr, OnOk, OnErr, IsTrue, Some, ◌⊎◌, length, map, max, option_copied, slice_set};
 ghost use Rattle.std.specs.Vec.{vec_capacity};
 ghost use Rattle.record_pages.specs.Asked.{HasNumbersOf};
-ghost use Rattle.page_device.specs.Device.{faults_after};
-ghost use Rattle.klog.specs.Flush.{is_page_lost, FlushGives};
 ghost use Rattle.mover.specs.Store.{opening};
-ghost use Rattle.mover.specs.Lane.{lane_of};
-ghost use Rattle.mover.specs.Flush.{LaneFlushes};
-ghost use Rattle.history_recorder.specs.Lane.{IsOfLane, last_point, max_calls};
+ghost use Rattle.history_recorder.specs.Lane.{IsOfLane, max_calls};
 ghost use Rattle.history_recorder.specs.Operations.{key_of, lane_of_key};
 ghost use Rattle.history_recorder.specs.Points.{noted_in};
 ghost use Rattle.shared_cache.specs.Passes.{former, with_end, IsTimely, new_ticket, most_lanes};

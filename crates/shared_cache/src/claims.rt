@@ -1,8 +1,8 @@
 // The calls of all lanes, while the passes claim them.
-ghost use Rattle.std.specs.Prelude.{◌≡◌, ◌≢◌, ◌↔◌, ℕ, ◌≤◌, ◌<◌, ◌+◌, All, IfOk, OnOk, IfErr, IfSome, IfNone, Err, length, map, sum_by, true};
+ghost use Rattle.std.specs.Prelude.{◌≡◌, ◌≢◌, ℕ, ◌≤◌, ◌<◌, ◌+◌, All, IfOk, OnOk, IfErr, IfSome, IfNone, Err, length, map, sum_by, true};
 ghost use Rattle.certificate_checker.specs.declared.done.Done.{Done};
 ghost use Rattle.certificate_checker.specs.Lanes.{Stamped, stamped};
-ghost use Rattle.shared_cache.specs.Passes.{IsTimely, most_lanes};
+ghost use Rattle.shared_cache.specs.Passes.{most_lanes};
 ghost use Rattle.shared_cache.specs.Finished.{weigh_calls, weigh_passes, has_pass, IsLeastMissing};
 ghost use Rattle.shared_cache.specs.Claimed.{IsEnded, noted_of, weigh_slots, weigh_lanes, recorded_in, recorded_of};
 

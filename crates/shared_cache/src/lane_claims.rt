@@ -1,5 +1,5 @@
 // A lane's calls, while the passes claim them.
-ghost use Rattle.std.specs.Prelude.{◌≡◌, ℕ, ◌<◌, ◌≤◌, ◌+◌, IfOk, IsTrue, All, IfErr, map, length, sum_by, replicate, None};
+ghost use Rattle.std.specs.Prelude.{◌≡◌, ℕ, ◌<◌, ◌≤◌, ◌+◌, IfOk, IsTrue, All, map, sum_by, replicate, None};
 ghost use Rattle.trace_file.specs.declared.call.Call.{Call};
 ghost use Rattle.history_recorder.specs.Points.{noted_in};
 ghost use Rattle.certificate_checker.specs.declared.done.Done.{Done};

@@ -1,6 +1,6 @@
 // The parts of a new cache.
-ghost use Rattle.std.specs.Prelude.{◌≡◌, ◌↔◌, ℕ, ◌<◌, ◌≤◌, All, Any, IfOk, IsTrue, length, slice_index_or};
-ghost use Rattle.shared_cache.specs.Stamps.{ClockId, new_sight};
+ghost use Rattle.std.specs.Prelude.{◌≡◌, ◌↔◌, ℕ, ◌<◌, All, Any, IfOk, IsTrue, length, slice_index_or};
+ghost use Rattle.shared_cache.specs.Stamps.{new_sight};
 ghost use Rattle.shared_cache.specs.Passes.{Ticket, new_ticket};
 
 use crate::books::{LaneBook, Pass};

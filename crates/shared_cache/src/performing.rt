@@ -1,5 +1,5 @@
 // An operation, performed and recorded by its lane.
-ghost use Rattle.std.specs.Prelude.{◌≡◌, ◌<◌, ◌⊎◌, ◌++◌, ◌∷◌, [], All, IfOk, IfErr, OnErr, length};
+ghost use Rattle.std.specs.Prelude.{◌≡◌, ◌<◌, ◌++◌, ◌∷◌, [], All, IfOk, IfErr, OnErr, length};
 ghost use Rattle.history_recorder.specs.Lane.{IsOfLane, max_calls};
 ghost use Rattle.history_recorder.specs.Operations.{key_of};
 ghost use Rattle.shared_cache.specs.Acts.{ActGives, ActLeaves, IsFitting, made};
