@@ -25,11 +25,12 @@ use crate::copying::copy_of;
 use crate::listed::Listed;
 use crate::performing::perform;
 use history_recorder::{MAX_CALLS, Operation, RecordedLane, RecordedParts};
-use klog::Flushed;
 use page_device::PageDevice;
 use record_pages::Config;
 use std::alloc::{AllocError, Global};
 use std::marker::Model;
+
+mod background;
 
 /// The most lanes of a cache.
 pub(crate) const MAX_LANES: usize = 16;
@@ -372,24 +373,6 @@ impl<D: PageDevice<PAGE>, const PAGE: usize> LaneBook<D, PAGE> {
             position,
             found: Some(found),
         })
-    }
-
-    /// One step of flushing the log of its lane. No call is recorded, and no memory taken.
-    pub fn flush(&mut self) -> Flushed
-        ensures unrecorded { self.new ≡ record self.old { store = self.new.store } }
-        ensures layout { self.new.store.layout ≡ self.old.store.layout }
-        ensures honest { D.honest self.new.store.device ≡ D.honest self.old.store.device }
-        ensures faults { D.failures self.new.store.device
-            ≡ faults_after (D.failures self.old.store.device) (is_page_lost result) }
-        ensures rest { self.new.store ≡ record self.old.store {
-          device = self.new.store.device;
-          log = self.new.store.log;
-        } }
-        ensures flushes { FlushGives self.old.store.log result self.new.store.log }
-        ensures gives { IsTrue (D.honest self.old.store.device) →
-            LaneFlushes (lane_of D.held self.old.store) result (lane_of D.held self.new.store) }
-    {
-        self.recorded.flush_step()
     }
 
     /// The calls of a lane that is over, each of which ends at its point, and its device.

@@ -25,26 +25,30 @@ use crate::open_cache_fault::OpenCacheFault;
 use crate::opening::{books_of, is_one_too_small, passes_of};
 use crate::outcome::Outcome;
 use history_recorder::{Operation, lay_out};
-use klog::Flushed;
 use page_device::PageDevice;
+use policy_laws::EvictionPolicy;
 use record_pages::{Answer, Config, Key, Layout, Pushed, Value, is_too_large};
 use set_hash::place;
 use std::alloc::{AllocError, Global};
 use std::marker::Model;
 use std::sync::{Mutex, Wait};
 
+mod rounds;
+
 /// A cache that threads share: its lanes, each under a lock of its own, and their clock.
 #[derive(Drop)]
-pub struct SharedCache<D: PageDevice<PAGE>, const PAGE: usize> {
+pub struct SharedCache<D: PageDevice<PAGE>, P: EvictionPolicy + Drop, const PAGE: usize> {
     alloc: Global,
     config: Config,
     layout: Layout,
     callers: u16,
+    policy: P,
     clock: Clock,
     books: Vec<Mutex<LaneBook<D, PAGE>>>,
 }
 
-impl<D: PageDevice<PAGE>, const PAGE: usize> Model for SharedCache<D, PAGE> {
+impl<D: PageDevice<PAGE>, P: EvictionPolicy + Drop, const PAGE: usize> Model
+    for SharedCache<D, P, PAGE> {
     ghost use Rattle.std.specs.Prelude.{length};
     ghost use Rattle.shared_cache.specs.Caches.{Cache, IsCache};
 
@@ -55,13 +59,15 @@ impl<D: PageDevice<PAGE>, const PAGE: usize> Model for SharedCache<D, PAGE> {
     ghost invariant = { λ c. IsCache c.layout c.config (length c.books.items) };
 }
 
-impl<D: PageDevice<PAGE>, const PAGE: usize> SharedCache<D, PAGE> {
-    /// A cache of this configuration with empty lanes, one over each device, and a pass for each caller, numbered from 0.
-    /// Its refusals are tested in the order of `OpenCacheFault`.
+impl<D: PageDevice<PAGE>, P: EvictionPolicy + Drop, const PAGE: usize> SharedCache<D, P, PAGE> {
+    /// A cache of this configuration with empty lanes, one over each device, whose moves go by this policy, and a pass for
+    /// each caller, numbered from 0. Its refusals are tested in the order of `OpenCacheFault`; the policy is dropped with
+    /// each.
     pub fn open(
         alloc: Global,
         config: &Config,
         devices: Vec<D>,
+        policy: P,
         callers: u16,
     ) -> Result<(Self, Vec<Pass>), OpenCacheFault>
         ensures numbers { IfOk result (λ opened. HasNumbersOf opened.0.layout config.now
@@ -70,6 +76,8 @@ impl<D: PageDevice<PAGE>, const PAGE: usize> SharedCache<D, PAGE> {
         ensures passes { IfOk result (λ opened. (caller : ℕ) (d : Ticket) → caller < callers →
             slice_index_or opened.1.items caller d
             ≡ new_ticket caller (new_sight opened.0.clock)) }
+        ensures ties { IfOk result (λ opened.
+            All (λ p. p.sight.clock ≡ opened.0.clock) opened.1.items) }
         ensures serves { OnOk result ((first_faulty config.now ≡ None) × (0 < callers)
             × (length devices.items ≡ config.now.lanes) × IsPageSize PAGE
             × (Any (λ d. IsTooSmall config.now (D.page_count d)) devices.items → ⊥)) }
@@ -93,7 +101,7 @@ impl<D: PageDevice<PAGE>, const PAGE: usize> SharedCache<D, PAGE> {
         if is_one_too_small(pages, devices.as_slice()) {
             return Err(OpenCacheFault::DeviceTooSmall);
         }
-        let Ok(opened) = Self::made(alloc, config, layout, devices, callers) else {
+        let Ok(opened) = Self::made(alloc, config, layout, devices, policy, callers) else {
             return Err(OpenCacheFault::OutOfMemory);
         };
         Ok(opened)
@@ -105,6 +113,7 @@ impl<D: PageDevice<PAGE>, const PAGE: usize> SharedCache<D, PAGE> {
         config: &Config,
         layout: Layout,
         devices: Vec<D>,
+        policy: P,
         callers: u16,
     ) -> Result<(Self, Vec<Pass>), AllocError>
         requires numbers { HasNumbersOf layout config.now }
@@ -116,6 +125,8 @@ impl<D: PageDevice<PAGE>, const PAGE: usize> SharedCache<D, PAGE> {
         ensures passes { IfOk result (λ opened. (caller : ℕ) (d : Ticket) → caller < callers →
             slice_index_or opened.1.items caller d
             ≡ new_ticket caller (new_sight opened.0.clock)) }
+        ensures ties { IfOk result (λ opened.
+            All (λ p. p.sight.clock ≡ opened.0.clock) opened.1.items) }
     {
         let (clock, seats) = Clock::new(alloc, callers)?;
         let passes = passes_of(alloc, &clock, callers, seats)?;
@@ -125,6 +136,7 @@ impl<D: PageDevice<PAGE>, const PAGE: usize> SharedCache<D, PAGE> {
             config: *config,
             layout,
             callers,
+            policy,
             clock,
             books,
         };
@@ -201,15 +213,6 @@ impl<D: PageDevice<PAGE>, const PAGE: usize> SharedCache<D, PAGE> {
         }
     }
 
-    /// One step of flushing a lane's log, in one hold of its lock.
-    pub fn flush_round<R: Wait>(&self, rt: &R, lane: u32) -> Flushed
-        requires { lane < self.now.layout.lanes }
-    {
-        let mut guard = self.books[lane as usize].lock(rt);
-        let book = &mut *guard;
-        book.flush()
-    }
-
     /// Ends the cache: lays its lanes' calls out as one history, with the ends that the passes list and the certificate
     /// that lists the calls by point and lane, and hands the devices back.
     ///
@@ -228,6 +231,7 @@ impl<D: PageDevice<PAGE>, const PAGE: usize> SharedCache<D, PAGE> {
             config,
             layout: _,
             callers,
+            policy: _,
             clock: _,
             books,
         } = self;
