@@ -1,16 +1,25 @@
 -- What each step of the builder makes of the command.
-use Rattle.std.proofs.Common.{◌≡◌, ◌∙◌, ap, ap₂, rules, codes}
+use Rattle.std.proofs.Common.{◌≡◌, ◌∙◌, ap, ap₂, rules, false, true, refl}
 use Rattle.std.proofs.lemmas.Result.{IfOk-weaker}
-use Rattle.clap.specs.Words.{App, app_of, new_app, rule_of, with_rule, with_subcommand}
-use Rattle.command_line.specs.CommandLine.{file_rule, script_command, check_command, program_top}
-use Rattle.command_line.proofs.parse.program.Goals as goal
+use Rattle.clap.specs.Words.{App, app_of, with_subcommand}
+use Rattle.clap.specs.declared.builder.command.Command.TheViews.{out-Command as fields_of}
+use Rattle.clap.proofs.SimpleLemmas.{plain_fields}
+use Rattle.clap.specs.declared.builder.command.Command.{Command}
+use Rattle.command_line.specs.CommandLine.{script_command, check_command, run_command, program_top}
+use Rattle.command_line.proofs.program.program.Goals as goal
+
+-- a command that is plain has no global argument
+local : (c : Command) (a : App) → app_of c ≡ a → a.top.is_plain ≡ true → (fields_of c).has_globals ≡ false
+local c a is h = (plain_fields c (ap (λ (x : App). x.top.is_plain) is ∙ h)).globals
+
+top : {a b : App} → a ≡ b → a.top ≡ b.top
+top {a} {b} e = ap (λ (x : App). x.top) e
 
 pub returns : goal.returns
 returns c =
-    let script_is : app_of c.about-script.result ≡ script_command = rw c.about-script.ensures c.new.ensures.app in
-    let file_is : rule_of c.help-file.result ≡ file_rule = search rules in
-    let about_is : app_of c.about.result ≡ new_app (codes "check") = rw c.about.ensures c.new-3.ensures.app in
-    let check_is : app_of c.in_ok-check.check ≡ check_command = c.in_ok-check.ensures.shape (search rules) ∙ ap₂ with_rule about_is file_is in
     let top_is : app_of c.subcommand_required.result ≡ program_top = search rules in
-    let kangaroo_is : app_of c.in_ok-kangaroo.kangaroo ≡ with_subcommand program_top script_command.top = c.in_ok-kangaroo.ensures.shape (search rules) ∙ ap₂ with_subcommand top_is (ap (λ (a : App). a.top) script_is) in
-    IfOk-weaker c.subcommand-2.result _ _ (λ r h. h.shape (search rules) ∙ ap₂ with_subcommand kangaroo_is (ap (λ (a : App). a.top) check_is)) c.subcommand-2.ensures
+    let one : app_of c.in_ok-kangaroo.kangaroo ≡ with_subcommand program_top script_command.top =
+        c.in_ok-kangaroo.ensures.shape (local _ script_command c.script.ensures refl) ∙ ap₂ with_subcommand top_is (top c.script.ensures) in
+    let two : app_of c.in_ok-kangaroo-2.kangaroo ≡ with_subcommand (with_subcommand program_top script_command.top) check_command.top =
+        c.in_ok-kangaroo-2.ensures.shape (local _ check_command c.in_ok-check.ensures refl) ∙ ap₂ with_subcommand one (top c.in_ok-check.ensures) in
+    IfOk-weaker c.subcommand-3.result _ _ (λ r h. h.shape (local _ run_command c.in_ok-run.ensures refl) ∙ ap₂ with_subcommand two (top c.in_ok-run.ensures)) c.subcommand-3.ensures
