@@ -75,9 +75,9 @@ pub asks : (rows : List Row) (load : Load) (numbers : List ℕ) (trace : Text) �
 asks rows load numbers trace e has no_device is_trace found =
     let given : has_numbers rows ≡ true = ap (list_all is_some) e ∙ all_some numbers in
     let each : (setting : Setting) → unwrap_or (number_found rows setting) 0 ≡ number_of load setting =
-        λ setting. ap (λ o. unwrap_or o 0) (each_found (number_found rows) numbers e setting) ∙ sym (each_number load numbers has setting) in
+    λ setting. ap (λ o. unwrap_or o 0) (each_found (number_found rows) numbers e setting) ∙ sym (each_number load numbers has setting) in
     let loaded : Loaded (λ setting. unwrap_or (number_found rows setting) 0) None trace ≡ wanted_of (Run load) =
-        (λ i. Loaded (λ setting. each setting i) (sym no_device i) (sym is_trace i)) in
+    (λ i. Loaded (λ setting. each setting i) (sym no_device i) (sym is_trace i)) in
     rw given (ap (option_map (Loaded (λ setting. unwrap_or (number_found rows setting) 0) None)) (sym found) ∙ ap Some loaded)
 
 all_at : {X : Type 0} (p : X → Bool) (xs : List X) (i : ℕ) (d : X) → i < length xs → list_all p xs ≡ true → p (get_or xs i d) ≡ true
@@ -89,8 +89,8 @@ all_at {X} p (x ∷ xs) (suc i) d less h = all_at p xs i d (omega arith) (both (
 pub lacks : (rows : List Row) (place : ℕ) → place < 16 → number_found rows (get_or settings place Lanes) ≡ None → has_numbers rows ≡ false
 lacks rows place less none = elim (cases_Bool (has_numbers rows)) [
   | inl all ↦
-    let some = all_at (λ setting. is_some (number_found rows setting)) settings place Lanes less all in
-    let bad : false ≡ true = ap is_some (sym none) ∙ some in absurd cc
+      let some = all_at (λ setting. is_some (number_found rows setting)) settings place Lanes less all in
+      let bad : false ≡ true = ap is_some (sym none) ∙ some in absurd cc
   | inr other ↦ other
 ]
 

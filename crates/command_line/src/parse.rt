@@ -8,8 +8,8 @@ use crate::line::Line;
 use crate::line_fault::LineFault;
 use crate::program::program;
 use crate::telling::{told, usage};
-use clap::error::ErrorKind;
 use clap::ArgMatches;
+use clap::error::ErrorKind;
 use std::alloc::{AllocError, Global};
 use std::convert::AsStr;
 

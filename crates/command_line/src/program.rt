@@ -47,14 +47,18 @@ fn file<'a>(alloc: Global) -> Arg<'a>
     ensures rule { rule_of result ≡ file_rule }
     ensures local { result.global ≡ false }
 {
-    Arg::new(alloc, "FILE").required(true).help("The file of the trace")
+    Arg::new(alloc, "FILE")
+        .required(true)
+        .help("The file of the trace")
 }
 
 /// The subcommand `run`.
 pub fn run<'a>(alloc: Global) -> Result<Command<'a>, AllocError>
     ensures { IfOk result (λ c. app_of c ≡ run_command) }
 {
-    let mut run = Command::new(alloc, "run").about("Runs threads on a cache, and judges their history");
+    let mut run = Command::new(alloc, "run").about(
+        "Runs threads on a cache, and judges their history",
+    );
     for setting in &SETTINGS {
         run = run.arg(option(alloc, *setting))?;
     }

@@ -83,9 +83,9 @@ refused_by setting text false false is_d is_a never = rw is_d refl
 pub unread : (setting : Setting) (text : List ℕ) → ¬ (IsNumeral 10 (without_leading_plus text) × (digits_value 10 (without_leading_plus text) < 2 ^ 32)) → None ≡ number_in setting text
 unread setting text h =
     refused_by setting text _ _ refl refl (λ d a.
-        let most = greatest (row_of setting).least (row_of setting).greatest (value_of_text text) a in
-        let few = small setting in
-        h (unnumeral text d, omega (arith, most, few)))
+    let most = greatest (row_of setting).least (row_of setting).greatest (value_of_text text) a in
+    let few = small setting in
+    h (unnumeral text d, omega (arith, most, few)))
 
 -- the number of a setting is in its range
 pub within : (numbers : List ℕ) (setting : Setting) → AreAdmitted numbers → ((row_of setting).least ≤ number_at numbers setting) × (number_at numbers setting ≤ (row_of setting).greatest)

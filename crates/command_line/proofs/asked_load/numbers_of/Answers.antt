@@ -18,9 +18,10 @@ one_more f numbers place n len less before is =
     ∙ sym (ap (map Some) (take_more_set numbers place n (omega arith)))
 
 pub loop-place-preserved : goal.loop-place-preserved
-loop-place-preserved c =
-    (length-set c.loop-place.numbers c.loop-place.place c.in-Some.number ∙ c.loop-place.invariant.0,
-    one_more (number_found (rows_of (found_of c.args.found.now))) c.loop-place.numbers c.loop-place.place c.in-Some.number c.loop-place.invariant.0 c.loop-place-test.true c.loop-place.invariant.1 (sym c.in-Some.is ∙ c.number_of.ensures))
+loop-place-preserved c = (
+  length-set c.loop-place.numbers c.loop-place.place c.in-Some.number ∙ c.loop-place.invariant.0,
+  one_more (number_found (rows_of (found_of c.args.found.now))) c.loop-place.numbers c.loop-place.place c.in-Some.number c.loop-place.invariant.0 c.loop-place-test.true c.loop-place.invariant.1 (sym c.in-Some.is ∙ c.number_of.ensures),
+)
 
 pub returns-clause-numbers : goal.returns-clause-numbers
 returns-clause-numbers c =

@@ -19,7 +19,7 @@ pub returns : goal.returns
 returns c =
     let top_is : app_of c.subcommand_required.result ≡ program_top = search rules in
     let one : app_of c.in_ok-kangaroo.kangaroo ≡ with_subcommand program_top script_command.top =
-        c.in_ok-kangaroo.ensures.shape (local _ script_command c.script.ensures refl) ∙ ap₂ with_subcommand top_is (top c.script.ensures) in
+    c.in_ok-kangaroo.ensures.shape (local _ script_command c.script.ensures refl) ∙ ap₂ with_subcommand top_is (top c.script.ensures) in
     let two : app_of c.in_ok-kangaroo-2.kangaroo ≡ with_subcommand (with_subcommand program_top script_command.top) check_command.top =
-        c.in_ok-kangaroo-2.ensures.shape (local _ check_command c.in_ok-check.ensures refl) ∙ ap₂ with_subcommand one (top c.in_ok-check.ensures) in
+    c.in_ok-kangaroo-2.ensures.shape (local _ check_command c.in_ok-check.ensures refl) ∙ ap₂ with_subcommand one (top c.in_ok-check.ensures) in
     IfOk-weaker c.subcommand-3.result _ _ (λ r h. h.shape (local _ run_command c.in_ok-run.ensures refl) ∙ ap₂ with_subcommand two (top c.in_ok-run.ensures)) c.subcommand-3.ensures

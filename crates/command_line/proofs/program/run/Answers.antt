@@ -22,5 +22,5 @@ pub returns : goal.returns
 returns c =
     let all : take c.loop-setting.setting-index settings ≡ settings = take_all c.loop-setting.setting-index settings c.loop-setting-test.false in
     let options : app_of c.loop-setting.run ≡ fold with_option (new_app (codes "run")) settings =
-        c.loop-setting.invariant ∙ ap (fold with_option (new_app (codes "run"))) all in
+    c.loop-setting.invariant ∙ ap (fold with_option (new_app (codes "run"))) all in
     IfOk-weaker c.arg-2.result _ _ (λ r h. h.shape c.trace.ensures.local ∙ ap₂ with_rule options c.trace.ensures.rule) c.arg-2.ensures
