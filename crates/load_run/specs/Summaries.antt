@@ -18,8 +18,12 @@ is_hit_act Miss = false
 abbrev pub is_hit : Call → Bool
 is_hit call = is_hit_act call.act
 
--- the four lines: the recorded calls, those of them that are hits, the callers that stopped, and the verdict
+-- the four lines, with this text of the verdict: the recorded calls, those of them that are hits, and the callers that stopped
+abbrev pub lines_with : Summary → List ℕ → List ℕ
+lines_with summary verdict =
+    codes "calls " ++ (decimal summary.calls ++ (codes "\nhits " ++ (decimal summary.hits
+    ++ (codes "\nstopped " ++ (decimal summary.stopped ++ (codes "\n" ++ (verdict ++ codes "\n")))))))
+
+-- the four lines of a run
 abbrev pub lines_of : Summary → List ℕ
-lines_of summary =
-    codes "calls " ++ decimal summary.calls ++ codes "\nhits " ++ decimal summary.hits
-    ++ codes "\nstopped " ++ decimal summary.stopped ++ codes "\n" ++ verdict_line summary.verdict summary.calls ++ codes "\n"
+lines_of summary = lines_with summary (verdict_line summary.verdict summary.calls)

@@ -1,6 +1,8 @@
 // A caller of a run.
-ghost use Rattle.std.specs.Prelude.{◌≡◌};
+ghost use Rattle.std.specs.Prelude.{◌≡◌, OnOk, OnErr};
+ghost use Rattle.load.specs.Operations.{next_of};
 ghost use Rattle.shared_cache.specs.Caches.{KeepsTie};
+ghost use Rattle.load_run.specs.Calls.{IsCalled, IsEnded, first_generator};
 
 use crate::ended::Ended;
 use crate::shared::Cache;
@@ -11,26 +13,35 @@ use shared_cache::{CallFault, Pass};
 use std::alloc::Global;
 use std::sync::Wait;
 
+/// Makes the calls of a caller, by a generator of its own.
+pub fn start_caller<R: Wait>(rt: &R, alloc: Global, cache: &Cache, load: &Load, pass: Pass) -> Ended
+    requires { pass.sight.clock ≡ cache.now.clock }
+    ensures { IsEnded cache.now.layout load.now
+        (first_generator load.now.seed pass.caller) pass result.pass result.stopped }
+{
+    let generator = Lcg64Xsh32::new(u64::from(load.seed), u64::from(pass.caller()));
+    make_calls(rt, alloc, cache, load, generator, pass)
+}
+
 /// Makes the calls of a caller, and stops at its first refusal.
 pub fn make_calls<R: Wait>(
     rt: &R,
     alloc: Global,
     cache: &Cache,
     load: &Load,
+    mut generator: Lcg64Xsh32,
     mut pass: Pass,
 ) -> Ended
     requires { pass.sight.clock ≡ cache.now.clock }
+    ensures { IsEnded cache.now.layout load.now generator pass result.pass result.stopped }
 {
-    let caller = pass.caller();
-    let mut generator = Lcg64Xsh32::new(u64::from(load.seed), u64::from(caller));
     for number in 0..load.operations {
-        let done = make_next(rt, alloc, cache, load, &mut generator, &mut pass, number);
-        if done.is_err() {
+        let Ok(()) = make_next(rt, alloc, cache, load, &mut generator, &mut pass, number) else {
             return Ended {
                 pass,
                 stopped: true,
             };
-        }
+        };
     }
     Ended {
         pass,
@@ -49,6 +60,11 @@ fn make_next<R: Wait>(
     number: u32,
 ) -> Result<(), CallFault>
     requires { pass.old.sight.clock ≡ cache.now.clock }
+    ensures made { OnOk result (IsCalled cache.now.layout
+        (next_of load.now pass.old.caller number generator.old).operation pass.old pass.new) }
+    ensures refused { OnErr result (pass.new.calls ≡ pass.old.calls) }
+    ensures generator { generator.new
+        ≡ (next_of load.now pass.old.caller number generator.old).generator }
     ensures tie { KeepsTie pass.old pass.new }
 {
     let Ok(operation) = next_operation(alloc, generator, load, pass.caller(), number) else {
@@ -68,6 +84,8 @@ fn make<R: Wait>(
     operation: Operation,
 ) -> Result<(), CallFault>
     requires { pass.old.sight.clock ≡ cache.now.clock }
+    ensures made { OnOk result (IsCalled cache.now.layout operation pass.old pass.new) }
+    ensures refused { OnErr result (pass.new.calls ≡ pass.old.calls) }
     ensures tie { KeepsTie pass.old pass.new }
 {
     match operation {

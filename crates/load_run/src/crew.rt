@@ -1,7 +1,7 @@
 // The threads of a run.
 ghost use Rattle.std.specs.Prelude.{◌≡◌, ◌<◌, All};
 
-use crate::caller::make_calls;
+use crate::caller::start_caller;
 use crate::ended::Ended;
 use crate::shared::Cache;
 use crate::worker::work;
@@ -51,7 +51,7 @@ pub fn run_crew<R: Threads + Wait + Sync>(
                     move ||
                         requires { pass.sight.clock ≡ cache.now.clock }
                     {
-                        let ended = make_calls(rt, alloc, cache, load, pass);
+                        let ended = start_caller(rt, alloc, cache, load, pass);
                         let _ = to.send(rt, ended);
                         running.fetch_sub(1, Ordering::SeqCst);
                     },

@@ -1,5 +1,7 @@
 // The history that a run made.
-ghost use Rattle.std.specs.Prelude.{◌≡◌};
+ghost use Rattle.std.specs.Prelude.{◌≡◌, ◌≤◌, IfOk, IfErr};
+ghost use Rattle.certificate_checker.specs.Acceptance.{IsAccepted};
+ghost use Rattle.load_run.specs.Ends.{IsRefusal};
 
 use crate::crew::run_crew;
 use crate::ended::Ended;
@@ -31,7 +33,11 @@ pub fn make_history<R: Threads + Wait + Sync>(
     rt: &R,
     alloc: Global,
     load: &Load,
-) -> Result<Made, RunEnd> {
+) -> Result<Made, RunEnd>
+    ensures accepted { IfOk result (λ made.
+        IsAccepted made.finished.history made.finished.certificate) }
+    ensures refused { IfErr result (λ end. IsRefusal end) }
+{
     let Ok((cache, passes)) = open(alloc, load) else {
         return Err(RunEnd::OutOfMemory);
     };
@@ -57,7 +63,9 @@ fn take_left<R: Wait>(
     alloc: Global,
     callers: u32,
     from: &Receiver<Ended>,
-) -> Result<Left, AllocError> {
+) -> Result<Left, AllocError>
+    ensures { IfOk result (λ left. left.stopped ≤ callers) }
+{
     let mut passes = Vec::with_capacity(alloc, callers as usize)?;
     let mut stopped = 0;
     for _ in 0..callers {

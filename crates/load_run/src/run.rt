@@ -1,6 +1,8 @@
 // A run, from its load to its status.
-ghost use Rattle.std.specs.Prelude.{◌≡◌, ◌<◌, ◌+◌};
-ghost use Rattle.std.specs.Io.KnownBytes.{Keeps};
+ghost use Rattle.std.specs.Prelude.{◌≡◌, ◌≢◌, ◌↔◌, ◌⊎◌, ◌<◌, ◌+◌, IfOk, IfErr};
+ghost use Rattle.certificate_checker.specs.Acceptance.{IsAccepted};
+ghost use Rattle.load_run.specs.Ends.{status_of};
+ghost use Rattle.load_run.specs.Runs.{IsRunOf, IsSaid, IsSummaryOf, WroteLines};
 
 use crate::hits::hits_of;
 use crate::made::{Made, make_history};
@@ -26,7 +28,9 @@ pub fn run_load<R: Threads + Wait + Sync + AllocGlobal + Files, O: Write, E: Wri
     load: &Load,
     out: &mut O,
     err: &mut E,
-) -> u8 {
+) -> u8
+    ensures { IsRunOf load.now (O.contents out.old) (O.contents out.new) result }
+{
     let end = run_to_end(rt, load, out);
     tell(err, end);
     end.status()
@@ -46,7 +50,11 @@ fn run_to_end<R: Threads + Wait + Sync + AllocGlobal + Files, O: Write>(
     rt: &R,
     load: &Load,
     out: &mut O,
-) -> RunEnd {
+) -> RunEnd
+    ensures shares { (result ≡ RunEnd.SharesExceed) ↔ (100 < load.now.gets + load.now.removes) }
+    ensures wrote { WroteLines (O.contents out.old) (O.contents out.new) result }
+    ensures accepted { result ≢ RunEnd.Rejected }
+{
     if load.gets + load.removes > 100 {
         return RunEnd::SharesExceed;
     }
@@ -69,7 +77,9 @@ fn run_to_end<R: Threads + Wait + Sync + AllocGlobal + Files, O: Write>(
 }
 
 /// What is told of a history that was made.
-fn summary_of(alloc: Global, made: &Made) -> Result<Summary, AllocError> {
+fn summary_of(alloc: Global, made: &Made) -> Result<Summary, AllocError>
+    ensures { IfOk result (λ summary. IsSummaryOf summary made.now.finished.history made.now.finished.certificate) }
+{
     let history = &made.finished.history;
     Ok(Summary {
         calls: history.len(),
@@ -85,7 +95,9 @@ fn save<R: AllocGlobal + Files>(
     name: &FileName,
     history: &History,
     certificate: &Certificate,
-) -> Result<(), RunEnd> {
+) -> Result<(), RunEnd>
+    ensures { IfErr result (λ end. (end ≡ RunEnd.OutOfMemory) ⊎ (end ≡ RunEnd.FileFault)) }
+{
     let Ok(file) = fs::create(rt, name.as_str()) else {
         return Err(RunEnd::FileFault);
     };
@@ -102,7 +114,9 @@ fn save<R: AllocGlobal + Files>(
 }
 
 /// Writes the four lines of a run that was judged, and answers how the run ended.
-fn write_lines<O: Write>(alloc: Global, summary: &Summary, out: &mut O) -> RunEnd {
+fn write_lines<O: Write>(alloc: Global, summary: &Summary, out: &mut O) -> RunEnd
+    ensures { IsSaid summary.now (O.contents out.old) (O.contents out.new) result }
+{
     let Ok(lines) = summary.lines(alloc) else {
         return RunEnd::OutOfMemory;
     };

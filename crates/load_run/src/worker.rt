@@ -1,5 +1,5 @@
 // A worker of a run.
-ghost use Rattle.std.specs.Prelude.{◌≡◌, ◌<◌};
+ghost use Rattle.std.specs.Prelude.{◌≡◌, ◌<◌, ◌+◌, ◌%◌};
 
 use crate::shared::Cache;
 use klog::Flushed;
@@ -26,7 +26,8 @@ pub fn work<R: Wait>(rt: &R, cache: &Cache, lanes: u32, worker: u32, running: &A
 /// The lane after this one, in turn.
 fn lane_after(lane: u32, lanes: u32) -> u32
     requires { lane < lanes }
-    ensures { result ≡ (lane + 1) % lanes }
+    ensures next { result ≡ (lane + 1) % lanes }
+    ensures within { result < lanes }
 {
     if lane + 1 < lanes { lane + 1 } else { 0 }
 }
