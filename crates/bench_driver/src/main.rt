@@ -1,7 +1,8 @@
-//! The program: scripts of a cache answered and judged, and traces judged.
+//! The program: scripts of a cache answered and judged, traces judged, and loads run.
 #![tactic(auto)]
 
 use command_line::{Ending, Line, LineFault, answer_script, asked, check_file, tell_help};
+use load_run::run_load;
 use std::io;
 use std::io::BufWriter;
 use std::process::ExitCode;
@@ -14,6 +15,9 @@ fn main(rt: HostRuntime) -> ExitCode {
     let ending = match asked(&rt) {
         Ok(Line::Script) => script(&rt),
         Ok(Line::Check(file)) => check_file(&rt, &file, &mut output),
+        Ok(Line::Run(load)) => {
+            return ExitCode::from(run_load(&rt, &load, &mut output, &mut rt.stderr()));
+        }
         Err(LineFault::Usage(text)) => {
             let _ = eprint!(rt; "{text}");
             Ending::BadInput

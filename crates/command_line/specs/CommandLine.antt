@@ -1,17 +1,31 @@
--- The program's command line: what it takes, and what its words name.
-use Rattle.std.specs.Prelude.{◌≡◌, ◌≢◌, ◌⊎◌, List, [], Option, Some, codes, option_and_then, option_map, true, if◌then◌else◌}
+-- The program's command line: what it takes, and what its words ask for.
+use Rattle.std.specs.Prelude.{◌≡◌, ◌≢◌, ◌⊎◌, ℕ, Bool, List, [], ◌∷◌, Option, Some, None, codes, fold, is_some, option_and_then, option_map, true, unwrap_or, if◌then◌else◌}
+use Rattle.std.specs.List.{list_all}
 use Rattle.std.specs.Str.{bytes_eq}
-use Rattle.clap.specs.Words.{App, Row, Rule, Text, first_of, new_app, new_rule, subcommand_of, with_rule, with_subcommand}
+use Rattle.clap.specs.Words.{App, IsAmong, Kinds, Row, Rule, Text, first_of, new_app, new_rule, subcommand_of, with_rule, with_subcommand}
 use Rattle.clap.specs.declared.error.kind.ErrorKind.{ErrorKind}
 use Rattle.clap.specs.declared.error.kind.ErrorKind.TheVariants.{DisplayHelp, DisplayVersion}
+use Rattle.load.specs.Asked.{number_of}
+use Rattle.load.specs.Settings.{number_in, row_of, settings}
+use Rattle.load.specs.declared.setting.Setting.{Setting}
 use Rattle.command_line.specs.declared.line.Line.{Line}
-use Rattle.command_line.specs.declared.line.Line.TheVariants.{Script, Check}
+use Rattle.command_line.specs.declared.line.Line.TheVariants.{Script, Check, Run}
 use Rattle.command_line.specs.declared.line_fault.LineFault.{LineFault}
 use Rattle.command_line.specs.declared.line_fault.LineFault.TheVariants.{Usage, Help, OutOfMemory}
+
+-- ---- what the program takes
 
 -- the file that is to be checked
 abbrev pub file_rule : Rule
 file_rule = record (new_rule (codes "FILE")) { required = true }
+
+-- the option of a setting: its name, one value, and the word where none is given
+abbrev pub option_rule : Setting → Rule
+option_rule setting = record (new_rule (row_of setting).name) { long = Some (row_of setting).name; value_names = 1; defaults = (row_of setting).default ∷ [] }
+
+-- the file that the trace of a run is written to
+abbrev pub trace_rule : Rule
+trace_rule = record (new_rule (codes "trace")) { long = Some (codes "trace"); value_names = 1; required = true }
 
 -- script, with nothing behind it
 abbrev pub script_command : App
@@ -21,26 +35,78 @@ script_command = new_app (codes "script")
 abbrev pub check_command : App
 check_command = with_rule (new_app (codes "check")) file_rule
 
+-- a command with an option for one more setting
+abbrev pub with_option : App → Setting → App
+with_option command setting = with_rule command (option_rule setting)
+
+-- run, with an option for each setting and one for the file of the trace
+abbrev pub run_command : App
+run_command = with_rule (fold with_option (new_app (codes "run")) settings) trace_rule
+
 -- the program, of which one subcommand has to be named
 abbrev pub program_top : App
 program_top = record { top = record (new_app (codes "kangaroo")).top { subcommand_required = true; has_version = true }; subs = [] }
 
 -- the program with its subcommands
 abbrev pub program : App
-program = with_subcommand (with_subcommand program_top script_command.top) check_command.top
+program = with_subcommand (with_subcommand (with_subcommand program_top script_command.top) check_command.top) run_command.top
 
--- the line that a subcommand is, by its name and what was found for its arguments
-abbrev pub line_named : Text × List Row → Option Line
-line_named (name, rows) =
-    if bytes_eq name (codes "check") then option_map Check (first_of (codes "FILE") rows)
-    else Some Script
+-- ---- what its words ask for
 
--- the line that the program's words name, where they name one
-abbrev pub line_of_words : List Text → Option Line
-line_of_words words = option_and_then line_named (subcommand_of program words)
+-- that a script is answered, that the trace in a file of this name is judged, or that a load with these numbers is run over the
+-- files of these names
+pub data Wanted : Type 0 where
+  Replies : Wanted
+  Judgement : Text → Wanted
+  Loaded : (Setting → ℕ) → Option Text → Text → Wanted
+
+-- what a line asks for
+abbrev pub wanted_of : Line → Wanted
+wanted_of Script = Replies
+wanted_of (Check file) = Judgement file
+wanted_of (Run load) = Loaded (number_of load) load.device load.trace
+
+-- the number of a setting, by what was found for its option: none where that is no number in its range
+abbrev pub number_found : List Row → Setting → Option ℕ
+number_found rows setting = option_and_then (number_in setting) (first_of (row_of setting).name rows)
+
+-- each setting has a number
+abbrev pub has_numbers : List Row → Bool
+has_numbers rows = list_all (λ setting. is_some (number_found rows setting)) settings
+
+-- the load that was found, whose devices are in memory, where each setting has a number
+abbrev pub load_wanted : List Row → Option Wanted
+load_wanted rows =
+    if has_numbers rows
+    then option_map (Loaded (λ setting. unwrap_or (number_found rows setting) 0) None) (first_of (codes "trace") rows)
+    else None
+
+-- what a subcommand asks for, by its name and what was found for its arguments
+abbrev pub wanted_by : Text × List Row → Option Wanted
+wanted_by (name, rows) =
+    if bytes_eq name (codes "check") then option_map Judgement (first_of (codes "FILE") rows)
+    else (if bytes_eq name (codes "run") then load_wanted rows
+    else Some Replies)
+
+-- what the program's words ask for, where they ask for something
+abbrev pub wanted_by_words : List Text → Option Wanted
+wanted_by_words words = option_and_then wanted_by (subcommand_of program words)
+
+-- ---- what is told of words that ask for nothing
 
 -- help or the version is told where the words ask for it, and a usage where they do not
 abbrev pub IsToldOf : ErrorKind → LineFault → Type 0
 IsToldOf kind (Usage text) = (kind ≢ DisplayHelp) × (kind ≢ DisplayVersion)
 IsToldOf kind (Help text) = (kind ≡ DisplayHelp) ⊎ (kind ≡ DisplayVersion)
 IsToldOf kind OutOfMemory = Unit {0}
+
+-- a usage is told, or memory was refused
+abbrev pub IsUsage : LineFault → Type 0
+IsUsage (Usage text) = Unit {0}
+IsUsage (Help text) = ⊥
+IsUsage OutOfMemory = Unit {0}
+
+-- one of the faults that the words have is told; where they have none, a usage: a number was none or out of its range
+abbrev pub IsRefusal : Kinds → LineFault → Type 0
+IsRefusal [] fault = IsUsage fault
+IsRefusal (kind ∷ kinds) fault = (fault ≡ OutOfMemory) ⊎ ((told : ErrorKind) × IsAmong told (kind ∷ kinds) × IsToldOf told fault)

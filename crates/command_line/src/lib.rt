@@ -2,11 +2,14 @@
 #![tactic(auto)]
 
 mod answering;
+mod asked_load;
 mod asking;
 mod ending;
 mod line;
 mod line_fault;
 mod parse;
+mod program;
+mod telling;
 
 pub use answering::{answer_check, answer_script, check_file, tell_help};
 pub use asking::asked;

@@ -1,5 +1,5 @@
 // What the command line asks for.
-use load::FileName;
+use load::{FileName, Load};
 
 /// What the words of the command line ask for.
 #[derive(Debug, Drop)]
@@ -8,4 +8,6 @@ pub enum Line {
     Script,
     /// The trace in this file is to be judged.
     Check(FileName),
+    /// This load is to be run.
+    Run(Load),
 }

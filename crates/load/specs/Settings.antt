@@ -1,5 +1,8 @@
 -- The numbers of a load: the name of each, the word for it where none is given, and the least and the greatest that it may be.
-use Rattle.std.specs.Prelude.{ℕ, Bool, ◌&&◌, List, codes, nat_le}
+use Rattle.std.specs.Prelude.{◌≡◌, ℕ, Bool, true, ◌&&◌, List, [], ◌∷◌, length, Option, Some, None, codes, nat_le, nat_lt, slice_index, if◌then◌else◌}
+use Rattle.std.specs.Char.{digit_value}
+use Rattle.std.specs.List.{list_all}
+use Rattle.std.specs.Str.Parse.{digits_value, without_leading_plus}
 use Rattle.load.specs.declared.setting.Setting.{Setting}
 use Rattle.load.specs.declared.setting.Setting.TheVariants.{Lanes, Sets, Memory, Segments, SegmentPages, Entries, Threshold, Admit, Callers, Operations, Keys, ValueBytes, Gets, Removes, Workers, Seed}
 
@@ -35,3 +38,46 @@ row_of Seed = row (codes "seed") (codes "1") 0 4294967295
 -- the number is in the setting's range
 abbrev pub is_admitted : Setting → ℕ → Bool
 is_admitted setting number = nat_le (row_of setting).least number && nat_le number (row_of setting).greatest
+
+-- the text has a digit or more, and nothing else but a plus sign that may stand before them
+abbrev pub is_decimal : List ℕ → Bool
+is_decimal text = nat_lt 0 (length (without_leading_plus text)) && list_all (λ c. nat_lt (digit_value c) 10) (without_leading_plus text)
+
+-- the number that a text writes
+abbrev pub value_of_text : List ℕ → ℕ
+value_of_text text = digits_value 10 (without_leading_plus text)
+
+-- the number that a text gives the setting, where it writes one in the setting's range
+abbrev pub number_in : Setting → List ℕ → Option ℕ
+number_in setting text = if is_decimal text && is_admitted setting (value_of_text text) then Some (value_of_text text) else None
+
+-- the settings in their order
+abbrev pub settings : List Setting
+settings = Lanes ∷ Sets ∷ Memory ∷ Segments ∷ SegmentPages ∷ Entries ∷ Threshold ∷ Admit ∷ Callers ∷ Operations ∷ Keys ∷ ValueBytes ∷ Gets ∷ Removes ∷ Workers ∷ Seed ∷ []
+
+-- the place of a setting in that order
+abbrev pub place_of : Setting → ℕ
+place_of Lanes = 0
+place_of Sets = 1
+place_of Memory = 2
+place_of Segments = 3
+place_of SegmentPages = 4
+place_of Entries = 5
+place_of Threshold = 6
+place_of Admit = 7
+place_of Callers = 8
+place_of Operations = 9
+place_of Keys = 10
+place_of ValueBytes = 11
+place_of Gets = 12
+place_of Removes = 13
+place_of Workers = 14
+place_of Seed = 15
+
+-- the number of a setting, of a list with one for each in their order
+abbrev pub number_at : List ℕ → Setting → ℕ
+number_at numbers setting = slice_index numbers (place_of setting)
+
+-- each of the numbers is in the range of its setting
+abbrev pub AreAdmitted : List ℕ → Type 0
+AreAdmitted numbers = (setting : Setting) → is_admitted setting (number_at numbers setting) ≡ true

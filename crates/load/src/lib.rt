@@ -3,10 +3,12 @@
 
 mod file_name;
 mod load;
+mod numbers;
 mod operations;
 mod setting;
 
 pub use file_name::FileName;
 pub use load::Load;
+pub use numbers::load_with;
 pub use operations::next_operation;
-pub use setting::Setting;
+pub use setting::{SETTINGS, Setting};

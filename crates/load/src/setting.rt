@@ -1,6 +1,6 @@
 // The numbers of a load, with their names, ranges and defaults.
 ghost use Rattle.std.specs.Prelude.{◌≡◌, ◌≤◌};
-ghost use Rattle.load.specs.Settings.{row_of, is_admitted};
+ghost use Rattle.load.specs.Settings.{row_of, is_admitted, number_in};
 
 /// A number of a load, which an option of its name gives.
 #[derive(Clone, Copy, Debug, PartialEq, Eq)]
@@ -39,6 +39,26 @@ pub enum Setting {
     Seed,
 }
 
+/// The settings in their order.
+pub const SETTINGS: [Setting; 16] = [
+    Setting::Lanes,
+    Setting::Sets,
+    Setting::Memory,
+    Setting::Segments,
+    Setting::SegmentPages,
+    Setting::Entries,
+    Setting::Threshold,
+    Setting::Admit,
+    Setting::Callers,
+    Setting::Operations,
+    Setting::Keys,
+    Setting::ValueBytes,
+    Setting::Gets,
+    Setting::Removes,
+    Setting::Workers,
+    Setting::Seed,
+];
+
 impl Setting {
     /// The name of its option, without the two dashes.
     pub fn name(self) -> &'static str
@@ -61,6 +81,28 @@ impl Setting {
             Setting::Removes => "removes",
             Setting::Workers => "workers",
             Setting::Seed => "seed",
+        }
+    }
+
+    /// What it is, with its range, for the help of its option.
+    pub fn meaning(self) -> &'static str {
+        match self {
+            Setting::Lanes => "Lanes of the cache, 1 to 16",
+            Setting::Sets => "Sets of each lane, 1 to 65536",
+            Setting::Memory => "Objects in memory of each lane, 1 to 1048576",
+            Setting::Segments => "Log segments of each lane, 2 to 256",
+            Setting::SegmentPages => "Pages of a segment, 1 to 64",
+            Setting::Entries => "Entries of each lane's log index, 1 to 1048576",
+            Setting::Threshold => "Objects of a set that move together at least, 1 to 32",
+            Setting::Admit => "How many of 65536 objects enter the log, 0 to 65536",
+            Setting::Callers => "Threads that call, 1 to 64",
+            Setting::Operations => "Operations of each caller, 1 to 1000000",
+            Setting::Keys => "Keys that the callers share, 1 to 1000000",
+            Setting::ValueBytes => "Bytes of each value, 0 to 2048",
+            Setting::Gets => "Gets, 0 to 100 per cent",
+            Setting::Removes => "Removes, 0 to 100 per cent",
+            Setting::Workers => "Threads that flush and move, 1 to 16",
+            Setting::Seed => "The seed of the callers' random words, 0 to 4294967295",
         }
     }
 
@@ -123,5 +165,20 @@ impl Setting {
         ensures { result ≡ is_admitted self number }
     {
         self.least() <= number && number <= self.greatest()
+    }
+
+    /// The number that a text gives it: digits, with or without a plus sign before them. `None` where the
+    /// text is no such number, or one that it may not be.
+    pub fn number(self, text: &str) -> Option<u32>
+        ensures { result ≡ number_in self text.now }
+    {
+        let Ok(number) = text.parse::<u32>() else {
+            return None;
+        };
+        if self.admits(number) {
+            Some(number)
+        } else {
+            None
+        }
     }
 }

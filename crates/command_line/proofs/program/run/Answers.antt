@@ -1,0 +1,26 @@
+-- One option more for one setting more, and the option of the trace behind them.
+use Rattle.std.proofs.Common.{◌≡◌, ◌∙◌, ap, ap₂, codes, fold, sym, take, rules, arith}
+use Rattle.std.proofs.lemmas.List.{take_all}
+use Rattle.std.proofs.lemmas.List.Sums.{fold_more}
+use Rattle.std.proofs.lemmas.Result.{IfOk-weaker}
+use Rattle.clap.specs.Words.{App, app_of, new_app, with_rule}
+use Rattle.load.specs.declared.setting.Setting.TheVariants.{Lanes}
+use Rattle.load.specs.Settings.{settings}
+use Rattle.command_line.specs.CommandLine.{run_command, with_option}
+use Rattle.command_line.proofs.program.run.Goals as goal
+
+pub loop-setting-init : goal.loop-setting-init
+loop-setting-init c = rw c.about-run.ensures c.new.ensures.app
+
+pub loop-setting-preserved : goal.loop-setting-preserved
+loop-setting-preserved c =
+    c.in_ok-run.ensures.shape c.option.ensures.local
+    ∙ ap₂ with_rule c.loop-setting.invariant c.option.ensures.rule
+    ∙ sym (fold_more with_option (new_app (codes "run")) settings c.loop-setting.setting-index Lanes c.loop-setting-test.true)
+
+pub returns : goal.returns
+returns c =
+    let all : take c.loop-setting.setting-index settings ≡ settings = take_all c.loop-setting.setting-index settings c.loop-setting-test.false in
+    let options : app_of c.loop-setting.run ≡ fold with_option (new_app (codes "run")) settings =
+    c.loop-setting.invariant ∙ ap (fold with_option (new_app (codes "run"))) all in
+    IfOk-weaker c.arg-2.result _ _ (λ r h. h.shape c.trace.ensures.local ∙ ap₂ with_rule options c.trace.ensures.rule) c.arg-2.ensures

@@ -1,0 +1,93 @@
+// The program's command line, as `clap` reads it.
+ghost use Rattle.std.specs.Prelude.{◌≡◌, IfOk, false};
+ghost use Rattle.clap.specs.Words.{app_of, rule_of};
+ghost use Rattle.command_line.specs.CommandLine.{check_command, file_rule, option_rule, program, run_command, script_command, trace_rule};
+
+use clap::{Arg, Command};
+use load::{SETTINGS, Setting};
+use std::alloc::{AllocError, Global};
+
+/// What the program calls itself, however it was started.
+const NAME: &str = "kangaroo";
+
+/// The version that it tells.
+const VERSION: &str = "0.1.0";
+
+/// The program's command line.
+pub fn program<'a>(alloc: Global) -> Result<Command<'a>, AllocError>
+    ensures { IfOk result (λ c. app_of c ≡ program) }
+{
+    let kangaroo = Command::new(alloc, NAME)
+        .about("A flash cache for tiny objects, and a checker of recorded histories")
+        .version(VERSION)
+        .bin_name(NAME)?
+        .subcommand_required(true)
+        .subcommand(script(alloc))?;
+    let kangaroo = kangaroo.subcommand(check(alloc)?)?;
+    kangaroo.subcommand(run(alloc)?)
+}
+
+/// The subcommand `script`.
+fn script<'a>(alloc: Global) -> Command<'a>
+    ensures { app_of result ≡ script_command }
+{
+    Command::new(alloc, "script").about("Answers the script of standard input")
+}
+
+/// The subcommand `check`.
+fn check<'a>(alloc: Global) -> Result<Command<'a>, AllocError>
+    ensures { IfOk result (λ c. app_of c ≡ check_command) }
+{
+    let check = Command::new(alloc, "check").about("Judges the trace in a file");
+    check.arg(file(alloc))
+}
+
+/// The file that is to be checked.
+fn file<'a>(alloc: Global) -> Arg<'a>
+    ensures rule { rule_of result ≡ file_rule }
+    ensures local { result.global ≡ false }
+{
+    Arg::new(alloc, "FILE")
+        .required(true)
+        .help("The file of the trace")
+}
+
+/// The subcommand `run`.
+pub fn run<'a>(alloc: Global) -> Result<Command<'a>, AllocError>
+    ensures { IfOk result (λ c. app_of c ≡ run_command) }
+{
+    let mut run = Command::new(alloc, "run").about(
+        "Runs threads on a cache, and judges their history",
+    );
+    for setting in &SETTINGS {
+        run = run.arg(option(alloc, *setting))?;
+    }
+    run.arg(trace(alloc))
+}
+
+/// The option of a setting.
+fn option<'a>(alloc: Global, setting: Setting) -> Arg<'a>
+    ensures rule { rule_of result ≡ option_rule setting }
+    ensures local { result.global ≡ false }
+{
+    let name: &'a str = setting.name();
+    let word: &'a str = setting.default_word();
+    let meaning: &'a str = setting.meaning();
+    Arg::new(alloc, name)
+        .long(name)
+        .value_name("NUMBER")
+        .default_value(word)
+        .help(meaning)
+}
+
+/// The file that the trace of a run is written to.
+fn trace<'a>(alloc: Global) -> Arg<'a>
+    ensures rule { rule_of result ≡ trace_rule }
+    ensures local { result.global ≡ false }
+{
+    Arg::new(alloc, "trace")
+        .long("trace")
+        .value_name("FILE")
+        .required(true)
+        .help("The file that the trace is written to")
+}

@@ -1,0 +1,14 @@
+-- What the parse of a text gives is the number that the text writes.
+use Rattle.std.proofs.Common.{sym, ◌∙◌, ap, subst, Result, Ok, Err, true}
+use Rattle.std.specs.Str.Parse.{ParsesUnsigned}
+use Rattle.load.proofs.Ranges.{read, out, unread}
+use Rattle.load.proofs.setting.Setting.number.Goals as goal
+
+pub returns-in_default : goal.returns-in_default
+returns-in_default c = unread c.args.self c.args.text.now c.in_default.ensures.value.0
+
+pub returns-then-admits : goal.returns-then-admits
+returns-then-admits c = read c.args.self c.args.text.now c.in-Ok.number c.in-Ok.ensures.value.0 (sym c.admits.ensures ∙ c.if-admits.true)
+
+pub returns-else-admits : goal.returns-else-admits
+returns-else-admits c = out c.args.self c.args.text.now c.in-Ok.number c.in-Ok.ensures.value.0 (sym c.admits.ensures ∙ c.if-admits.false)

@@ -1,0 +1,4 @@
+pub mod Ends
+pub mod Summaries
+pub mod Calls
+pub mod Runs

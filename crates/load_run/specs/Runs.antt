@@ -1,0 +1,54 @@
+-- What a run wrote, by how it ended.
+use Rattle.std.specs.Prelude.{◌≡◌, ◌≢◌, ◌↔◌, ◌⊎◌, ◌<◌, ◌+◌, ℕ, List, Option, count_by, length}
+use Rattle.std.specs.Io.KnownBytes.{Appends, Keeps}
+use Rattle.trace_file.specs.declared.call.Call.{Call}
+use Rattle.certificate_checker.specs.Acceptance.{IsAccepted}
+use Rattle.certificate_checker.specs.declared.verdict.Verdict.TheVariants.{Accepted}
+use Rattle.load.specs.declared.load.Load.{Load}
+use Rattle.load_run.specs.declared.run_end.RunEnd.{RunEnd}
+use Rattle.load_run.specs.declared.run_end.RunEnd.TheVariants as ends
+use Rattle.load_run.specs.declared.summary.Summary.{Summary}
+use Rattle.load_run.specs.Ends.{end_of_verdict, status_of}
+use Rattle.load_run.specs.Summaries.{is_hit, lines_of}
+
+-- the summary has the numbers of a history, and the verdict on it and its certificate
+pub record IsSummaryOf (summary : Summary) (history : List Call) (certificate : List ℕ) : Type 0 where
+  pub calls : summary.calls ≡ length history
+  pub hits : summary.hits ≡ count_by is_hit history
+  pub verdict : (summary.verdict ≡ Accepted) ↔ IsAccepted history certificate
+
+-- the four lines of a summary were written, and the run ended as it says
+pub record IsTold (old new : Option (List ℕ)) (end : RunEnd) : Type 0 where
+  pub summary : Summary
+  pub history : List Call
+  pub certificate : List ℕ
+  pub is : IsSummaryOf summary history certificate
+  pub wrote : Appends old new (lines_of summary)
+  pub ended : end ≡ end_of_verdict summary.verdict summary.stopped
+
+-- what was written where a run ended so: the four lines where it was judged, else nothing, and where a file or the output
+-- failed nothing is said
+abbrev pub WroteLines : Option (List ℕ) → Option (List ℕ) → RunEnd → Type 0
+WroteLines old new ends.Accepted = IsTold old new ends.Accepted
+WroteLines old new ends.Rejected = IsTold old new ends.Rejected
+WroteLines old new ends.Stopped = IsTold old new ends.Stopped
+WroteLines old new ends.SharesExceed = Keeps old new
+WroteLines old new ends.OutOfMemory = Keeps old new
+WroteLines old new ends.FileFault = Unit {0}
+WroteLines old new ends.FinishFault = Keeps old new
+
+-- the summary's lines were written, or memory was refused and nothing was, or the output failed
+abbrev pub IsSaid : Summary → Option (List ℕ) → Option (List ℕ) → RunEnd → Type 0
+IsSaid summary old new end =
+    (Appends old new (lines_of summary) × (end ≡ end_of_verdict summary.verdict summary.stopped))
+    ⊎ ((end ≡ ends.OutOfMemory) × Keeps old new)
+    ⊎ (end ≡ ends.FileFault)
+
+-- A run of a load ended with this status. It was refused before anything was opened exactly where gets and removes exceed
+-- 100; over devices in memory no history is rejected.
+pub record IsRunOf (load : Load) (old new : Option (List ℕ)) (status : ℕ) : Type 0 where
+  pub end : RunEnd
+  pub status_is : status ≡ status_of end
+  pub shares : (end ≡ ends.SharesExceed) ↔ (100 < load.gets + load.removes)
+  pub wrote : WroteLines old new end
+  pub accepted : end ≢ ends.Rejected

@@ -1,0 +1,105 @@
+// A caller of a run.
+ghost use Rattle.std.specs.Prelude.{◌≡◌, OnOk, OnErr};
+ghost use Rattle.load.specs.Operations.{next_of};
+ghost use Rattle.shared_cache.specs.Caches.{KeepsTie};
+ghost use Rattle.load_run.specs.Calls.{IsCalled, IsEnded, first_generator};
+
+use crate::ended::Ended;
+use crate::shared::Cache;
+use history_recorder::Operation;
+use load::{Load, next_operation};
+use rand_pcg::Lcg64Xsh32;
+use shared_cache::{CallFault, Pass};
+use std::alloc::Global;
+use std::sync::Wait;
+
+/// Makes the calls of a caller, by a generator of its own.
+pub fn start_caller<R: Wait>(rt: &R, alloc: Global, cache: &Cache, load: &Load, pass: Pass) -> Ended
+    requires { pass.sight.clock ≡ cache.now.clock }
+    ensures { IsEnded cache.now.layout load.now
+        (first_generator load.now.seed pass.caller) pass result.pass result.stopped }
+{
+    let generator = Lcg64Xsh32::new(u64::from(load.seed), u64::from(pass.caller()));
+    make_calls(rt, alloc, cache, load, generator, pass)
+}
+
+/// Makes the calls of a caller, and stops at its first refusal.
+pub fn make_calls<R: Wait>(
+    rt: &R,
+    alloc: Global,
+    cache: &Cache,
+    load: &Load,
+    mut generator: Lcg64Xsh32,
+    mut pass: Pass,
+) -> Ended
+    requires { pass.sight.clock ≡ cache.now.clock }
+    ensures { IsEnded cache.now.layout load.now generator pass result.pass result.stopped }
+{
+    for number in 0..load.operations {
+        let Ok(()) = make_next(rt, alloc, cache, load, &mut generator, &mut pass, number) else {
+            return Ended {
+                pass,
+                stopped: true,
+            };
+        };
+    }
+    Ended {
+        pass,
+        stopped: false,
+    }
+}
+
+/// Makes the call of a caller with this number.
+fn make_next<R: Wait>(
+    rt: &R,
+    alloc: Global,
+    cache: &Cache,
+    load: &Load,
+    generator: &mut Lcg64Xsh32,
+    pass: &mut Pass,
+    number: u32,
+) -> Result<(), CallFault>
+    requires { pass.old.sight.clock ≡ cache.now.clock }
+    ensures made { OnOk result (IsCalled cache.now.layout
+        (next_of load.now pass.old.caller number generator.old).operation pass.old pass.new) }
+    ensures refused { OnErr result (pass.new.calls ≡ pass.old.calls) }
+    ensures generator { generator.new
+        ≡ (next_of load.now pass.old.caller number generator.old).generator }
+    ensures tie { KeepsTie pass.old pass.new }
+{
+    let Ok(operation) = next_operation(alloc, generator, load, pass.caller(), number) else {
+        return Err(CallFault::OutOfMemory);
+    };
+    match make(rt, cache, pass, operation) {
+        Ok(()) => Ok(()),
+        Err(fault) => Err(fault),
+    }
+}
+
+/// Makes a call.
+fn make<R: Wait>(
+    rt: &R,
+    cache: &Cache,
+    pass: &mut Pass,
+    operation: Operation,
+) -> Result<(), CallFault>
+    requires { pass.old.sight.clock ≡ cache.now.clock }
+    ensures made { OnOk result (IsCalled cache.now.layout operation pass.old pass.new) }
+    ensures refused { OnErr result (pass.new.calls ≡ pass.old.calls) }
+    ensures tie { KeepsTie pass.old pass.new }
+{
+    match operation {
+        Operation::Get(key) => match cache.get(rt, pass, &key) {
+            Ok(_) => Ok(()),
+            Err(fault) => Err(fault),
+        },
+        Operation::Put(key, value, word) => match cache.put(rt, pass, key, value, word) {
+            Ok(_) => Ok(()),
+            Err(fault) => Err(fault),
+        },
+        Operation::Remove(key) => match cache.remove(rt, pass, &key) {
+            Ok(()) => Ok(()),
+            Err(fault) => Err(fault),
+        },
+    }
+}

@@ -1,0 +1,18 @@
+//! The run of a load: its callers and workers in threads on one cache, and what is told of it.
+#![tactic(auto)]
+
+mod caller;
+mod crew;
+mod ended;
+mod hits;
+mod made;
+mod run;
+mod run_end;
+mod shared;
+mod summary;
+mod worker;
+
+pub use hits::hits_of;
+pub use run::run_load;
+pub use run_end::RunEnd;
+pub use summary::Summary;

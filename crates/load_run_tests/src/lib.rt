@@ -1,0 +1,5 @@
+//! Tests of the options of a run and of runs, through public calls.
+#![tactic(auto)]
+
+#[cfg(test)]
+mod tests;

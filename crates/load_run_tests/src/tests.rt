@@ -1,0 +1,3 @@
+mod options;
+mod runs;
+mod tiers;

@@ -1,0 +1,181 @@
+//! Runs with fixed seeds, whose schedules differ and whose ends do not.
+use certificate_checker::{Judged, judge};
+use command_line::{Line, parse_line};
+use load::Load;
+use load_run::run_load;
+use std::alloc::Global;
+use std::fs;
+use std::rt::Files;
+use std::sync::Wait;
+use std::test::Fail;
+use std::thread::Threads;
+
+/// What a run ended with and wrote.
+#[derive(Drop)]
+struct Ran {
+    status: u8,
+    out: Vec<u8>,
+    err: Vec<u8>,
+}
+
+/// Runs a load.
+fn run_of<R: Threads + Wait + Sync + AllocGlobal + Files>(rt: &R, load: &Load) -> Ran {
+    let mut out: Vec<u8> = Vec::new(rt.alloc());
+    let mut err: Vec<u8> = Vec::new(rt.alloc());
+    let status = run_load(rt, load, &mut out, &mut err);
+    Ran { status, out, err }
+}
+
+/// The load that words ask for.
+fn load_of<'a>(alloc: Global, words: &'a [&'a str]) -> Option<Load> {
+    match parse_line(alloc, words) {
+        Ok(Line::Run(load)) => Some(load),
+        _ => None,
+    }
+}
+
+/// Whether a run was accepted with so many calls: its four lines say so, and nothing went to the other output.
+fn is_accepted(ran: &Ran, calls: &[u8], verdict: &[u8]) -> bool {
+    ran.status == 0
+        && ran.err.is_empty()
+        && ran.out.as_slice().starts_with(calls)
+        && ran.out.as_slice().ends_with(verdict)
+}
+
+/// Whether a run wrote no lines, and ended so with this line on the other output.
+fn is_refused(ran: &Ran, status: u8, line: &[u8]) -> bool {
+    ran.status == status && ran.out.is_empty() && ran.err.as_slice() == line
+}
+
+const MANY: &[&str] = &[
+    "k",
+    "run",
+    "--callers",
+    "8",
+    "--operations",
+    "2000",
+    "--keys",
+    "20",
+    "--value-bytes",
+    "8",
+    "--trace",
+    "many.trace",
+];
+
+#[test]
+fn a_run_of_eight_callers_is_accepted(rt: HostRuntime) -> Result<(), Fail> {
+    let load = load_of(rt.alloc(), MANY).ok_or("a load")?;
+    let ran = run_of(&rt, &load);
+    assert!(rt;
+        is_accepted(
+            &ran,
+            b"calls 16000\n",
+            b"\nstopped 0\naccepted 16000 calls\n"
+        )
+    );
+    Ok(fs::remove_file(&rt, "many.trace")?)
+}
+
+/// Each lane is as small as it may be, and there are more workers than lanes.
+const SMALL: &[&str] = &[
+    "k",
+    "run",
+    "--lanes",
+    "2",
+    "--sets",
+    "1",
+    "--memory",
+    "1",
+    "--segments",
+    "2",
+    "--segment-pages",
+    "1",
+    "--entries",
+    "1",
+    "--threshold",
+    "1",
+    "--callers",
+    "3",
+    "--workers",
+    "5",
+    "--operations",
+    "500",
+    "--seed",
+    "4294967295",
+    "--value-bytes",
+    "2048",
+    "--keys",
+    "7",
+    "--trace",
+    "small.trace",
+];
+
+#[test]
+fn a_run_of_small_lanes_is_accepted_and_so_is_its_trace(rt: HostRuntime) -> Result<(), Fail> {
+    let load = load_of(rt.alloc(), SMALL).ok_or("a load")?;
+    let ran = run_of(&rt, &load);
+    assert!(rt; is_accepted(&ran, b"calls 1500\n", b"\nstopped 0\naccepted 1500 calls\n"));
+    let mut line: Vec<u8> = Vec::new(rt.alloc());
+    let mut trace = fs::open(&rt, "small.trace")?;
+    assert_eq!(rt;
+        judge(rt.alloc(), &mut trace, &mut line),
+        Ok(Judged::Accepted)
+    );
+    assert_eq!(rt; line.as_slice(), b"accepted 1500 calls\n".as_slice());
+    Ok(fs::remove_file(&rt, "small.trace")?)
+}
+
+/// The greatest shares that do not exceed 100, and the least that do.
+const WHOLE: &[&str] = &[
+    "k",
+    "run",
+    "--gets",
+    "95",
+    "--operations",
+    "100",
+    "--trace",
+    "whole.trace",
+];
+
+const EXCEEDING: &[&str] = &[
+    "k",
+    "run",
+    "--gets",
+    "96",
+    "--operations",
+    "100",
+    "--trace",
+    "exceeding.trace",
+];
+
+#[test]
+fn gets_and_removes_may_not_exceed_100(rt: HostRuntime) -> Result<(), Fail> {
+    let whole = load_of(rt.alloc(), WHOLE).ok_or("a load")?;
+    assert_eq!(rt; run_of(&rt, &whole).status, 0);
+    let exceeding = load_of(rt.alloc(), EXCEEDING).ok_or("a load")?;
+    assert!(rt;
+        is_refused(
+            &run_of(&rt, &exceeding),
+            2,
+            b"gets and removes exceed 100\n"
+        )
+    );
+    assert!(rt; fs::open(&rt, "exceeding.trace").is_err());
+    Ok(fs::remove_file(&rt, "whole.trace")?)
+}
+
+const NOWHERE: &[&str] = &[
+    "k",
+    "run",
+    "--operations",
+    "100",
+    "--trace",
+    "no such folder/t.trace",
+];
+
+#[test]
+fn a_trace_that_can_not_be_made_is_a_file_fault(rt: HostRuntime) -> Result<(), Fail> {
+    let load = load_of(rt.alloc(), NOWHERE).ok_or("a load")?;
+    assert!(rt; is_refused(&run_of(&rt, &load), 3, b"file fault\n"));
+    Ok(())
+}
