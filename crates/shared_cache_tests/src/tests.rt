@@ -2,6 +2,11 @@
 //! accepts.
 mod clock;
 mod finishing;
+mod gate;
+mod gate_device;
+mod gate_policy;
+mod gates;
+mod many;
 
 
 
@@ -57,9 +62,9 @@ fn opened(alloc: Global, config: &Config, callers: u16) -> Result<(Cache, Vec<Pa
 }
 
 // How many calls are in the history of a cache that is over, if the checker accepts it.
-fn accepted(
+fn accepted<D: Drop>(
     alloc: Global,
-    ended: Result<Finished<MemoryDevice<256>>, FinishFault>,
+    ended: Result<Finished<D>, FinishFault>,
 ) -> Result<Option<usize>, Fail> {
     let finished = ended?;
     match check(alloc, &finished.history, &finished.certificate)? {
@@ -82,7 +87,10 @@ fn so_many<const PAGE: usize>(
 }
 
 // The pass of the only caller.
-fn only(cache: &Cache, passes: Vec<Pass>) -> Result<Pass, Fail>
+fn only<D: PageDevice<PAGE>, P: EvictionPolicy + Drop, const PAGE: usize>(
+    cache: &SharedCache<D, P, PAGE>,
+    passes: Vec<Pass>,
+) -> Result<Pass, Fail>
     requires { All (λ p. p.sight.clock ≡ cache.now.clock) passes.items }
     ensures { IfOk result (λ pass. pass.sight.clock ≡ cache.now.clock) }
 {
@@ -91,6 +99,25 @@ fn only(cache: &Cache, passes: Vec<Pass>) -> Result<Pass, Fail>
         Some(pass) => Ok(pass),
         None => Err("a pass".into()),
     }
+}
+
+// The two passes of a cache of two callers, the lesser first.
+fn two_of<D: PageDevice<PAGE>, P: EvictionPolicy + Drop, const PAGE: usize>(
+    cache: &SharedCache<D, P, PAGE>,
+    passes: Vec<Pass>,
+) -> Result<(Pass, Pass), Fail>
+    requires { All (λ p. p.sight.clock ≡ cache.now.clock) passes.items }
+    ensures { IfOk result (λ two. (two.0.sight.clock ≡ cache.now.clock)
+        × (two.1.sight.clock ≡ cache.now.clock)) }
+{
+    let mut passes = passes;
+    let Some(second) = passes.pop() else {
+        return Err("two passes".into());
+    };
+    let Some(first) = passes.pop() else {
+        return Err("two passes".into());
+    };
+    Ok((first, second))
 }
 
 // A list of one pass, made once more where memory was refused.

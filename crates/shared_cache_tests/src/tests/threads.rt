@@ -129,19 +129,3 @@ fn a_full_clock_refuses_calls_and_records_none(rt: HostRuntime) -> Result<(), Fa
     assert_eq!(rt; accepted(alloc, ended)?, Some(1));
     Ok(())
 }
-
-// The two passes of a cache of two callers, the lesser first.
-fn two_of(cache: &Cache, passes: Vec<Pass>) -> Result<(Pass, Pass), Fail>
-    requires { All (λ p. p.sight.clock ≡ cache.now.clock) passes.items }
-    ensures { IfOk result (λ two. (two.0.sight.clock ≡ cache.now.clock)
-        × (two.1.sight.clock ≡ cache.now.clock)) }
-{
-    let mut passes = passes;
-    let Some(second) = passes.pop() else {
-        return Err("two passes".into());
-    };
-    let Some(first) = passes.pop() else {
-        return Err("two passes".into());
-    };
-    Ok((first, second))
-}
