@@ -7,9 +7,6 @@ mod gate_device;
 mod gate_policy;
 mod gates;
 mod many;
-
-
-
 mod opening;
 mod rounds;
 mod run;
@@ -17,6 +14,7 @@ mod threads;
 
 ghost use Rattle.std.specs.Prelude.{◌≡◌, ◌<◌, All, IfOk, length};
 
+use self::run::{Found, Ran, Step, run};
 use certificate_checker::{Verdict, check};
 use klog::Flushed;
 use mover::Moved;
@@ -27,8 +25,6 @@ use rriparoo::Rriparoo;
 use shared_cache::{FinishFault, Finished, Pass, SharedCache};
 use std::alloc::{AllocError, Global};
 use std::test::Fail;
-
-use self::run::{Found, Ran, Step, run};
 
 type Cache = SharedCache<MemoryDevice<256>, Rriparoo, 256>;
 
@@ -55,9 +51,21 @@ fn opened(alloc: Global, config: &Config, callers: u16) -> Result<(Cache, Vec<Pa
     ensures ties { IfOk result (λ o. All (λ p. p.sight.clock ≡ o.0.clock) o.1.items) }
     ensures lanes { IfOk result (λ o. o.0.layout.lanes ≡ config.now.lanes) }
 {
-    match Cache::open(alloc, config, so_many(alloc, config.lanes, 3)?, Rriparoo, callers) {
+    match Cache::open(
+        alloc,
+        config,
+        so_many(alloc, config.lanes, 3)?,
+        Rriparoo,
+        callers,
+    ) {
         Ok(opened) => Ok(opened),
-        Err(_) => Ok(Cache::open(alloc, config, so_many(alloc, config.lanes, 3)?, Rriparoo, callers)?),
+        Err(_) => Ok(Cache::open(
+            alloc,
+            config,
+            so_many(alloc, config.lanes, 3)?,
+            Rriparoo,
+            callers,
+        )?),
     }
 }
 

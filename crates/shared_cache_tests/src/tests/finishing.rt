@@ -151,7 +151,9 @@ fn the_passes_list_just_the_recorded_calls(rt: HostRuntime) -> Result<(), Fail> 
 }
 
 // Why a cache is not finished. It fails where memory was refused.
-fn fault_of(ended: Result<Finished<MemoryDevice<256>>, FinishFault>) -> Result<Option<FinishFault>, Fail> {
+fn fault_of(
+    ended: Result<Finished<MemoryDevice<256>>, FinishFault>,
+) -> Result<Option<FinishFault>, Fail> {
     match ended {
         Ok(_) => Ok(None),
         Err(FinishFault::OutOfMemory) => Err(FinishFault::OutOfMemory.into()),

@@ -2,10 +2,10 @@
 //! one for all lets the wait run out.
 ghost use Rattle.std.specs.Prelude.{◌≡◌, ◌<◌, All};
 
-use super::*;
 use super::gate::Gate;
 use super::gate_device::GateDevice;
 use super::gate_policy::GatePolicy;
+use super::*;
 use std::sync::{Arc, Wait};
 use std::thread::{Threads, join};
 
@@ -28,10 +28,7 @@ const OTHER_LANE: [Step; 2] = [
 ];
 
 // Calls of lane 0 that are answered by memory.
-const SAME_LANE: [Step; 2] = [
-    Step::Get(b"cx", Found::Memory(b"2")),
-    Step::Remove(b"gx"),
-];
+const SAME_LANE: [Step; 2] = [Step::Get(b"cx", Found::Memory(b"2")), Step::Remove(b"gx")];
 
 const MOVE: [Step; 2] = [
     Step::Move(Moved::Written),
@@ -57,7 +54,6 @@ fn then_open<R: Wait>(
     }
     ran
 }
-
 
 // One caller is held at the gate in its calls, and the other one opens it behind its own.
 fn at_the_gate<R: Threads + Wait + Sync>(
@@ -140,12 +136,18 @@ fn meeting<R: Threads + Wait + Sync>(
 
 #[test]
 fn a_lane_reads_while_another_one_answers(rt: HostRuntime) -> Result<(), Fail> {
-    assert_eq!(rt; meeting(&rt, rt.alloc(), Held::Reads, &READ, &OTHER_LANE)?, Some(5));
+    assert_eq!(rt;
+        meeting(&rt, rt.alloc(), Held::Reads, &READ, &OTHER_LANE)?,
+        Some(5)
+    );
     Ok(())
 }
 
 #[test]
 fn a_plan_is_made_while_its_lane_answers(rt: HostRuntime) -> Result<(), Fail> {
-    assert_eq!(rt; meeting(&rt, rt.alloc(), Held::Plans, &MOVE, &SAME_LANE)?, Some(5));
+    assert_eq!(rt;
+        meeting(&rt, rt.alloc(), Held::Plans, &MOVE, &SAME_LANE)?,
+        Some(5)
+    );
     Ok(())
 }

@@ -5,8 +5,8 @@ use super::*;
 use record_pages::{Answer, Key, Tier, Value};
 use shared_cache::CallFault;
 use std::sync::Wait;
-use std::sync::atomic::{AtomicU32, Ordering};
-use std::thread::{Threads, map_vec, yield_now};
+use std::sync::atomic::{AtomicBool, Ordering};
+use std::thread::{Threads, join, map_vec, yield_now};
 
 // Four lanes of four sets, in which all is small.
 const SMALL: Config = Config {
@@ -25,7 +25,7 @@ const PAGES: u32 = 12;
 const CALLERS: u16 = 8;
 
 // How many calls each caller makes.
-const CALLS: u32 = 100_000;
+const CALLS: u32 = 5_000;
 
 // How many keys there are, of which each lane has some.
 const KEYS: u64 = 100;
@@ -51,19 +51,10 @@ const NONE: Tally = Tally {
     refused: 0,
 };
 
-/// What one thread does.
+/// A caller's pass after its calls, and how they went.
 #[derive(Drop)]
-enum Task {
-    /// Makes calls with this pass.
-    Calls(Pass),
-    /// Flushes and moves, until so many callers are done.
-    Rounds,
-}
-
-/// What one thread did.
-#[derive(Drop)]
-struct Done {
-    pass: Option<Pass>,
+struct Called {
+    pass: Pass,
     tally: Tally,
 }
 
@@ -161,7 +152,7 @@ fn sum(one: Tally, other: Tally) -> Tally {
 }
 
 // Makes all calls of a caller.
-fn calls<R: Wait>(rt: &R, alloc: Global, cache: &Cache, mut pass: Pass) -> Done
+fn calls<R: Wait>(rt: &R, alloc: Global, cache: &Cache, mut pass: Pass) -> Called
     requires { pass.sight.clock ≡ cache.now.clock }
 {
     let mut tally = NONE;
@@ -170,18 +161,33 @@ fn calls<R: Wait>(rt: &R, alloc: Global, cache: &Cache, mut pass: Pass) -> Done
         drawn = next(drawn);
         tally = call(rt, alloc, cache, &mut pass, drawn, tally);
     }
-    Done {
-        pass: Some(pass),
-        tally,
-    }
+    Called { pass, tally }
 }
 
-// Flushes each lane and moves in it, time after time, while callers are left.
-fn rounds<R: Wait>(rt: &R, cache: &Cache, left: &AtomicU32)
+// Makes the calls of all callers, each in a thread of its own.
+fn all_calls<R: Threads + Wait + Sync>(
+    rt: &R,
+    alloc: Global,
+    cache: &Cache,
+    passes: Vec<Pass>,
+) -> Result<Vec<Called>, AllocError>
+    requires { All (λ p. p.sight.clock ≡ cache.now.clock) passes.items }
+{
+    map_vec(
+        rt,
+        passes,
+        &|pass: Pass| -> Called
+            requires { pass.sight.clock ≡ cache.now.clock }
+        { calls(rt, alloc, cache, pass) },
+    )
+}
+
+// Flushes each lane and moves in it, time after time, until the calls are done.
+fn rounds<R: Wait>(rt: &R, cache: &Cache, done: &AtomicBool)
     requires { 4 ≤ cache.now.layout.lanes }
 {
     for number in 0..ROUNDS {
-        if left.load(Ordering::SeqCst) == 0 {
+        if done.load(Ordering::SeqCst) {
             break;
         }
         let lane = number % 4;
@@ -191,63 +197,88 @@ fn rounds<R: Wait>(rt: &R, cache: &Cache, left: &AtomicU32)
     }
 }
 
-// Does what a thread is to do.
-fn work<R: Wait>(rt: &R, alloc: Global, cache: &Cache, left: &AtomicU32, task: Task) -> Done
+// Makes the calls of all callers beside two workers.
+fn beside_workers<R: Threads + Wait + Sync>(
+    rt: &R,
+    alloc: Global,
+    cache: &Cache,
+    passes: Vec<Pass>,
+) -> Result<Vec<Called>, AllocError>
+    requires ties { All (λ p. p.sight.clock ≡ cache.now.clock) passes.items }
+    requires lanes { 4 ≤ cache.now.layout.lanes }
 {
-    match task {
-        Task::Calls(pass) => {
-            let done = calls(rt, alloc, cache, pass);
-            left.fetch_sub(1, Ordering::SeqCst);
-            done
-        }
-        Task::Rounds => {
-            rounds(rt, cache, left);
-            Done {
-                pass: None,
-                tally: NONE,
-            }
-        }
-    }
+    let done = AtomicBool::new(false);
+    let (_, (_, called)) = join(
+        rt,
+        ||
+            requires { 4 ≤ cache.now.layout.lanes }
+        { rounds(rt, cache, &done) },
+        || -> ((), Result<Vec<Called>, AllocError>)
+            requires { (4 ≤ cache.now.layout.lanes)
+                × All (λ p. p.sight.clock ≡ cache.now.clock) passes.items }
+        { beside_a_worker(rt, alloc, cache, &done, passes) },
+    );
+    called
 }
 
-// A task for each pass, and two workers.
-fn tasks(alloc: Global, passes: Vec<Pass>) -> Result<Vec<Task>, Fail>
+// The same beside one of them.
+fn beside_a_worker<R: Threads + Wait + Sync>(
+    rt: &R,
+    alloc: Global,
+    cache: &Cache,
+    done: &AtomicBool,
+    passes: Vec<Pass>,
+) -> ((), Result<Vec<Called>, AllocError>)
+    requires ties { All (λ p. p.sight.clock ≡ cache.now.clock) passes.items }
+    requires lanes { 4 ≤ cache.now.layout.lanes }
 {
-    let mut tasks = Vec::with_capacity(alloc, 10)?;
-    let mut passes = passes;
-    while let Some(pass) = passes.pop() {
-        tasks.push(Task::Calls(pass))?;
-    }
-    tasks.push(Task::Rounds)?;
-    tasks.push(Task::Rounds)?;
-    Ok(tasks)
+    join(
+        rt,
+        ||
+            requires { 4 ≤ cache.now.layout.lanes }
+        { rounds(rt, cache, done) },
+        || -> Result<Vec<Called>, AllocError>
+            requires { All (λ p. p.sight.clock ≡ cache.now.clock) passes.items }
+        { until_done(rt, alloc, cache, done, passes) },
+    )
+}
+
+// Makes the calls of all callers, and says so when they are done.
+fn until_done<R: Threads + Wait + Sync>(
+    rt: &R,
+    alloc: Global,
+    cache: &Cache,
+    done: &AtomicBool,
+    passes: Vec<Pass>,
+) -> Result<Vec<Called>, AllocError>
+    requires { All (λ p. p.sight.clock ≡ cache.now.clock) passes.items }
+{
+    let called = all_calls(rt, alloc, cache, passes);
+    done.store(true, Ordering::SeqCst);
+    called
 }
 
 // The passes, and how all calls together went.
-fn gathered(alloc: Global, all: Vec<Done>) -> Result<(Vec<Pass>, Tally), Fail> {
-    let mut passes = Vec::with_capacity(alloc, 8)?;
+fn gathered(alloc: Global, called: Vec<Called>) -> Result<(Vec<Pass>, Tally), Fail> {
+    let mut passes = Vec::with_capacity(alloc, called.len())?;
     let mut tally = NONE;
-    let mut left = all;
-    while let Some(done) = left.pop() {
-        tally = sum(tally, done.tally);
-        if let Some(pass) = done.pass {
-            passes.push(pass)?;
-        }
+    let mut left = called;
+    while let Some(of_one) = left.pop() {
+        tally = sum(tally, of_one.tally);
+        passes.push(of_one.pass)?;
     }
     Ok((passes, tally))
 }
 
 #[test]
-fn many_threads_are_answered_in_all_tiers(rt: HostRuntime) -> Result<(), Fail> {
+fn many_threads_find_values_in_all_tiers(rt: HostRuntime) -> Result<(), Fail> {
     let alloc = rt.alloc();
-    let (cache, passes) = Cache::open(alloc, &SMALL, so_many(alloc, 4, PAGES)?, Rriparoo, CALLERS)?;
-    let left = AtomicU32::new(8);
-    let all = map_vec(&rt, tasks(alloc, passes)?, &|task| work(&rt, alloc, &cache, &left, task))?;
-    let (passes, tally) = gathered(alloc, all)?;
-    println!(rt; "{tally:?}")?;
+    let devices = so_many(alloc, 4, PAGES)?;
+    let (cache, passes) = Cache::open(alloc, &SMALL, devices, Rriparoo, CALLERS)?;
+    let (passes, tally) = gathered(alloc, beside_workers(&rt, alloc, &cache, passes)?)?;
     assert_eq!(rt; tally.refused, 0);
-    assert!(rt; tally.memory > 1000 && tally.log > 1000 && tally.set > 1000);
+    assert!(rt; tally.memory > 99 && tally.log > 99 && tally.set > 99);
     let ended = cache.finish(passes);
-    assert_eq!(rt; accepted(alloc, ended)?, Some(800_000));
+    assert_eq!(rt; accepted(alloc, ended)?, Some(40_000));
     Ok(())
 }

@@ -76,7 +76,10 @@ fn fault<const PAGE: usize>(alloc: Global, row: &Row) -> Result<Option<OpenCache
 }
 
 // The same where memory was refused.
-fn fault_again<const PAGE: usize>(alloc: Global, row: &Row) -> Result<Option<OpenCacheFault>, Fail> {
+fn fault_again<const PAGE: usize>(
+    alloc: Global,
+    row: &Row,
+) -> Result<Option<OpenCacheFault>, Fail> {
     let devices = so_many::<PAGE>(alloc, row.devices, row.pages)?;
     match SharedCache::open(alloc, &row.config, devices, Rriparoo, row.callers) {
         Err(fault) => Ok(Some(fault)),
@@ -88,7 +91,11 @@ fn fault_again<const PAGE: usize>(alloc: Global, row: &Row) -> Result<Option<Ope
 fn a_cache_is_opened_over_a_device_a_lane(rt: HostRuntime) -> Result<(), Fail> {
     let alloc = rt.alloc();
     for number in 0..ROWS.len() {
-        assert_eq!(rt; fault::<256>(alloc, &ROWS[number])?, ROWS[number].fault, "row {number}");
+        assert_eq!(rt;
+            fault::<256>(alloc, &ROWS[number])?,
+            ROWS[number].fault,
+            "row {number}"
+        );
     }
     assert_eq!(rt; fault::<128>(alloc, &NARROW)?, NARROW.fault);
     Ok(())

@@ -76,7 +76,8 @@ fn gives<D: PageDevice<PAGE>, P: EvictionPolicy + Drop, const PAGE: usize, R: Wa
     ensures { pass.new.sight.clock ≡ cache.now.clock }
 {
     match step {
-        Step::Put(name, bytes, wanted) => puts(rt, alloc, cache, pass, name, bytes) == Some(*wanted),
+        Step::Put(name, bytes, wanted) => puts(rt, alloc, cache, pass, name, bytes)
+            == Some(*wanted),
         Step::Get(name, wanted) => is_found(&gets(rt, alloc, cache, pass, name), wanted),
         Step::Remove(name) => removes(rt, alloc, cache, pass, name),
         Step::Flush(wanted) => cache.flush_round(rt, 0) == *wanted,
