@@ -1,6 +1,6 @@
 //! What goes on side by side: each thread waits until the other one was answered, so a lock that is held too long or is
 //! one for all lets the wait run out.
-ghost use Rattle.std.specs.Prelude.{◌≡◌, ◌<◌, All};
+ghost use Rattle.std.specs.Prelude.{◌≡◌, ◌<◌, All, IfOk};
 
 use super::gate::Gate;
 use super::gate_device::GateDevice;

@@ -262,8 +262,7 @@ fn until_done<R: Threads + Wait + Sync>(
 fn gathered(alloc: Global, called: Vec<Called>) -> Result<(Vec<Pass>, Tally), Fail> {
     let mut passes = Vec::with_capacity(alloc, called.len())?;
     let mut tally = NONE;
-    let mut left = called;
-    while let Some(of_one) = left.pop() {
+    for of_one in called {
         tally = sum(tally, of_one.tally);
         passes.push(of_one.pass)?;
     }
