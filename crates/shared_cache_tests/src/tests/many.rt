@@ -25,7 +25,7 @@ const PAGES: u32 = 12;
 const CALLERS: u16 = 8;
 
 // How many calls each caller makes.
-const CALLS: u32 = 5_000;
+const CALLS: u32 = 100_000;
 
 // How many keys there are, of which each lane has some.
 const KEYS: u64 = 100;
@@ -276,8 +276,8 @@ fn many_threads_find_values_in_all_tiers(rt: HostRuntime) -> Result<(), Fail> {
     let (cache, passes) = Cache::open(alloc, &SMALL, devices, Rriparoo, CALLERS)?;
     let (passes, tally) = gathered(alloc, beside_workers(&rt, alloc, &cache, passes)?)?;
     assert_eq!(rt; tally.refused, 0);
-    assert!(rt; tally.memory > 99 && tally.log > 99 && tally.set > 99);
+    assert!(rt; tally.memory > 0 && tally.log > 0 && tally.set > 0);
     let ended = cache.finish(passes);
-    assert_eq!(rt; accepted(alloc, ended)?, Some(40_000));
+    assert_eq!(rt; accepted(alloc, ended)?, Some(800_000));
     Ok(())
 }

@@ -118,15 +118,17 @@ fn gets<D: PageDevice<PAGE>, P: EvictionPolicy + Drop, const PAGE: usize, R: Wai
     cache: &SharedCache<D, P, PAGE>,
     pass: &mut Pass,
     name: &[u8],
-) -> Option<Answer>
+) -> Result<Answer, CallFault>
     requires { pass.old.sight.clock ≡ cache.now.clock }
     ensures { pass.new.sight.clock ≡ cache.now.clock }
 {
-    let key = key(alloc, name)?;
+    let Some(key) = key(alloc, name) else {
+        return Err(CallFault::OutOfMemory);
+    };
     match cache.get(rt, pass, &key) {
-        Ok(answer) => Some(answer),
-        Err(CallFault::OutOfMemory) => cache.get(rt, pass, &key).ok(),
-        Err(_) => None,
+        Err(CallFault::OutOfMemory) => cache.get(rt, pass, &key),
+        Ok(answer) => Ok(answer),
+        Err(fault) => Err(fault),
     }
 }
 
@@ -175,11 +177,8 @@ fn is_full<D: PageDevice<PAGE>, P: EvictionPolicy + Drop, const PAGE: usize, R: 
     requires { pass.old.sight.clock ≡ cache.now.clock }
     ensures { pass.new.sight.clock ≡ cache.now.clock }
 {
-    let Some(key) = key(alloc, name) else {
-        return false;
-    };
     let count = pass.len();
-    let answer = cache.get(rt, pass, &key);
+    let answer = gets(rt, alloc, cache, pass, name);
     matches!(&answer, Err(CallFault::ClockFull)) && pass.len() == count
 }
 
@@ -199,12 +198,12 @@ fn value(alloc: Global, bytes: &[u8]) -> Option<Value> {
     }
 }
 
-fn is_found(answer: &Option<Answer>, wanted: &Found) -> bool {
+fn is_found(answer: &Result<Answer, CallFault>, wanted: &Found) -> bool {
     match (answer, wanted) {
-        (Some(Answer::Hit(value, Tier::Memory)), Found::Memory(bytes)) => value.bytes() == *bytes,
-        (Some(Answer::Hit(value, Tier::Log)), Found::Log(bytes)) => value.bytes() == *bytes,
-        (Some(Answer::Hit(value, Tier::Set)), Found::Set(bytes)) => value.bytes() == *bytes,
-        (Some(Answer::Miss(MissCause::Absent)), Found::Absent) => true,
+        (Ok(Answer::Hit(value, Tier::Memory)), Found::Memory(bytes)) => value.bytes() == *bytes,
+        (Ok(Answer::Hit(value, Tier::Log)), Found::Log(bytes)) => value.bytes() == *bytes,
+        (Ok(Answer::Hit(value, Tier::Set)), Found::Set(bytes)) => value.bytes() == *bytes,
+        (Ok(Answer::Miss(MissCause::Absent)), Found::Absent) => true,
         _ => false,
     }
 }
