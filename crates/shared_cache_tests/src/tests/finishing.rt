@@ -122,11 +122,22 @@ const ROWS: [Row; 8] = [
     },
 ];
 
+// The pass after so many calls, if each was made at once: it took three stamps, and no memory was refused, for a call that
+// is made once more starts later than the other cache's.
+fn at_once(ran: Ran, calls: usize) -> Result<Pass, Fail> {
+    let pass = as_written(ran)?;
+    let seen = pass.seen();
+    if pass.len() != calls || seen % 3 != 0 || seen / 3 != calls as u64 {
+        return Err("out of memory at a call".into());
+    }
+    Ok(pass)
+}
+
 // A cache of one caller, after these calls, and its pass.
 fn called<R: Wait>(rt: &R, alloc: Global, steps: &[Step]) -> Result<(Cache, Pass), Fail> {
     let (cache, passes) = opened(alloc, &TWO_LANES, 1)?;
     let ran = run(rt, alloc, &cache, only(&cache, passes)?, steps);
-    Ok((cache, as_written(ran)?))
+    Ok((cache, at_once(ran, steps.len())?))
 }
 
 // Why the cache of a row is not finished.

@@ -55,7 +55,8 @@ fn then_open<R: Wait>(
     ran
 }
 
-// One caller is held at the gate in its calls, and the other one opens it behind its own.
+// One caller is held at the gate in its calls, and the other one opens it behind its own. Where no thread can be made the
+// wait runs out.
 fn at_the_gate<R: Threads + Wait + Sync>(
     rt: &R,
     alloc: Global,
