@@ -1,4 +1,4 @@
-//! Tests of the clock, through its public calls.
+//! Tests of the clock and of the cache that threads share, through their public calls.
 #![tactic(auto)]
 
 #[cfg(test)]

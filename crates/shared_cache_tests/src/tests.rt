@@ -1,99 +1,160 @@
-//! Stamps from one clock: by one seat, by two, and by a thread that another one waited for.
-ghost use Rattle.std.specs.Prelude.{◌≡◌};
+//! A cache that threads share: what was put is found by each caller, and its calls are one history that the checker
+//! accepts.
+mod clock;
+mod finishing;
+mod gate;
+mod gate_device;
+mod gate_policy;
+mod gates;
+mod many;
+mod opening;
+mod rounds;
+mod run;
+mod threads;
 
-use shared_cache::{Clock, ClockFull, ClockSeat, LAST_STAMP};
-use std::sync::Wait;
+ghost use Rattle.std.specs.Prelude.{◌≡◌, ◌<◌, All, IfOk, length};
+
+use self::run::{Found, Ran, Step, run};
+use certificate_checker::{Verdict, check};
+use klog::Flushed;
+use mover::Moved;
+use page_device::{MemoryDevice, PageDevice};
+use policy_laws::EvictionPolicy;
+use record_pages::{Config, Pushed};
+use rriparoo::Rriparoo;
+use shared_cache::{FinishFault, Finished, Pass, SharedCache};
+use std::alloc::{AllocError, Global};
 use std::test::Fail;
-use std::thread::{Threads, join};
 
-#[test]
-fn one_seat_draws_stamps_until_the_clock_is_full(rt: HostRuntime) -> Result<(), Fail> {
-    let (clock, mut seats) = Clock::new(rt.alloc(), 1)?;
-    let Some(mut seat) = seats.pop() else {
-        panic!(rt; "one seat")
-    };
-    assert_eq!(rt; clock.tick(&mut seat), Ok(1));
-    assert_eq!(rt; clock.tick(&mut seat), Ok(2));
-    clock.observe(&mut seat, 9);
-    assert_eq!(rt; clock.tick(&mut seat), Ok(10));
-    clock.observe(&mut seat, LAST_STAMP);
-    assert_eq!(rt; clock.tick(&mut seat), Err(ClockFull));
-    assert_eq!(rt; seat.meet(LAST_STAMP + 1), Err(ClockFull));
-    assert_eq!(rt; seat.seen(), LAST_STAMP);
-    Ok(())
-}
+type Cache = SharedCache<MemoryDevice<256>, Rriparoo, 256>;
 
-#[test]
-fn a_seat_draws_above_the_others_stamps(rt: HostRuntime) -> Result<(), Fail> {
-    let (clock, mut seats) = Clock::new(rt.alloc(), 2)?;
-    let Some(mut first) = seats.pop() else {
-        panic!(rt; "two seats")
-    };
-    let Some(mut second) = seats.pop() else {
-        panic!(rt; "two seats")
-    };
-    assert_eq!(rt; clock.tick(&mut first), Ok(1));
-    assert_eq!(rt; clock.tick(&mut second), Ok(2));
-    clock.observe(&mut second, 7);
-    assert_eq!(rt; clock.tick(&mut first), Ok(8));
-    assert_eq!(rt; second.meet(20), Ok(()));
-    assert_eq!(rt; clock.tick(&mut first), Ok(9));
-    assert_eq!(rt; clock.tick(&mut second), Ok(21));
-    Ok(())
-}
+// One lane of one set, with one object in memory and two segments of one page.
+const ONE_SET: Config = Config {
+    lanes: 1,
+    sets: 1,
+    memory: 1,
+    segments: 2,
+    segment_pages: 1,
+    entries: 8,
+    threshold: 1,
+    admit: 65536,
+};
 
-// Draws this many stamps, and answers the last.
-fn draw(clock: &Clock, mut seat: ClockSeat, count: u32) -> (ClockSeat, u64)
-    requires { seat.clock ≡ clock.now }
-    ensures { result.0.clock ≡ clock.now }
+// The same with another lane beside it.
+const TWO_LANES: Config = Config {
+    lanes: 2,
+    ..ONE_SET
+};
+
+// An empty cache and its passes, opened once more where memory was refused.
+fn opened(alloc: Global, config: &Config, callers: u16) -> Result<(Cache, Vec<Pass>), Fail>
+    ensures ties { IfOk result (λ o. All (λ p. p.sight.clock ≡ o.0.clock) o.1.items) }
+    ensures lanes { IfOk result (λ o. o.0.layout.lanes ≡ config.now.lanes) }
 {
-    let mut last = 0;
-    for _ in 0..count {
-        if let Ok(stamp) = clock.tick(&mut seat) {
-            last = stamp;
-        }
+    match Cache::open(
+        alloc,
+        config,
+        so_many(alloc, config.lanes, 3)?,
+        Rriparoo,
+        callers,
+    ) {
+        Ok(opened) => Ok(opened),
+        Err(_) => Ok(Cache::open(
+            alloc,
+            config,
+            so_many(alloc, config.lanes, 3)?,
+            Rriparoo,
+            callers,
+        )?),
     }
-    (seat, last)
 }
 
-// Two threads draw stamps at a time.
-fn draw_in_threads<R: Threads + Wait + Sync>(
-    rt: &R,
-    clock: &Clock,
-    first: ClockSeat,
-    second: ClockSeat,
-) -> ((ClockSeat, u64), (ClockSeat, u64))
-    requires first { first.clock ≡ clock.now }
-    requires second { second.clock ≡ clock.now }
-    ensures { result.0.0.clock ≡ clock.now }
+// How many calls are in the history of a cache that is over, if the checker accepts it.
+fn accepted<D: Drop>(
+    alloc: Global,
+    ended: Result<Finished<D>, FinishFault>,
+) -> Result<Option<usize>, Fail> {
+    let finished = ended?;
+    match check(alloc, &finished.history, &finished.certificate)? {
+        Verdict::Accepted => Ok(Some(finished.history.len())),
+        Verdict::Rejected(_) => Ok(None),
+    }
+}
+
+// So many devices of so many pages.
+fn so_many<const PAGE: usize>(
+    alloc: Global,
+    count: u32,
+    pages: u32,
+) -> Result<Vec<MemoryDevice<PAGE>>, Fail> {
+    let mut devices = Vec::new(alloc);
+    for _ in 0..count {
+        devices.push(MemoryDevice::new(alloc, pages)?)?;
+    }
+    Ok(devices)
+}
+
+// The pass of the only caller.
+fn only<D: PageDevice<PAGE>, P: EvictionPolicy + Drop, const PAGE: usize>(
+    cache: &SharedCache<D, P, PAGE>,
+    passes: Vec<Pass>,
+) -> Result<Pass, Fail>
+    requires { All (λ p. p.sight.clock ≡ cache.now.clock) passes.items }
+    ensures { IfOk result (λ pass. pass.sight.clock ≡ cache.now.clock) }
 {
-    join(
-        rt,
-        || -> (ClockSeat, u64)
-            requires { first.clock ≡ clock.now }
-            ensures { result.0.clock ≡ clock.entry.now }
-        { draw(clock, first, 1000) },
-        || -> (ClockSeat, u64)
-            requires { second.clock ≡ clock.now }
-            ensures { result.0.clock ≡ clock.entry.now }
-        { draw(clock, second, 1000) },
-    )
+    let mut passes = passes;
+    match passes.pop() {
+        Some(pass) => Ok(pass),
+        None => Err("a pass".into()),
+    }
 }
 
-#[test]
-fn a_stamp_is_above_those_of_joined_threads(rt: HostRuntime) -> Result<(), Fail> {
-    let (clock, mut seats) = Clock::new(rt.alloc(), 2)?;
-    let Some(first) = seats.pop() else {
-        panic!(rt; "two seats")
+// The two passes of a cache of two callers, the lesser first.
+fn two_of<D: PageDevice<PAGE>, P: EvictionPolicy + Drop, const PAGE: usize>(
+    cache: &SharedCache<D, P, PAGE>,
+    passes: Vec<Pass>,
+) -> Result<(Pass, Pass), Fail>
+    requires { All (λ p. p.sight.clock ≡ cache.now.clock) passes.items }
+    ensures { IfOk result (λ two. (two.0.sight.clock ≡ cache.now.clock)
+        × (two.1.sight.clock ≡ cache.now.clock)) }
+{
+    let mut passes = passes;
+    let Some(second) = passes.pop() else {
+        return Err("two passes".into());
     };
-    let Some(second) = seats.pop() else {
-        panic!(rt; "two seats")
+    let Some(first) = passes.pop() else {
+        return Err("two passes".into());
     };
-    let ((mut first, its), (_, other)) = draw_in_threads(&rt, &clock, first, second);
-    assert!(rt; its >= 1000 && other >= 1000);
-    let Ok(next) = clock.tick(&mut first) else {
-        panic!(rt; "the clock is not full")
+    Ok((first, second))
+}
+
+// A list of one pass, made once more where memory was refused.
+fn listed(alloc: Global, pass: Pass) -> Result<Vec<Pass>, Fail> {
+    let mut passes = match Vec::with_capacity(alloc, 1) {
+        Ok(passes) => passes,
+        Err(_) => Vec::with_capacity(alloc, 1)?,
     };
-    assert!(rt; its < next && other < next);
-    Ok(())
+    passes.push(pass)?;
+    Ok(passes)
+}
+
+// A list of two passes, made once more where memory was refused.
+fn both(alloc: Global, first: Pass, second: Pass) -> Result<Vec<Pass>, Fail> {
+    let mut passes = match Vec::with_capacity(alloc, 2) {
+        Ok(passes) => passes,
+        Err(_) => Vec::with_capacity(alloc, 2)?,
+    };
+    passes.push(first)?;
+    passes.push(second)?;
+    Ok(passes)
+}
+
+// The pass after its calls, if each gave what is written beside it.
+fn as_written(ran: Ran) -> Result<Pass, Fail>
+    ensures { IfOk result (λ pass. pass ≡ ran.pass) }
+{
+    match ran.strayed {
+        None => Ok(ran.pass),
+        Some(number) => Err(Fail::new(format_args!("step {number}"))),
+    }
 }

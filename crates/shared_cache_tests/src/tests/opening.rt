@@ -1,0 +1,102 @@
+//! When a cache is opened.
+use super::*;
+use record_pages::Field;
+use shared_cache::OpenCacheFault;
+
+/// An opening, and why it is refused.
+#[derive(Clone, Copy)]
+struct Row {
+    config: Config,
+    // How many devices, of how many pages each.
+    devices: u32,
+    pages: u32,
+    callers: u16,
+    fault: Option<OpenCacheFault>,
+}
+
+const NO_SET: Config = Config { sets: 0, ..ONE_SET };
+
+const OPENS: Row = Row {
+    config: TWO_LANES,
+    devices: 2,
+    pages: 3,
+    callers: 1,
+    fault: None,
+};
+
+// Each refusal where all behind it apply too.
+const ROWS: [Row; 6] = [
+    OPENS,
+    Row {
+        config: NO_SET,
+        devices: 0,
+        pages: 2,
+        callers: 0,
+        fault: Some(OpenCacheFault::ConfigFault(Field::Sets)),
+    },
+    Row {
+        devices: 0,
+        pages: 2,
+        callers: 0,
+        fault: Some(OpenCacheFault::NoCallers),
+        ..OPENS
+    },
+    Row {
+        devices: 1,
+        pages: 2,
+        fault: Some(OpenCacheFault::DeviceCount),
+        ..OPENS
+    },
+    Row {
+        devices: 3,
+        fault: Some(OpenCacheFault::DeviceCount),
+        ..OPENS
+    },
+    Row {
+        pages: 2,
+        fault: Some(OpenCacheFault::DeviceTooSmall),
+        ..OPENS
+    },
+];
+
+const NARROW: Row = Row {
+    pages: 2,
+    fault: Some(OpenCacheFault::WrongPage),
+    ..OPENS
+};
+
+// Why a cache with pages of this size is not opened so.
+fn fault<const PAGE: usize>(alloc: Global, row: &Row) -> Result<Option<OpenCacheFault>, Fail> {
+    let devices = so_many::<PAGE>(alloc, row.devices, row.pages)?;
+    match SharedCache::open(alloc, &row.config, devices, Rriparoo, row.callers) {
+        Err(OpenCacheFault::OutOfMemory) => fault_again::<PAGE>(alloc, row),
+        Err(fault) => Ok(Some(fault)),
+        Ok(_) => Ok(None),
+    }
+}
+
+// The same where memory was refused.
+fn fault_again<const PAGE: usize>(
+    alloc: Global,
+    row: &Row,
+) -> Result<Option<OpenCacheFault>, Fail> {
+    let devices = so_many::<PAGE>(alloc, row.devices, row.pages)?;
+    match SharedCache::open(alloc, &row.config, devices, Rriparoo, row.callers) {
+        Err(fault) => Ok(Some(fault)),
+        Ok(_) => Ok(None),
+    }
+}
+
+#[test]
+fn a_cache_is_opened_over_a_device_a_lane(rt: HostRuntime) -> Result<(), Fail> {
+    let alloc = rt.alloc();
+    for number in 0..ROWS.len() {
+        assert_eq!(rt;
+            fault::<256>(alloc, &ROWS[number])?,
+            ROWS[number].fault,
+            "row {number}"
+        );
+    }
+    assert_eq!(rt; fault::<128>(alloc, &NARROW)?, NARROW.fault);
+    Ok(())
+}

@@ -1,0 +1,209 @@
+//! Calls of a shared cache, each with what it gives.
+ghost use Rattle.std.specs.Prelude.{◌≡◌, ◌<◌};
+
+use super::*;
+use record_pages::{Answer, Key, MissCause, Tier, Value};
+use shared_cache::CallFault;
+use std::sync::Wait;
+
+/// What a get is to find.
+#[derive(Clone, Copy)]
+pub enum Found {
+    Memory(&'static [u8]),
+    Log(&'static [u8]),
+    Set(&'static [u8]),
+    Absent,
+}
+
+/// A call of a cache, and what it gives.
+#[derive(Clone, Copy)]
+pub enum Step {
+    /// A key, its value, and what becomes of the pair that leaves memory.
+    Put(&'static [u8], &'static [u8], Pushed),
+    /// A key, and what is found of it.
+    Get(&'static [u8], Found),
+    /// A key.
+    Remove(&'static [u8]),
+    /// A step of flushing lane 0.
+    Flush(Flushed),
+    /// A move of lane 0.
+    Move(Moved),
+    /// A stamp that the pass is told of.
+    Meet(u64),
+    /// A key, of which a get is refused since the clock is full.
+    ClockFull(&'static [u8]),
+}
+
+/// A pass after its calls, and the number of the first that did not give what is written beside it.
+#[derive(Drop)]
+pub struct Ran {
+    pub pass: Pass,
+    pub strayed: Option<usize>,
+}
+
+/// Makes each of these calls, up to the first that does not give what is written beside it.
+pub fn run<D: PageDevice<PAGE>, P: EvictionPolicy + Drop, const PAGE: usize, R: Wait>(
+    rt: &R,
+    alloc: Global,
+    cache: &SharedCache<D, P, PAGE>,
+    mut pass: Pass,
+    steps: &[Step],
+) -> Ran
+    requires clock { pass.sight.clock ≡ cache.now.clock }
+    requires lane { 0 < cache.now.layout.lanes }
+    ensures { result.pass.sight.clock ≡ cache.now.clock }
+{
+    let mut strayed = None;
+    for number in 0..steps.len() {
+        if !gives(rt, alloc, cache, &mut pass, &steps[number]) {
+            strayed = Some(number);
+            break;
+        }
+    }
+    Ran { pass, strayed }
+}
+
+// Whether a call gives what is written beside it.
+fn gives<D: PageDevice<PAGE>, P: EvictionPolicy + Drop, const PAGE: usize, R: Wait>(
+    rt: &R,
+    alloc: Global,
+    cache: &SharedCache<D, P, PAGE>,
+    pass: &mut Pass,
+    step: &Step,
+) -> bool
+    requires clock { pass.old.sight.clock ≡ cache.now.clock }
+    requires lane { 0 < cache.now.layout.lanes }
+    ensures { pass.new.sight.clock ≡ cache.now.clock }
+{
+    match step {
+        Step::Put(name, bytes, wanted) => puts(rt, alloc, cache, pass, name, bytes)
+            == Some(*wanted),
+        Step::Get(name, wanted) => is_found(&gets(rt, alloc, cache, pass, name), wanted),
+        Step::Remove(name) => removes(rt, alloc, cache, pass, name),
+        Step::Flush(wanted) => cache.flush_round(rt, 0) == *wanted,
+        Step::Move(wanted) => moves(rt, cache) == Some(*wanted),
+        Step::Meet(stamp) => pass.meet(*stamp).is_ok(),
+        Step::ClockFull(name) => is_full(rt, alloc, cache, pass, name),
+    }
+}
+
+// Puts a pair, once more where memory was refused.
+fn puts<D: PageDevice<PAGE>, P: EvictionPolicy + Drop, const PAGE: usize, R: Wait>(
+    rt: &R,
+    alloc: Global,
+    cache: &SharedCache<D, P, PAGE>,
+    pass: &mut Pass,
+    name: &[u8],
+    bytes: &[u8],
+) -> Option<Pushed>
+    requires { pass.old.sight.clock ≡ cache.now.clock }
+    ensures { pass.new.sight.clock ≡ cache.now.clock }
+{
+    let first = cache.put(rt, pass, key(alloc, name)?, value(alloc, bytes)?, 0);
+    match first {
+        Ok(pushed) => Some(pushed),
+        Err(CallFault::OutOfMemory) => {
+            cache
+                .put(rt, pass, key(alloc, name)?, value(alloc, bytes)?, 0)
+                .ok()
+        }
+        Err(_) => None,
+    }
+}
+
+// Looks a key up, once more where memory was refused.
+fn gets<D: PageDevice<PAGE>, P: EvictionPolicy + Drop, const PAGE: usize, R: Wait>(
+    rt: &R,
+    alloc: Global,
+    cache: &SharedCache<D, P, PAGE>,
+    pass: &mut Pass,
+    name: &[u8],
+) -> Result<Answer, CallFault>
+    requires { pass.old.sight.clock ≡ cache.now.clock }
+    ensures { pass.new.sight.clock ≡ cache.now.clock }
+{
+    let Some(key) = key(alloc, name) else {
+        return Err(CallFault::OutOfMemory);
+    };
+    match cache.get(rt, pass, &key) {
+        Err(CallFault::OutOfMemory) => cache.get(rt, pass, &key),
+        Ok(answer) => Ok(answer),
+        Err(fault) => Err(fault),
+    }
+}
+
+// Removes a key, once more where memory was refused.
+fn removes<D: PageDevice<PAGE>, P: EvictionPolicy + Drop, const PAGE: usize, R: Wait>(
+    rt: &R,
+    alloc: Global,
+    cache: &SharedCache<D, P, PAGE>,
+    pass: &mut Pass,
+    name: &[u8],
+) -> bool
+    requires { pass.old.sight.clock ≡ cache.now.clock }
+    ensures { pass.new.sight.clock ≡ cache.now.clock }
+{
+    let Some(key) = key(alloc, name) else {
+        return false;
+    };
+    match cache.remove(rt, pass, &key) {
+        Ok(()) => true,
+        Err(CallFault::OutOfMemory) => cache.remove(rt, pass, &key).is_ok(),
+        Err(_) => false,
+    }
+}
+
+// Moves the objects of lane 0, once more where memory was refused.
+fn moves<D: PageDevice<PAGE>, P: EvictionPolicy + Drop, const PAGE: usize, R: Wait>(
+    rt: &R,
+    cache: &SharedCache<D, P, PAGE>,
+) -> Option<Moved>
+    requires { 0 < cache.now.layout.lanes }
+{
+    match cache.move_round(rt, 0) {
+        Ok(moved) => Some(moved),
+        Err(_) => cache.move_round(rt, 0).ok(),
+    }
+}
+
+// Whether a get of a key is refused since the clock is full, and the pass lists no call more.
+fn is_full<D: PageDevice<PAGE>, P: EvictionPolicy + Drop, const PAGE: usize, R: Wait>(
+    rt: &R,
+    alloc: Global,
+    cache: &SharedCache<D, P, PAGE>,
+    pass: &mut Pass,
+    name: &[u8],
+) -> bool
+    requires { pass.old.sight.clock ≡ cache.now.clock }
+    ensures { pass.new.sight.clock ≡ cache.now.clock }
+{
+    let count = pass.len();
+    let answer = gets(rt, alloc, cache, pass, name);
+    matches!(&answer, Err(CallFault::ClockFull)) && pass.len() == count
+}
+
+// The key of these bytes, made once more where memory was refused.
+pub fn key(alloc: Global, bytes: &[u8]) -> Option<Key> {
+    match Key::new(alloc, bytes) {
+        Ok(key) => Some(key),
+        Err(_) => Key::new(alloc, bytes).ok(),
+    }
+}
+
+// The value of these bytes, made once more where memory was refused.
+fn value(alloc: Global, bytes: &[u8]) -> Option<Value> {
+    match Value::new(alloc, bytes) {
+        Ok(value) => Some(value),
+        Err(_) => Value::new(alloc, bytes).ok(),
+    }
+}
+
+fn is_found(answer: &Result<Answer, CallFault>, wanted: &Found) -> bool {
+    match (answer, wanted) {
+        (Ok(Answer::Hit(value, Tier::Memory)), Found::Memory(bytes)) => value.bytes() == *bytes,
+        (Ok(Answer::Hit(value, Tier::Log)), Found::Log(bytes)) => value.bytes() == *bytes,
+        (Ok(Answer::Hit(value, Tier::Set)), Found::Set(bytes)) => value.bytes() == *bytes,
+        (Ok(Answer::Miss(MissCause::Absent)), Found::Absent) => true,
+        _ => false,
+    }
+}
