@@ -17,12 +17,11 @@ ghost use Rattle.std.specs.Prelude.{◌≡◌, ◌<◌, All, IfOk, length};
 use self::run::{Found, Ran, Step, run};
 use certificate_checker::{Verdict, check};
 use klog::Flushed;
-use mover::Moved;
 use page_device::{MemoryDevice, PageDevice};
 use policy_laws::EvictionPolicy;
 use record_pages::{Config, Pushed};
 use rriparoo::Rriparoo;
-use shared_cache::{FinishFault, Finished, Pass, SharedCache};
+use shared_cache::{FinishFault, Finished, Moved, Pass, SharedCache};
 use std::alloc::{AllocError, Global};
 use std::test::Fail;
 
