@@ -12,7 +12,7 @@ mod rounds;
 mod run;
 mod threads;
 
-ghost use Rattle.std.specs.Prelude.{◌≡◌, ◌<◌, All, IfOk, length};
+ghost use Rattle.std.specs.Prelude.{◌≡◌, All, IfOk};
 
 use self::run::{Found, Ran, Step, run};
 use certificate_checker::{Verdict, check};

@@ -5,7 +5,7 @@ use super::*;
 use record_pages::{Answer, Key, Tier, Value};
 use shared_cache::CallFault;
 use std::sync::Wait;
-use std::sync::atomic::{AtomicBool, Ordering};
+use std::sync::atomic::{AtomicBool, AtomicU32, Ordering};
 use std::thread::{Threads, join, map_vec, yield_now};
 
 // Four lanes of four sets, in which all is small.
@@ -30,8 +30,20 @@ const CALLS: u32 = 100_000;
 // How many keys there are, of which each lane has some.
 const KEYS: u64 = 100;
 
-// How often a worker goes round before it gives up.
-const ROUNDS: u32 = 10_000_000;
+// How often a worker makes a round before it gives up.
+const ROUNDS: u32 = 100_000_000;
+
+// How often a caller looks for the workers' next round and yields before it goes on.
+const TURNS: u32 = 100_000;
+
+/// How far the threads are.
+#[derive(Drop)]
+struct Progress {
+    // The calls are done.
+    done: AtomicBool,
+    // How often a worker has gone round all lanes.
+    went: AtomicU32,
+}
 
 /// How many calls went each way.
 #[derive(Clone, Copy, Debug, PartialEq, Eq)]
@@ -151,15 +163,38 @@ fn sum(one: Tally, other: Tally) -> Tally {
     }
 }
 
+// Waits until a worker has gone round all lanes since this many times, or for so many turns. So the workers keep up with
+// the callers whatever the schedule.
+fn keep_pace(progress: &Progress, before: u32) -> u32 {
+    for _ in 0..TURNS {
+        let went = progress.went.load(Ordering::SeqCst);
+        if went != before {
+            return went;
+        }
+        yield_now();
+    }
+    before
+}
+
 // Makes all calls of a caller.
-fn calls<R: Wait>(rt: &R, alloc: Global, cache: &Cache, mut pass: Pass) -> Called
+fn calls<R: Wait>(
+    rt: &R,
+    alloc: Global,
+    cache: &Cache,
+    progress: &Progress,
+    mut pass: Pass,
+) -> Called
     requires { pass.sight.clock ≡ cache.now.clock }
 {
     let mut tally = NONE;
     let mut drawn = u64::from(pass.caller());
-    for _ in 0..CALLS {
+    let mut went = 0;
+    for number in 0..CALLS {
         drawn = next(drawn);
         tally = call(rt, alloc, cache, &mut pass, drawn, tally);
+        if number % 500 == 0 {
+            went = keep_pace(progress, went);
+        }
     }
     Called { pass, tally }
 }
@@ -169,6 +204,7 @@ fn all_calls<R: Threads + Wait + Sync>(
     rt: &R,
     alloc: Global,
     cache: &Cache,
+    progress: &Progress,
     passes: Vec<Pass>,
 ) -> Result<Vec<Called>, AllocError>
     requires { All (λ p. p.sight.clock ≡ cache.now.clock) passes.items }
@@ -178,22 +214,24 @@ fn all_calls<R: Threads + Wait + Sync>(
         passes,
         &|pass: Pass| -> Called
             requires { pass.sight.clock ≡ cache.now.clock }
-        { calls(rt, alloc, cache, pass) },
+        { calls(rt, alloc, cache, progress, pass) },
     )
 }
 
 // Flushes each lane and moves in it, time after time, until the calls are done.
-fn rounds<R: Wait>(rt: &R, cache: &Cache, done: &AtomicBool)
+fn rounds<R: Wait>(rt: &R, cache: &Cache, progress: &Progress)
     requires { 4 ≤ cache.now.layout.lanes }
 {
     for number in 0..ROUNDS {
-        if done.load(Ordering::SeqCst) {
+        if progress.done.load(Ordering::SeqCst) {
             break;
         }
         let lane = number % 4;
         cache.flush_round(rt, lane);
         let _moved = cache.move_round(rt, lane);
-        yield_now();
+        if lane == 3 {
+            progress.went.fetch_add(1, Ordering::SeqCst);
+        }
     }
 }
 
@@ -207,16 +245,19 @@ fn beside_workers<R: Threads + Wait + Sync>(
     requires ties { All (λ p. p.sight.clock ≡ cache.now.clock) passes.items }
     requires lanes { 4 ≤ cache.now.layout.lanes }
 {
-    let done = AtomicBool::new(false);
+    let progress = Progress {
+        done: AtomicBool::new(false),
+        went: AtomicU32::new(0),
+    };
     let (_, (_, called)) = join(
         rt,
         ||
             requires { 4 ≤ cache.now.layout.lanes }
-        { rounds(rt, cache, &done) },
+        { rounds(rt, cache, &progress) },
         || -> ((), Result<Vec<Called>, AllocError>)
             requires { (4 ≤ cache.now.layout.lanes)
                 × All (λ p. p.sight.clock ≡ cache.now.clock) passes.items }
-        { beside_a_worker(rt, alloc, cache, &done, passes) },
+        { beside_a_worker(rt, alloc, cache, &progress, passes) },
     );
     called
 }
@@ -226,7 +267,7 @@ fn beside_a_worker<R: Threads + Wait + Sync>(
     rt: &R,
     alloc: Global,
     cache: &Cache,
-    done: &AtomicBool,
+    progress: &Progress,
     passes: Vec<Pass>,
 ) -> ((), Result<Vec<Called>, AllocError>)
     requires ties { All (λ p. p.sight.clock ≡ cache.now.clock) passes.items }
@@ -236,10 +277,10 @@ fn beside_a_worker<R: Threads + Wait + Sync>(
         rt,
         ||
             requires { 4 ≤ cache.now.layout.lanes }
-        { rounds(rt, cache, done) },
+        { rounds(rt, cache, progress) },
         || -> Result<Vec<Called>, AllocError>
             requires { All (λ p. p.sight.clock ≡ cache.now.clock) passes.items }
-        { until_done(rt, alloc, cache, done, passes) },
+        { until_done(rt, alloc, cache, progress, passes) },
     )
 }
 
@@ -248,13 +289,13 @@ fn until_done<R: Threads + Wait + Sync>(
     rt: &R,
     alloc: Global,
     cache: &Cache,
-    done: &AtomicBool,
+    progress: &Progress,
     passes: Vec<Pass>,
 ) -> Result<Vec<Called>, AllocError>
     requires { All (λ p. p.sight.clock ≡ cache.now.clock) passes.items }
 {
-    let called = all_calls(rt, alloc, cache, passes);
-    done.store(true, Ordering::SeqCst);
+    let called = all_calls(rt, alloc, cache, progress, passes);
+    progress.done.store(true, Ordering::SeqCst);
     called
 }
 

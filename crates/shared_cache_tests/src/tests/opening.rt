@@ -65,23 +65,11 @@ const NARROW: Row = Row {
     ..OPENS
 };
 
-// Why a cache with pages of this size is not opened so.
+// Why a cache with pages of this size is not opened so. It fails where memory was refused.
 fn fault<const PAGE: usize>(alloc: Global, row: &Row) -> Result<Option<OpenCacheFault>, Fail> {
     let devices = so_many::<PAGE>(alloc, row.devices, row.pages)?;
     match SharedCache::open(alloc, &row.config, devices, Rriparoo, row.callers) {
-        Err(OpenCacheFault::OutOfMemory) => fault_again::<PAGE>(alloc, row),
-        Err(fault) => Ok(Some(fault)),
-        Ok(_) => Ok(None),
-    }
-}
-
-// The same where memory was refused.
-fn fault_again<const PAGE: usize>(
-    alloc: Global,
-    row: &Row,
-) -> Result<Option<OpenCacheFault>, Fail> {
-    let devices = so_many::<PAGE>(alloc, row.devices, row.pages)?;
-    match SharedCache::open(alloc, &row.config, devices, Rriparoo, row.callers) {
+        Err(OpenCacheFault::OutOfMemory) => Err(OpenCacheFault::OutOfMemory.into()),
         Err(fault) => Ok(Some(fault)),
         Ok(_) => Ok(None),
     }

@@ -1,5 +1,5 @@
 //! Callers in threads of their own.
-ghost use Rattle.std.specs.Prelude.{◌≡◌, ◌<◌, All};
+ghost use Rattle.std.specs.Prelude.{◌≡◌, ◌<◌};
 
 use super::*;
 use std::sync::Wait;
