@@ -1,12 +1,12 @@
 -- One call more of a caller.
-use Rattle.std.proofs.Common.{◌≡◌, ◌∙◌, ◌+◌, ◌<◌, ℕ, suc, ap, ap₂, arith, subst, sym}
+use Rattle.std.proofs.Common.{◌≡◌, ◌∙◌, ◌+◌, ◌<◌, ℕ, suc, ap₂, arith, subst}
 use Rattle.record_pages.specs.declared.layout.Layout.{Layout}
 use Rattle.rand_pcg.specs.Lcg.{Lcg}
 use Rattle.history_recorder.specs.declared.operation.Operation.{Operation}
 use Rattle.load.specs.declared.load.Load.{Load}
 use Rattle.load.specs.Operations.{next_of}
 use Rattle.shared_cache.specs.Passes.{Ticket}
-use Rattle.load_run.specs.Calls.{IsAt, IsCalled, IsStopped, generator_at, operation_at}
+use Rattle.load_run.specs.Calls.{IsAt, IsCalled, IsStopped, operation_at}
 
 module _ (layout : Layout) (load : Load) (first : Lcg) (number : ℕ) (old now : Ticket) (g : Lcg) (here : IsAt layout load first number old now g) where
   suc_is : suc number ≡ number + 1

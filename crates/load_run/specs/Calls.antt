@@ -1,5 +1,5 @@
 -- The calls that a caller makes.
-use Rattle.std.specs.Prelude.{◌≡◌, ℕ, zero, suc, ◌<◌, Bool, true, false}
+use Rattle.std.specs.Prelude.{◌≡◌, ℕ, zero, suc, ◌<◌, ◌⊎◌}
 use Rattle.record_pages.specs.declared.layout.Layout.{Layout}
 use Rattle.rand_pcg.specs.Lcg.{Lcg, increment_of, started}
 use Rattle.rand_pcg.specs.Pcg.{multiplier_64}
@@ -43,9 +43,8 @@ pub record IsStopped (layout : Layout) (load : Load) (first : Lcg) (old new : Ti
   pub left : new.calls ≡ before.calls
 
 -- a caller ended: it made all its operations, or stopped at the first that was refused
-abbrev pub IsEnded : Layout → Load → Lcg → Ticket → Ticket → Bool → Type 0
-IsEnded layout load first old new false = Makes layout load first load.operations old new
-IsEnded layout load first old new true = IsStopped layout load first old new
+abbrev pub IsEnded : Layout → Load → Lcg → Ticket → Ticket → Type 0
+IsEnded layout load first old new = Makes layout load first load.operations old new ⊎ IsStopped layout load first old new
 
 -- the pass has made its caller's operations below this number, and this is the generator before the operation of the number
 pub record IsAt (layout : Layout) (load : Load) (first : Lcg) (number : ℕ) (old now : Ticket) (generator : Lcg) : Type 0 where

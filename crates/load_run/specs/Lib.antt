@@ -1,4 +1,5 @@
 pub mod Ends
 pub mod Summaries
 pub mod Calls
+pub mod Wholes
 pub mod Runs

@@ -10,6 +10,7 @@ use Rattle.load_run.specs.declared.run_end.RunEnd.TheVariants as ends
 use Rattle.load_run.specs.declared.summary.Summary.{Summary}
 use Rattle.load_run.specs.Ends.{end_of_verdict, status_of}
 use Rattle.load_run.specs.Summaries.{is_hit, lines_of}
+use Rattle.load_run.specs.Wholes.{IsWhole}
 
 -- the summary has the numbers of a history, and the verdict on it and its certificate
 pub record IsSummaryOf (summary : Summary) (history : List Call) (certificate : List ℕ) : Type 0 where
@@ -17,25 +18,26 @@ pub record IsSummaryOf (summary : Summary) (history : List Call) (certificate : 
   pub hits : summary.hits ≡ count_by is_hit history
   pub verdict : (summary.verdict ≡ Accepted) ↔ IsAccepted history certificate
 
--- the four lines of a summary were written, and the run ended as it says
-pub record IsTold (old new : Option (List ℕ)) (end : RunEnd) : Type 0 where
+-- the four lines of a summary were written, with as many calls as its callers made, and the run ended as it says
+pub record IsTold (load : Load) (old new : Option (List ℕ)) (end : RunEnd) : Type 0 where
   pub summary : Summary
   pub history : List Call
   pub certificate : List ℕ
   pub is : IsSummaryOf summary history certificate
+  pub whole : IsWhole load summary.calls summary.stopped
   pub wrote : Appends old new (lines_of summary)
   pub ended : end ≡ end_of_verdict summary.verdict summary.stopped
 
 -- what was written where a run ended so: the four lines where it was judged, else nothing, and where a file or the output
 -- failed nothing is said
-abbrev pub WroteLines : Option (List ℕ) → Option (List ℕ) → RunEnd → Type 0
-WroteLines old new ends.Accepted = IsTold old new ends.Accepted
-WroteLines old new ends.Rejected = IsTold old new ends.Rejected
-WroteLines old new ends.Stopped = IsTold old new ends.Stopped
-WroteLines old new ends.SharesExceed = Keeps old new
-WroteLines old new ends.OutOfMemory = Keeps old new
-WroteLines old new ends.FileFault = Unit {0}
-WroteLines old new ends.FinishFault = Keeps old new
+abbrev pub WroteLines : Load → Option (List ℕ) → Option (List ℕ) → RunEnd → Type 0
+WroteLines load old new ends.Accepted = IsTold load old new ends.Accepted
+WroteLines load old new ends.Rejected = IsTold load old new ends.Rejected
+WroteLines load old new ends.Stopped = IsTold load old new ends.Stopped
+WroteLines load old new ends.SharesExceed = Keeps old new
+WroteLines load old new ends.OutOfMemory = Keeps old new
+WroteLines load old new ends.FileFault = Unit {0}
+WroteLines load old new ends.FinishFault = Keeps old new
 
 -- the summary's lines were written, or memory was refused and nothing was, or the output failed
 abbrev pub IsSaid : Summary → Option (List ℕ) → Option (List ℕ) → RunEnd → Type 0
@@ -50,5 +52,5 @@ pub record IsRunOf (load : Load) (old new : Option (List ℕ)) (status : ℕ) : 
   pub end : RunEnd
   pub status_is : status ≡ status_of end
   pub shares : (end ≡ ends.SharesExceed) ↔ (100 < load.gets + load.removes)
-  pub wrote : WroteLines old new end
+  pub wrote : WroteLines load old new end
   pub accepted : end ≢ ends.Rejected

@@ -4,7 +4,6 @@ ghost use Rattle.load.specs.Operations.{next_of};
 ghost use Rattle.shared_cache.specs.Caches.{KeepsTie};
 ghost use Rattle.load_run.specs.Calls.{IsCalled, IsEnded, first_generator};
 
-use crate::ended::Ended;
 use crate::shared::Cache;
 use history_recorder::Operation;
 use load::{Load, next_operation};
@@ -14,10 +13,10 @@ use std::alloc::Global;
 use std::sync::Wait;
 
 /// Makes the calls of a caller, by a generator of its own.
-pub fn start_caller<R: Wait>(rt: &R, alloc: Global, cache: &Cache, load: &Load, pass: Pass) -> Ended
+pub fn start_caller<R: Wait>(rt: &R, alloc: Global, cache: &Cache, load: &Load, pass: Pass) -> Pass
     requires { pass.sight.clock ≡ cache.now.clock }
     ensures { IsEnded cache.now.layout load.now
-        (first_generator load.now.seed pass.caller) pass result.pass result.stopped }
+        (first_generator load.now.seed pass.caller) pass result }
 {
     let generator = Lcg64Xsh32::new(u64::from(load.seed), u64::from(pass.caller()));
     make_calls(rt, alloc, cache, load, generator, pass)
@@ -31,22 +30,16 @@ pub fn make_calls<R: Wait>(
     load: &Load,
     mut generator: Lcg64Xsh32,
     mut pass: Pass,
-) -> Ended
+) -> Pass
     requires { pass.sight.clock ≡ cache.now.clock }
-    ensures { IsEnded cache.now.layout load.now generator pass result.pass result.stopped }
+    ensures { IsEnded cache.now.layout load.now generator pass result }
 {
     for number in 0..load.operations {
         let Ok(()) = make_next(rt, alloc, cache, load, &mut generator, &mut pass, number) else {
-            return Ended {
-                pass,
-                stopped: true,
-            };
+            return pass;
         };
     }
-    Ended {
-        pass,
-        stopped: false,
-    }
+    pass
 }
 
 /// Makes the call of a caller with this number.

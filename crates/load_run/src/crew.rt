@@ -2,7 +2,6 @@
 ghost use Rattle.std.specs.Prelude.{◌≡◌, ◌<◌, All};
 
 use crate::caller::start_caller;
-use crate::ended::Ended;
 use crate::shared::Cache;
 use crate::worker::work;
 use crossbeam_channel::Sender;
@@ -22,7 +21,7 @@ pub fn run_crew<R: Threads + Wait + Sync>(
     cache: &Cache,
     load: &Load,
     mut passes: Vec<Pass>,
-    to: &Sender<Ended>,
+    to: &Sender<Pass>,
 )
     requires ties { All (λ p. p.sight.clock ≡ cache.now.clock) passes.items }
     requires lanes { load.now.layout.lanes ≡ cache.now.layout.lanes }

@@ -3,7 +3,6 @@
 
 mod caller;
 mod crew;
-mod ended;
 mod hits;
 mod made;
 mod run;

@@ -1,10 +1,10 @@
 // The history that a run made.
-ghost use Rattle.std.specs.Prelude.{◌≡◌, ◌≤◌, IfOk, IfErr};
+ghost use Rattle.std.specs.Prelude.{◌≡◌, IfOk, IfErr, count_by, length};
 ghost use Rattle.certificate_checker.specs.Acceptance.{IsAccepted};
 ghost use Rattle.load_run.specs.Ends.{IsRefusal};
+ghost use Rattle.load_run.specs.Wholes.{IsWhole, is_short};
 
 use crate::crew::run_crew;
-use crate::ended::Ended;
 use crate::run_end::RunEnd;
 use crate::shared::{Device, open};
 use crossbeam_channel::{Receiver, bounded};
@@ -36,16 +36,18 @@ pub fn make_history<R: Threads + Wait + Sync>(
 ) -> Result<Made, RunEnd>
     ensures accepted { IfOk result (λ made.
         IsAccepted made.finished.history made.finished.certificate) }
+    ensures whole { IfOk result (λ made.
+        IsWhole load.now (length made.finished.history) made.stopped) }
     ensures refused { IfErr result (λ end. IsRefusal end) }
 {
     let Ok((cache, passes)) = open(alloc, load) else {
         return Err(RunEnd::OutOfMemory);
     };
-    let Ok((to, from)) = bounded::<Ended, _>(alloc, load.callers as usize) else {
+    let Ok((to, from)) = bounded::<Pass, _>(alloc, load.callers as usize) else {
         return Err(RunEnd::OutOfMemory);
     };
     run_crew(rt, alloc, &cache, load, passes, &to);
-    let Ok(left) = take_left(rt, alloc, load.callers, &from) else {
+    let Ok(left) = take_left(rt, alloc, load, &from) else {
         return Err(RunEnd::OutOfMemory);
     };
     match cache.finish(left.passes) {
@@ -57,23 +59,33 @@ pub fn make_history<R: Threads + Wait + Sync>(
     }
 }
 
-/// Takes out what so many callers left. `AllocError` where one left nothing: it had no thread, or no memory to send.
+/// Takes out the passes that the callers of a load left. `AllocError` where one left none: it had no thread, or no memory to
+/// send.
 fn take_left<R: Wait>(
     rt: &R,
     alloc: Global,
-    callers: u32,
-    from: &Receiver<Ended>,
+    load: &Load,
+    from: &Receiver<Pass>,
 ) -> Result<Left, AllocError>
-    ensures { IfOk result (λ left. left.stopped ≤ callers) }
+    ensures all { IfOk result (λ left. length left.passes.items ≡ load.now.callers) }
+    ensures stopped { IfOk result (λ left.
+        left.stopped ≡ count_by (is_short load.now.operations) left.passes.items) }
 {
-    let mut passes = Vec::with_capacity(alloc, callers as usize)?;
+    let mut passes = Vec::with_capacity(alloc, load.callers as usize)?;
     let mut stopped = 0;
-    for _ in 0..callers {
-        let Ok(ended) = from.try_recv(rt) else {
+    for _ in 0..load.callers {
+        let Ok(pass) = from.try_recv(rt) else {
             return Err(AllocError);
         };
-        stopped += usize::from(ended.stopped);
-        passes.push(ended.pass)?;
+        stopped += usize::from(is_short(&pass, load.operations));
+        passes.push(pass)?;
     }
     Ok(Left { passes, stopped })
+}
+
+/// Whether a pass does not list so many calls: its caller stopped at a refusal.
+fn is_short(pass: &Pass, operations: u32) -> bool
+    ensures { result ≡ is_short operations pass.now }
+{
+    pass.len() != operations as usize
 }

@@ -52,7 +52,7 @@ fn run_to_end<R: Threads + Wait + Sync + AllocGlobal + Files, O: Write>(
     out: &mut O,
 ) -> RunEnd
     ensures shares { (result ≡ RunEnd.SharesExceed) ↔ (100 < load.now.gets + load.now.removes) }
-    ensures wrote { WroteLines (O.contents out.old) (O.contents out.new) result }
+    ensures wrote { WroteLines load.now (O.contents out.old) (O.contents out.new) result }
     ensures accepted { result ≢ RunEnd.Rejected }
 {
     if load.gets + load.removes > 100 {
@@ -78,7 +78,8 @@ fn run_to_end<R: Threads + Wait + Sync + AllocGlobal + Files, O: Write>(
 
 /// What is told of a history that was made.
 fn summary_of(alloc: Global, made: &Made) -> Result<Summary, AllocError>
-    ensures { IfOk result (λ summary. IsSummaryOf summary made.now.finished.history made.now.finished.certificate) }
+    ensures is { IfOk result (λ summary. IsSummaryOf summary made.now.finished.history made.now.finished.certificate) }
+    ensures stopped { IfOk result (λ summary. summary.stopped ≡ made.now.stopped) }
 {
     let history = &made.finished.history;
     Ok(Summary {

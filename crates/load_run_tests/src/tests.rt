@@ -1,3 +1,4 @@
+mod ends;
 mod options;
 mod runs;
 mod tiers;

@@ -11,7 +11,7 @@ use Rattle.certificate_checker.specs.Latest.{IsLawful}
 use Rattle.certificate_checker.specs.Acceptance.{IsAccepted}
 use Rattle.history_recorder.specs.declared.noted.Noted.{Noted}
 use Rattle.history_recorder.specs.Lane.{deed_noted, deeds_of}
-use Rattle.history_recorder.proofs.InTurn.{accepted_in_turn}
+use Rattle.history_recorder.specs.Laws.{AcceptedInTurn}
 use Rattle.scripts.specs.Own.{ended, own_history, own_certificate, HasStamps}
 
 -- ---- one more call
@@ -57,7 +57,7 @@ numbered calls stamps i d less =
     let last : n.0.point + 1 ≡ 3 * i + 3 = omega (arith, point) in
     (ap (λ (c : Call). c.start) is ∙ start, ap (λ (c : Call). c.end) is ∙ last)
 
-module _ (recorded : List Noted) (done : IsLawful (deeds_of recorded)) (stamps : HasStamps recorded) where
+module _ (law : AcceptedInTurn) (recorded : List Noted) (done : IsLawful (deeds_of recorded)) (stamps : HasStamps recorded) where
   abbrev calls : List Call
   calls = own_history recorded
 
@@ -71,4 +71,4 @@ module _ (recorded : List Noted) (done : IsLawful (deeds_of recorded)) (stamps :
       omega (arith, first.0, second.1, precedes)
 
   pub accepted : IsAccepted calls (own_certificate recorded)
-  accepted = subst (λ n. IsAccepted calls (range_with_len 0 n)) (length-map recorded ended) (accepted_in_turn calls intervals agrees (subst IsLawful (same_deeds recorded) done))
+  accepted = subst (λ n. IsAccepted calls (range_with_len 0 n)) (length-map recorded ended) (law calls intervals agrees (subst IsLawful (same_deeds recorded) done))

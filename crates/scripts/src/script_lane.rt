@@ -16,7 +16,9 @@ ghost use Rattle.scripts.specs.Own.{seen_of, opened_by, after_call, with_lane, o
 
 use crate::open_lane_fault::OpenLaneFault;
 use crate::recording::Recording;
-use history_recorder::{Got, RecordFault, RecordPutFault, RecordedLane, Removed, Stored};
+use history_recorder::{
+    Got, RecordFault, RecordPutFault, RecordedLane, Removed, Stored, accepted_in_turn,
+};
 use klog::Flushed;
 use mover::{Moved, OpenFault};
 use page_device::MemoryDevice;
@@ -165,6 +167,7 @@ impl<const PAGE: usize> ScriptLane<PAGE> {
             history.push_ref(&with_end(self.lane.at(position)))?;
             certificate.push(position as u32)?;
         }
+        accepted_in_turn();
         Ok(Recording {
             history,
             certificate,

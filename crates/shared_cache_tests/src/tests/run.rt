@@ -20,6 +20,8 @@ pub enum Found {
 pub enum Step {
     /// A key, its value, and what becomes of the pair that leaves memory.
     Put(&'static [u8], &'static [u8], Pushed),
+    /// A key, the word that decides of the pair that leaves memory, and what becomes of that.
+    PutBy(&'static [u8], u32, Pushed),
     /// A key, and what is found of it.
     Get(&'static [u8], Found),
     /// A key.
@@ -76,7 +78,9 @@ fn gives<D: PageDevice<PAGE>, P: EvictionPolicy + Drop, const PAGE: usize, R: Wa
     ensures { pass.new.sight.clock ≡ cache.now.clock }
 {
     match step {
-        Step::Put(name, bytes, wanted) => puts(rt, alloc, cache, pass, name, bytes)
+        Step::Put(name, bytes, wanted) => puts(rt, alloc, cache, pass, name, bytes, 0)
+            == Some(*wanted),
+        Step::PutBy(name, word, wanted) => puts(rt, alloc, cache, pass, name, b"v", *word)
             == Some(*wanted),
         Step::Get(name, wanted) => is_found(&gets(rt, alloc, cache, pass, name), wanted),
         Step::Remove(name) => removes(rt, alloc, cache, pass, name),
@@ -87,7 +91,7 @@ fn gives<D: PageDevice<PAGE>, P: EvictionPolicy + Drop, const PAGE: usize, R: Wa
     }
 }
 
-// Puts a pair, once more where memory was refused.
+// Puts a pair by this word, once more where memory was refused.
 fn puts<D: PageDevice<PAGE>, P: EvictionPolicy + Drop, const PAGE: usize, R: Wait>(
     rt: &R,
     alloc: Global,
@@ -95,16 +99,17 @@ fn puts<D: PageDevice<PAGE>, P: EvictionPolicy + Drop, const PAGE: usize, R: Wai
     pass: &mut Pass,
     name: &[u8],
     bytes: &[u8],
+    word: u32,
 ) -> Option<Pushed>
     requires { pass.old.sight.clock ≡ cache.now.clock }
     ensures { pass.new.sight.clock ≡ cache.now.clock }
 {
-    let first = cache.put(rt, pass, key(alloc, name)?, value(alloc, bytes)?, 0);
+    let first = cache.put(rt, pass, key(alloc, name)?, value(alloc, bytes)?, word);
     match first {
         Ok(pushed) => Some(pushed),
         Err(CallFault::OutOfMemory) => {
             cache
-                .put(rt, pass, key(alloc, name)?, value(alloc, bytes)?, 0)
+                .put(rt, pass, key(alloc, name)?, value(alloc, bytes)?, word)
                 .ok()
         }
         Err(_) => None,

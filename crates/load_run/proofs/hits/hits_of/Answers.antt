@@ -1,5 +1,5 @@
 -- One call more, which is a hit or not.
-use Rattle.std.proofs.Common.{◌≡◌, ◌∙◌, ◌≤◌, ◌+◌, ◌++◌, ◌∷◌, [], ℕ, Bool, true, false, List, Some, ap, arith, cond, count_by, refl, slice_get, sym, take}
+use Rattle.std.proofs.Common.{◌≡◌, ◌∙◌, ◌≤◌, ◌+◌, ℕ, Bool, true, false, List, Some, ap, arith, cond, count_by, refl, slice_get, sym, take}
 use Rattle.std.proofs.lemmas.List.Sums.{sum_by_push}
 use Rattle.certificate_checker.proofs.Lookups.{take_next}
 use Rattle.trace_file.specs.declared.call.Call.{Call}

@@ -1,5 +1,5 @@
 -- The lines are those with the text of the verdict.
-use Rattle.std.proofs.Common.{◌≡◌, ◌∙◌, ap}
+use Rattle.std.proofs.Common.{◌∙◌, ap}
 use Rattle.std.proofs.lemmas.Result.{IfOk-weaker}
 use Rattle.load_run.specs.Summaries.{lines_with}
 use Rattle.load_run.proofs.summary.Summary.lines.Goals as goal

@@ -25,7 +25,7 @@ returns-clause-accepted g c =
     let all : c.loop-position.position ≡ length calls = omega (arith, c.len-position-end.ensures.count) in
     let history = c.loop-position.invariant.calls ∙ ap (map ended) (ap (λ n. take n calls) all ∙ take-length calls) in
     let certificate = c.loop-position.invariant.places ∙ ap (range_with_len 0) all in
-    subst (λ h. IsAccepted h c.loop-position.certificate) (sym history) (subst (λ p. IsAccepted (own_history calls) p) (sym certificate) (accepted calls (c.len-position-end.ensures.recorded.lawful refl) c.self.invariant.stamps))
+    subst (λ h. IsAccepted h c.loop-position.certificate) (sym history) (subst (λ p. IsAccepted (own_history calls) p) (sym certificate) (accepted c.accepted_in_turn.ensures calls (c.len-position-end.ensures.recorded.lawful refl) c.self.invariant.stamps))
 
 pub returns-clause-as_many : goal.returns-clause-as_many
 returns-clause-as_many g c =

@@ -1,5 +1,5 @@
 -- The passes that are left are of the cache.
-use Rattle.std.proofs.Common.{◌≡◌, ◌<◌, All}
+use Rattle.std.proofs.Common.{◌≡◌, All}
 use Rattle.load_run.proofs.crew.fn.run_crew.scope.Given as goal
 
 abbrev pub invariant-loop-worker : goal.invariant-loop-worker

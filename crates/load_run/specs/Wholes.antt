@@ -1,0 +1,13 @@
+-- How many calls a run made, by the callers that stopped.
+use Rattle.std.specs.Prelude.{◌≡◌, ℕ, ◌≤◌, ◌*◌, ◌==◌, Bool, not, length}
+use Rattle.load.specs.declared.load.Load.{Load}
+use Rattle.shared_cache.specs.Passes.{Ticket}
+
+-- the pass does not list so many calls
+abbrev pub is_short : ℕ → Ticket → Bool
+is_short operations pass = not (length pass.calls == operations)
+
+-- so many calls were made, and so many callers stopped: where none did, each made all its operations
+pub record IsWhole (load : Load) (calls stopped : ℕ) : Type 0 where
+  pub some : stopped ≤ load.callers
+  pub all : stopped ≡ 0 → calls ≡ load.callers * load.operations
