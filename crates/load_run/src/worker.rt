@@ -6,19 +6,37 @@ use klog::Flushed;
 use shared_cache::Moved;
 use std::sync::Wait;
 use std::sync::atomic::{AtomicU64, Ordering};
-use std::thread::yield_now;
+use std::time::Duration;
 
-/// Flushes and moves in each lane in turn, beginning with the one of the worker's number, until all callers ended.
+/// How long a worker waits, at the most, that found nothing to do in any lane, in microseconds.
+const NAP: u64 = 50;
+
+/// Flushes and moves in each lane in turn, beginning with the one of the worker's number, until all callers ended. Where
+/// there was nothing to do in so many lanes as there are, one after the other, it leaves their locks alone for a while.
 pub fn work<R: Wait>(rt: &R, cache: &Cache, lanes: u32, worker: u32, running: &AtomicU64)
     requires lanes { lanes ≡ cache.now.layout.lanes }
     requires some { 0 < lanes }
 {
     let mut lane = worker % lanes;
+    let mut idle = 0;
     for _ in rt.forever() {
-        if running.load(Ordering::SeqCst) == 0 {
+        let callers = running.load(Ordering::SeqCst);
+        if callers == 0 {
             return;
         }
-        go_round(rt, cache, lane);
+        idle = if go_round(rt, cache, lane) {
+            0
+        } else {
+            idle + 1
+        };
+        if idle == lanes {
+            running.park_timeout(
+                rt,
+                (callers & 0xffff_ffff) as u32,
+                Duration::from_micros(NAP),
+            );
+            idle = 0;
+        }
         lane = lane_after(lane, lanes);
     }
 }
@@ -32,13 +50,11 @@ fn lane_after(lane: u32, lanes: u32) -> u32
     if lane + 1 < lanes { lane + 1 } else { 0 }
 }
 
-/// One round of flushing and one of moving in a lane. Where there was nothing to do another thread may run.
-fn go_round<R: Wait>(rt: &R, cache: &Cache, lane: u32)
+/// One round of flushing and one of moving in a lane. Whether there was something to do.
+fn go_round<R: Wait>(rt: &R, cache: &Cache, lane: u32) -> bool
     requires { lane < cache.now.layout.lanes }
 {
     let flushed = cache.flush_round(rt, lane);
     let moved = cache.move_round(rt, lane);
-    if flushed == Flushed::Nothing && moved == Ok(Moved::Nothing) {
-        yield_now();
-    }
+    flushed != Flushed::Nothing || moved != Ok(Moved::Nothing)
 }
