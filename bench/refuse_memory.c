@@ -19,8 +19,8 @@ static size_t number(const char *name)
 static int refused(size_t bytes)
 {
     size_t at = number("REFUSE_AT"), above = number("REFUSE_ABOVE");
-    requests++;
-    if (requests != at && (above == 0 || bytes <= above))
+    size_t mine = __atomic_add_fetch(&requests, 1, __ATOMIC_SEQ_CST);
+    if (mine != at && (above == 0 || bytes <= above))
         return 0;
     write((int)number("REFUSE_TOLD"), "x", 1);
     errno = ENOMEM;

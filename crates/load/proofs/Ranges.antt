@@ -1,6 +1,5 @@
 -- What the test of a setting's range says, and what the parse of a text says of the number that it writes.
-use Rattle.std.proofs.Common.{◌≡◌, ◌<◌, ◌≤◌, ◌^◌, ℕ, Bool, true, false, ◌&&◌, List, [], ◌∷◌, length, Option, Some, None, Result, Ok, Err, nat_le, nat_lt, if◌then◌else◌, refl, sym, ap, ◌∙◌, arith, inl, inr}
-use Rattle.std.proofs.lemmas.Bool.{cases_Bool}
+use Rattle.std.proofs.Common.{◌≡◌, ◌<◌, ◌≤◌, ◌^◌, ℕ, Bool, true, false, ◌&&◌, List, [], ◌∷◌, length, Some, None, nat_le, nat_lt, refl, sym, ap, ◌∙◌, arith}
 use Rattle.std.proofs.lemmas.Grind.{common_steps}
 use borrow.Author.Tests.{lt-ltb, ltb-true}
 use Rattle.std.specs.Char.{digit_value}
@@ -9,7 +8,7 @@ use Rattle.std.specs.Str.Parse.{AllDigits, IsNumeral, digits_value, without_lead
 use Rattle.load.specs.declared.setting.Setting.{Setting}
 use Rattle.load.specs.declared.setting.Setting.TheVariants.{Lanes, Sets, Memory, Segments, SegmentPages, Entries, Threshold, Admit, Callers, Operations, Keys, ValueBytes, Gets, Removes, Workers, Seed}
 use Rattle.load.specs.declared.load.Load.{Load}
-use Rattle.load.specs.Asked.{HasNumbers, IsLayoutOf, number_of}
+use Rattle.load.specs.Asked.{HasNumbers, number_of}
 use Rattle.load.specs.Settings.{AreAdmitted, is_admitted, is_decimal, number_at, number_in, row_of, value_of_text}
 
 both : (a b : Bool) → (a && b) ≡ true → (a ≡ true) × (b ≡ true)

@@ -1,8 +1,5 @@
 -- Each number of the cache is in its setting's range.
-use Rattle.std.proofs.Common.{◌≡◌, ◌≤◌, ℕ, List, slice_index_or}
-use Rattle.load.specs.declared.setting.Setting.{Setting}
 use Rattle.load.specs.declared.setting.Setting.TheVariants.{Lanes, Sets, Memory, Segments, SegmentPages, Entries, Threshold, Admit}
-use Rattle.load.specs.Settings.{AreAdmitted, number_at, row_of}
 use Rattle.load.proofs.Ranges.{within}
 use Rattle.load.proofs.numbers.layout_with.Goals as goal
 

@@ -1,7 +1,5 @@
 -- Each number of the load is in its setting's range.
-use Rattle.std.proofs.Common.{◌≡◌, ◌≤◌, ℕ, List}
-use Rattle.load.specs.declared.setting.Setting.{Setting}
-use Rattle.load.specs.declared.setting.Setting.TheVariants.{Lanes, Sets, Memory, Segments, SegmentPages, Entries, Threshold, Admit, Callers, Operations, Keys, ValueBytes, Gets, Removes, Workers, Seed}
+use Rattle.load.specs.declared.setting.Setting.TheVariants.{Callers, Operations, Keys, ValueBytes, Gets, Removes, Workers}
 use Rattle.load.proofs.Ranges.{within}
 use Rattle.load.proofs.numbers.load_with.Goals as goal
 

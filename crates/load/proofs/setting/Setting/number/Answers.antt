@@ -1,6 +1,5 @@
 -- What the parse of a text gives is the number that the text writes.
-use Rattle.std.proofs.Common.{sym, ◌∙◌, ap, subst, Result, Ok, Err, true}
-use Rattle.std.specs.Str.Parse.{ParsesUnsigned}
+use Rattle.std.proofs.Common.{sym, ◌∙◌}
 use Rattle.load.proofs.Ranges.{read, out, unread}
 use Rattle.load.proofs.setting.Setting.number.Goals as goal
 
