@@ -1,5 +1,5 @@
 -- What was found for an argument, by the rows of what was found.
-use Rattle.std.proofs.Common.{◌≡◌, ◌∙◌, ◌<◌, ◌+◌, ◌&&◌, ℕ, Bool, true, false, List, [], ◌∷◌, Option, Some, None, ap, arith, codes, inl, inr, zero, suc, if◌then◌else◌, is_some, length, map, option_and_then, option_map, refl, subst, sym, unwrap_or}
+use Rattle.std.proofs.Common.{◌≡◌, ◌∙◌, ◌<◌, ◌&&◌, ℕ, Bool, true, false, List, [], ◌∷◌, Option, Some, None, ap, arith, codes, inl, inr, zero, suc, if◌then◌else◌, is_some, length, map, option_and_then, option_map, refl, subst, sym, unwrap_or}
 use Rattle.std.proofs.lemmas.Bool.{cases_Bool}
 use Rattle.std.proofs.Math.ListN.{get_or}
 use Rattle.std.specs.List.{list_all}
@@ -13,7 +13,7 @@ use Rattle.clap.proofs.WalkLemmas.{first_value-rows}
 use Rattle.load.specs.declared.setting.Setting.{Setting}
 use Rattle.load.specs.declared.setting.Setting.TheVariants.{Lanes, Sets, Memory, Segments, SegmentPages, Entries, Threshold, Admit, Callers, Operations, Keys, ValueBytes, Gets, Removes, Workers, Seed}
 use Rattle.load.specs.Settings.{AreAdmitted, is_admitted, is_decimal, number_at, number_in, row_of, settings, value_of_text}
-use Rattle.command_line.specs.CommandLine.{Wanted, Loaded, has_numbers, load_wanted, number_found, wanted_of}
+use Rattle.command_line.specs.CommandLine.{Loaded, has_numbers, load_wanted, number_found, wanted_of}
 
 -- a text that was found for a name is that of the name's rows
 pub found_text : (found : Found) (id name : Text) (text : Option Text) → id ≡ name → text ≡ first_value found id → text ≡ first_of name (rows_of found)

@@ -4,7 +4,7 @@ use Rattle.clap.specs.Words.{IsAmong, Kinds}
 use Rattle.clap.specs.declared.error.kind.ErrorKind.{ErrorKind}
 use Rattle.clap.specs.declared.error.kind.ErrorKind.TheVariants as kinds_of
 use Rattle.command_line.specs.declared.line_fault.LineFault.{LineFault}
-use Rattle.command_line.specs.declared.line_fault.LineFault.TheVariants.{Usage, Help, OutOfMemory}
+use Rattle.command_line.specs.declared.line_fault.LineFault.TheVariants.{OutOfMemory}
 use Rattle.command_line.specs.CommandLine.{IsRefusal, IsToldOf, IsUsage}
 
 -- want of memory is told of any words

@@ -1,5 +1,5 @@
 -- The file that was found for the subcommand's argument.
-use Rattle.std.proofs.Common.{◌≡◌, ◌∙◌, ap, codes, IsSome, Option, Some, None, refl, subst, sym, option_map, rules}
+use Rattle.std.proofs.Common.{◌∙◌, ap, codes, IsSome, Some, None, refl, subst, sym, option_map}
 use Rattle.clap.specs.Words.{Text, found_of}
 use Rattle.command_line.specs.CommandLine.{Judgement}
 use Rattle.command_line.proofs.FoundLaws.{found_text}

@@ -1,8 +1,8 @@
 -- One number more for one setting more.
-use Rattle.std.proofs.Common.{◌≡◌, ◌∙◌, ◌<◌, ◌+◌, ◌++◌, ◌∷◌, [], ℕ, List, Option, Some, ap, ap₂, arith, length, map, refl, sym, take}
+use Rattle.std.proofs.Common.{◌≡◌, ◌∙◌, ◌<◌, ◌+◌, ◌++◌, ◌∷◌, [], ℕ, List, Option, Some, ap, ap₂, arith, length, map, sym, take}
 use Rattle.std.proofs.lemmas.List.{length-set, map_more, map-append, take_all, take_more_set}
 use Rattle.std.proofs.Math.ListN.{get_or, set}
-use Rattle.clap.specs.Words.{Row, found_of, rows_of}
+use Rattle.clap.specs.Words.{found_of, rows_of}
 use Rattle.load.specs.declared.setting.Setting.{Setting}
 use Rattle.load.specs.declared.setting.Setting.TheVariants.{Lanes}
 use Rattle.load.specs.Settings.{settings}

@@ -1,7 +1,7 @@
 -- The load with the numbers that were found, or what of it is missing.
-use Rattle.std.proofs.Common.{◌≡◌, ◌∙◌, codes, IsSome, Some, None, refl, subst, sym}
+use Rattle.std.proofs.Common.{◌∙◌, codes, IsSome, Some, None, refl, subst}
 use Rattle.clap.specs.Words.{found_of, rows_of}
-use Rattle.command_line.specs.CommandLine.{Wanted, load_wanted}
+use Rattle.command_line.specs.CommandLine.{Wanted}
 use Rattle.command_line.proofs.FoundLaws.{admitted, asks, found_text, no_numbers, no_trace}
 use Rattle.command_line.proofs.asked_load.run_line.Goals as goal
 

@@ -1,12 +1,12 @@
 -- One option more for one setting more, and the option of the trace behind them.
-use Rattle.std.proofs.Common.{◌≡◌, ◌∙◌, ap, ap₂, codes, fold, sym, take, rules, arith}
+use Rattle.std.proofs.Common.{◌≡◌, ◌∙◌, ap, ap₂, codes, fold, sym, take}
 use Rattle.std.proofs.lemmas.List.{take_all}
 use Rattle.std.proofs.lemmas.List.Sums.{fold_more}
 use Rattle.std.proofs.lemmas.Result.{IfOk-weaker}
-use Rattle.clap.specs.Words.{App, app_of, new_app, with_rule}
+use Rattle.clap.specs.Words.{app_of, new_app, with_rule}
 use Rattle.load.specs.declared.setting.Setting.TheVariants.{Lanes}
 use Rattle.load.specs.Settings.{settings}
-use Rattle.command_line.specs.CommandLine.{run_command, with_option}
+use Rattle.command_line.specs.CommandLine.{with_option}
 use Rattle.command_line.proofs.program.run.Goals as goal
 
 pub loop-setting-init : goal.loop-setting-init
