@@ -83,6 +83,16 @@ fn is_laid_out(alloc: Global, row: &Row) -> Result<bool, Fail> {
     )
 }
 
+/// The first of some rows that is not laid out as it says.
+fn first_wrong(alloc: Global, rows: &[Row]) -> Result<Option<usize>, Fail> {
+    for number in 0..rows.len() {
+        if !is_laid_out(alloc, &rows[number])? {
+            return Ok(Some(number));
+        }
+    }
+    Ok(None)
+}
+
 /// Whether the calls of a history are puts of these keys, each of one byte and with itself as value.
 fn has_keys(history: &History, keys: &[u8]) -> bool {
     if history.len() != keys.len() {
@@ -170,34 +180,43 @@ const ROWS: [Row; 7] = [
 
 #[test]
 fn lanes_are_laid_out_by_point_and_lane(rt: HostRuntime) -> Result<(), Fail> {
-    for number in 0..ROWS.len() {
-        assert!(rt; is_laid_out(rt.alloc(), &ROWS[number])?, "row {number}");
-    }
+    assert_eq!(rt; first_wrong(rt.alloc(), &ROWS)?, None);
     Ok(())
+}
+
+/// Two lanes with a call each.
+const ONE_EACH: &[&[Put]] = &[&[Put(b"a", 1, 4, 5)], &[Put(b"b", 2, 3, 6)]];
+
+/// Whether a history has two calls with the starts and ends of these.
+fn has_both(history: &History) -> bool {
+    if history.len() != 2 {
+        return false;
+    }
+    let (first, second) = (history.at(0), history.at(1));
+    first.start == 1 && first.end == 5 && second.start == 2 && second.end == 6
 }
 
 #[test]
 fn a_laid_out_call_has_its_start_and_end(rt: HostRuntime) -> Result<(), Fail> {
-    let (history, _) = lay_out(rt.alloc(), lanes_of(rt.alloc(), ROWS[1].lanes)?)?;
-    assert_eq!(rt; history.len(), 2);
-    let first = history.at(0);
-    assert!(rt; first.start == 1 && first.end == 5);
-    let second = history.at(1);
-    assert!(rt; second.start == 2 && second.end == 6);
+    let (history, _) = lay_out(rt.alloc(), lanes_of(rt.alloc(), ONE_EACH)?)?;
+    assert!(rt; has_both(&history));
     Ok(())
+}
+
+/// Whether a list has two calls with these points.
+fn has_points(lane: &Dones, first: u64, second: u64) -> bool {
+    lane.len() == 2
+        && lane.as_slice()[0].point == first
+        && lane.at(1).point == second
+        && !lane.is_empty()
 }
 
 #[test]
 fn a_list_of_done_calls_gives_its_calls_back(rt: HostRuntime) -> Result<(), Fail> {
-    let mut lane = Dones::new(rt.alloc());
-    assert!(rt; lane.is_empty());
-    lane.push(done_of(rt.alloc(), &Put(b"a", 1, 2, 3))?)?;
-    lane.push(done_of(rt.alloc(), &Put(b"b", 4, 5, 6))?)?;
-    assert_eq!(rt; lane.at(1).point, 5);
-    let calls = lane.into_vec();
-    assert_eq!(rt; calls.len(), 2);
-    let again = Dones::from(calls);
-    assert_eq!(rt; again.len(), 2);
-    assert_eq!(rt; again.as_slice()[0].point, 2);
+    assert!(rt; Dones::new(rt.alloc()).is_empty());
+    let lane = lane_of(rt.alloc(), &[Put(b"a", 1, 2, 3), Put(b"b", 4, 5, 6)])?;
+    assert!(rt; has_points(&lane, 2, 5));
+    let again = Dones::from(lane.into_vec());
+    assert!(rt; has_points(&again, 2, 5));
     Ok(())
 }

@@ -3,9 +3,9 @@ mod run;
 
 ghost use Rattle.std.specs.Prelude.{◌≡◌, ◌<◌};
 
-use self::run::{Found, Step, has_acts, run};
+use self::run::{Found, Step, as_written, run, tell_of};
 use history_recorder::{
-    Got, Noted, NotedRef, RecordFault, RecordPutFault, RecordedLane, Removed, Stored,
+    Got, Noted, NotedRef, RecordFault, RecordPutFault, RecordedLane, RecordedParts, Removed, Stored,
 };
 use klog::Flushed;
 use mover::{Moved, OpenFault};
@@ -14,7 +14,6 @@ use record_pages::{Answer, Config, Field, Key, MissCause, Pushed, Tier};
 use rriparoo::Rriparoo;
 use set_hash::place;
 use std::alloc::Global;
-use std::process::Abort;
 use std::test::Fail;
 use test_steps::{key, value};
 use trace_file::{Act, ActRef, History};
@@ -92,13 +91,17 @@ const EACH_TIER: [Step; 14] = [
 
 #[test]
 fn a_value_is_a_hit_in_each_tier_and_each_call_is_recorded(rt: HostRuntime) -> Result<(), Fail> {
-    let mut lane = lane(rt.alloc(), &ONE_SET, 0)?;
-    assert_eq!(rt; lane.last_point(), 0);
-    assert!(rt; lane.is_empty());
-    run(&rt, rt.alloc(), &mut lane, &EACH_TIER)?;
-    assert!(rt; has_acts(&lane, b"mphphhhrmm"));
-    assert_eq!(rt; lane.last_point(), 20);
-    assert!(rt; !lane.is_empty());
+    let lane = lane(rt.alloc(), &ONE_SET, 0)?;
+    let told = tell_of(rt.alloc(), lane, &EACH_TIER, b"mphphhhrmm")?;
+    assert_eq!(rt; told, as_written(10));
+    Ok(())
+}
+
+#[test]
+fn a_lane_is_opened_with_no_call(rt: HostRuntime) -> Result<(), Fail> {
+    let lane = lane(rt.alloc(), &ONE_SET, 0)?;
+    let told = tell_of(rt.alloc(), lane, &[], b"")?;
+    assert_eq!(rt; told, as_written(0));
     Ok(())
 }
 
@@ -111,9 +114,9 @@ const REFUSED: [Step; 4] = [
 
 #[test]
 fn a_refused_put_leaves_the_older_value(rt: HostRuntime) -> Result<(), Fail> {
-    let mut lane = lane(rt.alloc(), &ONE_SET, 0)?;
-    run(&rt, rt.alloc(), &mut lane, &REFUSED)?;
-    assert!(rt; has_acts(&lane, b"php"));
+    let lane = lane(rt.alloc(), &ONE_SET, 0)?;
+    let told = tell_of(rt.alloc(), lane, &REFUSED, b"php")?;
+    assert_eq!(rt; told, as_written(3));
     Ok(())
 }
 
@@ -129,9 +132,9 @@ const FAULT: [Step; 6] = [
 
 #[test]
 fn a_fault_is_recorded_as_a_miss(rt: HostRuntime) -> Result<(), Fail> {
-    let mut lane = refusing(rt.alloc(), 2)?;
-    run(&rt, rt.alloc(), &mut lane, &FAULT)?;
-    assert!(rt; has_acts(&lane, b"ppmh"));
+    let lane = refusing(rt.alloc(), 2)?;
+    let told = tell_of(rt.alloc(), lane, &FAULT, b"ppmh")?;
+    assert_eq!(rt; told, as_written(4));
     Ok(())
 }
 
@@ -144,13 +147,22 @@ const PARTS: [Step; 4] = [
 
 #[test]
 fn the_calls_and_the_device_are_given_back(rt: HostRuntime) -> Result<(), Fail> {
-    let mut lane = lane(rt.alloc(), &ONE_SET, 0)?;
-    run(&rt, rt.alloc(), &mut lane, &PARTS)?;
-    let parts = lane.into_parts();
+    let lane = lane(rt.alloc(), &ONE_SET, 0)?;
+    let parts = parts_behind(rt.alloc(), lane, &PARTS)?;
     assert_eq!(rt; parts.calls.len(), 4);
     assert!(rt; ends_at(&parts.calls, 3, 8));
     assert_eq!(rt; parts.device.pages(), 3);
     Ok(())
+}
+
+// The calls and the device of a lane behind these calls.
+fn parts_behind<D: PageDevice<PAGE>, const PAGE: usize>(
+    alloc: Global,
+    mut lane: RecordedLane<D, PAGE>,
+    steps: &[Step],
+) -> Result<RecordedParts<D>, Fail> {
+    let _strayed = run(alloc, &mut lane, steps)?;
+    Ok(lane.into_parts())
 }
 
 // Whether the call at a position ends there.
@@ -167,11 +179,11 @@ const SECOND: [Step; 3] = [
 
 #[test]
 fn a_lane_has_its_number_and_its_keys(rt: HostRuntime) -> Result<(), Fail> {
-    let mut second = lane(rt.alloc(), &TWO_LANES, 1)?;
-    assert_eq!(rt; second.lane(), 1);
-    assert_eq!(rt; second.config(), TWO_LANES);
-    run(&rt, rt.alloc(), &mut second, &SECOND)?;
-    assert!(rt; has_acts(&second, b"pph"));
+    let second = lane(rt.alloc(), &TWO_LANES, 1)?;
+    let (number, config) = (second.lane(), second.config());
+    let told = tell_of(rt.alloc(), second, &SECOND, b"pph")?;
+    assert_eq!(rt; (number, config), (1, TWO_LANES));
+    assert_eq!(rt; told, as_written(3));
     Ok(())
 }
 

@@ -44,13 +44,8 @@ struct Row {
 fn config(row: &Row) -> Config {
     Config {
         lanes: row.lanes,
-        sets: 1,
         memory: row.memory,
-        segments: 2,
-        segment_pages: 1,
-        entries: 8,
-        threshold: 1,
-        admit: 65536,
+        ..ONE_LANE
     }
 }
 
@@ -224,188 +219,238 @@ fn is_refused(played: &Played) -> bool {
     false
 }
 
-const ROWS: [Row; 6] = [
-    // A get that is done behind the put that began before it.
-    Row {
-        lanes: 1,
-        memory: 4,
-        events: &[
-            (Happens::Put(0, b"a", b"1"), b'b'),
-            (Happens::Get(1, b"a"), b'b'),
-            (Happens::Act(0), b'p'),
-            (Happens::Act(1), b'h'),
-            (Happens::End(1), b'e'),
-            (Happens::End(0), b'e'),
-        ],
-        history: &[
-            Called(0, 1, 6, b"a", b'p', b"1"),
-            Called(1, 2, 5, b"a", b'h', b"1"),
-        ],
-        certificate: &[0, 1],
-    },
-    // The same, done before it.
-    Row {
-        lanes: 1,
-        memory: 4,
-        events: &[
-            (Happens::Put(0, b"a", b"1"), b'b'),
-            (Happens::Get(1, b"a"), b'b'),
-            (Happens::Act(1), b'm'),
-            (Happens::Act(0), b'p'),
-            (Happens::End(1), b'e'),
-            (Happens::End(0), b'e'),
-        ],
-        history: &[
-            Called(1, 2, 5, b"a", b'm', b""),
-            Called(0, 1, 6, b"a", b'p', b"1"),
-        ],
-        certificate: &[0, 1],
-    },
-    // Two lanes; the second is done first.
-    Row {
-        lanes: 2,
-        memory: 4,
-        events: &[
-            (Happens::Put(0, b"a", b"1"), b'b'),
-            (Happens::Put(1, b"b", b"2"), b'b'),
-            (Happens::Act(1), b'p'),
-            (Happens::Act(0), b'p'),
-            (Happens::End(0), b'e'),
-            (Happens::End(1), b'e'),
-        ],
-        history: &[
-            Called(0, 1, 5, b"a", b'p', b"1"),
-            Called(1, 2, 6, b"b", b'p', b"2"),
-        ],
-        certificate: &[1, 0],
-    },
-    // A key is removed while its object is in flight, and the move does not bring it back.
-    Row {
-        lanes: 1,
-        memory: 1,
-        events: &[
-            (Happens::Put(0, b"ax", b"1"), b'b'),
-            (Happens::Act(0), b'p'),
-            (Happens::End(0), b'e'),
-            (Happens::Put(0, b"bx", b"2"), b'b'),
-            (Happens::Act(0), b'p'),
-            (Happens::End(0), b'e'),
-            (Happens::Flush(0), b's'),
-            (Happens::Flush(0), b'w'),
-            (Happens::MoveBegin(0), b'j'),
-            (Happens::Remove(0, b"ax"), b'b'),
-            (Happens::Act(0), b'r'),
-            (Happens::Commit(0, 0, 1), b'W'),
-            (Happens::Get(0, b"ax"), b'-'),
-            (Happens::End(0), b'e'),
-            (Happens::Get(0, b"ax"), b'b'),
-            (Happens::Act(0), b'm'),
-            (Happens::MoveBegin(3), b'-'),
-        ],
-        history: &[
-            Called(0, 1, 3, b"ax", b'p', b"1"),
-            Called(0, 4, 6, b"bx", b'p', b"2"),
-            Called(0, 7, 9, b"ax", b'r', b""),
-            Called(0, 10, 12, b"ax", b'm', b""),
-        ],
-        certificate: &[0, 1, 2, 3],
-    },
-    // Callers and ends that are not there, and plans that are stale or bad.
-    Row {
-        lanes: 1,
-        memory: 1,
-        events: &[
-            (Happens::Get(3, b"ax"), b'-'),
-            (Happens::Act(0), b'-'),
-            (Happens::End(0), b'-'),
-            (Happens::Put(2, b"ax", b"1"), b'b'),
-            (Happens::Act(2), b'p'),
-            (Happens::Act(2), b'-'),
-            (Happens::End(2), b'e'),
-            (Happens::End(2), b'-'),
-            (Happens::Put(2, b"bx", b"2"), b'b'),
-            (Happens::Act(2), b'p'),
-            (Happens::Flush(0), b's'),
-            (Happens::Flush(0), b'w'),
-            (Happens::Commit(0, 0, 1), b'S'),
-            (Happens::MoveBegin(0), b'j'),
-            (Happens::MoveBegin(0), b'n'),
-            (Happens::Commit(0, 1, 1), b'B'),
-            (Happens::Abort(0, 2), b'S'),
-            (Happens::Abort(0, 1), b'A'),
-            (Happens::Get(1, b"ax"), b'b'),
-        ],
-        history: &[
-            Called(2, 1, 3, b"ax", b'p', b"1"),
-            Called(2, 4, 7, b"bx", b'p', b"2"),
-        ],
-        certificate: &[0, 1],
-    },
-    // Moves in flight in both lanes. A put strikes the item of the first, whose new value is found and not the moved one.
-    Row {
-        lanes: 2,
-        memory: 1,
-        events: &[
-            (Happens::Put(0, b"a", b"1"), b'b'),
-            (Happens::Act(0), b'p'),
-            (Happens::End(0), b'e'),
-            (Happens::Put(0, b"c", b"2"), b'b'),
-            (Happens::Act(0), b'p'),
-            (Happens::End(0), b'e'),
-            (Happens::Put(1, b"b", b"3"), b'b'),
-            (Happens::Act(1), b'p'),
-            (Happens::End(1), b'e'),
-            (Happens::Put(1, b"d", b"4"), b'b'),
-            (Happens::Act(1), b'p'),
-            (Happens::End(1), b'e'),
-            (Happens::Flush(0), b's'),
-            (Happens::Flush(1), b's'),
-            (Happens::Flush(0), b'w'),
-            (Happens::Flush(1), b'w'),
-            (Happens::MoveBegin(0), b'j'),
-            (Happens::MoveBegin(1), b'j'),
-            (Happens::Put(2, b"a", b"5"), b'b'),
-            (Happens::Act(2), b'p'),
-            (Happens::Commit(1, 0, 1), b'W'),
-            (Happens::Commit(0, 0, 1), b'W'),
-            (Happens::Abort(1, 1), b'S'),
-            (Happens::End(2), b'e'),
-            (Happens::Get(0, b"b"), b'b'),
-            (Happens::Act(0), b'h'),
-            (Happens::End(0), b'e'),
-            (Happens::Get(1, b"a"), b'b'),
-            (Happens::Act(1), b'h'),
-            (Happens::End(1), b'e'),
-        ],
-        history: &[
-            Called(0, 1, 3, b"a", b'p', b"1"),
-            Called(0, 4, 6, b"c", b'p', b"2"),
-            Called(2, 13, 15, b"a", b'p', b"5"),
-            Called(1, 19, 21, b"a", b'h', b"5"),
-            Called(1, 7, 9, b"b", b'p', b"3"),
-            Called(1, 10, 12, b"d", b'p', b"4"),
-            Called(0, 16, 18, b"b", b'h', b"3"),
-        ],
-        certificate: &[0, 1, 4, 5, 2, 6, 3],
-    },
-];
+// A get that is done behind the put that began before it.
+const ACT_OF_A_PUT_FIRST: Row = Row {
+    lanes: 1,
+    memory: 4,
+    events: &[
+        (Happens::Put(0, b"a", b"1"), b'b'),
+        (Happens::Get(1, b"a"), b'b'),
+        (Happens::Act(0), b'p'),
+        (Happens::Act(1), b'h'),
+        (Happens::End(1), b'e'),
+        (Happens::End(0), b'e'),
+    ],
+    history: &[
+        Called(0, 1, 6, b"a", b'p', b"1"),
+        Called(1, 2, 5, b"a", b'h', b"1"),
+    ],
+    certificate: &[0, 1],
+};
 
 #[test]
-fn events_are_played(rt: HostRuntime) -> Result<(), Fail> {
-    for number in 0..ROWS.len() {
-        assert!(rt; plays(rt.alloc(), &ROWS[number])?, "row {number}");
-    }
+fn a_get_done_behind_a_put_finds_its_value(rt: HostRuntime) -> Result<(), Fail> {
+    assert!(rt; plays(rt.alloc(), &ACT_OF_A_PUT_FIRST)?);
     Ok(())
 }
 
+// The same, done before it.
+const ACT_OF_A_GET_FIRST: Row = Row {
+    lanes: 1,
+    memory: 4,
+    events: &[
+        (Happens::Put(0, b"a", b"1"), b'b'),
+        (Happens::Get(1, b"a"), b'b'),
+        (Happens::Act(1), b'm'),
+        (Happens::Act(0), b'p'),
+        (Happens::End(1), b'e'),
+        (Happens::End(0), b'e'),
+    ],
+    history: &[
+        Called(1, 2, 5, b"a", b'm', b""),
+        Called(0, 1, 6, b"a", b'p', b"1"),
+    ],
+    certificate: &[0, 1],
+};
+
+#[test]
+fn a_get_done_before_a_put_misses(rt: HostRuntime) -> Result<(), Fail> {
+    assert!(rt; plays(rt.alloc(), &ACT_OF_A_GET_FIRST)?);
+    Ok(())
+}
+
+// Two lanes; the second is done first.
+const SECOND_LANE_FIRST: Row = Row {
+    lanes: 2,
+    memory: 4,
+    events: &[
+        (Happens::Put(0, b"a", b"1"), b'b'),
+        (Happens::Put(1, b"b", b"2"), b'b'),
+        (Happens::Act(1), b'p'),
+        (Happens::Act(0), b'p'),
+        (Happens::End(0), b'e'),
+        (Happens::End(1), b'e'),
+    ],
+    history: &[
+        Called(0, 1, 5, b"a", b'p', b"1"),
+        Called(1, 2, 6, b"b", b'p', b"2"),
+    ],
+    certificate: &[1, 0],
+};
+
+#[test]
+fn calls_of_two_lanes_are_listed_as_they_were_done(rt: HostRuntime) -> Result<(), Fail> {
+    assert!(rt; plays(rt.alloc(), &SECOND_LANE_FIRST)?);
+    Ok(())
+}
+
+// A key is removed while its object is in flight, and the move does not bring it back.
+const REMOVED_IN_FLIGHT: Row = Row {
+    lanes: 1,
+    memory: 1,
+    events: &[
+        (Happens::Put(0, b"ax", b"1"), b'b'),
+        (Happens::Act(0), b'p'),
+        (Happens::End(0), b'e'),
+        (Happens::Put(0, b"bx", b"2"), b'b'),
+        (Happens::Act(0), b'p'),
+        (Happens::End(0), b'e'),
+        (Happens::Flush(0), b's'),
+        (Happens::Flush(0), b'w'),
+        (Happens::MoveBegin(0), b'j'),
+        (Happens::Remove(0, b"ax"), b'b'),
+        (Happens::Act(0), b'r'),
+        (Happens::Commit(0, 0, 1), b'W'),
+        (Happens::Get(0, b"ax"), b'-'),
+        (Happens::End(0), b'e'),
+        (Happens::Get(0, b"ax"), b'b'),
+        (Happens::Act(0), b'm'),
+        (Happens::MoveBegin(3), b'-'),
+    ],
+    history: &[
+        Called(0, 1, 3, b"ax", b'p', b"1"),
+        Called(0, 4, 6, b"bx", b'p', b"2"),
+        Called(0, 7, 9, b"ax", b'r', b""),
+        Called(0, 10, 12, b"ax", b'm', b""),
+    ],
+    certificate: &[0, 1, 2, 3],
+};
+
+#[test]
+fn a_key_that_is_removed_in_flight_does_not_come_back(rt: HostRuntime) -> Result<(), Fail> {
+    assert!(rt; plays(rt.alloc(), &REMOVED_IN_FLIGHT)?);
+    Ok(())
+}
+
+// Callers and ends that are not there, and plans that are stale or bad.
+const STRANGERS: Row = Row {
+    lanes: 1,
+    memory: 1,
+    events: &[
+        (Happens::Get(3, b"ax"), b'-'),
+        (Happens::Act(0), b'-'),
+        (Happens::End(0), b'-'),
+        (Happens::Put(2, b"ax", b"1"), b'b'),
+        (Happens::Act(2), b'p'),
+        (Happens::Act(2), b'-'),
+        (Happens::End(2), b'e'),
+        (Happens::End(2), b'-'),
+        (Happens::Put(2, b"bx", b"2"), b'b'),
+        (Happens::Act(2), b'p'),
+        (Happens::Flush(0), b's'),
+        (Happens::Flush(0), b'w'),
+        (Happens::Commit(0, 0, 1), b'S'),
+        (Happens::MoveBegin(0), b'j'),
+        (Happens::MoveBegin(0), b'n'),
+        (Happens::Commit(0, 1, 1), b'B'),
+        (Happens::Abort(0, 2), b'S'),
+        (Happens::Abort(0, 1), b'A'),
+        (Happens::Get(1, b"ax"), b'b'),
+    ],
+    history: &[
+        Called(2, 1, 3, b"ax", b'p', b"1"),
+        Called(2, 4, 7, b"bx", b'p', b"2"),
+    ],
+    certificate: &[0, 1],
+};
+
+#[test]
+fn strange_callers_and_plans_change_nothing(rt: HostRuntime) -> Result<(), Fail> {
+    assert!(rt; plays(rt.alloc(), &STRANGERS)?);
+    Ok(())
+}
+
+// Moves in flight in both lanes. A put strikes the item of the first, whose new value is found and not the moved one.
+const BOTH_IN_FLIGHT: Row = Row {
+    lanes: 2,
+    memory: 1,
+    events: &[
+        (Happens::Put(0, b"a", b"1"), b'b'),
+        (Happens::Act(0), b'p'),
+        (Happens::End(0), b'e'),
+        (Happens::Put(0, b"c", b"2"), b'b'),
+        (Happens::Act(0), b'p'),
+        (Happens::End(0), b'e'),
+        (Happens::Put(1, b"b", b"3"), b'b'),
+        (Happens::Act(1), b'p'),
+        (Happens::End(1), b'e'),
+        (Happens::Put(1, b"d", b"4"), b'b'),
+        (Happens::Act(1), b'p'),
+        (Happens::End(1), b'e'),
+        (Happens::Flush(0), b's'),
+        (Happens::Flush(1), b's'),
+        (Happens::Flush(0), b'w'),
+        (Happens::Flush(1), b'w'),
+        (Happens::MoveBegin(0), b'j'),
+        (Happens::MoveBegin(1), b'j'),
+        (Happens::Put(2, b"a", b"5"), b'b'),
+        (Happens::Act(2), b'p'),
+        (Happens::Commit(1, 0, 1), b'W'),
+        (Happens::Commit(0, 0, 1), b'W'),
+        (Happens::Abort(1, 1), b'S'),
+        (Happens::End(2), b'e'),
+        (Happens::Get(0, b"b"), b'b'),
+        (Happens::Act(0), b'h'),
+        (Happens::End(0), b'e'),
+        (Happens::Get(1, b"a"), b'b'),
+        (Happens::Act(1), b'h'),
+        (Happens::End(1), b'e'),
+    ],
+    history: &[
+        Called(0, 1, 3, b"a", b'p', b"1"),
+        Called(0, 4, 6, b"c", b'p', b"2"),
+        Called(2, 13, 15, b"a", b'p', b"5"),
+        Called(1, 19, 21, b"a", b'h', b"5"),
+        Called(1, 7, 9, b"b", b'p', b"3"),
+        Called(1, 10, 12, b"d", b'p', b"4"),
+        Called(0, 16, 18, b"b", b'h', b"3"),
+    ],
+    certificate: &[0, 1, 4, 5, 2, 6, 3],
+};
+
+#[test]
+fn moves_of_two_lanes_are_in_flight_at_once(rt: HostRuntime) -> Result<(), Fail> {
+    assert!(rt; plays(rt.alloc(), &BOTH_IN_FLIGHT)?);
+    Ok(())
+}
+
+// A world of one lane.
+const ONE_LANE: Config = Config {
+    lanes: 1,
+    sets: 1,
+    memory: 4,
+    segments: 2,
+    segment_pages: 1,
+    entries: 8,
+    threshold: 1,
+    admit: 65536,
+};
+
 #[test]
 fn a_world_is_not_opened(rt: HostRuntime) -> Result<(), Fail> {
-    let config = config(&ROWS[0]);
-    let none = World::<MemoryDevice<256>, 256>::open(rt.alloc(), &config, Vec::new(rt.alloc()), 0);
+    let none = World::<MemoryDevice<256>, 256>::open(
+        rt.alloc(),
+        &ONE_LANE,
+        Vec::new(rt.alloc()),
+        0,
+    );
     assert!(rt; matches!(&none, Err(OpenWorldFault::NoCallers)));
-    let few = World::<MemoryDevice<256>, 256>::open(rt.alloc(), &config, Vec::new(rt.alloc()), 1);
+    let few = World::<MemoryDevice<256>, 256>::open(rt.alloc(), &ONE_LANE, Vec::new(rt.alloc()), 1);
     assert!(rt; matches!(&few, Err(OpenWorldFault::DeviceCount)));
-    let faulty = Config { sets: 0, ..config };
+    let faulty = Config {
+        sets: 0,
+        ..ONE_LANE
+    };
     let field = Field::Sets;
     let refused = World::<MemoryDevice<256>, 256>::open(
         rt.alloc(),
@@ -424,7 +469,7 @@ fn fault_over<const PAGE: usize>(
 ) -> Result<Option<OpenWorldFault>, Fail> {
     let mut devices = Vec::new(alloc);
     devices.push(MemoryDevice::<PAGE>::new(alloc, pages)?)?;
-    let opened = World::<MemoryDevice<PAGE>, PAGE>::open(alloc, &config(&ROWS[0]), devices, 1);
+    let opened = World::<MemoryDevice<PAGE>, PAGE>::open(alloc, &ONE_LANE, devices, 1);
     Ok(opened.err())
 }
 

@@ -1,5 +1,5 @@
 -- A cache that is over has as many calls as its passes list.
-use Rattle.std.proofs.Common.{◌≡◌, ◌≤◌, ◌*◌, ℕ, suc, Bool, true, false, cond, eqb, not, List, [], ◌∷◌, length, map, count_by, refl, sym, ap, ◌∙◌, arith, length-append}
+use Rattle.std.proofs.Common.{◌≡◌, ◌≤◌, ◌+◌, ◌*◌, ℕ, suc, Bool, true, false, cond, eqb, not, List, [], ◌∷◌, length, map, count_by, refl, sym, ap, ◌∙◌, arith, length-append}
 use Rattle.std.specs.Prelude.{sum_by, flat_map}
 use Rattle.std.proofs.lemmas.Bool.{eqb-true}
 use Rattle.std.proofs.lemmas.List.{length-map}
@@ -46,6 +46,22 @@ each_whole operations (p ∷ ps) none =
     let rest = each_whole operations ps there in
     omega (arith, all, own, long, rest)
 
+-- ---- and of passes of which some list fewer or more
+
+one_least : (long operations count rest more : ℕ) (b : Bool) → eqb long operations ≡ b → rest * operations ≤ more + count * operations → suc rest * operations ≤ (long + more) + (cond (not b) 1 0 + count) * operations
+one_least long operations count rest more true is before = let same = eqb-true long operations is in omega (arith, same, before)
+one_least long operations count rest more false is before = omega (arith, before)
+
+each_least : (operations : ℕ) (passes : List Ticket) → length passes * operations ≤ weigh_passes (λ s. 1) passes + count_by (is_short operations) passes * operations
+each_least operations [] = omega arith
+each_least operations (p ∷ ps) =
+    let parts = sum_by-cons (λ (q : Ticket). cond (is_short operations q) 1 0) p ps in
+    let all = sum_by-cons (λ (q : Ticket). weigh_calls (λ s. 1) q.calls) p ps in
+    let own : weigh_calls (λ s. 1) p.calls ≡ length p.calls = ones p.calls in
+    let here = one_least (length p.calls) operations (count_by (is_short operations) ps) (length ps) (weigh_passes (λ s. 1) ps) (eqb (length p.calls) operations) refl (each_least operations ps) in
+    let times = ap (λ n. n * operations) parts in
+    omega (arith, all, own, here, times)
+
 -- ---- a run is whole where no caller stopped
 
 module _ (load : Load) (number : ℕ) (passes : List Ticket) (history : List Call) (certificate : List ℕ) (over : IsFinished number passes history certificate) (many : length passes ≡ load.callers) where
@@ -57,5 +73,10 @@ module _ (load : Load) (number : ℕ) (passes : List Ticket) (history : List Cal
       let most = count_by-le-length (is_short load.operations) passes in
       record {
         some = omega (arith, is, most, many);
+        least =
+            let below = each_least load.operations passes in
+            let all = ap (λ n. n * load.operations) many in
+            let short = ap (λ n. n * load.operations) is in
+            omega (arith, below, all, short, listed);
         all = λ none. listed ∙ each_whole load.operations passes (sym is ∙ none) ∙ ap (λ n. n * load.operations) many;
       }

@@ -11,15 +11,23 @@ use rand_pcg::Lcg64Xsh32;
 use shared_cache::{CallFault, Pass};
 use std::alloc::Global;
 use std::sync::Wait;
+use std::sync::atomic::{AtomicU64, Ordering};
 
-/// Makes the calls of a caller, by a generator of its own.
-pub fn start_caller<R: Wait>(rt: &R, alloc: Global, cache: &Cache, load: &Load, pass: Pass) -> Pass
+/// Makes the calls of a caller, by a generator of its own, and counts them by the thousand.
+pub fn start_caller<R: Wait>(
+    rt: &R,
+    alloc: Global,
+    cache: &Cache,
+    load: &Load,
+    made: &AtomicU64,
+    pass: Pass,
+) -> Pass
     requires { pass.sight.clock ≡ cache.now.clock }
     ensures { IsEnded cache.now.layout load.now
         (first_generator load.now.seed pass.caller) pass result }
 {
     let generator = Lcg64Xsh32::new(u64::from(load.seed), u64::from(pass.caller()));
-    make_calls(rt, alloc, cache, load, generator, pass)
+    make_calls(rt, alloc, cache, load, made, generator, pass)
 }
 
 /// Makes the calls of a caller, and stops at its first refusal.
@@ -28,6 +36,7 @@ pub fn make_calls<R: Wait>(
     alloc: Global,
     cache: &Cache,
     load: &Load,
+    made: &AtomicU64,
     mut generator: Lcg64Xsh32,
     mut pass: Pass,
 ) -> Pass
@@ -38,8 +47,16 @@ pub fn make_calls<R: Wait>(
         let Ok(()) = make_next(rt, alloc, cache, load, &mut generator, &mut pass, number) else {
             return pass;
         };
+        count(made, number);
     }
     pass
+}
+
+/// Counts a thousand calls more where the call with this number is the last of a thousand.
+fn count(made: &AtomicU64, number: u32) {
+    if number % 1000 == 999 {
+        made.fetch_add(1000, Ordering::SeqCst);
+    }
 }
 
 /// Makes the call of a caller with this number.

@@ -3,31 +3,38 @@ ghost use Rattle.std.specs.Prelude.{◌≡◌, ◌<◌, All};
 
 use crate::caller::start_caller;
 use crate::shared::Cache;
+use crate::watching::watch;
 use crate::worker::work;
 use crossbeam_channel::Sender;
 use load::Load;
 use shared_cache::Pass;
 use std::alloc::Global;
+use std::io::{IsTerminal, Write};
 use std::sync::Wait;
 use std::sync::atomic::{AtomicU64, Ordering};
 use std::thread;
 use std::thread::Threads;
+use std::time::Clock;
 
 /// Runs each caller in a thread, which sends its pass when it ended, beside the workers, until all have ended. A caller
-/// for which no thread can be made sends nothing.
-pub fn run_crew<R: Threads + Wait + Sync>(
+/// for which no thread can be made sends nothing. How many calls were made is told to `err` meanwhile, where that is a
+/// terminal.
+pub fn run_crew<R: Threads + Wait + Sync + Clock, E: Write + IsTerminal>(
     rt: &R,
     alloc: Global,
     cache: &Cache,
     load: &Load,
     mut passes: Vec<Pass>,
     to: &Sender<Pass>,
+    err: &mut E,
 )
     requires ties { All (λ p. p.sight.clock ≡ cache.now.clock) passes.items }
     requires lanes { load.now.layout.lanes ≡ cache.now.layout.lanes }
 {
     let running = AtomicU64::new(passes.len() as u64);
     let running = &running;
+    let made = AtomicU64::new(0);
+    let made = &made;
     let lanes = load.layout.lanes;
     thread::scope(
         thread::scope_env(),
@@ -50,7 +57,7 @@ pub fn run_crew<R: Threads + Wait + Sync>(
                     move ||
                         requires { pass.sight.clock ≡ cache.now.clock }
                     {
-                        let ended = start_caller(rt, alloc, cache, load, pass);
+                        let ended = start_caller(rt, alloc, cache, load, made, pass);
                         let _ = to.send(rt, ended);
                         running.fetch_sub(1, Ordering::SeqCst);
                     },
@@ -59,6 +66,7 @@ pub fn run_crew<R: Threads + Wait + Sync>(
                     running.fetch_sub(1, Ordering::SeqCst);
                 }
             }
+            watch(rt, load, running, made, err);
         },
     );
 }

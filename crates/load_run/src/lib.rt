@@ -9,6 +9,7 @@ mod run;
 mod run_end;
 mod shared;
 mod summary;
+mod watching;
 mod worker;
 
 pub use hits::hits_of;

@@ -11,8 +11,10 @@ use crossbeam_channel::{Receiver, bounded};
 use load::Load;
 use shared_cache::{Finished, Pass};
 use std::alloc::{AllocError, Global};
+use std::io::{IsTerminal, Write};
 use std::sync::Wait;
 use std::thread::Threads;
+use std::time::Clock;
 
 /// What the callers left: their passes, and how many stopped at a refusal.
 #[derive(Drop)]
@@ -28,11 +30,12 @@ pub struct Made {
     pub stopped: usize,
 }
 
-/// Runs the threads of a load over a new cache, and ends the cache.
-pub fn make_history<R: Threads + Wait + Sync>(
+/// Runs the threads of a load over a new cache, and ends the cache. Its progress is told to `err`, where that is a terminal.
+pub fn make_history<R: Threads + Wait + Sync + Clock, E: Write + IsTerminal>(
     rt: &R,
     alloc: Global,
     load: &Load,
+    err: &mut E,
 ) -> Result<Made, RunEnd>
     ensures accepted { IfOk result (λ made.
         IsAccepted made.finished.history made.finished.certificate) }
@@ -46,7 +49,7 @@ pub fn make_history<R: Threads + Wait + Sync>(
     let Ok((to, from)) = bounded::<Pass, _>(alloc, load.callers as usize) else {
         return Err(RunEnd::OutOfMemory);
     };
-    run_crew(rt, alloc, &cache, load, passes, &to);
+    run_crew(rt, alloc, &cache, load, passes, &to, err);
     let Ok(left) = take_left(rt, alloc, load, &from) else {
         return Err(RunEnd::OutOfMemory);
     };

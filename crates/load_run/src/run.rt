@@ -12,26 +12,27 @@ use certificate_checker::check;
 use load::{FileName, Load};
 use std::alloc::{AllocError, Global};
 use std::fs;
-use std::io::{BufWriter, Write};
+use std::io::{BufWriter, IsTerminal, Write};
 use std::rt::Files;
 use std::sync::Wait;
 use std::thread::Threads;
+use std::time::Clock;
 use trace_file::{Certificate, History, write_trace};
 
 /// Runs a load, and answers the status that the program ends with.
 ///
 /// Each caller has a thread, its pass and a generator of its own, and stops at its first refusal; the workers flush and
 /// move beside them. Then the history is judged, the trace is written to its file, and the four lines are written to
-/// `out`. What went wrong else is told to `err`, in a line.
-pub fn run_load<R: Threads + Wait + Sync + AllocGlobal + Files, O: Write, E: Write>(
-    rt: &R,
-    load: &Load,
-    out: &mut O,
-    err: &mut E,
-) -> u8
+/// `out`. What went wrong else is told to `err`, in a line. Where `err` is a terminal it is told too how many calls were made,
+/// at most twice a second while they are.
+pub fn run_load<
+    R: Threads + Wait + Sync + AllocGlobal + Files + Clock,
+    O: Write,
+    E: Write + IsTerminal,
+>(rt: &R, load: &Load, out: &mut O, err: &mut E) -> u8
     ensures { IsRunOf load.now (O.contents out.old) (O.contents out.new) result }
 {
-    let end = run_to_end(rt, load, out);
+    let end = run_to_end(rt, load, out, err);
     tell(err, end);
     end.status()
 }
@@ -46,11 +47,11 @@ fn tell<E: Write>(err: &mut E, end: RunEnd) {
 }
 
 /// Runs a load, and answers how it ended.
-fn run_to_end<R: Threads + Wait + Sync + AllocGlobal + Files, O: Write>(
-    rt: &R,
-    load: &Load,
-    out: &mut O,
-) -> RunEnd
+fn run_to_end<
+    R: Threads + Wait + Sync + AllocGlobal + Files + Clock,
+    O: Write,
+    E: Write + IsTerminal,
+>(rt: &R, load: &Load, out: &mut O, err: &mut E) -> RunEnd
     ensures shares { (result ≡ RunEnd.SharesExceed) ↔ (100 < load.now.gets + load.now.removes) }
     ensures wrote { WroteLines load.now (O.contents out.old) (O.contents out.new) result }
     ensures accepted { result ≢ RunEnd.Rejected }
@@ -58,7 +59,7 @@ fn run_to_end<R: Threads + Wait + Sync + AllocGlobal + Files, O: Write>(
     if load.gets + load.removes > 100 {
         return RunEnd::SharesExceed;
     }
-    let made = match make_history(rt, rt.alloc(), load) {
+    let made = match make_history(rt, rt.alloc(), load, err) {
         Ok(made) => made,
         Err(end) => return end,
     };

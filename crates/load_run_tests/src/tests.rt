@@ -1,4 +1,5 @@
 mod ends;
 mod options;
 mod runs;
+mod screen;
 mod tiers;

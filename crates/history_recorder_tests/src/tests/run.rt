@@ -30,22 +30,57 @@ pub enum Step {
     Move(Moved),
 }
 
-/// Makes each of these calls, which gives what is written beside it and is recorded, last, or is no call of the
-/// history. The caller is the step's number, and each call takes two stamps.
+/// What is told of a lane behind its calls.
+#[derive(Clone, Copy, Debug, PartialEq, Eq)]
+pub struct Told {
+    /// The number of the first call that did not give what is written beside it, or was not recorded as it must.
+    pub strayed: Option<usize>,
+    /// Whether the recorded calls have the acts that are written.
+    pub has_acts: bool,
+    pub last_point: u64,
+    pub is_empty: bool,
+}
+
+/// What is told of a lane whose calls all gave what is written beside them, behind so many recorded calls.
+pub fn as_written(calls: u32) -> Told {
+    Told {
+        strayed: None,
+        has_acts: true,
+        last_point: 2 * u64::from(calls),
+        is_empty: calls == 0,
+    }
+}
+
+/// Makes these calls of a lane, and tells of it.
+pub fn tell_of<D: PageDevice<PAGE>, const PAGE: usize>(
+    alloc: Global,
+    mut lane: RecordedLane<D, PAGE>,
+    steps: &[Step],
+    letters: &[u8],
+) -> Result<Told, Fail> {
+    let strayed = run(alloc, &mut lane, steps)?;
+    Ok(Told {
+        strayed,
+        has_acts: has_acts(&lane, letters),
+        last_point: lane.last_point(),
+        is_empty: lane.is_empty(),
+    })
+}
+
+/// Makes each of these calls, up to the first that does not give what is written beside it, or is not recorded, last, or is
+/// recorded and no call of the history; its number. The caller is the step's number, and each call takes two stamps.
 pub fn run<D: PageDevice<PAGE>, const PAGE: usize>(
-    rt: &impl Abort,
     alloc: Global,
     lane: &mut RecordedLane<D, PAGE>,
     steps: &[Step],
-) -> Result<(), Fail> {
+) -> Result<Option<usize>, Fail> {
     for number in 0..steps.len() {
         let caller = (number % 65536) as u16;
-        assert!(rt;
-            gives(alloc, lane, caller, &steps[number])?,
-            "step {number}"
-        );
+        if !gives(alloc, lane, caller, &steps[number])? {
+            return Ok(Some(number));
+        }
     }
-    Ok(())
+    Ok(None)
 }
 
 // Whether a call gives what is written beside it, and is recorded as it must.
@@ -313,8 +348,8 @@ fn is_same_act(act: &Act, lent: ActRef<'_>) -> bool {
     }
 }
 
-/// Whether the calls of a lane have these acts, in order: put, remove, hit or miss.
-pub fn has_acts<D: PageDevice<PAGE>, const PAGE: usize>(
+// Whether the calls of a lane have these acts, in order: put, remove, hit or miss.
+fn has_acts<D: PageDevice<PAGE>, const PAGE: usize>(
     lane: &RecordedLane<D, PAGE>,
     letters: &[u8],
 ) -> bool {

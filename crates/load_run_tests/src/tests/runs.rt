@@ -1,4 +1,5 @@
 //! Runs with fixed seeds, whose schedules differ and whose ends do not.
+use super::screen::Screen;
 use certificate_checker::{Judged, judge};
 use command_line::{Line, parse_line};
 use load::Load;
@@ -9,6 +10,7 @@ use std::rt::Files;
 use std::sync::Wait;
 use std::test::Fail;
 use std::thread::Threads;
+use std::time::Clock;
 
 /// What a run ended with and wrote.
 #[derive(Drop)]
@@ -18,12 +20,28 @@ struct Ran {
     err: Vec<u8>,
 }
 
-/// Runs a load.
-fn run_of<R: Threads + Wait + Sync + AllocGlobal + Files>(rt: &R, load: &Load) -> Ran {
+/// Runs a load, with a second output that is a terminal or is none.
+fn run_before<R: Threads + Wait + Sync + AllocGlobal + Files + Clock>(
+    rt: &R,
+    load: &Load,
+    is_terminal: bool,
+) -> Ran {
     let mut out: Vec<u8> = Vec::new(rt.alloc());
-    let mut err: Vec<u8> = Vec::new(rt.alloc());
-    let status = run_load(rt, load, &mut out, &mut err);
-    Ran { status, out, err }
+    let mut screen = Screen {
+        bytes: Vec::new(rt.alloc()),
+        is_terminal,
+    };
+    let status = run_load(rt, load, &mut out, &mut screen);
+    Ran {
+        status,
+        out,
+        err: screen.bytes,
+    }
+}
+
+/// Runs a load before no terminal.
+fn run_of<R: Threads + Wait + Sync + AllocGlobal + Files + Clock>(rt: &R, load: &Load) -> Ran {
+    run_before(rt, load, false)
 }
 
 /// The load that words ask for.
@@ -178,4 +196,30 @@ fn a_trace_that_can_not_be_made_is_a_file_fault(rt: HostRuntime) -> Result<(), F
     let load = load_of(rt.alloc(), NOWHERE).ok_or("a load")?;
     assert!(rt; is_refused(&run_of(&rt, &load), 3, b"file fault\n"));
     Ok(())
+}
+
+/// So many calls of one lane that they take longer than what lies before the first line.
+const LONG: &[&str] = &[
+    "k",
+    "run",
+    "--lanes",
+    "1",
+    "--operations",
+    "75000",
+    "--value-bytes",
+    "0",
+    "--keys",
+    "10",
+    "--trace",
+    "long.trace",
+];
+
+#[test]
+fn progress_is_told_to_a_terminal(rt: HostRuntime) -> Result<(), Fail> {
+    let load = load_of(rt.alloc(), LONG).ok_or("a load")?;
+    let ran = run_before(&rt, &load, true);
+    assert_eq!(rt; ran.status, 0);
+    assert!(rt; ran.out.as_slice().starts_with(b"calls 300000\n"));
+    assert!(rt; ran.err.as_slice().ends_with(b"000 of 300000 calls\r\n"));
+    Ok(fs::remove_file(&rt, "long.trace")?)
 }
