@@ -18,7 +18,7 @@ pub record IsSummaryOf (summary : Summary) (history : List Call) (certificate : 
   pub hits : summary.hits ≡ count_by is_hit history
   pub verdict : (summary.verdict ≡ Accepted) ↔ IsAccepted history certificate
 
--- the four lines of a summary were written, with as many calls as its callers made, and the run ended as it says
+-- the four lines of a summary were written, whose calls and stopped callers fit the load, and the run ended as it says
 pub record IsTold (load : Load) (old new : Option (List ℕ)) (end : RunEnd) : Type 0 where
   pub summary : Summary
   pub history : List Call
