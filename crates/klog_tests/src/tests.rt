@@ -56,22 +56,42 @@ fn log<D: PageDevice<PAGE>, const PAGE: usize>(
 ) -> Result<Owner<D, PAGE>, Fail>
     requires { IsPageSize PAGE }
 {
-    let layout = config.check()?;
-    Ok(Owner::open(alloc, &layout, device)?.ok_or("a device that is large enough")?)
+    match Owner::open(alloc, &layout(&config)?, device) {
+        Ok(Some(owner)) => Ok(owner),
+        Ok(None) => Err("a device that is large enough".into()),
+        Err(fault) => Err(fault.into()),
+    }
+}
+
+fn layout(config: &Config) -> Result<Layout, Fail> {
+    match config.check() {
+        Ok(layout) => Ok(layout),
+        Err(_) => Err("a sound configuration".into()),
+    }
 }
 
 // A log on a device that refuses no call; an opening that lacks memory is tried once more.
 fn sound_log(alloc: Global) -> Result<Owner<Fused, 256>, Fail> {
-    let layout = ONE_SET.check()?;
-    let owner = match open(alloc, &layout) {
-        Ok(owner) => owner,
-        Err(_) => open(alloc, &layout)?,
-    };
-    Ok(owner.ok_or("a device that is large enough")?)
+    match open(alloc, &layout(&ONE_SET)?) {
+        Ok(Some(owner)) => Ok(owner),
+        Ok(None) => Err("a device that is large enough".into()),
+        Err(_) => log(alloc, ONE_SET, FuseDevice::one(device(alloc)?, 0)),
+    }
 }
 
 fn open(alloc: Global, layout: &Layout) -> Result<Option<Owner<Fused, 256>>, AllocError> {
     Owner::open(alloc, layout, FuseDevice::one(device(alloc)?, 0))
+}
+
+// Makes these calls of a log on a device that refuses no call.
+fn on_sound(rt: &impl Abort, alloc: Global, steps: &[Step]) -> Result<(), Fail> {
+    run(rt, alloc, &mut sound_log(alloc)?, steps)
+}
+
+// The same on a device that refuses each call.
+fn on_refusing(rt: &impl Abort, alloc: Global, config: Config, steps: &[Step]) -> Result<(), Fail> {
+    let mut owner: Owner<Fused, 256> = log(alloc, config, refusing(alloc)?)?;
+    run(rt, alloc, &mut owner, steps)
 }
 
 const ADDED: Option<Appended> = Some(Appended::Appended);
@@ -82,25 +102,3 @@ const FIRST: Place = Place {
     page: 0,
     slot: 0,
 };
-
-// What is told of a record that was appended, after three steps of flushing.
-fn appended_and_flushed(alloc: Global) -> Result<Option<Looked>, Fail> {
-    let mut owner = sound_log(alloc)?;
-    let key = key(alloc, b"ax")?;
-    let value = value(alloc, b"1")?;
-    Ok(owner.append_flush_look(alloc, &key, &value, 3)?)
-}
-
-// Whether a look-up told a value of these bytes.
-fn is_value(told: Option<Looked>, bytes: &[u8]) -> bool {
-    let Some(Looked::Hit(value)) = told else {
-        return false;
-    };
-    value.bytes() == bytes
-}
-
-#[test]
-fn what_was_flushed_is_found(rt: HostRuntime) -> Result<(), Fail> {
-    assert!(rt; is_value(appended_and_flushed(rt.alloc())?, b"1"));
-    Ok(())
-}

@@ -37,22 +37,32 @@ fn device(alloc: Global) -> Result<MemoryDevice<256>, AllocError> {
     MemoryDevice::new(alloc, 3)
 }
 
+fn layout() -> Result<Layout, Fail> {
+    match ONE_SET.check() {
+        Ok(layout) => Ok(layout),
+        Err(_) => Err("a sound configuration".into()),
+    }
+}
+
 fn sets<D: PageDevice<PAGE>, const PAGE: usize>(
     alloc: Global,
     device: D,
 ) -> Result<Owner<D, PAGE>, Fail> {
-    let layout = ONE_SET.check()?;
-    Ok(Owner::open(alloc, &layout, device)?.ok_or("a device that is large enough")?)
+    match Owner::open(alloc, &layout()?, device) {
+        Ok(Some(owner)) => Ok(owner),
+        Ok(None) => Err("a device that is large enough".into()),
+        Err(fault) => Err(fault.into()),
+    }
 }
 
 // The sets on a device that refuses no call; an opening that lacks memory is tried once more.
 fn sound_sets(alloc: Global) -> Result<Owner<Fused, 256>, Fail> {
-    let layout = ONE_SET.check()?;
-    let owner = match open(alloc, &layout) {
-        Ok(owner) => owner,
-        Err(_) => open(alloc, &layout)?,
-    };
-    Ok(owner.ok_or("a device that is large enough")?)
+    let layout = layout()?;
+    match open(alloc, &layout) {
+        Ok(Some(owner)) => Ok(owner),
+        Ok(None) => Err("a device that is large enough".into()),
+        Err(_) => sets(alloc, FuseDevice::one(device(alloc)?, 0)),
+    }
 }
 
 fn open(alloc: Global, layout: &Layout) -> Result<Option<Owner<Fused, 256>>, AllocError> {

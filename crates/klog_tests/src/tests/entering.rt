@@ -25,8 +25,7 @@ const FOUND_UNTIL_STRUCK: [Step; 14] = [
 fn a_record_is_found_in_memory_and_on_the_device_until_it_is_struck(
     rt: HostRuntime,
 ) -> Result<(), Fail> {
-    let alloc = rt.alloc();
-    run(&rt, alloc, &mut sound_log(alloc)?, &FOUND_UNTIL_STRUCK)
+    on_sound(&rt, rt.alloc(), &FOUND_UNTIL_STRUCK)
 }
 
 const NO_BUFFER_HAS_ROOM: [Step; 6] = [
@@ -45,17 +44,20 @@ const THE_INDEX_IS_FULL: [Step; 3] = [
     Step::Look(b"bx", Seen::Absent),
 ];
 
+// Room for one record.
+const ONE_ENTRY: Config = Config {
+    entries: 1,
+    ..ONE_SET
+};
+
 #[test]
 fn a_record_without_room_is_refused(rt: HostRuntime) -> Result<(), Fail> {
-    let alloc = rt.alloc();
-    let one_entry = Config {
-        entries: 1,
-        ..ONE_SET
-    };
-    let mut owner: Owner<Fused, 256> = log(alloc, ONE_SET, refusing(alloc)?)?;
-    run(&rt, alloc, &mut owner, &NO_BUFFER_HAS_ROOM)?;
-    let mut owner: Owner<Fused, 256> = log(alloc, one_entry, refusing(alloc)?)?;
-    run(&rt, alloc, &mut owner, &THE_INDEX_IS_FULL)
+    on_refusing(&rt, rt.alloc(), ONE_SET, &NO_BUFFER_HAS_ROOM)
+}
+
+#[test]
+fn a_record_past_the_last_entry_is_refused(rt: HostRuntime) -> Result<(), Fail> {
+    on_refusing(&rt, rt.alloc(), ONE_ENTRY, &THE_INDEX_IS_FULL)
 }
 
 const JUST_A_PAGES_ROOM: [Step; 6] = [
@@ -69,8 +71,7 @@ const JUST_A_PAGES_ROOM: [Step; 6] = [
 
 #[test]
 fn a_record_of_just_a_pages_room_is_found_after_a_flush(rt: HostRuntime) -> Result<(), Fail> {
-    let alloc = rt.alloc();
-    run(&rt, alloc, &mut sound_log(alloc)?, &JUST_A_PAGES_ROOM)
+    on_sound(&rt, rt.alloc(), &JUST_A_PAGES_ROOM)
 }
 
 // The hashes of "a" and "b" differ below the high 16 bits alone.
@@ -93,14 +94,13 @@ const TWO_KEYS_OF_ONE_TAG: [Step; 14] = [
 
 #[test]
 fn keys_of_one_tag_are_found_apart_and_struck_together(rt: HostRuntime) -> Result<(), Fail> {
-    let alloc = rt.alloc();
-    run(&rt, alloc, &mut sound_log(alloc)?, &TWO_KEYS_OF_ONE_TAG)
+    on_sound(&rt, rt.alloc(), &TWO_KEYS_OF_ONE_TAG)
 }
 
 #[test]
 fn a_device_that_is_too_small_has_no_owner(rt: HostRuntime) -> Result<(), Fail> {
     let alloc = rt.alloc();
-    let layout = ONE_SET.check()?;
+    let layout = layout(&ONE_SET)?;
     let device = FuseDevice::one(MemoryDevice::new(alloc, 2)?, 0);
     let small: Option<Owner<Fused, 256>> = Owner::open(alloc, &layout, device)?;
     assert!(rt; small.is_none());

@@ -28,9 +28,23 @@ const SECOND: Place = Place { slot: 1, ..FIRST };
 
 #[test]
 fn a_set_is_taken_from_memory_newest_first(rt: HostRuntime) -> Result<(), Fail> {
-    let alloc = rt.alloc();
-    let mut owner: Owner<Fused, 256> = log(alloc, ONE_SET, refusing(alloc)?)?;
-    run(&rt, alloc, &mut owner, &TAKEN_FROM_MEMORY)
+    on_refusing(&rt, rt.alloc(), ONE_SET, &TAKEN_FROM_MEMORY)
+}
+
+// Makes calls, takes the set, makes more calls, drops what was taken, and makes the last ones.
+fn drops_what_was_taken(
+    rt: &impl Abort,
+    alloc: Global,
+    before: &[Step],
+    between: &[Step],
+    behind: &[Step],
+) -> Result<(), Fail> {
+    let mut owner = sound_log(alloc)?;
+    run(rt, alloc, &mut owner, before)?;
+    let taken = taken(alloc, &mut owner)?;
+    run(rt, alloc, &mut owner, between)?;
+    owner.drop_taken(0, &taken);
+    run(rt, alloc, &mut owner, behind)
 }
 
 // What is taken of the set.
@@ -58,12 +72,7 @@ const THE_THIRD_ALONE: [Step; 4] = [
 #[test]
 fn what_was_taken_is_dropped_alone(rt: HostRuntime) -> Result<(), Fail> {
     let alloc = rt.alloc();
-    let mut owner = sound_log(alloc)?;
-    run(&rt, alloc, &mut owner, &TWO_IN_MEMORY)?;
-    let taken = taken(alloc, &mut owner)?;
-    run(&rt, alloc, &mut owner, &A_THIRD)?;
-    owner.drop_taken(0, &taken);
-    run(&rt, alloc, &mut owner, &THE_THIRD_ALONE)
+    drops_what_was_taken(&rt, alloc, &TWO_IN_MEMORY, &A_THIRD, &THE_THIRD_ALONE)
 }
 
 // Segments 0 to 3 come and go, and then the name of segment 0 comes again.
@@ -107,13 +116,7 @@ const STAYS: [Step; 2] = [
 
 #[test]
 fn a_later_record_at_the_place_of_a_taken_one_stays(rt: HostRuntime) -> Result<(), Fail> {
-    let alloc = rt.alloc();
-    let mut owner = sound_log(alloc)?;
-    run(&rt, alloc, &mut owner, &IN_SEGMENT_0)?;
-    let taken = taken(alloc, &mut owner)?;
-    run(&rt, alloc, &mut owner, &IN_SEGMENT_4)?;
-    owner.drop_taken(0, &taken);
-    run(&rt, alloc, &mut owner, &STAYS)
+    drops_what_was_taken(&rt, rt.alloc(), &IN_SEGMENT_0, &IN_SEGMENT_4, &STAYS)
 }
 
 type Wide = FuseDevice<MemoryDevice<4096>>;
@@ -177,6 +180,11 @@ fn are_the_newest(taken: SetTaken) -> bool {
     true
 }
 
+// Whether all 65 records enter, and a taking gives the 32 newest.
+fn gives_the_newest(alloc: Global, owner: &mut Owner<Wide, 4096>) -> Result<bool, Fail> {
+    Ok(fills(alloc, owner)? && are_the_newest(take(alloc, owner)?))
+}
+
 // A log of segments of two pages, on a device whose second call is refused.
 fn wide_log(alloc: Global) -> Result<Owner<Wide, 4096>, Fail> {
     log(
@@ -190,8 +198,7 @@ fn wide_log(alloc: Global) -> Result<Owner<Wide, 4096>, Fail> {
 fn a_page_has_64_records_and_a_taking_32(rt: HostRuntime) -> Result<(), Fail> {
     let alloc = rt.alloc();
     let mut owner = wide_log(alloc)?;
-    assert!(rt; fills(alloc, &mut owner)?);
-    assert!(rt; are_the_newest(take(alloc, &mut owner)?));
+    assert!(rt; gives_the_newest(alloc, &mut owner)?);
     run(&rt, alloc, &mut owner, &LOSES_THE_SECOND_PAGE)
 }
 
@@ -203,7 +210,11 @@ const TWO_STORED: [Step; 4] = [
     Step::Flush(Flushed::Wrote),
 ];
 
-const READMITTED_OR_LOST: [Step; 10] = [
+const READMITTED_OR_LOST: [Step; 14] = [
+    Step::Append(b"ax", &[1; 100], ADDED),
+    Step::Append(b"bx", &[2; 100], ADDED),
+    Step::Flush(Flushed::Sealed),
+    Step::Flush(Flushed::Wrote),
     Step::Look(b"ax", Seen::Value(&[1; 100])),
     Step::Readmit(Some(Readmitted::Readmitted)),
     Step::Take(&[
@@ -237,10 +248,7 @@ const READMITTED_OR_LOST: [Step; 10] = [
 
 #[test]
 fn a_readmitted_record_is_the_newest_or_it_is_lost(rt: HostRuntime) -> Result<(), Fail> {
-    let alloc = rt.alloc();
-    let mut owner = sound_log(alloc)?;
-    run(&rt, alloc, &mut owner, &TWO_STORED)?;
-    run(&rt, alloc, &mut owner, &READMITTED_OR_LOST)
+    on_sound(&rt, rt.alloc(), &READMITTED_OR_LOST)
 }
 
 const READMITTED_FROM_A_LOST_PAGE: [Step; 5] = [
@@ -253,16 +261,19 @@ const READMITTED_FROM_A_LOST_PAGE: [Step; 5] = [
 
 const TAKEN_FROM_A_LOST_PAGE: [Step; 2] = [Step::TakeLost, Step::Take(&[])];
 
+// Stores two records on a device of which each page is read as zeros, and makes these calls.
+fn on_blank(rt: &impl Abort, alloc: Global, steps: &[Step]) -> Result<(), Fail> {
+    let mut owner: Owner<BlankDevice, 256> = log(alloc, ONE_SET, BlankDevice(3))?;
+    run(rt, alloc, &mut owner, &TWO_STORED)?;
+    run(rt, alloc, &mut owner, steps)
+}
+
 #[test]
-fn a_page_that_is_not_the_logs_is_lost(rt: HostRuntime) -> Result<(), Fail> {
-    let alloc = rt.alloc();
-    for steps in [
-        READMITTED_FROM_A_LOST_PAGE.as_slice(),
-        TAKEN_FROM_A_LOST_PAGE.as_slice(),
-    ] {
-        let mut owner: Owner<BlankDevice, 256> = log(alloc, ONE_SET, BlankDevice(3))?;
-        run(&rt, alloc, &mut owner, &TWO_STORED)?;
-        run(&rt, alloc, &mut owner, steps)?;
-    }
-    Ok(())
+fn a_readmission_from_a_page_that_is_not_the_logs_loses_it(rt: HostRuntime) -> Result<(), Fail> {
+    on_blank(&rt, rt.alloc(), &READMITTED_FROM_A_LOST_PAGE)
+}
+
+#[test]
+fn a_taking_from_a_page_that_is_not_the_logs_loses_it(rt: HostRuntime) -> Result<(), Fail> {
+    on_blank(&rt, rt.alloc(), &TAKEN_FROM_A_LOST_PAGE)
 }

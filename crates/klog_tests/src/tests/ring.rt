@@ -26,8 +26,7 @@ const WAITS: [Step; 18] = [
 
 #[test]
 fn a_flush_waits_for_a_free_segment(rt: HostRuntime) -> Result<(), Fail> {
-    let alloc = rt.alloc();
-    run(&rt, alloc, &mut sound_log(alloc)?, &WAITS)
+    on_sound(&rt, rt.alloc(), &WAITS)
 }
 
 const KEYS: [&[u8]; 5] = [b"ax", b"bx", b"cx", b"dx", b"ex"];

@@ -1,5 +1,5 @@
 //! What is found of what was written.
-use super::retried::{page, read};
+use super::retried::{read, rewrite};
 use super::*;
 
 const FOUND_UNTIL_STRUCK: [Step; 10] = [
@@ -23,19 +23,6 @@ fn written_records_are_found_until_they_are_struck_or_forgotten(
     let alloc = rt.alloc();
     let mut owner: Owner<Fused, 256> = sets(alloc, FuseDevice::one(device(alloc)?, 5))?;
     run(&rt, alloc, &mut owner, &FOUND_UNTIL_STRUCK)
-}
-
-#[test]
-fn what_was_written_is_found(rt: HostRuntime) -> Result<(), Fail> {
-    let alloc = rt.alloc();
-    let mut owner = sound_sets(alloc)?;
-    let writer = page(alloc, &PAIR)?;
-    let Some(Looked::Hit(value)) = owner.rewrite_and_look(alloc, &key(alloc, b"bx")?, &writer)?
-    else {
-        return Err("no value".into());
-    };
-    assert_eq!(rt; value.bytes(), b"2".as_slice());
-    Ok(())
 }
 
 const TWO_OF_ONE_KEY: [Pair; 3] = [(b"ab", b"1"), (b"cd", b"2"), (b"cd", b"3")];
@@ -77,14 +64,16 @@ fn the_first_of_two_records_with_a_key_is_found(rt: HostRuntime) -> Result<(), F
 
 type Wide = MemoryDevice<4096>;
 
-// Writes 63 records of one key, and one of another.
-fn fill(rt: &impl Abort, alloc: Global, owner: &mut Owner<Wide, 4096>) -> Result<(), Fail> {
-    let mut pairs: Vec<Pair> = vec![in alloc; (b"a".as_slice(), b"1".as_slice()); MAX_RECORDS - 1]?;
+const A: Pair = (b"a", b"1");
+
+// 63 records of one key, and one of another.
+fn full(alloc: Global) -> Result<Vec<Pair>, Fail> {
+    let mut pairs: Vec<Pair> = vec![in alloc; A; MAX_RECORDS - 1]?;
     pairs.push((b"b", b"2"))?;
-    let written = owner.rewrite(&key(alloc, b"b")?, &page(alloc, &pairs)?);
-    assert_eq!(rt; written, Rewritten::Written);
-    Ok(())
+    Ok(pairs)
 }
+
+const FINDS_THE_LAST: [Step; 1] = [Step::Look(b"b", Seen::Value(b"2"))];
 
 // Whether these are so many records as fit on a page, of which the last alone is hit.
 fn is_last_alone_hit(read: SetRead) -> bool {
@@ -102,17 +91,23 @@ fn is_last_alone_hit(read: SetRead) -> bool {
     true
 }
 
+// What is read of a set of these pairs, behind these calls.
+fn read_behind(
+    rt: &impl Abort,
+    alloc: Global,
+    pairs: &[Pair],
+    steps: &[Step],
+) -> Result<SetRead, Fail> {
+    let mut owner: Owner<Wide, 4096> = sets(alloc, MemoryDevice::new(alloc, 3)?)?;
+    rewrite(alloc, &mut owner, pairs)?;
+    run(rt, alloc, &mut owner, steps)?;
+    read(alloc, &mut owner)
+}
+
 #[test]
 fn the_last_of_64_slots_is_hit(rt: HostRuntime) -> Result<(), Fail> {
-    let alloc = rt.alloc();
-    let mut owner: Owner<Wide, 4096> = sets(alloc, MemoryDevice::new(alloc, 3)?)?;
-    fill(&rt, alloc, &mut owner)?;
-    run(
-        &rt,
-        alloc,
-        &mut owner,
-        &[Step::Look(b"b", Seen::Value(b"2"))],
-    )?;
-    assert!(rt; is_last_alone_hit(read(alloc, &mut owner)?));
+    let pairs = full(rt.alloc())?;
+    let read = read_behind(&rt, rt.alloc(), &pairs, &FINDS_THE_LAST)?;
+    assert!(rt; is_last_alone_hit(read));
     Ok(())
 }

@@ -1,16 +1,14 @@
-//! An owner of sets and of the device that their pages lie on, proved from the public clauses of the sets alone.
-ghost use Rattle.std.specs.Prelude.{◌≡◌, IfOk, IsTrue, Ok};
-ghost use Rattle.page_device.specs.Frames.{pages_from};
-ghost use Rattle.record_pages.specs.Looking.{first_with};
+//! An owner of sets and of the device that their pages lie on.
+ghost use Rattle.std.specs.Prelude.{◌≤◌};
 ghost use Rattle.record_pages.specs.Sizes.{IsPageSize};
 ghost use Rattle.std.specs.Coded.{codes};
-ghost use Rattle.kset.specs.Sets.{set_count, sets_code};
-ghost use Rattle.kset_tests.specs.Owner.{OwnerState, IsOwner, IsFoundIn};
+ghost use Rattle.kset.specs.Sets.{sets_code};
+ghost use Rattle.kset_tests.specs.Owner.{OwnerState, IsOwner};
 
 use super::*;
 use page_device::PageDevice;
 use record_pages::{Key, Layout, SetPageWriter};
-use set_hash::{Placed, place};
+use set_hash::place;
 use std::alloc::{AllocError, Global};
 use std::marker::Model;
 
@@ -42,12 +40,20 @@ impl<D: PageDevice<PAGE>, const PAGE: usize> Owner<D, PAGE> {
         if device.pages() < layout.sets {
             return Ok(None);
         }
+        let owner = Self::over(alloc, layout, device)?;
+        Ok(Some(owner))
+    }
+
+    // All sets empty, over a device that is large enough.
+    fn over(alloc: Global, layout: &Layout, device: D) -> Result<Self, AllocError>
+        requires { layout.now.sets ≤ D.page_count device }
+    {
         let sets = KSet::open(alloc, layout)?;
-        Ok(Some(Owner {
+        Ok(Owner {
             layout: *layout,
             device,
             sets,
-        }))
+        })
     }
 
     pub(super) fn look(&mut self, alloc: Global, key: &Key) -> Result<Looked, AllocError>
@@ -78,42 +84,10 @@ impl<D: PageDevice<PAGE>, const PAGE: usize> Owner<D, PAGE> {
         &self.device
     }
 
-    pub fn rewrite(&mut self, key: &Key, writer: &SetPageWriter<PAGE>) -> Rewritten
+    pub(super) fn rewrite(&mut self, key: &Key, writer: &SetPageWriter<PAGE>) -> Rewritten
         requires { IsPageSize PAGE }
-        ensures { IsTrue (D.honest self.old.device) →
-            pages_from (set_count self.old.sets) (D.held self.new.device)
-            ≡ pages_from (set_count self.old.sets) (D.held self.old.device) }
     {
         let placed = place(&self.layout, key.bytes());
         self.sets.rewrite(&mut self.device, placed.set, writer)
-    }
-
-    /// Writes the key's set, and looks the key up: it is found with its value exactly where it was written.
-    pub fn rewrite_and_look(
-        &mut self,
-        alloc: Global,
-        key: &Key,
-        writer: &SetPageWriter<PAGE>,
-    ) -> Result<Option<Looked>, AllocError>
-        requires { IsPageSize PAGE }
-        ensures { IsTrue (D.honest self.old.device) →
-            IfOk result (IsFoundIn (first_with key.now writer.now)) }
-    {
-        let placed = place(&self.layout, key.bytes());
-        let Rewritten::Written = self.sets.rewrite(&mut self.device, placed.set, writer) else {
-            return Ok(None);
-        };
-        let looked = self.sets.look(alloc, &mut self.device, &placed, key)?;
-        Ok(Some(looked))
-    }
-
-    /// Strikes a key, and looks it up: it is absent, on any device.
-    pub fn strike_and_look(&mut self, alloc: Global, key: &Key) -> Result<Looked, AllocError>
-        requires { IsPageSize PAGE }
-        ensures { result ≡ Ok Looked.Absent }
-    {
-        let placed = place(&self.layout, key.bytes());
-        self.sets.strike(&placed);
-        self.sets.look(alloc, &mut self.device, &placed, key)
     }
 }

@@ -9,17 +9,27 @@ pub(super) fn page<const PAGE: usize>(
     pairs: &[Pair],
 ) -> Result<SetPageWriter<PAGE>, Fail> {
     let mut writer = SetPageWriter::new();
-    for (bytes, stored) in pairs {
-        let record = Record {
-            key: key(alloc, *bytes)?,
-            value: value(alloc, *stored)?,
-            pred: Prediction::new(Prediction::ENTERING).ok_or("a prediction")?,
-        };
-        if writer.fits(record.lent()) {
-            writer.push(record.lent());
-        }
+    for pair in pairs {
+        push(&mut writer, &record(alloc, pair)?);
     }
     Ok(writer)
+}
+
+// A pair as it enters the log.
+fn record(alloc: Global, pair: &Pair) -> Result<Record, Fail> {
+    let Some(pred) = Prediction::new(Prediction::ENTERING) else {
+        return Err("a prediction".into());
+    };
+    let key = key(alloc, pair.0)?;
+    let value = value(alloc, pair.1)?;
+    Ok(Record { key, value, pred })
+}
+
+// Adds a record where it fits.
+fn push<const PAGE: usize>(writer: &mut SetPageWriter<PAGE>, record: &Record) {
+    if writer.fits(record.lent()) {
+        writer.push(record.lent());
+    }
 }
 
 /// Writes these pairs, all of the only set.

@@ -109,17 +109,3 @@ fn a_strike_goes_by_the_filters_answer(rt: HostRuntime) -> Result<(), Fail> {
     run(&rt, alloc, &mut owner, &THE_NINTH_AFTER_ONE)?;
     run(&rt, alloc, &mut owner, &[Step::Look(b"kx", Seen::Absent)])
 }
-
-#[test]
-fn a_struck_key_is_absent(rt: HostRuntime) -> Result<(), Fail> {
-    let alloc = rt.alloc();
-    let mut owner = sound_sets(alloc)?;
-    assert_eq!(rt; rewrite(alloc, &mut owner, &PAIR)?, Rewritten::Written);
-    let looked = owner.strike_and_look(alloc, &key(alloc, b"bx")?)?;
-    assert!(rt; is_absent(looked));
-    Ok(())
-}
-
-fn is_absent(looked: Looked) -> bool {
-    matches!(looked, Looked::Absent)
-}
