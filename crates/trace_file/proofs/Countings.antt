@@ -1,5 +1,5 @@
 -- Taking calls and then positions behind a header.
-use Rattle.std.proofs.Common.{◌≡◌, ◌≢◌, ℕ, zero, suc, ◌+◌, ◌-◌, ◌^◌, ◌<◌, ◌≤◌, Bool, true, false, cond, eqb, List, [], ◌∷◌, ◌++◌, length, Option, Some, None, Result, Ok, Err, refl, sym, ap, subst, ◌∙◌, append_assoc, arith, All, eq-eqb}
+use Rattle.std.proofs.Common.{◌≡◌, ◌≢◌, ℕ, suc, ◌+◌, ◌-◌, ◌^◌, ◌<◌, Bool, cond, eqb, List, [], ◌∷◌, ◌++◌, length, Option, Some, None, Result, Ok, Err, refl, sym, ap, subst, ◌∙◌, append_assoc, arith, All, eq-eqb}
 use Rattle.std.specs.List.{flat_map}
 use Rattle.std.proofs.lemmas.Bool.{ne_eqb}
 use Rattle.std.proofs.lemmas.List.{append-nil, length-append}
@@ -9,15 +9,15 @@ use Rattle.trace_file.specs.declared.stop.Stop.{Stop}
 use Rattle.trace_file.specs.declared.stop.Stop.TheVariants.{Short, Fault}
 use Rattle.trace_file.specs.declared.trace.Trace.{Trace}
 use Rattle.trace_file.specs.declared.trace_fault.TraceFault.{TraceFault}
-use Rattle.trace_file.specs.declared.trace_fault.TraceFault.TheVariants.{OutOfMemory, TrailingBytes}
+use Rattle.trace_file.specs.declared.trace_fault.TraceFault.TheVariants.{TrailingBytes}
 use Rattle.trace_file.specs.Calls.{IsCall}
-use Rattle.trace_file.specs.Reading.{Place, place, Read, ◌>>=◌, call_at, position_at, header_at, many_at, end_at}
-use Rattle.trace_file.specs.Stream.{pair_of, in_front, TakesItems, FailsAs, counted_text, counted_at, IsCounted, standing, GoesOn, Settles, Opened, IsTaken, text_so_far}
+use Rattle.trace_file.specs.Reading.{Place, Read, ◌>>=◌, call_at, position_at, header_at, many_at, end_at}
+use Rattle.trace_file.specs.Stream.{pair_of, in_front, TakesItems, FailsAs, counted_text, counted_at, IsCounted, standing, GoesOn, Opened, IsTaken, text_so_far}
 use Rattle.trace_file.specs.declared.taken.Taken.{Taken}
 use Rattle.trace_file.proofs.ItemFormats.{header_format}
 use Rattle.trace_file.proofs.Takings.{bytes_from_All}
 use Rattle.trace_file.proofs.TraceLaws.{behind_header}
-use Rattle.trace_file.specs.Text.{most_calls, call_text, position_text, header_text}
+use Rattle.trace_file.specs.Text.{call_text, position_text, header_text}
 
 abbrev last : List Call → List ℕ × Place → Result Trace Stop
 last h x = end_at (pair_of h x.0) x.1

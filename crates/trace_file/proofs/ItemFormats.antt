@@ -1,6 +1,6 @@
 -- The items of a trace are formats.
-use Rattle.std.proofs.Common.{◌≡◌, ℕ, zero, suc, ◌+◌, ◌^◌, ◌<◌, ◌≤◌, Bool, true, false, not, cond, eqb, ltb, List, [], ◌∷◌, ◌++◌, length, Option, Some, None, Result, Ok, Err, refl, sym, ap, subst, ◌∙◌, arith}
-use Rattle.std.specs.List.{flat_map, zip, prefix_len, AllByRecursion}
+use Rattle.std.proofs.Common.{◌≡◌, ℕ, suc, ◌+◌, ◌^◌, ◌<◌, ◌≤◌, Bool, true, false, not, cond, eqb, ltb, List, [], ◌∷◌, ◌++◌, length, Option, Some, None, Ok, Err, refl, sym, ap, subst, ◌∙◌, arith}
+use Rattle.std.specs.List.{zip, prefix_len}
 use Rattle.std.specs.Int.{w16, w32, w64, to_be_bytes}
 use Rattle.std.proofs.lemmas.Bool.{eqb-true, eqb-false, ltb-false, le-ltb, ne_eqb}
 use Rattle.std.proofs.lemmas.List.{append-nil}
@@ -11,14 +11,14 @@ use Rattle.trace_file.specs.declared.act.Act.TheVariants as acts
 use Rattle.trace_file.specs.declared.call.Call.{Call}
 use Rattle.trace_file.specs.declared.kind.Kind.{Kind}
 use Rattle.trace_file.specs.declared.kind.Kind.TheVariants.{Put, Remove, Hit, Miss}
-use Rattle.trace_file.specs.declared.stop.Stop.TheVariants.{Short, Fault}
+use Rattle.trace_file.specs.declared.stop.Stop.TheVariants.{Fault}
 use Rattle.trace_file.specs.declared.trace_fault.TraceFault.{TraceFault}
 use Rattle.trace_file.specs.declared.trace_fault.TraceFault.TheVariants.{BadMagic, TooMany, BadKind, BadKey, BadValue}
 use Rattle.trace_file.specs.Calls.{IsCall, value_of}
 use Rattle.trace_file.specs.Outcome.{IsOfText}
 use Rattle.trace_file.specs.Reading.{Place, place, Read, ◌>>=◌, bytes_at, number_at, byte_at, or_fault, kind_of, kind_at, key_at, value_at, act_at, call_at, position_at, first_difference, unless_differs, magic_at, count_at, header_at}
 use Rattle.trace_file.specs.Text.{magic, most_calls, kind_byte, key_text, value_text, act_text, call_text, header_text}
-use Rattle.trace_file.proofs.Formats.{IsBytes, ok_is, same_fault, longer, Takes, IsFormat, same_lawful, same_text, pure_format, then_format, guard_format, bytes_format, wide16, wide32, wide64, number_format, byte_format}
+use Rattle.trace_file.proofs.Formats.{IsBytes, same_fault, longer, Takes, IsFormat, same_lawful, same_text, pure_format, then_format, guard_format, bytes_format, wide16, wide32, wide64, number_format, byte_format}
 
 -- ---- a key, a value
 

@@ -2,6 +2,7 @@ pub mod Countings
 pub mod DropLaws
 pub mod Formats
 pub mod ItemFormats
+pub mod Meetings
 pub mod ReaderLaws
 pub mod Readings
 pub mod SendLaws

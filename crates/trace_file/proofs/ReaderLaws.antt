@@ -1,7 +1,7 @@
 -- What a reader of pieces keeps.
-use Rattle.std.proofs.Common.{◌≡◌, ◌≢◌, ℕ, zero, suc, ◌+◌, ◌-◌, ◌*◌, ◌^◌, ◌<◌, ◌≤◌, Bool, true, false, cond, List, [], ◌∷◌, ◌++◌, length, drop, Option, Some, None, Result, Ok, Err, refl, sym, ap, subst, ◌∙◌, append_assoc, arith, All}
+use Rattle.std.proofs.Common.{◌≡◌, ℕ, ◌+◌, ◌-◌, ◌*◌, ◌^◌, ◌<◌, ◌≤◌, Bool, true, false, cond, List, [], ◌∷◌, ◌++◌, length, drop, Option, Some, None, Result, Ok, Err, refl, sym, ap, subst, ◌∙◌, append_assoc, arith, All}
 use Rattle.std.specs.List.{flat_map, AllByRecursion}
-use Rattle.std.specs.Int.{w16, w32, w64, to_be_bytes}
+use Rattle.std.specs.Int.{w16, to_be_bytes}
 use Rattle.std.proofs.lemmas.List.{append-nil, length-append, drop_at, drop-drop}
 use Rattle.std.proofs.lemmas.List.Elements.{All-nil, All-append, recursion_from_All}
 use Rattle.trace_file.specs.declared.act.Act.{Act}
@@ -12,12 +12,12 @@ use Rattle.trace_file.specs.declared.stop.Stop.TheVariants.{Short, Fault}
 use Rattle.trace_file.specs.declared.taken.Taken.{Taken}
 use Rattle.trace_file.specs.declared.trace.Trace.{Trace}
 use Rattle.trace_file.specs.declared.trace_fault.TraceFault.{TraceFault}
-use Rattle.trace_file.specs.declared.trace_fault.TraceFault.TheVariants.{OutOfMemory, Truncated}
+use Rattle.trace_file.specs.declared.trace_fault.TraceFault.TheVariants.{Truncated}
 use Rattle.record_pages.specs.Bounded.{IsValue}
 use Rattle.trace_file.specs.Calls.{IsCall, value_of}
-use Rattle.trace_file.specs.Reading.{Place, place, ◌>>=◌, bytes_at, magic_at, header_at, trace_at, at_end, outcome_of, first_fault_of, met}
-use Rattle.trace_file.specs.Stream.{pair_of, FailsAs, counted_text, IsCounted, text_so_far, read_behind, IsTaken, whole, standing, Advances, IsReading, IsReader, StartsOn, Keeps, FaultIn, stream_of, fed_of, finished}
-use Rattle.trace_file.specs.Text.{IsTrace, most_calls, act_text, call_text, position_text, header_text}
+use Rattle.trace_file.specs.Reading.{Place, place, magic_at, header_at, trace_at, at_end, outcome_of, first_fault_of, met}
+use Rattle.trace_file.specs.Stream.{pair_of, FailsAs, counted_text, text_so_far, read_behind, IsTaken, whole, standing, Advances, IsReading, IsReader, StartsOn, Keeps, FaultIn, stream_of, fed_of, finished}
+use Rattle.trace_file.specs.Text.{IsTrace, act_text, call_text, position_text, header_text}
 use Rattle.trace_file.proofs.TraceLaws.{goes_on, stopped_at_header, trace_takes, trace_stays}
 use Rattle.trace_file.proofs.Takings.{bytes_from_All}
 use Rattle.std.specs.Prelude.{IfOk, IfErr}

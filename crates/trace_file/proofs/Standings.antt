@@ -1,5 +1,5 @@
 -- Each fault that reading meets stands where its definition says.
-use Rattle.std.proofs.Common.{◌≡◌, ◌≢◌, ℕ, zero, suc, ◌+◌, ◌^◌, ◌<◌, ◌≤◌, Bool, true, false, not, cond, eqb, ltb, List, [], ◌∷◌, ◌++◌, length, get_or, take, drop, Option, Some, None, Result, Ok, Err, refl, sym, ap, subst, ◌∙◌, ◌⊎◌, append_assoc, arith, inl, inr, All}
+use Rattle.std.proofs.Common.{◌≡◌, ◌≢◌, ℕ, zero, suc, ◌+◌, ◌^◌, ◌<◌, ◌≤◌, Bool, true, false, not, cond, eqb, ltb, List, [], ◌∷◌, ◌++◌, length, get_or, take, drop, Option, Some, None, Result, Ok, Err, refl, sym, ap, subst, ◌∙◌, ◌⊎◌, arith, inl, inr, All}
 use Rattle.std.specs.List.{flat_map, zip, prefix_len, AllByRecursion}
 use Rattle.std.specs.Int.{Width, w16, w32, w64, byte_len, from_be_bytes, to_be_bytes}
 use Rattle.std.proofs.lemmas.Bool.{cases_Bool, eqb-true, eqb-false, ltb-true}
@@ -12,16 +12,16 @@ use Rattle.trace_file.specs.declared.call.Call.{Call}
 use Rattle.trace_file.specs.declared.kind.Kind.{Kind}
 use Rattle.trace_file.specs.declared.kind.Kind.TheVariants.{Put, Remove, Hit, Miss}
 use Rattle.trace_file.specs.declared.stop.Stop.{Stop}
-use Rattle.trace_file.specs.declared.stop.Stop.TheVariants.{Short, Fault}
+use Rattle.trace_file.specs.declared.stop.Stop.TheVariants.{Fault}
 use Rattle.trace_file.specs.declared.trace.Trace.{Trace}
 use Rattle.trace_file.specs.declared.trace_fault.TraceFault.{TraceFault}
 use Rattle.trace_file.specs.declared.trace_fault.TraceFault.TheVariants.{BadMagic, TooMany, BadKind, BadKey, BadValue, Truncated, TrailingBytes, ReadFault, OutOfMemory}
 use Rattle.trace_file.specs.Calls.{IsCall}
-use Rattle.trace_file.specs.Reading.{Place, place, Read, ◌>>=◌, bytes_at, number_at, first_at, byte_at, or_fault, kind_of, kind_at, key_at, value_at, act_at, call_at, position_at, first_difference, unless_differs, magic_at, count_at, header_at, many_at, end_at, trace_at, first_fault_of}
-use Rattle.trace_file.specs.Standing.{DiffersAt, CountsTooMany, AreCalls, IsKind, IsHead, HasBadKind, HasBadKey, HasBadValue, HasMore, StandsIn}
+use Rattle.trace_file.specs.Reading.{Place, place, ◌>>=◌, bytes_at, number_at, first_at, byte_at, or_fault, kind_of, kind_at, key_at, value_at, act_at, call_at, position_at, first_difference, unless_differs, magic_at, count_at, header_at, many_at, end_at, trace_at, first_fault_of}
+use Rattle.trace_file.specs.Standing.{DiffersAt, CountsTooMany, AreCalls, IsKind, IsHead, HasMore, StandsIn}
 use Rattle.trace_file.specs.Stream.{pair_of}
 use Rattle.trace_file.specs.Text.{magic, most_calls, call_text, position_text, key_text, header_text, trace_text, IsPair}
-use Rattle.trace_file.proofs.Formats.{IsBytes, ok_is, bind_err, Stopped, at_first, at_second, same_fault, not_short, Takes, Takes-then, IsFormat, bytes_format, wide16, wide32, wide64, number_format, byte_format, many_format}
+use Rattle.trace_file.proofs.Formats.{IsBytes, bind_err, at_first, at_second, same_fault, not_short, Takes, Takes-then, bytes_format, wide16, wide32, wide64, number_format, byte_format, many_format}
 use Rattle.trace_file.proofs.ItemFormats.{key_format, kind_text, kind_format, kind_number, kind_number-known, kind_number-put, kind_number-hit, read_act, read_key, read_end, read_start, read_caller, made, call_format, position_format, magic_format, header_format}
 use Rattle.trace_file.proofs.Readings.{stopped_by}
 use Rattle.trace_file.proofs.Takings.{bytes_from_All}
@@ -64,7 +64,7 @@ guard_err false d f r e = inr e
 
 -- ---- the magic and the count
 
-not_not : (b : Bool) → not (not b) ≡ b
+pub not_not : (b : Bool) → not (not b) ≡ b
 not_not true = refl
 not_not false = refl
 

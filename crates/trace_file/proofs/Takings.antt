@@ -1,16 +1,13 @@
 -- Taking items one after the other, as the loops do.
-use Rattle.std.proofs.Common.{◌≡◌, ◌≢◌, ℕ, zero, suc, ◌+◌, ◌-◌, ◌^◌, ◌<◌, ◌≤◌, List, [], ◌∷◌, ◌++◌, length, get_or, Option, Some, None, Result, Ok, Err, refl, sym, ap, subst, ◌∙◌, append_assoc, arith, All, inl, inr}
-use Rattle.std.specs.List.{flat_map, AllByRecursion}
-use Rattle.std.proofs.lemmas.List.{append-nil, length-append, length_push, get_or_past, flat_map_more}
-use Rattle.std.proofs.lemmas.List.Elements.{All-push, All-get_or}
+use Rattle.std.proofs.Common.{◌≡◌, ℕ, suc, ◌+◌, ◌-◌, ◌<◌, ◌≤◌, List, [], ◌∷◌, ◌++◌, length, Ok, Err, sym, ap, subst, ◌∙◌, append_assoc, arith, All, inl, inr}
+use Rattle.std.specs.List.{flat_map}
+use Rattle.std.proofs.lemmas.List.{length-append, length_push, get_or_past, flat_map_more}
 use Rattle.std.proofs.lemmas.Bool.{cases_lt}
-use Rattle.trace_file.specs.declared.stop.Stop.{Stop}
 use Rattle.trace_file.specs.declared.stop.Stop.TheVariants.{Short, Fault}
 use Rattle.trace_file.specs.declared.trace_fault.TraceFault.{TraceFault}
-use Rattle.trace_file.specs.declared.trace_fault.TraceFault.TheVariants.{OutOfMemory}
-use Rattle.trace_file.specs.Reading.{Place, place, Read, ◌>>=◌, many_at}
+use Rattle.trace_file.specs.Reading.{Place, Read, ◌>>=◌, many_at}
 use Rattle.trace_file.specs.Stream.{in_front, TakesItems, FailsAs}
-use Rattle.trace_file.proofs.Formats.{IsBytes, Takes, IsFormat, first_in_front, put_in_front}
+use Rattle.trace_file.proofs.Formats.{IsBytes, IsFormat, first_in_front, put_in_front}
 
 pub bytes_from_All : (bytes : List ℕ) → All (λ byte. byte < 256) bytes → IsBytes bytes
 bytes_from_All bytes all i =

@@ -1,5 +1,5 @@
 -- Traces tell their pairs apart, and faults say what is wrong.
-use Rattle.std.proofs.Common.{◌≡◌, ◌≢◌, ℕ, ◌+◌, ◌<◌, ◌≤◌, ◌^◌, List, [], ◌∷◌, ◌++◌, length, Option, Some, None, Result, Ok, Err, refl, sym, ap, subst, ◌∙◌, arith, All}
+use Rattle.std.proofs.Common.{◌≡◌, ◌≢◌, ℕ, ◌<◌, List, [], ◌∷◌, ◌++◌, length, Some, Result, Ok, Err, refl, sym, ap, ◌∙◌, arith, All}
 use Rattle.std.specs.Prelude.{◌↔◌}
 use Rattle.trace_file.specs.declared.call.Call.{Call}
 use Rattle.trace_file.specs.declared.stop.Stop.{Stop}
@@ -7,11 +7,11 @@ use Rattle.trace_file.specs.declared.stop.Stop.TheVariants.{Short, Fault}
 use Rattle.trace_file.specs.declared.trace.Trace.{Trace}
 use Rattle.trace_file.specs.declared.trace_fault.TraceFault.{TraceFault}
 use Rattle.trace_file.specs.declared.trace_fault.TraceFault.TheVariants.{Truncated, TrailingBytes}
-use Rattle.trace_file.specs.Reading.{Place, place, trace_at, at_end, outcome_of, met, first_fault_of}
+use Rattle.trace_file.specs.Reading.{place, trace_at, at_end, outcome_of, met, first_fault_of}
 use Rattle.trace_file.specs.Stream.{pair_of, counted_text, IsCounted}
 use Rattle.trace_file.specs.Text.{trace_text, IsPair, IsTrace}
 use Rattle.trace_file.proofs.Countings.{bytes_behind}
-use Rattle.trace_file.proofs.Readings.{fault_is, stopped_by}
+use Rattle.trace_file.proofs.Readings.{stopped_by}
 use Rattle.trace_file.proofs.ReaderLaws.{ended_ok}
 use Rattle.trace_file.proofs.Takings.{bytes_from_All}
 use Rattle.trace_file.proofs.TraceLaws.{goes_on, trace_takes, trace_again, trace_stays}
@@ -38,13 +38,13 @@ one_pair bytes h g c d a b =
     (ap (λ (t : Trace). t.history) pairs, ap (λ (t : Trace). t.certificate) pairs)
 
 -- bytes behind a trace are a fault
-behind_trace : (h : List Call) (c more : List ℕ) → IsPair h c → 0 < length more → trace_at (place 0 (trace_text h c ++ more)) ≡ Err (Fault (TrailingBytes (length (trace_text h c))))
+pub behind_trace : (h : List Call) (c more : List ℕ) → IsPair h c → 0 < length more → trace_at (place 0 (trace_text h c ++ more)) ≡ Err (Fault (TrailingBytes (length (trace_text h c))))
 unfolding trace_text counted_text
 behind_trace h c more is some =
     let counted : IsCounted (length h) h c = record { few = is.few; within = omega arith; behind = omega (arith, is.as_many); in_turn = λ x. refl; calls = is.calls; positions = is.positions } in
     goes_on (length h) h c more counted ∙ bytes_behind (length h) h c (place (length (trace_text h c)) more) refl is.as_many some
 
-some_bytes : (more : List ℕ) → more ≢ [] → 0 < length more
+pub some_bytes : (more : List ℕ) → more ≢ [] → 0 < length more
 some_bytes [] some = absurd (some refl)
 some_bytes (b ∷ bs) some = omega arith
 

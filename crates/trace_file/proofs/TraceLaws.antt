@@ -1,22 +1,21 @@
 -- What is read is the trace of one pair, the trace of a pair is read as that pair, and a fault stays.
-use Rattle.std.proofs.Common.{◌≡◌, ℕ, zero, suc, ◌+◌, ◌-◌, ◌^◌, ◌<◌, ◌≤◌, Bool, true, false, cond, eqb, List, [], ◌∷◌, ◌++◌, length, Option, Some, None, Result, Ok, Err, refl, sym, ap, subst, ◌∙◌, append_assoc, arith, All}
+use Rattle.std.proofs.Common.{◌≡◌, ℕ, ◌+◌, ◌-◌, ◌^◌, ◌<◌, ◌≤◌, Bool, true, false, cond, eqb, List, [], ◌∷◌, ◌++◌, length, Result, Ok, Err, refl, sym, ap, subst, ◌∙◌, append_assoc, arith}
 use Rattle.std.specs.List.{flat_map, AllByRecursion}
-use Rattle.std.specs.Int.{w32, to_be_bytes}
 use Rattle.std.proofs.lemmas.Bool.{eqb-true, eqb-false, ne_eqb}
-use Rattle.std.proofs.lemmas.List.{append-nil, nil_from_length, append_cancel_left, length-append}
+use Rattle.std.proofs.lemmas.List.{append-nil, nil_from_length, length-append}
 use Rattle.std.proofs.lemmas.List.Elements.{All-from_recursion, recursion_from_All}
 use Rattle.trace_file.specs.declared.call.Call.{Call}
 use Rattle.trace_file.specs.declared.stop.Stop.{Stop}
-use Rattle.trace_file.specs.declared.stop.Stop.TheVariants.{Short, Fault}
+use Rattle.trace_file.specs.declared.stop.Stop.TheVariants.{Fault}
 use Rattle.trace_file.specs.declared.trace.Trace.{Trace}
 use Rattle.trace_file.specs.declared.trace_fault.TraceFault.{TraceFault}
-use Rattle.trace_file.specs.declared.trace_fault.TraceFault.TheVariants.{Truncated, TrailingBytes}
+use Rattle.trace_file.specs.declared.trace_fault.TraceFault.TheVariants.{TrailingBytes}
 use Rattle.trace_file.specs.Calls.{IsCall}
 use Rattle.trace_file.specs.Outcome.{IsOfText}
-use Rattle.trace_file.specs.Reading.{Place, place, Read, ◌>>=◌, call_at, position_at, header_at, many_at, end_at, trace_at, at_end, outcome_of, met, first_fault_of}
+use Rattle.trace_file.specs.Reading.{Place, place, Read, ◌>>=◌, call_at, position_at, header_at, many_at, end_at, trace_at}
 use Rattle.trace_file.specs.Stream.{pair_of, in_front, counted_text, counted_at, IsCounted}
 use Rattle.trace_file.specs.Text.{most_calls, call_text, position_text, header_text, trace_text, IsPair, IsTrace}
-use Rattle.trace_file.proofs.Formats.{IsBytes, same_fault, bind_ok, bind_err, Stopped, at_first, at_second, ok_is, longer, Takes, Takes-then, IsFormat, read-longer, many_before, many_format}
+use Rattle.trace_file.proofs.Formats.{IsBytes, same_fault, bind_ok, bind_err, at_first, at_second, ok_is, longer, Takes-then, read-longer, many_before, many_format}
 use Rattle.trace_file.proofs.ItemFormats.{call_format, position_format, header_format}
 
 abbrev pub after_calls : ℕ → List Call × Place → Result Trace Stop

@@ -2,7 +2,7 @@
 use Rattle.std.specs.Prelude.{◌≡◌, Result, Ok, Err}
 use Rattle.trace_file.specs.declared.cursor.Cursor.{Cursor}
 use Rattle.trace_file.specs.declared.stop.Stop.{Stop}
-use Rattle.trace_file.specs.Reading.{Place, place, Read}
+use Rattle.trace_file.specs.Reading.{Place, place}
 
 -- the place where a cursor stands
 abbrev pub shown : Cursor → Place

@@ -2,7 +2,7 @@
 use Rattle.std.specs.Prelude.{◌≡◌, ◌≢◌, ℕ, ◌≤◌, List, ◌++◌, length, take, Option, Some, None, Err, IfSome}
 use Rattle.std.specs.Io.KnownBytes.{Consumes}
 use Rattle.trace_file.specs.declared.trace_fault.TraceFault.{TraceFault}
-use Rattle.trace_file.specs.declared.trace_fault.TraceFault.TheVariants.{BadMagic, TooMany, BadKind, BadKey, BadValue, Truncated, TrailingBytes, ReadFault, OutOfMemory}
+use Rattle.trace_file.specs.declared.trace_fault.TraceFault.TheVariants.{Truncated, ReadFault, OutOfMemory}
 use Rattle.trace_file.specs.Reading.{outcome_of, first_fault_of}
 
 -- a fault that is met among the bytes: neither their end, nor the reader's, nor want of memory

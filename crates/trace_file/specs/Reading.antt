@@ -1,5 +1,5 @@
 -- Reading a trace from its first byte to its last, field by field, with the first fault that is met.
-use Rattle.std.specs.Prelude.{◌≡◌, ℕ, zero, suc, ◌+◌, List, [], ◌∷◌, length, take, drop, Option, Some, None, Result, Ok, Err, Bool, not, nat_lt, ◌==◌, if◌then◌else◌, position}
+use Rattle.std.specs.Prelude.{ℕ, zero, suc, ◌+◌, List, [], ◌∷◌, length, take, drop, Option, Some, None, Result, Ok, Err, not, nat_lt, ◌==◌, if◌then◌else◌, position}
 use Rattle.std.specs.List.{zip}
 use Rattle.std.specs.Int.{Width, w16, w32, w64, byte_len, from_be_bytes}
 use Rattle.trace_file.specs.declared.act.Act.{Act}

@@ -27,9 +27,10 @@ pub fn trace_laws()
 
 /// What the faults of bytes say of them.
 pub fn fault_laws()
-    // A fault stands where its definition says, whatever reader meets it.
+    // A fault is met exactly where it stands among the bytes as its definition says, whatever reader meets it; so no
+    // two faults stand among the same bytes.
     ensures stands { (bytes : List ℕ) (fault : TraceFault) → All (λ byte. byte < 256) bytes →
-        first_fault_of bytes ≡ Some fault → StandsIn bytes fault }
+        ((first_fault_of bytes ≡ Some fault) ↔ StandsIn bytes fault) }
 
     // A fault that was met stays, whatever follows: no trace begins so.
     ensures stays { (bytes more : List ℕ) (fault : TraceFault) → All (λ byte. byte < 256) bytes →

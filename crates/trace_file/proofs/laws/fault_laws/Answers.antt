@@ -1,9 +1,10 @@
+use Rattle.trace_file.proofs.Meetings.{standing_is_met}
 use Rattle.trace_file.proofs.Standings.{fault_stands}
 use Rattle.trace_file.proofs.ToldApart as told
 use Rattle.trace_file.proofs.laws.fault_laws.Goals as goal
 
 pub returns-clause-stands : goal.returns-clause-stands
-returns-clause-stands c = fault_stands
+returns-clause-stands c = λ bytes fault are. (fault_stands bytes fault are, standing_is_met bytes fault)
 
 pub returns-clause-stays : goal.returns-clause-stays
 returns-clause-stays c = told.stays

@@ -1,9 +1,8 @@
-use Rattle.std.proofs.Common.{◌≡◌, ℕ, length, refl, ◌∙◌, sym, ap, subst, arith}
+use Rattle.std.proofs.Common.{◌≡◌, length, ◌∙◌, sym, arith}
 use Rattle.std.proofs.lemmas.Bool.{eqb-true, eqb-false}
 use Rattle.std.proofs.lemmas.List.{nil_from_length}
 use Rattle.std.proofs.lemmas.Result.{err_from_is_err_and}
 use Rattle.trace_file.specs.Given.{shown}
-use Rattle.trace_file.specs.Stream.{GoesOn, FailsAs}
 use Rattle.trace_file.proofs.Countings.{calls_taken, positions_taken, on_and_on, short_of_calls, short_of_positions, whole_at_end, bytes_behind, fault_in_calls, fault_in_positions}
 use Rattle.trace_file.proofs.taking.take_counted.Goals as goal
 

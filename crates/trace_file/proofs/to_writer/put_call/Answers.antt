@@ -1,4 +1,4 @@
-use Rattle.std.proofs.Common.{◌≡◌, ◌++◌, ◌∷◌, [], ℕ, List, length, ap, ◌∙◌, sym}
+use Rattle.std.proofs.Common.{◌≡◌, ◌++◌, ◌∷◌, [], ℕ, length, ap, ◌∙◌}
 use Rattle.std.specs.Int.{w16, w64, to_be_bytes}
 use Rattle.trace_file.specs.Calls.{value_of}
 use Rattle.trace_file.specs.Lent.{act_shown}

@@ -1,4 +1,4 @@
-use Rattle.std.proofs.Common.{◌≡◌, List, ℕ, length, subst, sym, rules}
+use Rattle.std.proofs.Common.{length, subst, rules}
 use Rattle.std.specs.Io.KnownBytes.{Appends}
 use Rattle.trace_file.specs.Sending.{Begun}
 use Rattle.trace_file.specs.Text.{trace_text}

@@ -1,4 +1,4 @@
-use Rattle.std.proofs.Common.{arith, rules}
+use Rattle.std.proofs.Common.{arith}
 use Rattle.trace_file.specs.Lent.{call_shown}
 use Rattle.trace_file.specs.Text.{call_text}
 use Rattle.trace_file.proofs.SendLaws.{begun_items, sent_item}

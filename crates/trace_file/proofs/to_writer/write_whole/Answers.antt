@@ -1,4 +1,3 @@
-use Rattle.std.proofs.Common.{subst}
 use Rattle.std.proofs.lemmas.List.{take_rest}
 use Rattle.trace_file.proofs.SendLaws.{sent_more, sent_front}
 use Rattle.trace_file.proofs.to_writer.write_whole.Goals as goal

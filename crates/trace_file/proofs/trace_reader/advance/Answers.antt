@@ -1,4 +1,4 @@
-use Rattle.std.proofs.Common.{◌≡◌, ◌∙◌, List, ℕ, ap, subst}
+use Rattle.std.proofs.Common.{◌≡◌, ◌∙◌, ap, subst}
 use Rattle.trace_file.specs.Given.{shown}
 use Rattle.trace_file.specs.Reading.{Place, place}
 use Rattle.trace_file.specs.Stream.{Advances, FailsAs, read_behind}

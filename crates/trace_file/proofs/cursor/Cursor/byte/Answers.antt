@@ -1,4 +1,4 @@
-use Rattle.std.proofs.Common.{◌<◌, arith, rules}
+use Rattle.std.proofs.Common.{◌<◌, rules}
 use Rattle.std.proofs.lemmas.List.Elements.{All-take, All-drop}
 use Rattle.trace_file.proofs.cursor.Cursor.byte.Goals as goal
 

@@ -1,4 +1,4 @@
-use Rattle.std.proofs.Common.{◌≡◌, ◌+◌, ◌-◌, ◌++◌, ◌∷◌, [], ℕ, List, take, drop, ap, ◌∙◌, sym, refl}
+use Rattle.std.proofs.Common.{◌≡◌, ◌+◌, ap, ◌∙◌, sym, refl}
 use Rattle.trace_file.specs.Stored.{part, act_of}
 use Rattle.trace_file.specs.Lent.{act_shown}
 use Rattle.trace_file.proofs.StoreLaws.{read_call, slice_is}

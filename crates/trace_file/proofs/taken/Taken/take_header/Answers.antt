@@ -1,6 +1,6 @@
-use Rattle.std.proofs.Common.{◌≡◌, Option, ℕ, None, refl, ◌∙◌, sym, ap, subst}
+use Rattle.std.proofs.Common.{Option, ℕ, refl, ◌∙◌, ap}
 use Rattle.trace_file.specs.Given.{shown}
-use Rattle.trace_file.specs.Stream.{FailsAs, read_behind}
+use Rattle.trace_file.specs.Stream.{read_behind}
 use Rattle.trace_file.proofs.Countings.{opened_now}
 use Rattle.trace_file.proofs.TraceLaws.{stopped_at_header}
 use Rattle.trace_file.proofs.taken.Taken.take_header.Goals as goal

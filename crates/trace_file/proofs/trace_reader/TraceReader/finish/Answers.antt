@@ -1,4 +1,4 @@
-use Rattle.std.proofs.Common.{◌≡◌, ◌∙◌, Option, None, subst, rules}
+use Rattle.std.proofs.Common.{◌≡◌, ◌∙◌, Option, subst, rules}
 use Rattle.trace_file.specs.declared.trace_fault.TraceFault.{TraceFault}
 use Rattle.trace_file.specs.Stream.{stream_of, fed_of}
 use Rattle.trace_file.proofs.ReaderLaws.{finishes, finishes_trace, finishes_cut}

@@ -1,4 +1,4 @@
-use Rattle.std.proofs.Common.{◌≡◌, None, List, [], ℕ, subst, sym}
+use Rattle.std.proofs.Common.{None, List, [], ℕ, subst, sym}
 use Rattle.trace_file.specs.declared.taken.Taken.{Taken}
 use Rattle.trace_file.specs.Stream.{IsReader}
 use Rattle.trace_file.proofs.ReaderLaws.{reader_of_nothing}
