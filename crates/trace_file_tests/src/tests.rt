@@ -6,8 +6,8 @@ use std::io::{Read, Write};
 use std::process::Abort;
 use std::test::Fail;
 use trace_file::{
-    Act, ActRef, Call, Certificate, History, Trace, TraceFault, TraceReader, WriteTraceFault,
-    read_trace, write_trace,
+    Act, ActRef, Call, CallRef, Certificate, History, Trace, TraceFault, TraceReader,
+    WriteTraceFault, read_trace, write_trace,
 };
 
 mod effects;
@@ -16,6 +16,16 @@ mod effects;
 const ONE_PUT: [u8; 40] = [
     0x4b, 0x47, 0x54, 0x52, 0x41, 0x43, 0x45, 0x31, 0, 0, 0, 1, 1, 0, 0, 0, 0, 0, 0, 0, 0, 0, 1, 0,
     0, 0, 0, 0, 0, 0, 3, 1, 0x61, 0, 1, 0x31, 0, 0, 0, 0,
+];
+
+/// A call of each kind: caller 0 puts `1` at `a`, caller 258 hits it, caller 0 removes `bc`, and caller 258 misses it.
+/// The certificate lists the removal first.
+const EACH_KIND: [u8; 120] = [
+    0x4b, 0x47, 0x54, 0x52, 0x41, 0x43, 0x45, 0x31, 0, 0, 0, 4, 1, 0, 0, 0, 0, 0, 0, 0, 0, 0, 1, 0,
+    0, 0, 0, 0, 0, 0, 3, 1, 0x61, 0, 1, 0x31, 3, 1, 2, 0, 0, 0, 0, 0, 0, 0, 2, 0, 0, 0, 0, 0, 0, 0,
+    5, 1, 0x61, 0, 1, 0x31, 2, 0, 0, 0, 0, 0, 0, 0, 0, 0, 4, 0, 0, 0, 0, 0, 0, 0, 6, 2, 0x62, 0x63,
+    4, 1, 2, 0, 0, 0, 0, 0, 0, 0, 7, 0, 0, 0, 0, 0, 0, 1, 0, 2, 0x62, 0x63, 0, 0, 0, 2, 0, 0, 0, 0,
+    0, 0, 0, 1, 0, 0, 0, 3,
 ];
 
 /// No call.
@@ -97,6 +107,39 @@ fn one_put_is_read_and_written_again(rt: HostRuntime) -> Result<(), Fail> {
     let mut reader = ONE_PUT.as_slice();
     let trace = read_trace(rt.alloc(), &mut reader)?;
     is_one_put(&rt, trace)
+}
+
+/// Whether a call has this caller, these stamps and this key.
+fn is(call: &CallRef<'_>, caller: u16, start: u64, end: u64, key: &[u8]) -> bool {
+    (call.caller, call.start, call.end) == (caller, start, end) && call.key == key
+}
+
+/// Whether these are the calls of `EACH_KIND`.
+fn are_each_kind(history: &History) -> bool {
+    if history.len() != 4 {
+        return false;
+    }
+    let (put, hit) = (history.at(0), history.at(1));
+    let (removed, missed) = (history.at(2), history.at(3));
+    is(&put, 0, 1, 3, b"a")
+        && matches!(put.act, ActRef::Put(b"1"))
+        && is(&hit, 258, 2, 5, b"a")
+        && matches!(hit.act, ActRef::Hit(b"1"))
+        && is(&removed, 0, 4, 6, b"bc")
+        && matches!(removed.act, ActRef::Remove)
+        && is(&missed, 258, 7, 256, b"bc")
+        && matches!(missed.act, ActRef::Miss)
+}
+
+#[test]
+fn each_kind_is_read_and_written_again(rt: HostRuntime) -> Result<(), Fail> {
+    let mut reader = EACH_KIND.as_slice();
+    let trace = read_trace(rt.alloc(), &mut reader)?;
+    assert!(rt; are_each_kind(&trace.history));
+    let mut written = Vec::new(rt.alloc());
+    write_trace(&trace.history, &trace.certificate, &mut written)?;
+    assert!(rt; written.as_slice() == EACH_KIND.as_slice());
+    Ok(())
 }
 
 #[test]
