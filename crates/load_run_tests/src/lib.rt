@@ -1,4 +1,4 @@
-//! Tests of the options of a run and of runs, through public calls.
+//! Tests of a load's operations, of the options of a run and of runs, through public calls.
 #![tactic(auto)]
 
 #[cfg(test)]

@@ -1,4 +1,5 @@
 mod ends;
+mod operations;
 mod options;
 mod runs;
 mod screen;

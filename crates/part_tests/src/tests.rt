@@ -3,6 +3,7 @@ mod devices;
 mod entering;
 mod filters;
 mod hits;
+mod index;
 mod memory;
 mod places;
 mod plans;

@@ -1,5 +1,5 @@
 use Rattle.std.proofs.Common.{◌≡◌, ◌<◌, ◌+◌, ◌*◌, All}
-use Rattle.klog_index_tests.proofs.tests.whole.fill.Given as goal
+use Rattle.part_tests.proofs.tests.index.whole.fill.Given as goal
 
 -- each entry so far lies at the place of a lesser number
 abbrev pub invariant-loop-number : goal.invariant-loop-number

@@ -1,7 +1,7 @@
 // One list of calls on the packed index and on the plain one.
 ghost use Rattle.std.specs.Prelude.{◌≡◌, ◌<◌};
 
-use crate::tests::plain_index::PlainIndex;
+use crate::tests::index::plain_index::PlainIndex;
 use klog_index::{Entry, LogIndex, Place};
 use record_pages::Prediction;
 use std::alloc::Global;
