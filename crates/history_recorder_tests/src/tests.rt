@@ -187,21 +187,53 @@ fn a_lane_has_its_number_and_its_keys(rt: HostRuntime) -> Result<(), Fail> {
     Ok(())
 }
 
+/// An opening of a lane over so many pages, and why it is refused.
+#[derive(Clone, Copy)]
+struct Opening {
+    config: Config,
+    pages: u32,
+    fault: Option<OpenFault>,
+}
+
+const OPENS: Opening = Opening {
+    config: ONE_SET,
+    pages: 3,
+    fault: None,
+};
+
+// The refusals, each where all behind it apply too.
+const NO_SET: Opening = Opening {
+    config: Config { sets: 0, ..ONE_SET },
+    pages: 2,
+    fault: Some(OpenFault::ConfigFault { field: Field::Sets }),
+};
+
+const NARROW: Opening = Opening {
+    pages: 2,
+    fault: Some(OpenFault::WrongPage),
+    ..OPENS
+};
+
+const SMALL: Opening = Opening {
+    pages: 2,
+    fault: Some(OpenFault::DeviceTooSmall),
+    ..OPENS
+};
+
+// Why a lane of pages of this size is not opened so.
+fn fault<const PAGE: usize>(alloc: Global, row: &Opening) -> Result<Option<OpenFault>, Fail>
+    requires { 0 < row.now.config.lanes }
+{
+    let device = MemoryDevice::<PAGE>::new(alloc, row.pages)?;
+    Ok(RecordedLane::open(alloc, &row.config, 0, device).err())
+}
+
 #[test]
-fn a_lane_is_not_opened(rt: HostRuntime) -> Result<(), Fail> {
-    let small = MemoryDevice::<256>::new(rt.alloc(), 2)?;
-    let few = RecordedLane::open(rt.alloc(), &ONE_SET, 0, small);
-    assert!(rt; matches!(&few, Err(OpenFault::DeviceTooSmall)));
-    let none = Config { sets: 0, ..ONE_SET };
-    let field = Field::Sets;
-    let faulty = RecordedLane::open(rt.alloc(), &none, 0, device(rt.alloc())?);
-    assert!(rt; matches!(&faulty, Err(OpenFault::ConfigFault { field: f }) if *f == field));
-    let narrow = RecordedLane::open(
-        rt.alloc(),
-        &ONE_SET,
-        0,
-        MemoryDevice::<128>::new(rt.alloc(), 3)?,
-    );
-    assert!(rt; matches!(&narrow, Err(OpenFault::WrongPage)));
+fn a_lane_is_opened_over_enough_pages(rt: HostRuntime) -> Result<(), Fail> {
+    let alloc = rt.alloc();
+    assert_eq!(rt; fault::<256>(alloc, &OPENS)?, OPENS.fault);
+    assert_eq!(rt; fault::<128>(alloc, &NO_SET)?, NO_SET.fault);
+    assert_eq!(rt; fault::<128>(alloc, &NARROW)?, NARROW.fault);
+    assert_eq!(rt; fault::<256>(alloc, &SMALL)?, SMALL.fault);
     Ok(())
 }

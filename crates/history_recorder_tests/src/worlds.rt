@@ -49,11 +49,21 @@ fn config(row: &Row) -> Config {
     }
 }
 
-fn world(alloc: Global, row: &Row) -> Result<World<MemoryDevice<256>, 256>, Fail> {
+// So many devices of so many pages.
+fn devices<const PAGE: usize>(
+    alloc: Global,
+    count: u32,
+    pages: u32,
+) -> Result<Vec<MemoryDevice<PAGE>>, Fail> {
     let mut devices = Vec::new(alloc);
-    for _ in 0..row.lanes {
-        devices.push(MemoryDevice::new(alloc, 3)?)?;
+    for _ in 0..count {
+        devices.push(MemoryDevice::new(alloc, pages)?)?;
     }
+    Ok(devices)
+}
+
+fn world(alloc: Global, row: &Row) -> Result<World<MemoryDevice<256>, 256>, Fail> {
+    let devices = devices(alloc, row.lanes, 3)?;
     Ok(World::open(alloc, &config(row), devices, 3)?)
 }
 
@@ -79,10 +89,8 @@ fn event(alloc: Global, happens: &Happens) -> Result<Event, Fail> {
 }
 
 fn plan(alloc: Global, item: usize) -> Result<Plan, Fail> {
+    let prediction = Prediction::new(6).unwrap();
     let mut plan = Plan::new(alloc);
-    let Some(prediction) = Prediction::new(6) else {
-        return Err("no prediction".into());
-    };
     plan.push(Choice { item, prediction })?;
     Ok(plan)
 }
@@ -436,50 +444,77 @@ const ONE_LANE: Config = Config {
     admit: 65536,
 };
 
-#[test]
-fn a_world_is_not_opened(rt: HostRuntime) -> Result<(), Fail> {
-    let none = World::<MemoryDevice<256>, 256>::open(
-        rt.alloc(),
-        &ONE_LANE,
-        Vec::new(rt.alloc()),
-        0,
-    );
-    assert!(rt; matches!(&none, Err(OpenWorldFault::NoCallers)));
-    let few = World::<MemoryDevice<256>, 256>::open(rt.alloc(), &ONE_LANE, Vec::new(rt.alloc()), 1);
-    assert!(rt; matches!(&few, Err(OpenWorldFault::DeviceCount)));
-    let faulty = Config {
-        sets: 0,
-        ..ONE_LANE
-    };
-    let field = Field::Sets;
-    let refused = World::<MemoryDevice<256>, 256>::open(
-        rt.alloc(),
-        &faulty,
-        Vec::new(rt.alloc()),
-        0,
-    );
-    assert!(rt; matches!(&refused, Err(OpenWorldFault::ConfigFault { field: f }) if *f == field));
-    Ok(())
+/// An opening of a world, and why it is refused.
+#[derive(Clone, Copy)]
+struct Opening {
+    config: Config,
+    /// How many devices, of how many pages each.
+    devices: u32,
+    pages: u32,
+    callers: u16,
+    fault: Option<OpenWorldFault>,
 }
 
-// The fault of a world of one lane over a device of so many pages.
-fn fault_over<const PAGE: usize>(
-    alloc: Global,
-    pages: u32,
-) -> Result<Option<OpenWorldFault>, Fail> {
-    let mut devices = Vec::new(alloc);
-    devices.push(MemoryDevice::<PAGE>::new(alloc, pages)?)?;
-    let opened = World::<MemoryDevice<PAGE>, PAGE>::open(alloc, &ONE_LANE, devices, 1);
+const OPENS: Opening = Opening {
+    config: ONE_LANE,
+    devices: 1,
+    pages: 3,
+    callers: 1,
+    fault: None,
+};
+
+// The refusals, each where all behind it apply too.
+const NO_SET: Opening = Opening {
+    config: Config {
+        sets: 0,
+        ..ONE_LANE
+    },
+    devices: 0,
+    callers: 0,
+    fault: Some(OpenWorldFault::ConfigFault { field: Field::Sets }),
+    ..OPENS
+};
+
+const NO_CALLERS: Opening = Opening {
+    devices: 0,
+    callers: 0,
+    fault: Some(OpenWorldFault::NoCallers),
+    ..OPENS
+};
+
+const NO_DEVICE: Opening = Opening {
+    devices: 0,
+    fault: Some(OpenWorldFault::DeviceCount),
+    ..OPENS
+};
+
+const NARROW: Opening = Opening {
+    pages: 2,
+    fault: Some(OpenWorldFault::WrongPage),
+    ..OPENS
+};
+
+const SMALL: Opening = Opening {
+    pages: 2,
+    fault: Some(OpenWorldFault::DeviceTooSmall),
+    ..OPENS
+};
+
+// Why a world of pages of this size is not opened so.
+fn fault<const PAGE: usize>(alloc: Global, row: &Opening) -> Result<Option<OpenWorldFault>, Fail> {
+    let devices = devices(alloc, row.devices, row.pages)?;
+    let opened = World::<MemoryDevice<PAGE>, PAGE>::open(alloc, &row.config, devices, row.callers);
     Ok(opened.err())
 }
 
 #[test]
-fn a_world_is_not_opened_over_small_devices_or_pages(rt: HostRuntime) -> Result<(), Fail> {
-    let small = fault_over::<256>(rt.alloc(), 2)?;
-    assert!(rt; small == Some(OpenWorldFault::DeviceTooSmall));
-    let narrow = fault_over::<128>(rt.alloc(), 2)?;
-    assert!(rt; narrow == Some(OpenWorldFault::WrongPage));
-    let large = fault_over::<256>(rt.alloc(), 3)?;
-    assert!(rt; large.is_none());
+fn a_world_is_opened_over_a_device_a_lane(rt: HostRuntime) -> Result<(), Fail> {
+    let alloc = rt.alloc();
+    assert_eq!(rt; fault::<256>(alloc, &OPENS)?, OPENS.fault);
+    assert_eq!(rt; fault::<128>(alloc, &NO_SET)?, NO_SET.fault);
+    assert_eq!(rt; fault::<128>(alloc, &NO_CALLERS)?, NO_CALLERS.fault);
+    assert_eq!(rt; fault::<128>(alloc, &NO_DEVICE)?, NO_DEVICE.fault);
+    assert_eq!(rt; fault::<128>(alloc, &NARROW)?, NARROW.fault);
+    assert_eq!(rt; fault::<256>(alloc, &SMALL)?, SMALL.fault);
     Ok(())
 }

@@ -1,4 +1,6 @@
 // Traces in bytes that were made by hand, faults with their offsets, and readers and writers that fail.
+ghost use Rattle.std.specs.Prelude.{◌<◌};
+
 use record_pages::{Key, Value};
 use std::alloc::Global;
 use std::io;
@@ -200,18 +202,25 @@ fn pieces_give_what_the_whole_gives(rt: HostRuntime) -> Result<(), Fail> {
     Ok(())
 }
 
+// Whether a reader refuses a piece so, or takes it.
+fn takes(parts: &mut TraceReader, piece: &[u8], fault: Option<TraceFault>) -> bool {
+    parts.feed(piece).err() == fault
+}
+
 #[test]
-fn a_fault_in_pieces_stays(rt: HostRuntime) -> Result<(), Fail> {
+fn a_fault_in_pieces_stays(rt: HostRuntime) {
     let mut parts = TraceReader::new(rt.alloc());
-    parts.feed(&ONE_PUT[..9])?;
+    let trailing = Some(TraceFault::TrailingBytes { at: 12 });
+    assert!(rt; takes(&mut parts, &EMPTY, None));
+    assert!(rt; takes(&mut parts, &[0], trailing) && takes(&mut parts, &[], trailing));
+    assert_eq!(rt; parts.finish().err(), trailing);
+}
+
+#[test]
+fn what_is_missing_is_told_at_the_end(rt: HostRuntime) {
+    let mut parts = TraceReader::new(rt.alloc());
+    assert!(rt; takes(&mut parts, &ONE_PUT[..9], None));
     assert_eq!(rt; parts.finish().err(), Some(TraceFault::Truncated { at: 9 }));
-    let mut parts = TraceReader::new(rt.alloc());
-    parts.feed(&EMPTY)?;
-    let trailing = TraceFault::TrailingBytes { at: 12 };
-    assert_eq!(rt; parts.feed(&[0]), Err(trailing));
-    assert_eq!(rt; parts.feed(&[]), Err(trailing));
-    assert_eq!(rt; parts.finish().err(), Some(trailing));
-    Ok(())
 }
 
 #[test]
@@ -232,55 +241,103 @@ fn a_failed_read_is_not_tried_again(rt: HostRuntime) {
     }
 }
 
+fn one_put(alloc: Global) -> Result<Trace, Fail> {
+    let mut reader = ONE_PUT.as_slice();
+    Ok(read_trace(alloc, &mut reader)?)
+}
+
+// Whether a trace is written, or why not, to a writer with room for so many bytes.
+fn written_within(trace: &Trace, room: usize) -> Result<(), WriteTraceFault> {
+    let mut writer = Limited { room };
+    write_trace(&trace.history, &trace.certificate, &mut writer)
+}
+
 #[test]
 fn a_write_that_fails_is_a_write_fault(rt: HostRuntime) -> Result<(), Fail> {
-    let mut reader = ONE_PUT.as_slice();
-    let mut trace = read_trace(rt.alloc(), &mut reader)?;
-    for (room, want) in [
-        (0, Err(WriteTraceFault::WriteFault)),
-        (39, Err(WriteTraceFault::WriteFault)),
-        (41, Ok(())),
-    ] {
-        let mut writer = Limited { room };
-        let result = write_trace(&trace.history, &trace.certificate, &mut writer);
-        assert_eq!(rt; result, want, "with room for {room}");
-    }
-    trace.certificate.push(0)?;
-    let mut written = Vec::new(rt.alloc());
-    let result = write_trace(&trace.history, &trace.certificate, &mut written);
-    assert_eq!(rt; result, Err(WriteTraceFault::WrongCount));
-    assert!(rt; written.is_empty());
+    let trace = one_put(rt.alloc())?;
+    let fault = Err(WriteTraceFault::WriteFault);
+    assert_eq!(rt; written_within(&trace, 0), fault);
+    assert_eq!(rt; written_within(&trace, 39), fault);
+    assert_eq!(rt; written_within(&trace, 41), Ok(()));
     Ok(())
 }
 
 #[test]
-fn calls_of_each_kind_come_back(rt: HostRuntime) -> Result<(), Fail> {
-    let mut history = History::new(rt.alloc());
-    let mut certificate = Certificate::new(rt.alloc());
-    for number in 0..4000u32 {
-        let value = Value::new(rt.alloc(), [(number % 256) as u8; 2048].as_slice())?;
-        let act = match number % 4 {
-            0 => Act::Put(value),
-            1 => Act::Remove,
-            2 => Act::Hit(value),
-            _ => Act::Miss,
-        };
-        history.push(Call {
-            caller: 7,
-            start: u64::from(number),
-            end: u64::from(number) + 1,
-            key: Key::new(rt.alloc(), [b'k'; 255].as_slice())?,
-            act,
-        })?;
+fn a_certificate_of_another_length_is_not_written(rt: HostRuntime) -> Result<(), Fail> {
+    let mut trace = one_put(rt.alloc())?;
+    trace.certificate.push(0)?;
+    assert_eq!(rt; written_within(&trace, 0), Err(WriteTraceFault::WrongCount));
+    Ok(())
+}
+
+fn largest_key(alloc: Global) -> Result<Key, Fail> {
+    Ok(Key::new(alloc, [b'k'; 255].as_slice())?)
+}
+
+fn largest_value(alloc: Global, byte: u8) -> Result<Value, Fail> {
+    Ok(Value::new(alloc, [byte; 2048].as_slice())?)
+}
+
+fn act_of(kind: u32, value: Value) -> Act {
+    match kind {
+        0 => Act::Put(value),
+        1 => Act::Remove,
+        2 => Act::Hit(value),
+        _ => Act::Miss,
+    }
+}
+
+// A call with a key and a value of the greatest length.
+fn large_call(alloc: Global, number: u32, kind: u32) -> Result<Call, Fail> {
+    let key = largest_key(alloc)?;
+    let value = largest_value(alloc, (number % 256) as u8)?;
+    Ok(Call {
+        caller: 7,
+        start: u64::from(number),
+        end: u64::from(number) + 1,
+        key,
+        act: act_of(kind, value),
+    })
+}
+
+// So many large calls, of so many kinds in turn: puts alone, or four.
+fn large_calls(alloc: Global, count: u32, kinds: u32) -> Result<Trace, Fail>
+    requires { 0 < kinds }
+{
+    let mut history = History::new(alloc);
+    let mut certificate = Certificate::new(alloc);
+    for number in 0..count {
+        history.push(large_call(alloc, number, number % kinds)?)?;
         certificate.push(number)?;
     }
-    let mut written = Vec::new(rt.alloc());
-    write_trace(&history, &certificate, &mut written)?;
-    let mut reader = written.as_slice();
-    let trace = read_trace(rt.alloc(), &mut reader)?;
-    assert_eq!(rt; trace.history.len(), 4000);
-    let mut again = Vec::new(rt.alloc());
-    write_trace(&trace.history, &trace.certificate, &mut again)?;
-    assert!(rt; again.as_slice() == written.as_slice());
+    Ok(Trace {
+        history,
+        certificate,
+    })
+}
+
+fn written(alloc: Global, trace: &Trace) -> Result<Vec<u8>, Fail> {
+    let mut written = Vec::new(alloc);
+    write_trace(&trace.history, &trace.certificate, &mut written)?;
+    Ok(written)
+}
+
+// How many calls these bytes are a trace of, where it is written as the same bytes again.
+fn come_back(alloc: Global, bytes: &[u8]) -> Result<Option<usize>, Fail> {
+    let mut reader = bytes;
+    let trace = read_trace(alloc, &mut reader)?;
+    let again = written(alloc, &trace)?;
+    if again.as_slice() == bytes {
+        Ok(Some(trace.history.len()))
+    } else {
+        Ok(None)
+    }
+}
+
+#[test]
+fn calls_of_each_kind_come_back(rt: HostRuntime) -> Result<(), Fail> {
+    let trace = large_calls(rt.alloc(), 4000, 4)?;
+    let written = written(rt.alloc(), &trace)?;
+    assert_eq!(rt; come_back(rt.alloc(), written.as_slice())?, Some(4000));
     Ok(())
 }

@@ -1,5 +1,5 @@
 //! Calls of a recorded lane, each with what it gives. A call that memory is refused records nothing, and is made once more.
-ghost use Rattle.std.specs.Prelude.{◌≡◌, IsTrue};
+ghost use Rattle.std.specs.Prelude.{◌≡◌, ◌<◌, All, IfOk, IsTrue};
 
 use super::*;
 
@@ -190,6 +190,35 @@ fn is_own<D: PageDevice<PAGE>, const PAGE: usize>(lane: &RecordedLane<D, PAGE>, 
 
 ghost use Rattle.history_recorder.specs.Lane.{IsOfLane};
 
+// A key, if it belongs to a lane.
+fn own_key<D: PageDevice<PAGE>, const PAGE: usize>(
+    alloc: Global,
+    lane: &RecordedLane<D, PAGE>,
+    name: &[u8],
+) -> Result<Key, Fail>
+    ensures { IfOk result (λ key. IsOfLane lane.now.store.layout lane.now.lane key) }
+{
+    let key = key(alloc, name)?;
+    if is_own(lane, &key) {
+        Ok(key)
+    } else {
+        Err("a key of another lane".into())
+    }
+}
+
+// The stamps of the next call of a lane.
+fn stamps<D: PageDevice<PAGE>, const PAGE: usize>(
+    lane: &RecordedLane<D, PAGE>,
+) -> Result<(u64, u64), Fail>
+    ensures start { IfOk result (λ s. s.0 < s.1) }
+    ensures rises { IfOk result (λ s. All (λ n. n.point < s.1) lane.now.calls) }
+{
+    match lane.last_point().checked_add(2) {
+        Some(point) => Ok((point - 1, point)),
+        None => Err("stamps".into()),
+    }
+}
+
 // Puts a pair, once more where memory was refused.
 fn put<D: PageDevice<PAGE>, const PAGE: usize>(
     alloc: Global,
@@ -217,13 +246,9 @@ fn put_once<D: PageDevice<PAGE>, const PAGE: usize>(
     bytes: &[u8],
     word: u32,
 ) -> Result<Result<Stored, RecordPutFault>, Fail> {
-    let start = lane.last_point().checked_add(1).ok_or("a stamp")?;
-    let point = start.checked_add(1).ok_or("a stamp")?;
-    let key = key(alloc, name)?;
+    let (start, point) = stamps(lane)?;
     let value = value(alloc, bytes)?;
-    if !is_own(lane, &key) {
-        return Err("a key of another lane".into());
-    }
+    let key = own_key(alloc, lane, name)?;
     Ok(lane.put(caller, start, point, key, value, word))
 }
 
@@ -246,12 +271,8 @@ fn get_once<D: PageDevice<PAGE>, const PAGE: usize>(
     caller: u16,
     name: &[u8],
 ) -> Result<Result<Got, RecordFault>, Fail> {
-    let start = lane.last_point().checked_add(1).ok_or("a stamp")?;
-    let point = start.checked_add(1).ok_or("a stamp")?;
-    let key = key(alloc, name)?;
-    if !is_own(lane, &key) {
-        return Err("a key of another lane".into());
-    }
+    let (start, point) = stamps(lane)?;
+    let key = own_key(alloc, lane, name)?;
     Ok(lane.get(caller, start, point, &key))
 }
 
@@ -274,12 +295,8 @@ fn remove_once<D: PageDevice<PAGE>, const PAGE: usize>(
     caller: u16,
     name: &[u8],
 ) -> Result<Result<Removed, RecordFault>, Fail> {
-    let start = lane.last_point().checked_add(1).ok_or("a stamp")?;
-    let point = start.checked_add(1).ok_or("a stamp")?;
-    let key = key(alloc, name)?;
-    if !is_own(lane, &key) {
-        return Err("a key of another lane".into());
-    }
+    let (start, point) = stamps(lane)?;
+    let key = own_key(alloc, lane, name)?;
     Ok(lane.remove(caller, start, point, &key))
 }
 

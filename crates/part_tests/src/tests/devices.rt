@@ -3,6 +3,7 @@ ghost use Rattle.std.specs.Prelude.{◌≡◌, ◌<◌, IfOk, IsTrue};
 ghost use Rattle.record_pages.specs.Sizes.{IsPageSize};
 
 use page_device::{DeviceFault, FuseDevice, MemoryDevice, PageDevice};
+use std::alloc::Global;
 use std::test::Fail;
 
 // Writes a page and reads it back: on any honest device that fails in neither call these are the bytes.
@@ -22,60 +23,110 @@ fn write_and_read_back<const PAGE: usize, D: PageDevice<PAGE>>(
     Ok(read)
 }
 
+/// A call of a device: a page, the byte that is written all over it or stands there, and whether the call is refused.
+#[derive(Clone, Copy)]
+enum Step {
+    Write(u32, u8),
+    NoWrite(u32, u8),
+    Read(u32, u8),
+    NoRead(u32),
+}
+
+fn writes<D: PageDevice<256>>(device: &mut D, page: u32, byte: u8) -> bool {
+    page < device.pages() && device.write(page, &[byte; 256]).is_ok()
+}
+
+// The byte that stands all over a page.
+fn read<D: PageDevice<256>>(device: &mut D, page: u32) -> Option<u8> {
+    let mut bytes = [0; 256];
+    if page >= device.pages() || device.read(page, &mut bytes).is_err() {
+        return None;
+    }
+    let byte = *bytes.first()?;
+    if bytes == [byte; 256] {
+        Some(byte)
+    } else {
+        None
+    }
+}
+
+fn gives<D: PageDevice<256>>(device: &mut D, step: &Step) -> bool {
+    match step {
+        Step::Write(page, byte) => writes(device, *page, *byte),
+        Step::NoWrite(page, byte) => !writes(device, *page, *byte),
+        Step::Read(page, byte) => read(device, *page) == Some(*byte),
+        Step::NoRead(page) => read(device, *page).is_none(),
+    }
+}
+
+// The number of the first step that gives something else than is written.
+fn strayed<D: PageDevice<256>>(mut device: D, steps: &[Step]) -> Option<usize> {
+    for number in 0..steps.len() {
+        if !gives(&mut device, &steps[number]) {
+            return Some(number);
+        }
+    }
+    None
+}
+
+fn two_pages(alloc: Global) -> Result<MemoryDevice<256>, Fail> {
+    Ok(MemoryDevice::new(alloc, 2)?)
+}
+
 #[test]
 fn a_page_is_read_back_through_the_trait(rt: HostRuntime) -> Result<(), Fail> {
     let mut device = MemoryDevice::<256>::new(rt.alloc(), 2)?;
-    assert_eq!(rt; device.pages(), 2);
     let read = write_and_read_back(&mut device, 1, &[7; 256])?;
     assert_eq!(rt; read, [7; 256]);
-    let mut other = [1; 256];
-    device.read(0, &mut other)?;
-    assert_eq!(rt; other, [0; 256]);
+    assert_eq!(rt;
+        strayed(device, &[Step::Read(1, 7), Step::Read(0, 0)]),
+        None
+    );
     Ok(())
 }
+
+const SECOND_IS_REFUSED: [Step; 4] = [
+    Step::Write(0, 7),
+    Step::NoWrite(1, 8),
+    Step::Read(0, 7),
+    Step::Read(1, 0),
+];
 
 #[test]
 fn a_fuse_refuses_one_call(rt: HostRuntime) -> Result<(), Fail> {
-    let mut device = FuseDevice::one(MemoryDevice::<256>::new(rt.alloc(), 2)?, 2);
-    let mut read = [0; 256];
-    assert_eq!(rt; device.write(0, &[7; 256]), Ok(()));
-    assert_eq!(rt; device.write(1, &[8; 256]), Err(DeviceFault));
-    assert_eq!(rt; device.read(0, &mut read), Ok(()));
-    assert_eq!(rt; read, [7; 256]);
-    assert_eq!(rt; device.read(1, &mut read), Ok(()));
-    assert_eq!(rt; read, [0; 256]);
+    let device = FuseDevice::one(two_pages(rt.alloc())?, 2);
+    assert_eq!(rt; strayed(device, &SECOND_IS_REFUSED), None);
     Ok(())
 }
+
+const SECOND_IS_THE_LAST: [Step; 3] = [Step::Write(0, 7), Step::NoWrite(1, 8), Step::NoRead(0)];
 
 #[test]
 fn a_fuse_refuses_all_calls_from_one_on(rt: HostRuntime) -> Result<(), Fail> {
-    let mut device = FuseDevice::from(MemoryDevice::<256>::new(rt.alloc(), 2)?, 2);
-    let mut read = [0; 256];
-    assert_eq!(rt; device.pages(), 2);
-    assert_eq!(rt; device.write(0, &[7; 256]), Ok(()));
-    assert_eq!(rt; device.write(1, &[8; 256]), Err(DeviceFault));
-    assert_eq!(rt; device.read(0, &mut read), Err(DeviceFault));
+    let device = FuseDevice::from(two_pages(rt.alloc())?, 2);
+    assert_eq!(rt; strayed(device, &SECOND_IS_THE_LAST), None);
     Ok(())
 }
+
+const NONE_IS_REFUSED: [Step; 2] = [Step::Write(0, 7), Step::Read(0, 7)];
+
+const ALL_ARE_REFUSED: [Step; 2] = [Step::NoWrite(0, 7), Step::NoRead(0)];
 
 #[test]
 fn number_zero_stands_before_the_first_call(rt: HostRuntime) -> Result<(), Fail> {
-    let mut never = FuseDevice::one(MemoryDevice::<256>::new(rt.alloc(), 2)?, 0);
-    let read = write_and_read_back(&mut never, 0, &[7; 256])?;
-    assert_eq!(rt; read, [7; 256]);
-    let mut always = FuseDevice::from(MemoryDevice::<256>::new(rt.alloc(), 2)?, 0);
-    assert_eq!(rt; always.write(0, &[7; 256]), Err(DeviceFault));
+    let never = FuseDevice::one(two_pages(rt.alloc())?, 0);
+    assert_eq!(rt; strayed(never, &NONE_IS_REFUSED), None);
+    let always = FuseDevice::from(two_pages(rt.alloc())?, 0);
+    assert_eq!(rt; strayed(always, &ALL_ARE_REFUSED), None);
     Ok(())
 }
 
+const SECOND_IS_MADE_AGAIN: [Step; 3] = [Step::Write(0, 7), Step::NoRead(0), Step::Read(0, 7)];
+
 #[test]
 fn a_fuse_over_a_fuse_passes_each_call_on_once(rt: HostRuntime) -> Result<(), Fail> {
-    let below = FuseDevice::one(MemoryDevice::<256>::new(rt.alloc(), 2)?, 2);
-    let mut device = FuseDevice::one(below, 0);
-    let mut read = [0; 256];
-    assert_eq!(rt; device.write(0, &[7; 256]), Ok(()));
-    assert_eq!(rt; device.read(0, &mut read), Err(DeviceFault));
-    assert_eq!(rt; device.read(0, &mut read), Ok(()));
-    assert_eq!(rt; read, [7; 256]);
+    let below = FuseDevice::one(two_pages(rt.alloc())?, 2);
+    let device = FuseDevice::one(below, 0);
+    assert_eq!(rt; strayed(device, &SECOND_IS_MADE_AGAIN), None);
     Ok(())
 }

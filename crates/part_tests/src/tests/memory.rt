@@ -1,16 +1,53 @@
 // The order of small memories, and what is left where memory was refused.
+ghost use Rattle.std.specs.Prelude.{◌<◌};
+
 use memory_cache::{MemoryCache, Pair};
 use record_pages::{Key, Value};
 use std::alloc::Global;
 use std::process::Abort;
 use std::test::Fail;
 
-/// Whether this pair was pushed out.
-fn is_pair(out: &Option<Pair>, key: &[u8], value: &[u8]) -> bool {
-    match out {
-        Some(pair) => pair.key.bytes() == key && pair.value.bytes() == value,
-        None => false,
+/// A call of a memory, and what it gives.
+#[derive(Clone, Copy)]
+enum Step {
+    /// A key, its value, and the pair that is pushed out.
+    Put(&'static [u8], &'static [u8], Option<(&'static [u8], &'static [u8])>),
+    Get(&'static [u8], Option<&'static [u8]>),
+    Peek(&'static [u8], Option<&'static [u8]>),
+    Remove(&'static [u8], Option<&'static [u8]>),
+    Len(usize),
+}
+
+fn is_pair(pair: &Pair, key: &[u8], value: &[u8]) -> bool {
+    pair.key.bytes() == key && pair.value.bytes() == value
+}
+
+fn is_out(out: Option<Pair>, wanted: Option<(&[u8], &[u8])>) -> bool {
+    match (out, wanted) {
+        (Some(pair), Some((key, value))) => is_pair(&pair, key, value),
+        (None, None) => true,
+        _ => false,
     }
+}
+
+fn is_value(value: Option<&Value>, wanted: Option<&[u8]>) -> bool {
+    match (value, wanted) {
+        (Some(value), Some(bytes)) => value.bytes() == bytes,
+        (None, None) => true,
+        _ => false,
+    }
+}
+
+fn is_taken(value: Option<Value>, wanted: Option<&[u8]>) -> bool {
+    is_value(value.as_ref(), wanted)
+}
+
+// A key and its value.
+fn pair(alloc: Global, key: &[u8], value: &[u8]) -> Result<Pair, Fail> {
+    Ok(Pair {
+        key: Key::new(alloc, key)?,
+        value: Value::new(alloc, value)?,
+    })
 }
 
 /// Puts a value of a key. A refused put hands the pair back, and leaves as many pairs as there were.
@@ -22,54 +59,86 @@ fn put(
     value: &[u8],
 ) -> Result<Option<Pair>, Fail> {
     let held = memory.len();
-    match memory.put(Key::new(alloc, key)?, Value::new(alloc, value)?) {
+    let pair = pair(alloc, key, value)?;
+    match memory.put(pair.key, pair.value) {
         Ok(out) => Ok(out),
         Err(pair) => {
-            assert_eq!(rt; pair.key.bytes(), key);
-            assert_eq!(rt; pair.value.bytes(), value);
-            assert_eq!(rt; memory.len(), held);
+            let is_whole = is_pair(&pair, key, value) && memory.len() == held;
+            assert!(rt; is_whole);
             Err(Fail::from("memory was refused"))
         }
     }
 }
 
+fn gives(
+    rt: &impl Abort,
+    alloc: Global,
+    memory: &mut MemoryCache,
+    step: &Step,
+) -> Result<bool, Fail> {
+    match step {
+        Step::Put(key, value, out) => Ok(is_out(put(rt, alloc, memory, key, value)?, *out)),
+        Step::Get(key, value) => Ok(is_value(memory.get(&Key::new(alloc, key)?), *value)),
+        Step::Peek(key, value) => Ok(is_value(memory.peek(&Key::new(alloc, key)?), *value)),
+        Step::Remove(key, value) => Ok(is_taken(memory.remove(&Key::new(alloc, key)?), *value)),
+        Step::Len(len) => Ok(memory.len() == *len && memory.is_empty() == (*len == 0)),
+    }
+}
+
+// The number of the first step of an empty memory for so many pairs that gives something else than is written.
+fn strayed(
+    rt: &impl Abort,
+    alloc: Global,
+    capacity: u32,
+    steps: &[Step],
+) -> Result<Option<usize>, Fail>
+    requires { 0 < capacity }
+{
+    let mut memory = MemoryCache::open(alloc, capacity)?;
+    for number in 0..steps.len() {
+        if !gives(rt, alloc, &mut memory, &steps[number])? {
+            return Ok(Some(number));
+        }
+    }
+    Ok(None)
+}
+
+const OF_TWO: [Step; 13] = [
+    Step::Len(0),
+    Step::Put(b"a", b"1", None),
+    Step::Len(1),
+    Step::Put(b"b", b"2", None),
+    Step::Get(b"a", Some(b"1")),
+    Step::Put(b"c", b"3", Some((b"b", b"2"))),
+    Step::Peek(b"a", Some(b"1")),
+    Step::Put(b"d", b"4", Some((b"a", b"1"))),
+    Step::Len(2),
+    Step::Peek(b"a", None),
+    Step::Get(b"a", None),
+    Step::Peek(b"c", Some(b"3")),
+    Step::Peek(b"d", Some(b"4")),
+];
+
 #[test]
 fn the_pair_that_was_used_longest_ago_leaves(rt: HostRuntime) -> Result<(), Fail> {
-    let alloc = rt.alloc();
-    let mut memory = MemoryCache::open(alloc, 2)?;
-    assert!(rt; memory.is_empty());
-    assert_eq!(rt; memory.capacity(), 2);
-    let a = Key::new(alloc, b"a")?;
-    assert!(rt; put(&rt, alloc, &mut memory, b"a", b"1")?.is_none());
-    assert!(rt; !memory.is_empty());
-    assert!(rt; put(&rt, alloc, &mut memory, b"b", b"2")?.is_none());
-    assert!(rt; matches!(memory.get(&a), Some(value) if value.bytes() == b"1".as_slice()));
-    let out = put(&rt, alloc, &mut memory, b"c", b"3")?;
-    assert!(rt; is_pair(&out, b"b", b"2"));
-    assert!(rt; matches!(memory.peek(&a), Some(value) if value.bytes() == b"1".as_slice()));
-    let out = put(&rt, alloc, &mut memory, b"d", b"4")?;
-    assert!(rt; is_pair(&out, b"a", b"1"));
-    assert_eq!(rt; memory.len(), 2);
-    assert!(rt; memory.peek(&a).is_none());
-    assert!(rt; memory.get(&a).is_none());
+    assert_eq!(rt; strayed(&rt, rt.alloc(), 2, &OF_TWO)?, None);
     Ok(())
 }
 
+const OF_ONE: [Step; 8] = [
+    Step::Put(b"a", b"1", None),
+    Step::Put(b"a", b"", None),
+    Step::Len(1),
+    Step::Put(b"b", b"2", Some((b"a", b""))),
+    Step::Remove(b"a", None),
+    Step::Remove(b"b", Some(b"2")),
+    Step::Remove(b"b", None),
+    Step::Len(0),
+];
+
 #[test]
 fn a_key_that_is_put_again_pushes_nothing_out(rt: HostRuntime) -> Result<(), Fail> {
-    let alloc = rt.alloc();
-    let mut memory = MemoryCache::open(alloc, 1)?;
-    let a = Key::new(alloc, b"a")?;
-    assert!(rt; put(&rt, alloc, &mut memory, b"a", b"1")?.is_none());
-    assert!(rt; put(&rt, alloc, &mut memory, b"a", b"")?.is_none());
-    assert_eq!(rt; memory.len(), 1);
-    let out = put(&rt, alloc, &mut memory, b"b", b"2")?;
-    assert!(rt; is_pair(&out, b"a", b""));
-    assert!(rt; memory.remove(&a).is_none());
-    let b = Key::new(alloc, b"b")?;
-    assert!(rt; matches!(memory.remove(&b), Some(value) if value.bytes() == b"2".as_slice()));
-    assert!(rt; memory.remove(&b).is_none());
-    assert!(rt; memory.is_empty());
+    assert_eq!(rt; strayed(&rt, rt.alloc(), 1, &OF_ONE)?, None);
     Ok(())
 }
 
@@ -77,14 +146,11 @@ fn a_key_that_is_put_again_pushes_nothing_out(rt: HostRuntime) -> Result<(), Fai
 fn a_large_memory_holds_all_that_was_put(rt: HostRuntime) -> Result<(), Fail> {
     let alloc = rt.alloc();
     let mut memory = MemoryCache::open(alloc, 4294967295)?;
+    let first = Key::new(alloc, &[0])?;
     for number in 0..100u8 {
         let out = put(&rt, alloc, &mut memory, &[number], &[number, number])?;
-        assert!(rt; out.is_none());
-        let first = Key::new(alloc, &[0])?;
-        assert!(rt;
-            matches!(memory.peek(&first), Some(value) if value.bytes() == [0, 0].as_slice())
-        );
+        assert!(rt; is_out(out, None) && is_value(memory.peek(&first), Some(&[0, 0])));
     }
-    assert_eq!(rt; memory.len(), 100);
+    assert_eq!(rt; (memory.len(), memory.capacity()), (100, 4294967295));
     Ok(())
 }

@@ -33,6 +33,9 @@ const KEYS: u64 = 100;
 // How often a worker makes a round before it gives up.
 const ROUNDS: u32 = 100_000_000;
 
+// How many calls a caller makes from one wait for the workers to the next.
+const PACE: u32 = 2_000;
+
 // How often a caller looks for the workers' next round and yields before it goes on.
 const TURNS: u32 = 100_000;
 
@@ -192,7 +195,7 @@ fn calls<R: Wait>(
     for number in 0..CALLS {
         drawn = next(drawn);
         tally = call(rt, alloc, cache, &mut pass, drawn, tally);
-        if number % 500 == 0 {
+        if number % PACE == 0 {
             went = keep_pace(progress, went);
         }
     }

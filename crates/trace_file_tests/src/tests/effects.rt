@@ -1,14 +1,10 @@
 // How often a reader and a writer are called and with what, and that memory is taken by what was read:
 // no clause says it.
-use record_pages::{Key, Value};
-use std::alloc::Global;
+use super::{large_calls, written};
 use std::io;
 use std::io::{Error, ErrorKind, Read, Write};
 use std::test::Fail;
-use trace_file::{
-    Act, Call, Certificate, History, TraceFault, TraceReader, WriteTraceFault, read_trace,
-    write_trace,
-};
+use trace_file::{Trace, TraceFault, TraceReader, WriteTraceFault, read_trace, write_trace};
 
 /// How many calls the long trace has, each with 2,325 bytes, and with 4 bytes of the certificate.
 const CALLS: u32 = 100;
@@ -73,30 +69,12 @@ impl Write for CountedWrites {
     }
 }
 
-/// The pair of the long trace: puts with the longest key and value.
-fn long_pair(alloc: Global) -> Result<(History, Certificate), Fail> {
-    let mut history = History::new(alloc);
-    let mut certificate = Certificate::new(alloc);
-    for number in 0..CALLS {
-        history.push(Call {
-            caller: 0,
-            start: u64::from(number),
-            end: u64::from(number),
-            key: Key::new(alloc, [b'k'; 255].as_slice())?,
-            act: Act::Put(Value::new(alloc, [b'v'; 2048].as_slice())?),
-        })?;
-        certificate.push(number)?;
-    }
-    Ok((history, certificate))
-}
-
 #[test]
 fn a_piece_is_read_at_a_time_and_no_read_follows_a_failed_one_or_a_fault(
     rt: HostRuntime,
 ) -> Result<(), Fail> {
-    let (history, certificate) = long_pair(rt.alloc())?;
-    let mut long = Vec::new(rt.alloc());
-    write_trace(&history, &certificate, &mut long)?;
+    let trace = large_calls(rt.alloc(), CALLS, 1)?;
+    let long = written(rt.alloc(), &trace)?;
     assert_eq!(rt; long.len(), LONG);
     let table: [(&[u8], u32, u32, Option<TraceFault>); 9] = [
         (&long, 0, 58, None),
@@ -130,31 +108,42 @@ fn a_piece_is_read_at_a_time_and_no_read_follows_a_failed_one_or_a_fault(
     Ok(())
 }
 
+/// A writer whose write of this number fails, with room for so many bytes a write; how often it is called, and the fault.
+#[derive(Clone, Copy)]
+struct Writes(u32, usize, u32, Option<WriteTraceFault>);
+
+// Whether the long trace is written so, and nothing is flushed.
+fn is_written(trace: &Trace, row: &Writes) -> bool {
+    let mut writer = CountedWrites {
+        fails_at: row.0,
+        room: row.1,
+        calls: 0,
+        flushes: 0,
+        taken: 0,
+    };
+    let written = write_trace(&trace.history, &trace.certificate, &mut writer);
+    written.err() == row.3
+        && (writer.calls, writer.flushes) == (row.2, 0)
+        && (writer.taken == LONG) == row.3.is_none()
+}
+
+// Three calls are written at a time, and the last one with the certificate.
+const WRITES: [Writes; 6] = [
+    Writes(0, usize::MAX, 34, None),
+    Writes(0, 1, 232_912, None),
+    Writes(1, usize::MAX, 1, Some(WriteTraceFault::WriteFault)),
+    Writes(17, usize::MAX, 17, Some(WriteTraceFault::WriteFault)),
+    Writes(34, usize::MAX, 34, Some(WriteTraceFault::WriteFault)),
+    Writes(0, 0, 1, Some(WriteTraceFault::WriteFault)),
+];
+
 #[test]
 fn writes_are_few_none_follows_a_failed_one_and_nothing_is_flushed(
     rt: HostRuntime,
 ) -> Result<(), Fail> {
-    let (history, certificate) = long_pair(rt.alloc())?;
-    // three calls are written at a time, and the last one with the certificate
-    for (fails_at, room, calls, want) in [
-        (0, usize::MAX, 34, Ok(())),
-        (0, 1, 232_912, Ok(())),
-        (1, usize::MAX, 1, Err(WriteTraceFault::WriteFault)),
-        (17, usize::MAX, 17, Err(WriteTraceFault::WriteFault)),
-        (34, usize::MAX, 34, Err(WriteTraceFault::WriteFault)),
-        (0, 0, 1, Err(WriteTraceFault::WriteFault)),
-    ] {
-        let mut writer = CountedWrites {
-            fails_at,
-            room,
-            calls: 0,
-            flushes: 0,
-            taken: 0,
-        };
-        let written = write_trace(&history, &certificate, &mut writer);
-        assert_eq!(rt; written, want, "where write {fails_at} fails");
-        assert_eq!(rt; (writer.calls, writer.flushes), (calls, 0));
-        assert_eq!(rt; writer.taken == LONG, want == Ok(()));
+    let trace = large_calls(rt.alloc(), CALLS, 1)?;
+    for number in 0..WRITES.len() {
+        assert!(rt; is_written(&trace, &WRITES[number]), "row {number}");
     }
     Ok(())
 }

@@ -2,20 +2,19 @@
 use klog_index::{Entry, Place};
 use record_pages::Prediction;
 use std::alloc::{AllocError, Global};
-use std::collections::VecDeque;
 
 /// An index as the list of its entries, newest first.
 #[derive(Drop)]
 pub struct PlainIndex {
     limit: usize,
-    entries: VecDeque<Entry>,
+    entries: Vec<Entry>,
 }
 
 impl PlainIndex {
     pub fn open(alloc: Global, limit: u32) -> PlainIndex {
         PlainIndex {
             limit: limit as usize,
-            entries: VecDeque::new(alloc),
+            entries: Vec::new(alloc),
         }
     }
 
@@ -28,7 +27,7 @@ impl PlainIndex {
         if self.entries.len() == self.limit {
             return Ok(false);
         }
-        self.entries.push_front(entry)?;
+        self.entries.insert(0, entry)?;
         Ok(true)
     }
 

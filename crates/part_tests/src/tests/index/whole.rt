@@ -1,6 +1,7 @@
 // The largest index, filled and emptied.
 ghost use Rattle.std.specs.Prelude.{◌≡◌, ◌<◌, ◌/◌, ◌%◌, []};
 
+use super::{EMPTIED, Look, Seen, strayed};
 use klog_index::{LogIndex, Place};
 use record_pages::Prediction;
 use std::test::Fail;
@@ -44,20 +45,21 @@ fn empty(index: &mut LogIndex) {
     }
 }
 
+// The first entry, and what the last set has.
+const FILLED: [Look; 5] = [
+    Look::Len(1048576, false),
+    Look::Oldest(Some(Seen(0, 5, 0, 0, 0, 6))),
+    Look::Count(65535, 16),
+    Look::OfSet(65535, 0, Some(Seen(65535, 5, 255, 63, 63, 6))),
+    Look::OfSet(65535, 16, None),
+];
+
 #[test]
 fn the_largest_index_is_filled_and_emptied(rt: HostRuntime) -> Result<(), Fail> {
     let mut index = LogIndex::open(rt.alloc(), SETS, ENTRIES)?;
     fill(&mut index)?;
-    assert!(rt; index.is_full());
-    assert_eq!(rt; index.len(), 1048576);
-    assert_eq!(rt; index.oldest().map(|e| e.place), Some(place_of(0)));
-    assert_eq!(rt; index.count(65535), 16);
-    assert_eq!(rt;
-        index.of_set(65535, 0).map(|e| e.place),
-        Some(place_of(1048575))
-    );
+    assert_eq!(rt; strayed(&index, &FILLED), None);
     empty(&mut index);
-    assert!(rt; index.is_empty());
-    assert_eq!(rt; index.oldest(), None);
+    assert_eq!(rt; strayed(&index, &EMPTIED), None);
     Ok(())
 }
