@@ -89,26 +89,28 @@ impl Write for Limited {
     }
 }
 
-/// Asserts that the trace is that of `ONE_PUT`, read and written again.
-fn is_one_put(rt: &(impl Abort + AllocGlobal), trace: Trace) -> Result<(), Fail> {
-    assert_eq!(rt; trace.history.len(), 1);
-    assert_eq!(rt; trace.certificate.len(), 1);
+/// Whether the trace has the call and the certificate of `ONE_PUT`.
+fn has_one_put(trace: &Trace) -> bool {
+    if trace.history.len() != 1 || trace.certificate.len() != 1 {
+        return false;
+    }
     let call = trace.history.at(0);
-    assert_eq!(rt; (call.caller, call.start, call.end), (0, 1, 3));
-    assert_eq!(rt; call.key, b"a".as_slice());
-    assert!(rt; matches!(call.act, ActRef::Put(b"1")));
-    assert_eq!(rt; trace.certificate.at(0), 0);
-    let mut written = Vec::new(rt.alloc());
-    write_trace(&trace.history, &trace.certificate, &mut written)?;
-    assert_eq!(rt; written.as_slice(), ONE_PUT.as_slice());
-    Ok(())
+    is(&call, 0, 1, 3, b"a")
+        && matches!(call.act, ActRef::Put(b"1"))
+        && trace.certificate.at(0) == 0
+}
+
+/// Whether the trace is that of `ONE_PUT`, read and written again.
+fn is_one_put(alloc: Global, trace: &Trace) -> Result<bool, Fail> {
+    let written = written(alloc, trace)?;
+    Ok(has_one_put(trace) && written.as_slice() == ONE_PUT.as_slice())
 }
 
 #[test]
 fn one_put_is_read_and_written_again(rt: HostRuntime) -> Result<(), Fail> {
-    let mut reader = ONE_PUT.as_slice();
-    let trace = read_trace(rt.alloc(), &mut reader)?;
-    is_one_put(&rt, trace)
+    let trace = one_put(rt.alloc())?;
+    assert!(rt; is_one_put(rt.alloc(), &trace)?);
+    Ok(())
 }
 
 /// Whether a call has this caller, these stamps and this key.
@@ -183,22 +185,34 @@ fn each_fault_has_its_offset(rt: HostRuntime) {
     }
 }
 
+// Feeds the bytes of `ONE_PUT`, so many at a time, and says how many were fed.
+fn feed_all(parts: &mut TraceReader, size: usize) -> Result<u64, TraceFault>
+    requires { 0 < size }
+{
+    for piece in ONE_PUT.chunks(size) {
+        parts.feed(piece)?;
+    }
+    Ok(parts.bytes_fed())
+}
+
+// How many bytes were fed, so many at a time, and their trace.
+fn in_pieces(alloc: Global, size: usize) -> Result<(u64, Trace), TraceFault>
+    requires { 0 < size }
+{
+    let mut parts = TraceReader::new(alloc);
+    let fed = feed_all(&mut parts, size)?;
+    Ok((fed, parts.finish()?))
+}
+
 #[test]
 fn pieces_give_what_the_whole_gives(rt: HostRuntime) -> Result<(), Fail> {
-    let mut by_byte = TraceReader::new(rt.alloc());
-    for at in 0..ONE_PUT.len() {
-        by_byte.feed(&ONE_PUT[at..at + 1])?;
+    for size in 1..8usize {
+        let (fed, trace) = in_pieces(rt.alloc(), size)?;
+        assert!(rt;
+            fed == 40 && is_one_put(rt.alloc(), &trace)?,
+            "pieces of {size}"
+        );
     }
-    assert_eq!(rt; by_byte.bytes_fed(), 40);
-    is_one_put(&rt, by_byte.finish()?)?;
-    let mut in_sevens = TraceReader::new(rt.alloc());
-    in_sevens.feed(&ONE_PUT[..7])?;
-    in_sevens.feed(&ONE_PUT[7..14])?;
-    in_sevens.feed(&ONE_PUT[14..21])?;
-    in_sevens.feed(&ONE_PUT[21..28])?;
-    in_sevens.feed(&ONE_PUT[28..35])?;
-    in_sevens.feed(&ONE_PUT[35..])?;
-    is_one_put(&rt, in_sevens.finish()?)?;
     Ok(())
 }
 

@@ -17,9 +17,7 @@ pub(super) fn page<const PAGE: usize>(
 
 // A pair as it enters the log.
 fn record(alloc: Global, pair: &Pair) -> Result<Record, Fail> {
-    let Some(pred) = Prediction::new(Prediction::ENTERING) else {
-        return Err("a prediction".into());
-    };
+    let pred = Prediction::new(Prediction::ENTERING).unwrap();
     let key = key(alloc, pair.0)?;
     let value = value(alloc, pair.1)?;
     Ok(Record { key, value, pred })

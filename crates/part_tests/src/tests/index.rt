@@ -150,15 +150,15 @@ const WIDEST: Place = Place {
     slot: 63,
 };
 
-const PREDICTED_1: Option<Seen> = Some(Seen(65535, 65535, 257, 63, 63, 1));
+const PREDICTED_7: Option<Seen> = Some(Seen(65535, 65535, 257, 63, 63, 7));
 
 const PREDICTED_0: Option<Seen> = Some(Seen(65535, 65535, 257, 63, 63, 0));
 
 const FULL_OF_ONE: [Look; 4] = [
     Look::Len(1, false),
-    Look::Find(65535, 65535, 0, PREDICTED_1),
+    Look::Find(65535, 65535, 0, PREDICTED_7),
     Look::Find(65535, 65535, 1, None),
-    Look::Oldest(PREDICTED_1),
+    Look::Oldest(PREDICTED_7),
 ];
 
 const LOWERED: [Look; 2] = [
@@ -174,10 +174,10 @@ const EMPTIED: [Look; 3] = [
 
 #[test]
 fn the_entry_past_the_limit_is_refused(rt: HostRuntime) -> Result<(), Fail> {
-    let one = Prediction::new(1).unwrap();
+    let seven = Prediction::new(7).unwrap();
     let mut index = LogIndex::open(rt.alloc(), 65536, 1)?;
-    index.add(65535, 65535, WIDEST, one)?;
-    assert!(rt; index.add(0, 0, place(0, 0), one).is_err());
+    index.add(65535, 65535, WIDEST, seven)?;
+    assert!(rt; index.add(0, 0, place(0, 0), seven).is_err());
     assert_eq!(rt; strayed(&index, &FULL_OF_ONE), None);
     Ok(())
 }

@@ -1,6 +1,7 @@
 // How often a reader and a writer are called and with what, and that memory is taken by what was read:
 // no clause says it.
 use super::{large_calls, written};
+use std::alloc::Global;
 use std::io;
 use std::io::{Error, ErrorKind, Read, Write};
 use std::test::Fail;
@@ -69,6 +70,26 @@ impl Write for CountedWrites {
     }
 }
 
+// Whether a reader of these bytes whose read of this number fails is called so often, for 4,096 bytes each time, and this
+// is the fault.
+fn is_read(
+    alloc: Global,
+    rest: &[u8],
+    fails_at: u32,
+    calls: u32,
+    want: Option<TraceFault>,
+) -> bool {
+    let mut reader = CountedReads {
+        rest,
+        fails_at,
+        calls: 0,
+        least: usize::MAX,
+        most: 0,
+    };
+    let fault = read_trace(alloc, &mut reader).err();
+    fault == want && (reader.calls, reader.least, reader.most) == (calls, 4096, 4096)
+}
+
 #[test]
 fn a_piece_is_read_at_a_time_and_no_read_follows_a_failed_one_or_a_fault(
     rt: HostRuntime,
@@ -93,17 +114,10 @@ fn a_piece_is_read_at_a_time_and_no_read_follows_a_failed_one_or_a_fault(
         ),
     ];
     for (rest, fails_at, calls, want) in table {
-        let mut reader = CountedReads {
-            rest,
-            fails_at,
-            calls: 0,
-            least: usize::MAX,
-            most: 0,
-        };
-        let fault = read_trace(rt.alloc(), &mut reader).err();
-        assert_eq!(rt; fault, want, "where read {fails_at} fails");
-        assert_eq!(rt; reader.calls, calls, "where read {fails_at} fails");
-        assert_eq!(rt; (reader.least, reader.most), (4096, 4096));
+        assert!(rt;
+            is_read(rt.alloc(), rest, fails_at, calls, want),
+            "where read {fails_at} fails"
+        );
     }
     Ok(())
 }
