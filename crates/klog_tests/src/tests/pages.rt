@@ -7,61 +7,27 @@ const TWO_PAGES: Config = Config {
     ..ONE_SET
 };
 
-// The calls of a script, each with what it gives. Two records, ax and bx, fill a page each. Their pages are written, they
-// are looked up, taken together, readmitted in turn, and looked up once more. With each call of the device taken it makes
-// eight: two writes and six reads.
-#[derive(Clone, Copy)]
-struct Told {
-    writes: [Step; 2],
-    looks: [Step; 2],
-    takes: [Step; 1],
-    moves: [Step; 2],
-    left: [Step; 2],
-}
+const ADD_A: Step = Step::Append(b"ax", &[1; 200], ADDED);
 
-const FILLED: [Step; 3] = [
-    Step::Append(b"ax", &[1; 200], ADDED),
-    Step::Append(b"bx", &[2; 200], ADDED),
-    Step::Flush(Flushed::Sealed),
-];
+const ADD_B: Step = Step::Append(b"bx", &[2; 200], ADDED);
 
-// Behind the readmissions the oldest segment has no live record, whatever was lost.
-const EMPTY: [Step; 1] = [Step::Empty];
+const SEAL: Step = Step::Flush(Flushed::Sealed);
 
-const FREE: [Step; 1] = [Step::Free(true)];
+const WRITE: Step = Step::Flush(Flushed::Wrote);
 
-// Makes the calls of the script.
-fn runs(
-    rt: &impl Abort,
-    alloc: Global,
-    owner: &mut Owner<Fused, 256>,
-    told: &Told,
-) -> Result<(), Fail> {
-    run(rt, alloc, owner, &FILLED)?;
-    run(rt, alloc, owner, &told.writes)?;
-    run(rt, alloc, owner, &told.looks)?;
-    run(rt, alloc, owner, &told.takes)?;
-    run(rt, alloc, owner, &told.moves)?;
-    run(rt, alloc, owner, &EMPTY)?;
-    run(rt, alloc, owner, &told.left)?;
-    run(rt, alloc, owner, &FREE)
-}
-
-const WROTE: Step = Step::Flush(Flushed::Wrote);
-
-const LOST: Step = Step::Flush(Flushed::PageLost);
+const LOSE: Step = Step::Flush(Flushed::PageLost);
 
 const A: Step = Step::Look(b"ax", Seen::Value(&[1; 200]));
 
 const B: Step = Step::Look(b"bx", Seen::Value(&[2; 200]));
 
-const A_UNREAD: Step = Step::Look(b"ax", Seen::Fault);
+const BAD_A: Step = Step::Look(b"ax", Seen::Fault);
 
-const B_UNREAD: Step = Step::Look(b"bx", Seen::Fault);
+const BAD_B: Step = Step::Look(b"bx", Seen::Fault);
 
-const A_GONE: Step = Step::Look(b"ax", Seen::Absent);
+const NO_A: Step = Step::Look(b"ax", Seen::Absent);
 
-const B_GONE: Step = Step::Look(b"bx", Seen::Absent);
+const NO_B: Step = Step::Look(b"bx", Seen::Absent);
 
 const A_TAKEN: Kept = Kept {
     key: b"ax",
@@ -89,145 +55,129 @@ const B_NOT_READ: Kept = Kept {
     ..B_TAKEN
 };
 
-const BACK: Step = Step::Readmit(Some(Readmitted::Readmitted));
+const TAKE: Step = Step::Take(&[B_TAKEN, A_TAKEN]);
 
-const NOT_MOVED: Step = Step::Readmit(Some(Readmitted::Fault));
+const TAKE_A: Step = Step::Take(&[A_TAKEN]);
 
-const NONE_LEFT: Step = Step::Readmit(None);
+const TAKE_B: Step = Step::Take(&[B_TAKEN]);
 
-// With no call refused.
-const WHOLE: Told = Told {
-    writes: [WROTE, WROTE],
-    looks: [A, B],
-    takes: [Step::Take(&[B_TAKEN, A_TAKEN])],
-    moves: [BACK, BACK],
-    left: [A, B],
-};
+// The look-up of the one record failed, so it was not hit.
+const HIT_B: Step = Step::Take(&[B_TAKEN, A_NOT_READ]);
 
-// With this call alone refused, from the first on.
-const ALONE: [Told; 9] = [
-    Told {
-        writes: [LOST, WROTE],
-        looks: [A_GONE, B],
-        takes: [Step::Take(&[B_TAKEN])],
-        moves: [BACK, NONE_LEFT],
-        left: [A_GONE, B],
-    },
-    Told {
-        writes: [WROTE, LOST],
-        looks: [A, B_GONE],
-        takes: [Step::Take(&[A_TAKEN])],
-        moves: [BACK, NONE_LEFT],
-        left: [A, B_GONE],
-    },
-    Told {
-        looks: [A_UNREAD, B],
-        takes: [Step::Take(&[B_TAKEN, A_NOT_READ])],
-        ..WHOLE
-    },
-    Told {
-        looks: [A, B_UNREAD],
-        takes: [Step::Take(&[B_NOT_READ, A_TAKEN])],
-        ..WHOLE
-    },
-    Told {
-        takes: [Step::TakeLost],
-        moves: [BACK, NONE_LEFT],
-        left: [A, B_GONE],
-        ..WHOLE
-    },
-    Told {
-        takes: [Step::TakeLost],
-        moves: [BACK, NONE_LEFT],
-        left: [A_GONE, B],
-        ..WHOLE
-    },
-    Told {
-        moves: [NOT_MOVED, BACK],
-        left: [A_GONE, B],
-        ..WHOLE
-    },
-    Told {
-        moves: [BACK, NOT_MOVED],
-        left: [A, B_GONE],
-        ..WHOLE
-    },
-    WHOLE,
+const HIT_A: Step = Step::Take(&[B_NOT_READ, A_TAKEN]);
+
+const NO_TAKE: Step = Step::Take(&[]);
+
+const LOST: Step = Step::TakeLost;
+
+const MOVE: Step = Step::Readmit(Some(Readmitted::Readmitted));
+
+const FAULT: Step = Step::Readmit(Some(Readmitted::Fault));
+
+const NONE: Step = Step::Readmit(None);
+
+// Behind the readmissions the oldest segment has no live record, whatever was lost.
+const END: Step = Step::Empty;
+
+const FREE: Step = Step::Free(true);
+
+// The calls of a script, each with what it gives. Two records, ax and bx, fill a page each. Their pages are written, they
+// are looked up, taken together, readmitted in turn, and looked up once more. With each call of the device taken it makes
+// eight: two writes and six reads.
+const WHOLE: [Step; 14] = [
+    ADD_A, ADD_B, SEAL, WRITE, WRITE, A, B, TAKE, MOVE, MOVE, END, A, B, FREE,
 ];
 
-// With this call and all later ones refused.
-const FOR_GOOD: [Told; 9] = [
-    Told {
-        writes: [LOST, LOST],
-        looks: [A_GONE, B_GONE],
-        takes: [Step::Take(&[])],
-        moves: [NONE_LEFT, NONE_LEFT],
-        left: [A_GONE, B_GONE],
-    },
-    Told {
-        writes: [WROTE, LOST],
-        looks: [A_UNREAD, B_GONE],
-        takes: [Step::TakeLost],
-        moves: [NONE_LEFT, NONE_LEFT],
-        left: [A_GONE, B_GONE],
-    },
-    Told {
-        looks: [A_UNREAD, B_UNREAD],
-        ..NOT_TAKEN
-    },
-    Told {
-        looks: [A, B_UNREAD],
-        ..NOT_TAKEN
-    },
-    NOT_TAKEN,
-    NOT_TAKEN,
-    Told {
-        moves: [NOT_MOVED, NOT_MOVED],
-        left: [A_GONE, B_GONE],
-        ..WHOLE
-    },
-    Told {
-        moves: [BACK, NOT_MOVED],
-        left: [A, B_GONE],
-        ..WHOLE
-    },
-    WHOLE,
+// What comes where each call of the device is refused alone, and where it is refused with all later ones. A taking loses
+// the page of one record, and the readmission behind it that of the other.
+const REFUSED: [(&[Step], &[Step]); 9] = [
+    (
+        &[
+            ADD_A, ADD_B, SEAL, LOSE, WRITE, NO_A, B, TAKE_B, MOVE, NONE, END, NO_A, B, FREE,
+        ],
+        &[
+            ADD_A, ADD_B, SEAL, LOSE, LOSE, NO_A, NO_B, NO_TAKE, NONE, NONE, END, NO_A, NO_B, FREE,
+        ],
+    ),
+    (
+        &[
+            ADD_A, ADD_B, SEAL, WRITE, LOSE, A, NO_B, TAKE_A, MOVE, NONE, END, A, NO_B, FREE,
+        ],
+        &[
+            ADD_A, ADD_B, SEAL, WRITE, LOSE, BAD_A, NO_B, LOST, NONE, NONE, END, NO_A, NO_B, FREE,
+        ],
+    ),
+    (
+        &[
+            ADD_A, ADD_B, SEAL, WRITE, WRITE, BAD_A, B, HIT_B, MOVE, MOVE, END, A, B, FREE,
+        ],
+        &[
+            ADD_A, ADD_B, SEAL, WRITE, WRITE, BAD_A, BAD_B, LOST, FAULT, NONE, END, NO_A, NO_B,
+            FREE,
+        ],
+    ),
+    (
+        &[
+            ADD_A, ADD_B, SEAL, WRITE, WRITE, A, BAD_B, HIT_A, MOVE, MOVE, END, A, B, FREE,
+        ],
+        &[
+            ADD_A, ADD_B, SEAL, WRITE, WRITE, A, BAD_B, LOST, FAULT, NONE, END, NO_A, NO_B, FREE,
+        ],
+    ),
+    (
+        &[
+            ADD_A, ADD_B, SEAL, WRITE, WRITE, A, B, LOST, MOVE, NONE, END, A, NO_B, FREE,
+        ],
+        &[
+            ADD_A, ADD_B, SEAL, WRITE, WRITE, A, B, LOST, FAULT, NONE, END, NO_A, NO_B, FREE,
+        ],
+    ),
+    (
+        &[
+            ADD_A, ADD_B, SEAL, WRITE, WRITE, A, B, LOST, MOVE, NONE, END, NO_A, B, FREE,
+        ],
+        &[
+            ADD_A, ADD_B, SEAL, WRITE, WRITE, A, B, LOST, FAULT, NONE, END, NO_A, NO_B, FREE,
+        ],
+    ),
+    (
+        &[
+            ADD_A, ADD_B, SEAL, WRITE, WRITE, A, B, TAKE, FAULT, MOVE, END, NO_A, B, FREE,
+        ],
+        &[
+            ADD_A, ADD_B, SEAL, WRITE, WRITE, A, B, TAKE, FAULT, FAULT, END, NO_A, NO_B, FREE,
+        ],
+    ),
+    (
+        &[
+            ADD_A, ADD_B, SEAL, WRITE, WRITE, A, B, TAKE, MOVE, FAULT, END, A, NO_B, FREE,
+        ],
+        &[
+            ADD_A, ADD_B, SEAL, WRITE, WRITE, A, B, TAKE, MOVE, FAULT, END, A, NO_B, FREE,
+        ],
+    ),
+    (&WHOLE, &WHOLE),
 ];
 
-// The taking loses the page of one record, and the readmission that of the other.
-const NOT_TAKEN: Told = Told {
-    takes: [Step::TakeLost],
-    moves: [NOT_MOVED, NONE_LEFT],
-    left: [A_GONE, B_GONE],
-    ..WHOLE
-};
-
-fn refused_alone(rt: &impl Abort, alloc: Global, call: u32, told: &Told) -> Result<(), Fail> {
+fn refused_alone(rt: &impl Abort, alloc: Global, call: u32, steps: &[Step]) -> Result<(), Fail> {
     let device = FuseDevice::one(MemoryDevice::new(alloc, 5)?, call);
     let mut owner: Owner<Fused, 256> = log(alloc, TWO_PAGES, device)?;
-    runs(rt, alloc, &mut owner, told)
+    run(rt, alloc, &mut owner, steps)
 }
 
-fn refused_from(rt: &impl Abort, alloc: Global, call: u32, told: &Told) -> Result<(), Fail> {
+fn refused_from(rt: &impl Abort, alloc: Global, call: u32, steps: &[Step]) -> Result<(), Fail> {
     let device = FuseDevice::from(MemoryDevice::new(alloc, 5)?, call);
     let mut owner: Owner<Fused, 256> = log(alloc, TWO_PAGES, device)?;
-    runs(rt, alloc, &mut owner, told)
+    run(rt, alloc, &mut owner, steps)
 }
 
 #[test]
 fn each_page_is_lost_alone(rt: HostRuntime) -> Result<(), Fail> {
     let alloc = rt.alloc();
     for number in 0..9u32 {
-        refused_alone(&rt, alloc, number + 1, &ALONE[number as usize])?;
-    }
-    Ok(())
-}
-
-#[test]
-fn all_pages_from_one_on_are_lost(rt: HostRuntime) -> Result<(), Fail> {
-    let alloc = rt.alloc();
-    for number in 0..9u32 {
-        refused_from(&rt, alloc, number + 1, &FOR_GOOD[number as usize])?;
+        let (alone, for_good) = REFUSED[number as usize];
+        refused_alone(&rt, alloc, number + 1, alone)?;
+        refused_from(&rt, alloc, number + 1, for_good)?;
     }
     Ok(())
 }
