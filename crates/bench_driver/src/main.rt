@@ -1,7 +1,7 @@
 //! The program: scripts of a cache answered and judged, traces judged, and loads run.
 #![tactic(auto)]
 
-use command_line::{Ending, Line, LineFault, answer_script, asked, check_file, tell_help};
+use command_line::{Ended, Ending, Line, LineFault, answer_script, asked, check_file, tell_help};
 use load_run::run_load;
 use std::io;
 use std::io::BufWriter;
@@ -12,23 +12,21 @@ const PAGE: usize = 4096;
 
 fn main(rt: HostRuntime) -> ExitCode {
     let mut output = io::writer(&rt);
-    let ending = match asked(&rt) {
-        Ok(Line::Script) => script(&rt),
-        Ok(Line::Check(file)) => check_file(&rt, &file, &mut output),
+    let ended = match asked(&rt) {
+        Ok(Line::Script) => Ended::plain(script(&rt)),
+        Ok(Line::Check(file)) => check_file(&rt, file, &mut output),
         Ok(Line::Run(load)) => {
             return ExitCode::from(run_load(&rt, &load, &mut output, &mut rt.stderr()));
         }
         Err(LineFault::Usage(text)) => {
             let _ = eprint!(rt; "{text}");
-            Ending::BadInput
+            Ended::plain(Ending::BadInput)
         }
-        Err(LineFault::Help(text)) => tell_help(&mut output, text.as_str()),
-        Err(LineFault::OutOfMemory) => Ending::OutOfMemory,
+        Err(LineFault::Help(text)) => Ended::plain(tell_help(&mut output, text.as_str())),
+        Err(LineFault::OutOfMemory) => Ended::plain(Ending::OutOfMemory),
     };
-    if let Some(message) = ending.message() {
-        let _ = eprintln!(rt; "{message}");
-    }
-    ending.code()
+    ended.tell(&mut rt.stderr());
+    ended.code()
 }
 
 /// Answers the script of standard input on standard output, through a buffer.

@@ -5,6 +5,7 @@ ghost use Rattle.std.specs.Io.KnownBytes.{Appends};
 ghost use Rattle.record_pages.specs.Sizes.{IsPageSize};
 ghost use Rattle.command_line.specs.Outcomes.{IsAnswered, IsChecked};
 
+use crate::ended::Ended;
 use crate::ending::Ending;
 use certificate_checker::judge_with_hasher;
 use key_hash::RandomSeed;
@@ -51,19 +52,21 @@ pub fn answer_check<S: BuildHasher + Drop, R: Read, W: Write>(
     Ending::of_check(judge_with_hasher(alloc, hash_builder, reader, writer))
 }
 
-/// Judges the trace in a file by a hasher with a seed of its own, and says how the program ends. A file
-/// that is not opened is a `FileFault`, and so is a system that gives no random numbers.
+/// Judges the trace in a file by a hasher with a seed of its own, and says how the program ended. A file
+/// that is not opened is a `FileFault`, of which the cause is told, and so is a system that gives no random numbers.
 pub fn check_file<W: Write>(
     rt: &(impl Files + RandomSource + AllocGlobal),
-    file: &FileName,
+    file: FileName,
     writer: &mut W,
-) -> Ending {
+) -> Ended {
     let Ok(hash_builder) = RandomSeed::draw(rt) else {
-        return Ending::FileFault;
+        return Ended::plain(Ending::FileFault);
     };
     match fs::open(rt, file.as_str()) {
-        Ok(mut reader) => answer_check(rt.alloc(), hash_builder, &mut reader, writer),
-        Err(_) => Ending::FileFault,
+        Ok(mut reader) => {
+            Ended::plain(answer_check(rt.alloc(), hash_builder, &mut reader, writer))
+        }
+        Err(error) => Ended::unopened(file, error),
     }
 }
 

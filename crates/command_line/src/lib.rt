@@ -4,6 +4,7 @@
 mod answering;
 mod asked_load;
 mod asking;
+mod ended;
 mod ending;
 mod line;
 mod line_fault;
@@ -13,6 +14,7 @@ mod telling;
 
 pub use answering::{answer_check, answer_script, check_file, tell_help};
 pub use asking::asked;
+pub use ended::Ended;
 pub use ending::Ending;
 pub use line::Line;
 pub use line_fault::LineFault;

@@ -77,7 +77,7 @@ pub fn parse_line<'a, S: AsStr>(alloc: Global, words: &'a [S]) -> Result<Line, L
     }
 }
 
-/// What is told where a word of the command line is no text, whatever the others are.
+/// What is told where a word of the command line is not text, whatever the others are.
 pub fn no_text(alloc: Global) -> LineFault
     ensures { IsToldOf ErrorKind.InvalidValue result }
 {

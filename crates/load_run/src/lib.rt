@@ -2,7 +2,9 @@
 #![tactic(auto)]
 
 mod caller;
+mod cause;
 mod crew;
+mod ended;
 mod hits;
 mod made;
 mod run;

@@ -7,6 +7,7 @@ ghost use Rattle.load_run.specs.Wholes.{IsWhole, is_short};
 use crate::crew::run_crew;
 use crate::run_end::RunEnd;
 use crate::shared::{Device, open};
+use crate::watching::tell_step;
 use crossbeam_channel::{Receiver, bounded};
 use load::Load;
 use shared_cache::{Finished, Pass};
@@ -53,6 +54,7 @@ pub fn make_history<R: Threads + Wait + Sync + Clock, E: Write + IsTerminal>(
     let Ok(left) = take_left(rt, alloc, load, &from) else {
         return Err(RunEnd::OutOfMemory);
     };
+    tell_step(err, load, "laying the calls out");
     match cache.finish(left.passes) {
         Ok(finished) => Ok(Made {
             finished,

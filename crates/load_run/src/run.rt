@@ -4,81 +4,111 @@ ghost use Rattle.certificate_checker.specs.Acceptance.{IsAccepted};
 ghost use Rattle.load_run.specs.Ends.{status_of};
 ghost use Rattle.load_run.specs.Runs.{IsRunOf, IsSaid, IsSummaryOf, WroteLines};
 
+use crate::cause::Cause;
+use crate::ended::Ended;
 use crate::hits::hits_of;
 use crate::made::{Made, make_history};
 use crate::run_end::RunEnd;
 use crate::summary::Summary;
-use certificate_checker::check;
+use crate::watching::tell_step;
+use certificate_checker::check_with_hasher;
+use key_hash::RandomSeed;
 use load::{FileName, Load};
 use std::alloc::{AllocError, Global};
-use std::fs;
+use std::fs::OpenOptions;
 use std::io::{BufWriter, IsTerminal, Write};
+use std::random::RandomSource;
 use std::rt::Files;
 use std::sync::Wait;
 use std::thread::Threads;
 use std::time::Clock;
+use std::{fs, io};
 use trace_file::{Certificate, History, write_trace};
 
 /// Runs a load, and answers the status that the program ends with.
 ///
-/// Each caller has a thread, its pass and a generator of its own, and stops at its first refusal; the workers flush and
-/// move beside them. Then the history is judged, the trace is written to its file, and the four lines are written to
-/// `out`. What went wrong else is told to `err`, in a line. Where `err` is a terminal it is told too how many calls were made,
-/// at most twice a second while they are.
+/// The file of the trace is opened first, and emptied only when there is a trace to write: a file that can't be opened costs
+/// no run, and a run that fails before it has a trace loses no older one. Each caller has a thread, its pass and a generator of its own, and stops
+/// at its first refusal; the workers flush and move beside them. Then the history is judged, by a table with a seed that is
+/// drawn for it, the trace is written to its file, and the four lines are written to `out`. What went wrong else is told to
+/// `err`, in a line, and where a file failed in a second one, which names it with the system's cause. Where `err` is a
+/// terminal it is told too how many calls were made, at most twice a second while they are, and of a long run what is done
+/// with them behind that.
 pub fn run_load<
-    R: Threads + Wait + Sync + AllocGlobal + Files + Clock,
+    R: Threads + Wait + Sync + AllocGlobal + Files + Clock + RandomSource,
     O: Write,
     E: Write + IsTerminal,
 >(rt: &R, load: &Load, out: &mut O, err: &mut E) -> u8
     ensures { IsRunOf load.now (O.contents out.old) (O.contents out.new) result }
 {
-    let end = run_to_end(rt, load, out, err);
-    tell(err, end);
-    end.status()
+    let ended = run_to_end(rt, load, out, err);
+    tell(err, load, &ended);
+    ended.end.status()
 }
 
-/// Writes the line of an end, where it has one. What `err` refuses is not told.
-fn tell<E: Write>(err: &mut E, end: RunEnd) {
-    if let Some(message) = end.message() {
+/// Writes the line of an end, where it has one, and what failed. What `err` refuses is not told.
+fn tell<E: Write>(err: &mut E, load: &Load, ended: &Ended) {
+    if let Some(message) = ended.end.message() {
         let _ = err.write_all(message.as_bytes());
         let _ = err.write_all(b"\n");
-        let _ = err.flush();
     }
+    if let Some(cause) = &ended.cause {
+        cause.tell(&load.trace, err);
+    }
+    let _ = err.flush();
 }
 
 /// Runs a load, and answers how it ended.
 fn run_to_end<
-    R: Threads + Wait + Sync + AllocGlobal + Files + Clock,
+    R: Threads + Wait + Sync + AllocGlobal + Files + Clock + RandomSource,
     O: Write,
     E: Write + IsTerminal,
->(rt: &R, load: &Load, out: &mut O, err: &mut E) -> RunEnd
-    ensures shares { (result ≡ RunEnd.SharesExceed) ↔ (100 < load.now.gets + load.now.removes) }
-    ensures wrote { WroteLines load.now (O.contents out.old) (O.contents out.new) result }
-    ensures accepted { result ≢ RunEnd.Rejected }
+>(rt: &R, load: &Load, out: &mut O, err: &mut E) -> Ended
+    ensures shares { (result.end ≡ RunEnd.SharesExceed) ↔ (100 < load.now.gets + load.now.removes) }
+    ensures wrote { WroteLines load.now (O.contents out.old) (O.contents out.new) result.end }
+    ensures accepted { result.end ≢ RunEnd.Rejected }
 {
     if load.gets + load.removes > 100 {
-        return RunEnd::SharesExceed;
+        return Ended::plain(RunEnd::SharesExceed);
     }
+    let _opened = match open_trace(rt, &load.trace) {
+        Ok(file) => file,
+        Err(error) => return Ended::failed(Cause::Opening(error)),
+    };
+    let seed = match RandomSeed::draw(rt) {
+        Ok(seed) => seed,
+        Err(error) => return Ended::failed(Cause::Random(error)),
+    };
     let made = match make_history(rt, rt.alloc(), load, err) {
         Ok(made) => made,
-        Err(end) => return end,
+        Err(end) => return Ended::plain(end),
     };
-    let Ok(summary) = summary_of(rt.alloc(), &made) else {
-        return RunEnd::OutOfMemory;
+    tell_step(err, load, "judging");
+    let Ok(summary) = summary_of(rt.alloc(), seed, &made) else {
+        return Ended::plain(RunEnd::OutOfMemory);
     };
-    if let Err(end) = save(
+    tell_step(err, load, "writing the trace");
+    if let Err(ended) = save(
         rt,
         &load.trace,
         &made.finished.history,
         &made.finished.certificate,
     ) {
-        return end;
+        return ended;
     }
     write_lines(rt.alloc(), &summary, out)
 }
 
+/// Opens the file of the trace, which is made where it is absent, and leaves in it what it holds.
+fn open_trace<R: Files>(rt: &R, name: &FileName) -> io::Result<R::File> {
+    OpenOptions::new()
+        .write(true)
+        .create(true)
+        .open(rt, name.as_str())
+}
+
 /// What is told of a history that was made.
-fn summary_of(alloc: Global, made: &Made) -> Result<Summary, AllocError>
+fn summary_of(alloc: Global, seed: RandomSeed, made: &Made) -> Result<Summary, AllocError>
     ensures is { IfOk result (λ summary. IsSummaryOf summary made.now.finished.history made.now.finished.certificate) }
     ensures stopped { IfOk result (λ summary. summary.stopped ≡ made.now.stopped) }
 {
@@ -87,46 +117,47 @@ fn summary_of(alloc: Global, made: &Made) -> Result<Summary, AllocError>
         calls: history.len(),
         hits: hits_of(history),
         stopped: made.stopped,
-        verdict: check(alloc, history, &made.finished.certificate)?,
+        verdict: check_with_hasher(alloc, seed, history, &made.finished.certificate)?,
     })
 }
 
-/// Makes the file of the trace, and writes the trace to it through a buffer.
+/// Empties the file of the trace, and writes the trace to it through a buffer.
 fn save<R: AllocGlobal + Files>(
     rt: &R,
     name: &FileName,
     history: &History,
     certificate: &Certificate,
-) -> Result<(), RunEnd>
-    ensures { IfErr result (λ end. (end ≡ RunEnd.OutOfMemory) ⊎ (end ≡ RunEnd.FileFault)) }
+) -> Result<(), Ended>
+    ensures { IfErr result (λ ended. (ended.end ≡ RunEnd.OutOfMemory) ⊎ (ended.end ≡ RunEnd.FileFault)) }
 {
-    let Ok(file) = fs::create(rt, name.as_str()) else {
-        return Err(RunEnd::FileFault);
+    let file = match fs::create(rt, name.as_str()) {
+        Ok(file) => file,
+        Err(error) => return Err(Ended::failed(Cause::Opening(error))),
     };
     let Ok(mut writer) = BufWriter::new(rt.alloc(), file) else {
-        return Err(RunEnd::OutOfMemory);
+        return Err(Ended::plain(RunEnd::OutOfMemory));
     };
     if write_trace(history, certificate, &mut writer).is_err() {
-        return Err(RunEnd::FileFault);
+        return Err(Ended::failed(Cause::Writing));
     }
     if writer.flush().is_err() {
-        return Err(RunEnd::FileFault);
+        return Err(Ended::failed(Cause::Writing));
     }
     Ok(())
 }
 
 /// Writes the four lines of a run that was judged, and answers how the run ended.
-fn write_lines<O: Write>(alloc: Global, summary: &Summary, out: &mut O) -> RunEnd
-    ensures { IsSaid summary.now (O.contents out.old) (O.contents out.new) result }
+fn write_lines<O: Write>(alloc: Global, summary: &Summary, out: &mut O) -> Ended
+    ensures { IsSaid summary.now (O.contents out.old) (O.contents out.new) result.end }
 {
     let Ok(lines) = summary.lines(alloc) else {
-        return RunEnd::OutOfMemory;
+        return Ended::plain(RunEnd::OutOfMemory);
     };
     if out.write_all(lines.as_bytes()).is_err() {
-        return RunEnd::FileFault;
+        return Ended::failed(Cause::Output);
     }
     if out.flush().is_err() {
-        return RunEnd::FileFault;
+        return Ended::failed(Cause::Output);
     }
-    RunEnd::of_verdict(summary.verdict, summary.stopped)
+    Ended::plain(RunEnd::of_verdict(summary.verdict, summary.stopped))
 }

@@ -12,7 +12,7 @@ use std::time::Duration;
 const NAP: u64 = 50;
 
 /// Flushes and moves in each lane in turn, beginning with the one of the worker's number, until all callers ended. Where
-/// there was nothing to do in so many lanes as there are, one after the other, it leaves their locks alone for a while.
+/// there was nothing to do in as many lanes as there are, one after the other, it leaves their locks alone for a while.
 pub fn work<R: Wait>(rt: &R, cache: &Cache, lanes: u32, worker: u32, running: &AtomicU64)
     requires lanes { lanes ≡ cache.now.layout.lanes }
     requires some { 0 < lanes }

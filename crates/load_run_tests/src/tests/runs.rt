@@ -6,6 +6,7 @@ use load::Load;
 use load_run::run_load;
 use std::alloc::Global;
 use std::fs;
+use std::random::RandomSource;
 use std::rt::Files;
 use std::sync::Wait;
 use std::test::Fail;
@@ -21,7 +22,7 @@ struct Ran {
 }
 
 /// Runs a load, with a second output that is a terminal or is none.
-fn run_before<R: Threads + Wait + Sync + AllocGlobal + Files + Clock>(
+fn run_before<R: Threads + Wait + Sync + AllocGlobal + Files + Clock + RandomSource>(
     rt: &R,
     load: &Load,
     is_terminal: bool,
@@ -40,7 +41,10 @@ fn run_before<R: Threads + Wait + Sync + AllocGlobal + Files + Clock>(
 }
 
 /// Runs a load before no terminal.
-fn run_of<R: Threads + Wait + Sync + AllocGlobal + Files + Clock>(rt: &R, load: &Load) -> Ran {
+fn run_of<R: Threads + Wait + Sync + AllocGlobal + Files + Clock + RandomSource>(
+    rt: &R,
+    load: &Load,
+) -> Ran {
     run_before(rt, load, false)
 }
 
@@ -194,7 +198,8 @@ const NOWHERE: &[&str] = &[
 #[test]
 fn a_trace_that_can_not_be_made_is_a_file_fault(rt: HostRuntime) -> Result<(), Fail> {
     let load = load_of(rt.alloc(), NOWHERE).ok_or("a load")?;
-    assert!(rt; is_refused(&run_of(&rt, &load), 3, b"file fault\n"));
+    let refused = b"file fault\nno such folder/t.trace: No such file or directory (os error 2)\n";
+    assert!(rt; is_refused(&run_of(&rt, &load), 3, refused));
     Ok(())
 }
 
@@ -220,6 +225,10 @@ fn progress_is_told_to_a_terminal(rt: HostRuntime) -> Result<(), Fail> {
     let ran = run_before(&rt, &load, true);
     assert_eq!(rt; ran.status, 0);
     assert!(rt; ran.out.as_slice().starts_with(b"calls 300000\n"));
-    assert!(rt; ran.err.as_slice().ends_with(b"000 of 300000 calls\r\n"));
+    assert!(rt;
+        ran.err.as_slice().ends_with(
+            b"000 of 300000 calls\r\nlaying the calls out\njudging\nwriting the trace\n"
+        )
+    );
     Ok(fs::remove_file(&rt, "long.trace")?)
 }

@@ -1,4 +1,5 @@
 // What the words of a command line ask for, and files that are no trace.
+use certificate_checker::Judged;
 use command_line::{Ending, FileName, Line, LineFault, check_file, no_text, parse_line};
 use std::alloc::Global;
 use std::test::Fail;
@@ -86,8 +87,24 @@ fn other_command_lines_get_a_usage(rt: HostRuntime) {
 fn what_is_no_file_is_no_trace(rt: HostRuntime) -> Result<(), Fail> {
     let mut out: Vec<u8> = Vec::new(rt.alloc());
     let absent = FileName::new(rt.alloc(), "there is no such file")?;
-    assert_eq!(rt; check_file(&rt, &absent, &mut out), Ending::FileFault);
+    let mut told: Vec<u8> = Vec::new(rt.alloc());
+    let ended = check_file(&rt, absent, &mut out);
+    assert_eq!(rt; ended.ending, Ending::FileFault);
+    ended.tell(&mut told);
+    assert_eq!(rt;
+        told.as_slice(),
+        b"file fault\nthere is no such file: No such file or directory (os error 2)\n".as_slice()
+    );
     let folder = FileName::new(rt.alloc(), ".")?;
-    assert_eq!(rt; check_file(&rt, &folder, &mut out), Ending::BadInput);
+    assert_eq!(rt; check_file(&rt, folder, &mut out).ending, Ending::BadInput);
     Ok(())
+}
+
+#[test]
+fn each_ending_has_its_status(rt: HostRuntime) {
+    assert_eq!(rt; Ending::of_check(Ok(Judged::Rejected)), Ending::Rejected);
+    assert_eq!(rt; Ending::Done.status(), 0);
+    assert_eq!(rt; Ending::Rejected.status(), 1);
+    assert_eq!(rt; Ending::BadInput.status(), 2);
+    assert_eq!(rt; Ending::FileFault.status(), 3);
 }
