@@ -4,7 +4,7 @@ ghost use Rattle.admission.specs.Chance.{is_admitted};
 
 use policy_laws::PreFlash;
 
-/// Admits as many of 65,536 objects: those whose word, an even random number, has its low 16 bits below the
+/// Admits as many of 65,536 objects: those whose word, a uniform random number, has its low 16 bits below the
 /// setting. 65536 and all above admit every object, 0 none.
 #[derive(Clone, Copy, Debug, PartialEq, Eq)]
 pub struct Chance {

@@ -1,4 +1,4 @@
-// The one pass over the places of a certificate.
+// The two passes of the check: over a history for its intervals, over the places of its certificate.
 ghost use Rattle.std.specs.Prelude.{◌≡◌, ◌<◌, IfOk};
 ghost use Rattle.certificate_checker.specs.Faults.{IsFirstBadInterval, IsFirstOfPlaces};
 

@@ -1,4 +1,4 @@
-// The latest values of all keys, as one pass over the calls knows them.
+// The latest values of all keys, as a pass over the calls in their order knows them.
 ghost use Rattle.std.specs.Prelude.{◌≡◌, ◌↔◌, IsTrue, Some, OnOk, List, ℕ};
 ghost use Rattle.trace_file.specs.Lent.{call_shown};
 ghost use Rattle.certificate_checker.specs.Deeds.{deed_of};

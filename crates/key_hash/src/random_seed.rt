@@ -8,7 +8,9 @@ use std::random::RandomSource;
 
 /// A seed, by which a map hashes its keys.
 ///
-/// Whoever does not know it cannot tell which keys collide.
+/// It is drawn so that whoever does not know it can't pick keys beforehand that are known to collide
+/// under it. That is not proved, and nothing is claimed against one who can watch how long look-ups take
+/// or try out many keys.
 #[derive(Clone, Copy)]
 pub struct RandomSeed {
     start: u64,

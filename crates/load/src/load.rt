@@ -20,14 +20,15 @@ pub struct Load {
     pub value_bytes: u32,
     /// Gets, in per cent of the operations.
     pub gets: u32,
-    /// Removes, in per cent of the operations. With the gets they may exceed 100, and then there are
-    /// fewer.
+    /// Removes, in per cent of the operations. With the gets they may exceed 100; such a load is refused
+    /// where it is to be run.
     pub removes: u32,
     /// Workers that flush and move, each in a thread of its own.
     pub workers: u32,
     /// The seed of the callers' random words.
     pub seed: u32,
-    /// The folder of the lanes' files; none for devices in memory.
+    /// The folder of the lanes' files; none for devices in memory, and always none today: the command
+    /// line has no such option.
     pub device: Option<FileName>,
     /// The file that the trace is written to.
     pub trace: FileName,

@@ -3,7 +3,7 @@
 /// The fate of the pair that left memory for a new one.
 #[derive(Clone, Copy, Debug, PartialEq, Eq)]
 pub enum Pushed {
-    /// No pair had to leave.
+    /// Nothing was pushed out.
     Nobody,
     /// The pair was not admitted to flash, and is lost.
     Declined,

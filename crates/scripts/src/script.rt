@@ -251,7 +251,7 @@ fn answer_next<const PAGE: usize, W: Write>(
 /// says how the script ended. At `ReadFault` it wrote just the replies of the lines that were whole in
 /// what it read, at `OutOfMemory` those of the lines before the one that met it; after `WriteFault`
 /// nothing is said of the output. It flushes the writer before a read where a reply was written since,
-/// so who waits for a reply gets it. It reads ahead, so the reader may be left behind the script's end,
+/// so whoever waits for a reply gets it. It reads ahead, so the reader may be left behind the script's end,
 /// and it writes once a line, so give it a writer with a buffer. It takes memory for one line, what was
 /// read ahead, the lane and its calls.
 pub fn run_script<const PAGE: usize, R: Read, W: Write>(

@@ -24,7 +24,7 @@ use std::alloc::{AllocError, Global};
 
 impl<const PAGE: usize> KLog<PAGE> {
     /// The value of the newest live record of a key, whose prediction is then one less, and not below 0. All other
-    /// answers, and `AllocError`, change nothing. A record that lies in memory is had without a call of the device.
+    /// answers, and `AllocError`, change nothing. A record that lies in memory is given without a call of the device.
     pub fn look<D: PageDevice<PAGE>>(
         &mut self,
         alloc: Global,

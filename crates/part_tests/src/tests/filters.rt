@@ -22,6 +22,18 @@ fn a_filter_admits_what_was_added(rt: HostRuntime) {
 }
 
 #[test]
+fn a_filter_of_high_bits_alone_is_cleared(rt: HostRuntime) {
+    let high = [252, 253, 254, 255];
+    let mut filter = Filter::empty();
+    filter.add(high);
+    assert!(rt; !filter.is_empty());
+    assert!(rt; filter.may_hold(high));
+    filter.clear();
+    assert!(rt; filter.is_empty());
+    assert!(rt; !filter.may_hold(high));
+}
+
+#[test]
 fn filters_of_a_list_are_apart(rt: HostRuntime) -> Result<(), Fail> {
     let mut filters = vec![in rt.alloc(); Filter::empty(); 3]?;
     assert_eq!(rt; filters.len(), 3);

@@ -26,6 +26,13 @@ const SMALLER_BEHIND: [Row; 3] = [
 
 const ALL_FIT: [Row; 2] = [(7, 2, false, false), (7, 4, false, false)];
 
+/// The promoted item is farther than the other old one, and a hit of a fresh item counts for nothing.
+const PROMOTED_FROM_AFAR: [Row; 3] = [
+    (7, 6, true, false),
+    (7, 3, false, false),
+    (7, 5, true, true),
+];
+
 fn prediction(number: u8) -> Result<Prediction, &'static str> {
     Prediction::new(number).ok_or("a prediction is at most 7")
 }
@@ -113,6 +120,13 @@ fn the_farthest_item_is_left_out(rt: HostRuntime) -> Result<(), Fail> {
     assert!(rt; are_ages(&job, &[0, 7, 6, 6]));
     let plan = through_the_bound(&Rriparoo, rt.alloc(), &job)?;
     assert!(rt; is_plan(&plan, &[(0, 0), (4, 2), (2, 6), (3, 6)]));
+    Ok(())
+}
+
+#[test]
+fn promoted_and_fresh_items_age_no_other(rt: HostRuntime) -> Result<(), Fail> {
+    let job = job(rt.alloc(), &PROMOTED_FROM_AFAR)?;
+    assert!(rt; are_ages(&job, &[0, 7, 5]));
     Ok(())
 }
 
