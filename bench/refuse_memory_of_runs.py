@@ -60,7 +60,7 @@ def main():
         source = os.path.join(HERE, "refuse_memory.c")
         subprocess.run(["cc", "-shared", "-fPIC", "-O1", "-o", library, source], check=True)
         number, idle = 1, 0
-        # how many requests there are hangs on how the threads run
+        # how many requests there are depends on how the threads run
         while idle < 50:
             refused, ended = run(library, program, file, number)
             way = how(program, file, ended)
