@@ -1,11 +1,14 @@
 //! The program: scripts of a cache answered and judged, traces judged, and loads run.
 #![tactic(auto)]
 
-use command_line::{Ended, Ending, Line, LineFault, answer_script, asked, check_file, tell_help};
+use command_line::{
+    Ended, Ending, Line, LineFault, RandomSeed, answer_script, asked, check_file, tell_help,
+};
 use load_run::run_load;
 use std::io;
 use std::io::BufWriter;
 use std::process::ExitCode;
+use std::random::RandomSource;
 
 /// The page size of the program, in bytes.
 const PAGE: usize = 4096;
@@ -29,10 +32,14 @@ fn main(rt: HostRuntime) -> ExitCode {
     ended.code()
 }
 
-/// Answers the script of standard input on standard output, through a buffer.
-fn script(rt: &(impl Input + Print + AllocGlobal)) -> Ending {
+/// Answers the script of standard input on standard output, through a buffer. The tables of its verdicts have a seed of
+/// their own.
+fn script(rt: &(impl Input + Print + RandomSource + AllocGlobal)) -> Ending {
+    let Ok(hash_builder) = RandomSeed::draw(rt) else {
+        return Ending::FileFault;
+    };
     let Ok(mut writer) = BufWriter::new(rt.alloc(), io::writer(rt)) else {
         return Ending::OutOfMemory;
     };
-    answer_script::<PAGE, _, _>(rt.alloc(), &mut rt.reader(), &mut writer)
+    answer_script::<PAGE, _, _, _>(rt.alloc(), hash_builder, &mut rt.reader(), &mut writer)
 }

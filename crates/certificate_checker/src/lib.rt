@@ -30,4 +30,4 @@ pub use laws::{
     placed_lanes_are_apart, verdict_line_exists, verdict_line_is_one,
 };
 pub use verdict::Verdict;
-pub use verdict_line::verdict_line_of;
+pub use verdict_line::{verdict_line_of, verdict_line_with_hasher};

@@ -10,7 +10,7 @@ use crate::ending::Ending;
 use certificate_checker::judge_with_hasher;
 use key_hash::RandomSeed;
 use load::FileName;
-use scripts::run_script;
+use scripts::run_script_with_hasher;
 use std::alloc::Global;
 use std::fs;
 use std::hash::BuildHasher;
@@ -20,9 +20,11 @@ use std::rt::Files;
 
 /// Answers the script of a reader, and says how the program ends. What the writer holds then is written
 /// out before this returns, also after a fault of the input or of memory: where that fails, the program
-/// ends as after a write that failed.
-pub fn answer_script<const PAGE: usize, R: Read, W: Write + Drop>(
+/// ends as after a write that failed. The tables of its verdicts hash keys by `hash_builder`, which whoever
+/// wrote the script should not know.
+pub fn answer_script<const PAGE: usize, S: BuildHasher + Copy, R: Read, W: Write + Drop>(
     alloc: Global,
+    hash_builder: S,
     reader: &mut R,
     writer: &mut BufWriter<W>,
 ) -> Ending
@@ -31,7 +33,12 @@ pub fn answer_script<const PAGE: usize, R: Read, W: Write + Drop>(
         bytes (R.remaining reader.new)
         (writer_contents W.contents writer.old) (W.contents (writer_inner writer.new)) result) }
 {
-    let outcome = run_script::<PAGE, R, BufWriter<W>>(alloc, reader, writer);
+    let outcome = run_script_with_hasher::<PAGE, S, R, BufWriter<W>>(
+        alloc,
+        hash_builder,
+        reader,
+        writer,
+    );
     match writer.flush() {
         Ok(()) => Ending::of_script(outcome),
         Err(_) => Ending::FileFault,

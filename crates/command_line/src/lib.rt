@@ -16,6 +16,7 @@ pub use answering::{answer_check, answer_script, check_file, tell_help};
 pub use asking::asked;
 pub use ended::Ended;
 pub use ending::Ending;
+pub use key_hash::RandomSeed;
 pub use line::Line;
 pub use line_fault::LineFault;
 pub use load::FileName;

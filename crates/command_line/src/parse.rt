@@ -94,6 +94,6 @@ fn no_text_error(alloc: Global) -> Result<clap::Error, AllocError>
     let mut command = program(alloc)?;
     command.error(
         ErrorKind::InvalidValue,
-        "a word of the command line is no text",
+        "a word of the command line is not text",
     )
 }

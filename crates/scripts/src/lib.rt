@@ -12,7 +12,7 @@ mod turn;
 
 pub use open_lane_fault::OpenLaneFault;
 pub use recording::Recording;
-pub use script::run_script;
+pub use script::{run_script, run_script_with_hasher};
 pub use script_fault::ScriptFault;
 pub use script_lane::ScriptLane;
 pub use scripted::Scripted;

@@ -4,13 +4,14 @@ ghost use Rattle.scripts.specs.Own.{seen_of};
 ghost use Rattle.scripts.specs.Replies.{shown, answer_text, tier_text, cause_text, flush_text, move_text, reply_to};
 
 use crate::script_lane::ScriptLane;
-use certificate_checker::verdict_line_of;
+use certificate_checker::verdict_line_with_hasher;
 use history_recorder::{RecordFault, RecordPutFault};
 use klog::Flushed;
 use mover::Moved;
 use record_pages::{Answer, Key, MissCause, Tier, Value};
 use script_words::Command;
 use std::alloc::{AllocError, Global};
+use std::hash::BuildHasher;
 
 /// Appends bytes to a text.
 pub(crate) fn append(text: &mut Vec<u8>, bytes: &[u8]) -> Result<(), AllocError>
@@ -208,8 +209,9 @@ fn move_reply<const PAGE: usize>(
 }
 
 /// The verdict on a script's calls so far.
-fn verdict_reply<const PAGE: usize>(
+fn verdict_reply<const PAGE: usize, S: BuildHasher + Drop>(
     alloc: Global,
+    hash_builder: S,
     lane: &ScriptLane<PAGE>,
     text: &mut Vec<u8>,
 ) -> Result<(), AllocError>
@@ -217,7 +219,12 @@ fn verdict_reply<const PAGE: usize>(
         ≡ text.old.items ++ (reply_to PAGE (seen_of lane.now) Command.Verdict).text) }
 {
     let recording = lane.recording(alloc)?;
-    let line = verdict_line_of(alloc, &recording.history, &recording.certificate)?;
+    let line = verdict_line_with_hasher(
+        alloc,
+        hash_builder,
+        &recording.history,
+        &recording.certificate,
+    )?;
     append(text, line.as_bytes())?;
     text.push(b'\n')?;
     Ok(())
@@ -239,8 +246,9 @@ fn trace_reply<const PAGE: usize>(
 }
 
 /// Answers a command: it changes the lane, and appends the reply to the text.
-pub(crate) fn answer_command<const PAGE: usize>(
+pub(crate) fn answer_command<const PAGE: usize, S: BuildHasher + Drop>(
     alloc: Global,
+    hash_builder: S,
     lane: &mut ScriptLane<PAGE>,
     command: Command,
     text: &mut Vec<u8>,
@@ -256,7 +264,7 @@ pub(crate) fn answer_command<const PAGE: usize>(
         Command::Forget(key) => forget_reply(lane, &key, text),
         Command::Flush => flush_reply(lane, text),
         Command::Move => move_reply(lane, text),
-        Command::Verdict => verdict_reply(alloc, lane, text),
+        Command::Verdict => verdict_reply(alloc, hash_builder, lane, text),
         Command::Trace => trace_reply(alloc, lane, text),
     }
 }

@@ -20,6 +20,7 @@ use crate::turn::Turn;
 use record_pages::{Config, Field};
 use script_words::{LineRead, ReadAhead, parse_command, parse_config};
 use std::alloc::{AllocError, Global};
+use std::hash::{BuildHasher, BuildHasherDefault, FoldHasher};
 use std::io::{Read, Write};
 
 /// The number of the last line that a script may have.
@@ -95,8 +96,9 @@ fn answer_first<const PAGE: usize>(
 }
 
 /// Answers a line behind the first.
-fn answer_further<const PAGE: usize>(
+fn answer_further<const PAGE: usize, S: BuildHasher + Drop>(
     alloc: Global,
+    hash_builder: S,
     number: u64,
     line: &[u8],
     lane: &mut ScriptLane<PAGE>,
@@ -111,7 +113,7 @@ fn answer_further<const PAGE: usize>(
 {
     match parse_command(alloc, line)? {
         Some(command) => {
-            answer_command(alloc, lane, command, text)?;
+            answer_command(alloc, hash_builder, lane, command, text)?;
             Ok(Turn::GoesOn)
         }
         None => append_bad_line(alloc, number, text),
@@ -119,8 +121,9 @@ fn answer_further<const PAGE: usize>(
 }
 
 /// Answers a line of at most `MAX_LINE_LEN` bytes.
-fn answer_line<const PAGE: usize>(
+fn answer_line<const PAGE: usize, S: BuildHasher + Drop>(
     alloc: Global,
+    hash_builder: S,
     number: u64,
     line: &[u8],
     lane: &mut Option<ScriptLane<PAGE>>,
@@ -139,14 +142,15 @@ fn answer_line<const PAGE: usize>(
         return append_bad_line(alloc, number, text);
     }
     match lane {
-        Some(opened) => answer_further(alloc, number, line, opened, text),
+        Some(opened) => answer_further(alloc, hash_builder, number, line, opened, text),
         None => answer_first(alloc, number, line, lane, text),
     }
 }
 
 /// Answers what was read: a line, one that is too long, or the end.
-fn answer_read<const PAGE: usize>(
+fn answer_read<const PAGE: usize, S: BuildHasher + Drop>(
     alloc: Global,
+    hash_builder: S,
     number: u64,
     read: LineRead,
     line: &[u8],
@@ -163,7 +167,7 @@ fn answer_read<const PAGE: usize>(
         ≡ (reply_to_read PAGE number (option_map seen_of lane.old) read line.now).opened) }
 {
     match read {
-        LineRead::Line => answer_line(alloc, number, line, lane, text),
+        LineRead::Line => answer_line(alloc, hash_builder, number, line, lane, text),
         LineRead::TooLong => append_bad_line(alloc, number, text),
         LineRead::End => match lane {
             Some(_) => Ok(Turn::Ends(Scripted::Ended)),
@@ -220,8 +224,9 @@ fn make_ready<R: Read, W: Write>(
 }
 
 /// Takes the next line, and answers it.
-fn answer_next<const PAGE: usize, W: Write>(
+fn answer_next<const PAGE: usize, S: BuildHasher + Drop, W: Write>(
     alloc: Global,
+    hash_builder: S,
     number: u64,
     ahead: &mut ReadAhead,
     line: &mut Vec<u8>,
@@ -240,7 +245,7 @@ fn answer_next<const PAGE: usize, W: Write>(
 {
     let read = ahead.take_line(line)?;
     text.clear();
-    let turn = answer_read(alloc, number, read, line, lane, text)?;
+    let turn = answer_read(alloc, hash_builder, number, read, line, lane, text)?;
     write(writer, text)?;
     Ok(turn)
 }
@@ -254,8 +259,31 @@ fn answer_next<const PAGE: usize, W: Write>(
 /// so whoever waits for a reply gets it. It reads ahead, so the reader may be left behind the script's end,
 /// and it writes once a line, so give it a writer with a buffer. It takes memory for one line, what was
 /// read ahead, the lane and its calls.
+/// Its verdicts are for keys that were not picked to be slow: they hash keys by a seed that anyone can read.
 pub fn run_script<const PAGE: usize, R: Read, W: Write>(
     alloc: Global,
+    reader: &mut R,
+    writer: &mut W,
+) -> Result<Scripted, ScriptFault>
+    requires { IsPageSize PAGE }
+    ensures ok { IfOk result (λ ending. IfSome (R.remaining reader.old) (λ bytes.
+        IsWhole (W.contents writer.old) (W.contents writer.new) ending (script_of PAGE bytes))) }
+    ensures err { IfErr result (λ fault. IfSome (R.remaining reader.old) (λ bytes.
+        WroteAt PAGE bytes (R.remaining reader.new)
+        (W.contents writer.old) (W.contents writer.new) fault)) }
+{
+    let known: BuildHasherDefault<FoldHasher> = BuildHasherDefault::new();
+    match run_script_with_hasher::<PAGE, _, R, W>(alloc, known, reader, writer) {
+        Ok(scripted) => Ok(scripted),
+        Err(fault) => Err(fault),
+    }
+}
+
+/// The same with verdicts whose tables hash keys as they are told, as by a seed that is drawn when the
+/// program starts and that whoever wrote the script did not know.
+pub fn run_script_with_hasher<const PAGE: usize, S: BuildHasher + Copy, R: Read, W: Write>(
+    alloc: Global,
+    hash_builder: S,
     reader: &mut R,
     writer: &mut W,
 ) -> Result<Scripted, ScriptFault>
@@ -276,7 +304,14 @@ pub fn run_script<const PAGE: usize, R: Read, W: Write>(
             return Err(fault);
         }
         match answer_next(
-            alloc, number, &mut ahead, &mut line, &mut lane, &mut text, writer,
+            alloc,
+            hash_builder,
+            number,
+            &mut ahead,
+            &mut line,
+            &mut lane,
+            &mut text,
+            writer,
         ) {
             Ok(Turn::GoesOn) => is_told = false,
             Ok(Turn::Ends(ending)) => return Ok(ending),

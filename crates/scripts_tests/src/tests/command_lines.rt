@@ -59,7 +59,7 @@ fn the_program_has_one_name(rt: HostRuntime) {
     assert!(rt; ask_for(alloc, &["out/bench_driver", "check"], Asked::Usage));
 }
 
-/// What the words are where one of them is no text can't be told, but how they are spelled can.
+/// What the words are where one of them is not text can't be told, but how they are spelled can.
 #[test]
 fn a_word_that_is_no_text_gets_a_usage(rt: HostRuntime) {
     let line = Err(no_text(rt.alloc()));

@@ -1,6 +1,7 @@
 // How the program ends, by what its output takes.
 use command_line::{Ending, answer_script, tell_help};
 use std::alloc::Global;
+use std::hash::{BuildHasherDefault, FoldHasher};
 use std::io;
 use std::io::{BufWriter, Error, ErrorKind, Read, Write};
 use std::test::Fail;
@@ -55,6 +56,9 @@ impl Read for Cut<'_> {
     }
 }
 
+/// What hashes keys in these tests.
+type Known = BuildHasherDefault<FoldHasher>;
+
 /// Whether a script of one good line, and a bad one where that is wanted, ends so over this output.
 fn ends(
     alloc: Global,
@@ -65,7 +69,12 @@ fn ends(
 ) -> Result<bool, Fail> {
     let mut reader = input;
     let mut writer = BufWriter::new(alloc, Output { refuses, taken: 0 })?;
-    let ended = answer_script::<256, &[u8], Output>(alloc, &mut reader, &mut writer);
+    let ended = answer_script::<256, Known, &[u8], Output>(
+        alloc,
+        Known::new(),
+        &mut reader,
+        &mut writer,
+    );
     Ok(ended == ending && writer.get_ref().taken == taken)
 }
 
@@ -99,7 +108,12 @@ fn an_input_that_fails_ends_the_program_with_a_read_fault(rt: HostRuntime) -> Re
     };
     let mut writer = BufWriter::new(rt.alloc(), output)?;
     let mut reader = Cut(b"config 1 1 4 2 1 8 1 65536\nput a");
-    let ended = answer_script::<256, Cut, Output>(rt.alloc(), &mut reader, &mut writer);
+    let ended = answer_script::<256, Known, Cut, Output>(
+        rt.alloc(),
+        Known::new(),
+        &mut reader,
+        &mut writer,
+    );
     assert_eq!(rt; ended, Ending::ReadFault);
     assert_eq!(rt; writer.get_ref().taken, 6);
     Ok(())

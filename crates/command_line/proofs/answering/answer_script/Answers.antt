@@ -66,4 +66,4 @@ emptied (Some xs) (Some ys) buffer h none = sym (append-nil ys) ∙ ap (λ b. ys
 pub returns-in-Ok : goal.returns-in-Ok
 returns-in-Ok g c =
     let kept = emptied _ (g.W.Write.contents (writer_inner c.flush.new.self)) (writer_buffer c.flush.new.self) c.flush.ensures.bytes c.in-Ok.ensures.ok in
-    answered g.row.PAGE (g.R.Read.remaining c.args.reader.now) (g.R.Read.remaining c.run_script-outcome.new.reader) (writer_contents g.W.Write.contents c.args.writer.now) (writer_contents g.W.Write.contents c.run_script-outcome.new.writer) (g.W.Write.contents (writer_inner c.flush.new.self)) c.run_script-outcome.result c.of_script.result c.run_script-outcome.ensures.ok c.run_script-outcome.ensures.err kept c.of_script.ensures
+    answered g.row.PAGE (g.R.Read.remaining c.args.reader.now) (g.R.Read.remaining c.run_script_with_hasher-outcome.new.reader) (writer_contents g.W.Write.contents c.args.writer.now) (writer_contents g.W.Write.contents c.run_script_with_hasher-outcome.new.writer) (g.W.Write.contents (writer_inner c.flush.new.self)) c.run_script_with_hasher-outcome.result c.of_script.result c.run_script_with_hasher-outcome.ensures.ok c.run_script_with_hasher-outcome.ensures.err kept c.of_script.ensures

@@ -1,7 +1,7 @@
 use Rattle.std.specs.Option.{option_map}
 use Rattle.scripts.specs.Own.{seen_of}
 use Rattle.scripts.proofs.Session.{Ran}
-use Rattle.scripts.proofs.script.run_script.Given as goal
+use Rattle.scripts.proofs.script.run_script_with_hasher.Given as goal
 
 abbrev pub invariant-loop-number : goal.invariant-loop-number
 invariant-loop-number g l =

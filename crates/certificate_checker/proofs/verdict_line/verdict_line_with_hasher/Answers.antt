@@ -8,7 +8,7 @@ use Rattle.certificate_checker.specs.declared.verdict.Verdict.TheVariants.{Accep
 use Rattle.certificate_checker.specs.Acceptance.{IsAccepted}
 use Rattle.certificate_checker.specs.Faults.{IsFirstFault}
 use Rattle.certificate_checker.specs.VerdictLine.{verdict_line, TellsVerdict}
-use Rattle.certificate_checker.proofs.verdict_line.verdict_line_of.Goals as goal
+use Rattle.certificate_checker.proofs.verdict_line.verdict_line_with_hasher.Goals as goal
 
 tells : (history : List Call) (certificate line : List ℕ) (verdict : Verdict) → ((verdict ≡ Accepted) ↔ IsAccepted history certificate) → ((fault : Fault) → verdict ≡ Rejected fault → IsFirstFault history certificate fault) → line ≡ verdict_line verdict (length history) → TellsVerdict history certificate line
 tells history certificate line Accepted accepted rejected is = record {
@@ -21,5 +21,5 @@ tells history certificate line (Rejected fault) accepted rejected is = record {
 }
 
 pub returns-in-Ok : goal.returns-in-Ok
-returns-in-Ok c =
+returns-in-Ok g c =
     tells c.args.history.now c.args.certificate.now _ c.in_ok-verdict.verdict c.in_ok-verdict.ensures.accepted c.in_ok-verdict.ensures.rejected (c.in-Ok.ensures ∙ ap (verdict_line c.in_ok-verdict.verdict) c.len.ensures.count)

@@ -6,7 +6,7 @@ use Rattle.script_words.specs.Lines.{is_ready}
 use Rattle.scripts.specs.declared.turn.Turn.{Turn}
 use Rattle.scripts.specs.Reading.{Answers}
 use Rattle.scripts.proofs.Session.{starts, read_on, goes_on, ends, stops_reading, stops_answering}
-use Rattle.scripts.proofs.script.run_script.Goals as goal
+use Rattle.scripts.proofs.script.run_script_with_hasher.Goals as goal
 
 pub loop-number-init : goal.loop-number-init
 loop-number-init g c =
