@@ -1,13 +1,12 @@
 // A lane whose calls are recorded.
 ghost use Rattle.std.specs.Prelude.{◌≡◌, ◌↔◌, ◌<◌, ◌≤◌, ◌++◌, ◌∷◌, [], All, length, map, IfOk, OnOk, OnErr, IsErrOf, IfErr, IsSome, IsTrue, slice_get, Some, None};
 ghost use Rattle.std.specs.List.{range_with_len};
-ghost use Rattle.record_pages.specs.declared.field.Field.{Field};
 ghost use Rattle.record_pages.specs.Asked.{HasNumbersOf};
 ghost use Rattle.record_pages.specs.Bounded.{IsKey, IsValue};
-ghost use Rattle.record_pages.specs.Sizes.{IsPageSize, object_size, room};
-ghost use Rattle.record_pages.specs.Table.{first_faulty};
+ghost use Rattle.record_pages.specs.Sizes.{object_size, room};
 ghost use Rattle.memory_cache.specs.MemoryList.{value_in};
-ghost use Rattle.mover.specs.Store.{opening, IsTooSmall, IsStore, KeepsMoves};
+ghost use Rattle.mover.specs.Store.{opening, IsStore, KeepsMoves};
+ghost use Rattle.mover.specs.Opening.{CanServe, RefusesStore};
 ghost use Rattle.mover.specs.Lane.{lane_of};
 ghost use Rattle.mover.specs.Visible.{IsPlaced, ShowsFrom};
 ghost use Rattle.mover.specs.Asking.{AsksNothing, IfThen};
@@ -84,15 +83,8 @@ impl<D: PageDevice<PAGE>, const PAGE: usize> RecordedLane<D, PAGE> {
               lane = lane;
               calls = [];
             })) }
-        ensures serves { OnOk result ((first_faulty config.now ≡ None) × IsPageSize PAGE
-            × (IsTooSmall config.now (D.page_count device) → ⊥)) }
-        ensures config { IfErr result (λ fault. (field : Field) →
-            fault ≡ OpenFault.ConfigFault field → first_faulty config.now ≡ Some field) }
-        ensures page { IsErrOf result OpenFault.WrongPage
-            ↔ ((first_faulty config.now ≡ None) × (IsPageSize PAGE → ⊥)) }
-        ensures small { IsErrOf result OpenFault.DeviceTooSmall
-            ↔ ((first_faulty config.now ≡ None) × IsPageSize PAGE
-            × IsTooSmall config.now (D.page_count device)) }
+        ensures serves { OnOk result (CanServe PAGE config.now (D.page_count device)) }
+        ensures refused { IfErr result (RefusesStore PAGE config.now (D.page_count device)) }
     {
         let store = Store::open(alloc, config, device)?;
         Ok(RecordedLane {

@@ -8,6 +8,7 @@ pub mod Put
 pub mod Asking
 pub mod Flush
 pub mod Oldest
+pub mod Opening
 pub mod Job
 pub mod Begin
 pub mod Commit

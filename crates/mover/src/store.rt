@@ -1,9 +1,6 @@
 // The store of a lane.
-ghost use Rattle.std.specs.Prelude.{◌≡◌, ◌<◌, ◌↔◌, ◌+◌, ◌*◌, None, Some, IfOk, OnOk, IsErrOf, IfErr};
-ghost use Rattle.record_pages.specs.declared.field.Field.{Field};
-ghost use Rattle.record_pages.specs.Sizes.{IsPageSize};
+ghost use Rattle.std.specs.Prelude.{◌≡◌, IfOk, OnOk, IfErr};
 ghost use Rattle.record_pages.specs.Asked.{HasNumbersOf};
-ghost use Rattle.record_pages.specs.Table.{first_faulty};
 
 use crate::flight::Flight;
 use crate::open_fault::OpenFault;
@@ -70,7 +67,8 @@ impl<D: PageDevice<PAGE>, const PAGE: usize> Model for Store<D, PAGE> {
 
 impl<D: PageDevice<PAGE>, const PAGE: usize> Store<D, PAGE> {
     ghost use Rattle.std.specs.Prelude.{IsTrue};
-    ghost use Rattle.mover.specs.Store.{opening, IsTooSmall, IsStore};
+    ghost use Rattle.mover.specs.Store.{opening, IsStore};
+    ghost use Rattle.mover.specs.Opening.{CanServe, RefusesStore};
     ghost use Rattle.mover.specs.Lane.{lane_of};
     ghost use Rattle.mover.specs.Visible.{IsPlaced, IsShown};
     ghost use Rattle.memory_cache.specs.declared.pair.Pair.{Pair};
@@ -81,15 +79,8 @@ impl<D: PageDevice<PAGE>, const PAGE: usize> Store<D, PAGE> {
         ensures opening { IfOk result (λ s. HasNumbersOf s.layout config.now
             × (s ≡ opening s.layout device)) }
         ensures shows { IfOk result (λ s. (p : Pair) → IsShown (lane_of D.held s) p → ⊥) }
-        ensures serves { OnOk result ((first_faulty config.now ≡ None) × IsPageSize PAGE
-            × (IsTooSmall config.now (D.page_count device) → ⊥)) }
-        ensures config { IfErr result (λ fault. (field : Field) →
-            fault ≡ OpenFault.ConfigFault field → first_faulty config.now ≡ Some field) }
-        ensures page { IsErrOf result OpenFault.WrongPage
-            ↔ ((first_faulty config.now ≡ None) × (IsPageSize PAGE → ⊥)) }
-        ensures small { IsErrOf result OpenFault.DeviceTooSmall
-            ↔ ((first_faulty config.now ≡ None) × IsPageSize PAGE
-            × IsTooSmall config.now (D.page_count device)) }
+        ensures serves { OnOk result (CanServe PAGE config.now (D.page_count device)) }
+        ensures refused { IfErr result (RefusesStore PAGE config.now (D.page_count device)) }
     {
         let layout = config.check()?;
         if PAGE < 256 || PAGE > 4096 {

@@ -42,7 +42,15 @@ pub record KeepsTie (old new : Ticket) : Type 0 where
   pub caller : new.caller ≡ old.caller
   pub clock : new.sight.clock ≡ old.sight.clock
 
--- when each refusal of an opening comes; the first that applies is answered
+-- a cache can be opened so over these devices, memory aside
+pub record CanShare {D : Type 0} (size : ℕ) (pages : D → ℕ) (config : Config) (devices : List D) (callers : ℕ) : Type 0 where
+  pub numbers : first_faulty config ≡ None
+  pub some_callers : 0 < callers
+  pub one_each : length devices ≡ config.lanes
+  pub page_size : IsPageSize size
+  pub large : ¬ Any (λ d. IsTooSmall config (pages d)) devices
+
+-- When each refusal of an opening comes: the first of these tests that fails; want of memory after all.
 abbrev pub ExplainsOpening : {D : Type 0} → ℕ → (D → ℕ) → Config → List D → ℕ → OpenCacheFault → Type 0
 ExplainsOpening size pages config devices callers (ConfigFault field) = first_faulty config ≡ Some field
 ExplainsOpening size pages config devices callers NoCallers = (first_faulty config ≡ None) × (callers ≡ 0)
@@ -52,4 +60,4 @@ ExplainsOpening size pages config devices callers WrongPage =
     (first_faulty config ≡ None) × (0 < callers) × (length devices ≡ config.lanes) × (¬ IsPageSize size)
 ExplainsOpening size pages config devices callers DeviceTooSmall =
     (first_faulty config ≡ None) × (0 < callers) × (length devices ≡ config.lanes) × IsPageSize size × Any (λ d. IsTooSmall config (pages d)) devices
-ExplainsOpening size pages config devices callers OutOfMemory = Unit {0}
+ExplainsOpening size pages config devices callers OutOfMemory = CanShare size pages config devices callers

@@ -1,14 +1,12 @@
 // A cache that threads share.
-ghost use Rattle.std.specs.Prelude.{◌≡◌, ◌≢◌, ◌↔◌, ◌+◌, ◌^◌, ◌<◌, ℕ, All, Any, Err, None, IfErr, IfOk, IsTrue, OnOk, OnErr, IsErrOf, length, slice_index_or};
+ghost use Rattle.std.specs.Prelude.{◌≡◌, ◌≢◌, ◌↔◌, ◌+◌, ◌^◌, ◌<◌, ℕ, All, Err, IfErr, IfOk, IsTrue, OnOk, OnErr, IsErrOf, length, slice_index_or};
 ghost use Rattle.record_pages.specs.Asked.{HasNumbersOf};
-ghost use Rattle.record_pages.specs.Sizes.{IsPageSize, object_size, room};
-ghost use Rattle.record_pages.specs.Table.{first_faulty};
-ghost use Rattle.mover.specs.Store.{IsTooSmall};
+ghost use Rattle.record_pages.specs.Sizes.{object_size, room};
 ghost use Rattle.certificate_checker.specs.Acceptance.{IsAccepted};
 ghost use Rattle.history_recorder.specs.declared.operation.Operation.{Operation};
 ghost use Rattle.shared_cache.specs.declared.outcome.Outcome.{Outcome};
 ghost use Rattle.shared_cache.specs.Acts.{IsFitting, Suits};
-ghost use Rattle.shared_cache.specs.Caches.{ExplainsOpening, IsMade, KeepsTie};
+ghost use Rattle.shared_cache.specs.Caches.{CanShare, ExplainsOpening, IsMade, KeepsTie};
 ghost use Rattle.shared_cache.specs.Finished.{IsFinished, IsLeastMissing};
 ghost use Rattle.shared_cache.specs.Passes.{Ticket, new_ticket};
 ghost use Rattle.shared_cache.specs.Stamps.{new_sight};
@@ -78,9 +76,7 @@ impl<D: PageDevice<PAGE>, P: EvictionPolicy + Drop, const PAGE: usize> SharedCac
             ≡ new_ticket caller (new_sight opened.0.clock)) }
         ensures ties { IfOk result (λ opened.
             All (λ p. p.sight.clock ≡ opened.0.clock) opened.1.items) }
-        ensures serves { OnOk result ((first_faulty config.now ≡ None) × (0 < callers)
-            × (length devices.items ≡ config.now.lanes) × IsPageSize PAGE
-            × (Any (λ d. IsTooSmall config.now (D.page_count d)) devices.items → ⊥)) }
+        ensures serves { OnOk result (CanShare PAGE D.page_count config.now devices.items callers) }
         ensures refused { IfErr result
             (ExplainsOpening PAGE D.page_count config.now devices.items callers) }
     {

@@ -1,7 +1,6 @@
 -- A lane that was just opened.
 use Rattle.std.proofs.Common.{◌<◌, subst, sym}
 use Rattle.history_recorder.proofs.Opening.{opened}
-use Rattle.history_recorder.proofs.Refusing.{answer_is_none}
 use Rattle.history_recorder.proofs.lane.RecordedLane.open.Goals as goal
 
 pub invariant_of-result : goal.invariant_of-result
@@ -10,6 +9,3 @@ invariant_of-result g c =
     let told = c.in_ok-store.ensures.opening in
     opened d.honest d.held c.in_ok-store.store c.args.lane c.new.result (subst (λ n. c.args.lane < n) (sym told.0.lanes) c.requires) c.new.ensures
     c.in_ok-store.ensures.shows
-
-pub returns-clause-page : goal.returns-clause-page
-returns-clause-page g c = (λ no. absurd (answer_is_none no), λ both. absurd (both.1 c.in_ok-store.ensures.serves.1))
