@@ -18,4 +18,7 @@ pub mod PlaceLaws
 pub mod ListedLaws
 pub mod KilledLaws
 pub mod StepLaws
+pub mod AnswersOnSegments
+pub mod OldestOnSegments
+pub mod FullOnSegments
 pub mod PutLaws

@@ -15,4 +15,5 @@ pub mod Take
 pub mod Segments
 pub mod Steps
 pub mod SegmentLaws
+pub mod AnswerLaws
 pub mod Sources

@@ -2,6 +2,7 @@
 //! a device.
 #![tactic(auto)]
 
+mod answer_laws;
 mod appended;
 mod buffer;
 mod fetched;
@@ -20,6 +21,10 @@ mod taken_record;
 mod taken_records;
 mod told;
 
+pub use answer_laws::{
+    count_tells_live, full_where_none_takes, look_finds_newest, oldest_tells_first,
+    taking_gives_last,
+};
 pub use appended::Appended;
 pub use flushed::Flushed;
 pub use laws::{
