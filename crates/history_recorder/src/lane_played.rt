@@ -2,7 +2,7 @@
 ghost use Rattle.std.specs.Prelude.{◌≡◌, ◌<◌, All};
 ghost use Rattle.history_recorder.specs.Operations.{lane_of};
 ghost use Rattle.history_recorder.specs.Books.{IsBackgroundEvent};
-ghost use Rattle.history_recorder.specs.Lane.{IsOfLane};
+ghost use Rattle.history_recorder.specs.Lane.{IsOfLane, IsRecorded};
 ghost use Rattle.history_recorder.specs.Game.{LaneActs, LaneSteps, layout_in, honest_in, state_in};
 
 use crate::acted::Acted;
@@ -59,6 +59,13 @@ impl<D: PageDevice<PAGE>, const PAGE: usize> PlayedLane<PAGE> for RecordedLane<D
 }
 
 impl<D: PageDevice<PAGE>, const PAGE: usize> RecordedLane<D, PAGE> {
+    /// What is true of every lane. Its model hides that from whoever made or changed one, and its length tells it.
+    pub(crate) fn recall(&self)
+        ensures { IsRecorded D.honest D.held self.now }
+    {
+        let _count = self.len();
+    }
+
     /// A get, as it is played.
     fn act_get(&mut self, caller: u16, start: u64, point: u64, key: Key) -> Acted
         requires start { start < point }
@@ -69,14 +76,14 @@ impl<D: PageDevice<PAGE>, const PAGE: usize> RecordedLane<D, PAGE> {
     {
         match self.get(caller, start, point, &key) {
             Ok(got) => {
-                let _count = self.len();
+                self.recall();
                 Acted {
                     reply: Reply::Got(Ok(got.answer)),
                     noted: Some(got.noted),
                 }
             }
             Err(fault) => {
-                let _count = self.len();
+                self.recall();
                 Acted {
                     reply: Reply::Got(Err(fault)),
                     noted: None,
@@ -103,14 +110,14 @@ impl<D: PageDevice<PAGE>, const PAGE: usize> RecordedLane<D, PAGE> {
     {
         match self.put(caller, start, point, key, value, word) {
             Ok(stored) => {
-                let _count = self.len();
+                self.recall();
                 Acted {
                     reply: Reply::Stored(Ok(stored.pushed)),
                     noted: Some(stored.noted),
                 }
             }
             Err(fault) => {
-                let _count = self.len();
+                self.recall();
                 Acted {
                     reply: Reply::Stored(Err(fault)),
                     noted: None,
@@ -129,14 +136,14 @@ impl<D: PageDevice<PAGE>, const PAGE: usize> RecordedLane<D, PAGE> {
     {
         match self.remove(caller, start, point, &key) {
             Ok(removal) => {
-                let _count = self.len();
+                self.recall();
                 Acted {
                     reply: Reply::Removed(Ok(())),
                     noted: Some(removal.noted),
                 }
             }
             Err(fault) => {
-                let _count = self.len();
+                self.recall();
                 Acted {
                     reply: Reply::Removed(Err(fault)),
                     noted: None,
@@ -150,7 +157,7 @@ impl<D: PageDevice<PAGE>, const PAGE: usize> RecordedLane<D, PAGE> {
         ensures { LaneSteps D.honest D.held PAGE (Event.Flush lane) self.old result self.new }
     {
         let flushed = self.flush_step();
-        let _count = self.len();
+        self.recall();
         Reply::Flushed(flushed)
     }
 
@@ -159,7 +166,7 @@ impl<D: PageDevice<PAGE>, const PAGE: usize> RecordedLane<D, PAGE> {
         ensures { LaneSteps D.honest D.held PAGE (Event.MoveBegin lane) self.old result self.new }
     {
         let begun = self.move_begin();
-        let _count = self.len();
+        self.recall();
         Reply::MoveBegun(begun)
     }
 
@@ -169,7 +176,7 @@ impl<D: PageDevice<PAGE>, const PAGE: usize> RecordedLane<D, PAGE> {
             self.new }
     {
         let committed = self.move_commit(plan, number);
-        let _count = self.len();
+        self.recall();
         Reply::Committed(committed)
     }
 
@@ -178,7 +185,7 @@ impl<D: PageDevice<PAGE>, const PAGE: usize> RecordedLane<D, PAGE> {
         ensures { LaneSteps D.honest D.held PAGE (Event.Abort lane number) self.old result self.new }
     {
         let aborted = self.move_abort(number);
-        let _count = self.len();
+        self.recall();
         Reply::Aborted(aborted)
     }
 }

@@ -5,7 +5,8 @@ ghost use Rattle.history_recorder.specs.declared.record_fault.RecordFault.TheVar
 use std::alloc::AllocError;
 use thiserror::Error;
 
-/// Why a call was refused. It is in no history, and the lane is as it was.
+/// Why a call was refused. It is in no history. The lane is as it was, but for a get that memory refused: that may leave
+/// what a get leaves in the tiers.
 #[derive(Clone, Copy, Debug, PartialEq, Eq, Error)]
 pub enum RecordFault {
     /// The lane has recorded `MAX_CALLS` calls.

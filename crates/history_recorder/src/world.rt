@@ -106,7 +106,7 @@ fn open_lanes<D: PageDevice<PAGE>, const PAGE: usize>(
         let Ok(lane) = RecordedLane::open(alloc, config, number, boxed) else {
             return Err(AllocError);
         };
-        let _count = lane.len();
+        lane.recall();
         lanes.push(Box::new(alloc, lane)?)?;
         number += 1;
     }

@@ -1,4 +1,4 @@
-// What decides of an entry.
+// A test of entries.
 ghost use Rattle.std.specs.Prelude.{◌≡◌, ◌==◌, Bool};
 ghost use Rattle.klog_index.specs.declared.entry.Entry.{Entry};
 ghost use Rattle.klog_index.specs.Entries.{is_at};
@@ -6,7 +6,7 @@ ghost use Rattle.klog_index.specs.Entries.{is_at};
 use crate::entry::Entry;
 use crate::place::Place;
 
-/// What decides of an entry.
+/// A test that an entry passes or not.
 pub trait EntryTest {
     /// The entries that pass.
     ghost passing: { Self → Entry → Bool };

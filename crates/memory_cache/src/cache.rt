@@ -74,8 +74,7 @@ impl MemoryCache {
         ensures* raised { sem 𝓛 (EndsAs self.entry (after_get key.now self.old)) }
         ensures value { option_copied result ≡ value_in key.now self.old.pairs }
     {
-        // That no key stands twice is known from the length.
-        let _held = self.objects.len();
+        recall(&self.objects);
         self.objects.get(key)
     }
 
@@ -93,7 +92,7 @@ impl MemoryCache {
         ensures err { OnErr result (self.new ≡ self.old) }
         ensures replaces { IsSome (value_in key self.old.pairs) → IsOk result }
     {
-        let _held = self.objects.len();
+        recall(&self.objects);
         match self.objects.push(key, value) {
             Ok(Some((key, value))) => Ok(unless_first(&self.objects, Pair { key, value })),
             Ok(None) => Ok(None),
@@ -110,13 +109,22 @@ impl MemoryCache {
         ensures value { result ≡ value_in key.now self.old.pairs }
         ensures after { self.new ≡ after_remove key.now self.old }
     {
-        let _held = self.objects.len();
+        recall(&self.objects);
         self.objects.pop(key)
     }
 }
 
-ghost use Rattle.std.specs.Prelude.{if◌then◌else◌};
+ghost use Rattle.std.specs.Prelude.{nat_eq, if◌then◌else◌};
+ghost use Rattle.std.specs.Cmp.Lexicographic.{pointwise};
+ghost use Rattle.lru.specs.LruCache.{IsValid};
 ghost use Rattle.memory_cache.specs.Entries.{is_first};
+
+/// That no key stands twice, which is true of every such map. Its model hides that, and its length tells it.
+fn recall(objects: &LruCache<Key, Value>)
+    ensures { IsValid (pointwise nat_eq) objects.now }
+{
+    let _held = objects.len();
+}
 
 /// The pair that left, unless it is the older one of the key that is first now.
 fn unless_first(objects: &LruCache<Key, Value>, left: Pair) -> Option<Pair>

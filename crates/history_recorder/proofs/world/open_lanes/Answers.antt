@@ -17,7 +17,7 @@ loop-device-preserved g c =
     let b = c.in_ok-new-2.field-0 in
     let boxed = c.in_ok-new-2.ensures.ok in
     let opened : box_value b ≡ opening_lane c.args.layout.now number c.in-Some.device = boxed ∙ c.in-Ok.ensures.opening.1 ∙ ap (λ l. opening_lane l number c.new-boxed.result) layout ∙ ap (opening_lane c.args.layout.now number) (c.new-boxed.ensures ∙ c.in_ok-new.ensures.ok) in
-    let more = more_opened honest held c.args.layout.now number c.loop-device.yielded c.loop-device.lanes.items b c.in-Some.device c.loop-device.invariant.1 opened (subst (IsRecorded honest held) (sym boxed) c.len-count.ensures.recorded) in
+    let more = more_opened honest held c.args.layout.now number c.loop-device.yielded c.loop-device.lanes.items b c.in-Some.device c.loop-device.invariant.1 opened (subst (IsRecorded honest held) (sym boxed) c.recall.ensures) in
     let count = c.loop-device.invariant.0 in
     let longer = length-append c.loop-device.yielded (c.in-Some.device ∷ []) in
     (omega (arith, count, longer), subst (AreOpenedOver honest held c.args.layout.now (number + 1) (c.loop-device.yielded ++ c.in-Some.device ∷ [])) (sym c.in_ok-push.ensures.items) more)
