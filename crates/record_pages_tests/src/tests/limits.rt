@@ -1,6 +1,6 @@
 //! The limits of keys, values and objects, and copies of them.
 use super::rows::{ROW, record};
-use record_pages::{Key, KeyFault, Prediction, Value, ValueFault, is_too_large};
+use record_pages::{Key, KeyFault, Prediction, Record, Value, ValueFault, fits, is_too_large};
 use std::alloc::Global;
 use std::test::Fail;
 
@@ -40,6 +40,23 @@ fn is_large(alloc: Global, value: &[u8]) -> Result<bool, Fail> {
 fn objects_have_their_limit(rt: HostRuntime) -> Result<(), Fail> {
     assert!(rt; !is_large(rt.alloc(), &[0x78; 233])?);
     assert!(rt; is_large(rt.alloc(), &[0x78; 234])?);
+    Ok(())
+}
+
+/// Whether a record of key `a` and a value of so many bytes fits alone on a page of 256 bytes.
+fn fits_alone(alloc: Global, value: &[u8]) -> Result<bool, Fail> {
+    let key = Key::new(alloc, b"a")?;
+    let value = Value::new(alloc, value)?;
+    let Some(pred) = Prediction::new(6) else {
+        return Ok(false);
+    };
+    Ok(fits::<256>(&[Record { key, value, pred }]))
+}
+
+#[test]
+fn a_record_may_fill_its_page(rt: HostRuntime) -> Result<(), Fail> {
+    assert!(rt; fits_alone(rt.alloc(), &[0x78; 233])?);
+    assert!(rt; !fits_alone(rt.alloc(), &[0x78; 234])?);
     Ok(())
 }
 
