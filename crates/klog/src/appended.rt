@@ -7,6 +7,6 @@ pub enum Appended {
     Appended,
     /// There are as many live records as the index may have. Nothing changed.
     IndexFull,
-    /// No buffer has room for it. Nothing changed.
+    /// No buffer has room for it, or its segment's number would pass 2^62. Nothing changed.
     Full,
 }

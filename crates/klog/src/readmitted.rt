@@ -5,7 +5,7 @@
 pub enum Readmitted {
     /// It is the newest live record of the log.
     Readmitted,
-    /// No buffer had room for it, and it is lost.
+    /// No buffer had room for it, or its segment's number would have passed 2^62, and it is lost.
     Dropped,
     /// The device failed, and the live records of its page are lost.
     Fault,

@@ -15,7 +15,7 @@ const SOON: u32 = 2;
 /// How many looks lie between two lines.
 const LATER: u32 = 10;
 
-/// The least operations of a load of which it is told what is done behind its calls.
+/// The fewest operations of a load of which it is told what is done behind its calls.
 const LONG: u64 = 100_000;
 
 /// Tells how many calls were made, by the thousand and at most twice a second, where `err` is a terminal, until all callers

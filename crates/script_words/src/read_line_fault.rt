@@ -5,7 +5,7 @@ ghost use Rattle.script_words.specs.declared.read_line_fault.ReadLineFault.TheVa
 use std::alloc::AllocError;
 use thiserror::Error;
 
-/// Why no line was read. What was read of it is lost.
+/// Why no line was read. What was read of it is kept.
 #[derive(Clone, Copy, Debug, PartialEq, Eq, Error)]
 pub enum ReadLineFault {
     /// Memory for the line was refused.

@@ -3,7 +3,7 @@
 /// What a round of moving did.
 #[derive(Clone, Copy, Debug, PartialEq, Eq)]
 pub enum Moved {
-    /// No segment is on the device.
+    /// No segment is on the device, or the lane has begun 2^62 moves.
     Nothing,
     /// Another move of the lane is in flight.
     Busy,
