@@ -156,6 +156,16 @@ fn operations_are_those_of_the_words(rt: HostRuntime) -> Result<(), Fail> {
     Ok(())
 }
 
+ghost use Rattle.std.specs.Prelude.{◌≡◌};
+ghost use Rattle.load.specs.Operations.{next_of};
+
+/// Draws the words of an operation, also where memory is refused for it: the operation behind it has words of its own.
+fn pass_over(alloc: Global, generator: &mut Lcg64Xsh32, load: &Load, caller: u16, number: u32)
+    ensures { generator.new ≡ (next_of load.now caller number generator.old).generator }
+{
+    let _operation = next_operation(alloc, generator, load, caller, number);
+}
+
 /// A put took three words and a get takes two, so the sixth is left.
 #[test]
 fn operations_go_on_behind_the_words_that_were_drawn(rt: HostRuntime) -> Result<(), Fail> {
@@ -167,6 +177,10 @@ fn operations_go_on_behind_the_words_that_were_drawn(rt: HostRuntime) -> Result<
     assert!(rt; is(&first, &ROWS[3].first));
     assert!(rt; is(&second, &Does::Get(b"k955")));
     assert_eq!(rt; generator.next_word(), 0xcbed_606e);
+    let mut passed = Lcg64Xsh32::new(42, 54);
+    pass_over(rt.alloc(), &mut passed, &load, 54, 0);
+    pass_over(rt.alloc(), &mut passed, &load, 54, 1);
+    assert_eq!(rt; passed.next_word(), 0xcbed_606e);
     Ok(())
 }
 
