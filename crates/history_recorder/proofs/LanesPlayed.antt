@@ -10,18 +10,15 @@ use Rattle.klog.specs.declared.flushed.Flushed.{Flushed}
 use Rattle.trace_file.specs.declared.act.Act.TheVariants as acts
 use Rattle.mover.specs.Lane.{LaneState, lane_of}
 use Rattle.mover.specs.Get.{get_step, StepGives}
-use Rattle.mover.specs.Put.{put_step, IsStep}
-use Rattle.mover.specs.Strike.{removed}
-use Rattle.mover.specs.Flush.{LaneFlushes}
-use Rattle.mover.specs.Store.{StoreState, KeepsMoves}
-use Rattle.mover.specs.Begin.{BeginGives, WritesNothing}
-use Rattle.mover.specs.Commit.{CommitGives, AbortGives, after_abort}
+use Rattle.mover.specs.Store.{StoreState}
+use Rattle.mover.specs.Calls.{StoreGets, StorePuts, StoreRemoves, StoreFlushes, StoreBegins, StoreCommits, StoreAborts}
+use Rattle.mover.specs.Begin.{BeginGives}
 use Rattle.mover.specs.declared.aborted.Aborted.{Aborted}
 use Rattle.mover.specs.declared.begin.Begin.{Begin}
 use Rattle.mover.specs.declared.committed.Committed.{Committed}
 use Rattle.policy_laws.specs.declared.choice.Choice.{Choice}
 use Rattle.std.specs.declared.alloc.AllocError.{AllocError}
-use Rattle.history_recorder.proofs.Ending.{abort_keeps_layout, abort_keeps_device}
+use Rattle.history_recorder.proofs.Ending.{commit_keeps_layout, abort_keeps_layout, abort_keeps_device}
 use Rattle.history_recorder.specs.declared.event.Event.TheVariants as events
 use Rattle.history_recorder.specs.declared.noted.Noted.{Noted}
 use Rattle.history_recorder.specs.declared.operation.Operation.TheVariants as operations
@@ -31,7 +28,7 @@ use Rattle.history_recorder.specs.declared.record_put_fault.RecordPutFault.{Reco
 use Rattle.history_recorder.specs.declared.record_put_fault.RecordPutFault.TheVariants as put_faults
 use Rattle.history_recorder.specs.declared.reply.Reply.TheVariants as replies
 use Rattle.history_recorder.specs.Lane.{Lane, IsRecorded, act_of, max_calls}
-use Rattle.history_recorder.specs.Answering.{Answers, KeepsOrAnswers}
+use Rattle.history_recorder.specs.Answering.{MayHaveGot}
 use Rattle.history_recorder.specs.Operations.{AnswersAt, FitsAlone, HasRoomFor}
 use Rattle.history_recorder.specs.Commands.{IsOperation, IsBackground}
 use Rattle.history_recorder.specs.Game.{IsWellKept, LaneActs, LaneSteps}
@@ -86,39 +83,45 @@ module _ {D : Type 0} (honest : D → Bool) (failures : D → ℕ) (held : D →
   well_kept = record { starts = r.starts; points = r.points; few = r.few; its = r.keys; lawful = r.lawful; sound = r.sound }
 
   module _ (size caller start point : ℕ) (key : List ℕ) where
-    pub got_ok : {X : Type 0} (result : Result X RecordFault) (got : X) (answer : Answer) (n : Noted) → result ≡ Ok got → n ≡ record { caller = caller; start = start; point = point; key = key; act = act_of answer } → new ≡ record old { store = new.store; calls = old.calls ++ n ∷ [] } → Answers honest failures held key old.store answer new.store → ((result ≡ Err faults.HistoryFull) ↔ (max_calls ≤ length old.calls)) → LaneActs honest held size caller start point (operations.Get key) old (record { reply = replies.Got (Ok answer); noted = Some n }) new
-    got_ok result got answer n is noted recorded answers full = record {
-      layout = answers.reads.layout;
+    pub got_ok : {X : Type 0} (result : Result X RecordFault) (got : X) (answer : Answer) (n : Noted) → result ≡ Ok got → n ≡ record { caller = caller; start = start; point = point; key = key; act = act_of answer } → new ≡ record old { store = new.store; calls = old.calls ++ n ∷ [] } → StoreGets size honest failures held key old.store (Ok answer) new.store → ((result ≡ Err faults.HistoryFull) ↔ (max_calls ≤ length old.calls)) → LaneActs honest held size caller start point (operations.Get key) old (record { reply = replies.Got (Ok answer); noted = Some n }) new
+    got_ok result got answer n is noted recorded gets full = record {
+      layout = gets.reads.layout;
       lane = ap (λ (l : Lane D). l.lane) recorded;
-      honesty = answers.reads.honesty;
+      honesty = gets.reads.honesty;
       kind = tt;
       refused = has_room result (length old.calls) full (no_fault result got faults.HistoryFull is);
       noted = ap Some noted;
       recorded = ap (λ (l : Lane D). l.calls) recorded;
       kept = well_kept;
-      step = answers.gives;
+      step = gets.gives;
     }
 
-    same_lane : KeepsOrAnswers honest failures held key old.store new.store → KeepsMoves old.store new.store → IsTrue (honest old.store.device) → (lane_of held new.store ≡ lane_of held old.store) ⊎ ((answer : Answer) × StepGives (get_step key (lane_of held old.store)) (lane_of held old.store) answer (lane_of held new.store))
-    same_lane (inl keeps) moves h =
-        let same = keeps.reads.same h in
-        inl (rw (same, keeps.tiers.memory, keeps.tiers.log, keeps.tiers.sets, moves.flight, moves.moves) refl)
-    same_lane (inr answered) moves h = inr (answered.0, answered.1.gives h)
+    -- what is given of a lane by an answer, or where memory was refused
+    given_lane : (given : Result Answer AllocError) → StoreGets size honest failures held key old.store given new.store → IsTrue (honest old.store.device) → (lane_of held new.store ≡ lane_of held old.store) ⊎ ((answer : Answer) × StepGives (get_step key (lane_of held old.store)) (lane_of held old.store) answer (lane_of held new.store))
+    given_lane (Ok answer) gets h = inr (answer, gets.gives h)
+    given_lane (Err e) gets h =
+        let same = gets.reads.same h in
+        let keeps = gets.out_of_memory in
+        inl (rw (same, keeps.memory, keeps.log, keeps.sets, gets.stays.flight, gets.stays.moves) refl)
 
-    kept_layout : KeepsOrAnswers honest failures held key old.store new.store → new.store.layout ≡ old.store.layout
-    kept_layout (inl keeps) = keeps.reads.layout
-    kept_layout (inr answered) = answered.1.reads.layout
+    same_lane : MayHaveGot size honest failures held key old.store new.store → IsTrue (honest old.store.device) → (lane_of held new.store ≡ lane_of held old.store) ⊎ ((answer : Answer) × StepGives (get_step key (lane_of held old.store)) (lane_of held old.store) answer (lane_of held new.store))
+    same_lane (inl same) h = inl (ap (lane_of held) same)
+    same_lane (inr got) h = given_lane got.0 got.1 h
 
-    kept_honest : KeepsOrAnswers honest failures held key old.store new.store → honest new.store.device ≡ honest old.store.device
-    kept_honest (inl keeps) = keeps.reads.honesty
-    kept_honest (inr answered) = answered.1.reads.honesty
+    kept_layout : MayHaveGot size honest failures held key old.store new.store → new.store.layout ≡ old.store.layout
+    kept_layout (inl same) = ap (λ (s : StoreState D). s.layout) same
+    kept_layout (inr got) = got.1.reads.layout
 
-    refused_step : {X : Type 0} (result : Result X RecordFault) (fault : RecordFault) → result ≡ Err fault → (result ≡ Err faults.HistoryFull → new ≡ old) → KeepsOrAnswers honest failures held key old.store new.store → KeepsMoves old.store new.store → IsTrue (honest old.store.device) → IsOperation size old.store.layout (operations.Get key) (lane_of held old.store) (replies.Got (Err fault)) (lane_of held new.store)
-    refused_step result faults.HistoryFull is keeps either moves h = ap (λ (l : Lane D). lane_of held l.store) (keeps is)
-    refused_step result faults.OutOfMemory is keeps either moves h = same_lane either moves h
+    kept_honest : MayHaveGot size honest failures held key old.store new.store → honest new.store.device ≡ honest old.store.device
+    kept_honest (inl same) = ap (λ (s : StoreState D). honest s.device) same
+    kept_honest (inr got) = got.1.reads.honesty
 
-    pub got_err : {X : Type 0} (result : Result X RecordFault) (fault : RecordFault) → result ≡ Err fault → new ≡ record old { store = new.store } → ((result ≡ Err faults.HistoryFull) ↔ (max_calls ≤ length old.calls)) → (result ≡ Err faults.HistoryFull → new ≡ old) → KeepsOrAnswers honest failures held key old.store new.store → KeepsMoves old.store new.store → LaneActs honest held size caller start point (operations.Get key) old (record { reply = replies.Got (Err fault); noted = None }) new
-    got_err result fault is unrecorded full keeps either moves = record {
+    refused_step : {X : Type 0} (result : Result X RecordFault) (fault : RecordFault) → result ≡ Err fault → (result ≡ Err faults.HistoryFull → new ≡ old) → MayHaveGot size honest failures held key old.store new.store → IsTrue (honest old.store.device) → IsOperation size old.store.layout (operations.Get key) (lane_of held old.store) (replies.Got (Err fault)) (lane_of held new.store)
+    refused_step result faults.HistoryFull is keeps either h = ap (λ (l : Lane D). lane_of held l.store) (keeps is)
+    refused_step result faults.OutOfMemory is keeps either h = same_lane either h
+
+    pub got_err : {X : Type 0} (result : Result X RecordFault) (fault : RecordFault) → result ≡ Err fault → new ≡ record old { store = new.store } → ((result ≡ Err faults.HistoryFull) ↔ (max_calls ≤ length old.calls)) → (result ≡ Err faults.HistoryFull → new ≡ old) → MayHaveGot size honest failures held key old.store new.store → LaneActs honest held size caller start point (operations.Get key) old (record { reply = replies.Got (Err fault); noted = None }) new
+    got_err result fault is unrecorded full keeps either = record {
       layout = kept_layout either;
       lane = ap (λ (l : Lane D). l.lane) unrecorded;
       honesty = kept_honest either;
@@ -127,20 +130,20 @@ module _ {D : Type 0} (honest : D → Bool) (failures : D → ℕ) (held : D →
       noted = refl;
       recorded = ap (λ (l : Lane D). l.calls) unrecorded;
       kept = well_kept;
-      step = refused_step result fault is keeps either moves;
+      step = refused_step result fault is keeps either;
     }
 
-    pub removed_ok : {X : Type 0} (result : Result X RecordFault) (removal : X) (n : Noted) → result ≡ Ok removal → n ≡ record { caller = caller; start = start; point = point; key = key; act = acts.Remove } → new ≡ record old { store = new.store; calls = old.calls ++ n ∷ [] } → new.store.layout ≡ old.store.layout → new.store.device ≡ old.store.device → lane_of held new.store ≡ removed key (lane_of held old.store) → ((result ≡ Err faults.HistoryFull) ↔ (max_calls ≤ length old.calls)) → LaneActs honest held size caller start point (operations.Remove key) old (record { reply = replies.Removed (Ok tt); noted = Some n }) new
-    removed_ok result removal n is noted recorded layout device step full = record {
-      layout = layout;
+    pub removed_ok : {X : Type 0} (result : Result X RecordFault) (removal : X) (n : Noted) → result ≡ Ok removal → n ≡ record { caller = caller; start = start; point = point; key = key; act = acts.Remove } → new ≡ record old { store = new.store; calls = old.calls ++ n ∷ [] } → StoreRemoves held key old.store new.store → ((result ≡ Err faults.HistoryFull) ↔ (max_calls ≤ length old.calls)) → LaneActs honest held size caller start point (operations.Remove key) old (record { reply = replies.Removed (Ok tt); noted = Some n }) new
+    removed_ok result removal n is noted recorded removes full = record {
+      layout = removes.layout;
       lane = ap (λ (l : Lane D). l.lane) recorded;
-      honesty = ap honest device;
+      honesty = ap honest removes.device;
       kind = tt;
       refused = has_room result (length old.calls) full (no_fault result removal faults.HistoryFull is);
       noted = ap Some noted;
       recorded = ap (λ (l : Lane D). l.calls) recorded;
       kept = well_kept;
-      step = λ h. step;
+      step = λ h. removes.removed;
     }
 
     pub removed_err : {X : Type 0} (result : Result X RecordFault) (fault : RecordFault) → result ≡ Err fault → new ≡ old → ((result ≡ Err faults.HistoryFull) ↔ (max_calls ≤ length old.calls)) → LaneActs honest held size caller start point (operations.Remove key) old (record { reply = replies.Removed (Err fault); noted = None }) new
@@ -157,19 +160,19 @@ module _ {D : Type 0} (honest : D → Bool) (failures : D → ℕ) (held : D →
     }
 
     module _ (value : List ℕ) (word : ℕ) where
-      pub stored_ok : {X : Type 0} (result : Result X RecordPutFault) (stored : X) (pushed : Pushed) (n : Noted) → result ≡ Ok stored → n ≡ record { caller = caller; start = start; point = point; key = key; act = acts.Put value } → new ≡ record old { store = new.store; calls = old.calls ++ n ∷ [] } → new.store.layout ≡ old.store.layout → new.store.device ≡ old.store.device → (IsTrue (honest old.store.device) → IsStep (put_step size old.store.layout.admit (record { key = key; value = value }) word (lane_of held old.store)) pushed (lane_of held new.store)) → ((result ≡ Err put_faults.TooLarge) ↔ (room size < object_size key value)) → ((result ≡ Err put_faults.HistoryFull) ↔ ((object_size key value ≤ room size) × (max_calls ≤ length old.calls))) → LaneActs honest held size caller start point (operations.Put key value word) old (record { reply = replies.Stored (Ok pushed); noted = Some n }) new
-      stored_ok result stored pushed n is noted recorded layout device step large full =
+      pub stored_ok : {X : Type 0} (result : Result X RecordPutFault) (stored : X) (pushed : Pushed) (n : Noted) → result ≡ Ok stored → n ≡ record { caller = caller; start = start; point = point; key = key; act = acts.Put value } → new ≡ record old { store = new.store; calls = old.calls ++ n ∷ [] } → StorePuts size held (record { key = key; value = value }) word old.store (Ok pushed) new.store → ((result ≡ Err put_faults.TooLarge) ↔ (room size < object_size key value)) → ((result ≡ Err put_faults.HistoryFull) ↔ ((object_size key value ≤ room size) × (max_calls ≤ length old.calls))) → LaneActs honest held size caller start point (operations.Put key value word) old (record { reply = replies.Stored (Ok pushed); noted = Some n }) new
+      stored_ok result stored pushed n is noted recorded puts large full =
           let fits = fits_alone size (length old.calls) key value result large full (no_put_fault result stored put_faults.TooLarge is) in
           record {
-            layout = layout;
+            layout = puts.layout;
             lane = ap (λ (l : Lane D). l.lane) recorded;
-            honesty = ap honest device;
+            honesty = ap honest puts.device;
             kind = tt;
             refused = (fits, put_room size (length old.calls) key value result large full fits (no_put_fault result stored put_faults.HistoryFull is));
             noted = ap Some noted;
             recorded = ap (λ (l : Lane D). l.calls) recorded;
             kept = well_kept;
-            step = step;
+            step = λ h. puts.gives;
           }
 
       pub stored_err : {X : Type 0} (result : Result X RecordPutFault) (fault : RecordPutFault) → result ≡ Err fault → new ≡ old → ((result ≡ Err put_faults.TooLarge) ↔ (room size < object_size key value)) → ((result ≡ Err put_faults.HistoryFull) ↔ ((object_size key value ≤ room size) × (max_calls ≤ length old.calls))) → LaneActs honest held size caller start point (operations.Put key value word) old (record { reply = replies.Stored (Err fault); noted = None }) new
@@ -185,50 +188,50 @@ module _ {D : Type 0} (honest : D → Bool) (failures : D → ℕ) (held : D →
         step = λ h. ap (λ (l : Lane D). lane_of held l.store) same;
       }
 
-  pub flushed_so : (size lane : ℕ) (flushed : Flushed) → new ≡ record old { store = new.store } → new.store.layout ≡ old.store.layout → honest new.store.device ≡ honest old.store.device → (IsTrue (honest old.store.device) → LaneFlushes (lane_of held old.store) flushed (lane_of held new.store)) → LaneSteps honest held size (events.Flush lane) old (replies.Flushed flushed) new
-  flushed_so size lane flushed unrecorded layout honesty gives = record {
-    layout = layout;
+  pub flushed_so : (size lane : ℕ) (flushed : Flushed) → new ≡ record old { store = new.store } → StoreFlushes honest failures held old.store flushed new.store → LaneSteps honest held size (events.Flush lane) old (replies.Flushed flushed) new
+  flushed_so size lane flushed unrecorded flushes = record {
+    layout = ap (λ (s : StoreState D). s.layout) flushes.rest;
     lane = ap (λ (l : Lane D). l.lane) unrecorded;
-    honesty = honesty;
+    honesty = flushes.honesty;
     kind = tt;
     recorded = ap (λ (l : Lane D). l.calls) unrecorded;
     kept = well_kept;
-    step = gives;
+    step = flushes.gives;
   }
 
   begun_step : (size lane : ℕ) (layout : Layout) (old new : LaneState) (result : Result Begin AllocError) → IfOk result (λ begun. BeginGives size layout.threshold old begun new) → OnErr result (new ≡ old) → IsBackground size layout (events.MoveBegin lane) old (replies.MoveBegun result) new
   begun_step size lane layout old new (Ok begun) gives stays = gives
   begun_step size lane layout old new (Err refused) gives stays = stays
 
-  pub begun_so : (size lane : ℕ) (result : Result Begin AllocError) → new ≡ record old { store = new.store } → WritesNothing honest held old.store new.store → (IsTrue (honest old.store.device) → IfOk result (λ begun. BeginGives size old.store.layout.threshold (lane_of held old.store) begun (lane_of held new.store))) → (IsTrue (honest old.store.device) → OnErr result (lane_of held new.store ≡ lane_of held old.store)) → LaneSteps honest held size (events.MoveBegin lane) old (replies.MoveBegun result) new
-  begun_so size lane result unrecorded writes gives stays = record {
-    layout = writes.layout;
+  pub begun_so : (size lane : ℕ) (result : Result Begin AllocError) → new ≡ record old { store = new.store } → StoreBegins size honest failures held old.store result new.store → LaneSteps honest held size (events.MoveBegin lane) old (replies.MoveBegun result) new
+  begun_so size lane result unrecorded begins = record {
+    layout = begins.writes.layout;
     lane = ap (λ (l : Lane D). l.lane) unrecorded;
-    honesty = writes.honesty;
+    honesty = begins.writes.honesty;
     kind = tt;
     recorded = ap (λ (l : Lane D). l.calls) unrecorded;
     kept = well_kept;
-    step = λ h. begun_step size lane old.store.layout (lane_of held old.store) (lane_of held new.store) result (gives h) (stays h);
+    step = λ h. begun_step size lane old.store.layout (lane_of held old.store) (lane_of held new.store) result (begins.gives h) (begins.lane_stays h);
   }
 
-  pub committed_so : (size lane : ℕ) (plan : List Choice) (number : ℕ) (answer : Committed) → new ≡ record old { store = new.store } → new.store.layout ≡ old.store.layout → honest new.store.device ≡ honest old.store.device → (IsTrue (honest old.store.device) → CommitGives size plan number (lane_of held old.store) answer (lane_of held new.store)) → LaneSteps honest held size (events.Commit lane plan number) old (replies.Committed answer) new
-  committed_so size lane plan number answer unrecorded layout honesty gives = record {
-    layout = layout;
+  pub committed_so : (size lane : ℕ) (plan : List Choice) (number : ℕ) (answer : Committed) → new ≡ record old { store = new.store } → StoreCommits size honest failures held plan number old.store answer new.store → LaneSteps honest held size (events.Commit lane plan number) old (replies.Committed answer) new
+  committed_so size lane plan number answer unrecorded commits = record {
+    layout = commit_keeps_layout plan old.store answer new.store commits.leaves;
     lane = ap (λ (l : Lane D). l.lane) unrecorded;
-    honesty = honesty;
+    honesty = commits.honesty;
     kind = tt;
     recorded = ap (λ (l : Lane D). l.calls) unrecorded;
     kept = well_kept;
-    step = gives;
+    step = commits.gives;
   }
 
-  pub aborted_so : (size lane number : ℕ) (answer : Aborted) → new ≡ record old { store = new.store } → new.store ≡ after_abort answer old.store → AbortGives number (lane_of held old.store) answer (lane_of held new.store) → LaneSteps honest held size (events.Abort lane number) old (replies.Aborted answer) new
-  aborted_so size lane number answer unrecorded leaves gives = record {
-    layout = ap (λ (s : StoreState D). s.layout) leaves ∙ abort_keeps_layout answer old.store;
+  pub aborted_so : (size lane number : ℕ) (answer : Aborted) → new ≡ record old { store = new.store } → StoreAborts held number old.store answer new.store → LaneSteps honest held size (events.Abort lane number) old (replies.Aborted answer) new
+  aborted_so size lane number answer unrecorded aborts = record {
+    layout = ap (λ (s : StoreState D). s.layout) aborts.leaves ∙ abort_keeps_layout answer old.store;
     lane = ap (λ (l : Lane D). l.lane) unrecorded;
-    honesty = ap honest (ap (λ (s : StoreState D). s.device) leaves ∙ abort_keeps_device answer old.store);
+    honesty = ap honest (ap (λ (s : StoreState D). s.device) aborts.leaves ∙ abort_keeps_device answer old.store);
     kind = tt;
     recorded = ap (λ (l : Lane D). l.calls) unrecorded;
     kept = well_kept;
-    step = λ h. gives;
+    step = λ h. aborts.gives;
   }

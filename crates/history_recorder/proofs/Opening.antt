@@ -1,7 +1,8 @@
 -- What is true of a lane that was just opened.
-use Rattle.std.proofs.Common.{◌≡◌, ◌<◌, ℕ, Bool, List, [], ◌∷◌, ◌++◌, Option, arith}
+use Rattle.std.proofs.Common.{◌≡◌, ◌<◌, ℕ, Bool, List, [], ◌∷◌, ◌++◌, Option, sym, subst, arith}
 use Rattle.memory_cache.specs.declared.pair.Pair.{Pair}
-use Rattle.mover.specs.Store.{StoreState}
+use Rattle.mover.specs.Store.{StoreState, opening}
+use Rattle.mover.specs.Laws.{IsInOrder, OpeningShowsNothing}
 use Rattle.mover.specs.Lane.{lane_of}
 use Rattle.mover.specs.Visible.{IsShown}
 use Rattle.certificate_checker.specs.Deeds.{Deed}
@@ -13,14 +14,20 @@ pub no_deed : (before after : List Deed) (deed : Deed) → [] ≡ before ++ deed
 no_deed [] after deed split = cc
 no_deed (x ∷ before) after deed split = cc
 
--- what is true of a lane that shows nothing and recorded nothing
-pub opened : {D : Type 0} (honest : D → Bool) (held : D → ℕ → Option (List ℕ)) (store : StoreState D) (lane : ℕ) (calls : List Noted) → lane < store.layout.lanes → calls ≡ [] → ((p : Pair) → IsShown (lane_of held store) p → ⊥) → IsRecorded honest held (record { store = store; lane = lane; calls = calls })
-opened honest held store lane calls below none nothing = rw none (record {
-  number = below;
-  keys = λ k d within. absurd (omega (arith, within));
-  starts = λ k d within. absurd (omega (arith, within));
-  points = λ i j d less within. absurd (omega (arith, within));
-  few = omega arith;
-  sound = λ is p shown. absurd (nothing p shown);
-  lawful = λ is before after deed value split. absurd (no_deed before after deed split);
-})
+-- what is true of a lane that was just opened and recorded nothing
+pub opened : {D : Type 0} (honest : D → Bool) (held : D → ℕ → Option (List ℕ)) (store : StoreState D) (device : D) (lane : ℕ) (calls : List Noted) → lane < store.layout.lanes → calls ≡ [] → store ≡ opening store.layout device → OpeningShowsNothing →
+    IsRecorded honest held (record { store = store; lane = lane; calls = calls })
+opened {D} honest held store device lane calls below none told law =
+    let first = law (held device) store.layout in
+    let order : IsInOrder (lane_of held store) = subst (λ (s : StoreState D). IsInOrder (lane_of held s)) (sym told) first.0 in
+    let nothing : (p : Pair) → ¬ IsShown (lane_of held store) p = subst (λ (s : StoreState D). (p : Pair) → ¬ IsShown (lane_of held s) p) (sym told) first.1 in
+    rw none (record {
+      number = below;
+      keys = λ k d within. absurd (omega (arith, within));
+      starts = λ k d within. absurd (omega (arith, within));
+      points = λ i j d less within. absurd (omega (arith, within));
+      few = omega arith;
+      order = λ is. order;
+      sound = λ is p shown. absurd (nothing p shown);
+      lawful = λ is before after deed value split. absurd (no_deed before after deed split);
+    })

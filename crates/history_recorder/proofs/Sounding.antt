@@ -1,6 +1,6 @@
 -- Each step keeps what is true of every lane.
-use Rattle.std.proofs.Common.{◌≡◌, ◌≢◌, ◌<◌, ℕ, Bool, true, List, [], ◌∷◌, ◌++◌, length, Option, Some, None, sym, ap, ◌∙◌, refl, subst, inl, inr, arith}
-use Rattle.std.specs.Prelude.{All, IsTrue}
+use Rattle.std.proofs.Common.{◌≡◌, ◌≢◌, ◌<◌, ◌⊎◌, ℕ, Bool, true, List, [], ◌∷◌, ◌++◌, length, Option, Some, None, sym, ap, ◌∙◌, refl, subst, inl, inr, arith}
+use Rattle.std.specs.Prelude.{All, IsTrue, Result, Ok, Err, IfOk, OnErr}
 use Rattle.std.specs.Str.{bytes_eq}
 use Rattle.std.specs.Cmp.Lexicographic.{bytes_decides}
 use Rattle.std.proofs.lemmas.List.{map-append, length-append}
@@ -16,7 +16,15 @@ use Rattle.certificate_checker.specs.Current.{current}
 use Rattle.certificate_checker.specs.Latest.{IsWrite, IsLawful}
 use Rattle.certificate_checker.proofs.LatestLemmas.{current-push, deed_kept}
 use Rattle.certificate_checker.proofs.Growing.{lawful-push}
-use Rattle.mover.specs.Store.{StoreState, KeepsTiers}
+use Rattle.mover.specs.Store.{StoreState, KeepsTiers, KeepsMoves}
+use Rattle.mover.specs.Begin.{lane_counted, begin_step, BeginGives}
+use Rattle.mover.specs.Whole.{MoveGives}
+use Rattle.mover.specs.Laws.{IsInOrder, StepsInOrder, BeginShows, WholeMoveShows, IsPlannedFor}
+use Rattle.mover.specs.declared.begin.Begin.{Begin}
+use Rattle.mover.specs.declared.moved.Moved.{Moved}
+use Rattle.policy_laws.specs.declared.choice.Choice.{Choice}
+use Rattle.policy_laws.specs.declared.job.Job.{Job}
+use Rattle.std.specs.declared.alloc.AllocError.{AllocError}
 use Rattle.mover.specs.Lane.{LaneState, lane_of}
 use Rattle.mover.specs.Visible.{ShowsFrom, TellsVisible}
 use Rattle.history_recorder.specs.declared.noted.Noted.{Noted}
@@ -73,33 +81,57 @@ hit_is deeds key value lane (answers.Hit found tier) sound tells hit =
     sound (record { key = key; value = found }) (inl tells) ∙ ap Some same
 hit_is deeds key value lane (answers.Miss cause) sound tells hit = let no : Miss ≡ Hit value = hit in absurd (cc)
 
--- ---- lanes that show the same
+-- ---- lanes that stay
 
-module _ {D : Type 0} (held : D → ℕ → Option (List ℕ)) where
-  -- tiers that stay over pages that stay
-  pub kept_shows : (old new : StoreState D) → held new.device ≡ held old.device → KeepsTiers old new → ShowsFrom None None (lane_of held old) (lane_of held new)
-  kept_shows old new pages keeps = λ p shown. inl (rw (sym keeps.memory, sym keeps.log, sym keeps.sets, sym keeps.flight, sym pages) shown, λ no. none_some no)
+-- a lane that stays, and stays in order
+pub still_in_order : (old new : LaneState) → IsInOrder old → new ≡ old → StepsInOrder None None old new
+still_in_order old new was same = subst (StepsInOrder None None old) (sym same) (record { shows = λ p shown. inl (shown, λ no. none_some no); order = was; shape = refl })
+
+-- one move more was counted
+pub counted_in_order : (old new : LaneState) → IsInOrder old → new ≡ lane_counted old → StepsInOrder None None old new
+counted_in_order old new was same = subst (StepsInOrder None None old) (sym same) (record {
+  shows = λ p shown. inl (shown, λ no. none_some no);
+  order = record { placed = record { log = was.placed.log; sets = was.placed.sets; flight = was.placed.flight }; marked = was.marked };
+  shape = refl;
+})
+
+-- a move began, or memory was refused
+pub begun_in_order : BeginShows → (size least : ℕ) (old new : LaneState) (result : Result Begin AllocError) → IsInOrder old → IfOk result (λ begun. BeginGives size least old begun new) → OnErr result (new ≡ old) → StepsInOrder None None old new
+begun_in_order law size least old new (Ok begun) was gives stays = law size least old new begun was gives
+begun_in_order law size least old new (Err e) was gives stays = still_in_order old new was stays
+
+-- a whole move was made, or memory was refused
+pub moved_in_order : WholeMoveShows → (size least : ℕ) (plan_of : Job → List Choice) (old new : LaneState) (result : Result Moved AllocError) → IsInOrder old → IfOk result (λ moved. IsPlannedFor plan_of moved (begin_step size least old).reply) →
+    IfOk result (λ moved. MoveGives size least plan_of old moved new) → OnErr result ((new ≡ old) ⊎ (new ≡ lane_counted old)) → StepsInOrder None None old new
+moved_in_order law size least plan_of old new (Ok moved) was planned gives stays = law size least plan_of old new moved was planned gives
+moved_in_order law size least plan_of old new (Err e) was planned gives (inl same) = still_in_order old new was same
+moved_in_order law size least plan_of old new (Err e) was planned gives (inr counted) = counted_in_order old new was counted
+
+-- tiers that stay over pages that stay
+pub kept_lane : {D : Type 0} (held : D → ℕ → Option (List ℕ)) (old new : StoreState D) → held new.device ≡ held old.device → KeepsTiers old new → KeepsMoves old new → lane_of held new ≡ lane_of held old
+kept_lane held old new pages keeps moves = rw (pages, keeps.memory, keeps.log, keeps.sets, moves.flight, moves.moves) refl
 
 -- ---- what is true of every lane
 
 module _ {D : Type 0} (honest : D → Bool) (held : D → ℕ → Option (List ℕ)) (lane : Lane D) (recorded : IsRecorded honest held lane) where
   -- a step that is no call
-  pub recorded_step : (struck : Option (List ℕ)) (new : StoreState D) → new.layout ≡ lane.store.layout → honest new.device ≡ honest lane.store.device → (IsTrue (honest lane.store.device) → ShowsFrom struck None (lane_of held lane.store) (lane_of held new)) → IsRecorded honest held (record { store = new; lane = lane.lane; calls = lane.calls })
-  recorded_step struck new layout honesty shows = record {
+  pub recorded_step : (struck : Option (List ℕ)) (new : StoreState D) → new.layout ≡ lane.store.layout → honest new.device ≡ honest lane.store.device → (IsTrue (honest lane.store.device) → StepsInOrder struck None (lane_of held lane.store) (lane_of held new)) → IsRecorded honest held (record { store = new; lane = lane.lane; calls = lane.calls })
+  recorded_step struck new layout honesty steps = record {
     number = subst (λ (l : Layout). lane.lane < l.lanes) (sym layout) recorded.number;
     keys = subst (λ (l : Layout). All (λ (n : Noted). IsOfLane l lane.lane n.key) lane.calls) (sym layout) recorded.keys;
     starts = recorded.starts;
     points = recorded.points;
     few = recorded.few;
+    order = λ is. (steps (subst IsTrue honesty is)).order;
     sound = λ is.
         let was = subst IsTrue honesty is in
-        sound_by struck None (deeds_of lane.calls) (deeds_of lane.calls) (lane_of held lane.store) (lane_of held new) (λ p no. absurd (none_some no)) (λ p other. refl) (recorded.sound was) (shows was);
+        sound_by struck None (deeds_of lane.calls) (deeds_of lane.calls) (lane_of held lane.store) (lane_of held new) (λ p no. absurd (none_some no)) (λ p other. refl) (recorded.sound was) (steps was).shows;
     lawful = λ is. recorded.lawful (subst IsTrue honesty is);
   }
 
   -- the same, of calls that are told by an equation
-  pub recorded_still : (new : StoreState D) (calls : List Noted) → calls ≡ lane.calls → new.layout ≡ lane.store.layout → honest new.device ≡ honest lane.store.device → (IsTrue (honest lane.store.device) → ShowsFrom None None (lane_of held lane.store) (lane_of held new)) → IsRecorded honest held (record { store = new; lane = lane.lane; calls = calls })
-  recorded_still new calls same layout honesty shows = subst (λ (cs : List Noted). IsRecorded honest held (record { store = new; lane = lane.lane; calls = cs })) (sym same) (recorded_step None new layout honesty shows)
+  pub recorded_still : (new : StoreState D) (calls : List Noted) → calls ≡ lane.calls → new.layout ≡ lane.store.layout → honest new.device ≡ honest lane.store.device → (IsTrue (honest lane.store.device) → StepsInOrder None None (lane_of held lane.store) (lane_of held new)) → IsRecorded honest held (record { store = new; lane = lane.lane; calls = calls })
+  recorded_still new calls same layout honesty steps = subst (λ (cs : List Noted). IsRecorded honest held (record { store = new; lane = lane.lane; calls = cs })) (sym same) (recorded_step None new layout honesty steps)
 
   -- ---- one call more
 
@@ -111,30 +143,31 @@ module _ {D : Type 0} (honest : D → Bool) (held : D → ℕ → Option (List �
     deeds_are : deeds_of (lane.calls ++ n ∷ []) ≡ deeds_then
     deeds_are = map-append deed_noted lane.calls (n ∷ [])
 
-    recorded_with : (IsTrue (honest lane.store.device) → IsSound (lane_of held new) deeds_then) → (IsTrue (honest lane.store.device) → (value : List ℕ) → n.act ≡ Hit value → current (deeds_of lane.calls) n.key ≡ Some value) → IsRecorded honest held (record { store = new; lane = lane.lane; calls = calls })
-    recorded_with sound here = rw more (record {
+    recorded_with : (IsTrue (honest lane.store.device) → IsInOrder (lane_of held new)) → (IsTrue (honest lane.store.device) → IsSound (lane_of held new) deeds_then) → (IsTrue (honest lane.store.device) → (value : List ℕ) → n.act ≡ Hit value → current (deeds_of lane.calls) n.key ≡ Some value) → IsRecorded honest held (record { store = new; lane = lane.lane; calls = calls })
+    recorded_with order sound here = rw more (record {
       number = subst (λ (l : Layout). lane.lane < l.lanes) (sym layout) recorded.number;
       keys = subst (λ (l : Layout). All (λ (x : Noted). IsOfLane l lane.lane x.key) (lane.calls ++ n ∷ [])) (sym layout) (All-push (λ (x : Noted). IsOfLane lane.store.layout lane.lane x.key) lane.calls n recorded.keys own);
       starts = All-push (λ (x : Noted). x.start < x.point) lane.calls n recorded.starts start;
       points = all_pairs_push (λ (x y : Noted). x.point < y.point) lane.calls n recorded.points rises;
       few = omega (arith, length-append lane.calls (n ∷ []));
+      order = λ is. order (subst IsTrue honesty is);
       sound = λ is. subst (IsSound (lane_of held new)) (sym deeds_are) (sound (subst IsTrue honesty is));
       lawful = λ is.
           let was = subst IsTrue honesty is in
           subst IsLawful (sym deeds_are) (lawful-push (deeds_of lane.calls) (deed_noted n) (recorded.lawful was) (here was));
     })
 
-    pub recorded_get : (key : List ℕ) (answer : Answer) → n.key ≡ key → n.act ≡ act_of answer → (IsTrue (honest lane.store.device) → TellsVisible key (lane_of held lane.store) answer) → (IsTrue (honest lane.store.device) → ShowsFrom None None (lane_of held lane.store) (lane_of held new)) → IsRecorded honest held (record { store = new; lane = lane.lane; calls = calls })
-    recorded_get key answer at act tells shows = recorded_with
-        (λ is. sound_read (deeds_of lane.calls) (deed_noted n) answer (lane_of held lane.store) (lane_of held new) act (recorded.sound is) (shows is))
+    pub recorded_get : (key : List ℕ) (answer : Answer) → n.key ≡ key → n.act ≡ act_of answer → (IsTrue (honest lane.store.device) → TellsVisible key (lane_of held lane.store) answer) → (IsTrue (honest lane.store.device) → StepsInOrder None None (lane_of held lane.store) (lane_of held new)) → IsRecorded honest held (record { store = new; lane = lane.lane; calls = calls })
+    recorded_get key answer at act tells steps = recorded_with (λ is. (steps is).order)
+        (λ is. sound_read (deeds_of lane.calls) (deed_noted n) answer (lane_of held lane.store) (lane_of held new) act (recorded.sound is) (steps is).shows)
         (λ is value hit. subst (λ k. current (deeds_of lane.calls) k ≡ Some value) (sym at) (hit_is (deeds_of lane.calls) key value (lane_of held lane.store) answer (recorded.sound is) (tells is) (sym act ∙ hit)))
 
-    pub recorded_put : (put : Pair) → n.key ≡ put.key → n.act ≡ Put put.value → (IsTrue (honest lane.store.device) → ShowsFrom (Some put.key) (Some put) (lane_of held lane.store) (lane_of held new)) → IsRecorded honest held (record { store = new; lane = lane.lane; calls = calls })
-    recorded_put put at act shows = recorded_with
-        (λ is. sound_put (deeds_of lane.calls) (deed_noted n) put (lane_of held lane.store) (lane_of held new) at act (recorded.sound is) (shows is))
+    pub recorded_put : (put : Pair) → n.key ≡ put.key → n.act ≡ Put put.value → (IsTrue (honest lane.store.device) → StepsInOrder (Some put.key) (Some put) (lane_of held lane.store) (lane_of held new)) → IsRecorded honest held (record { store = new; lane = lane.lane; calls = calls })
+    recorded_put put at act steps = recorded_with (λ is. (steps is).order)
+        (λ is. sound_put (deeds_of lane.calls) (deed_noted n) put (lane_of held lane.store) (lane_of held new) at act (recorded.sound is) (steps is).shows)
         (λ is value hit. let both : Put put.value ≡ Hit value = sym act ∙ hit in absurd (cc))
 
-    pub recorded_remove : (key : List ℕ) → n.key ≡ key → n.act ≡ Remove → (IsTrue (honest lane.store.device) → ShowsFrom (Some key) None (lane_of held lane.store) (lane_of held new)) → IsRecorded honest held (record { store = new; lane = lane.lane; calls = calls })
-    recorded_remove key at act shows = recorded_with
-        (λ is. sound_remove (deeds_of lane.calls) (deed_noted n) key (lane_of held lane.store) (lane_of held new) at (recorded.sound is) (shows is))
+    pub recorded_remove : (key : List ℕ) → n.key ≡ key → n.act ≡ Remove → (IsTrue (honest lane.store.device) → StepsInOrder (Some key) None (lane_of held lane.store) (lane_of held new)) → IsRecorded honest held (record { store = new; lane = lane.lane; calls = calls })
+    recorded_remove key at act steps = recorded_with (λ is. (steps is).order)
+        (λ is. sound_remove (deeds_of lane.calls) (deed_noted n) key (lane_of held lane.store) (lane_of held new) at (recorded.sound is) (steps is).shows)
         (λ is value hit. let both : Remove ≡ Hit value = sym act ∙ hit in absurd (cc))

@@ -10,6 +10,7 @@ use Rattle.memory_cache.specs.declared.pair.Pair.{Pair}
 use Rattle.mover.specs.Store.{StoreState}
 use Rattle.mover.specs.Lane.{LaneState, lane_of}
 use Rattle.mover.specs.Visible.{IsShown}
+use Rattle.mover.specs.Laws.{IsInOrder}
 use Rattle.trace_file.specs.declared.act.Act.{Act}
 use Rattle.trace_file.specs.declared.act.Act.TheVariants.{Hit, Miss}
 use Rattle.certificate_checker.specs.Deeds.{Deed}
@@ -49,13 +50,14 @@ abbrev pub max_calls : ℕ
 max_calls = 2 ^ 24
 
 -- What is true of every lane. Its keys are its own, each call starts before its point, and points rise. Where its device
--- is honest it is sound, and each recorded hit had its key's latest value.
+-- is honest it is in order and sound, and each recorded hit had its key's latest value.
 pub record IsRecorded {D : Type 0} (honest : D → Bool) (held : D → ℕ → Option (List ℕ)) (lane : Lane D) : Type 0 where
   pub number : lane.lane < lane.store.layout.lanes
   pub keys : All (λ n. IsOfLane lane.store.layout lane.lane n.key) lane.calls
   pub starts : All (λ n. n.start < n.point) lane.calls
   pub points : AllPairs (λ a b. a.point < b.point) lane.calls
   pub few : length lane.calls ≤ max_calls
+  pub order : IsTrue (honest lane.store.device) → IsInOrder (lane_of held lane.store)
   pub sound : IsTrue (honest lane.store.device) → IsSound (lane_of held lane.store) (deeds_of lane.calls)
   pub lawful : IsTrue (honest lane.store.device) → IsLawful (deeds_of lane.calls)
 

@@ -1,17 +1,14 @@
 // A lane whose calls are recorded.
-ghost use Rattle.std.specs.Prelude.{◌≡◌, ◌↔◌, ◌<◌, ◌≤◌, ◌++◌, ◌∷◌, [], All, length, map, IfOk, OnOk, OnErr, IsErrOf, IfErr, IsSome, IsTrue, slice_get, Some, None};
+ghost use Rattle.std.specs.Prelude.{◌≡◌, ◌↔◌, ◌<◌, ◌≤◌, ◌++◌, ◌∷◌, [], All, length, map, IfOk, OnOk, OnErr, IsErrOf, IfErr, IsTrue, slice_get, Ok, Some};
 ghost use Rattle.std.specs.List.{range_with_len};
 ghost use Rattle.record_pages.specs.Asked.{HasNumbersOf};
 ghost use Rattle.record_pages.specs.Bounded.{IsKey, IsValue};
 ghost use Rattle.record_pages.specs.Sizes.{object_size, room};
-ghost use Rattle.memory_cache.specs.MemoryList.{value_in};
-ghost use Rattle.mover.specs.Store.{opening, IsStore, KeepsMoves};
+ghost use Rattle.mover.specs.Store.{opening, IsStore};
 ghost use Rattle.mover.specs.Opening.{CanServe, RefusesStore};
 ghost use Rattle.mover.specs.Lane.{lane_of};
-ghost use Rattle.mover.specs.Visible.{IsPlaced, ShowsFrom};
-ghost use Rattle.mover.specs.Asking.{AsksNothing, IfThen};
-ghost use Rattle.mover.specs.Put.{put_step, IsStep};
-ghost use Rattle.mover.specs.Strike.{removed};
+ghost use Rattle.mover.specs.Laws.{IsInOrder};
+ghost use Rattle.mover.specs.Calls.{StoreGets, StorePuts, StoreRemoves};
 ghost use Rattle.trace_file.specs.Calls.{value_of};
 ghost use Rattle.trace_file.specs.Lent.{act_shown};
 ghost use Rattle.certificate_checker.specs.Acceptance.{IsAccepted};
@@ -25,7 +22,7 @@ use crate::record_put_fault::RecordPutFault;
 use crate::recorded_parts::RecordedParts;
 use crate::removed::Removed;
 use crate::stored::Stored;
-use mover::{OpenFault, Store};
+use mover::{OpenFault, Store, get_shows, opening_shows_nothing, put_shows, removal_shows};
 use page_device::PageDevice;
 use record_pages::{Answer, Config, Key, Layout, Pushed, Value, is_too_large};
 use std::alloc::{AllocError, Global};
@@ -70,7 +67,7 @@ impl<D: PageDevice<PAGE>, const PAGE: usize> Model for RecordedLane<D, PAGE> {
 
 impl<D: PageDevice<PAGE>, const PAGE: usize> RecordedLane<D, PAGE> {
     ghost use Rattle.history_recorder.specs.Lane.{IsRecorded, IsOfLane, act_of, last_point, max_calls};
-    ghost use Rattle.history_recorder.specs.Answering.{Answers, KeepsOrAnswers};
+    ghost use Rattle.history_recorder.specs.Answering.{MayHaveGot};
     ghost use Rattle.history_recorder.specs.Points.{at_point, noted_shown};
 
     /// An empty lane with this number, over a device. Its refusals are those of `Store::open`, tested in the order of
@@ -86,6 +83,8 @@ impl<D: PageDevice<PAGE>, const PAGE: usize> RecordedLane<D, PAGE> {
         ensures serves { OnOk result (CanServe PAGE config.now (D.page_count device)) }
         ensures refused { IfErr result (RefusesStore PAGE config.now (D.page_count device)) }
     {
+        // A store that was just opened shows nothing.
+        opening_shows_nothing();
         let store = Store::open(alloc, config, device)?;
         Ok(RecordedLane {
             store,
@@ -123,8 +122,8 @@ impl<D: PageDevice<PAGE>, const PAGE: usize> RecordedLane<D, PAGE> {
         ensures layout { result ≡ self.now.store.layout }
         // What is true of every store.
         ensures kept { IsStore PAGE D.page_count D.honest D.held self.now.store }
-        ensures placed { IsTrue (D.honest self.now.store.device) →
-            IsPlaced (lane_of D.held self.now.store) }
+        ensures order { IsTrue (D.honest self.now.store.device) →
+            IsInOrder (lane_of D.held self.now.store) }
     {
         self.store.layout()
     }
@@ -198,23 +197,18 @@ impl<D: PageDevice<PAGE>, const PAGE: usize> RecordedLane<D, PAGE> {
         ensures unrecorded { OnErr result (self.new ≡ record self.old { store = self.new.store }) }
 
         // The store's answer, and what it leaves.
-        ensures layout { self.new.store.layout ≡ self.old.store.layout }
-        ensures honest { D.honest self.new.store.device ≡ D.honest self.old.store.device }
-        ensures stays { KeepsMoves self.old.store self.new.store }
-        ensures answers { IfOk result (λ got. Answers D.honest D.failures D.held key.now
-            self.old.store got.answer self.new.store) }
-        ensures in_memory { IsSome (value_in key.now self.old.store.memory.pairs) →
-            self.new.store.device ≡ self.old.store.device }
-        ensures unasked { IfThen (AsksNothing key.now self.old.store)
-            (self.new.store.device ≡ self.old.store.device) }
+        ensures gets { IfOk result (λ got. StoreGets PAGE D.honest D.failures D.held key.now
+            self.old.store (Ok got.answer) self.new.store) }
 
         // When it is refused, and what that leaves.
         ensures full { IsErrOf result RecordFault.HistoryFull
             ↔ (max_calls ≤ length self.old.calls) }
         ensures full_keeps { IsErrOf result RecordFault.HistoryFull → self.new ≡ self.old }
-        ensures out_of_memory { OnErr result (KeepsOrAnswers D.honest D.failures D.held key.now
+        ensures out_of_memory { OnErr result (MayHaveGot PAGE D.honest D.failures D.held key.now
             self.old.store self.new.store) }
     {
+        // A get shows nothing that was not shown.
+        get_shows();
         if self.calls.len() >= MAX_CALLS {
             return Err(RecordFault::HistoryFull);
         }
@@ -254,14 +248,9 @@ impl<D: PageDevice<PAGE>, const PAGE: usize> RecordedLane<D, PAGE> {
         }) }
 
         // What becomes of the store.
-        ensures layout { self.new.store.layout ≡ self.old.store.layout }
-        ensures device { self.new.store.device ≡ self.old.store.device }
-        ensures gives { IsTrue (D.honest self.old.store.device) → IfOk result (λ stored. IsStep
-            (put_step PAGE self.old.store.layout.admit (record { key = key; value = value }) word
-            (lane_of D.held self.old.store)) stored.pushed (lane_of D.held self.new.store)) }
-        ensures shows { IsTrue (D.honest self.old.store.device) →
-            OnOk result (ShowsFrom (Some key) (Some (record { key = key; value = value }))
-            (lane_of D.held self.old.store) (lane_of D.held self.new.store)) }
+        ensures puts { IfOk result (λ stored. StorePuts PAGE D.held
+            (record { key = key; value = value }) word self.old.store (Ok stored.pushed)
+            self.new.store) }
 
         // When it is refused, and what that leaves.
         ensures large { IsErrOf result RecordPutFault.TooLarge ↔ (room PAGE < object_size key value) }
@@ -269,6 +258,8 @@ impl<D: PageDevice<PAGE>, const PAGE: usize> RecordedLane<D, PAGE> {
             ↔ ((object_size key value ≤ room PAGE) × (max_calls ≤ length self.old.calls)) }
         ensures err { OnErr result (self.new ≡ self.old) }
     {
+        // A put shows its pair, and nothing else that was not shown.
+        put_shows();
         if is_too_large::<PAGE>(&key, &value) {
             return Err(RecordPutFault::TooLarge);
         }
@@ -314,19 +305,15 @@ impl<D: PageDevice<PAGE>, const PAGE: usize> RecordedLane<D, PAGE> {
         }) }
 
         // What becomes of the store.
-        ensures layout { self.new.store.layout ≡ self.old.store.layout }
-        ensures device { self.new.store.device ≡ self.old.store.device }
-        ensures removed { OnOk result (lane_of D.held self.new.store
-            ≡ removed key.now (lane_of D.held self.old.store)) }
-        ensures shows { IsTrue (D.honest self.old.store.device) →
-            OnOk result (ShowsFrom (Some key.now) None
-            (lane_of D.held self.old.store) (lane_of D.held self.new.store)) }
+        ensures removes { OnOk result (StoreRemoves D.held key.now self.old.store self.new.store) }
 
         // When it is refused, and what that leaves.
         ensures full { IsErrOf result RecordFault.HistoryFull
             ↔ (max_calls ≤ length self.old.calls) }
         ensures err { OnErr result (self.new ≡ self.old) }
     {
+        // A removal shows nothing that was not shown, and nothing of its key.
+        removal_shows();
         if self.calls.len() >= MAX_CALLS {
             return Err(RecordFault::HistoryFull);
         }
@@ -410,14 +397,8 @@ fn put_noted<D: PageDevice<PAGE>, const PAGE: usize>(
     word: u32,
 ) -> Result<Pushed, AllocError>
     ensures more { OnOk result (calls.new ≡ calls.old ++ noted.now ∷ []) }
-    ensures layout { store.new.layout ≡ store.old.layout }
-    ensures device { store.new.device ≡ store.old.device }
-    ensures gives { IsTrue (D.honest store.old.device) → IfOk result (λ pushed. IsStep
-        (put_step PAGE store.old.layout.admit (record { key = key; value = value }) word
-        (lane_of D.held store.old)) pushed (lane_of D.held store.new)) }
-    ensures shows { IsTrue (D.honest store.old.device) →
-        OnOk result (ShowsFrom (Some key) (Some (record { key = key; value = value }))
-        (lane_of D.held store.old) (lane_of D.held store.new)) }
+    ensures puts { IfOk result (λ pushed. StorePuts PAGE D.held
+        (record { key = key; value = value }) word store.old (Ok pushed) store.new) }
     ensures calls_kept { OnErr result (calls.new ≡ calls.old) }
     ensures store_kept { OnErr result (store.new ≡ store.old) }
 {

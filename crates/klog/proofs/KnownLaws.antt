@@ -1,8 +1,8 @@
 -- Where the record of an entry is known.
 use Rattle.std.proofs.Common.{◌≡◌, ℕ, Bool, true, false, eqb, ◌&&◌, ◌||◌, List, Option, Some, None, refl, sym, ap, subst, ◌∙◌}
-use Rattle.std.specs.Prelude.{IsSome, IsSomeAnd}
+use Rattle.std.specs.Prelude.{IsSome, IsSomeAnd, IfSome, IsTrue}
 use Rattle.std.proofs.lemmas.Bool.{OnFalse_at, OnFalse_from, eq-eqb, ne_eqb, false≢true}
-use Rattle.page_device.specs.Device.{faults_after}
+use Rattle.page_device.specs.Device.{faults_after, IsKnown}
 use Rattle.record_pages.specs.Recs.{Rec}
 use Rattle.record_pages.specs.declared.record_ref.RecordRef.{RecordRef}
 use Rattle.klog_index.specs.declared.entry.Entry.{Entry}
@@ -11,7 +11,7 @@ use Rattle.klog.specs.declared.fetched.Fetched.TheVariants as fetched
 use Rattle.klog.specs.Log.{LogState}
 use Rattle.klog.specs.Names.{segment_of, flushed_number, filled_number}
 use Rattle.klog.specs.Shown.{record_on, record_of_held, shown_on, CanStandFor, IsLiveOn}
-use Rattle.klog.specs.Known.{is_buffered, IsPageKnown, IsHad, ShowsIfHad}
+use Rattle.klog.specs.Known.{AreHeldBy, is_buffered, IsPageKnown, IsHad, ShowsIfHad}
 use Rattle.klog.specs.Fetch.{is_fetch_fault, FetchGives}
 use Rattle.klog.proofs.FetchLaws.{IsStored, stored_shows}
 
@@ -72,3 +72,30 @@ shows_weaker bytes held k e P Q weaker shows = λ had. by_case (shown_on held k 
     by_case : (o : Option Rec) → IsSomeAnd o (λ r. CanStandFor bytes k.shape e r × P r) → IsSomeAnd o (λ r. CanStandFor bytes k.shape e r × Q r)
     by_case (Some r) h = (h.0, weaker r h.1)
     by_case None h = h
+
+-- ---- what is known of the pages of a device
+
+module _ {D : Type 0} (honest : D → Bool) (held : D → ℕ → Option (List ℕ)) where
+  -- of an honest one all that it holds
+  pub all_held : (d : D) → IsTrue (honest d) → AreHeldBy honest held d (held d)
+  all_held d is page = by_page (held d page) refl
+    where
+      by_page : (o : Option (List ℕ)) → held d page ≡ o → IfSome o (λ text. IsTrue (honest d) × (held d page ≡ Some text))
+      by_page None at = tt
+      by_page (Some text) at = (is, at)
+
+  -- what was known is known where it holds the same
+  pub held_still : (d next : D) (known : ℕ → Option (List ℕ)) → honest next ≡ honest d → (IsTrue (honest d) → held next ≡ held d) → AreHeldBy honest held d known → AreHeldBy honest held next known
+  held_still d next known honesty same knows page = by_page (known page) (knows page)
+    where
+      by_page : (o : Option (List ℕ)) → IfSome o (λ text. IsTrue (honest d) × (held d page ≡ Some text)) → IfSome o (λ text. IsTrue (honest next) × (held next page ≡ Some text))
+      by_page None h = tt
+      by_page (Some text) h = (honesty ∙ h.0, ap (λ (f : ℕ → Option (List ℕ)). f page) (same h.0) ∙ h.1)
+
+  -- what is read of a page is what is known of it
+  pub known_read : (d : D) (known : ℕ → Option (List ℕ)) (page : ℕ) (bytes : List ℕ) → AreHeldBy honest held d known → (IsTrue (honest d) → IsKnown (held d page) bytes) → IsKnown (known page) bytes
+  known_read d known page bytes knows read = by_page (known page) (knows page)
+    where
+      by_page : (o : Option (List ℕ)) → IfSome o (λ text. IsTrue (honest d) × (held d page ≡ Some text)) → IsKnown o bytes
+      by_page None h = tt
+      by_page (Some text) h = subst (λ (o : Option (List ℕ)). IsKnown o bytes) h.1 (read h.0)

@@ -9,6 +9,7 @@ pub mod FlushLaws
 pub mod FetchLaws
 pub mod KnownLaws
 pub mod LookLaws
+pub mod InBuffers
 pub mod MoveLaws
 pub mod TakeLaws
 pub mod TakenLaws

@@ -194,9 +194,9 @@ first_ones {X} P xs n x at all =
 pub turn_first : (P : Entry → Type 0) (k : LogState) (set tag behind : ℕ) (e : Entry) → AtTurn k set tag behind e → All P (take (behind + 1) (of_tag set tag k.entries)) → All P (take behind (of_tag set tag k.entries)) × P e
 turn_first P k set tag behind e at all = first_ones P (of_tag set tag k.entries) behind e at all
 
--- what is told of it on the device as it was
-pub turn_tells : (bytes : ℕ) (held held' : ℕ → Option (List ℕ)) (k : LogState) (key : List ℕ) (e : Entry) (t t' : Result Told AllocError) → held' ≡ held → t ≡ t' → TellsKey bytes held' k e key t → TellsKey bytes held k e key t'
-turn_tells bytes held held' k key e t t' same is tells = subst (TellsKey bytes held k e key) is (subst (λ (x : ℕ → Option (List ℕ)). TellsKey bytes x k e key t) same tells)
+-- what is told of it, as another word has it
+pub turn_tells : (bytes : ℕ) (known : ℕ → Option (List ℕ)) (k : LogState) (key : List ℕ) (e : Entry) (t t' : Result Told AllocError) → t ≡ t' → TellsKey bytes known k e key t → TellsKey bytes known k e key t'
+turn_tells bytes known k key e t t' is tells = subst (TellsKey bytes known k e key) is tells
 
 -- the search came to it
 pub turn_reached : (bytes : ℕ) (held : ℕ → Option (List ℕ)) (k : LogState) (set tag : ℕ) (key : List ℕ) (behind : ℕ) (e : Entry) → AtTurn k set tag behind e

@@ -1,5 +1,5 @@
 -- What is known of where the record of an entry lies.
-use Rattle.std.specs.Prelude.{ℕ, List, Option, IsSome, IsSomeAnd, All, Bool, IsTrue, ◌&&◌, ◌||◌, ◌==◌}
+use Rattle.std.specs.Prelude.{◌≡◌, ℕ, List, Option, Some, None, IsSome, IsSomeAnd, IfSome, All, Bool, IsTrue, ◌&&◌, ◌||◌, ◌==◌}
 use Rattle.std.specs.Bool.{OnFalse}
 use Rattle.record_pages.specs.Recs.{Rec}
 use Rattle.klog_index.specs.declared.entry.Entry.{Entry}
@@ -14,6 +14,15 @@ is_buffered k e = segment_of k e == filled_number k || k.is_flushing && segment_
 -- the records of all these entries lie in the two buffers
 abbrev pub AreBuffered : LogState → List Entry → Type 0
 AreBuffered k es = All (λ e. IsTrue (is_buffered k e)) es
+
+-- What is known of pages is so of a device: each one of which something is known is a page of an honest device, which holds
+-- just that. So where a device is not honest nothing is known of any.
+abbrev pub AreHeldBy : {D : Type 0} → (D → Bool) → (D → ℕ → Option (List ℕ)) → D → (ℕ → Option (List ℕ)) → Type 0
+AreHeldBy honest held device known = (page : ℕ) → IfSome (known page) (λ text. IsTrue (honest device) × (held device page ≡ Some text))
+
+-- nothing is known of any page
+abbrev pub no_pages : ℕ → Option (List ℕ)
+no_pages = λ page. None
 
 -- the entry's page is known to hold something
 abbrev pub IsPageKnown : (ℕ → Option (List ℕ)) → LogState → Entry → Type 0

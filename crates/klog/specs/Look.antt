@@ -1,5 +1,5 @@
 -- What a look-up in the log answers.
-use Rattle.std.specs.Prelude.{◌≡◌, ℕ, List, map, take, slice_get, Option, Some, None, IsSomeAnd, Contains, All, Bool, true, false, IsTrue, Result, Ok, Err, if◌then◌else◌}
+use Rattle.std.specs.Prelude.{◌≡◌, ℕ, ◌+◌, List, map, take, slice_get, Option, Some, None, IsSomeAnd, Contains, All, Bool, true, false, IsTrue, Result, Ok, Err, if◌then◌else◌}
 use Rattle.std.specs.declared.alloc.AllocError.{AllocError}
 use Rattle.record_pages.specs.Recs.{Rec}
 use Rattle.record_pages.specs.Looking.{has_key}
@@ -9,8 +9,8 @@ use Rattle.klog_index.specs.Entries.{is_in, lowered, with_lowered, of_tag}
 use Rattle.klog.specs.declared.looked.Looked.{Looked}
 use Rattle.klog.specs.declared.looked.Looked.TheVariants as looked
 use Rattle.klog.specs.Log.{LogState, with_list}
-use Rattle.klog.specs.Shown.{newest_with, IsLiveOn}
-use Rattle.klog.specs.Known.{is_buffered, ShowsIfHad}
+use Rattle.klog.specs.Shown.{newest_with, shown_on, CanStandFor, IsLiveOn}
+use Rattle.klog.specs.Known.{no_pages, is_buffered, AreBuffered, ShowsIfHad}
 
 -- the answer is the device's failure
 abbrev pub is_log_fault : Result Looked AllocError → Bool
@@ -70,3 +70,12 @@ LooksAt bytes held old set tag key (Ok looked.Damaged) new not_called =
     (e : Entry) × IsReached bytes held old set tag key e × (IsLiveOn bytes held old e → ⊥)
 LooksAt bytes held old set tag key (Err x) new not_called =
     (e : Entry) × IsReached bytes held old set tag key e × ShowsIfHad bytes held old e (λ r. has_key key r ≡ true)
+
+-- The record that the buffers tell of a key. Of the entries of the key's set and tag, newest first, all up to this one lie in
+-- buffers, those before it show other keys, and it shows this record, which has the key.
+pub record IsInBuffers (bytes : ℕ) (k : LogState) (set tag : ℕ) (key : List ℕ) (e : Entry) (r : Rec) : Type 0 where
+  pub reached : IsReached bytes no_pages k set tag key e
+  pub buffered : AreBuffered k (take (reached.behind + 1) (of_tag set tag k.entries))
+  pub shows : shown_on no_pages k e ≡ Some r
+  pub its : CanStandFor bytes k.shape e r
+  pub has : has_key key r ≡ true

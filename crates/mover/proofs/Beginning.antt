@@ -1,6 +1,6 @@
 -- How a move begins, tier by tier.
-use Rattle.std.proofs.Common.{◌≡◌, ◌≢◌, ℕ, List, [], Option, Some, None, refl, sym, ap, subst, ◌∙◌}
-use Rattle.std.specs.Prelude.{Result, Ok}
+use Rattle.std.proofs.Common.{◌≡◌, ◌≢◌, ◌+◌, ℕ, Bool, true, false, List, [], Option, Some, None, refl, sym, ap, subst, ◌∙◌}
+use Rattle.std.specs.Prelude.{Result, Ok, nat_lt}
 use Rattle.std.specs.FinSet as bits
 use Rattle.std.specs.declared.alloc.AllocError.{AllocError}
 use Rattle.record_pages.specs.Recs.{Rec}
@@ -12,20 +12,26 @@ use Rattle.klog.specs.declared.readmitted.Readmitted.{Readmitted}
 use Rattle.klog.specs.declared.readmitted.Readmitted.TheVariants as readmitted
 use Rattle.klog.specs.declared.set_taken.SetTaken.{SetTaken}
 use Rattle.klog.specs.declared.set_taken.SetTaken.TheVariants as taken
-use Rattle.klog.specs.Moves.{TakeGives, ReadmitGives, MovesTo, live_anew}
+use Rattle.klog.specs.Moves.{TakeGives, TakeLeaves, ReadmitGives, MovesTo, live_anew}
 use Rattle.kset.specs.declared.set_read.SetRead.{SetRead}
 use Rattle.kset.specs.declared.set_read.SetRead.TheVariants as read
-use Rattle.kset.specs.Sets.{SetsState, notes_of}
+use Rattle.kset.specs.Sets.{SetsState, notes_of, forgotten}
 use Rattle.kset.specs.Shown.{visible_in, with_flags}
 use Rattle.kset.specs.ReadSet.{SetReadLeaves, SetReadGives}
 use Rattle.kset.specs.After.{shown_after_reading}
-use Rattle.mover.specs.Store.{StoreState}
+use Rattle.mover.specs.Store.{StoreState, most_moves}
 use Rattle.mover.specs.Lane.{LaneState, lane_of}
 use Rattle.mover.specs.Put.{IsStep}
-use Rattle.mover.specs.Oldest.{record_of}
-use Rattle.mover.specs.Begin.{LaneTakes, LaneReads, LaneReadmits, anew_step, readmit_step, began_by, moves_after, BeginsFlight, BeginLeaves, AnswersBusy}
-use Rattle.mover.specs.Flight.{Flight}
-use Rattle.mover.specs.declared.begin.Begin.{Begin}
+use Rattle.mover.specs.Begin.{LaneTakes, LaneReads, LaneReadmits, anew_step, readmit_step, began_by, judged_in}
+use Rattle.mover.specs.Leaving.{HasAll, HasLog, LosesSetPage, TakingLeaves, ReadingLeaves, Flies, EntryLeaves, OldestLeaves, NextLeaves, FlightLeaves, BeginLeaves}
+use Rattle.mover.specs.Oldest.{oldest_in, record_of}
+use Rattle.mover.specs.Job.{job_of}
+use Rattle.mover.specs.declared.moving.Moving.{Moving}
+use Rattle.admission.specs.declared.judgement.Judgement.{Judgement}
+use Rattle.admission.specs.declared.judgement.Judgement.TheVariants as judgement
+use Rattle.klog.specs.declared.oldest.Oldest.{Oldest}
+use Rattle.klog.specs.declared.oldest.Oldest.TheVariants as oldest
+use Rattle.mover.specs.Flight.{Flight, just_begun}
 use Rattle.mover.specs.declared.begin.Begin.TheVariants as begin
 use Rattle.policy_laws.specs.declared.job.Job.{Job}
 use Rattle.mover.proofs.Placing.{record_is}
@@ -99,35 +105,90 @@ module _ {D : Type 0} (held : D → ℕ → Option (List ℕ)) (s : StoreState D
 pub not_lost : (answer : SetRead) (given : Result SetRead AllocError) → given ≡ Ok (read.Records []) → given ≡ Ok answer → answer ≢ read.PageLost
 not_lost answer given is was lost = absurd cc
 
--- a readmission begins no move
-pub none_counted : (r : Readmitted) (b : Begin) (moves : ℕ) → b ≡ began_by r → moves_after (Ok b) moves ≡ moves
-none_counted r b moves is = ap (λ (x : Begin). moves_after (Ok x) moves) is ∙ step r
-  where
-    step : (r : Readmitted) → moves_after (Ok (began_by r)) moves ≡ moves
-    step readmitted.Readmitted = refl
-    step readmitted.Dropped = refl
-    step readmitted.Fault = refl
-    step readmitted.Damaged = refl
+-- ---- what a beginning leaves of a store, on any device
 
-pub none_flies : (size : ℕ) (r : Readmitted) (b : Begin) (old new : Option Flight) → b ≡ began_by r → new ≡ old → BeginsFlight size (Ok b) old new
-none_flies size r b old new is same = subst (λ (x : Begin). BeginsFlight size (Ok x) old new) (sym is) (step r)
-  where
-    step : (r : Readmitted) → BeginsFlight size (Ok (began_by r)) old new
-    step readmitted.Readmitted = same
-    step readmitted.Dropped = same
-    step readmitted.Fault = same
-    step readmitted.Damaged = same
+module _ {D : Type 0} (s : StoreState D) (d : D) where
+  -- a taking from the log
+  pub taking_leaves : (k : LogState) (set : ℕ) (answer : SetTaken) → TakeLeaves s.log set (Ok answer) k → TakingLeaves set s answer (record s { device = d; log = k })
+  taking_leaves k set (taken.Records rs) leaves = (leaves.1, log_is s.log leaves.0)
+    where
+      log_is : (log : LogState) → k ≡ log → HasLog log s (record s { device = d; log = k })
+      log_is log is = λ i. record { layout = s.layout; device = d; memory = s.memory; log = is i; sets = s.sets; flight = s.flight; moves = s.moves }
+  taking_leaves k set taken.PageLost leaves = record {
+    entry = leaves.0;
+    listed = leaves.1;
+    rest = λ i. record { layout = s.layout; device = d; memory = s.memory; log = leaves.2 i; sets = s.sets; flight = s.flight; moves = s.moves };
+  }
 
-pub none_leaves : {D : Type 0} (r : Readmitted) (b : Begin) (old new : StoreState D) → b ≡ began_by r → BeginLeaves (Ok b) old new
-none_leaves r b old new is = subst (λ (x : Begin). BeginLeaves (Ok x) old new) (sym is) (step r)
-  where
-    step : (r : Readmitted) → BeginLeaves (Ok (began_by r)) old new
-    step readmitted.Readmitted = tt
-    step readmitted.Dropped = tt
-    step readmitted.Fault = tt
-    step readmitted.Damaged = tt
+  -- a reading of a set
+  pub reading_leaves : (q : SetsState) (set : ℕ) (answer : SetRead) → SetReadLeaves s.sets set (Ok answer) q → ((notes_of s.sets set).filter ≡ bits.empty → answer ≢ read.PageLost) → ReadingLeaves set s answer (record s { device = d; sets = q })
+  reading_leaves q set (read.Records rs) leaves asked = (leaves.1, λ i. record { layout = s.layout; device = d; memory = s.memory; log = s.log; sets = leaves.0 i; flight = s.flight; moves = s.moves })
+  reading_leaves q set read.PageLost leaves asked = record {
+    read = λ none. asked none refl;
+    rest = λ i. record { layout = s.layout; device = d; memory = s.memory; log = s.log; sets = leaves i; flight = s.flight; moves = s.moves };
+  }
 
--- where there is a job no move was in flight
-pub was_free : (o : Option Flight) (job : Job) (P : Type 0) → AnswersBusy o (Ok (begin.Job job)) P → o ≡ None
-was_free None job P is = refl
-was_free (Some f) job P is = let same = is.0 in absurd cc
+module _ {D : Type 0} where
+  -- two calls that leave all
+  pub all_again : (old mid new : StoreState D) → HasAll old mid → HasAll mid new → HasAll old new
+  all_again old mid new first next = next ∙ ap (λ (x : StoreState D). record x { device = new.device }) first
+
+  -- the page of a set is lost behind a call that leaves all
+  pub set_lost_after : (set : ℕ) (old mid new : StoreState D) → HasAll old mid → LosesSetPage set mid new → LosesSetPage set old new
+  set_lost_after set old mid new first lost = record {
+    read = subst (λ (x : StoreState D). (notes_of x.sets set).filter ≢ bits.empty) first lost.read;
+    rest = lost.rest ∙ ap (λ (x : StoreState D). record x { device = new.device; sets = forgotten x.sets set }) first;
+  }
+
+  -- a move is in flight behind a call that leaves all
+  pub flown_after : (size set : ℕ) (old mid new : StoreState D) (moving : Moving) (job : Job) → HasAll old mid → moving.set ≡ set → moving.number ≡ mid.moves + 1 → job ≡ job_of size moving →
+      new ≡ record mid { flight = Some (just_begun mid.log.shape moving); moves = mid.moves + 1 } → Flies size set old job new
+  flown_after size set old mid new moving job first its number job_is flies = record {
+    moving = moving;
+    number_is = number ∙ ap (λ (x : StoreState D). x.moves + 1) first;
+    set_is = its;
+    job_is = job_is;
+    rest = flies ∙ ap (λ (x : StoreState D). record x { flight = Some (just_begun x.log.shape moving); moves = x.moves + 1 }) first
+        ∙ ap (λ (d : D). record old { device = d; flight = Some (just_begun old.log.shape moving); moves = old.moves + 1 }) (sym (ap (λ (x : StoreState D). x.device) flies));
+  }
+
+  -- a beginning with a job: no move was in flight, and one of some set is now
+  module _ (size : ℕ) (old : StoreState D) (job : Job) (new : StoreState D) where
+    by_entry : (e : Entry) (j : Judgement) → EntryLeaves size e j old (begin.Job job) new → (set : ℕ) × Flies size set old job new
+    by_entry e judgement.Move leaves = (e.set, leaves)
+    by_entry e judgement.Readmit leaves = absurd (none leaves.answer leaves.told)
+      where
+        none : (r : Readmitted) → begin.Job job ≡ began_by r → ⊥
+        none readmitted.Readmitted is = cc
+        none readmitted.Dropped is = cc
+        none readmitted.Fault is = cc
+        none readmitted.Damaged is = cc
+    by_entry e judgement.Drop leaves = let no = leaves.0 in absurd cc
+
+    by_oldest : (o : Oldest) → OldestLeaves size o old (begin.Job job) new → (set : ℕ) × Flies size set old job new
+    by_oldest oldest.NoSegment leaves = let no = leaves.0 in absurd cc
+    by_oldest oldest.Empty leaves = let no = leaves.0 in absurd cc
+    by_oldest (oldest.First e) leaves = by_entry e (judged_in old.layout.threshold old.log e) leaves
+
+    by_room : (b : Bool) → NextLeaves size b old (begin.Job job) new → (set : ℕ) × Flies size set old job new
+    by_room true leaves = by_oldest (oldest_in old.log) leaves
+    by_room false leaves = let no = leaves.0 in absurd cc
+
+    by_flight : (o : Option Flight) → FlightLeaves size o old (begin.Job job) new → (o ≡ None) × ((set : ℕ) × Flies size set old job new)
+    by_flight None leaves = (refl, by_room (nat_lt old.moves most_moves) leaves)
+    by_flight (Some f) leaves = let no = leaves.0 in absurd cc
+
+    pub begun_job : BeginLeaves size old (begin.Job job) new → (old.flight ≡ None) × ((set : ℕ) × Flies size set old job new)
+    begun_job leaves = by_flight old.flight leaves
+
+  -- a store of which only the device is another, which holds the same, is the same lane
+  pub same_lane_held : (held : D → ℕ → Option (List ℕ)) (old new : StoreState D) → HasAll old new → held new.device ≡ held old.device → lane_of held new ≡ lane_of held old
+  same_lane_held held old new all same = ap (lane_of held) all ∙ (λ i. record {
+    memory = old.memory;
+    log = old.log;
+    live = live_on (same i) old.log;
+    sets = old.sets;
+    visible = visible_in (same i) old.sets;
+    flight = old.flight;
+    moves = old.moves;
+  })

@@ -1,17 +1,30 @@
 -- How a move ends, by how it began.
-use Rattle.std.proofs.Common.{◌≡◌, List, None, refl, sym, subst, ◌∙◌, ap, ℕ}
-use Rattle.std.specs.Prelude.{Result, Ok, Err, OnErr}
+use Rattle.std.proofs.Common.{◌≡◌, ◌<◌, ◌+◌, List, Option, None, refl, sym, subst, ◌∙◌, ap, ℕ}
+use Rattle.std.specs.Prelude.{Result, Ok, Err, OnErr, IsSomeAnd}
+use Rattle.std.proofs.lemmas.Bool.{lt-ltb}
+use Rattle.klog_index.specs.declared.entry.Entry.{Entry}
+use Rattle.klog.specs.declared.oldest.Oldest.TheVariants as oldest
+use Rattle.klog.specs.Shown.{live_on}
+use Rattle.kset.specs.Shown.{visible_in}
+use Rattle.policy_laws.specs.Laws.{IsLawful}
+use Rattle.mover.specs.Store.{StoreState, most_moves}
+use Rattle.mover.specs.Oldest.{oldest_in}
+use Rattle.mover.specs.Leaving.{BeginLeaves}
+use Rattle.mover.specs.Calls.{MovingLeaves}
+use Rattle.mover.specs.Laws.{IsPlanned, IsPlannedFor}
+use Rattle.mover.proofs.Beginning.{begun_job}
+use Rattle.mover.proofs.Gathering.{begins_flight}
 use Rattle.policy_laws.specs.declared.job.Job.{Job}
 use Rattle.policy_laws.specs.declared.choice.Choice.{Choice}
 use Rattle.kset.specs.declared.rewritten.Rewritten.{Rewritten}
 use Rattle.kset.specs.declared.rewritten.Rewritten.TheVariants as rewritten
-use Rattle.mover.specs.Lane.{LaneState}
+use Rattle.mover.specs.Lane.{LaneState, lane_of}
 use Rattle.mover.specs.Put.{IsStep}
 use Rattle.mover.specs.Flight.{Flight}
-use Rattle.mover.specs.Begin.{begin_step, BeginGives}
+use Rattle.mover.specs.Begin.{judged, entry_step, EntryBegins, begin_step, BeginGives, IsJustBegun, lane_counted}
 use Rattle.mover.specs.Commit.{landed, committed, committed_by, Commits, CommitGives}
 use Rattle.mover.specs.declared.committed.Committed.{Committed}
-use Rattle.mover.specs.Whole.{end_step, ended_by, whole_step, MoveGives, EndGives, moved_by}
+use Rattle.mover.specs.Whole.{end_step, ended_by, whole_step, MoveGives, EndGives, EndLeaves, moved_by}
 use Rattle.mover.specs.declared.begin.Begin.{Begin}
 use Rattle.mover.specs.declared.begin.Begin.TheVariants as begin
 use Rattle.mover.specs.declared.moved.Moved.{Moved}
@@ -34,6 +47,76 @@ commit_gives size plan number old new ended answer is commits = subst (λ a. Com
     step : (ended : Rewritten) → Commits size plan number ended old new → CommitGives size plan number old (committed_by ended) new
     step rewritten.Written it = it
     step rewritten.Forgotten it = it
+
+-- how a move begins with the first entry of the oldest segment is how it begins
+pub first_begins : (size least : ℕ) (old new : LaneState) (e : Entry) (b : Begin) → old.flight ≡ None → old.moves < most_moves → oldest_in old.log ≡ oldest.First e → EntryBegins size least e old b new → BeginGives size least old b new
+first_begins size least old new e b free room first = step b
+  where
+    same : begin_step size least old ≡ entry_step size old e (judged least old e)
+    same = rw (free, lt-ltb old.moves most_moves room, first) refl
+
+    stepped : (b : Begin) → IsStep (entry_step size old e (judged least old e)) b new → IsStep (begin_step size least old) b new
+    stepped b = subst (λ s. IsStep s b new) (sym same)
+
+    step : (b : Begin) → EntryBegins size least e old b new → BeginGives size least old b new
+    step begin.PageLost gives = (free, room, e, first, gives)
+    step begin.Nothing gives = stepped begin.Nothing gives
+    step begin.Busy gives = stepped begin.Busy gives
+    step begin.Freed gives = stepped begin.Freed gives
+    step begin.Readmitted gives = stepped begin.Readmitted gives
+    step begin.Dropped gives = stepped begin.Dropped gives
+    step (begin.Job job) gives = stepped (begin.Job job) gives
+
+-- ---- what a whole move leaves of a store, on any device
+
+module _ {D : Type 0} (size : ℕ) (plan_of : Job → List Choice) (old between new : StoreState D) (job : Job) (begun : BeginLeaves size old (begin.Job job) between) where
+  -- a move that had a job ended so
+  pub ends_leaves : (answer : Moved) → EndLeaves (plan_of job) between answer new → MovingLeaves size plan_of old answer new
+  ends_leaves moved.Written left = record { job = job; between = between; begun = begun; landed = left }
+  ends_leaves moved.Forgotten left = record { job = job; between = between; begun = begun; landed = left }
+  ends_leaves moved.Nothing left = absurd left
+  ends_leaves moved.Busy left = absurd left
+  ends_leaves moved.Freed left = absurd left
+  ends_leaves moved.Readmitted left = absurd left
+  ends_leaves moved.Dropped left = absurd left
+  ends_leaves moved.PageLost left = absurd left
+
+  -- the move of the job is in flight
+  pub job_flies : IsSomeAnd between.flight (IsJustBegun size job)
+  job_flies =
+      let flies = (begun_job size old job between begun).1.1 in
+      begins_flight size old.log.shape flies.moving job between.flight (ap (λ (s : StoreState D). s.flight) flies.rest) flies.job_is
+
+  -- where it was given up, one move more is counted, and that is all
+  pub counted_lane : (held : D → ℕ → Option (List ℕ)) → held between.device ≡ held old.device → new ≡ record between { flight = None } → lane_of held new ≡ lane_counted (lane_of held old)
+  counted_lane held same up =
+      let it = begun_job size old job between begun in
+      ap (lane_of held) (up ∙ ap (λ (s : StoreState D). record s { flight = None }) it.1.1.rest) ∙ (λ i. record {
+        memory = old.memory;
+        log = old.log;
+        live = live_on (same i) old.log;
+        sets = old.sets;
+        visible = visible_in (same i) old.sets;
+        flight = sym it.0 i;
+        moves = old.moves + 1;
+      })
+
+-- the plan of a job was lawful
+pub planned_job : (plan_of : Job → List Choice) (answer : Moved) (job : Job) (reply : Begin) → begin.Job job ≡ reply → IsLawful job (plan_of job) → IsPlannedFor plan_of answer reply
+planned_job plan_of answer job reply is lawful = by_answer answer
+  where
+    planned : IsPlanned plan_of reply
+    planned = subst (IsPlanned plan_of) is lawful
+
+    by_answer : (answer : Moved) → IsPlannedFor plan_of answer reply
+    by_answer moved.Written = planned
+    by_answer moved.Forgotten = planned
+    by_answer moved.Nothing = tt
+    by_answer moved.Busy = tt
+    by_answer moved.Freed = tt
+    by_answer moved.Readmitted = tt
+    by_answer moved.Dropped = tt
+    by_answer moved.PageLost = tt
 
 module _ (size least : ℕ) (plan_of : Job → List Choice) (old new : LaneState) (b : Begin) (gives : BeginGives size least old b new) where
   -- a move whose beginning this reply tells ends so

@@ -16,7 +16,7 @@ use Rattle.kset.specs.Sets.{notes_of}
 use Rattle.kset.specs.Shown.{with_flag}
 use Rattle.mover.specs.Lane.{LaneState}
 use Rattle.mover.specs.Visible.{IsLogPlaced, AreSetsPlaced}
-use Rattle.mover.specs.Begin.{moving_of, set_records, LaneTakes, LaneReads, Gathers, TakesFew, ReadsFew, IsJustBegun}
+use Rattle.mover.specs.Begin.{moving_of, set_records, LaneTakes, LaneReads, Gathers, IsJustBegun}
 use Rattle.mover.specs.declared.begin.Begin.TheVariants as begin
 use Rattle.klog.specs.declared.set_taken.SetTaken.TheVariants as taken
 use Rattle.kset.specs.declared.set_read.SetRead.TheVariants as read
@@ -86,7 +86,7 @@ gathered_placed lane mid new set moving takes reads its log sets =
     subst (λ (l : LaneState). AreOfSet l.log.shape moving) (sym same) (subst (AreOfSet lane.log.shape) (sym is) (moving_placed lane set log sets))
 
 -- there are no more than are taken and read
-pub gathered_few : (moving : Moving) → TakesFew (taken.Records moving.taken) → ReadsFew (read.Records moving.visible) → length (records_of moving) ≤ max_records + most_taken
+pub gathered_few : (moving : Moving) → length moving.taken ≤ most_taken → length moving.visible ≤ max_records → length (records_of moving) ≤ max_records + most_taken
 gathered_few moving takes reads =
     let both = length-append (map (λ (x : SetRecord). x.stored) moving.visible) (map (λ (t : TakenRecord). t.stored) moving.taken) in
     let old = length-map moving.visible (λ (x : SetRecord). x.stored) in

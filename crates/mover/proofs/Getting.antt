@@ -6,7 +6,8 @@ use Rattle.std.specs.declared.alloc.AllocError.{AllocError}
 use Rattle.set_hash.specs.declared.placed.Placed.{Placed}
 use Rattle.klog_index.specs.Entries.{of_tag}
 use Rattle.klog.specs.Known.{AreBuffered}
-use Rattle.klog.specs.Look.{LogLookGives, LogLookLeaves, is_log_fault, lowered_in, live_lowered}
+use Rattle.klog.specs.Look.{LogLookGives, LogLookLeaves, is_log_fault, lowered_in, live_lowered, IsInBuffers}
+use Rattle.mover.specs.Calls.{IsLowered, AnswersFromBuffers}
 use Rattle.klog.specs.Log.{LogState}
 use Rattle.klog_index.specs.declared.entry.Entry.{Entry}
 use Rattle.klog.specs.declared.looked.Looked.TheVariants as log
@@ -104,6 +105,10 @@ pub get_hit : (key value : List ℕ) (old new : LaneState) → Some value ≡ va
     StepGives (get_step key old) old (Hit value Memory) new
 get_hit key value old new found raised = subst (λ o. StepGives (memory_step key old o) old (Hit value Memory) new) found (refl, raised)
 
+-- what memory has is one value
+pub recalled : (value other : List ℕ) → Some value ≡ Some other → Hit value Memory ≡ Hit other Memory
+recalled value other is = let same : value ≡ other = cc in ap (λ v. Hit v Memory) same
+
 -- a get that memory does not answer changes nothing in memory
 pub not_raised : (key : List ℕ) (m : MemoryList) → None ≡ value_in key m.pairs → after_get key m ≡ m
 not_raised key m absent = step (pair_in key m.pairs) absent
@@ -144,6 +149,35 @@ pub hits_in_log : {D : Type 0} (key value : List ℕ) (old new : StoreState D) (
     HitsInLog key (Hit value Log) old new not_called
 hits_in_log key value old new at looked not_called placed is leaves =
     subst (λ (p : Placed). LogLookLeaves old.log p.set p.tag (Ok (log.Hit value)) new.log not_called) placed (subst (λ l. LogLookLeaves old.log at.set at.tag (Ok l) new.log not_called) is leaves)
+
+-- where only an entry of the log was lowered, that is so of the store
+pub lowered_store : {D : Type 0} (s : StoreState D) (d : D) (k : LogState) (set : ℕ) (e : Entry) → k ≡ lowered_in s.log set e.place → d ≡ s.device → IsLowered set e s (record s { device = d; log = k })
+lowered_store s d k set e log device = λ i. record {
+  layout = s.layout;
+  device = device i;
+  memory = s.memory;
+  log = log i;
+  sets = s.sets;
+  flight = s.flight;
+  moves = s.moves;
+}
+
+-- what the buffers tell of a key is answered
+module _ {D : Type 0} (size : ℕ) (key : List ℕ) (old mid : StoreState D) (at : Placed) (placed : at ≡ place_in old.log.shape key) (looked : LogLooked)
+    (tells : (e : Entry) (r : Rec) → IsInBuffers size old.log at.set at.tag key e r → (looked ≡ log.Hit r.value) × IsLowered at.set e old mid) where
+  pub answers_from_buffers : (value : List ℕ) → looked ≡ log.Hit value → (e : Entry) (r : Rec) → IsInBuffers size old.log (place_in old.log.shape key).set (place_in old.log.shape key).tag key e r → AnswersFromBuffers key e r old (Hit value Log) mid
+  answers_from_buffers value is e r here =
+      let it = tells e r (subst (λ (p : Placed). IsInBuffers size old.log p.set p.tag key e r) (sym placed) here) in (
+        hit_same value r.value (sym is ∙ it.0),
+        subst (λ (p : Placed). IsLowered p.set e old mid) placed it.1,
+      )
+    where
+      hit_same : (value other : List ℕ) → log.Hit value ≡ log.Hit other → Hit value Log ≡ Hit other Log
+      hit_same value other same = let is : value ≡ other = cc in ap (λ v. Hit v Log) is
+
+  pub nothing_else : (answer : Answer) (new : StoreState D) → ((value : List ℕ) → looked ≡ log.Hit value → ⊥) → (e : Entry) (r : Rec) → IsInBuffers size old.log (place_in old.log.shape key).set (place_in old.log.shape key).tag key e r →
+      AnswersFromBuffers key e r old answer new
+  nothing_else answer new other e r here = absurd (other r.value (tells e r (subst (λ (p : Placed). IsInBuffers size old.log p.set p.tag key e r) (sym placed) here)).0)
 
 -- where the log has the key, that is the answer of the tiers below memory
 pub log_hit_gives : (key value : List ℕ) (old new : LaneState) (looked : LogLooked) → looked ≡ log.Hit value → LogTells key old looked new → StepGives (ask_log key old) old (Hit value Log) new

@@ -13,7 +13,6 @@ pub mod Filling
 pub mod MovingShows
 pub mod Plans
 pub mod Ending
-pub mod Flushing
 pub mod Gathering
 pub mod Marking
 pub mod OrderKept

@@ -36,7 +36,7 @@ use Rattle.mover.specs.declared.begin.Begin.{Begin}
 use Rattle.mover.specs.declared.begin.Begin.TheVariants as begin
 use Rattle.mover.specs.declared.moved.Moved.{Moved}
 use Rattle.mover.specs.declared.moved.Moved.TheVariants as moved
-use Rattle.mover.specs.Laws.{AreMarked, IsInOrder, opening_lane, StepsInOrder, IsPlanned, WholeMoveShows, OpeningShowsNothing, StoresAreInOrder}
+use Rattle.mover.specs.Laws.{AreMarked, IsInOrder, opening_lane, StepsInOrder, IsPlanned, IsPlannedFor, WholeMoveShows, OpeningShowsNothing, StoresAreInOrder}
 use Rattle.mover.proofs.Showing.{no_more, then}
 use Rattle.mover.proofs.MovingShows.{nothing, begin_shows, committed_shows}
 use Rattle.mover.proofs.MoveKept.{begin_step_kept, committed_kept}
@@ -107,7 +107,7 @@ module _ (size : ℕ) (plan_of : Job → List Choice) (ended : Rewritten) (mid :
   ended_shows begin.PageLost its planned = same
 
 pub whole_move_law : WholeMoveShows
-whole_move_law size least plan_of old new answer was planned = by_answer answer
+whole_move_law size least plan_of old new answer was = by_answer answer
   where
     mid : LaneState
     mid = (begin_step size least old).lane
@@ -115,20 +115,30 @@ whole_move_law size least plan_of old new answer was planned = by_answer answer
     first : StepsInOrder None None old mid
     first = both None None old mid (no_more old mid (begin_shows size least old was.placed.log was.placed.sets)) (begin_step_kept size least old was)
 
-    so : (ended : Rewritten) → new ≡ (whole_step size least plan_of ended old).lane → StepsInOrder None None old new
-    so ended is =
+    so : (ended : Rewritten) → IsPlanned plan_of (begin_step size least old).reply → new ≡ (whole_step size least plan_of ended old).lane → StepsInOrder None None old new
+    so ended planned is =
         subst (StepsInOrder None None old) (sym is)
         (after old mid (whole_step size least plan_of ended old).lane first (ended_shows size plan_of ended mid first.order (begin_step size least old).reply (begin_job size least old) planned))
 
-    by_answer : (answer : Moved) → MoveGives size least plan_of old answer new → StepsInOrder None None old new
-    by_answer moved.PageLost gives = begin_law size least old new begin.PageLost was gives
-    by_answer moved.Forgotten gives = so rewritten.Forgotten gives.1
-    by_answer moved.Written gives = so rewritten.Written gives.1
-    by_answer moved.Nothing gives = so rewritten.Written gives.1
-    by_answer moved.Busy gives = so rewritten.Written gives.1
-    by_answer moved.Freed gives = so rewritten.Written gives.1
-    by_answer moved.Readmitted gives = so rewritten.Written gives.1
-    by_answer moved.Dropped gives = so rewritten.Written gives.1
+    -- a move that ended by no plan had no job
+    unplanned : (answer : Moved) (b : Begin) → answer ≡ (end_step plan_of rewritten.Written b mid).reply → (answer ≡ moved.Written → ⊥) → IsPlanned plan_of b
+    unplanned answer (begin.Job job) is other = absurd (other is)
+    unplanned answer begin.Nothing is other = tt
+    unplanned answer begin.Busy is other = tt
+    unplanned answer begin.Freed is other = tt
+    unplanned answer begin.Readmitted is other = tt
+    unplanned answer begin.Dropped is other = tt
+    unplanned answer begin.PageLost is other = tt
+
+    by_answer : (answer : Moved) → IsPlannedFor plan_of answer (begin_step size least old).reply → MoveGives size least plan_of old answer new → StepsInOrder None None old new
+    by_answer moved.PageLost planned gives = begin_law size least old new begin.PageLost was gives
+    by_answer moved.Forgotten planned gives = so rewritten.Forgotten planned gives.1
+    by_answer moved.Written planned gives = so rewritten.Written planned gives.1
+    by_answer moved.Nothing planned gives = so rewritten.Written (unplanned moved.Nothing (begin_step size least old).reply gives.0 (λ is. cc)) gives.1
+    by_answer moved.Busy planned gives = so rewritten.Written (unplanned moved.Busy (begin_step size least old).reply gives.0 (λ is. cc)) gives.1
+    by_answer moved.Freed planned gives = so rewritten.Written (unplanned moved.Freed (begin_step size least old).reply gives.0 (λ is. cc)) gives.1
+    by_answer moved.Readmitted planned gives = so rewritten.Written (unplanned moved.Readmitted (begin_step size least old).reply gives.0 (λ is. cc)) gives.1
+    by_answer moved.Dropped planned gives = so rewritten.Written (unplanned moved.Dropped (begin_step size least old).reply gives.0 (λ is. cc)) gives.1
 
 -- no set shows anything at first
 sets_empty : (held : ℕ → Option (List ℕ)) (count set : ℕ) → visible_in held (opening_sets count) set ≡ []

@@ -1,9 +1,8 @@
 -- How a move begins.
-use Rattle.std.specs.Prelude.{◌≡◌, ◌≢◌, ◌<◌, ◌≤◌, ◌+◌, ℕ, length, IsSomeAnd, List, [], filter, not, count_by, Contains, Bool, true, false, Result, Ok, Err, IsTrue, ◌⊎◌, Option, Some, None, nat_lt, if◌then◌else◌}
+use Rattle.std.specs.Prelude.{◌≡◌, ◌≢◌, ◌<◌, ◌+◌, ℕ, List, [], filter, not, count_by, Contains, Bool, true, false, Result, Ok, IsTrue, ◌⊎◌, Option, Some, None, nat_lt, if◌then◌else◌}
 use Rattle.std.specs.FinSet as bits
 use Rattle.std.specs.declared.alloc.AllocError.{AllocError}
 use Rattle.record_pages.specs.Recs.{Rec}
-use Rattle.record_pages.specs.Sizes.{max_records}
 use Rattle.policy_laws.specs.declared.job.Job.{Job}
 use Rattle.admission.specs.Threshold.{judgement_of}
 use Rattle.admission.specs.declared.judgement.Judgement.{Judgement}
@@ -17,15 +16,16 @@ use Rattle.klog.specs.declared.readmitted.Readmitted.TheVariants as readmitted
 use Rattle.klog.specs.declared.set_taken.SetTaken.{SetTaken}
 use Rattle.klog.specs.declared.set_taken.SetTaken.TheVariants as taken
 use Rattle.klog.specs.declared.taken_record.TakenRecord.{TakenRecord}
+use Rattle.klog.specs.Log.{LogState}
 use Rattle.klog.specs.Append.{entering, is_full}
 use Rattle.klog.specs.Known.{is_buffered}
-use Rattle.klog.specs.Moves.{freed, dropped, is_taken, without_entry, live_without_entry, without_its_page, live_without_page, taken_of, taken_entries, most_taken}
+use Rattle.klog.specs.Moves.{freed, dropped, is_taken, without_entry, live_without_entry, without_its_page, live_without_page, taken_of, taken_entries}
 use Rattle.kset.specs.declared.set_read.SetRead.{SetRead}
 use Rattle.kset.specs.declared.set_read.SetRead.TheVariants as read
 use Rattle.kset.specs.declared.set_record.SetRecord.{SetRecord}
 use Rattle.kset.specs.Sets.{notes_of, forgotten}
 use Rattle.kset.specs.Shown.{with_flags}
-use Rattle.mover.specs.Store.{StoreState, KeepsTiers, most_moves}
+use Rattle.mover.specs.Store.{StoreState, most_moves}
 use Rattle.mover.specs.Lane.{LaneState}
 use Rattle.kset.specs.After.{with_set}
 use Rattle.mover.specs.Get.{Step}
@@ -107,8 +107,12 @@ began_by readmitted.Fault = begin.PageLost
 began_by readmitted.Damaged = begin.PageLost
 
 -- what becomes of an entry of the oldest segment
+abbrev pub judged_in : ℕ → LogState → Entry → Judgement
+judged_in least log e = judgement_of least (count_by (is_of e.set) log.entries) e.prediction
+
+-- the same in a lane
 abbrev pub judged : ℕ → LaneState → Entry → Judgement
-judged least lane e = judgement_of least (count_by (is_of e.set) lane.log.entries) e.prediction
+judged least lane e = judged_in least lane.log e
 
 -- a move begins so with an entry: its set is to move, or it is readmitted, or dropped
 abbrev pub entry_step : ℕ → LaneState → Entry → Judgement → Step Begin
@@ -177,64 +181,11 @@ pub record WritesNothing {D : Type 0} (honest : D → Bool) (held : D → ℕ �
   pub honesty : honest new.device ≡ honest old.device
   pub same : IsTrue (honest old.device) → held new.device ≡ held old.device
 
--- memory sees the same, unless a page of the log is lost
-abbrev pub KeepsUnlessLost : {D : Type 0} → Result SetTaken AllocError → StoreState D → StoreState D → Type 0
-KeepsUnlessLost (Ok taken.PageLost) old new = Unit {0}
-KeepsUnlessLost (Ok (taken.Records rs)) old new = KeepsTiers old new
-KeepsUnlessLost (Err e) old new = KeepsTiers old new
-
--- memory sees the same, unless a set is forgotten
-abbrev pub KeepsUnlessForgotten : {D : Type 0} → Result SetRead AllocError → StoreState D → StoreState D → Type 0
-KeepsUnlessForgotten (Ok read.PageLost) old new = Unit {0}
-KeepsUnlessForgotten (Ok (read.Records rs)) old new = KeepsTiers old new
-KeepsUnlessForgotten (Err e) old new = KeepsTiers old new
-
 -- a page was lost
 abbrev pub is_lost : Result Begin AllocError → Bool
 is_lost (Ok begin.PageLost) = true
 is_lost _ = false
 
--- how many moves began, after a call that answers so
-abbrev pub moves_after : Result Begin AllocError → ℕ → ℕ
-moves_after (Ok (begin.Job job)) moves = moves + 1
-moves_after _ moves = moves
-
--- a job has this number
-abbrev pub IsNumbered : ℕ → Begin → Type 0
-IsNumbered number (begin.Job job) = job.number ≡ number
-IsNumbered number begin.Nothing = Unit {0}
-IsNumbered number begin.Busy = Unit {0}
-IsNumbered number begin.Freed = Unit {0}
-IsNumbered number begin.Readmitted = Unit {0}
-IsNumbered number begin.Dropped = Unit {0}
-IsNumbered number begin.PageLost = Unit {0}
-
--- where a move is in flight that is answered, and this holds; else it is not answered
-abbrev pub AnswersBusy : Option Flight → Result Begin AllocError → Type 0 → Type 0
-AnswersBusy (Some f) result P = (result ≡ Ok begin.Busy) × P
-AnswersBusy None result P = result ≢ Ok begin.Busy
-
 -- the move of a job is in flight, and no item of it is struck
 abbrev pub IsJustBegun : ℕ → Job → Flight → Type 0
 IsJustBegun size job f = (job ≡ job_of size f.moving) × ((item : ℕ) → is_struck f item ≡ false)
-
--- where there is a job its move is in flight; else the same is in flight as before
-abbrev pub BeginsFlight : ℕ → Result Begin AllocError → Option Flight → Option Flight → Type 0
-BeginsFlight size (Ok (begin.Job job)) old new = IsSomeAnd new (IsJustBegun size job)
-BeginsFlight size _ old new = new ≡ old
-
--- a beginning that answers nothing leaves the store; one with a job leaves all that memory sees but the move in flight
-abbrev pub BeginLeaves : {D : Type 0} → Result Begin AllocError → StoreState D → StoreState D → Type 0
-BeginLeaves (Ok begin.Nothing) old new = new ≡ old
-BeginLeaves (Ok (begin.Job job)) old new = KeepsTiers old (record new { flight = old.flight })
-BeginLeaves _ old new = Unit {0}
-
--- no more records are taken than a taking takes
-abbrev pub TakesFew : SetTaken → Type 0
-TakesFew (taken.Records rs) = length rs ≤ most_taken
-TakesFew taken.PageLost = Unit {0}
-
--- no more records are read than a page holds
-abbrev pub ReadsFew : SetRead → Type 0
-ReadsFew (read.Records rs) = length rs ≤ max_records
-ReadsFew read.PageLost = Unit {0}

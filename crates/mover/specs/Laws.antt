@@ -17,6 +17,7 @@ use Rattle.mover.specs.declared.begin.Begin.TheVariants as begin
 use Rattle.mover.specs.declared.committed.Committed.{Committed}
 use Rattle.mover.specs.declared.mark.Mark.{Mark}
 use Rattle.mover.specs.declared.moved.Moved.{Moved}
+use Rattle.mover.specs.declared.moved.Moved.TheVariants as moved
 use Rattle.mover.specs.Store.{opening}
 use Rattle.mover.specs.Flight.{Flight, IsFlightOf, records_of}
 use Rattle.mover.specs.Lane.{LaneState, lane_of}
@@ -104,13 +105,24 @@ abbrev pub IsPlanned : (Job → List Choice) → Begin → Type 0
 IsPlanned plan_of (begin.Job job) = IsLawful job (plan_of job)
 IsPlanned plan_of _ = Unit {0}
 
+-- the same where a whole move answers that it ended by a plan
+abbrev pub IsPlannedFor : (Job → List Choice) → Moved → Begin → Type 0
+IsPlannedFor plan_of moved.Written begun = IsPlanned plan_of begun
+IsPlannedFor plan_of moved.Forgotten begun = IsPlanned plan_of begun
+IsPlannedFor plan_of moved.Nothing begun = Unit {0}
+IsPlannedFor plan_of moved.Busy begun = Unit {0}
+IsPlannedFor plan_of moved.Freed begun = Unit {0}
+IsPlannedFor plan_of moved.Readmitted begun = Unit {0}
+IsPlannedFor plan_of moved.Dropped begun = Unit {0}
+IsPlannedFor plan_of moved.PageLost begun = Unit {0}
+
 -- nor a whole move by a lawful plan
 abbrev pub WholeMoveShows : Type 0
 WholeMoveShows =
-    (size least : ℕ) (plan_of : Job → List Choice) (old new : LaneState) (moved : Moved)
+    (size least : ℕ) (plan_of : Job → List Choice) (old new : LaneState) (answer : Moved)
     → IsInOrder old
-    → IsPlanned plan_of (begin_step size least old).reply
-    → MoveGives size least plan_of old moved new
+    → IsPlannedFor plan_of answer (begin_step size least old).reply
+    → MoveGives size least plan_of old answer new
     → StepsInOrder None None old new
 
 -- a lane that was just opened is in order and shows nothing, whatever the pages of its device hold

@@ -11,6 +11,8 @@ pub mod Oldest
 pub mod Opening
 pub mod Job
 pub mod Begin
+pub mod Leaving
 pub mod Commit
 pub mod Whole
+pub mod Calls
 pub mod Laws

@@ -1,5 +1,5 @@
 -- A whole move.
-use Rattle.std.specs.Prelude.{◌≡◌, ◌≢◌, ℕ, List, Option, Some, None, Bool, true, false, Result, Ok}
+use Rattle.std.specs.Prelude.{◌≡◌, ℕ, List, Option, Some, None, Bool, true, false, Result, Ok}
 use Rattle.std.specs.declared.alloc.AllocError.{AllocError}
 use Rattle.policy_laws.specs.declared.choice.Choice.{Choice}
 use Rattle.policy_laws.specs.declared.job.Job.{Job}
@@ -10,7 +10,8 @@ use Rattle.mover.specs.Get.{Step}
 use Rattle.mover.specs.Put.{IsStep}
 use Rattle.mover.specs.Begin.{begin_step, BeginGives}
 use Rattle.mover.specs.Flight.{Flight}
-use Rattle.mover.specs.Commit.{committed}
+use Rattle.mover.specs.Store.{StoreState}
+use Rattle.mover.specs.Commit.{committed, Lands}
 use Rattle.mover.specs.declared.begin.Begin.{Begin}
 use Rattle.mover.specs.declared.begin.Begin.TheVariants as begin
 use Rattle.mover.specs.declared.moved.Moved.{Moved}
@@ -58,10 +59,11 @@ EndGives plan old moved.Written new = new ≡ ended_by plan rewritten.Written ol
 EndGives plan old moved.Forgotten new = new ≡ ended_by plan rewritten.Forgotten old.flight old
 EndGives plan old _ new = ⊥
 
--- where a move is in flight that is answered, and this holds; else it is not answered
-abbrev pub MovesBusy : Option Flight → Result Moved AllocError → Type 0 → Type 0
-MovesBusy (Some f) result P = (result ≡ Ok moved.Busy) × P
-MovesBusy None result P = result ≢ Ok moved.Busy
+-- the same of a store
+abbrev pub EndLeaves : {D : Type 0} → List Choice → StoreState D → Moved → StoreState D → Type 0
+EndLeaves plan old moved.Written new = Lands plan rewritten.Written old new
+EndLeaves plan old moved.Forgotten new = Lands plan rewritten.Forgotten old new
+EndLeaves plan old _ new = ⊥
 
 -- the device failed: a page was not read, or not written
 abbrev pub is_failed : Result Moved AllocError → Bool

@@ -70,15 +70,13 @@ impl<D: PageDevice<PAGE>, const PAGE: usize> Store<D, PAGE> {
     ghost use Rattle.mover.specs.Store.{opening, IsStore};
     ghost use Rattle.mover.specs.Opening.{CanServe, RefusesStore};
     ghost use Rattle.mover.specs.Lane.{lane_of};
-    ghost use Rattle.mover.specs.Visible.{IsPlaced, IsShown};
-    ghost use Rattle.memory_cache.specs.declared.pair.Pair.{Pair};
+    ghost use Rattle.mover.specs.Laws.{IsInOrder};
 
     /// An empty store of this configuration over a device. Its refusals are tested in the order of `OpenFault`, and the
     /// device is dropped with each.
     pub fn open(alloc: Global, config: &Config, device: D) -> Result<Self, OpenFault>
         ensures opening { IfOk result (λ s. HasNumbersOf s.layout config.now
             × (s ≡ opening s.layout device)) }
-        ensures shows { IfOk result (λ s. (p : Pair) → IsShown (lane_of D.held s) p → ⊥) }
         ensures serves { OnOk result (CanServe PAGE config.now (D.page_count device)) }
         ensures refused { IfErr result (RefusesStore PAGE config.now (D.page_count device)) }
     {
@@ -109,7 +107,7 @@ impl<D: PageDevice<PAGE>, const PAGE: usize> Store<D, PAGE> {
         ensures layout { result ≡ self.now.layout }
         // What is true of every store.
         ensures kept { IsStore PAGE D.page_count D.honest D.held self.now }
-        ensures placed { IsTrue (D.honest self.now.device) → IsPlaced (lane_of D.held self.now) }
+        ensures order { IsTrue (D.honest self.now.device) → IsInOrder (lane_of D.held self.now) }
     {
         // That live records are placed is known from the log's length.
         let _live = self.log.len();

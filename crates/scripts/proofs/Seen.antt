@@ -11,15 +11,16 @@ use Rattle.klog.specs.declared.flushed.Flushed.{Flushed}
 use Rattle.klog.specs.Flush.{is_page_lost}
 use Rattle.policy_laws.specs.declared.choice.Choice.{Choice}
 use Rattle.policy_laws.specs.declared.job.Job.{Job}
-use Rattle.page_device.specs.Device.{faults_after}
 use Rattle.mover.specs.declared.moved.Moved.{Moved}
 use Rattle.mover.specs.Lane.{LaneState, lane_of}
 use Rattle.mover.specs.Get.{get_step, is_fault}
-use Rattle.mover.specs.Flush.{LaneFlushes, flush_step}
-use Rattle.mover.specs.Whole.{MoveGives, move_step, is_failed}
+use Rattle.mover.specs.Store.{StoreState}
+use Rattle.mover.specs.Flush.{flush_step}
+use Rattle.mover.specs.Whole.{move_step, is_failed}
 use Rattle.history_recorder.specs.declared.noted.Noted.{Noted}
 use Rattle.history_recorder.specs.Lane.{Lane, act_of}
-use Rattle.history_recorder.specs.Answering.{Answers, KeepsOrAnswers}
+use Rattle.mover.specs.Calls.{StoreGets, StoreFlushes, StoreMoves}
+use Rattle.history_recorder.specs.Answering.{MayHaveGot}
 use Rattle.scripts.specs.Own.{Pages, Opened, held_by, seen_of, noted, after_call, with_lane, HasStamps, IsOfScript}
 use Rattle.scripts.proofs.Lanes.{none_failed, get_is_step, flush_is_step, move_is_step}
 
@@ -54,33 +55,32 @@ pub uncalled : (old new : Lane Pages) (lane : LaneState) → new ≡ record old 
 uncalled old new lane whole layout holds = seen_by new old.store.layout lane old.calls layout holds (ap (λ (l : Lane Pages). l.calls) whole)
 
 -- a get answers and leaves what its step does
-pub got : (old new : Lane Pages) (key : List ℕ) (answer : Answer) (n : Noted) →
+pub got : (size : ℕ) (old new : Lane Pages) (key : List ℕ) (answer : Answer) (n : Noted) →
     new ≡ record old { store = new.store; calls = old.calls ++ n ∷ [] } → n ≡ noted (length old.calls) key (act_of answer) →
-    Answers honest failures held_by key old.store answer new.store →
+    StoreGets size honest failures held_by key old.store (Ok answer) new.store →
     (answer ≡ (get_step key (seen_of old).lane).reply)
     × (seen_of new ≡ after_call (seen_of old) (get_step key (seen_of old).lane).lane key (act_of answer))
-got old new key answer n whole is told =
+got size old new key answer n whole is told =
     let unfailed = none_failed (is_fault (Ok answer)) told.reads.failed_once in
     let step = get_is_step (get_step key (lane_of held_by old.store)) (lane_of held_by old.store) (lane_of held_by new.store) answer unfailed (told.gives refl) in
     (step.0, called old new key (act_of answer) (get_step key (lane_of held_by old.store)).lane n whole is told.reads.layout step.1)
 
 -- a flush step answers and leaves what its function does
-pub flushed : (old new : Lane Pages) (answer : Flushed) → new ≡ record old { store = new.store } → new.store.layout ≡ old.store.layout →
-    0 ≡ faults_after 0 (is_page_lost answer) → LaneFlushes (lane_of held_by old.store) answer (lane_of held_by new.store) →
+pub flushed : (old new : Lane Pages) (answer : Flushed) → new ≡ record old { store = new.store } → StoreFlushes honest failures held_by old.store answer new.store →
     (answer ≡ (flush_step (seen_of old).lane).reply) × (seen_of new ≡ with_lane (seen_of old) (flush_step (seen_of old).lane).lane)
-flushed old new answer whole layout unfailed gives =
-    let step = flush_is_step (lane_of held_by old.store) (lane_of held_by new.store) answer (none_failed (is_page_lost answer) unfailed) gives in
+flushed old new answer whole flushes =
+    let layout = ap (λ (s : StoreState Pages). s.layout) flushes.rest in
+    let step = flush_is_step (lane_of held_by old.store) (lane_of held_by new.store) answer (none_failed (is_page_lost answer) flushes.faults) (flushes.gives refl) in
     (step.0, uncalled old new (flush_step (lane_of held_by old.store)).lane whole layout step.1)
 
 -- a whole move answers and leaves what its function does
 pub moved : (size : ℕ) (plan_of : Job → List Choice) (old new : Lane Pages) (answer : Moved) → new ≡ record old { store = new.store } →
-    new.store.layout ≡ old.store.layout → 0 ≡ faults_after 0 (is_failed (Ok answer)) →
-    MoveGives size old.store.layout.threshold plan_of (lane_of held_by old.store) answer (lane_of held_by new.store) →
+    StoreMoves size honest failures held_by plan_of old.store (Ok answer) new.store →
     (answer ≡ (move_step size old.store.layout.threshold plan_of (seen_of old).lane).reply)
     × (seen_of new ≡ with_lane (seen_of old) (move_step size old.store.layout.threshold plan_of (seen_of old).lane).lane)
-moved size plan_of old new answer whole layout unfailed gives =
-    let step = move_is_step size old.store.layout.threshold plan_of (lane_of held_by old.store) (lane_of held_by new.store) answer (none_failed (is_failed (Ok answer)) unfailed) gives in
-    (step.0, uncalled old new (move_step size old.store.layout.threshold plan_of (lane_of held_by old.store)).lane whole layout step.1)
+moved size plan_of old new answer whole moves =
+    let step = move_is_step size old.store.layout.threshold plan_of (lane_of held_by old.store) (lane_of held_by new.store) answer (none_failed (is_failed (Ok answer)) (moves.faults refl)) (moves.gives refl) in
+    (step.0, uncalled old new (move_step size old.store.layout.threshold plan_of (lane_of held_by old.store)).lane whole moves.layout step.1)
 
 -- a lane of a script stays one where no call is recorded
 pub stays : (old new : Lane Pages) → IsOfScript old → new ≡ record old { store = new.store } → new.store.layout ≡ old.store.layout → IsOfScript new
@@ -92,13 +92,13 @@ stays old new its whole layout =
       first = ap (λ (l : Lane Pages). l.lane) whole ∙ its.first;
     }
 
-kept_layout : (key : List ℕ) (old new : Lane Pages) → KeepsOrAnswers honest failures held_by key old.store new.store → new.store.layout ≡ old.store.layout
-kept_layout key old new (inl kept) = kept.reads.layout
-kept_layout key old new (inr told) = told.1.reads.layout
+kept_layout : (size : ℕ) (key : List ℕ) (old new : Lane Pages) → MayHaveGot size honest failures held_by key old.store new.store → new.store.layout ≡ old.store.layout
+kept_layout size key old new (inl same) = ap (λ (s : StoreState Pages). s.layout) same
+kept_layout size key old new (inr got) = got.1.reads.layout
 
 -- also where a get was refused
-pub stays_refused : (key : List ℕ) (old new : Lane Pages) → IsOfScript old → new ≡ record old { store = new.store } → KeepsOrAnswers honest failures held_by key old.store new.store → IsOfScript new
-stays_refused key old new its whole kept = stays old new its whole (kept_layout key old new kept)
+pub stays_refused : (size : ℕ) (key : List ℕ) (old new : Lane Pages) → IsOfScript old → new ≡ record old { store = new.store } → MayHaveGot size honest failures held_by key old.store new.store → IsOfScript new
+stays_refused size key old new its whole kept = stays old new its whole (kept_layout size key old new kept)
 
 one_more : (calls : List Noted) (key : List ℕ) (act : Act) (n : Noted) → HasStamps calls → n ≡ noted (length calls) key act → HasStamps (calls ++ n ∷ [])
 one_more calls key act n stamps is i d within = elim (cases_lt i (length calls)) [

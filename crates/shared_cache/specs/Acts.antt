@@ -1,17 +1,15 @@
 -- What a call does to the book of its lane, and when it is refused.
-use Rattle.std.specs.Prelude.{◌≡◌, ◌≢◌, ℕ, ◌+◌, ◌<◌, ◌≤◌, ◌^◌, List, length, Option, Some, Bool, IsTrue, All, slice_get}
+use Rattle.std.specs.Prelude.{◌≡◌, ◌≢◌, ℕ, ◌+◌, ◌<◌, ◌≤◌, ◌^◌, List, length, Option, Some, Ok, Bool, All, slice_get}
 use Rattle.record_pages.specs.Sizes.{object_size, room}
 use Rattle.mover.specs.Store.{StoreState}
-use Rattle.mover.specs.Lane.{lane_of}
-use Rattle.mover.specs.Put.{put_step, IsStep}
-use Rattle.mover.specs.Strike.{removed}
+use Rattle.mover.specs.Calls.{StoreGets, StorePuts, StoreRemoves}
 use Rattle.trace_file.specs.declared.act.Act.{Act}
 use Rattle.trace_file.specs.declared.act.Act.TheVariants as acts
 use Rattle.history_recorder.specs.declared.noted.Noted.{Noted}
 use Rattle.history_recorder.specs.declared.operation.Operation.{Operation}
 use Rattle.history_recorder.specs.declared.operation.Operation.TheVariants as asked
 use Rattle.history_recorder.specs.Lane.{Lane, act_of, max_calls}
-use Rattle.history_recorder.specs.Answering.{Answers, KeepsOrAnswers}
+use Rattle.history_recorder.specs.Answering.{MayHaveGot}
 use Rattle.history_recorder.specs.Operations.{key_of}
 use Rattle.shared_cache.specs.declared.act_fault.ActFault.{ActFault}
 use Rattle.shared_cache.specs.declared.act_fault.ActFault.TheVariants.{HistoryLost, HistoryFull, ClockFull, OutOfMemory}
@@ -41,25 +39,18 @@ IsFitting size (asked.Put key value word) = object_size key value ≤ room size
 IsFitting size (asked.Get key) = Unit {0}
 IsFitting size (asked.Remove key) = Unit {0}
 
--- no call of the device was made, and the layout stays
-pub record KeepsDevice {D : Type 0} (old new : StoreState D) : Type 0 where
-  pub layout : new.layout ≡ old.layout
-  pub device : new.device ≡ old.device
-
 module _ {D : Type 0} (honest : D → Bool) (failures : D → ℕ) (held : D → ℕ → Option (List ℕ)) (size : ℕ) where
-  -- What an operation gives and does to the store of its lane: a get's answer, a put's step where the device is honest, a
-  -- removal. It gives nothing else.
+  -- What an operation gives and does to the store of its lane: what that call of a store does. It gives nothing else.
   abbrev pub ActGives : Operation → StoreState D → Outcome → StoreState D → Type 0
-  ActGives (asked.Get key) old (outcomes.Got answer) new = Answers honest failures held key old answer new
+  ActGives (asked.Get key) old (outcomes.Got answer) new = StoreGets size honest failures held key old (Ok answer) new
   ActGives (asked.Put key value word) old (outcomes.Stored pushed) new =
-      KeepsDevice old new × (IsTrue (honest old.device) →
-      IsStep (put_step size old.layout.admit (record { key = key; value = value }) word (lane_of held old)) pushed (lane_of held new))
-  ActGives (asked.Remove key) old outcomes.Removed new = KeepsDevice old new × (lane_of held new ≡ removed key (lane_of held old))
+      StorePuts size held (record { key = key; value = value }) word old (Ok pushed) new
+  ActGives (asked.Remove key) old outcomes.Removed new = StoreRemoves held key old new
   ActGives _ old _ new = ⊥
 
   -- what want of memory leaves: of a get the store as it was, or as the answer left it; else all as it was
   abbrev pub ActLeaves : Operation → StoreState D → StoreState D → Type 0
-  ActLeaves (asked.Get key) old new = KeepsOrAnswers honest failures held key old new
+  ActLeaves (asked.Get key) old new = MayHaveGot size honest failures held key old new
   ActLeaves (asked.Put key value word) old new = new ≡ old
   ActLeaves (asked.Remove key) old new = new ≡ old
 

@@ -31,8 +31,8 @@ impl<const PAGE: usize> KLog<PAGE> {
         ensures gives { AppendGives PAGE self.old (entering key.now value.now) result self.new }
         ensures spelled { (held : ℕ → Option (List ℕ)) → IsSpelledOn PAGE held self.old →
             IsSpelledOn PAGE held self.new }
-        ensures shown { (held : ℕ → Option (List ℕ)) → IsSpelledOn PAGE held self.old →
-            live_on held self.new ≡ live_appended PAGE self.old (entering key.now value.now) result
+        ensures shown { (held : ℕ → Option (List ℕ)) → live_on held self.new
+            ≡ live_appended PAGE self.old (entering key.now value.now) result
             (live_on held self.old) }
     {
         if self.index.is_full() {
@@ -74,8 +74,8 @@ impl<const PAGE: usize> KLog<PAGE> {
         ensures left { OnFalse result (self.new ≡ self.old) }
         ensures spelled { (held : ℕ → Option (List ℕ)) → IsSpelledOn PAGE held self.old →
             IsSpelledOn PAGE held self.new }
-        ensures shown { (held : ℕ → Option (List ℕ)) → IsSpelledOn PAGE held self.old →
-            live_on held self.new ≡ live_entered PAGE self.old (record_shown added.entry) result
+        ensures shown { (held : ℕ → Option (List ℕ)) → live_on held self.new
+            ≡ live_entered PAGE self.old (record_shown added.entry) result
             (live_on held self.old) }
     {
         let filled = self.filled_number();
@@ -99,7 +99,7 @@ impl<const PAGE: usize> KLog<PAGE> {
         ensures sealed { self.new ≡ sealed self.old }
         ensures spelled { (held : ℕ → Option (List ℕ)) → IsSpelledOn PAGE held self.old →
             IsSpelledOn PAGE held self.new }
-        ensures shown { (held : ℕ → Option (List ℕ)) → IsSpelledOn PAGE held self.old →
+        ensures shown { (held : ℕ → Option (List ℕ)) →
             live_on held self.new ≡ live_on held self.old }
     {
         mem::swap(&mut self.filling, &mut self.flushing);
@@ -123,8 +123,7 @@ impl<const PAGE: usize> KLog<PAGE> {
         ensures same { OnFalse result (self.new ≡ self.old) }
         ensures spelled { (held : ℕ → Option (List ℕ)) → IsSpelledOn PAGE held self.old →
             IsSpelledOn PAGE held self.new }
-        ensures shown { (held : ℕ → Option (List ℕ)) → IsSpelledOn PAGE held self.old →
-            OnTrue result (live_on held self.new
+        ensures shown { (held : ℕ → Option (List ℕ)) → OnTrue result (live_on held self.new
             ≡ (entry_for PAGE self.old (record_shown added.entry), record_shown added.entry)
             ∷ live_on held self.old) }
     {

@@ -1,5 +1,5 @@
 // Reading the record of an entry.
-ghost use Rattle.std.specs.Prelude.{◌≡◌, ◌↔◌, IfSome, IsTrue, Contains, false};
+ghost use Rattle.std.specs.Prelude.{◌≡◌, ◌↔◌, ℕ, List, Option, IfSome, IsTrue, Contains, false};
 ghost use Rattle.std.specs.Option.{option_map};
 ghost use Rattle.page_device.specs.Device.{faults_after};
 ghost use Rattle.record_pages.specs.Sizes.{IsPageSize};
@@ -9,7 +9,7 @@ ghost use Rattle.record_pages.specs.Reading.{log_page_at};
 ghost use Rattle.klog.specs.Buffer.{record_in};
 ghost use Rattle.klog.specs.Names.{HasRoom};
 ghost use Rattle.klog.specs.Shown.{shown_on, record_on};
-ghost use Rattle.klog.specs.Known.{is_buffered, IsPageKnown, IsHad};
+ghost use Rattle.klog.specs.Known.{AreHeldBy, is_buffered, IsPageKnown, IsHad};
 ghost use Rattle.klog.specs.Fetch.{IsPlaceOf, is_fetch_fault, IsItsOwn, stored_on, FetchGives};
 
 use super::KLog;
@@ -41,10 +41,9 @@ impl<const PAGE: usize> KLog<PAGE> {
         ensures buffered { IsTrue (is_buffered self.entry.now entry.now) → device.new ≡ device.old }
         ensures its { IsItsOwn PAGE self.entry.now.shape entry.now result }
         ensures same { IsTrue (D.honest device.old) → D.held device.new ≡ D.held device.old }
-        ensures gives { IsTrue (D.honest device.old) →
-            IsHad (D.held device.old) self.entry.now entry.now →
-            FetchGives PAGE self.entry.now.shape entry.now
-            (shown_on (D.held device.old) self.entry.now entry.now) result }
+        ensures gives { (known : ℕ → Option (List ℕ)) → AreHeldBy D.honest D.held device.old known →
+            IsHad known self.entry.now entry.now → FetchGives PAGE self.entry.now.shape entry.now
+            (shown_on known self.entry.now entry.now) result }
     {
         let number = self.number_of(entry.place.segment);
         if number == self.filled_number() {
@@ -75,10 +74,9 @@ impl<const PAGE: usize> KLog<PAGE> {
             ≡ faults_after (D.failures device.old) (is_fetch_fault result) }
         ensures its { IsItsOwn PAGE self.now.shape entry.now result }
         ensures same { IsTrue (D.honest device.old) → D.held device.new ≡ D.held device.old }
-        ensures gives { IsTrue (D.honest device.old) →
-            IsPageKnown (D.held device.old) self.now entry.now →
-            FetchGives PAGE self.now.shape entry.now
-            (stored_on (D.held device.old) self.now entry.now) result }
+        ensures gives { (known : ℕ → Option (List ℕ)) → AreHeldBy D.honest D.held device.old known →
+            IsPageKnown known self.now entry.now → FetchGives PAGE self.now.shape entry.now
+            (stored_on known self.now entry.now) result }
     {
         let number = self.number_of(entry.place.segment);
         let page = u32::from(entry.place.page);

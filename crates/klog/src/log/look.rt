@@ -5,11 +5,14 @@ ghost use Rattle.record_pages.specs.Sizes.{IsPageSize};
 ghost use Rattle.klog_index.specs.Entries.{of_tag};
 ghost use Rattle.klog.specs.Names.{HasRoom};
 ghost use Rattle.klog.specs.Shown.{IsSpelledOn, live_on, place_in};
-ghost use Rattle.klog.specs.Known.{is_buffered, AreBuffered};
+ghost use Rattle.klog.specs.Known.{AreHeldBy, is_buffered, AreBuffered};
 ghost use Rattle.std.specs.Iterator.{YieldsFirst};
 ghost use Rattle.klog.specs.Fetch.{IsPlaceOf};
 ghost use Rattle.klog.specs.Find.{with_tag, is_told_fault, TellsKey, is_found_fault, IsOfTag, Finds, FindsAt};
-ghost use Rattle.klog.specs.Look.{is_log_fault, LogLookLeaves, LogLookGives, LooksAt, lowered_in, live_lowered};
+ghost use Rattle.record_pages.specs.Recs.{Rec};
+ghost use Rattle.klog_index.specs.declared.entry.Entry.{Entry};
+ghost use Rattle.klog.specs.declared.looked.Looked.{Looked};
+ghost use Rattle.klog.specs.Look.{is_log_fault, LogLookLeaves, LogLookGives, LooksAt, IsInBuffers, lowered_in, live_lowered};
 
 use super::KLog;
 use crate::fetched::Fetched;
@@ -48,11 +51,19 @@ impl<const PAGE: usize> KLog<PAGE> {
             (of_tag placed.now.set placed.now.tag self.old.entries) →
             device.new ≡ device.old }
 
+        ensures in_buffers { (e : Entry) → (r : Rec) →
+            IsInBuffers PAGE self.old placed.now.set placed.now.tag key.now e r →
+            IfOk result (λ l. (l ≡ Looked.Hit r.value)
+            × (self.new ≡ lowered_in self.old placed.now.set e.place)
+            × (device.new ≡ device.old)) }
+
+        // Whatever is known of its pages.
+        ensures looks_at { (known : ℕ → Option (List ℕ)) → AreHeldBy D.honest D.held device.old known →
+            LooksAt PAGE known self.old placed.now.set placed.now.tag key.now result self.new
+            (device.new ≡ device.old) }
+
         // Where it is honest.
         ensures same { IsTrue (D.honest device.old) → D.held device.new ≡ D.held device.old }
-        ensures looks_at { IsTrue (D.honest device.old) →
-            LooksAt PAGE (D.held device.old) self.old placed.now.set placed.now.tag key.now result
-            self.new (device.new ≡ device.old) }
         ensures gives { IsTrue (D.honest device.old) →
             IsSpelledOn PAGE (D.held device.old) self.old →
             IfOk result (λ r. LogLookGives (live_on (D.held device.old) self.old) key.now self.old r
@@ -93,8 +104,8 @@ impl<const PAGE: usize> KLog<PAGE> {
             (of_tag placed.now.set placed.now.tag self.now.entries) →
             device.new ≡ device.old }
         ensures same { IsTrue (D.honest device.old) → D.held device.new ≡ D.held device.old }
-        ensures finds_at { IsTrue (D.honest device.old) →
-            FindsAt PAGE (D.held device.old) self.now placed.now.set placed.now.tag key.now result }
+        ensures finds_at { (known : ℕ → Option (List ℕ)) → AreHeldBy D.honest D.held device.old known →
+            FindsAt PAGE known self.now placed.now.set placed.now.tag key.now result }
         ensures finds { IsTrue (D.honest device.old) →
             IsSpelledOn PAGE (D.held device.old) self.now →
             IfOk result (Finds (live_on (D.held device.old) self.now) key.now) }
@@ -134,8 +145,8 @@ impl<const PAGE: usize> KLog<PAGE> {
             ≡ faults_after (D.failures device.old) (is_told_fault result) }
         ensures buffered { IsTrue (is_buffered self.now entry.now) → device.new ≡ device.old }
         ensures same { IsTrue (D.honest device.old) → D.held device.new ≡ D.held device.old }
-        ensures tells { IsTrue (D.honest device.old) →
-            TellsKey PAGE (D.held device.old) self.now entry.now key.now result }
+        ensures tells { (known : ℕ → Option (List ℕ)) → AreHeldBy D.honest D.held device.old known →
+            TellsKey PAGE known self.now entry.now key.now result }
     {
         match self.fetch(device, entry, bytes, Some(key)) {
             Fetched::Fault => Ok(Told::Fault),

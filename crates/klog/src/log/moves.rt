@@ -270,8 +270,8 @@ impl<const PAGE: usize> KLog<PAGE> {
             self.new }
         ensures spelled { (held : ℕ → Option (List ℕ)) → IsSpelledOn PAGE held self.old →
             IsSpelledOn PAGE held self.new }
-        ensures shown { (held : ℕ → Option (List ℕ)) → IsSpelledOn PAGE held self.old →
-            live_on held self.new ≡ live_anew PAGE self.old entry.now (record_shown found.entry) result
+        ensures shown { (held : ℕ → Option (List ℕ)) → live_on held self.new
+            ≡ live_anew PAGE self.old entry.now (record_shown found.entry) result
             (live_on held self.old) }
     {
         self.drop_entry(entry);

@@ -1,9 +1,7 @@
 // Giving a move up.
 ghost use Rattle.std.specs.Prelude.{◌≡◌, None, Some, IfNone, IfSome};
-ghost use Rattle.mover.specs.Lane.{lane_of};
-ghost use Rattle.mover.specs.Visible.{ShowsFrom};
 ghost use Rattle.mover.specs.Flight.{IsInFlight};
-ghost use Rattle.mover.specs.Commit.{AbortGives, after_abort};
+ghost use Rattle.mover.specs.Calls.{StoreAborts};
 
 use super::Store;
 use crate::aborted::Aborted;
@@ -14,10 +12,7 @@ impl<D: PageDevice<PAGE>, const PAGE: usize> Store<D, PAGE> {
     /// Gives up the move with this number, if it is the one in flight; all else stays. No call of the device is made, and
     /// no memory taken.
     pub fn move_abort(&mut self, number: u64) -> Aborted
-        ensures leaves { self.new ≡ after_abort result self.old }
-        ensures gives { AbortGives number (lane_of D.held self.old) result
-            (lane_of D.held self.new) }
-        ensures shows { ShowsFrom None None (lane_of D.held self.old) (lane_of D.held self.new) }
+        ensures { StoreAborts D.held number self.old result self.new }
     {
         match self.take_flight(number) {
             Some(_) => Aborted::Aborted,

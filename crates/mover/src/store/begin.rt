@@ -1,14 +1,14 @@
 // How a move begins.
-ghost use Rattle.std.specs.Prelude.{◌≡◌, ◌≢◌, ◌<◌, None, Ok, IfOk, OnErr, IsTrue};
+ghost use Rattle.std.specs.Prelude.{◌≡◌, ◌<◌, None, IfOk, OnErr, IsTrue};
 ghost use Rattle.page_device.specs.Device.{faults_after};
 ghost use Rattle.klog.specs.declared.oldest.Oldest.{Oldest};
-ghost use Rattle.mover.specs.declared.begin.Begin.{Begin};
-ghost use Rattle.klog.specs.Moves.{TellsOldest, IsFirstLive, IsOfOldest, is_readmit_fault};
-ghost use Rattle.mover.specs.Store.{KeepsTiers, KeepsMoves, most_moves};
+ghost use Rattle.klog.specs.Moves.{TellsOldest, IsFirstLive, IsOfOldest, is_readmit_fault, freed, without_entry, ReadmitLeaves};
+ghost use Rattle.mover.specs.Store.{most_moves};
 ghost use Rattle.mover.specs.Lane.{lane_of};
-ghost use Rattle.mover.specs.Visible.{ShowsFrom};
 ghost use Rattle.mover.specs.Oldest.{oldest_in};
-ghost use Rattle.mover.specs.Begin.{WritesNothing, BeginGives, EntryBegins, LaneReadmits, lane_freed, lane_without_entry, is_lost, began_by, judged, moves_after, IsNumbered, AnswersBusy, BeginsFlight, BeginLeaves};
+ghost use Rattle.mover.specs.Begin.{WritesNothing, BeginGives, EntryBegins, LaneReadmits, lane_freed, lane_without_entry, is_lost, began_by, judged_in};
+ghost use Rattle.mover.specs.Leaving.{HasAll, HasLog, EntryLeaves, BeginLeaves};
+ghost use Rattle.mover.specs.Calls.{StoreBegins};
 
 use super::Store;
 use crate::begin::Begin;
@@ -36,8 +36,7 @@ impl<D: PageDevice<PAGE>, const PAGE: usize> Store<D, PAGE> {
     // Frees the oldest segment on the device, none of whose records is live.
     fn free_oldest(&mut self)
         requires { TellsOldest self.old.log Oldest.Empty }
-        ensures layout { self.new.layout ≡ self.old.layout }
-        ensures device { self.new.device ≡ self.old.device }
+        ensures leaves { self.new ≡ record self.old { log = freed self.old.log } }
         ensures freed { lane_of D.held self.new ≡ lane_freed (lane_of D.held self.old) }
     {
         self.log.free_oldest();
@@ -45,8 +44,9 @@ impl<D: PageDevice<PAGE>, const PAGE: usize> Store<D, PAGE> {
 
     // Drops an entry of the log.
     fn drop_entry(&mut self, entry: &Entry)
-        ensures layout { self.new.layout ≡ self.old.layout }
-        ensures device { self.new.device ≡ self.old.device }
+        ensures leaves { self.new ≡ record self.old {
+          log = without_entry self.old.log entry.now;
+        } }
         ensures dropped { lane_of D.held self.new
             ≡ lane_without_entry entry.now (lane_of D.held self.old) }
     {
@@ -57,7 +57,8 @@ impl<D: PageDevice<PAGE>, const PAGE: usize> Store<D, PAGE> {
     fn readmit(&mut self, entry: &Entry) -> Readmitted
         requires { IsOfOldest self.old.log entry.now }
         ensures writes { WritesNothing D.honest D.held self.old self.new }
-        ensures stays { KeepsMoves self.old self.new }
+        ensures leaves { ReadmitLeaves PAGE self.old.log entry.now result self.new.log }
+        ensures rest { HasLog self.new.log self.old self.new }
         ensures faults { D.failures self.new.device
             ≡ faults_after (D.failures self.old.device) (is_readmit_fault result) }
         ensures gives { IsTrue (D.honest self.old.device) →
@@ -75,24 +76,8 @@ impl<D: PageDevice<PAGE>, const PAGE: usize> Store<D, PAGE> {
     ///
     /// Where memory is refused the store stays as it was, and no number is spent.
     pub fn move_begin(&mut self) -> Result<Begin, AllocError>
-        ensures writes { WritesNothing D.honest D.held self.old self.new }
-        ensures out_of_memory { OnErr result (KeepsTiers self.old self.new) }
-        ensures number { self.new.moves ≡ moves_after result self.old.moves }
-        ensures numbered { IfOk result (IsNumbered self.new.moves) }
-        ensures flies { BeginsFlight PAGE result self.old.flight self.new.flight }
-        ensures leaves { BeginLeaves result self.old self.new }
-        ensures busy { AnswersBusy self.old.flight result (self.new ≡ self.old) }
-        ensures faults { IsTrue (D.honest self.old.device) → D.failures self.new.device
-            ≡ faults_after (D.failures self.old.device) (is_lost result) }
-        ensures gives { IsTrue (D.honest self.old.device) → IfOk result (λ begun. BeginGives PAGE
-            self.old.layout.threshold (lane_of D.held self.old) begun (lane_of D.held self.new)) }
-        ensures lane_stays { IsTrue (D.honest self.old.device) →
-            OnErr result (lane_of D.held self.new ≡ lane_of D.held self.old) }
-        ensures shows { IsTrue (D.honest self.old.device) →
-            ShowsFrom None None (lane_of D.held self.old) (lane_of D.held self.new) }
+        ensures { StoreBegins PAGE D.honest D.failures D.held self.old result self.new }
     {
-        // Where the records of the lane are placed, so are those of a move.
-        let _layout = self.layout();
         if self.flight.is_some() {
             return Ok(Begin::Busy);
         }
@@ -104,12 +89,8 @@ impl<D: PageDevice<PAGE>, const PAGE: usize> Store<D, PAGE> {
     fn begin_oldest(&mut self) -> Result<Begin, AllocError>
         requires { self.old.flight ≡ None }
         ensures writes { WritesNothing D.honest D.held self.old self.new }
-        ensures out_of_memory { OnErr result (KeepsTiers self.old self.new) }
-        ensures number { self.new.moves ≡ moves_after result self.old.moves }
-        ensures numbered { IfOk result (IsNumbered self.new.moves) }
-        ensures flies { BeginsFlight PAGE result self.old.flight self.new.flight }
-        ensures leaves { BeginLeaves result self.old self.new }
-        ensures free { result ≢ Ok Begin.Busy }
+        ensures leaves { IfOk result (λ begun. BeginLeaves PAGE self.old begun self.new) }
+        ensures out_of_memory { OnErr result (HasAll self.old self.new) }
         ensures faults { IsTrue (D.honest self.old.device) → D.failures self.new.device
             ≡ faults_after (D.failures self.old.device) (is_lost result) }
         ensures gives { IsTrue (D.honest self.old.device) → IfOk result (λ begun. BeginGives PAGE
@@ -138,12 +119,9 @@ impl<D: PageDevice<PAGE>, const PAGE: usize> Store<D, PAGE> {
         requires set { entry.now.set < self.old.layout.sets }
         requires number { self.old.moves < most_moves }
         ensures writes { WritesNothing D.honest D.held self.old self.new }
-        ensures out_of_memory { OnErr result (KeepsTiers self.old self.new) }
-        ensures number { self.new.moves ≡ moves_after result self.old.moves }
-        ensures numbered { IfOk result (IsNumbered self.new.moves) }
-        ensures flies { BeginsFlight PAGE result self.old.flight self.new.flight }
-        ensures leaves { BeginLeaves result self.old self.new }
-        ensures free { result ≢ Ok Begin.Busy }
+        ensures leaves { IfOk result (λ begun. EntryLeaves PAGE entry.now
+            (judged_in self.old.layout.threshold self.old.log entry.now) self.old begun self.new) }
+        ensures out_of_memory { OnErr result (HasAll self.old self.new) }
         ensures faults { IsTrue (D.honest self.old.device) → D.failures self.new.device
             ≡ faults_after (D.failures self.old.device) (is_lost result) }
         ensures gives { IsTrue (D.honest self.old.device) → IfOk result (λ begun. EntryBegins PAGE
@@ -166,7 +144,7 @@ impl<D: PageDevice<PAGE>, const PAGE: usize> Store<D, PAGE> {
     // What becomes of an entry of the oldest segment.
     fn judge(&self, entry: &Entry) -> Judgement
         ensures { result
-            ≡ judged self.now.layout.threshold (lane_of D.held self.now) entry.now }
+            ≡ judged_in self.now.layout.threshold self.now.log entry.now }
     {
         let threshold = Threshold {
             least: self.layout.threshold,

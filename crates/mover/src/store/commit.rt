@@ -6,11 +6,11 @@ ghost use Rattle.klog.specs.Moves.{dropped};
 ghost use Rattle.kset.specs.Laws.{IsKeyOf};
 ghost use Rattle.kset.specs.Rewrite.{is_forgotten, after_rewrite};
 ghost use Rattle.mover.specs.Lane.{lane_of};
-ghost use Rattle.mover.specs.Visible.{ShowsFrom};
 ghost use Rattle.mover.specs.Begin.{lane_without};
 ghost use Rattle.mover.specs.Flight.{unstruck, IsFlightOf, AreOfSet};
 ghost use Rattle.mover.specs.Job.{job_of};
-ghost use Rattle.mover.specs.Commit.{lane_rewritten, planned_of, landed, landed_in, IsFitting, CommitGives, CommitAnswers, CommitLeaves, is_unwritten, committed_by};
+ghost use Rattle.mover.specs.Commit.{lane_rewritten, planned_of, landed, landed_in, IsFitting, committed_by};
+ghost use Rattle.mover.specs.Calls.{StoreCommits};
 
 use super::Store;
 use crate::committed::Committed;
@@ -59,15 +59,8 @@ impl<D: PageDevice<PAGE>, const PAGE: usize> Store<D, PAGE> {
     ///
     /// `StalePlan` and `BadPlan` change nothing and make no call of the device; after `BadPlan` the move stays in flight.
     pub fn move_commit(&mut self, plan: &Plan, number: u64) -> Committed
-        ensures honest { D.honest self.new.device ≡ D.honest self.old.device }
-        ensures faults { D.failures self.new.device
-            ≡ faults_after (D.failures self.old.device) (is_unwritten result) }
-        ensures answers { CommitAnswers PAGE plan.now number self.old.flight result }
-        ensures leaves { CommitLeaves plan.now self.old result self.new }
-        ensures gives { IsTrue (D.honest self.old.device) → CommitGives PAGE plan.now number
-            (lane_of D.held self.old) result (lane_of D.held self.new) }
-        ensures shows { IsTrue (D.honest self.old.device) →
-            ShowsFrom None None (lane_of D.held self.old) (lane_of D.held self.new) }
+        ensures { StoreCommits PAGE D.honest D.failures D.held plan.now number self.old result
+            self.new }
     {
         // What is true of every store is true of its move in flight.
         let _layout = self.layout();

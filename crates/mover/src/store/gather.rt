@@ -1,15 +1,15 @@
 // Gathering the records of a move.
-ghost use Rattle.std.specs.Prelude.{◌≡◌, ◌≢◌, ◌<◌, ◌≤◌, ◌+◌, None, Ok, Some, length, IfOk, OnErr, IsTrue};
+ghost use Rattle.std.specs.Prelude.{◌≡◌, ◌<◌, ◌≤◌, ◌+◌, None, Some, length, IfOk, OnErr, IsTrue};
 ghost use Rattle.page_device.specs.Device.{faults_after};
 ghost use Rattle.record_pages.specs.Sizes.{max_records};
 ghost use Rattle.klog.specs.Moves.{is_taking_lost, most_taken};
 ghost use Rattle.kset.specs.ReadSet.{is_set_lost};
-ghost use Rattle.mover.specs.Store.{KeepsTiers, most_moves};
+ghost use Rattle.mover.specs.Store.{most_moves};
 ghost use Rattle.mover.specs.Lane.{lane_of};
 ghost use Rattle.mover.specs.Flight.{records_of, just_begun, AreOfSet};
 ghost use Rattle.mover.specs.Job.{job_of};
-ghost use Rattle.mover.specs.declared.begin.Begin.{Begin};
-ghost use Rattle.mover.specs.Begin.{WritesNothing, LaneTakes, LaneReads, is_lost, KeepsUnlessLost, KeepsUnlessForgotten, Gathers, moves_after, IsNumbered, BeginsFlight, BeginLeaves, TakesFew, ReadsFew};
+ghost use Rattle.mover.specs.Begin.{WritesNothing, LaneTakes, LaneReads, is_lost, Gathers};
+ghost use Rattle.mover.specs.Leaving.{HasAll, TakingLeaves, ReadingLeaves, GatheringLeaves};
 
 use super::Store;
 use crate::begin::Begin;
@@ -24,11 +24,9 @@ use std::alloc::AllocError;
 impl<D: PageDevice<PAGE>, const PAGE: usize> Store<D, PAGE> {
     // The newest live records of a set in the log.
     fn take_set(&mut self, set: u32) -> Result<SetTaken, AllocError>
-        ensures moves { self.new.moves ≡ self.old.moves }
-        ensures flight { self.new.flight ≡ self.old.flight }
-        ensures few { IfOk result TakesFew }
         ensures writes { WritesNothing D.honest D.held self.old self.new }
-        ensures keeps { KeepsUnlessLost result self.old self.new }
+        ensures leaves { IfOk result (λ taken. TakingLeaves set self.old taken self.new) }
+        ensures out_of_memory { OnErr result (HasAll self.old self.new) }
         ensures faults { IsTrue (D.honest self.old.device) → D.failures self.new.device
             ≡ faults_after (D.failures self.old.device) (is_taking_lost result) }
         ensures gives { IsTrue (D.honest self.old.device) → IfOk result (λ taken.
@@ -41,11 +39,9 @@ impl<D: PageDevice<PAGE>, const PAGE: usize> Store<D, PAGE> {
     // The visible records of a set.
     fn read_set(&mut self, set: u32) -> Result<SetRead, AllocError>
         requires { set < self.old.layout.sets }
-        ensures moves { self.new.moves ≡ self.old.moves }
-        ensures flight { self.new.flight ≡ self.old.flight }
-        ensures few { IfOk result ReadsFew }
         ensures writes { WritesNothing D.honest D.held self.old self.new }
-        ensures keeps { KeepsUnlessForgotten result self.old self.new }
+        ensures leaves { IfOk result (λ read. ReadingLeaves set self.old read self.new) }
+        ensures out_of_memory { OnErr result (HasAll self.old self.new) }
         ensures faults { IsTrue (D.honest self.old.device) → D.failures self.new.device
             ≡ faults_after (D.failures self.old.device) (is_set_lost result) }
         ensures gives { IsTrue (D.honest self.old.device) → IfOk result (λ read.
@@ -64,12 +60,8 @@ impl<D: PageDevice<PAGE>, const PAGE: usize> Store<D, PAGE> {
         requires set { set < self.old.layout.sets }
         requires number { self.old.moves < most_moves }
         ensures writes { WritesNothing D.honest D.held self.old self.new }
-        ensures out_of_memory { OnErr result (KeepsTiers self.old self.new) }
-        ensures number { self.new.moves ≡ moves_after result self.old.moves }
-        ensures numbered { IfOk result (IsNumbered self.new.moves) }
-        ensures flies { BeginsFlight PAGE result self.old.flight self.new.flight }
-        ensures leaves { BeginLeaves result self.old self.new }
-        ensures free { result ≢ Ok Begin.Busy }
+        ensures leaves { IfOk result (λ begun. GatheringLeaves PAGE set self.old begun self.new) }
+        ensures out_of_memory { OnErr result (HasAll self.old self.new) }
         ensures faults { IsTrue (D.honest self.old.device) → D.failures self.new.device
             ≡ faults_after (D.failures self.old.device) (is_lost result) }
         ensures gives { IsTrue (D.honest self.old.device) → IfOk result (λ begun.

@@ -1,17 +1,20 @@
 // Looking a key up in the three tiers.
-ghost use Rattle.std.specs.Prelude.{◌≡◌, None, false, IfOk, OnOk, OnErr, IsSome, IsTrue};
-ghost use Rattle.klog.specs.Shown.{place_in};
-ghost use Rattle.klog.specs.Look.{is_log_fault, LogLookLeaves};
-ghost use Rattle.klog.specs.Known.{AreBuffered};
+ghost use Rattle.std.specs.Prelude.{◌≡◌, false, IfOk, OnErr, IsTrue};
+ghost use Rattle.record_pages.specs.Recs.{Rec};
+ghost use Rattle.klog_index.specs.declared.entry.Entry.{Entry};
 ghost use Rattle.klog_index.specs.Entries.{of_tag};
+ghost use Rattle.klog.specs.declared.looked.Looked.{Looked};
+ghost use Rattle.klog.specs.Shown.{place_in};
+ghost use Rattle.klog.specs.Look.{is_log_fault, LogLookLeaves, IsInBuffers};
+ghost use Rattle.klog.specs.Known.{AreBuffered};
 ghost use Rattle.kset.specs.Notes.{lets_show};
 ghost use Rattle.kset.specs.Sets.{notes_of, IsPlaceIn};
-ghost use Rattle.mover.specs.Asking.{AsksNothing, IfThen, IsNotOfLog, KeepsIfMiss, HitsInLog};
 ghost use Rattle.memory_cache.specs.MemoryList.{value_in, after_get};
+ghost use Rattle.mover.specs.Asking.{AsksNothing, IfThen, IsNotOfLog, KeepsIfMiss, HitsInLog};
 ghost use Rattle.mover.specs.Store.{KeepsTiers, KeepsMoves, OnlyReads};
 ghost use Rattle.mover.specs.Lane.{lane_of};
-ghost use Rattle.mover.specs.Visible.{ShowsFrom, TellsVisible};
-ghost use Rattle.mover.specs.Get.{get_step, ask_log, ask_set, StepGives, LogTells, KeepsUnlessHit, is_fault, answer_of_set};
+ghost use Rattle.mover.specs.Get.{ask_log, ask_set, StepGives, LogTells, KeepsUnlessHit, is_fault, answer_of_set};
+ghost use Rattle.mover.specs.Calls.{StoreGets, AnswersFromBuffers, IsLowered};
 
 use super::Store;
 use page_device::PageDevice;
@@ -23,23 +26,7 @@ impl<D: PageDevice<PAGE>, const PAGE: usize> Store<D, PAGE> {
     /// The value of a key with the first tier that has it: memory, the log, its set. A fault of the device, or a page that
     /// is not the expected one, ends the search, and changes nothing. `AllocError` changes nothing either.
     pub fn get(&mut self, key: &Key) -> Result<Answer, AllocError>
-        ensures reads { OnlyReads D.honest D.failures D.held self.old (is_fault result) self.new }
-        ensures stays { KeepsMoves self.old self.new }
-        ensures out_of_memory { OnErr result (KeepsTiers self.old self.new) }
-        ensures gives { IsTrue (D.honest self.old.device) → IfOk result (λ answer. StepGives
-            (get_step key.now (lane_of D.held self.old)) (lane_of D.held self.old) answer
-            (lane_of D.held self.new)) }
-        ensures visible { IsTrue (D.honest self.old.device) →
-            IfOk result (TellsVisible key.now (lane_of D.held self.old)) }
-        ensures in_memory { IsSome (value_in key.now self.old.memory.pairs) →
-            self.new.device ≡ self.old.device }
-        ensures unasked { IfThen (AsksNothing key.now self.old)
-            (self.new.device ≡ self.old.device) }
-        ensures missed { IfOk result (λ answer. KeepsIfMiss answer self.old self.new) }
-        ensures in_buffer { IfOk result (λ answer. HitsInLog key.now answer self.old self.new
-            (self.new.device ≡ self.old.device)) }
-        ensures shows { IsTrue (D.honest self.old.device) →
-            OnOk result (ShowsFrom None None (lane_of D.held self.old) (lane_of D.held self.new)) }
+        ensures { StoreGets PAGE D.honest D.failures D.held key.now self.old result self.new }
     {
         if let Some(value) = self.recall(key)? {
             return Ok(Answer::Hit(value, Tier::Memory));
@@ -68,11 +55,16 @@ impl<D: PageDevice<PAGE>, const PAGE: usize> Store<D, PAGE> {
         ensures reads { OnlyReads D.honest D.failures D.held self.old (is_fault result) self.new }
         ensures stays { KeepsMoves self.old self.new }
         ensures out_of_memory { OnErr result (KeepsTiers self.old self.new) }
+        ensures memory { self.new.memory ≡ self.old.memory }
         ensures unasked { IfThen (AsksNothing key.now self.old)
             (self.new.device ≡ self.old.device) }
         ensures missed { IfOk result (λ answer. KeepsIfMiss answer self.old self.new) }
-        ensures in_buffer { IfOk result (λ answer. HitsInLog key.now answer self.old self.new
+        ensures in_log { IfOk result (λ answer. HitsInLog key.now answer self.old self.new
             (self.new.device ≡ self.old.device)) }
+        ensures in_buffers { (e : Entry) → (r : Rec) → IsInBuffers PAGE self.old.log
+            (place_in self.old.log.shape key.now).set (place_in self.old.log.shape key.now).tag
+            key.now e r → IfOk result (λ answer.
+            AnswersFromBuffers key.now e r self.old answer self.new) }
         ensures gives { IsTrue (D.honest self.old.device) → IfOk result (λ answer. StepGives
             (ask_log key.now (lane_of D.held self.old)) (lane_of D.held self.old) answer
             (lane_of D.held self.new)) }
@@ -98,8 +90,16 @@ impl<D: PageDevice<PAGE>, const PAGE: usize> Store<D, PAGE> {
         ensures unasked { IfThen (AreBuffered self.old.log
             (of_tag placed.now.set placed.now.tag self.old.log.entries))
             (self.new.device ≡ self.old.device) }
-        ensures in_buffer { LogLookLeaves self.old.log placed.now.set placed.now.tag result
+        ensures in_log { LogLookLeaves self.old.log placed.now.set placed.now.tag result
             self.new.log (self.new.device ≡ self.old.device) }
+        ensures in_buffers { (e : Entry) → (r : Rec) →
+            IsInBuffers PAGE self.old.log placed.now.set placed.now.tag key.now e r →
+            IfOk result (λ looked. (looked ≡ Looked.Hit r.value)
+            × IsLowered placed.now.set e self.old self.new) }
+        ensures rest { self.new ≡ record self.old {
+          device = self.new.device;
+          log = self.new.log;
+        } }
         ensures tells { IsTrue (D.honest self.old.device) → IfOk result (λ looked. LogTells key.now
             (lane_of D.held self.old) looked (lane_of D.held self.new)) }
     {
@@ -117,6 +117,7 @@ impl<D: PageDevice<PAGE>, const PAGE: usize> Store<D, PAGE> {
         ensures unasked { IfThen
             (lets_show (notes_of self.old.sets placed.now.set) placed.now.hash ≡ false)
             (self.new.device ≡ self.old.device) }
+        ensures memory { self.new.memory ≡ self.old.memory }
         ensures missed { IfOk result (λ answer. KeepsIfMiss answer self.old self.new) }
         ensures not_of_log { IfOk result IsNotOfLog }
         ensures gives { IsTrue (D.honest self.old.device) → IfOk result (λ answer. StepGives

@@ -1,12 +1,11 @@
 // A whole move.
-ghost use Rattle.std.specs.Prelude.{◌≡◌, ◌≢◌, ◌⊎◌, ◌+◌, None, Ok, IfOk, OnErr, IsTrue, IsSomeAnd};
+ghost use Rattle.std.specs.Prelude.{◌≡◌, None, Ok, IfOk, OnOk, OnErr, IsTrue, IsSomeAnd};
+ghost use Rattle.policy_laws.specs.Laws.{IsLawful};
 ghost use Rattle.page_device.specs.Device.{faults_after};
-ghost use Rattle.mover.specs.Store.{KeepsTiers};
-ghost use Rattle.mover.specs.declared.moved.Moved.{Moved};
 ghost use Rattle.mover.specs.Lane.{lane_of};
-ghost use Rattle.mover.specs.Visible.{ShowsFrom};
-ghost use Rattle.mover.specs.Begin.{lane_counted, IsJustBegun};
-ghost use Rattle.mover.specs.Whole.{MoveGives, EndGives, MovesBusy, is_failed};
+ghost use Rattle.mover.specs.Begin.{IsJustBegun};
+ghost use Rattle.mover.specs.Whole.{EndGives, EndLeaves, is_failed};
+ghost use Rattle.mover.specs.Calls.{StoreMoves};
 
 use super::Store;
 use crate::begin::Begin;
@@ -23,22 +22,8 @@ impl<D: PageDevice<PAGE>, const PAGE: usize> Store<D, PAGE> {
     /// Where memory is refused the tiers stay as they were. Where it is the policy that is refused, a move began, is given
     /// up, and its number is not given again.
     pub fn move_whole<P: EvictionPolicy>(&mut self, policy: &P) -> Result<Moved, AllocError>
-        ensures layout { self.new.layout ≡ self.old.layout }
-        ensures honest { D.honest self.new.device ≡ D.honest self.old.device }
-        ensures faults { IsTrue (D.honest self.old.device) → D.failures self.new.device
-            ≡ faults_after (D.failures self.old.device) (is_failed result) }
-        ensures busy { MovesBusy self.old.flight result (self.new ≡ self.old) }
-        ensures out_of_memory { OnErr result (KeepsTiers self.old self.new) }
-        ensures number { OnErr result ((self.new.moves ≡ self.old.moves)
-            ⊎ (self.new.moves ≡ self.old.moves + 1)) }
-        ensures lane_stays { IsTrue (D.honest self.old.device) →
-            OnErr result ((lane_of D.held self.new ≡ lane_of D.held self.old)
-            ⊎ (lane_of D.held self.new ≡ lane_counted (lane_of D.held self.old))) }
-        ensures gives { IsTrue (D.honest self.old.device) → IfOk result (λ moved. MoveGives PAGE
-            self.old.layout.threshold (P.plan_of policy.now) (lane_of D.held self.old) moved
-            (lane_of D.held self.new)) }
-        ensures shows { IsTrue (D.honest self.old.device) →
-            ShowsFrom None None (lane_of D.held self.old) (lane_of D.held self.new) }
+        ensures { StoreMoves PAGE D.honest D.failures D.held (P.plan_of policy.now) self.old result
+            self.new }
     {
         match self.move_begin()? {
             Begin::Nothing => Ok(Moved::Nothing),
@@ -61,13 +46,14 @@ impl<D: PageDevice<PAGE>, const PAGE: usize> Store<D, PAGE> {
         ensures honest { D.honest self.new.device ≡ D.honest self.old.device }
         ensures faults { IfOk result (λ moved. D.failures self.new.device
             ≡ faults_after (D.failures self.old.device) (is_failed (Ok moved))) }
-        ensures free { result ≢ Ok Moved.Busy }
         ensures err { OnErr result (self.new ≡ record self.old { flight = None }) }
+        ensures lawful { OnOk result
+            (IsLawful job.now (P.plan_of policy.now job.now)) }
+        ensures leaves { IfOk result (λ moved.
+            EndLeaves (P.plan_of policy.now job.now) self.old moved self.new) }
         ensures gives { IsTrue (D.honest self.old.device) → IfOk result (λ moved.
             EndGives (P.plan_of policy.now job.now) (lane_of D.held self.old) moved
             (lane_of D.held self.new)) }
-        ensures shows { IsTrue (D.honest self.old.device) →
-            ShowsFrom None None (lane_of D.held self.old) (lane_of D.held self.new) }
     {
         let Ok(plan) = policy.choose(self.alloc, job) else {
             let _aborted = self.move_abort(job.number);

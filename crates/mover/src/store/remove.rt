@@ -1,10 +1,10 @@
 // Removing a key.
-ghost use Rattle.std.specs.Prelude.{◌≡◌, None, Some, IfSome, IsTrue};
+ghost use Rattle.std.specs.Prelude.{◌≡◌};
 ghost use Rattle.klog.specs.Shown.{place_in};
 ghost use Rattle.kset.specs.Sets.{IsPlaceIn};
 ghost use Rattle.mover.specs.Lane.{lane_of};
-ghost use Rattle.mover.specs.Strike.{struck_at, removed};
-ghost use Rattle.mover.specs.Visible.{ShowsFrom, IsLogPlaced};
+ghost use Rattle.mover.specs.Strike.{struck_at};
+ghost use Rattle.mover.specs.Calls.{StoreRemoves};
 
 use super::Store;
 use crate::flight::Flight;
@@ -16,11 +16,7 @@ use set_hash::{Placed, place};
 impl<D: PageDevice<PAGE>, const PAGE: usize> Store<D, PAGE> {
     /// The key's pair leaves every tier. No call of the device is made, and no memory taken.
     pub fn remove(&mut self, key: &Key)
-        ensures layout { self.new.layout ≡ self.old.layout }
-        ensures device { self.new.device ≡ self.old.device }
-        ensures removed { lane_of D.held self.new ≡ removed key.now (lane_of D.held self.old) }
-        ensures shows { IsTrue (D.honest self.old.device) →
-            ShowsFrom (Some key.now) None (lane_of D.held self.old) (lane_of D.held self.new) }
+        ensures { StoreRemoves D.held key.now self.old self.new }
     {
         let placed = self.place(key);
         self.memory.remove(key);
@@ -29,11 +25,7 @@ impl<D: PageDevice<PAGE>, const PAGE: usize> Store<D, PAGE> {
 
     /// The key's pair leaves every tier, as `remove` has it. No call of the device is made, and no memory taken.
     pub fn forget(&mut self, key: &Key)
-        ensures layout { self.new.layout ≡ self.old.layout }
-        ensures device { self.new.device ≡ self.old.device }
-        ensures removed { lane_of D.held self.new ≡ removed key.now (lane_of D.held self.old) }
-        ensures shows { IsTrue (D.honest self.old.device) →
-            ShowsFrom (Some key.now) None (lane_of D.held self.old) (lane_of D.held self.new) }
+        ensures { StoreRemoves D.held key.now self.old self.new }
     {
         self.remove(key);
     }
@@ -55,17 +47,13 @@ impl<D: PageDevice<PAGE>, const PAGE: usize> Store<D, PAGE> {
     pub(super) fn place(&self, key: &Key) -> Placed
         ensures at { result ≡ place_in self.now.log.shape key.now }
         ensures its { IsPlaceIn self.now.sets result }
-        ensures live { IsTrue (D.honest self.now.device) → IsLogPlaced (lane_of D.held self.now) }
-        ensures flying { IfSome self.now.flight (IsFlightOf self.now.log.shape self.now.moves) }
     {
-        // That live records are placed is known from the log's length.
-        let _live = self.log.len();
         place(&self.layout, key.bytes())
     }
 }
 
 ghost use Rattle.std.specs.Option.{option_map};
-ghost use Rattle.mover.specs.Flight.{flight_struck, IsFlightOf};
+ghost use Rattle.mover.specs.Flight.{flight_struck};
 
 // A key of this hash is struck in the move in flight, if there is one.
 fn strike_flight(flight: &mut Option<Flight>, hash: u64)

@@ -1,8 +1,7 @@
 -- The lane after a move ended, or was not to end.
-use Rattle.std.proofs.Common.{◌≡◌, None, subst}
-use Rattle.std.specs.Prelude.{IsTrue}
+use Rattle.std.proofs.Common.{None, subst}
 use Rattle.mover.specs.Lane.{lane_of}
-use Rattle.mover.specs.Visible.{ShowsFrom}
+use Rattle.mover.specs.Calls.{StoreCommits}
 use Rattle.history_recorder.specs.Lane.{Lane}
 use Rattle.history_recorder.proofs.Sounding.{recorded_step}
 use Rattle.history_recorder.proofs.Ending.{commit_keeps_layout}
@@ -13,13 +12,10 @@ invariant_of-self g c =
     let d = g.D.PageDevice in
     let old : Lane g.row.D.Denot = record { store = c.self.inside.store; lane = c.self.inside.lane; calls = c.self.inside.calls } in
     let ended = c.move_commit.ensures in
-    recorded_step d.honest d.held old c.self.invariant None c.move_commit.new.self (commit_keeps_layout c.args.plan.now old.store c.move_commit.result c.move_commit.new.self ended.leaves) ended.honest ended.shows
+    recorded_step d.honest d.held old c.self.invariant None c.move_commit.new.self (commit_keeps_layout c.args.plan.now old.store c.move_commit.result c.move_commit.new.self ended.leaves) ended.honesty
+    (λ is. c.commit_shows.ensures g.row.PAGE c.args.plan.now c.args.number (lane_of d.held old.store) (lane_of d.held c.move_commit.new.self) c.move_commit.result (c.self.invariant.order is) (ended.gives is))
 
-pub returns-clause-layout : goal.returns-clause-layout
-returns-clause-layout g c =
-    subst (λ (old : Lane g.row.D.Denot). c.move_commit.new.self.layout ≡ old.store.layout) c.self.view_is (commit_keeps_layout c.args.plan.now c.self.inside.store c.move_commit.result c.move_commit.new.self c.move_commit.ensures.leaves)
-
-pub returns-clause-shows : goal.returns-clause-shows
-returns-clause-shows g c =
+pub returns-clause-commits : goal.returns-clause-commits
+returns-clause-commits g c =
     let d = g.D.PageDevice in
-    subst (λ (old : Lane g.row.D.Denot). IsTrue (d.honest old.store.device) → ShowsFrom None None (lane_of d.held old.store) (lane_of d.held c.move_commit.new.self)) c.self.view_is c.move_commit.ensures.shows
+    subst (λ (old : Lane g.row.D.Denot). StoreCommits g.row.PAGE d.honest d.failures d.held c.args.plan.now c.args.number old.store c.move_commit.result c.move_commit.new.self) c.self.view_is c.move_commit.ensures

@@ -7,5 +7,4 @@ pub invariant_of-result : goal.invariant_of-result
 invariant_of-result g c =
     let d = g.D.PageDevice in
     let told = c.in_ok-store.ensures.opening in
-    opened d.honest d.held c.in_ok-store.store c.args.lane c.new.result (subst (λ n. c.args.lane < n) (sym told.0.lanes) c.requires) c.new.ensures
-    c.in_ok-store.ensures.shows
+    opened d.honest d.held c.in_ok-store.store c.args.device c.args.lane c.new.result (subst (λ n. c.args.lane < n) (sym told.0.lanes) c.requires) c.new.ensures told.1 c.opening_shows_nothing.ensures

@@ -1,8 +1,8 @@
 -- The lane after a removal that was recorded.
-use Rattle.std.proofs.Common.{◌<◌, Some, None, refl, ap, sym, subst, arith}
-use Rattle.std.specs.Prelude.{All, IsTrue}
+use Rattle.std.proofs.Common.{◌<◌, refl, ap, sym, subst, arith}
+use Rattle.std.specs.Prelude.{All}
 use Rattle.mover.specs.Lane.{lane_of}
-use Rattle.mover.specs.Visible.{ShowsFrom}
+use Rattle.mover.specs.Calls.{StoreRemoves}
 use Rattle.trace_file.specs.declared.act.Act.TheVariants.{Remove}
 use Rattle.history_recorder.specs.declared.noted.Noted.{Noted}
 use Rattle.history_recorder.specs.Lane.{Lane, IsOfLane}
@@ -18,9 +18,10 @@ invariant_of-self-2 g c =
     let own = subst (λ (l : Lane g.row.D.Denot). IsOfLane l.store.layout l.lane c.args.key.now) (sym c.self.view_is) c.requires.own in
     recorded_remove d.honest d.held old c.self.invariant n c.remove.new.self c.push.new.self c.in_ok-push.ensures.ok c.remove.ensures.layout (ap d.honest c.remove.ensures.device) c.requires.start rises
     (subst (IsOfLane old.store.layout old.lane) (sym c.in_ok-try_clone.ensures) own)
-    (omega arith) c.args.key.now c.in_ok-try_clone.ensures refl c.remove.ensures.shows
+    (omega arith) c.args.key.now c.in_ok-try_clone.ensures refl
+    (λ is. c.removal_shows.ensures c.args.key.now (lane_of d.held old.store) (lane_of d.held c.remove.new.self) (c.self.invariant.order is) c.remove.ensures.removed)
 
-pub returns-clause-shows : goal.returns-clause-shows
-returns-clause-shows g c =
+pub returns-clause-removes : goal.returns-clause-removes
+returns-clause-removes g c =
     let d = g.D.PageDevice in
-    subst (λ (old : Lane g.row.D.Denot). IsTrue (d.honest old.store.device) → ShowsFrom (Some c.args.key.now) None (lane_of d.held old.store) (lane_of d.held c.remove.new.self)) c.self.view_is c.remove.ensures.shows
+    subst (λ (old : Lane g.row.D.Denot). StoreRemoves d.held c.args.key.now old.store c.remove.new.self) c.self.view_is c.remove.ensures

@@ -10,9 +10,8 @@ returns-clause-spelled g c = λ held h.
     c.put-2.ensures.spelled held (c.seal.ensures.spelled held (subst (IsSpelledOn g.row.PAGE held) (sym c.if-put.ensures.same) h))
 
 pub returns-clause-shown : goal.returns-clause-shown
-returns-clause-shown g c = λ held h.
+returns-clause-shown g c = λ held.
     let same = c.if-put.ensures.same in
-    let spelled : IsSpelledOn g.row.PAGE held c.put.new.self = subst (IsSpelledOn g.row.PAGE held) (sym same) h in
     live_anew g.row.PAGE held c.args.self.now c.seal.new.self c.put-2.new.self (record_shown c.args.added) c.put-2.result
-    (sym c.put.ensures.can ∙ c.if-put.false) (c.seal.ensures.sealed ∙ ap sealed same) (c.seal.ensures.shown held spelled ∙ ap (live_on held) same)
-    (c.put-2.ensures.shown held (c.seal.ensures.spelled held spelled)) c.put-2.ensures.same
+    (sym c.put.ensures.can ∙ c.if-put.false) (c.seal.ensures.sealed ∙ ap sealed same) (c.seal.ensures.shown held ∙ ap (live_on held) same)
+    (c.put-2.ensures.shown held) c.put-2.ensures.same

@@ -10,20 +10,20 @@ use Rattle.klog.proofs.log.KLog.fetch.Goals as goal
 use Rattle.klog.proofs.log.KLog.fetch.Goals.{else-self-via-then-self+else-number-flushed_number, else-self-via-else-self}
 
 pub returns-then-number-filled_number-clause-gives : goal.returns-then-number-filled_number-clause-gives
-returns-then-number-filled_number-clause-gives g c = λ honest had.
-    filled_gives g.row.PAGE (g.D.PageDevice.held c.args.device.now) _ c.args.self.now c.args.entry.now _ c.checked.result c.self.view_is
+returns-then-number-filled_number-clause-gives g c = λ known knows had.
+    filled_gives g.row.PAGE known _ c.args.self.now c.args.entry.now _ c.checked.result c.self.view_is
     (sym c.number_of-number.ensures ∙ c.if-number-filled_number.true ∙ c.filled_number.ensures.number) c.record_in.ensures.value c.checked.ensures.gives
 
 pub returns-then-number-flushed_number-clause-gives : goal.returns-then-number-flushed_number-clause-gives
-returns-then-number-flushed_number-clause-gives g c = λ honest had.
-    flushed_gives g.row.PAGE (g.D.PageDevice.held c.args.device.now) _ c.args.self.now c.args.entry.now _ c.checked-then-number-flushed_number.result c.self.view_is
+returns-then-number-flushed_number-clause-gives g c = λ known knows had.
+    flushed_gives g.row.PAGE known _ c.args.self.now c.args.entry.now _ c.checked-then-number-flushed_number.result c.self.view_is
     (λ same. c.if-number-filled_number.false (c.number_of-number.ensures ∙ same ∙ sym c.filled_number.ensures.number))
     (sym (ap (λ (k : LogState). k.is_flushing) c.self.view_is) ∙ c.if-self.true)
     (sym c.number_of-number.ensures ∙ c.if-number-flushed_number.true ∙ c.flushed_number.ensures.number)
     c.record_in-then-number-flushed_number.ensures.value c.checked-then-number-flushed_number.ensures.gives
 
 pub returns-clause-gives : goal.returns-clause-gives
-returns-clause-gives g c = λ honest had.
+returns-clause-gives g c = λ known knows had.
     let k = c.args.self.now in
     let e = c.args.entry.now in
     let not_filled : segment_of k e ≢ filled_number k = λ same. c.if-number-filled_number.false (c.number_of-number.ensures ∙ same ∙ sym c.filled_number.ensures.number) in
@@ -33,5 +33,5 @@ returns-clause-gives g c = λ honest had.
     ] in
     let stored : IsStored k e = record { not_filled = not_filled; not_flushed = not_flushed } in
     subst (λ (o : Option Rec). FetchGives g.row.PAGE k.shape e o c.fetch_stored.result)
-    (sym (stored_shows (g.D.PageDevice.held c.args.device.now) k e stored))
-    (c.fetch_stored.ensures.gives honest (page_known (g.D.PageDevice.held c.args.device.now) k e stored had))
+    (sym (stored_shows known k e stored))
+    (c.fetch_stored.ensures.gives known knows (page_known known k e stored had))

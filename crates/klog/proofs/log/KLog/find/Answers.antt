@@ -11,16 +11,17 @@ use Rattle.klog.specs.Known.{is_buffered}
 use Rattle.klog.specs.declared.told.Told.{Told}
 use Rattle.page_device.specs.Device.{faults_after}
 use Rattle.klog.proofs.CallLaws.{unbuffered}
+use Rattle.klog.proofs.KnownLaws.{all_held, held_still}
 use Rattle.klog.specs.Keeps.{IsLog}
 use Rattle.klog.proofs.OrderLaws.{newer_buffered}
 use Rattle.klog.proofs.LookLaws.{turn_at, turn_rest, turn_listed, turn_its, turn_buffered, turn_before, turn_first, turn_tells, turn_reached, turn_other, turns_over, finds_of, got, got_none, all_left, all_seen}
 use Rattle.klog.proofs.log.KLog.find.Goals as goal
 
 pub returns-in_default-clause-finds_at : goal.returns-in_default-clause-finds_at
-returns-in_default-clause-finds_at g c = λ honest.
-    turns_over g.row.PAGE (g.D.PageDevice.held c.args.device.now) c.args.self.now c.args.placed.now.set c.args.placed.now.tag c.args.key.now c.loop.counter
+returns-in_default-clause-finds_at g c = λ known knows.
+    turns_over g.row.PAGE known c.args.self.now c.args.placed.now.set c.args.placed.now.tag c.args.key.now c.loop.counter
     (got_none c.args.self.now c.args.placed.now.set c.args.placed.now.tag c.loop.counter _ c.loop.invariant.rest c.in_default.ensures.0)
-    (c.loop.invariant.newer honest)
+    (c.loop.invariant.newer known knows)
 
 pub returns-in_default-clause-buffered : goal.returns-in_default-clause-buffered
 returns-in_default-clause-buffered g c = λ all.
@@ -28,7 +29,9 @@ returns-in_default-clause-buffered g c = λ all.
 
 pub returns-in_default-clause-finds : goal.returns-in_default-clause-finds
 returns-in_default-clause-finds g c = λ honest spelled.
-    finds_of g.row.PAGE (g.D.PageDevice.held c.args.device.now) c.args.self.now c.args.key.now c.args.placed.now found.Absent c.requires.place (returns-in_default-clause-finds_at g c honest) spelled
+    let held = g.D.PageDevice.held c.args.device.now in
+    let knows = all_held g.D.PageDevice.honest g.D.PageDevice.held c.args.device.now honest in
+    finds_of g.row.PAGE held c.args.self.now c.args.key.now c.args.placed.now found.Absent c.requires.place (returns-in_default-clause-finds_at g c held knows) spelled
 
 pub ask-requires : goal.ask-requires
 ask-requires g c =
@@ -44,18 +47,17 @@ returns-in_err-ask-clause-buffered g c = λ all.
     c.ask.ensures.buffered (turn_buffered k c.args.placed.now.set c.args.placed.now.tag c.loop.counter c.in-Some.entry at all) ∙ c.loop.invariant.buffered (turn_before k c.args.placed.now.set c.args.placed.now.tag c.loop.counter all)
 
 pub returns-in_err-ask-clause-finds_at : goal.returns-in_err-ask-clause-finds_at
-returns-in_err-ask-clause-finds_at g c = λ honest.
+returns-in_err-ask-clause-finds_at g c = λ known knows.
     let k = c.args.self.now in
     let at = turn_at k c.args.placed.now.set c.args.placed.now.tag c.loop.counter c.in-Some.entry _ _ c.loop.invariant.rest c.in-Some.ensures in
-    let held = g.D.PageDevice.held c.args.device.now in
-    let on : IsTrue (g.D.PageDevice.honest c.loop.device) = subst (λ (b : Bool). IsTrue b) (sym c.loop.invariant.honest) honest in
+    let on = held_still g.D.PageDevice.honest g.D.PageDevice.held c.args.device.now c.loop.device known c.loop.invariant.honest c.loop.invariant.same knows in
     let failed = err_from_is_err_and c.from_residual.result c.from_residual.ensures.1 in
-    let finds : FindsAt g.row.PAGE held k c.args.placed.now.set c.args.placed.now.tag c.args.key.now (Err failed.0) = (
+    let finds : FindsAt g.row.PAGE known k c.args.placed.now.set c.args.placed.now.tag c.args.key.now (Err failed.0) = (
       c.in-Some.entry,
-      turn_reached g.row.PAGE held k c.args.placed.now.set c.args.placed.now.tag c.args.key.now c.loop.counter c.in-Some.entry at (c.loop.invariant.newer honest),
-      turn_tells g.row.PAGE held (g.D.PageDevice.held c.loop.device) k c.args.key.now c.in-Some.entry (Err failed.0) (Err failed.0) (c.loop.invariant.same honest) refl (c.in_err-ask.ensures.tells on),
+      turn_reached g.row.PAGE known k c.args.placed.now.set c.args.placed.now.tag c.args.key.now c.loop.counter c.in-Some.entry at (c.loop.invariant.newer known knows),
+      turn_tells g.row.PAGE known k c.args.key.now c.in-Some.entry (Err failed.0) (Err failed.0) refl (c.in_err-ask.ensures.tells known on),
     ) in
-    subst (FindsAt g.row.PAGE held k c.args.placed.now.set c.args.placed.now.tag c.args.key.now) (sym failed.1) finds
+    subst (FindsAt g.row.PAGE known k c.args.placed.now.set c.args.placed.now.tag c.args.key.now) (sym failed.1) finds
 
 pub returns-in-Fault-clause-buffered : goal.returns-in-Fault-clause-buffered
 returns-in-Fault-clause-buffered g c = λ all.
@@ -64,13 +66,12 @@ returns-in-Fault-clause-buffered g c = λ all.
     c.ask.ensures.buffered (turn_buffered k c.args.placed.now.set c.args.placed.now.tag c.loop.counter c.in-Some.entry at all) ∙ c.loop.invariant.buffered (turn_before k c.args.placed.now.set c.args.placed.now.tag c.loop.counter all)
 
 pub returns-in-Fault-clause-finds_at : goal.returns-in-Fault-clause-finds_at
-returns-in-Fault-clause-finds_at g c = λ honest.
+returns-in-Fault-clause-finds_at g c = λ known knows.
     let k = c.args.self.now in
     let at = turn_at k c.args.placed.now.set c.args.placed.now.tag c.loop.counter c.in-Some.entry _ _ c.loop.invariant.rest c.in-Some.ensures in
-    let held = g.D.PageDevice.held c.args.device.now in
     let failed = subst (λ (t : Told). g.D.PageDevice.failures c.ask.new.device ≡ faults_after (g.D.PageDevice.failures c.loop.device) (is_told_fault (Ok t))) c.in-Fault.is c.in_ok-ask.ensures.faults in (
       c.in-Some.entry,
-      turn_reached g.row.PAGE held k c.args.placed.now.set c.args.placed.now.tag c.args.key.now c.loop.counter c.in-Some.entry at (c.loop.invariant.newer honest),
+      turn_reached g.row.PAGE known k c.args.placed.now.set c.args.placed.now.tag c.args.key.now c.loop.counter c.in-Some.entry at (c.loop.invariant.newer known knows),
       unbuffered (is_buffered k c.in-Some.entry) (g.D.PageDevice.failures c.loop.device) (g.D.PageDevice.failures c.ask.new.device) (λ b. ap g.D.PageDevice.failures (c.ask.ensures.buffered b)) failed,
     )
 
@@ -81,20 +82,20 @@ returns-in-Damaged-clause-buffered g c = λ all.
     c.ask.ensures.buffered (turn_buffered k c.args.placed.now.set c.args.placed.now.tag c.loop.counter c.in-Some.entry at all) ∙ c.loop.invariant.buffered (turn_before k c.args.placed.now.set c.args.placed.now.tag c.loop.counter all)
 
 pub returns-in-Damaged-clause-finds_at : goal.returns-in-Damaged-clause-finds_at
-returns-in-Damaged-clause-finds_at g c = λ honest.
+returns-in-Damaged-clause-finds_at g c = λ known knows.
     let k = c.args.self.now in
     let at = turn_at k c.args.placed.now.set c.args.placed.now.tag c.loop.counter c.in-Some.entry _ _ c.loop.invariant.rest c.in-Some.ensures in
-    let held = g.D.PageDevice.held c.args.device.now in
-    let on : IsTrue (g.D.PageDevice.honest c.loop.device) = subst (λ (b : Bool). IsTrue b) (sym c.loop.invariant.honest) honest in (
+    let on = held_still g.D.PageDevice.honest g.D.PageDevice.held c.args.device.now c.loop.device known c.loop.invariant.honest c.loop.invariant.same knows in (
       c.in-Some.entry,
-      turn_reached g.row.PAGE held k c.args.placed.now.set c.args.placed.now.tag c.args.key.now c.loop.counter c.in-Some.entry at (c.loop.invariant.newer honest),
-      turn_tells g.row.PAGE held (g.D.PageDevice.held c.loop.device) k c.args.key.now c.in-Some.entry (Ok c.in_ok-ask.field-0) (Ok told.Damaged)
-          (c.loop.invariant.same honest) (ap Ok c.in-Damaged.is) (c.in_ok-ask.ensures.tells on),
+      turn_reached g.row.PAGE known k c.args.placed.now.set c.args.placed.now.tag c.args.key.now c.loop.counter c.in-Some.entry at (c.loop.invariant.newer known knows),
+      turn_tells g.row.PAGE known k c.args.key.now c.in-Some.entry (Ok c.in_ok-ask.field-0) (Ok told.Damaged) (ap Ok c.in-Damaged.is) (c.in_ok-ask.ensures.tells known on),
     )
 
 pub returns-in-Damaged-clause-finds : goal.returns-in-Damaged-clause-finds
 returns-in-Damaged-clause-finds g c = λ honest spelled.
-    finds_of g.row.PAGE (g.D.PageDevice.held c.args.device.now) c.args.self.now c.args.key.now c.args.placed.now found.Damaged c.requires.place (returns-in-Damaged-clause-finds_at g c honest) spelled
+    let held = g.D.PageDevice.held c.args.device.now in
+    let knows = all_held g.D.PageDevice.honest g.D.PageDevice.held c.args.device.now honest in
+    finds_of g.row.PAGE held c.args.self.now c.args.key.now c.args.placed.now found.Damaged c.requires.place (returns-in-Damaged-clause-finds_at g c held knows) spelled
 
 pub returns-in-Hit-clause-its : goal.returns-in-Hit-clause-its
 returns-in-Hit-clause-its g c =
@@ -112,19 +113,19 @@ returns-in-Hit-clause-buffered g c = λ all.
     c.ask.ensures.buffered (turn_buffered k c.args.placed.now.set c.args.placed.now.tag c.loop.counter c.in-Some.entry at all) ∙ c.loop.invariant.buffered (turn_before k c.args.placed.now.set c.args.placed.now.tag c.loop.counter all)
 
 pub returns-in-Hit-clause-finds_at : goal.returns-in-Hit-clause-finds_at
-returns-in-Hit-clause-finds_at g c = λ honest.
+returns-in-Hit-clause-finds_at g c = λ known knows.
     let k = c.args.self.now in
     let at = turn_at k c.args.placed.now.set c.args.placed.now.tag c.loop.counter c.in-Some.entry _ _ c.loop.invariant.rest c.in-Some.ensures in
-    let held = g.D.PageDevice.held c.args.device.now in
-    let on : IsTrue (g.D.PageDevice.honest c.loop.device) = subst (λ (b : Bool). IsTrue b) (sym c.loop.invariant.honest) honest in (
-      turn_reached g.row.PAGE held k c.args.placed.now.set c.args.placed.now.tag c.args.key.now c.loop.counter c.in-Some.entry at (c.loop.invariant.newer honest),
-      turn_tells g.row.PAGE held (g.D.PageDevice.held c.loop.device) k c.args.key.now c.in-Some.entry (Ok c.in_ok-ask.field-0) (Ok (told.Hit c.in-Hit.value))
-          (c.loop.invariant.same honest) (ap Ok c.in-Hit.is) (c.in_ok-ask.ensures.tells on),
+    let on = held_still g.D.PageDevice.honest g.D.PageDevice.held c.args.device.now c.loop.device known c.loop.invariant.honest c.loop.invariant.same knows in (
+      turn_reached g.row.PAGE known k c.args.placed.now.set c.args.placed.now.tag c.args.key.now c.loop.counter c.in-Some.entry at (c.loop.invariant.newer known knows),
+      turn_tells g.row.PAGE known k c.args.key.now c.in-Some.entry (Ok c.in_ok-ask.field-0) (Ok (told.Hit c.in-Hit.value)) (ap Ok c.in-Hit.is) (c.in_ok-ask.ensures.tells known on),
     )
 
 pub returns-in-Hit-clause-finds : goal.returns-in-Hit-clause-finds
 returns-in-Hit-clause-finds g c = λ honest spelled.
-    finds_of g.row.PAGE (g.D.PageDevice.held c.args.device.now) c.args.self.now c.args.key.now c.args.placed.now (found.Hit c.in-Some.entry c.in-Hit.value) c.requires.place (returns-in-Hit-clause-finds_at g c honest) spelled
+    let held = g.D.PageDevice.held c.args.device.now in
+    let knows = all_held g.D.PageDevice.honest g.D.PageDevice.held c.args.device.now honest in
+    finds_of g.row.PAGE held c.args.self.now c.args.key.now c.args.placed.now (found.Hit c.in-Some.entry c.in-Hit.value) c.requires.place (returns-in-Hit-clause-finds_at g c held knows) spelled
 
 pub loop-preserved : goal.loop-preserved
 loop-preserved g c =
@@ -139,19 +140,17 @@ loop-preserved g c =
           let both = turn_first (λ e. IsTrue (is_buffered k e)) k c.args.placed.now.set c.args.placed.now.tag c.loop.counter c.in-Some.entry at all in
           c.ask.ensures.buffered both.1 ∙ c.loop.invariant.buffered both.0;
       rest = turn_rest k c.args.placed.now.set c.args.placed.now.tag c.loop.counter c.in-Some.entry _ _ c.loop.invariant.rest c.in-Some.ensures;
-      newer = λ honest.
-          let held = g.D.PageDevice.held c.args.device.now in
-          let on : IsTrue (g.D.PageDevice.honest c.loop.device) = subst (λ (b : Bool). IsTrue b) (sym c.loop.invariant.honest) honest in
-          turn_other g.row.PAGE held k c.args.placed.now.set c.args.placed.now.tag c.args.key.now c.loop.counter c.in-Some.entry at (c.loop.invariant.newer honest)
-          (turn_tells g.row.PAGE held (g.D.PageDevice.held c.loop.device) k c.args.key.now c.in-Some.entry (Ok c.in_ok-ask.field-0) (Ok told.Other)
-          (c.loop.invariant.same honest) (ap Ok c.in-Other.is) (c.in_ok-ask.ensures.tells on));
+      newer = λ known knows.
+          let on = held_still g.D.PageDevice.honest g.D.PageDevice.held c.args.device.now c.loop.device known c.loop.invariant.honest c.loop.invariant.same knows in
+          turn_other g.row.PAGE known k c.args.placed.now.set c.args.placed.now.tag c.args.key.now c.loop.counter c.in-Some.entry at (c.loop.invariant.newer known knows)
+          (turn_tells g.row.PAGE known k c.args.key.now c.in-Some.entry (Ok c.in_ok-ask.field-0) (Ok told.Other) (ap Ok c.in-Other.is) (c.in_ok-ask.ensures.tells known on));
     }
 
 pub returns-clause-finds_at : goal.returns-clause-finds_at
-returns-clause-finds_at g c = λ honest.
-    turns_over g.row.PAGE (g.D.PageDevice.held c.args.device.now) c.args.self.now c.args.placed.now.set c.args.placed.now.tag c.args.key.now c.loop.counter
+returns-clause-finds_at g c = λ known knows.
+    turns_over g.row.PAGE known c.args.self.now c.args.placed.now.set c.args.placed.now.tag c.args.key.now c.loop.counter
     (all_seen _ c.args.self.now c.args.placed.now.set c.args.placed.now.tag c.loop.counter c.self.view_is (omega (arith, c.loop-test.false, c.len-end.ensures.len)))
-    (c.loop.invariant.newer honest)
+    (c.loop.invariant.newer known knows)
 
 pub returns-clause-buffered : goal.returns-clause-buffered
 returns-clause-buffered g c = λ all.
@@ -159,7 +158,9 @@ returns-clause-buffered g c = λ all.
 
 pub returns-clause-finds : goal.returns-clause-finds
 returns-clause-finds g c = λ honest spelled.
-    finds_of g.row.PAGE (g.D.PageDevice.held c.args.device.now) c.args.self.now c.args.key.now c.args.placed.now found.Absent c.requires.place (returns-clause-finds_at g c honest) spelled
+    let held = g.D.PageDevice.held c.args.device.now in
+    let knows = all_held g.D.PageDevice.honest g.D.PageDevice.held c.args.device.now honest in
+    finds_of g.row.PAGE held c.args.self.now c.args.key.now c.args.placed.now found.Absent c.requires.place (returns-clause-finds_at g c held knows) spelled
 
 pub loop-init : goal.loop-init
 loop-init g c =
@@ -171,5 +172,5 @@ loop-init g c =
       same = λ honest. refl;
       buffered = λ all. refl;
       rest = all_left _ k c.args.placed.now.set c.args.placed.now.tag c.entries_of-entries.result c.self.view_is c.entries_of-entries.ensures;
-      newer = λ honest. All-nil _;
+      newer = λ known knows. All-nil _;
     }

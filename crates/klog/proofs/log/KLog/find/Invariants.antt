@@ -1,7 +1,7 @@
-use Rattle.std.proofs.Common.{◌≡◌, All, take, drop}
+use Rattle.std.proofs.Common.{◌≡◌, ℕ, List, Option, All, take, drop}
 use Rattle.std.specs.Prelude.{IsTrue}
 use Rattle.klog_index.specs.Entries.{of_tag}
-use Rattle.klog.specs.Known.{AreBuffered}
+use Rattle.klog.specs.Known.{AreHeldBy, AreBuffered}
 use Rattle.klog.specs.Find.{with_tag}
 use Rattle.klog.specs.Look.{ShowsOther}
 use Rattle.klog.proofs.log.KLog.find.Given as goal
@@ -14,6 +14,6 @@ invariant-loop g l = record {
   same : IsTrue (g.D.PageDevice.honest l.initial.device) → g.D.PageDevice.held l.device ≡ g.D.PageDevice.held l.initial.device;
   buffered : AreBuffered l.self (take l.counter (of_tag l.placed.set l.placed.tag l.self.entries)) → l.device ≡ l.initial.device;
   rest : with_tag l.placed.tag l.entries ≡ drop l.counter (of_tag l.placed.set l.placed.tag l.self.entries);
-  newer : IsTrue (g.D.PageDevice.honest l.initial.device)
-      → All (ShowsOther g.row.PAGE (g.D.PageDevice.held l.initial.device) l.self l.key) (take l.counter (of_tag l.placed.set l.placed.tag l.self.entries));
+  newer : (known : ℕ → Option (List ℕ)) → AreHeldBy g.D.PageDevice.honest g.D.PageDevice.held l.initial.device known
+      → All (ShowsOther g.row.PAGE known l.self l.key) (take l.counter (of_tag l.placed.set l.placed.tag l.self.entries));
 }

@@ -43,7 +43,7 @@ returns-clause-spelled g c = λ held h.
     subst (IsSpelledOn g.row.PAGE held) (sym (returns-clause-put g c)) (spelled_put g.row.PAGE (pages_from k.shape.sets held) k (record_shown c.args.added) is c.requires.small c.requires.lawful h)
 
 pub returns-clause-shown : goal.returns-clause-shown
-returns-clause-shown g c = λ held h.
+returns-clause-shown g c = λ held.
     let k = c.args.self.now in
     let is : IsLog k = subst IsLog c.self.view_is c.self.invariant.0 in
     ap (live_on held) (returns-clause-put g c) ∙ live_put g.row.PAGE held k (record_shown c.args.added) is

@@ -15,7 +15,7 @@ returns-clause-spelled g c = λ held h.
     subst (IsSpelledOn g.row.PAGE held) (sym (returns-clause-sealed g c)) (spelled_sealed g.row.PAGE (pages_from k.shape.sets held) k is c.requires.idle h)
 
 pub returns-clause-shown : goal.returns-clause-shown
-returns-clause-shown g c = λ held h.
+returns-clause-shown g c = λ held.
     let k = c.args.self.now in
     let is : IsLog k = subst IsLog c.self.view_is c.self.invariant.0 in
     ap (live_on held) (returns-clause-sealed g c) ∙ live_sealed held k is c.requires.idle

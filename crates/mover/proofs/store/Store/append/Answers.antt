@@ -1,5 +1,4 @@
-use Rattle.std.proofs.Common.{refl, sym, subst}
-use Rattle.std.specs.Prelude.{IsTrue}
+use Rattle.std.proofs.Common.{refl, subst}
 use Rattle.klog.specs.Append.{entering}
 use Rattle.mover.specs.Store.{StoreState}
 use Rattle.mover.specs.Lane.{lane_of}
@@ -16,12 +15,11 @@ invariant_of-self g c =
     s.device c.append-appended.new.self s.sets c.append-appended.ensures.shape refl refl refl (λ is. c.append-appended.ensures.spelled (d.held s.device)) (λ is spelled. spelled) (λ is placed. placed)
 
 pub returns-clause-gives : goal.returns-clause-gives
-returns-clause-gives g c = λ is.
+returns-clause-gives g c =
     let s = c.self.inside in
     let d = g.D.PageDevice in
     let old : StoreState g.row.D.Denot = record { layout = s.layout; device = s.device; memory = s.memory; log = s.log; sets = s.sets; flight = s.flight; moves = s.moves } in
     let new : StoreState g.row.D.Denot = record { layout = s.layout; device = s.device; memory = s.memory; log = c.append-appended.new.self; sets = s.sets; flight = s.flight; moves = s.moves } in
-    let on = subst (λ (x : StoreState g.row.D.Denot). IsTrue (d.honest x.device)) (sym c.self.view_is) is in
     let r = entering c.args.pair.now.key c.args.pair.now.value in
     rw c.pushed_as.ensures (subst (λ (x : StoreState g.row.D.Denot). IsStep (append_step g.row.PAGE r (lane_of d.held x)) (pushed_as c.append-appended.result) (lane_of d.held new)) c.self.view_is
-    (append_told d.held g.row.PAGE old c.append-appended.new.self r c.append-appended.result c.append-appended.ensures.gives (c.append-appended.ensures.shown (d.held s.device) (c.self.invariant.log_spelled on))))
+    (append_told d.held g.row.PAGE old c.append-appended.new.self r c.append-appended.result c.append-appended.ensures.gives (c.append-appended.ensures.shown (d.held s.device))))

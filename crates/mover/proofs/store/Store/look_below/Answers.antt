@@ -2,7 +2,10 @@ use Rattle.std.proofs.Common.{◌≡◌, false, sym, subst, ◌∙◌}
 use Rattle.mover.specs.Lane.{lane_of}
 use Rattle.mover.specs.Store.{OnlyReads}
 use Rattle.mover.specs.Get.{is_fault}
-use Rattle.mover.proofs.Getting.{asks_log, asks_set, not_of_log, hits_in_log, log_hit_gives, log_fault_gives, log_absent_gives, reads_after, missed_after, no_fault}
+use Rattle.mover.proofs.Getting.{asks_log, asks_set, not_of_log, hits_in_log, log_hit_gives, log_fault_gives, log_absent_gives, reads_after, missed_after, no_fault, answers_from_buffers, nothing_else}
+use Rattle.klog.specs.declared.looked.Looked.TheVariants as log
+use Rattle.record_pages.specs.declared.answer.Answer.TheVariants.{Miss}
+use Rattle.record_pages.specs.declared.miss_cause.MissCause.TheVariants.{Fault, Damaged}
 use Rattle.mover.proofs.store.Store.look_below.Goals as goal
 
 pub returns-in_err-value-clause-unasked : goal.returns-in_err-value-clause-unasked
@@ -37,11 +40,11 @@ returns-in_ok-answer-in-Absent-clause-unasked g c = record {
       ∙ c.look_log.ensures.unasked.asks_not (asks_log c.args.key.now c.args.self.now c.place-placed.result c.place-placed.ensures.at asks);
 }
 
-pub returns-in_ok-answer-in-Absent-clause-in_buffer : goal.returns-in_ok-answer-in-Absent-clause-in_buffer
-returns-in_ok-answer-in-Absent-clause-in_buffer g c = not_of_log c.args.key.now c.in_ok-answer-in-Absent.answer c.args.self.now c.look_set.new.self _ c.in_ok-answer-in-Absent.ensures.not_of_log
+pub returns-in_ok-answer-in-Absent-clause-in_log : goal.returns-in_ok-answer-in-Absent-clause-in_log
+returns-in_ok-answer-in-Absent-clause-in_log g c = not_of_log c.args.key.now c.in_ok-answer-in-Absent.answer c.args.self.now c.look_set.new.self _ c.in_ok-answer-in-Absent.ensures.not_of_log
 
-pub returns-in-Hit-clause-in_buffer : goal.returns-in-Hit-clause-in_buffer
-returns-in-Hit-clause-in_buffer g c = hits_in_log c.args.key.now c.in-Hit.value c.args.self.now c.look_log.new.self c.place-placed.result c.in_ok-value.field-0 _ c.place-placed.ensures.at c.in-Hit.is c.in_ok-value.ensures.in_buffer
+pub returns-in-Hit-clause-in_log : goal.returns-in-Hit-clause-in_log
+returns-in-Hit-clause-in_log g c = hits_in_log c.args.key.now c.in-Hit.value c.args.self.now c.look_log.new.self c.place-placed.result c.in_ok-value.field-0 _ c.place-placed.ensures.at c.in-Hit.is c.in_ok-value.ensures.in_log
 
 pub returns-in-Hit-clause-gives : goal.returns-in-Hit-clause-gives
 returns-in-Hit-clause-gives g c = λ is.
@@ -73,3 +76,19 @@ returns-in_err-answer-in-Absent-clause-reads g c =
     let calm : is_fault c.from_residual-in_err-answer-in-Absent.result ≡ false = no_fault c.from_residual-in_err-answer-in-Absent.result c.from_residual-in_err-answer-in-Absent.ensures.0 in
     subst (λ b. OnlyReads d.honest d.failures d.held c.args.self.now b c.look_set.new.self) (sym calm)
     (reads_after d.honest d.failures d.held c.args.self.now c.look_log.new.self c.look_set.new.self c.in_ok-value.field-0 false c.in-Absent.is c.in_ok-value.ensures.reads c.in_err-answer-in-Absent.ensures.reads)
+
+pub returns-in-Hit-clause-in_buffers : goal.returns-in-Hit-clause-in_buffers
+returns-in-Hit-clause-in_buffers g c =
+    answers_from_buffers g.row.PAGE c.args.key.now c.args.self.now c.look_log.new.self c.place-placed.result c.place-placed.ensures.at c.in_ok-value.field-0 c.in_ok-value.ensures.in_buffers c.in-Hit.value c.in-Hit.is
+
+pub returns-in-Fault-clause-in_buffers : goal.returns-in-Fault-clause-in_buffers
+returns-in-Fault-clause-in_buffers g c =
+    nothing_else g.row.PAGE c.args.key.now c.args.self.now c.look_log.new.self c.place-placed.result c.place-placed.ensures.at c.in_ok-value.field-0 c.in_ok-value.ensures.in_buffers (Miss Fault) c.look_log.new.self (λ value is. let no : log.Fault ≡ log.Hit value = sym c.in-Fault.is ∙ is in absurd cc)
+
+pub returns-in-Damaged-clause-in_buffers : goal.returns-in-Damaged-clause-in_buffers
+returns-in-Damaged-clause-in_buffers g c =
+    nothing_else g.row.PAGE c.args.key.now c.args.self.now c.look_log.new.self c.place-placed.result c.place-placed.ensures.at c.in_ok-value.field-0 c.in_ok-value.ensures.in_buffers (Miss Damaged) c.look_log.new.self (λ value is. let no : log.Damaged ≡ log.Hit value = sym c.in-Damaged.is ∙ is in absurd cc)
+
+pub returns-in_ok-answer-in-Absent-clause-in_buffers : goal.returns-in_ok-answer-in-Absent-clause-in_buffers
+returns-in_ok-answer-in-Absent-clause-in_buffers g c =
+    nothing_else g.row.PAGE c.args.key.now c.args.self.now c.look_log.new.self c.place-placed.result c.place-placed.ensures.at c.in_ok-value.field-0 c.in_ok-value.ensures.in_buffers c.in_ok-answer-in-Absent.answer c.look_set.new.self (λ value is. let no : log.Absent ≡ log.Hit value = sym c.in-Absent.is ∙ is in absurd cc)

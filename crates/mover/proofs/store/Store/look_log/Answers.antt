@@ -5,7 +5,10 @@ use Rattle.klog.specs.Known.{AreBuffered}
 use Rattle.mover.specs.Store.{StoreState}
 use Rattle.mover.specs.Lane.{lane_of}
 use Rattle.mover.specs.Get.{LogTells}
-use Rattle.mover.proofs.Getting.{log_told}
+use Rattle.mover.proofs.Getting.{log_told, lowered_store}
+use Rattle.mover.specs.Calls.{IsLowered}
+use Rattle.klog.specs.Look.{IsInBuffers}
+use Rattle.klog.specs.declared.looked.Looked.TheVariants as log
 use Rattle.mover.proofs.Keeping.{kept_log_read}
 use Rattle.mover.proofs.store.Store.look_log.Goals as goal
 
@@ -42,3 +45,11 @@ returns-clause-tells g c = λ is.
     let on = subst (λ (x : StoreState g.row.D.Denot). IsTrue (d.honest x.device)) (sym c.self.view_is) is in
     subst (λ (x : StoreState g.row.D.Denot). LogTells c.args.key.now (lane_of d.held x) c.in_ok-looked.looked (lane_of d.held new)) c.self.view_is
     (log_told d.held old c.look.new.device c.args.key.now (c.look.ensures.same on) c.look.new.self c.in_ok-looked.looked (c.in_ok-looked.ensures.gives on (c.self.invariant.log_spelled on)))
+
+pub returns-clause-in_buffers : goal.returns-clause-in_buffers
+returns-clause-in_buffers g c = λ e r.
+    let s = c.self.inside in
+    let old : StoreState g.row.D.Denot = record { layout = s.layout; device = s.device; memory = s.memory; log = s.log; sets = s.sets; flight = s.flight; moves = s.moves } in
+    let new : StoreState g.row.D.Denot = record { layout = s.layout; device = c.look.new.device; memory = s.memory; log = c.look.new.self; sets = s.sets; flight = s.flight; moves = s.moves } in
+    subst (λ (x : StoreState g.row.D.Denot). IsInBuffers g.row.PAGE x.log c.args.placed.now.set c.args.placed.now.tag c.args.key.now e r → (c.in_ok-looked.looked ≡ log.Hit r.value) × IsLowered c.args.placed.now.set e x new) c.self.view_is
+    (λ here. let it = c.in_ok-looked.ensures.in_buffers e r here in (it.0, lowered_store old c.look.new.device c.look.new.self c.args.placed.now.set e it.1 it.2))

@@ -1,36 +1,51 @@
-use Rattle.std.proofs.Common.{◌≡◌, Ok, sym, ap, subst, ◌∙◌}
-use Rattle.mover.specs.Store.{StoreState}
+use Rattle.std.proofs.Common.{rules, subst, inr}
 use Rattle.mover.specs.Lane.{lane_of}
-use Rattle.mover.specs.Begin.{BeginLeaves, AnswersBusy}
-use Rattle.mover.specs.Whole.{MovesBusy}
-use Rattle.mover.proofs.Beginning.{was_free}
-use Rattle.mover.proofs.Ending.{on_err}
-use Rattle.mover.proofs.Showing.{then}
+use Rattle.mover.specs.Begin.{BeginGives}
+use Rattle.mover.specs.Leaving.{BeginLeaves}
+use Rattle.mover.proofs.Ending.{on_err, after_job, ends_leaves, job_flies, counted_lane, planned_job}
 use Rattle.mover.proofs.store.Store.move_whole.Goals as goal
 
-pub returns-in_err-moved-in-Job-clause-out_of_memory : goal.returns-in_err-moved-in-Job-clause-out_of_memory
-returns-in_err-moved-in-Job-clause-out_of_memory g c =
-    let err = c.in_err-moved-in-Job.ensures.err in
-    let leaves = subst (λ b. BeginLeaves (Ok b) c.args.self.now c.move_begin.new.self) c.in-Job.is c.in_ok-move_begin.ensures.leaves in
-    let free = was_free c.args.self.now.flight c.in-Job.job _ (subst (λ b. AnswersBusy c.args.self.now.flight (Ok b) (c.move_begin.new.self ≡ c.args.self.now)) c.in-Job.is c.in_ok-move_begin.ensures.busy) in
-    on_err c.from_residual-in_err-moved-in-Job.result (record {
-      memory = ap (λ (x : StoreState g.row.D.Denot). x.memory) err ∙ leaves.memory;
-      log = ap (λ (x : StoreState g.row.D.Denot). x.log) err ∙ leaves.log;
-      sets = ap (λ (x : StoreState g.row.D.Denot). x.sets) err ∙ leaves.sets;
-      flight = ap (λ (x : StoreState g.row.D.Denot). x.flight) err ∙ sym free;
-    })
+pub end_by-requires : goal.end_by-requires
+end_by-requires g c =
+    let leaves = subst (λ b. BeginLeaves g.row.PAGE c.args.self.now b c.move_begin.new.self) c.in-Job.is c.in_ok-move_begin.ensures.leaves in
+    (search rules, job_flies g.row.PAGE (g.P.EvictionPolicy.plan_of c.args.policy.now) c.args.self.now c.move_begin.new.self c.move_begin.new.self c.in-Job.job leaves)
 
-pub returns-in_err-moved-in-Job-clause-shows : goal.returns-in_err-moved-in-Job-clause-shows
-returns-in_err-moved-in-Job-clause-shows g c = λ is.
+pub returns-in_err-moved-in-Job : goal.returns-in_err-moved-in-Job
+returns-in_err-moved-in-Job g c =
     let held = g.D.PageDevice.held in
-    then (lane_of held c.args.self.now) (lane_of held c.move_begin.new.self) (lane_of held c.end_by.new.self) (c.move_begin.ensures.shows is) (c.end_by.ensures.shows (c.move_begin.ensures.writes.honesty ∙ is))
+    let plan_of = g.P.EvictionPolicy.plan_of c.args.policy.now in
+    let leaves = subst (λ b. BeginLeaves g.row.PAGE c.args.self.now b c.move_begin.new.self) c.in-Job.is c.in_ok-move_begin.ensures.leaves in
+    let begins = c.in_ok-move_begin.ensures in
+    record {
+      layout = search rules;
+      honesty = search rules;
+      leaves = search rules;
+      out_of_memory = on_err c.from_residual-in_err-moved-in-Job.result (inr (record { job = c.in-Job.job; between = c.move_begin.new.self; begun = leaves; rest = c.in_err-moved-in-Job.ensures.err }));
+      faults = λ is. search rules;
+      gives = λ is. search rules;
+      lane_stays = λ is. on_err c.from_residual-in_err-moved-in-Job.result (inr (counted_lane g.row.PAGE plan_of c.args.self.now c.move_begin.new.self c.end_by.new.self c.in-Job.job leaves held (begins.writes.same is) c.in_err-moved-in-Job.ensures.err));
+      planned = λ is. search rules;
+    }
 
-pub returns-in_ok-moved-in-Job-clause-shows : goal.returns-in_ok-moved-in-Job-clause-shows
-returns-in_ok-moved-in-Job-clause-shows g c = λ is.
+pub returns-in_ok-moved-in-Job : goal.returns-in_ok-moved-in-Job
+returns-in_ok-moved-in-Job g c =
     let held = g.D.PageDevice.held in
-    then (lane_of held c.args.self.now) (lane_of held c.move_begin.new.self) (lane_of held c.end_by.new.self) (c.move_begin.ensures.shows is) (c.end_by.ensures.shows (c.move_begin.ensures.writes.honesty ∙ is))
-
-pub returns-in_ok-moved-in-Job-clause-busy : goal.returns-in_ok-moved-in-Job-clause-busy
-returns-in_ok-moved-in-Job-clause-busy g c =
-    let free = was_free c.args.self.now.flight c.in-Job.job _ (subst (λ b. AnswersBusy c.args.self.now.flight (Ok b) (c.move_begin.new.self ≡ c.args.self.now)) c.in-Job.is c.in_ok-move_begin.ensures.busy) in
-    subst (λ o. MovesBusy o (Ok c.in_ok-moved-in-Job.moved) (c.end_by.new.self ≡ c.args.self.now)) (sym free) c.in_ok-moved-in-Job.ensures.free
+    let plan_of = g.P.EvictionPolicy.plan_of c.args.policy.now in
+    let old = c.args.self.now in
+    let begins = c.in_ok-move_begin.ensures in
+    let leaves = subst (λ b. BeginLeaves g.row.PAGE old b c.move_begin.new.self) c.in-Job.is begins.leaves in
+    let ended = c.in_ok-moved-in-Job.ensures in
+    record {
+      layout = search rules;
+      honesty = search rules;
+      leaves = ends_leaves g.row.PAGE plan_of old c.move_begin.new.self c.end_by.new.self c.in-Job.job leaves c.in_ok-moved-in-Job.moved ended.leaves;
+      out_of_memory = search rules;
+      faults = λ is. search rules;
+      gives = λ is.
+          after_job g.row.PAGE old.layout.threshold plan_of (lane_of held old) (lane_of held c.move_begin.new.self) c.in_ok-move_begin.field-0 (begins.gives is) c.in-Job.job c.in_ok-moved-in-Job.moved (lane_of held c.end_by.new.self) c.in-Job.is
+          (ended.gives (search rules));
+      lane_stays = λ is. search rules;
+      planned = λ is.
+          let gives = subst (λ b. BeginGives g.row.PAGE old.layout.threshold (lane_of held old) b (lane_of held c.move_begin.new.self)) c.in-Job.is (begins.gives is) in
+          planned_job plan_of c.in_ok-moved-in-Job.moved c.in-Job.job _ gives.0 ended.lawful;
+    }

@@ -6,7 +6,8 @@ use Rattle.mover.specs.Store.{StoreState}
 use Rattle.mover.specs.Lane.{lane_of}
 use Rattle.mover.specs.Begin.{LaneReads}
 use Rattle.mover.proofs.Keeping.{kept_set_read}
-use Rattle.mover.proofs.Beginning.{lane_read, not_lost}
+use Rattle.mover.specs.Leaving.{ReadingLeaves}
+use Rattle.mover.proofs.Beginning.{lane_read, not_lost, reading_leaves}
 use Rattle.kset.specs.Laws.{AreOfTheirSets}
 use Rattle.kset.specs.Shown.{visible_in}
 use Rattle.mover.proofs.store.Store.read_set.Goals as goal
@@ -56,3 +57,12 @@ returns-clause-writes g c =
       honesty = c.read_set.ensures.keeps.honest ∙ ap (λ (x : StoreState g.row.D.Denot). d.honest x.device) c.self.view_is;
       same = λ is. c.read_set.ensures.same (subst (λ (x : StoreState g.row.D.Denot). IsTrue (d.honest x.device)) (sym c.self.view_is) is) ∙ ap (λ (x : StoreState g.row.D.Denot). d.held x.device) c.self.view_is;
     }
+
+pub returns-clause-leaves : goal.returns-clause-leaves
+returns-clause-leaves g c =
+    let s = c.self.inside in
+    let old : StoreState g.row.D.Denot = record { layout = s.layout; device = s.device; memory = s.memory; log = s.log; sets = s.sets; flight = s.flight; moves = s.moves } in
+    let new : StoreState g.row.D.Denot = record { layout = s.layout; device = c.read_set.new.device; memory = s.memory; log = s.log; sets = c.read_set.new.self; flight = s.flight; moves = s.moves } in
+    subst (λ (x : StoreState g.row.D.Denot). ReadingLeaves c.args.set x c.in_ok-read.read new) c.self.view_is
+    (reading_leaves old c.read_set.new.device c.read_set.new.self c.args.set c.in_ok-read.read c.in_ok-read.ensures.leaves
+    (λ none. not_lost c.in_ok-read.read (Ok c.in_ok-read.read) (c.in_ok-read.ensures.unread none).0 refl))

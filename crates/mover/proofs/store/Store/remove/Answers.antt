@@ -1,9 +1,4 @@
-use Rattle.std.proofs.Common.{rules, ap, subst, sym}
-use Rattle.mover.specs.Lane.{lane_of}
-use Rattle.mover.specs.Strike.{removed}
-use Rattle.mover.specs.Visible.{ShowsFrom}
-use Rattle.std.proofs.Common.{Some, None}
-use Rattle.mover.proofs.Showing.{removed_shows, others}
+use Rattle.std.proofs.Common.{rules, ap}
 use Rattle.memory_cache.specs.MemoryList.{MemoryList}
 use Rattle.mover.proofs.Keeping.{kept_memory, small_removed}
 use Rattle.mover.proofs.store.Store.remove.Goals as goal
@@ -16,12 +11,5 @@ invariant_of-self g c =
     c.remove.new.self (ap (λ (m : MemoryList). m.capacity) c.remove.ensures.after)
     (small_removed g.row.PAGE s.memory c.remove.new.self c.args.key.now c.remove.ensures.after c.self.invariant.small)
 
-pub returns-clause-removed : goal.returns-clause-removed
-returns-clause-removed g c = search rules
-
-pub returns-clause-shows : goal.returns-clause-shows
-returns-clause-shows g c = λ is.
-    let d = g.D.PageDevice in
-    let key = c.args.key.now in
-    let old = lane_of d.held c.args.self.now in
-    subst (ShowsFrom (Some key) None old) (sym (returns-clause-removed g c)) (others key old (removed key old) (removed_shows key old (c.place-placed.ensures.live is) c.place-placed.ensures.flying))
+pub returns : goal.returns
+returns g c = search rules

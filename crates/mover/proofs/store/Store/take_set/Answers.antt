@@ -4,7 +4,8 @@ use Rattle.mover.specs.Store.{StoreState}
 use Rattle.mover.specs.Lane.{lane_of}
 use Rattle.mover.specs.Begin.{LaneTakes}
 use Rattle.mover.proofs.Keeping.{kept_log_read}
-use Rattle.mover.proofs.Beginning.{lane_taken}
+use Rattle.mover.specs.Leaving.{TakingLeaves}
+use Rattle.mover.proofs.Beginning.{lane_taken, taking_leaves}
 use Rattle.mover.proofs.store.Store.take_set.Goals as goal
 
 pub invariant_of-self : goal.invariant_of-self
@@ -30,3 +31,11 @@ returns-clause-gives g c = λ is.
     let on = subst (λ (x : StoreState g.row.D.Denot). IsTrue (d.honest x.device)) (sym c.self.view_is) is in
     subst (λ (x : StoreState g.row.D.Denot). LaneTakes c.args.set (lane_of d.held x) c.in_ok-taken.taken (lane_of d.held new)) c.self.view_is
     (lane_taken d.held old c.take_set.new.device (c.take_set.ensures.same on) c.take_set.new.self c.args.set c.in_ok-taken.taken (c.in_ok-taken.ensures.gives on (c.self.invariant.log_spelled on)))
+
+pub returns-clause-leaves : goal.returns-clause-leaves
+returns-clause-leaves g c =
+    let s = c.self.inside in
+    let old : StoreState g.row.D.Denot = record { layout = s.layout; device = s.device; memory = s.memory; log = s.log; sets = s.sets; flight = s.flight; moves = s.moves } in
+    let new : StoreState g.row.D.Denot = record { layout = s.layout; device = c.take_set.new.device; memory = s.memory; log = c.take_set.new.self; sets = s.sets; flight = s.flight; moves = s.moves } in
+    subst (λ (x : StoreState g.row.D.Denot). TakingLeaves c.args.set x c.in_ok-taken.taken new) c.self.view_is
+    (taking_leaves old c.take_set.new.device c.take_set.new.self c.args.set c.in_ok-taken.taken c.in_ok-taken.ensures.leaves)

@@ -1,5 +1,5 @@
 -- A device in memory does not fail, so a flush step is its function.
-use Rattle.std.proofs.Common.{◌≡◌, refl, subst}
+use Rattle.std.proofs.Common.{◌≡◌, subst}
 use Rattle.mover.specs.Flush.{flush_step}
 use Rattle.history_recorder.specs.Lane.{Lane}
 use Rattle.scripts.specs.Own.{Pages, seen_of, with_lane}
@@ -10,10 +10,10 @@ pub returns-clause-answer : goal.returns-clause-answer
 returns-clause-answer g c =
     let said = c.flush_step.ensures in
     subst (λ (old : Lane Pages). c.flush_step.result ≡ (flush_step (seen_of old).lane).reply) c.self.view_is
-    (flushed c.self.inside.lane c.flush_step.new.self c.flush_step.result said.unrecorded said.layout said.faults (said.gives refl)).0
+    (flushed c.self.inside.lane c.flush_step.new.self c.flush_step.result said.unrecorded said.flushes).0
 
 pub returns-clause-after : goal.returns-clause-after
 returns-clause-after g c =
     let said = c.flush_step.ensures in
     subst (λ (old : Lane Pages). seen_of c.flush_step.new.self ≡ with_lane (seen_of old) (flush_step (seen_of old).lane).lane) c.self.view_is
-    (flushed c.self.inside.lane c.flush_step.new.self c.flush_step.result said.unrecorded said.layout said.faults (said.gives refl)).1
+    (flushed c.self.inside.lane c.flush_step.new.self c.flush_step.result said.unrecorded said.flushes).1

@@ -1,12 +1,10 @@
--- What a lane shows after a move began.
-use Rattle.std.proofs.Common.{None, subst}
-use Rattle.std.specs.Prelude.{IsTrue}
-use Rattle.mover.specs.Lane.{lane_of}
-use Rattle.mover.specs.Visible.{ShowsFrom}
+-- The store of a book after a move began.
+use Rattle.std.proofs.Common.{subst}
+use Rattle.mover.specs.Calls.{StoreBegins}
 use Rattle.history_recorder.specs.Lane.{Lane}
 use Rattle.shared_cache.proofs.books.LaneBook.begin.Goals as goal
 
-pub returns-clause-shows : goal.returns-clause-shows
-returns-clause-shows g c =
+pub returns-clause-begins : goal.returns-clause-begins
+returns-clause-begins g c =
     let d = g.D.PageDevice in
-    subst (λ (old : Lane g.row.D.Denot). IsTrue (d.honest old.store.device) → ShowsFrom None None (lane_of d.held old.store) (lane_of d.held c.move_begin.new.self.store)) c.self.view_is c.move_begin.ensures.shows
+    subst (λ (old : Lane g.row.D.Denot). StoreBegins g.row.PAGE d.honest d.failures d.held old.store c.move_begin.result c.move_begin.new.self.store) c.self.view_is c.move_begin.ensures.begins

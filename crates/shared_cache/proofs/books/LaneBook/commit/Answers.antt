@@ -1,12 +1,10 @@
--- What a lane shows after a move ended.
-use Rattle.std.proofs.Common.{None, subst}
-use Rattle.std.specs.Prelude.{IsTrue}
-use Rattle.mover.specs.Lane.{lane_of}
-use Rattle.mover.specs.Visible.{ShowsFrom}
+-- The store of a book after a move ended, or was not to end.
+use Rattle.std.proofs.Common.{subst}
+use Rattle.mover.specs.Calls.{StoreCommits}
 use Rattle.history_recorder.specs.Lane.{Lane}
 use Rattle.shared_cache.proofs.books.LaneBook.commit.Goals as goal
 
-pub returns-clause-shows : goal.returns-clause-shows
-returns-clause-shows g c =
+pub returns-clause-commits : goal.returns-clause-commits
+returns-clause-commits g c =
     let d = g.D.PageDevice in
-    subst (λ (old : Lane g.row.D.Denot). IsTrue (d.honest old.store.device) → ShowsFrom None None (lane_of d.held old.store) (lane_of d.held c.move_commit.new.self.store)) c.self.view_is c.move_commit.ensures.shows
+    subst (λ (old : Lane g.row.D.Denot). StoreCommits g.row.PAGE d.honest d.failures d.held c.args.plan.now c.args.number old.store c.move_commit.result c.move_commit.new.self.store) c.self.view_is c.move_commit.ensures.commits

@@ -1,12 +1,10 @@
--- What a lane shows after a flush step.
-use Rattle.std.proofs.Common.{None, subst}
-use Rattle.std.specs.Prelude.{IsTrue}
-use Rattle.mover.specs.Lane.{lane_of}
-use Rattle.mover.specs.Visible.{ShowsFrom}
+-- The store of a book after a step of flushing.
+use Rattle.std.proofs.Common.{subst}
+use Rattle.mover.specs.Calls.{StoreFlushes}
 use Rattle.history_recorder.specs.Lane.{Lane}
 use Rattle.shared_cache.proofs.books.LaneBook.flush.Goals as goal
 
-pub returns-clause-shows : goal.returns-clause-shows
-returns-clause-shows g c =
+pub returns-clause-flushes : goal.returns-clause-flushes
+returns-clause-flushes g c =
     let d = g.D.PageDevice in
-    subst (λ (old : Lane g.row.D.Denot). IsTrue (d.honest old.store.device) → ShowsFrom None None (lane_of d.held old.store) (lane_of d.held c.flush_step.new.self.store)) c.self.view_is c.flush_step.ensures.shows
+    subst (λ (old : Lane g.row.D.Denot). StoreFlushes d.honest d.failures d.held old.store c.flush_step.result c.flush_step.new.self.store) c.self.view_is c.flush_step.ensures.flushes

@@ -1,0 +1,152 @@
+-- What each call of a store does: one record a call, over the store before it, what it answers, and the store after it.
+use Rattle.std.specs.Prelude.{◌≡◌, ◌<◌, ◌↔◌, ◌⊎◌, ℕ, List, Option, Some, None, Bool, Result, IsErrOf, IfOk, OnErr, IsSome, IsTrue}
+use Rattle.std.specs.declared.alloc.AllocError.{AllocError}
+use Rattle.page_device.specs.Device.{faults_after}
+use Rattle.record_pages.specs.Recs.{Rec}
+use Rattle.record_pages.specs.Sizes.{object_size, room}
+use Rattle.record_pages.specs.declared.answer.Answer.{Answer}
+use Rattle.record_pages.specs.declared.answer.Answer.TheVariants.{Hit}
+use Rattle.record_pages.specs.declared.tier.Tier.TheVariants.{Memory, Log}
+use Rattle.record_pages.specs.declared.pushed.Pushed.{Pushed}
+use Rattle.record_pages.specs.declared.put_fault.PutFault.{PutFault}
+use Rattle.record_pages.specs.declared.put_fault.PutFault.TheVariants.{TooLarge}
+use Rattle.kset.specs.declared.rewritten.Rewritten.{Rewritten}
+use Rattle.kset.specs.declared.rewritten.Rewritten.TheVariants as rewritten
+use Rattle.policy_laws.specs.declared.choice.Choice.{Choice}
+use Rattle.policy_laws.specs.declared.job.Job.{Job}
+use Rattle.memory_cache.specs.declared.pair.Pair.{Pair}
+use Rattle.memory_cache.specs.MemoryList.{value_in, after_get}
+use Rattle.klog_index.specs.declared.entry.Entry.{Entry}
+use Rattle.klog.specs.declared.flushed.Flushed.{Flushed}
+use Rattle.klog.specs.Flush.{is_page_lost, FlushGives}
+use Rattle.klog.specs.Look.{lowered_in, IsInBuffers}
+use Rattle.klog.specs.Shown.{place_in}
+use Rattle.mover.specs.Store.{StoreState, KeepsTiers, KeepsMoves, OnlyReads}
+use Rattle.mover.specs.Lane.{lane_of}
+use Rattle.mover.specs.Get.{get_step, StepGives, is_fault}
+use Rattle.mover.specs.Asking.{AsksNothing, IfThen, KeepsIfMiss, HitsInLog}
+use Rattle.mover.specs.Put.{put_step, IsStep}
+use Rattle.mover.specs.Strike.{removed}
+use Rattle.mover.specs.Flush.{LaneFlushes}
+use Rattle.mover.specs.Begin.{WritesNothing, is_lost, begin_step, BeginGives, lane_counted}
+use Rattle.mover.specs.Laws.{IsPlannedFor}
+use Rattle.mover.specs.Leaving.{HasAll, BeginLeaves}
+use Rattle.mover.specs.Commit.{CommitAnswers, CommitLeaves, CommitGives, AbortGives, is_unwritten, after_abort, Lands}
+use Rattle.mover.specs.Whole.{MoveGives, is_failed}
+use Rattle.mover.specs.declared.begin.Begin.{Begin}
+use Rattle.mover.specs.declared.begin.Begin.TheVariants as begin
+use Rattle.mover.specs.declared.committed.Committed.{Committed}
+use Rattle.mover.specs.declared.aborted.Aborted.{Aborted}
+use Rattle.mover.specs.declared.moved.Moved.{Moved}
+use Rattle.mover.specs.declared.moved.Moved.TheVariants as moved
+
+-- a get of what memory has answers that, and its pair comes to the front; nothing else changes, the device neither
+abbrev pub Recalls : {D : Type 0} → List ℕ → List ℕ → StoreState D → Answer → StoreState D → Type 0
+Recalls key value old answer new = (answer ≡ Hit value Memory) × (new ≡ record old { memory = after_get key old.memory })
+
+-- an entry of a set is asked for once more, and nothing else changes, the device neither
+abbrev pub IsLowered : {D : Type 0} → ℕ → Entry → StoreState D → StoreState D → Type 0
+IsLowered set e old new = new ≡ record old { log = lowered_in old.log set e.place }
+
+-- a get of a key of which the log's buffers tell a record answers that, and its entry is lowered
+abbrev pub AnswersFromBuffers : {D : Type 0} → List ℕ → Entry → Rec → StoreState D → Answer → StoreState D → Type 0
+AnswersFromBuffers key e r old answer new = (answer ≡ Hit r.value Log) × IsLowered (place_in old.log.shape key).set e old new
+
+-- A get. On any device no page is written, the device has failed exactly where a fault is answered, and a miss changes
+-- nothing; what memory has is answered at once, and else what the log's buffers tell of the key. Where the device is
+-- honest, answer and lane are those of a get's step.
+pub record StoreGets {D : Type 0} (size : ℕ) (honest : D → Bool) (failures : D → ℕ) (held : D → ℕ → Option (List ℕ)) (key : List ℕ) (old : StoreState D) (result : Result Answer AllocError) (new : StoreState D) : Type 0 where
+  pub reads : OnlyReads honest failures held old (is_fault result) new
+  pub stays : KeepsMoves old new
+  pub out_of_memory : OnErr result (KeepsTiers old new)
+  pub missed : IfOk result (λ answer. KeepsIfMiss answer old new)
+  pub in_memory : (value : List ℕ) → value_in key old.memory.pairs ≡ Some value → IfOk result (λ answer. Recalls key value old answer new)
+  pub unread : IsSome (value_in key old.memory.pairs) → new.device ≡ old.device
+  pub memory : value_in key old.memory.pairs ≡ None → new.memory ≡ old.memory
+  pub in_buffers : (e : Entry) (r : Rec) → value_in key old.memory.pairs ≡ None → IsInBuffers size old.log (place_in old.log.shape key).set (place_in old.log.shape key).tag key e r →
+      IfOk result (λ answer. AnswersFromBuffers key e r old answer new)
+  pub in_log : IfOk result (λ answer. HitsInLog key answer old new (new.device ≡ old.device))
+  pub unasked : IfThen (AsksNothing key old) (new.device ≡ old.device)
+  pub gives : IsTrue (honest old.device) → IfOk result (λ answer. StepGives (get_step key (lane_of held old)) (lane_of held old) answer (lane_of held new))
+
+-- A put. It makes no call of the device, and is a put's step whatever the device.
+pub record StorePuts {D : Type 0} (size : ℕ) (held : D → ℕ → Option (List ℕ)) (p : Pair) (word : ℕ) (old : StoreState D) (result : Result Pushed PutFault) (new : StoreState D) : Type 0 where
+  pub layout : new.layout ≡ old.layout
+  pub device : new.device ≡ old.device
+  pub too_large : IsErrOf result TooLarge ↔ (room size < object_size p.key p.value)
+  pub err : OnErr result (new ≡ old)
+  pub gives : IfOk result (λ pushed. IsStep (put_step size old.layout.admit p word (lane_of held old)) pushed (lane_of held new))
+
+-- A removal. It makes no call of the device, and is so whatever the device.
+pub record StoreRemoves {D : Type 0} (held : D → ℕ → Option (List ℕ)) (key : List ℕ) (old new : StoreState D) : Type 0 where
+  pub layout : new.layout ≡ old.layout
+  pub device : new.device ≡ old.device
+  pub removed : lane_of held new ≡ removed key (lane_of held old)
+
+-- A step of flushing. On any device it changes the log alone, as is answered; where the device is honest, the lane so.
+pub record StoreFlushes {D : Type 0} (honest : D → Bool) (failures : D → ℕ) (held : D → ℕ → Option (List ℕ)) (old : StoreState D) (flushed : Flushed) (new : StoreState D) : Type 0 where
+  pub rest : new ≡ record old { device = new.device; log = new.log }
+  pub honesty : honest new.device ≡ honest old.device
+  pub faults : failures new.device ≡ faults_after (failures old.device) (is_page_lost flushed)
+  pub flushes : FlushGives old.log flushed new.log
+  pub gives : IsTrue (honest old.device) → LaneFlushes (lane_of held old) flushed (lane_of held new)
+
+-- The beginning of a move. No page is written. On any device it leaves the store as is answered; where the device is
+-- honest it has failed exactly where a page is lost, and the lane is as a beginning gives.
+pub record StoreBegins {D : Type 0} (size : ℕ) (honest : D → Bool) (failures : D → ℕ) (held : D → ℕ → Option (List ℕ)) (old : StoreState D) (result : Result Begin AllocError) (new : StoreState D) : Type 0 where
+  pub writes : WritesNothing honest held old new
+  pub leaves : IfOk result (λ begun. BeginLeaves size old begun new)
+  pub out_of_memory : OnErr result (HasAll old new)
+  pub faults : IsTrue (honest old.device) → failures new.device ≡ faults_after (failures old.device) (is_lost result)
+  pub gives : IsTrue (honest old.device) → IfOk result (λ begun. BeginGives size old.layout.threshold (lane_of held old) begun (lane_of held new))
+  pub lane_stays : IsTrue (honest old.device) → OnErr result (lane_of held new ≡ lane_of held old)
+
+-- The end of a move by a plan.
+pub record StoreCommits {D : Type 0} (size : ℕ) (honest : D → Bool) (failures : D → ℕ) (held : D → ℕ → Option (List ℕ)) (plan : List Choice) (number : ℕ) (old : StoreState D) (answer : Committed) (new : StoreState D) : Type 0 where
+  pub honesty : honest new.device ≡ honest old.device
+  pub faults : failures new.device ≡ faults_after (failures old.device) (is_unwritten answer)
+  pub answers : CommitAnswers size plan number old.flight answer
+  pub leaves : CommitLeaves plan old answer new
+  pub gives : IsTrue (honest old.device) → CommitGives size plan number (lane_of held old) answer (lane_of held new)
+
+-- The giving up of a move. It makes no call of the device, and is so whatever the device.
+pub record StoreAborts {D : Type 0} (held : D → ℕ → Option (List ℕ)) (number : ℕ) (old : StoreState D) (answer : Aborted) (new : StoreState D) : Type 0 where
+  pub leaves : new ≡ after_abort answer old
+  pub gives : AbortGives number (lane_of held old) answer (lane_of held new)
+
+-- a whole move had a job, and ended by the policy's plan
+pub record Ends {D : Type 0} (size : ℕ) (plan_of : Job → List Choice) (ended : Rewritten) (old new : StoreState D) : Type 0 where
+  pub job : Job
+  pub between : StoreState D
+  pub begun : BeginLeaves size old (begin.Job job) between
+  pub landed : Lands (plan_of job) ended between new
+
+-- it had a job, and was given up, since the policy was refused memory
+pub record GivesUp {D : Type 0} (size : ℕ) (old new : StoreState D) : Type 0 where
+  pub job : Job
+  pub between : StoreState D
+  pub begun : BeginLeaves size old (begin.Job job) between
+  pub rest : new ≡ record between { flight = None }
+
+-- what a whole move leaves of a store, on any device, by what it answers
+abbrev pub MovingLeaves : {D : Type 0} → ℕ → (Job → List Choice) → StoreState D → Moved → StoreState D → Type 0
+MovingLeaves size plan_of old moved.Written new = Ends size plan_of rewritten.Written old new
+MovingLeaves size plan_of old moved.Forgotten new = Ends size plan_of rewritten.Forgotten old new
+MovingLeaves size plan_of old moved.Nothing new = BeginLeaves size old begin.Nothing new
+MovingLeaves size plan_of old moved.Busy new = BeginLeaves size old begin.Busy new
+MovingLeaves size plan_of old moved.Freed new = BeginLeaves size old begin.Freed new
+MovingLeaves size plan_of old moved.Readmitted new = BeginLeaves size old begin.Readmitted new
+MovingLeaves size plan_of old moved.Dropped new = BeginLeaves size old begin.Dropped new
+MovingLeaves size plan_of old moved.PageLost new = BeginLeaves size old begin.PageLost new
+
+-- A whole move by a policy. On any device it leaves the store as is answered; where the device is honest it has failed exactly
+-- where a page is lost or not written, the lane is as a whole move gives, and the policy's plan was lawful.
+pub record StoreMoves {D : Type 0} (size : ℕ) (honest : D → Bool) (failures : D → ℕ) (held : D → ℕ → Option (List ℕ)) (plan_of : Job → List Choice) (old : StoreState D) (result : Result Moved AllocError) (new : StoreState D) : Type 0 where
+  pub layout : new.layout ≡ old.layout
+  pub honesty : honest new.device ≡ honest old.device
+  pub leaves : IfOk result (λ moved. MovingLeaves size plan_of old moved new)
+  pub out_of_memory : OnErr result (HasAll old new ⊎ GivesUp size old new)
+  pub faults : IsTrue (honest old.device) → failures new.device ≡ faults_after (failures old.device) (is_failed result)
+  pub gives : IsTrue (honest old.device) → IfOk result (λ moved. MoveGives size old.layout.threshold plan_of (lane_of held old) moved (lane_of held new))
+  pub lane_stays : IsTrue (honest old.device) → OnErr result ((lane_of held new ≡ lane_of held old) ⊎ (lane_of held new ≡ lane_counted (lane_of held old)))
+  pub planned : IsTrue (honest old.device) → IfOk result (λ moved. IsPlannedFor plan_of moved (begin_step size old.layout.threshold (lane_of held old)).reply)
