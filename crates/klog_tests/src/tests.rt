@@ -10,6 +10,7 @@ mod owner;
 mod pages;
 mod retried;
 mod ring;
+mod rows;
 mod step;
 
 use self::owner::Owner;

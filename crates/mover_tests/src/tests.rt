@@ -1,9 +1,11 @@
 //! A store from end to end: what was put is found in each tier in turn, until it is struck, moved, dropped or lost.
+mod calls;
 mod failing;
 mod filling;
 mod losing;
 mod moving;
 mod opening;
+mod rows;
 mod run;
 mod splitting;
 mod striking;

@@ -1,0 +1,12 @@
+use Rattle.klog.specs.Known.{no_pages}
+use Rattle.klog.specs.Append.{entering, entry_for, taker}
+use Rattle.klog_tests.proofs.Newest.{told_after_append}
+use Rattle.klog_tests.proofs.tests.rows.look_after_append.Goals as goal
+
+pub returns-in-Ok : goal.returns-in-Ok
+returns-in-Ok g c =
+    let r = entering c.args.key.now c.args.value.now in
+    let here = told_after_append g.row.PAGE c.args.log.now c.append.new.self c.args.key.now c.args.value.now c.args.placed.now c.requires.small c.bytes-key.ensures.range c.bytes-value.ensures.range c.requires.place
+    c.in-Appended.ensures.gives (c.in-Appended.ensures.shown no_pages) in
+    let told = c.in-Ok.ensures.in_buffers (entry_for g.row.PAGE (taker g.row.PAGE c.args.log.now r) r) r here in
+    (told.0, told.2)

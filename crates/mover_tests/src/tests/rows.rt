@@ -1,0 +1,120 @@
+//! What users of a store rely on, of any store and any device.
+ghost use Rattle.mover.specs.Lane.{lane_of};
+ghost use Rattle.mover.specs.Visible.{IsShown};
+ghost use Rattle.std.specs.Prelude.{◌≡◌, ◌≢◌, ℕ, List, Ok, IfOk, IsTrue};
+ghost use Rattle.record_pages.specs.declared.answer.Answer.{Answer};
+ghost use Rattle.record_pages.specs.declared.answer.Answer.TheVariants.{Hit, Miss};
+ghost use Rattle.record_pages.specs.declared.miss_cause.MissCause.{MissCause};
+ghost use Rattle.record_pages.specs.declared.tier.Tier.{Tier};
+ghost use Rattle.mover.specs.Store.{KeepsTiers};
+ghost use Rattle.mover.specs.Flight.{IsInFlight};
+ghost use Rattle.mover.specs.declared.committed.Committed.{Committed};
+ghost use Rattle.mover.specs.declared.aborted.Aborted.{Aborted};
+ghost use Rattle.klog.specs.declared.flushed.Flushed.{Flushed};
+
+use klog::Flushed;
+use mover::{Aborted, Committed, Store, commit_shows, get_shows, put_shows, removal_shows};
+use page_device::PageDevice;
+use policy_laws::Plan;
+use record_pages::{Answer, Key, Value};
+use std::alloc::AllocError;
+
+/// A get that misses, for any cause, leaves memory, the log, the sets and the move in flight as they were.
+pub fn a_miss_keeps_all<D: PageDevice<PAGE>, const PAGE: usize>(
+    store: &mut Store<D, PAGE>,
+    key: &Key,
+) -> Result<Answer, AllocError>
+    ensures { (cause : MissCause) → result ≡ Ok (Miss cause) → KeepsTiers store.old store.new }
+{
+    let answer = store.get(key)?;
+    Ok(answer)
+}
+
+/// An abort gives up the move with its number alone; where it finds none it leaves the store as it was, its device too.
+pub fn an_abort_is_of_its_number<D: PageDevice<PAGE>, const PAGE: usize>(
+    store: &mut Store<D, PAGE>,
+    number: u64,
+) -> Aborted
+    ensures its { result ≡ Aborted.Aborted → IsInFlight store.old.flight number }
+    ensures stale { result ≡ Aborted.StalePlan → store.new ≡ store.old }
+{
+    store.move_abort(number)
+}
+
+/// A commit whose page was not written leaves memory as it was.
+pub fn a_forgotten_commit_keeps_memory<D: PageDevice<PAGE>, const PAGE: usize>(
+    store: &mut Store<D, PAGE>,
+    plan: &Plan,
+    number: u64,
+) -> Committed
+    ensures { result ≡ Committed.Forgotten → store.new.memory ≡ store.old.memory }
+{
+    store.move_commit(plan, number)
+}
+
+/// A flush step that lost its page leaves memory and all sets as they were.
+pub fn a_lost_page_keeps_memory_and_sets<D: PageDevice<PAGE>, const PAGE: usize>(
+    store: &mut Store<D, PAGE>,
+) -> Flushed
+    ensures memory { result ≡ Flushed.PageLost → store.new.memory ≡ store.old.memory }
+    ensures sets { result ≡ Flushed.PageLost → store.new.sets ≡ store.old.sets }
+{
+    store.flush_step()
+}
+
+/// A key that was removed is no hit of a get, over an honest device.
+pub fn a_removed_key_is_no_hit<D: PageDevice<PAGE>, const PAGE: usize>(
+    store: &mut Store<D, PAGE>,
+    key: &Key,
+) -> Result<Answer, AllocError>
+    requires honest { IsTrue (D.honest store.old.device) }
+    ensures { IfOk result (λ answer. (value : List ℕ) → (tier : Tier) → answer ≢ Hit value tier) }
+{
+    removal_shows();
+    get_shows();
+    let _layout = store.layout();
+    store.remove(key);
+    let answer = store.get(key)?;
+    Ok(answer)
+}
+
+/// A commit of any plan and number brings no pair back of a key that was removed, over an honest device.
+pub fn a_commit_brings_nothing_back<D: PageDevice<PAGE>, const PAGE: usize>(
+    store: &mut Store<D, PAGE>,
+    key: &Key,
+    plan: &Plan,
+    number: u64,
+) -> Committed
+    requires honest { IsTrue (D.honest store.old.device) }
+    ensures { (value : List ℕ) →
+        IsShown (lane_of D.held store.new) (record { key = key.now; value = value }) → ⊥ }
+{
+    removal_shows();
+    commit_shows();
+    let _layout = store.layout();
+    store.remove(key);
+    store.move_commit(plan, number)
+}
+
+/// A hit of a key that was just put is the value that was put, over an honest device.
+pub fn a_hit_is_what_was_put<D: PageDevice<PAGE>, const PAGE: usize>(
+    store: &mut Store<D, PAGE>,
+    key: Key,
+    value: Value,
+    word: u32,
+    again: &Key,
+) -> Result<Answer, AllocError>
+    requires honest { IsTrue (D.honest store.old.device) }
+    requires same { again.now ≡ key }
+    ensures { IfOk result (λ answer. (told : List ℕ) → (tier : Tier) →
+        answer ≡ Hit told tier → told ≡ value) }
+{
+    put_shows();
+    get_shows();
+    let _layout = store.layout();
+    let Ok(_) = store.put(key, value, word) else {
+        return Err(AllocError);
+    };
+    let answer = store.get(again)?;
+    Ok(answer)
+}
