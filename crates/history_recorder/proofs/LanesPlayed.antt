@@ -9,8 +9,9 @@ use Rattle.record_pages.specs.declared.pushed.Pushed.{Pushed}
 use Rattle.klog.specs.declared.flushed.Flushed.{Flushed}
 use Rattle.trace_file.specs.declared.act.Act.TheVariants as acts
 use Rattle.mover.specs.Lane.{LaneState, lane_of}
-use Rattle.mover.specs.Get.{get_step, StepGives}
+use Rattle.mover.specs.Get.{GetGives}
 use Rattle.mover.specs.Store.{StoreState}
+use Rattle.mover.proofs.Beginning.{same_lane_held}
 use Rattle.mover.specs.Calls.{StoreGets, StorePuts, StoreRemoves, StoreFlushes, StoreBegins, StoreCommits, StoreAborts}
 use Rattle.mover.specs.Begin.{BeginGives}
 use Rattle.mover.specs.declared.aborted.Aborted.{Aborted}
@@ -97,14 +98,11 @@ module _ {D : Type 0} (honest : D → Bool) (failures : D → ℕ) (held : D →
     }
 
     -- what is given of a lane by an answer, or where memory was refused
-    given_lane : (given : Result Answer AllocError) → StoreGets size honest failures held key old.store given new.store → IsTrue (honest old.store.device) → (lane_of held new.store ≡ lane_of held old.store) ⊎ ((answer : Answer) × StepGives (get_step key (lane_of held old.store)) (lane_of held old.store) answer (lane_of held new.store))
+    given_lane : (given : Result Answer AllocError) → StoreGets size honest failures held key old.store given new.store → IsTrue (honest old.store.device) → (lane_of held new.store ≡ lane_of held old.store) ⊎ ((answer : Answer) × GetGives key (lane_of held old.store) answer (lane_of held new.store))
     given_lane (Ok answer) gets h = inr (answer, gets.gives h)
-    given_lane (Err e) gets h =
-        let same = gets.reads.same h in
-        let keeps = gets.out_of_memory in
-        inl (rw (same, keeps.memory, keeps.log, keeps.sets, gets.stays.flight, gets.stays.moves) refl)
+    given_lane (Err e) gets h = inl (same_lane_held held old.store new.store gets.out_of_memory (gets.reads.same h))
 
-    same_lane : MayHaveGot size honest failures held key old.store new.store → IsTrue (honest old.store.device) → (lane_of held new.store ≡ lane_of held old.store) ⊎ ((answer : Answer) × StepGives (get_step key (lane_of held old.store)) (lane_of held old.store) answer (lane_of held new.store))
+    same_lane : MayHaveGot size honest failures held key old.store new.store → IsTrue (honest old.store.device) → (lane_of held new.store ≡ lane_of held old.store) ⊎ ((answer : Answer) × GetGives key (lane_of held old.store) answer (lane_of held new.store))
     same_lane (inl same) h = inl (ap (lane_of held) same)
     same_lane (inr got) h = given_lane got.0 got.1 h
 

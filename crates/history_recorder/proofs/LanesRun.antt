@@ -13,7 +13,7 @@ use Rattle.certificate_checker.specs.Latest.{IsLawful}
 use Rattle.certificate_checker.proofs.Growing.{lawful-push}
 use Rattle.mover.specs.Lane.{LaneState}
 use Rattle.mover.specs.Laws.{IsInOrder, StepsInOrder}
-use Rattle.mover.specs.Get.{get_step, StepGives}
+use Rattle.mover.specs.Get.{GetGives}
 use Rattle.mover.proofs.StepLaws.{get_law, put_law, removal_law, flush_law, begin_law, commit_law, abort_law}
 use Rattle.history_recorder.specs.declared.event.Event.{Event}
 use Rattle.history_recorder.specs.declared.event.Event.TheVariants as events
@@ -81,7 +81,7 @@ module _ (layout : Layout) (lane : ℕ) (calls : List Noted) (old new : LaneStat
       )
 
   module _ (size caller start point : ℕ) (began : start < point) (rises : All (λ (m : Noted). m.point < point) calls) where
-    got_kept : (key : List ℕ) (answer : Answer) → IsOfLane layout lane key → HasRoomFor (length calls) → StepGives (get_step key old) old answer new → IsKeptLane layout lane (calls ++ record { caller = caller; start = start; point = point; key = key; act = act_of answer } ∷ []) new
+    got_kept : (key : List ℕ) (answer : Answer) → IsOfLane layout lane key → HasRoomFor (length calls) → GetGives key old answer new → IsKeptLane layout lane (calls ++ record { caller = caller; start = start; point = point; key = key; act = act_of answer } ∷ []) new
     got_kept key answer own room step =
         let n : Noted = record { caller = caller; start = start; point = point; key = key; act = act_of answer } in
         let law = get_law key old new answer kept.1 step in

@@ -16,7 +16,7 @@ use Rattle.certificate_checker.specs.Current.{current}
 use Rattle.certificate_checker.specs.Latest.{IsWrite, IsLawful}
 use Rattle.certificate_checker.proofs.LatestLemmas.{current-push, deed_kept}
 use Rattle.certificate_checker.proofs.Growing.{lawful-push}
-use Rattle.mover.specs.Store.{StoreState, KeepsTiers, KeepsMoves}
+use Rattle.mover.specs.Store.{StoreState}
 use Rattle.mover.specs.Begin.{lane_counted, begin_step, BeginGives}
 use Rattle.mover.specs.Whole.{MoveGives}
 use Rattle.mover.specs.Laws.{IsInOrder, StepsInOrder, BeginShows, WholeMoveShows, IsPlannedFor}
@@ -106,10 +106,6 @@ pub moved_in_order : WholeMoveShows → (size least : ℕ) (plan_of : Job → Li
 moved_in_order law size least plan_of old new (Ok moved) was planned gives stays = law size least plan_of old new moved was planned gives
 moved_in_order law size least plan_of old new (Err e) was planned gives (inl same) = still_in_order old new was same
 moved_in_order law size least plan_of old new (Err e) was planned gives (inr counted) = counted_in_order old new was counted
-
--- tiers that stay over pages that stay
-pub kept_lane : {D : Type 0} (held : D → ℕ → Option (List ℕ)) (old new : StoreState D) → held new.device ≡ held old.device → KeepsTiers old new → KeepsMoves old new → lane_of held new ≡ lane_of held old
-kept_lane held old new pages keeps moves = rw (pages, keeps.memory, keeps.log, keeps.sets, moves.flight, moves.moves) refl
 
 -- ---- what is true of every lane
 

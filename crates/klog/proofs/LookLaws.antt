@@ -21,7 +21,7 @@ use Rattle.klog.specs.Log.{Shape, LogState}
 use Rattle.klog.specs.Shown.{shown_on, live_on, ArePlaced, newest_with, place_in, CanStandFor, IsLiveOn, IsSpelledOn}
 use Rattle.klog.specs.Fetch.{IsPlaceOf}
 use Rattle.klog.specs.Find.{with_tag, TellsKey, Finds, FindsAt}
-use Rattle.klog.specs.Look.{lowered_in, ShowsOther, IsReached}
+use Rattle.klog.specs.Look.{lowered_in, ShowsOther, IsReached, ComesToPage}
 use Rattle.klog.specs.Known.{is_buffered, AreBuffered, ShowsIfHad}
 use Rattle.klog.proofs.LiveLaws.{live_by, live_by-kept, length-kept}
 use Rattle.klog.proofs.KnownLaws.{shows_live}
@@ -242,7 +242,7 @@ newest_in bytes held k key placed is spelled =
 
 -- a hit is the newest live record of the key
 hit_newest : (bytes : ℕ) (held : ℕ → Option (List ℕ)) (k : LogState) (key : List ℕ) (placed : Placed) (e : Entry) (value : List ℕ) → placed ≡ place_in k.shape key → IsSpelledOn bytes held k
-    → IsReached bytes held k placed.set placed.tag key e → ShowsIfHad bytes held k e (λ r. (has_key key r ≡ true) × (r.value ≡ value)) → Finds (live_on held k) key (found.Hit e value)
+    → IsReached bytes held k placed.set placed.tag key e → ShowsIfHad bytes held k e (λ r. (has_key key r ≡ true) × (r.value ≡ value)) → Finds k (live_on held k) key (found.Hit e value)
 hit_newest bytes held k key placed e value is spelled reached shows =
     let es = of_tag placed.set placed.tag k.entries in
     let behind = reached.behind in
@@ -270,12 +270,49 @@ absent_none bytes held k key placed is spelled others =
     sym (newest_in bytes held k key placed is spelled)
     ∙ newest_none (shown_on held k) key es (spelled_other bytes held k key es (spelled_live bytes held k placed.set placed.tag spelled) others)
 
+-- the records that entries show, before one that shows a record, that one's, and those behind
+live_split : (shows : Entry → Option Rec) (front : List Entry) (e : Entry) (r : Rec) (back : List Entry) → shows e ≡ Some r
+    → live_by shows (front ++ e ∷ back) ≡ live_by shows front ++ (e, r) ∷ live_by shows back
+live_split shows [] e r back at = simp at refl
+live_split shows (x ∷ front) e r back at = step (shows x) refl (live_split shows front e r back at)
+  where
+    step : (o : Option Rec) → shows x ≡ o → live_by shows (front ++ e ∷ back) ≡ live_by shows front ++ (e, r) ∷ live_by shows back
+        → live_by shows (x ∷ (front ++ e ∷ back)) ≡ live_by shows (x ∷ front) ++ (e, r) ∷ live_by shows back
+    step (Some y) is rest = simp is (ap (λ (xs : List (Entry × Rec)). (x, y) ∷ xs) rest)
+    step None is rest = simp is rest
+
+-- where the search comes to an entry that lies in no buffer, it comes to a page
+comes_to_page : (bytes : ℕ) (held : ℕ → Option (List ℕ)) (k : LogState) (key : List ℕ) (placed : Placed) (e : Entry) → placed ≡ place_in k.shape key → IsSpelledOn bytes held k
+    → IsReached bytes held k placed.set placed.tag key e → is_buffered k e ≡ false → ComesToPage k key (live_on held k)
+comes_to_page bytes held k key placed e is spelled reached stored =
+    let es = of_tag placed.set placed.tag k.entries in
+    let behind = reached.behind in
+    let live = spelled_live bytes held k placed.set placed.tag spelled in
+    let newer : All (OtherBy (shown_on held k) key) (take behind es) = spelled_other bytes held k key (take behind es) (All-take (IsLiveOn bytes held k) behind es live) reached.newer in
+    let here : IsLiveOn bytes held k e = All-contains (IsLiveOn bytes held k) es e live (reached_listed bytes held k placed.set placed.tag key e reached) in
+    let its : (r : Rec) × (shown_on held k e ≡ Some r) = known (shown_on held k e) refl here in
+    record {
+      newer = live_by (shown_on held k) (take behind es);
+      at = (e, its.0);
+      older = live_by (shown_on held k) (drop (behind + 1) es);
+      split = ap (λ (p : Placed). filter (λ x. has_tag p.set p.tag x.0) (live_on held k)) (sym is)
+          ∙ sym (live_by-kept (has_tag placed.set placed.tag) (shown_on held k) k.entries)
+          ∙ ap (live_by (shown_on held k)) (split_at es behind e reached.at)
+          ∙ live_split (shown_on held k) (take behind es) e its.0 (drop (behind + 1) es) its.1;
+      stored = stored;
+      others = newest_none (shown_on held k) key (take behind es) newer;
+    }
+  where
+    known : (o : Option Rec) → shown_on held k e ≡ o → IsSomeAnd o (CanStandFor bytes k.shape e) → (r : Rec) × (shown_on held k e ≡ Some r)
+    known (Some r) at h = (r, at)
+    known None at h = absurd h
+
 -- so what lies behind an answer gives what is found
 pub finds_of : (bytes : ℕ) (held : ℕ → Option (List ℕ)) (k : LogState) (key : List ℕ) (placed : Placed) (f : Found) → placed ≡ place_in k.shape key
-    → FindsAt bytes held k placed.set placed.tag key (Ok f) → IsSpelledOn bytes held k → Finds (live_on held k) key f
+    → FindsAt bytes held k placed.set placed.tag key (Ok f) → IsSpelledOn bytes held k → Finds k (live_on held k) key f
 finds_of bytes held k key placed (found.Hit e value) is at spelled = hit_newest bytes held k key placed e value is spelled at.0 at.1
 finds_of bytes held k key placed found.Absent is at spelled = absent_none bytes held k key placed is spelled at
-finds_of bytes held k key placed found.Fault is at spelled = tt
+finds_of bytes held k key placed found.Fault is at spelled = comes_to_page bytes held k key placed at.0 is spelled at.1 at.2
 finds_of bytes held k key placed found.Damaged is at spelled =
     at.2 (All-contains (IsLiveOn bytes held k) (of_tag placed.set placed.tag k.entries) at.0 (spelled_live bytes held k placed.set placed.tag spelled)
     (reached_listed bytes held k placed.set placed.tag key at.0 at.1))

@@ -12,7 +12,7 @@ use Rattle.klog.specs.declared.found.Found.TheVariants as found
 use Rattle.klog.specs.Log.{LogState}
 use Rattle.klog.specs.Shown.{newest_with, IsLiveOn}
 use Rattle.klog.specs.Known.{is_buffered, ShowsIfHad}
-use Rattle.klog.specs.Look.{ShowsOther, IsReached}
+use Rattle.klog.specs.Look.{ShowsOther, IsReached, ComesToPage}
 
 -- those of these entries that have this tag
 abbrev pub with_tag : ℕ → List Entry → List Entry
@@ -44,12 +44,13 @@ IsOfTag k set tag not_called found.Absent = Unit {0}
 IsOfTag k set tag not_called found.Fault = Unit {0}
 IsOfTag k set tag not_called found.Damaged = Unit {0}
 
--- the newest live record of the key is found, with its entry; absent is a key that none has; no page is damaged
-abbrev pub Finds : List (Entry × Rec) → List ℕ → Found → Type 0
-Finds live key (found.Hit e value) = (r : Rec) × (newest_with live key ≡ Some (e, r)) × (r.value ≡ value)
-Finds live key found.Absent = newest_with live key ≡ None
-Finds live key found.Fault = Unit {0}
-Finds live key found.Damaged = ⊥
+-- the newest live record of the key is found, with its entry; absent is a key that none has; a fault comes only where the
+-- search comes to a page; no page is damaged
+abbrev pub Finds : LogState → List (Entry × Rec) → List ℕ → Found → Type 0
+Finds k live key (found.Hit e value) = (r : Rec) × (newest_with live key ≡ Some (e, r)) × (r.value ≡ value)
+Finds k live key found.Absent = newest_with live key ≡ None
+Finds k live key found.Fault = ComesToPage k key live
+Finds k live key found.Damaged = ⊥
 
 -- what lies behind each answer of a search: behind a hit, the entry that is found
 abbrev pub FindsAt : ℕ → (ℕ → Option (List ℕ)) → LogState → ℕ → ℕ → List ℕ → Result Found AllocError → Type 0

@@ -1,15 +1,15 @@
 -- What a look-up in the log answers.
-use Rattle.std.specs.Prelude.{◌≡◌, ℕ, ◌+◌, List, map, take, slice_get, Option, Some, None, IsSomeAnd, Contains, All, Bool, true, false, IsTrue, Result, Ok, Err, if◌then◌else◌}
+use Rattle.std.specs.Prelude.{◌≡◌, ℕ, ◌+◌, List, ◌++◌, ◌∷◌, map, filter, take, slice_get, Option, Some, None, IsSomeAnd, Contains, All, Bool, true, false, IsTrue, Result, Ok, Err, if◌then◌else◌}
 use Rattle.std.specs.declared.alloc.AllocError.{AllocError}
 use Rattle.record_pages.specs.Recs.{Rec}
 use Rattle.record_pages.specs.Looking.{has_key}
 use Rattle.klog_index.specs.declared.entry.Entry.{Entry}
 use Rattle.klog_index.specs.declared.place.Place.{Place}
-use Rattle.klog_index.specs.Entries.{is_in, lowered, with_lowered, of_tag}
+use Rattle.klog_index.specs.Entries.{is_in, has_tag, lowered, with_lowered, of_tag}
 use Rattle.klog.specs.declared.looked.Looked.{Looked}
 use Rattle.klog.specs.declared.looked.Looked.TheVariants as looked
 use Rattle.klog.specs.Log.{LogState, with_list}
-use Rattle.klog.specs.Shown.{newest_with, shown_on, CanStandFor, IsLiveOn}
+use Rattle.klog.specs.Shown.{newest_with, place_in, shown_on, CanStandFor, IsLiveOn}
 use Rattle.klog.specs.Known.{no_pages, is_buffered, AreBuffered, ShowsIfHad}
 
 -- the answer is the device's failure
@@ -35,14 +35,24 @@ LogLookLeaves old set tag (Ok looked.Fault) new not_called = new ≡ old
 LogLookLeaves old set tag (Ok looked.Damaged) new not_called = new ≡ old
 LogLookLeaves old set tag (Err e) new not_called = new ≡ old
 
--- A hit is the newest live record of the key, whose entry is lowered; absent is a key that no live record has; no page
--- is damaged. Before and after the call these records are live.
+-- A search for a key comes to a page. Of the live records of the key's set and tag, newest first, those before this one,
+-- which lies in no buffer, have other keys.
+pub record ComesToPage (k : LogState) (key : List ℕ) (live : List (Entry × Rec)) : Type 0 where
+  pub newer : List (Entry × Rec)
+  pub at : Entry × Rec
+  pub older : List (Entry × Rec)
+  pub split : filter (λ x. has_tag (place_in k.shape key).set (place_in k.shape key).tag x.0) live ≡ newer ++ at ∷ older
+  pub stored : is_buffered k at.0 ≡ false
+  pub others : newest_with newer key ≡ None
+
+-- A hit is the newest live record of the key, whose entry is lowered; absent is a key that no live record has; a fault
+-- comes only where the search comes to a page; no page is damaged. Before and after the call these records are live.
 abbrev pub LogLookGives : List (Entry × Rec) → List ℕ → LogState → Looked → LogState → List (Entry × Rec) → Type 0
 LogLookGives live key old (looked.Hit value) new after =
     IsSomeAnd (newest_with live key) (λ x. (x.1.value ≡ value)
     × (new ≡ lowered_in old x.0.set x.0.place) × (after ≡ live_lowered x.0.set x.0.place live))
 LogLookGives live key old looked.Absent new after = (newest_with live key ≡ None) × (new ≡ old) × (after ≡ live)
-LogLookGives live key old looked.Fault new after = (new ≡ old) × (after ≡ live)
+LogLookGives live key old looked.Fault new after = ComesToPage old key live × (new ≡ old) × (after ≡ live)
 LogLookGives live key old looked.Damaged new after = ⊥
 
 -- the entry shows another key, where what it shows is known

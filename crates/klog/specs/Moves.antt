@@ -140,12 +140,6 @@ abbrev pub is_taking_lost : Result SetTaken AllocError → Bool
 is_taking_lost (Ok taken.PageLost) = true
 is_taking_lost _ = false
 
--- the device may have failed once where a page was lost, and not else
-abbrev pub FailsOnlyIfLost : ℕ → Result SetTaken AllocError → ℕ → Type 0
-FailsOnlyIfLost old (Ok taken.PageLost) new = (failed : Bool) × (new ≡ faults_after old failed)
-FailsOnlyIfLost old (Ok (taken.Records rs)) new = new ≡ old
-FailsOnlyIfLost old (Err e) new = new ≡ old
-
 -- the entries of a set that are taken: the newest
 abbrev pub taken_entries : LogState → ℕ → List Entry
 taken_entries k set = take most_taken (of_set set k.entries)

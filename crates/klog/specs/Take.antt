@@ -17,12 +17,6 @@ abbrev pub is_missing : Result (Option TakenRecord) AllocError → Bool
 is_missing (Ok None) = true
 is_missing _ = false
 
--- the device may have failed once where no record was had, and not else
-abbrev pub FailsOnlyIfMissing : ℕ → Result (Option TakenRecord) AllocError → ℕ → Type 0
-FailsOnlyIfMissing old (Ok None) new = (failed : Bool) × (new ≡ faults_after old failed)
-FailsOnlyIfMissing old (Ok (Some t)) new = new ≡ old
-FailsOnlyIfMissing old (Err e) new = new ≡ old
-
 -- a record that was had is the entry's, as it is taken, where what the entry shows is known; memory is wanted only for one
 abbrev pub Copies : ℕ → (ℕ → Option (List ℕ)) → LogState → Entry → Result (Option TakenRecord) AllocError → Type 0
 Copies bytes held k e (Ok (Some t)) = ShowsIfHad bytes held k e (λ r. t ≡ taken_as k (e, r))
@@ -33,12 +27,6 @@ Copies bytes held k e (Err x) = ShowsIfHad bytes held k e (λ r. Unit {0})
 abbrev pub is_lost_page : Result Gathered AllocError → Bool
 is_lost_page (Ok (gathered.Lost e)) = true
 is_lost_page _ = false
-
--- the device may have failed once where a page was lost, and not else
-abbrev pub FailsOnlyIfLostPage : ℕ → Result Gathered AllocError → ℕ → Type 0
-FailsOnlyIfLostPage old (Ok (gathered.Lost e)) new = (failed : Bool) × (new ≡ faults_after old failed)
-FailsOnlyIfLostPage old (Ok (gathered.Records rs)) new = new ≡ old
-FailsOnlyIfLostPage old (Err e) new = new ≡ old
 
 -- an entry whose page is lost was to be taken; no more records are had than are taken at once
 abbrev pub IsToBeTaken : LogState → ℕ → Gathered → Type 0

@@ -3,10 +3,8 @@ use Rattle.std.specs.Prelude.{◌≡◌, ℕ, Bool, List, Option, IsTrue}
 use Rattle.kset.specs.Sets.{SetsState, set_count}
 use Rattle.kset.specs.Pages.{AreSpelledOn}
 
--- The device has as many pages as before and is as honest, and there are as many sets; and where it is honest, each set
--- with a filter bit still has its page, if each had it before.
-pub record KeepsSets {D : Type 0} (size : ℕ) (page_count : D → ℕ) (is_honest : D → Bool) (held : D → ℕ → Option (List ℕ)) (was : D) (old : SetsState) (is : D) (new : SetsState) : Type 0 where
-  pub pages : page_count is ≡ page_count was
-  pub honest : is_honest is ≡ is_honest was
+-- There are as many sets; and where the device is honest, each set with a filter bit still has its page, if each had it
+-- before.
+pub record KeepsSets (size : ℕ) (is_honest : Bool) (was : ℕ → Option (List ℕ)) (old : SetsState) (is : ℕ → Option (List ℕ)) (new : SetsState) : Type 0 where
   pub sizes : set_count new ≡ set_count old
-  pub spelled : IsTrue (is_honest was) → AreSpelledOn size (held was) old → AreSpelledOn size (held is) new
+  pub spelled : IsTrue is_honest → AreSpelledOn size was old → AreSpelledOn size is new

@@ -13,19 +13,13 @@ abbrev pub is_set_lost : Result SetRead AllocError → Bool
 is_set_lost (Ok reads.PageLost) = true
 is_set_lost _ = false
 
--- the device may have failed once where the page was lost, and not else
-abbrev pub SetFailsOnlyIfLost : ℕ → Result SetRead AllocError → ℕ → Type 0
-SetFailsOnlyIfLost old (Ok reads.PageLost) new = (failed : Bool) × (new ≡ faults_after old failed)
-SetFailsOnlyIfLost old (Ok (reads.Records rs)) new = new ≡ old
-SetFailsOnlyIfLost old (Err e) new = new ≡ old
-
 -- where the page was lost the set is forgotten; else nothing changes, and no more records are read than a page holds
 abbrev pub SetReadLeaves : SetsState → ℕ → Result SetRead AllocError → SetsState → Type 0
 SetReadLeaves old set (Ok reads.PageLost) new = new ≡ forgotten old set
 SetReadLeaves old set (Ok (reads.Records rs)) new = (new ≡ old) × (length rs ≤ max_records)
 SetReadLeaves old set (Err e) new = new ≡ old
 
--- the records that are read are these
-abbrev pub SetReadGives : List SetRecord → SetRead → Type 0
-SetReadGives visible (reads.Records rs) = rs ≡ visible
-SetReadGives visible reads.PageLost = Unit {0}
+-- the records that are read are these; or the device failed, as its count of failures before and after tells
+abbrev pub SetReadGives : List SetRecord → SetRead → ℕ → ℕ → Type 0
+SetReadGives visible (reads.Records rs) before after = rs ≡ visible
+SetReadGives visible reads.PageLost before after = after ≡ faults_after before true

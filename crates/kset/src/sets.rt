@@ -3,8 +3,8 @@ ghost use Rattle.std.specs.Prelude.{◌≡◌, ◌≢◌, ◌<◌, ◌≤◌, �
 ghost use Rattle.std.specs.Bool.{OnTrue, OnFalse};
 ghost use Rattle.std.specs.List.{enumerate_from};
 ghost use Rattle.std.specs.FinSet as bits;
-ghost use Rattle.page_device.specs.Device.{faults_after};
 ghost use Rattle.page_device.specs.Frames.{pages_from};
+ghost use Rattle.page_device.specs.Lending.{OnlyReads, ReadsOrStops, OnlyWrites};
 ghost use Rattle.record_pages.specs.Sizes.{IsPageSize, max_records};
 ghost use Rattle.record_pages.specs.Recs.{Rec};
 ghost use Rattle.record_pages.specs.PageText.{set_page_text};
@@ -14,7 +14,7 @@ ghost use Rattle.kset.specs.Sets.{SetsState, sets_code, set_count, notes_of, ope
 ghost use Rattle.kset.specs.Pages.{AreSpelledOn, page_records};
 ghost use Rattle.kset.specs.Shown.{visible_in, visible_from, first_visible, with_flags};
 ghost use Rattle.kset.specs.Look.{is_set_fault, SetLookLeaves, SetLookGives};
-ghost use Rattle.kset.specs.ReadSet.{is_set_lost, SetFailsOnlyIfLost, SetReadLeaves, SetReadGives};
+ghost use Rattle.kset.specs.ReadSet.{is_set_lost, SetReadLeaves, SetReadGives};
 ghost use Rattle.kset.specs.Rewrite.{is_forgotten, after_rewrite};
 ghost use Rattle.kset.specs.After.{with_set, after_strike, shown_after_reading, shown_after_rewriting, IsForeign};
 ghost use Rattle.kset.specs.Keeps.{KeepsSets};
@@ -90,16 +90,15 @@ impl<const PAGE: usize> KSet<PAGE> {
         requires hash { placed.now.hash ≡ fnv1a key.now }
 
         // On any device.
-        ensures keeps { KeepsSets PAGE D.page_count D.honest D.held device.old self.old
-            device.new self.new }
-        ensures faults { D.failures device.new
-            ≡ faults_after (D.failures device.old) (is_set_fault result) }
+        ensures reads { OnlyReads D.page_count D.honest D.failures D.held device.old
+            (is_set_fault result) device.new }
+        ensures keeps { KeepsSets PAGE (D.honest device.old) (D.held device.old) self.old
+            (D.held device.new) self.new }
         ensures leaves { SetLookLeaves self.old placed.now.set result self.new }
         ensures denied { OnFalse (lets_show (notes_of self.old placed.now.set) placed.now.hash)
             ((result ≡ Ok Looked.Absent) × (device.new ≡ device.old)) }
 
         // Where it is honest.
-        ensures same { IsTrue (D.honest device.old) → D.held device.new ≡ D.held device.old }
         ensures gives { IsTrue (D.honest device.old) →
             AreSpelledOn PAGE (D.held device.old) self.old →
             IfOk result (λ r. SetLookGives (visible_in (D.held device.old) self.old placed.now.set)
@@ -176,23 +175,20 @@ impl<const PAGE: usize> KSet<PAGE> {
         requires set { set < set_count self.old }
 
         // On any device.
-        ensures keeps { KeepsSets PAGE D.page_count D.honest D.held device.old self.old
-            device.new self.new }
-        ensures fails_only_if_lost { SetFailsOnlyIfLost (D.failures device.old) result
-            (D.failures device.new) }
+        ensures reads { ReadsOrStops D.page_count D.honest D.failures D.held device.old
+            (is_set_lost result) device.new }
+        ensures keeps { KeepsSets PAGE (D.honest device.old) (D.held device.old) self.old
+            (D.held device.new) self.new }
         ensures leaves { SetReadLeaves self.old set result self.new }
         ensures unread { (notes_of self.old set).filter ≡ bits.empty →
             (result ≡ Ok (SetRead.Records [])) × (device.new ≡ device.old) }
 
         // Where it is honest.
-        ensures same { IsTrue (D.honest device.old) → D.held device.new ≡ D.held device.old }
-        ensures faults { IsTrue (D.honest device.old) →
-            AreSpelledOn PAGE (D.held device.old) self.old →
-            D.failures device.new ≡ faults_after (D.failures device.old) (is_set_lost result) }
         ensures gives { IsTrue (D.honest device.old) →
             AreSpelledOn PAGE (D.held device.old) self.old →
-            IfOk result (SetReadGives (with_flags (notes_of self.old set)
-            (visible_in (D.held device.old) self.old set))) }
+            IfOk result (λ r. SetReadGives (with_flags (notes_of self.old set)
+            (visible_in (D.held device.old) self.old set)) r (D.failures device.old)
+            (D.failures device.new)) }
         ensures foreign { IsTrue (D.honest device.old) → IsForeign set (D.held device.old set) →
             (notes_of self.old set).filter ≢ bits.empty → result ≡ Ok SetRead.PageLost }
         ensures short { IsTrue (D.honest device.old) →
@@ -229,10 +225,10 @@ impl<const PAGE: usize> KSet<PAGE> {
         requires set { set < set_count self.old }
 
         // On any device.
-        ensures keeps { KeepsSets PAGE D.page_count D.honest D.held device.old self.old
-            device.new self.new }
-        ensures faults { D.failures device.new
-            ≡ faults_after (D.failures device.old) (is_forgotten result) }
+        ensures writes { OnlyWrites D.page_count D.honest D.failures D.held set device.old
+            (is_forgotten result) device.new }
+        ensures keeps { KeepsSets PAGE (D.honest device.old) (D.held device.old) self.old
+            (D.held device.new) self.new }
         ensures leaves { self.new ≡ after_rewrite self.old set writer.now result }
 
         // Where it is honest.
@@ -243,8 +239,6 @@ impl<const PAGE: usize> KSet<PAGE> {
         ensures shown { IsTrue (D.honest device.old) → visible_in (D.held device.new) self.new
             ≡ shown_after_rewriting result set writer.now
             (visible_in (D.held device.old) self.old) }
-        ensures elsewhere { IsTrue (D.honest device.old) → (page : ℕ) → page ≢ set →
-            D.held device.new page ≡ D.held device.old page }
         ensures apart { IsTrue (D.honest device.old) →
             pages_from (set_count self.old) (D.held device.new)
             ≡ pages_from (set_count self.old) (D.held device.old) }

@@ -17,7 +17,10 @@ use Rattle.kset.specs.declared.set_read.SetRead.{SetRead}
 use Rattle.kset.specs.declared.set_read.SetRead.TheVariants as read
 use Rattle.kset.specs.Sets.{SetsState, notes_of, forgotten}
 use Rattle.kset.specs.Shown.{visible_in, with_flags}
-use Rattle.kset.specs.ReadSet.{SetReadLeaves, SetReadGives}
+use Rattle.kset.specs.ReadSet.{is_set_lost, SetReadLeaves, SetReadGives}
+use Rattle.kset.specs.declared.set_record.SetRecord.{SetRecord}
+use Rattle.page_device.specs.Device.{faults_after}
+use Rattle.page_device.specs.Lending.{MayFail}
 use Rattle.kset.specs.After.{shown_after_reading}
 use Rattle.mover.specs.Store.{StoreState, most_moves}
 use Rattle.mover.specs.Lane.{LaneState, lane_of}
@@ -70,12 +73,12 @@ module _ {D : Type 0} (held : D → ℕ → Option (List ℕ)) (s : StoreState D
   }
 
   -- a reading of a set is one of the lane's
-  pub lane_read : (q : SetsState) (set : ℕ) (answer : SetRead) → SetReadLeaves s.sets set (Ok answer) q → SetReadGives (with_flags (notes_of s.sets set) (visible_in (held s.device) s.sets set)) answer →
+  pub lane_read : (q : SetsState) (set : ℕ) (answer : SetRead) (before after : ℕ) → SetReadLeaves s.sets set (Ok answer) q → SetReadGives (with_flags (notes_of s.sets set) (visible_in (held s.device) s.sets set)) answer before after →
       visible_in (held d) q ≡ shown_after_reading (Ok answer) set (visible_in (held s.device) s.sets) →
       ((notes_of s.sets set).filter ≡ bits.empty → answer ≢ read.PageLost) →
       LaneReads set (lane_of held s) answer (lane_of held (record s { device = d; sets = q }))
-  lane_read q set (read.Records rs) leaves gives shown asked = (gives, sets_as q s.sets (visible_in (held s.device) s.sets) leaves.0 shown)
-  lane_read q set read.PageLost leaves gives shown asked = (λ none. asked none refl, sets_as q _ _ leaves shown)
+  lane_read q set (read.Records rs) before after leaves gives shown asked = (gives, sets_as q s.sets (visible_in (held s.device) s.sets) leaves.0 shown)
+  lane_read q set read.PageLost before after leaves gives shown asked = (λ none. asked none refl, sets_as q _ _ leaves shown)
 
   -- a readmission to the log is one of the lane
   pub lane_readmitted : (size : ℕ) (k : LogState) (e : Entry) (answer : Readmitted) → AreApart s.log.entries →
@@ -104,6 +107,11 @@ module _ {D : Type 0} (held : D → ℕ → Option (List ℕ)) (s : StoreState D
 -- where no record is read no page is lost
 pub not_lost : (answer : SetRead) (given : Result SetRead AllocError) → given ≡ Ok (read.Records []) → given ≡ Ok answer → answer ≢ read.PageLost
 not_lost answer given is was lost = absurd cc
+
+-- a call that only reads fails where it stops, if that is so where it stops for a page of a set that is lost
+pub set_failed : (answer : SetRead) (visible : List SetRecord) (before after : ℕ) → MayFail (is_set_lost (Ok answer)) before after → SetReadGives visible answer before after → after ≡ faults_after before (is_set_lost (Ok answer))
+set_failed (read.Records rs) visible before after may gives = may
+set_failed read.PageLost visible before after may gives = gives
 
 -- ---- what a beginning leaves of a store, on any device
 

@@ -1,6 +1,7 @@
 -- What a get gives, tier by tier.
-use Rattle.std.proofs.Common.{◌≡◌, ℕ, Bool, List, Option, Some, None, refl, sym, ap, subst, ◌∙◌}
+use Rattle.std.proofs.Common.{◌≡◌, inl, inr, ℕ, Bool, true, List, Option, Some, None, refl, sym, ap, subst, ◌∙◌}
 use Rattle.std.specs.Prelude.{IsSomeAnd, Result, Ok, Err, false}
+use Rattle.std.specs.Bool.{OnFalse}
 use Rattle.std.specs.Result.{IsErr}
 use Rattle.std.specs.declared.alloc.AllocError.{AllocError}
 use Rattle.set_hash.specs.declared.placed.Placed.{Placed}
@@ -14,11 +15,13 @@ use Rattle.klog.specs.declared.looked.Looked.TheVariants as log
 use Rattle.klog.specs.declared.looked.Looked.{Looked as LogLooked}
 use Rattle.kset.specs.Notes.{lets_show}
 use Rattle.page_device.specs.Device.{faults_after}
-use Rattle.mover.specs.Asking.{AsksNothing, IsNotOfLog, KeepsIfMiss, HitsInLog}
+use Rattle.mover.specs.Asking.{AsksNothing, NotesHit, LogLeaves, SetLeaves, GetLeaves}
+use Rattle.mover.specs.Leaving.{HasAll, HasLog}
+use Rattle.mover.proofs.Beginning.{all_again}
 use Rattle.record_pages.specs.Recs.{Rec}
 use Rattle.record_pages.specs.declared.answer.Answer.{Answer}
 use Rattle.record_pages.specs.declared.answer.Answer.TheVariants.{Hit, Miss}
-use Rattle.record_pages.specs.declared.miss_cause.MissCause.TheVariants.{Absent}
+use Rattle.record_pages.specs.declared.miss_cause.MissCause.TheVariants.{Absent, Fault, Damaged}
 use Rattle.record_pages.specs.declared.tier.Tier.TheVariants.{Memory, Log, Set}
 use Rattle.memory_cache.specs.MemoryList.{MemoryList, value_in, after_get, pair_in, to_front_by, holding}
 use Rattle.memory_cache.specs.declared.pair.Pair.{Pair}
@@ -30,10 +33,10 @@ use Rattle.kset.specs.declared.looked.Looked.TheVariants as set
 use Rattle.kset.specs.declared.looked.Looked.{Looked as SetLooked}
 use Rattle.kset.specs.Sets.{SetsState, hit_in, notes_of}
 use Rattle.kset.specs.Shown.{visible_in, first_visible}
-use Rattle.kset.specs.Look.{SetLookGives, is_set_fault}
-use Rattle.mover.specs.Store.{StoreState, KeepsTiers, OnlyReads}
+use Rattle.kset.specs.Look.{SetLookGives, SetLookLeaves, is_set_fault}
+use Rattle.mover.specs.Store.{StoreState, OnlyReads}
 use Rattle.mover.specs.Lane.{LaneState, lane_of}
-use Rattle.mover.specs.Get.{LogTells, lane_lowered, is_fault, log_step, set_step, ask_set, ask_log, memory_step, get_step, StepGives, KeepsUnlessHit, answer_of_set}
+use Rattle.mover.specs.Get.{Step, LogTells, NeedsSetPage, NeedsFlashPage, NeedsPage, lane_lowered, is_fault, log_step, set_step, ask_set, ask_log, memory_step, StepGives, GetGives, answer_of_set}
 
 -- what is said of what an option holds, more loosely
 weaker : {X : Type 0} (P Q : X → Type 0) (o : Option X) → ((x : X) → P x → Q x) → IsSomeAnd o P → IsSomeAnd o Q
@@ -44,9 +47,10 @@ module _ {D : Type 0} (held : D → ℕ → Option (List ℕ)) (s : StoreState D
   -- what a set gives, of the lane
   pub set_told : (q : SetsState) (n : ℕ) (looked : SetLooked) → n ≡ (place_in s.log.shape key).set → SetLookGives (visible_in (held s.device) s.sets n) key s.sets n looked q →
       visible_in (held d) q ≡ visible_in (held s.device) s.sets →
-      StepGives (ask_set key (lane_of held s)) (lane_of held s) (answer_of_set looked) (lane_of held (record s { device = d; sets = q }))
-  set_told q n looked at gives shown =
-      subst (λ m. StepGives (set_step m (lane_of held s) (first_visible (visible_in (held s.device) s.sets m) key)) (lane_of held s) (answer_of_set looked) (lane_of held (record s { device = d; sets = q }))) at (step looked gives)
+      (looked ≡ set.Fault → NeedsSetPage key (lane_of held s)) →
+      StepGives (ask_set key (lane_of held s)) (NeedsSetPage key (lane_of held s)) (lane_of held s) (answer_of_set looked) (lane_of held (record s { device = d; sets = q }))
+  set_told q n looked at gives shown needs =
+      subst (λ m. StepGives (set_step m (lane_of held s) (first_visible (visible_in (held s.device) s.sets m) key)) (NeedsSetPage key (lane_of held s)) (lane_of held s) (answer_of_set looked) (lane_of held (record s { device = d; sets = q }))) at (step looked gives needs)
     where
       lane_as : (sets : SetsState) → q ≡ sets → lane_of held (record s { device = d; sets = q }) ≡ record (lane_of held s) { sets = sets }
       lane_as sets e = λ i. record {
@@ -60,17 +64,17 @@ module _ {D : Type 0} (held : D → ℕ → Option (List ℕ)) (s : StoreState D
       }
 
       hit : (value : List ℕ) (o : Option (ℕ × Rec)) → IsSomeAnd o (λ x. (x.1.value ≡ value) × (q ≡ hit_in s.sets n x.0)) →
-          StepGives (set_step n (lane_of held s) o) (lane_of held s) (Hit value Set) (lane_of held (record s { device = d; sets = q }))
+          StepGives (set_step n (lane_of held s) o) (NeedsSetPage key (lane_of held s)) (lane_of held s) (Hit value Set) (lane_of held (record s { device = d; sets = q }))
       hit value None has = absurd has
       hit value (Some x) has = (ap (λ v. Hit v Set) (sym has.0), lane_as (hit_in s.sets n x.0) has.1)
 
-      step : (looked : SetLooked) → SetLookGives (visible_in (held s.device) s.sets n) key s.sets n looked q →
-          StepGives (set_step n (lane_of held s) (first_visible (visible_in (held s.device) s.sets n) key)) (lane_of held s) (answer_of_set looked) (lane_of held (record s { device = d; sets = q }))
-      step (set.Hit value) gives = hit value (first_visible (visible_in (held s.device) s.sets n) key) gives
-      step set.Absent gives =
-          subst (λ o. StepGives (set_step n (lane_of held s) o) (lane_of held s) (Miss Absent) (lane_of held (record s { device = d; sets = q }))) (sym gives.0) (refl, lane_as s.sets gives.1)
-      step set.Fault gives = lane_as s.sets gives
-      step set.Damaged gives = gives
+      step : (looked : SetLooked) → SetLookGives (visible_in (held s.device) s.sets n) key s.sets n looked q → (looked ≡ set.Fault → NeedsSetPage key (lane_of held s)) →
+          StepGives (set_step n (lane_of held s) (first_visible (visible_in (held s.device) s.sets n) key)) (NeedsSetPage key (lane_of held s)) (lane_of held s) (answer_of_set looked) (lane_of held (record s { device = d; sets = q }))
+      step (set.Hit value) gives needs = hit value (first_visible (visible_in (held s.device) s.sets n) key) gives
+      step set.Absent gives needs =
+          subst (λ o. StepGives (set_step n (lane_of held s) o) (NeedsSetPage key (lane_of held s)) (lane_of held s) (Miss Absent) (lane_of held (record s { device = d; sets = q }))) (sym gives.0) (refl, lane_as s.sets gives.1)
+      step set.Fault gives needs = (needs refl, lane_as s.sets gives)
+      step set.Damaged gives needs = gives
 
 module _ {D : Type 0} (held : D → ℕ → Option (List ℕ)) (s : StoreState D) (d : D) (key : List ℕ) (same : held d ≡ held s.device) where
   -- what the log gives, of the lane
@@ -97,13 +101,13 @@ module _ {D : Type 0} (held : D → ℕ → Option (List ℕ)) (s : StoreState D
       step : (looked : LogLooked) → LogLookGives (live_on (held s.device) s.log) key s.log looked k (live_on (held d) k) → LogTells key (lane_of held s) looked (lane_of held (record s { device = d; log = k }))
       step (log.Hit value) gives = hit value (newest_with (live_on (held s.device) s.log) key) gives
       step log.Absent gives = (gives.0, lane_as s.log (live_on (held s.device) s.log) gives.1 gives.2)
-      step log.Fault gives = lane_as s.log (live_on (held s.device) s.log) gives.0 gives.1
+      step log.Fault gives = (gives.0, lane_as s.log (live_on (held s.device) s.log) gives.1 gives.2)
       step log.Damaged gives = gives
 
 -- a hit in memory is the answer
 pub get_hit : (key value : List ℕ) (old new : LaneState) → Some value ≡ value_in key old.memory.pairs → new ≡ record old { memory = after_get key old.memory } →
-    StepGives (get_step key old) old (Hit value Memory) new
-get_hit key value old new found raised = subst (λ o. StepGives (memory_step key old o) old (Hit value Memory) new) found (refl, raised)
+    GetGives key old (Hit value Memory) new
+get_hit key value old new found raised = subst (λ o. StepGives (memory_step key old o) (NeedsPage key old) old (Hit value Memory) new) found (refl, raised)
 
 -- what memory has is one value
 pub recalled : (value other : List ℕ) → Some value ≡ Some other → Hit value Memory ≡ Hit other Memory
@@ -117,38 +121,78 @@ not_raised key m absent = step (pair_in key m.pairs) absent
     step None e = refl
     step (Some p) e = absurd (none-some p.value e)
 
+-- a page that is needed for one thing is needed for another
+needs_too : (step : Step Answer) (needs also : Type 0) (old : LaneState) (answer : Answer) (new : LaneState) → (needs → also) → StepGives step needs old answer new → StepGives step also old answer new
+needs_too step needs also old (Hit value tier) new to gives = gives
+needs_too step needs also old (Miss Absent) new to gives = gives
+needs_too step needs also old (Miss Fault) new to gives = (to gives.0, gives.1)
+needs_too step needs also old (Miss Damaged) new to gives = gives
+
 -- where memory has no pair of the key the answer is that of the tiers below
 pub get_below : {D : Type 0} (held : D → ℕ → Option (List ℕ)) (key : List ℕ) (answer : Answer) (s between : StoreState D) (new : LaneState) → None ≡ value_in key s.memory.pairs →
-    between ≡ record s { memory = after_get key s.memory } → StepGives (ask_log key (lane_of held between)) (lane_of held between) answer new →
-    StepGives (get_step key (lane_of held s)) (lane_of held s) answer new
+    between ≡ record s { memory = after_get key s.memory } → StepGives (ask_log key (lane_of held between)) (NeedsFlashPage key (lane_of held between)) (lane_of held between) answer new →
+    GetGives key (lane_of held s) answer new
 get_below held key answer s between new absent raised gives =
     let same : between ≡ s = raised ∙ ap (λ m. record s { memory = m }) (not_raised key s.memory absent) in
-    subst (λ o. StepGives (memory_step key (lane_of held s) o) (lane_of held s) answer new) absent
-    (subst (λ x. StepGives (ask_log key (lane_of held x)) (lane_of held x) answer new) same gives)
+    subst (λ o. StepGives (memory_step key (lane_of held s) o) (NeedsPage key (lane_of held s)) (lane_of held s) answer new) absent
+    (needs_too (ask_log key (lane_of held s)) (NeedsFlashPage key (lane_of held s)) (NeedsPage key (lane_of held s)) (lane_of held s) answer new (λ here. record { not_in_memory = sym absent; on_flash = here })
+    (subst (λ x. StepGives (ask_log key (lane_of held x)) (NeedsFlashPage key (lane_of held x)) (lane_of held x) answer new) same gives))
 
 -- a get that asks nothing asks nothing of the log
 pub asks_log : {D : Type 0} (key : List ℕ) (s : StoreState D) (at : Placed) → at ≡ place_in s.log.shape key → AsksNothing key s → AreBuffered s.log (of_tag at.set at.tag s.log.entries)
 asks_log key s at is asks = subst (λ (p : Placed). AreBuffered s.log (of_tag p.set p.tag s.log.entries)) (sym is) asks.buffered
 
 -- and nothing of the key's set
-pub asks_set : {D : Type 0} (key : List ℕ) (s mid : StoreState D) (at : Placed) (looked : LogLooked) → at ≡ place_in s.log.shape key → looked ≡ log.Absent → KeepsUnlessHit (Ok looked) s mid → AsksNothing key s →
-    lets_show (notes_of mid.sets at.set) at.hash ≡ false
-asks_set key s mid at looked is absent keeps asks =
-    let kept : KeepsTiers s mid = subst (λ l. KeepsUnlessHit (Ok l) s mid) absent keeps in
-    (λ i. lets_show (notes_of (kept.sets i) (is i).set) (is i).hash) ∙ asks.denied
+pub asks_set : {D : Type 0} (key : List ℕ) (s mid : StoreState D) (at : Placed) → at ≡ place_in s.log.shape key → HasAll s mid → AsksNothing key s → lets_show (notes_of mid.sets at.set) at.hash ≡ false
+asks_set key s mid at is all asks = (λ i. lets_show (notes_of (all i).sets (is i).set) (is i).hash) ∙ asks.denied
 
--- what is no hit in the log needs no entry of it
-pub not_of_log : {D : Type 0} (key : List ℕ) (answer : Answer) (old new : StoreState D) (not_called : Type 0) → IsNotOfLog answer → HitsInLog key answer old new not_called
-not_of_log key (Hit value Log) old new not_called is = absurd is
-not_of_log key (Hit value Memory) old new not_called is = tt
-not_of_log key (Hit value Set) old new not_called is = tt
-not_of_log key (Miss cause) old new not_called is = tt
+-- a page of a set is asked for only where its filter admits the key, and it is not struck
+pub asked_page : (shows : Bool) (r : Result SetLooked AllocError) (not_called : Type 0) → OnFalse shows ((r ≡ Ok set.Absent) × not_called) → r ≡ Ok set.Fault → shows ≡ true
+asked_page true r not_called denied is = refl
+asked_page false r not_called denied is = let no : Ok set.Fault ≡ Ok set.Absent = sym is ∙ denied.0 in absurd cc
 
--- a hit in the log needs the device for no page in a buffer
-pub hits_in_log : {D : Type 0} (key value : List ℕ) (old new : StoreState D) (at : Placed) (looked : LogLooked) (not_called : Type 0) → at ≡ place_in old.log.shape key → looked ≡ log.Hit value → LogLookLeaves old.log at.set at.tag (Ok looked) new.log not_called →
-    HitsInLog key (Hit value Log) old new not_called
-hits_in_log key value old new at looked not_called placed is leaves =
-    subst (λ (p : Placed). LogLookLeaves old.log p.set p.tag (Ok (log.Hit value)) new.log not_called) placed (subst (λ l. LogLookLeaves old.log at.set at.tag (Ok l) new.log not_called) is leaves)
+-- ---- what a look leaves of a store, on any device
+
+module _ {D : Type 0} (s : StoreState D) (d : D) where
+  pub log_leaves : (k : LogState) (at : Placed) (looked : LogLooked) → LogLookLeaves s.log at.set at.tag (Ok looked) k (d ≡ s.device) → LogLeaves at looked s (record s { device = d; log = k })
+  log_leaves k at looked leaves = step looked leaves
+    where
+      log_is : (log : LogState) → k ≡ log → HasLog log s (record s { device = d; log = k })
+      log_is log is = λ i. record { layout = s.layout; device = d; memory = s.memory; log = is i; sets = s.sets; flight = s.flight; moves = s.moves }
+
+      step : (looked : LogLooked) → LogLookLeaves s.log at.set at.tag (Ok looked) k (d ≡ s.device) → LogLeaves at looked s (record s { device = d; log = k })
+      step (log.Hit value) leaves = record { entry = leaves.0; listed = leaves.1; rest = log_is (lowered_in s.log at.set leaves.0.place) leaves.2; unasked = leaves.3 }
+      step log.Absent leaves = log_is s.log leaves
+      step log.Fault leaves = log_is s.log leaves
+      step log.Damaged leaves = log_is s.log leaves
+
+  pub set_leaves : (q : SetsState) (n : ℕ) (looked : SetLooked) → SetLookLeaves s.sets n (Ok looked) q → SetLeaves n (answer_of_set looked) s (record s { device = d; sets = q })
+  set_leaves q n looked leaves = step looked leaves
+    where
+      sets_are : (sets : SetsState) → q ≡ sets → record s { device = d; sets = q } ≡ record s { device = d; sets = sets }
+      sets_are sets is = λ i. record { layout = s.layout; device = d; memory = s.memory; log = s.log; sets = is i; flight = s.flight; moves = s.moves }
+
+      step : (looked : SetLooked) → SetLookLeaves s.sets n (Ok looked) q → SetLeaves n (answer_of_set looked) s (record s { device = d; sets = q })
+      step (set.Hit value) leaves = record { slot = leaves.0; within = leaves.1; rest = sets_are (hit_in s.sets n leaves.0) leaves.2 }
+      step set.Absent leaves = sets_are s.sets leaves
+      step set.Fault leaves = sets_are s.sets leaves
+      step set.Damaged leaves = sets_are s.sets leaves
+
+module _ {D : Type 0} (key : List ℕ) (old mid : StoreState D) (at : Placed) (placed : at ≡ place_in old.log.shape key) where
+  -- a hit in the log is that of a get
+  pub hit_leaves : (value : List ℕ) (looked : LogLooked) → looked ≡ log.Hit value → LogLeaves at looked old mid → GetLeaves key (Hit value Log) old mid
+  hit_leaves value looked is leaves = subst (λ (p : Placed). LogLeaves p (log.Hit value) old mid) placed (subst (λ l. LogLeaves at l old mid) is leaves)
+
+  -- what a look into the key's set leaves behind a call that leaves all is left by a get
+  pub leaves_after : (answer : Answer) (new : StoreState D) → HasAll old mid → SetLeaves at.set answer mid new → GetLeaves key answer old new
+  leaves_after (Hit value Memory) new all leaves = absurd leaves
+  leaves_after (Hit value Log) new all leaves = absurd leaves
+  leaves_after (Hit value Set) new all leaves = subst (λ (p : Placed). NotesHit p.set old new) placed (record {
+    slot = leaves.slot;
+    within = leaves.within;
+    rest = leaves.rest ∙ ap (λ (x : StoreState D). record x { device = new.device; sets = hit_in x.sets at.set leaves.slot }) all;
+  })
+  leaves_after (Miss cause) new all leaves = all_again old mid new all leaves
 
 -- where only an entry of the log was lowered, that is so of the store
 pub lowered_store : {D : Type 0} (s : StoreState D) (d : D) (k : LogState) (set : ℕ) (e : Entry) → k ≡ lowered_in s.log set e.place → d ≡ s.device → IsLowered set e s (record s { device = d; log = k })
@@ -180,22 +224,25 @@ module _ {D : Type 0} (size : ℕ) (key : List ℕ) (old mid : StoreState D) (at
   nothing_else answer new other e r here = absurd (other r.value (tells e r (subst (λ (p : Placed). IsInBuffers size old.log p.set p.tag key e r) (sym placed) here)).0)
 
 -- where the log has the key, that is the answer of the tiers below memory
-pub log_hit_gives : (key value : List ℕ) (old new : LaneState) (looked : LogLooked) → looked ≡ log.Hit value → LogTells key old looked new → StepGives (ask_log key old) old (Hit value Log) new
+pub log_hit_gives : (key value : List ℕ) (old new : LaneState) (looked : LogLooked) → looked ≡ log.Hit value → LogTells key old looked new → StepGives (ask_log key old) (NeedsFlashPage key old) old (Hit value Log) new
 log_hit_gives key value old new looked is tells = step (newest_with old.live key) (subst (λ l. LogTells key old l new) is tells)
   where
-    step : (o : Option (Entry × Rec)) → IsSomeAnd o (λ x. (x.1.value ≡ value) × (new ≡ lane_lowered old x.0)) → StepGives (log_step key old o) old (Hit value Log) new
+    step : (o : Option (Entry × Rec)) → IsSomeAnd o (λ x. (x.1.value ≡ value) × (new ≡ lane_lowered old x.0)) → StepGives (log_step key old o) (NeedsFlashPage key old) old (Hit value Log) new
     step None has = absurd has
     step (Some x) has = (ap (λ v. Hit v Log) (sym has.0), has.1)
 
--- where the device fails in the log nothing changes
-pub log_fault_gives : (key : List ℕ) (old new : LaneState) (looked : LogLooked) → looked ≡ log.Fault → LogTells key old looked new → new ≡ old
-log_fault_gives key old new looked is tells = subst (λ l. LogTells key old l new) is tells
+-- where the device fails in the log a page of it was needed, and nothing changes
+pub log_fault_gives : (key : List ℕ) (old new : LaneState) (looked : LogLooked) → looked ≡ log.Fault → LogTells key old looked new → StepGives (ask_log key old) (NeedsFlashPage key old) old (Miss Fault) new
+log_fault_gives key old new looked is tells = let failed = subst (λ l. LogTells key old l new) is tells in (inl failed.0, failed.1)
 
 -- where the log lacks the key, its set's answer is that of the tiers below memory
-pub log_absent_gives : (key : List ℕ) (old mid new : LaneState) (looked : LogLooked) (answer : Answer) → looked ≡ log.Absent → LogTells key old looked mid → StepGives (ask_set key mid) mid answer new → StepGives (ask_log key old) old answer new
+pub log_absent_gives : (key : List ℕ) (old mid new : LaneState) (looked : LogLooked) (answer : Answer) → looked ≡ log.Absent → LogTells key old looked mid →
+    StepGives (ask_set key mid) (NeedsSetPage key mid) mid answer new → StepGives (ask_log key old) (NeedsFlashPage key old) old answer new
 log_absent_gives key old mid new looked answer is tells gives =
     let absent = subst (λ l. LogTells key old l mid) is tells in
-    subst (λ o. StepGives (log_step key old o) old answer new) (sym absent.0) (subst (λ (l : LaneState). StepGives (ask_set key l) l answer new) absent.1 gives)
+    subst (λ o. StepGives (log_step key old o) (NeedsFlashPage key old) old answer new) (sym absent.0)
+    (needs_too (ask_set key old) (NeedsSetPage key old) (NeedsFlashPage key old) old answer new (λ here. inr (record { not_in_log = absent.0; set_page = here }))
+    (subst (λ (l : LaneState). StepGives (ask_set key l) (NeedsSetPage key l) l answer new) absent.1 gives))
 
 -- a look into the log that failed not, and then one into a set
 pub reads_after : {D : Type 0} (honest : D → Bool) (failures : D → ℕ) (held : D → ℕ → Option (List ℕ)) (old mid new : StoreState D) (looked : LogLooked) (failed : Bool) → looked ≡ log.Absent → OnlyReads honest failures held old (is_log_fault (Ok looked)) mid →
@@ -209,12 +256,9 @@ reads_after honest failures held old mid new looked failed is first next =
       same = λ on. next.same (calm.honesty ∙ on) ∙ calm.same on;
     }
 
--- a miss in both changes nothing
-pub missed_after : {D : Type 0} (old mid new : StoreState D) (looked : LogLooked) (answer : Answer) → looked ≡ log.Absent → KeepsUnlessHit (Ok looked) old mid → KeepsIfMiss answer mid new → KeepsIfMiss answer old new
-missed_after old mid new looked (Hit value tier) is keeps next = tt
-missed_after old mid new looked (Miss cause) is keeps next =
-    let kept : KeepsTiers old mid = subst (λ l. KeepsUnlessHit (Ok l) old mid) is keeps in
-    record { memory = next.memory ∙ kept.memory; log = next.log ∙ kept.log; sets = next.sets ∙ kept.sets; flight = next.flight ∙ kept.flight }
+-- where the log tells nothing of a key all stays
+pub none_leaves : {D : Type 0} (old mid : StoreState D) (at : Placed) (looked other : LogLooked) → looked ≡ other → LogLeaves at looked old mid → LogLeaves at other old mid
+none_leaves old mid at looked other is leaves = subst (λ l. LogLeaves at l old mid) is leaves
 
 -- a set's fault is the answer's
 pub set_faulty : (looked : SetLooked) → is_fault (Ok (answer_of_set looked)) ≡ is_set_fault (Ok looked)

@@ -47,6 +47,7 @@ module _ {D : Type 0} (size : ℕ) (pages : D → ℕ) (honest : D → Bool) (he
     shape = shape ∙ was.shape;
     counted = sizes ∙ was.counted;
     capacity = was.capacity;
+    roomy = was.roomy;
     small = was.small;
     room = subst (λ (h : Shape). h.sets + h.segments * h.segment_pages ≤ pages d) (sym shape)
         (subst (λ n. s.log.shape.sets + s.log.shape.segments * s.log.shape.segment_pages ≤ n) (sym same_pages) was.room);
@@ -85,6 +86,7 @@ module _ {D : Type 0} (size : ℕ) (pages : D → ℕ) (honest : D → Bool) (he
     shape = was.shape;
     counted = was.counted;
     capacity = capacity ∙ was.capacity;
+    roomy = subst (λ n. 1 ≤ n) (sym capacity) was.roomy;
     small = small;
     room = was.room;
     numbered = was.numbered;
@@ -103,6 +105,7 @@ module _ {D : Type 0} (size : ℕ) (pages : D → ℕ) (honest : D → Bool) (he
     shape = was.shape;
     counted = was.counted;
     capacity = was.capacity;
+    roomy = was.roomy;
     small = was.small;
     room = was.room;
     numbered = few;
@@ -119,15 +122,16 @@ small_removed size old new key after small =
     subst (λ (m : MemoryList). All (IsSmall size) m.pairs) (sym after) (All-filter (λ p. not (bytes_eq key p.key)) (IsSmall size) old.pairs small)
 
 -- what a store is kept by at first: nothing is in its tiers
-pub opened : {D : Type 0} (size : ℕ) (pages : D → ℕ) (honest : D → Bool) (held : D → ℕ → Option (List ℕ)) (layout : Layout) (d : D) (m : MemoryList) (k : LogState) (q : SetsState) → IsPageSize size →
+pub opened : {D : Type 0} (size : ℕ) (pages : D → ℕ) (honest : D → Bool) (held : D → ℕ → Option (List ℕ)) (layout : Layout) (d : D) (m : MemoryList) (k : LogState) (q : SetsState) → IsPageSize size → 1 ≤ layout.memory →
     m ≡ empty layout.memory → k ≡ opening_log (shape_of layout) → q ≡ opening_sets layout.sets → layout.sets + layout.segments * layout.segment_pages ≤ pages d →
     ((on : ℕ → Option (List ℕ)) → IsSpelledOn size on k) → ((on : ℕ → Option (List ℕ)) → AreSpelledOn size on q) → ((on : ℕ → Option (List ℕ)) (set : ℕ) → visible_in on q set ≡ []) →
     IsStore size pages honest held (record { layout = layout; device = d; memory = m; log = k; sets = q; flight = None; moves = 0 })
-opened size pages honest held layout d m k q page_size memory log sets fits log_spelled sets_spelled shown = record {
+opened size pages honest held layout d m k q page_size roomy memory log sets fits log_spelled sets_spelled shown = record {
   page_size = page_size;
   shape = ap (λ (x : LogState). x.shape) log;
   counted = ap set_count sets ∙ length-replicate layout.sets no_notes;
   capacity = ap (λ (x : MemoryList). x.capacity) memory;
+  roomy = subst (λ (x : MemoryList). 1 ≤ x.capacity) (sym memory) roomy;
   small = subst (λ (x : MemoryList). All (IsSmall size) x.pairs) (sym memory) (All-nil (IsSmall size));
   room = subst (λ (h : Shape). h.sets + h.segments * h.segment_pages ≤ pages d) (sym (ap (λ (x : LogState). x.shape) log)) fits;
   log_spelled = λ _. log_spelled (held d);

@@ -9,7 +9,7 @@ use Rattle.kset.specs.Sets.{SetsState, notes_of, struck_in}
 use Rattle.kset.specs.Shown.{visible_in}
 use Rattle.kset.specs.After.{after_strike, with_set}
 use Rattle.mover.specs.Flight.{Flight, flight_struck}
-use Rattle.mover.specs.Store.{StoreState, KeepsTiers}
+use Rattle.mover.specs.Store.{StoreState}
 use Rattle.mover.specs.Lane.{LaneState, lane_of}
 use Rattle.mover.specs.Strike.{struck_at}
 
@@ -35,15 +35,3 @@ pub lane_struck : {D : Type 0} (held : D → ℕ → Option (List ℕ)) (s : Sto
     lane_of held (record s { log = k; sets = q; flight = o }) ≡ struck_at at (lane_of held s)
 lane_struck held s at k q o log live sets shown flight =
     same_lane (lane_of held (record s { log = k; sets = q; flight = o })) (struck_at at (lane_of held s)) refl log live sets shown flight refl
-
--- where memory sees the same, and the device holds the same, the lane is the same
-pub lane_kept : {D : Type 0} (held : D → ℕ → Option (List ℕ)) (old new : StoreState D) → KeepsTiers old new → new.moves ≡ old.moves → held new.device ≡ held old.device → lane_of held new ≡ lane_of held old
-lane_kept held old new keeps number same = λ i. record {
-  memory = keeps.memory i;
-  log = keeps.log i;
-  live = live_on (same i) (keeps.log i);
-  sets = keeps.sets i;
-  visible = visible_in (same i) (keeps.sets i);
-  flight = keeps.flight i;
-  moves = number i;
-}

@@ -1,3 +1,4 @@
+pub mod AnswerLaw
 pub mod Listing
 pub mod Keeping
 pub mod Lanes

@@ -29,7 +29,7 @@ use Rattle.kset.specs.Laws.{AreOfTheirSets}
 use Rattle.kset.proofs.MovingLaws.{strikes_keep}
 use Rattle.mover.specs.Flight.{AreOfSet, flight_struck}
 use Rattle.mover.specs.Lane.{LaneState}
-use Rattle.mover.specs.Get.{Step, set_step, log_step, memory_step, get_step, StepGives}
+use Rattle.mover.specs.Get.{Step, set_step, log_step, memory_step, get_step, GetGives}
 use Rattle.mover.specs.Strike.{struck, removed}
 use Rattle.mover.specs.Put.{lane_appended, append_step, push_step, stored, put_step}
 use Rattle.mover.specs.Flush.{LaneFlushes}
@@ -182,14 +182,14 @@ flushed_kept old new flushed was gives =
     left false = was.placed.log
 
 -- and what a get gives
-pub get_kept : (key : List ℕ) (old new : LaneState) (answer : Answer) → IsInOrder old → StepGives (get_step key old) old answer new → KeepsOrder old new
+pub get_kept : (key : List ℕ) (old new : LaneState) (answer : Answer) → IsInOrder old → GetGives key old answer new → KeepsOrder old new
 get_kept key old new answer was = by_answer answer
   where
     stepped : new ≡ (get_step key old).lane → KeepsOrder old new
     stepped is = subst (KeepsOrder old) (sym is) (got_kept old was key)
 
-    by_answer : (answer : Answer) → StepGives (get_step key old) old answer new → KeepsOrder old new
+    by_answer : (answer : Answer) → GetGives key old answer new → KeepsOrder old new
     by_answer (Hit value tier) gives = stepped gives.1
     by_answer (Miss Absent) gives = stepped gives.1
-    by_answer (Miss Fault) same = subst (KeepsOrder old) (sym same) (refl, was)
+    by_answer (Miss Fault) failed = subst (KeepsOrder old) (sym failed.1) (refl, was)
     by_answer (Miss Damaged) gives = absurd gives

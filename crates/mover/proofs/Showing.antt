@@ -30,7 +30,7 @@ use Rattle.klog.specs.declared.flushed.Flushed.{Flushed}
 use Rattle.klog.specs.Flush.{is_page_lost, is_on_page, live_flushed}
 use Rattle.kset.specs.Shown.{first_visible}
 use Rattle.record_pages.specs.declared.pushed.Pushed.{Pushed}
-use Rattle.mover.specs.Get.{Step, set_step, log_step, memory_step, get_step, StepGives}
+use Rattle.mover.specs.Get.{Step, set_step, log_step, memory_step, get_step, GetGives}
 use Rattle.mover.specs.Put.{lane_appended, append_step, push_step, stored, put_step}
 use Rattle.mover.specs.Flush.{LaneFlushes}
 use Rattle.klog.specs.Shown.{place_in, newest_with}
@@ -215,16 +215,16 @@ step_flies key lane = by_memory (value_in key lane.memory.pairs)
     by_memory (Some value) = refl
 
 -- nor does what a get leaves
-pub get_shows : (key : List ℕ) (old new : LaneState) (answer : Answer) → StepGives (get_step key old) old answer new → ShowsNoMore old new
+pub get_shows : (key : List ℕ) (old new : LaneState) (answer : Answer) → GetGives key old answer new → ShowsNoMore old new
 get_shows key old new answer gives = by_answer answer gives
   where
     stepped : new ≡ (get_step key old).lane → ShowsNoMore old new
     stepped is = subst (ShowsNoMore old) (sym is) (sees_no_more old (get_step key old).lane (step_flies key old) (step_shows key old))
 
-    by_answer : (answer : Answer) → StepGives (get_step key old) old answer new → ShowsNoMore old new
+    by_answer : (answer : Answer) → GetGives key old answer new → ShowsNoMore old new
     by_answer (Hit value tier) gives = stepped gives.1
     by_answer (Miss Absent) gives = stepped gives.1
-    by_answer (Miss Fault) same = subst (ShowsNoMore old) (sym same) (λ p here. here)
+    by_answer (Miss Fault) failed = subst (ShowsNoMore old) (sym failed.1) (λ p here. here)
     by_answer (Miss Damaged) gives = absurd gives
 
 -- ---- puts
@@ -357,7 +357,7 @@ answer_visible key lane = by_memory (pair_in key lane.memory.pairs) refl
         (found_in (λ (y : Pair). bytes_eq key y.key) lane.memory.pairs p is))
 
 -- so does what a get answers
-pub get_tells : (key : List ℕ) (old new : LaneState) (answer : Answer) → StepGives (get_step key old) old answer new → TellsVisible key old answer
+pub get_tells : (key : List ℕ) (old new : LaneState) (answer : Answer) → GetGives key old answer new → TellsVisible key old answer
 get_tells key old new (Hit value tier) gives = subst (TellsVisible key old) (sym gives.0) (answer_visible key old)
 get_tells key old new (Miss Absent) gives = tt
 get_tells key old new (Miss Fault) gives = tt

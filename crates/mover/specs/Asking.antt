@@ -1,16 +1,22 @@
--- When a get makes no call of the device, and what it leaves on any device.
-use Rattle.std.specs.Prelude.{◌≡◌, ℕ, List, Contains, IsTrue, false}
+-- When a get makes no call of the device, and what it leaves of a store on any device.
+use Rattle.std.specs.Prelude.{◌≡◌, ◌<◌, ℕ, List, Some, Contains, IsTrue, false}
+use Rattle.set_hash.specs.declared.placed.Placed.{Placed}
+use Rattle.record_pages.specs.Sizes.{max_records}
 use Rattle.record_pages.specs.declared.answer.Answer.{Answer}
 use Rattle.record_pages.specs.declared.answer.Answer.TheVariants.{Hit, Miss}
 use Rattle.record_pages.specs.declared.tier.Tier.TheVariants.{Memory, Log, Set}
+use Rattle.memory_cache.specs.MemoryList.{value_in, after_get}
 use Rattle.klog_index.specs.declared.entry.Entry.{Entry}
 use Rattle.klog_index.specs.Entries.{of_tag}
+use Rattle.klog.specs.declared.looked.Looked.TheVariants as log
+use Rattle.klog.specs.declared.looked.Looked.{Looked as LogLooked}
 use Rattle.klog.specs.Known.{is_buffered, AreBuffered}
 use Rattle.klog.specs.Look.{lowered_in}
 use Rattle.klog.specs.Shown.{place_in}
 use Rattle.kset.specs.Notes.{lets_show}
-use Rattle.kset.specs.Sets.{notes_of}
-use Rattle.mover.specs.Store.{StoreState, KeepsTiers}
+use Rattle.kset.specs.Sets.{notes_of, hit_in}
+use Rattle.mover.specs.Store.{StoreState}
+use Rattle.mover.specs.Leaving.{HasAll, HasLog}
 
 -- no page is needed to answer a key: the entries of its set and tag lie in the log's buffers, and its set's filter
 -- denies it or it is struck there
@@ -22,23 +28,42 @@ pub record AsksNothing {D : Type 0} (key : List ℕ) (s : StoreState D) : Type 0
 pub record IfThen (P not_called : Type 0) : Type 0 where
   pub asks_not : P → not_called
 
--- an answer is no hit in the log
-abbrev pub IsNotOfLog : Answer → Type 0
-IsNotOfLog (Hit value Log) = ⊥
-IsNotOfLog (Hit value Memory) = Unit {0}
-IsNotOfLog (Hit value Set) = Unit {0}
-IsNotOfLog (Miss cause) = Unit {0}
+-- a hit in memory: it has this value of the key, whose pair comes to the front; nothing else changes, the device neither
+pub record Recalls {D : Type 0} (key value : List ℕ) (old new : StoreState D) : Type 0 where
+  pub its : value_in key old.memory.pairs ≡ Some value
+  pub rest : new ≡ record old { memory = after_get key old.memory }
 
--- a miss of any cause changes nothing in the tiers
-abbrev pub KeepsIfMiss : {D : Type 0} → Answer → StoreState D → StoreState D → Type 0
-KeepsIfMiss (Miss cause) old new = KeepsTiers old new
-KeepsIfMiss (Hit value tier) old new = Unit {0}
+-- a hit in the log: one entry of this set and tag is asked for once more, and nothing else changes but the device; that
+-- neither where the entry lies in a buffer
+pub record LowersOne {D : Type 0} (at : Placed) (old new : StoreState D) : Type 0 where
+  pub entry : Entry
+  pub listed : Contains (of_tag at.set at.tag old.log.entries) entry
+  pub rest : HasLog (lowered_in old.log at.set entry.place) old new
+  pub unasked : IsTrue (is_buffered old.log entry) → new.device ≡ old.device
 
--- a hit in the log lowers an entry of the key's set and tag, and where that one lies in a buffer the device was not called
-abbrev pub HitsInLog : {D : Type 0} → List ℕ → Answer → StoreState D → StoreState D → Type 0 → Type 0
-HitsInLog key (Hit value Log) old new not_called =
-    (e : Entry) × Contains (of_tag (place_in old.log.shape key).set (place_in old.log.shape key).tag old.log.entries) e
-    × (new.log ≡ lowered_in old.log (place_in old.log.shape key).set e.place) × (IsTrue (is_buffered old.log e) → not_called)
-HitsInLog key (Hit value Memory) old new not_called = Unit {0}
-HitsInLog key (Hit value Set) old new not_called = Unit {0}
-HitsInLog key (Miss cause) old new not_called = Unit {0}
+-- a hit in a set: one slot of its page is noted as hit, and nothing else changes but the device
+pub record NotesHit {D : Type 0} (set : ℕ) (old new : StoreState D) : Type 0 where
+  pub slot : ℕ
+  pub within : slot < max_records
+  pub rest : new ≡ record old { device = new.device; sets = hit_in old.sets set slot }
+
+-- what a look into the log for a key of this place leaves, by what it tells
+abbrev pub LogLeaves : {D : Type 0} → Placed → LogLooked → StoreState D → StoreState D → Type 0
+LogLeaves at (log.Hit value) old new = LowersOne at old new
+LogLeaves at log.Absent old new = HasAll old new
+LogLeaves at log.Fault old new = HasAll old new
+LogLeaves at log.Damaged old new = HasAll old new
+
+-- what a look into a set leaves, by what it answers
+abbrev pub SetLeaves : {D : Type 0} → ℕ → Answer → StoreState D → StoreState D → Type 0
+SetLeaves set (Hit value Memory) old new = ⊥
+SetLeaves set (Hit value Log) old new = ⊥
+SetLeaves set (Hit value Set) old new = NotesHit set old new
+SetLeaves set (Miss cause) old new = HasAll old new
+
+-- what a get of a key leaves, by what it answers: a miss of any cause changes nothing but the device
+abbrev pub GetLeaves : {D : Type 0} → List ℕ → Answer → StoreState D → StoreState D → Type 0
+GetLeaves key (Hit value Memory) old new = Recalls key value old new
+GetLeaves key (Hit value Log) old new = LowersOne (place_in old.log.shape key) old new
+GetLeaves key (Hit value Set) old new = NotesHit (place_in old.log.shape key).set old new
+GetLeaves key (Miss cause) old new = HasAll old new

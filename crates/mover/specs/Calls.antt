@@ -15,16 +15,16 @@ use Rattle.kset.specs.declared.rewritten.Rewritten.TheVariants as rewritten
 use Rattle.policy_laws.specs.declared.choice.Choice.{Choice}
 use Rattle.policy_laws.specs.declared.job.Job.{Job}
 use Rattle.memory_cache.specs.declared.pair.Pair.{Pair}
-use Rattle.memory_cache.specs.MemoryList.{value_in, after_get}
+use Rattle.memory_cache.specs.MemoryList.{value_in}
 use Rattle.klog_index.specs.declared.entry.Entry.{Entry}
 use Rattle.klog.specs.declared.flushed.Flushed.{Flushed}
 use Rattle.klog.specs.Flush.{is_page_lost, FlushGives}
 use Rattle.klog.specs.Look.{lowered_in, IsInBuffers}
 use Rattle.klog.specs.Shown.{place_in}
-use Rattle.mover.specs.Store.{StoreState, KeepsTiers, KeepsMoves, OnlyReads}
+use Rattle.mover.specs.Store.{StoreState, OnlyReads}
 use Rattle.mover.specs.Lane.{lane_of}
-use Rattle.mover.specs.Get.{get_step, StepGives, is_fault}
-use Rattle.mover.specs.Asking.{AsksNothing, IfThen, KeepsIfMiss, HitsInLog}
+use Rattle.mover.specs.Get.{GetGives, is_fault}
+use Rattle.mover.specs.Asking.{AsksNothing, IfThen, GetLeaves}
 use Rattle.mover.specs.Put.{put_step, IsStep}
 use Rattle.mover.specs.Strike.{removed}
 use Rattle.mover.specs.Flush.{LaneFlushes}
@@ -40,10 +40,6 @@ use Rattle.mover.specs.declared.aborted.Aborted.{Aborted}
 use Rattle.mover.specs.declared.moved.Moved.{Moved}
 use Rattle.mover.specs.declared.moved.Moved.TheVariants as moved
 
--- a get of what memory has answers that, and its pair comes to the front; nothing else changes, the device neither
-abbrev pub Recalls : {D : Type 0} → List ℕ → List ℕ → StoreState D → Answer → StoreState D → Type 0
-Recalls key value old answer new = (answer ≡ Hit value Memory) × (new ≡ record old { memory = after_get key old.memory })
-
 -- an entry of a set is asked for once more, and nothing else changes, the device neither
 abbrev pub IsLowered : {D : Type 0} → ℕ → Entry → StoreState D → StoreState D → Type 0
 IsLowered set e old new = new ≡ record old { log = lowered_in old.log set e.place }
@@ -52,22 +48,19 @@ IsLowered set e old new = new ≡ record old { log = lowered_in old.log set e.pl
 abbrev pub AnswersFromBuffers : {D : Type 0} → List ℕ → Entry → Rec → StoreState D → Answer → StoreState D → Type 0
 AnswersFromBuffers key e r old answer new = (answer ≡ Hit r.value Log) × IsLowered (place_in old.log.shape key).set e old new
 
--- A get. On any device no page is written, the device has failed exactly where a fault is answered, and a miss changes
--- nothing; what memory has is answered at once, and else what the log's buffers tell of the key. Where the device is
--- honest, answer and lane are those of a get's step.
+-- A get. On any device no page is written, the device has failed exactly where a fault is answered, and the answer says
+-- what is left; what memory has is answered at once, and else what the log's buffers tell of the key. Where the device is
+-- honest, answer and lane are those of a get's step, and a fault comes only where a page is needed.
 pub record StoreGets {D : Type 0} (size : ℕ) (honest : D → Bool) (failures : D → ℕ) (held : D → ℕ → Option (List ℕ)) (key : List ℕ) (old : StoreState D) (result : Result Answer AllocError) (new : StoreState D) : Type 0 where
   pub reads : OnlyReads honest failures held old (is_fault result) new
-  pub stays : KeepsMoves old new
-  pub out_of_memory : OnErr result (KeepsTiers old new)
-  pub missed : IfOk result (λ answer. KeepsIfMiss answer old new)
-  pub in_memory : (value : List ℕ) → value_in key old.memory.pairs ≡ Some value → IfOk result (λ answer. Recalls key value old answer new)
+  pub leaves : IfOk result (λ answer. GetLeaves key answer old new)
+  pub out_of_memory : OnErr result (HasAll old new)
+  pub in_memory : (value : List ℕ) → value_in key old.memory.pairs ≡ Some value → IfOk result (λ answer. answer ≡ Hit value Memory)
   pub unread : IsSome (value_in key old.memory.pairs) → new.device ≡ old.device
-  pub memory : value_in key old.memory.pairs ≡ None → new.memory ≡ old.memory
   pub in_buffers : (e : Entry) (r : Rec) → value_in key old.memory.pairs ≡ None → IsInBuffers size old.log (place_in old.log.shape key).set (place_in old.log.shape key).tag key e r →
       IfOk result (λ answer. AnswersFromBuffers key e r old answer new)
-  pub in_log : IfOk result (λ answer. HitsInLog key answer old new (new.device ≡ old.device))
   pub unasked : IfThen (AsksNothing key old) (new.device ≡ old.device)
-  pub gives : IsTrue (honest old.device) → IfOk result (λ answer. StepGives (get_step key (lane_of held old)) (lane_of held old) answer (lane_of held new))
+  pub gives : IsTrue (honest old.device) → IfOk result (λ answer. GetGives key (lane_of held old) answer (lane_of held new))
 
 -- A put. It makes no call of the device, and is a put's step whatever the device.
 pub record StorePuts {D : Type 0} (size : ℕ) (held : D → ℕ → Option (List ℕ)) (p : Pair) (word : ℕ) (old : StoreState D) (result : Result Pushed PutFault) (new : StoreState D) : Type 0 where

@@ -22,7 +22,7 @@ use Rattle.mover.specs.Store.{opening}
 use Rattle.mover.specs.Flight.{Flight, IsFlightOf, records_of}
 use Rattle.mover.specs.Lane.{LaneState, lane_of}
 use Rattle.mover.specs.Visible.{IsShown, ShowsFrom, IsPlaced, TellsVisible}
-use Rattle.mover.specs.Get.{get_step, StepGives}
+use Rattle.mover.specs.Get.{GetGives}
 use Rattle.mover.specs.Put.{put_step, IsStep}
 use Rattle.mover.specs.Strike.{removed}
 use Rattle.mover.specs.Flush.{LaneFlushes}
@@ -55,7 +55,7 @@ abbrev pub GetShows : Type 0
 GetShows =
     (key : List ℕ) (old new : LaneState) (answer : Answer)
     → IsInOrder old
-    → StepGives (get_step key old) old answer new
+    → GetGives key old answer new
     → StepsInOrder None None old new × TellsVisible key old answer
 
 -- a put shows its pair, and nothing else that was not shown

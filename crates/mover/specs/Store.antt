@@ -33,14 +33,15 @@ most_moves = 2 ^ 62
 abbrev pub IsSmall : ℕ → Pair → Type 0
 IsSmall size p = object_size p.key p.value ≤ room size
 
--- What is true of every store. Its tiers have the layout's numbers and the device has their pages; each object in memory
--- fits on a page; a move in flight is one of this store; and where the device is honest, each live and each visible record is on a known
+-- What is true of every store. Its tiers have the layout's numbers and the device has their pages; memory has room for one
+-- object at least, and each object there fits on a page; a move in flight is one of this store; and where the device is honest, each live and each visible record is on a known
 -- page or in a buffer, and each visible record and each record in flight is in the set of its key.
 pub record IsStore {D : Type 0} (size : ℕ) (pages : D → ℕ) (honest : D → Bool) (held : D → ℕ → Option (List ℕ)) (s : StoreState D) : Type 0 where
   pub page_size : IsPageSize size
   pub shape : s.log.shape ≡ shape_of s.layout
   pub counted : set_count s.sets ≡ s.layout.sets
   pub capacity : s.memory.capacity ≡ s.layout.memory
+  pub roomy : 1 ≤ s.memory.capacity
   pub small : All (IsSmall size) s.memory.pairs
   pub room : HasRoom (pages s.device) s.log
   pub numbered : s.moves ≤ most_moves
@@ -65,18 +66,6 @@ opening layout device = record {
   flight = None;
   moves = 0;
 }
-
--- memory sees the same in all three tiers, and the same move is in flight
-pub record KeepsTiers {D : Type 0} (old new : StoreState D) : Type 0 where
-  pub memory : new.memory ≡ old.memory
-  pub log : new.log ≡ old.log
-  pub sets : new.sets ≡ old.sets
-  pub flight : new.flight ≡ old.flight
-
--- the same move is in flight, and as many began
-pub record KeepsMoves {D : Type 0} (old new : StoreState D) : Type 0 where
-  pub flight : new.flight ≡ old.flight
-  pub moves : new.moves ≡ old.moves
 
 -- a call that writes no page, and in which the device may have failed once
 pub record OnlyReads {D : Type 0} (honest : D → Bool) (failures : D → ℕ) (held : D → ℕ → Option (List ℕ)) (old : StoreState D) (failed : Bool) (new : StoreState D) : Type 0 where

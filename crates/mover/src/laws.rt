@@ -1,10 +1,20 @@
 // Laws of a lane's steps, for those who record what a lane answers.
+ghost use Rattle.mover.specs.Answers.{GetFindsLast};
 ghost use Rattle.mover.specs.Laws.{GetShows, PutShows, RemovalShows, FlushShows, BeginShows, CommitShows, AbortShows, WholeMoveShows, OpeningShowsNothing, StoresAreInOrder};
+
+use klog::look_finds_newest;
 
 /// A get shows nothing that was not shown, and a hit is the value of a visible pair of its key.
 pub fn get_shows()
     ensures { GetShows }
 {}
+
+/// A get answers by memory, then by the last live record of its key on the log's list of segments, then by its set.
+pub fn get_finds_last()
+    ensures { GetFindsLast }
+{
+    look_finds_newest();
+}
 
 /// A put shows its pair, and nothing else that was not shown; it strikes its key.
 pub fn put_shows()

@@ -18,8 +18,8 @@ pub use aborted::Aborted;
 pub use begin::Begin;
 pub use committed::Committed;
 pub use laws::{
-    abort_shows, begin_shows, commit_shows, flush_shows, get_shows, opening_shows_nothing,
-    put_shows, removal_shows, stores_are_in_order, whole_move_shows,
+    abort_shows, begin_shows, commit_shows, flush_shows, get_finds_last, get_shows,
+    opening_shows_nothing, put_shows, removal_shows, stores_are_in_order, whole_move_shows,
 };
 pub use moved::Moved;
 pub use open_fault::OpenFault;

@@ -1,1 +1,2 @@
+pub mod PutRow
 pub mod Struck

@@ -11,7 +11,7 @@ use Rattle.mover.specs.declared.committed.Committed.{Committed}
 use Rattle.mover.specs.Lane.{LaneState}
 use Rattle.mover.specs.Visible.{IsShown, TellsVisible}
 use Rattle.mover.specs.Laws.{IsInOrder, StepsInOrder, GetShows, RemovalShows, PutShows, CommitShows}
-use Rattle.mover.specs.Get.{get_step, StepGives}
+use Rattle.mover.specs.Get.{GetGives}
 use Rattle.mover.specs.Put.{put_step, IsStep}
 use Rattle.mover.specs.Strike.{removed}
 use Rattle.mover.specs.Commit.{CommitGives}
@@ -32,7 +32,7 @@ put_is_told key value told old new step here =
 
 -- a get behind a removal of its key is no hit
 pub removed_is_missed : (key value : List ℕ) (tier : Tier) (answer : Answer) (old between new : LaneState) → RemovalShows → GetShows → IsInOrder old →
-    between ≡ removed key old → StepGives (get_step key between) between answer new → answer ≡ Hit value tier → ⊥
+    between ≡ removed key old → GetGives key between answer new → answer ≡ Hit value tier → ⊥
 removed_is_missed key value tier answer old between new removal get order is gives told =
     let struck = removal key old between order is in
     let seen = (get key between new answer struck.order gives).1 in
@@ -40,7 +40,7 @@ removed_is_missed key value tier answer old between new removal get order is giv
 
 -- a hit behind a put of its key is the value that was put
 pub put_is_hit : (size admit word : ℕ) (key value told : List ℕ) (tier : Tier) (pushed : Pushed) (answer : Answer) (old between new : LaneState) → PutShows → GetShows → IsInOrder old →
-    IsStep (put_step size admit (record { key = key; value = value }) word old) pushed between → StepGives (get_step key between) between answer new → answer ≡ Hit told tier → told ≡ value
+    IsStep (put_step size admit (record { key = key; value = value }) word old) pushed between → GetGives key between answer new → answer ≡ Hit told tier → told ≡ value
 put_is_hit size admit word key value told tier pushed answer old between new put get order is gives hit =
     let stored = put size admit word (record { key = key; value = value }) old between pushed order is in
     let seen = (get key between new answer stored.order gives).1 in

@@ -1,3 +1,4 @@
 pub mod Device
 pub mod Frames
 pub mod Fuse
+pub mod Lending

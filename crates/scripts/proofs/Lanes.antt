@@ -28,11 +28,11 @@ none_failed false same = refl
 none_failed true same = absurd (omega (arith, same))
 
 -- a get that met no fault is its step
-pub get_is_step : (step : Step Answer) (old new : LaneState) (answer : Answer) → is_fault (Ok answer) ≡ false → StepGives step old answer new → IsStep step answer new
-get_is_step step old new (Hit value tier) unfailed gives = gives
-get_is_step step old new (Miss Absent) unfailed gives = gives
-get_is_step step old new (Miss Fault) unfailed gives = cc
-get_is_step step old new (Miss Damaged) unfailed gives = absurd gives
+pub get_is_step : (step : Step Answer) (needs : Type 0) (old new : LaneState) (answer : Answer) → is_fault (Ok answer) ≡ false → StepGives step needs old answer new → IsStep step answer new
+get_is_step step needs old new (Hit value tier) unfailed gives = gives
+get_is_step step needs old new (Miss Absent) unfailed gives = gives
+get_is_step step needs old new (Miss Fault) unfailed gives = cc
+get_is_step step needs old new (Miss Damaged) unfailed gives = absurd gives
 
 one_lane : (hash lanes : ℕ) → lanes ≡ 1 → hash % lanes ≡ 0
 one_lane hash lanes one = rw one (omega arith)

@@ -13,7 +13,7 @@ use Rattle.policy_laws.specs.declared.choice.Choice.{Choice}
 use Rattle.policy_laws.specs.declared.job.Job.{Job}
 use Rattle.mover.specs.declared.moved.Moved.{Moved}
 use Rattle.mover.specs.Lane.{LaneState, lane_of}
-use Rattle.mover.specs.Get.{get_step, is_fault}
+use Rattle.mover.specs.Get.{get_step, is_fault, NeedsPage}
 use Rattle.mover.specs.Store.{StoreState}
 use Rattle.mover.specs.Flush.{flush_step}
 use Rattle.mover.specs.Whole.{move_step, is_failed}
@@ -62,7 +62,7 @@ pub got : (size : ℕ) (old new : Lane Pages) (key : List ℕ) (answer : Answer)
     × (seen_of new ≡ after_call (seen_of old) (get_step key (seen_of old).lane).lane key (act_of answer))
 got size old new key answer n whole is told =
     let unfailed = none_failed (is_fault (Ok answer)) told.reads.failed_once in
-    let step = get_is_step (get_step key (lane_of held_by old.store)) (lane_of held_by old.store) (lane_of held_by new.store) answer unfailed (told.gives refl) in
+    let step = get_is_step (get_step key (lane_of held_by old.store)) (NeedsPage key (lane_of held_by old.store)) (lane_of held_by old.store) (lane_of held_by new.store) answer unfailed (told.gives refl) in
     (step.0, called old new key (act_of answer) (get_step key (lane_of held_by old.store)).lane n whole is told.reads.layout step.1)
 
 -- a flush step answers and leaves what its function does

@@ -1,7 +1,7 @@
 // Reading the record of an entry.
 ghost use Rattle.std.specs.Prelude.{◌≡◌, ◌↔◌, ℕ, List, Option, IfSome, IsTrue, Contains, false};
 ghost use Rattle.std.specs.Option.{option_map};
-ghost use Rattle.page_device.specs.Device.{faults_after};
+ghost use Rattle.page_device.specs.Lending.{OnlyReads};
 ghost use Rattle.record_pages.specs.Sizes.{IsPageSize};
 ghost use Rattle.record_pages.specs.Recs.{IsRecord};
 ghost use Rattle.record_pages.specs.Lent.{record_shown};
@@ -34,13 +34,10 @@ impl<const PAGE: usize> KLog<PAGE> {
         requires room { HasRoom (D.page_count device.old) self.now }
         requires listed { Contains self.now.entries entry.now }
         requires asked { IfSome asked (λ key. IsPlaceOf self.now.shape key.now entry.now) }
-        ensures pages { D.page_count device.new ≡ D.page_count device.old }
-        ensures honest { D.honest device.new ≡ D.honest device.old }
-        ensures faults { D.failures device.new
-            ≡ faults_after (D.failures device.old) (is_fetch_fault result) }
+        ensures reads { OnlyReads D.page_count D.honest D.failures D.held device.old (is_fetch_fault result)
+            device.new }
         ensures buffered { IsTrue (is_buffered self.entry.now entry.now) → device.new ≡ device.old }
         ensures its { IsItsOwn PAGE self.entry.now.shape entry.now result }
-        ensures same { IsTrue (D.honest device.old) → D.held device.new ≡ D.held device.old }
         ensures gives { (known : ℕ → Option (List ℕ)) → AreHeldBy D.honest D.held device.old known →
             IsHad known self.entry.now entry.now → FetchGives PAGE self.entry.now.shape entry.now
             (shown_on known self.entry.now entry.now) result }
@@ -68,12 +65,9 @@ impl<const PAGE: usize> KLog<PAGE> {
         requires room { HasRoom (D.page_count device.old) self.now }
         requires listed { Contains self.now.entries entry.now }
         requires asked { IfSome asked (λ key. IsPlaceOf self.now.shape key.now entry.now) }
-        ensures pages { D.page_count device.new ≡ D.page_count device.old }
-        ensures honest { D.honest device.new ≡ D.honest device.old }
-        ensures faults { D.failures device.new
-            ≡ faults_after (D.failures device.old) (is_fetch_fault result) }
+        ensures reads { OnlyReads D.page_count D.honest D.failures D.held device.old (is_fetch_fault result)
+            device.new }
         ensures its { IsItsOwn PAGE self.now.shape entry.now result }
-        ensures same { IsTrue (D.honest device.old) → D.held device.new ≡ D.held device.old }
         ensures gives { (known : ℕ → Option (List ℕ)) → AreHeldBy D.honest D.held device.old known →
             IsPageKnown known self.now entry.now → FetchGives PAGE self.now.shape entry.now
             (stored_on known self.now entry.now) result }

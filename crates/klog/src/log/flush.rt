@@ -1,6 +1,6 @@
 // Writing filled segments to the device.
 ghost use Rattle.std.specs.Prelude.{◌≡◌, ◌≢◌, ◌<◌, ℕ, List, Option, IsTrue, not, true};
-ghost use Rattle.page_device.specs.Device.{faults_after};
+ghost use Rattle.page_device.specs.Lending.{OnlyWrites};
 ghost use Rattle.page_device.specs.Frames.{pages_before};
 ghost use Rattle.record_pages.specs.Sizes.{IsPageSize};
 ghost use Rattle.klog.specs.Names.{HasRoom, flushed_number, device_page};
@@ -20,10 +20,9 @@ impl<const PAGE: usize> KLog<PAGE> {
         requires room { HasRoom (D.page_count device.old) self.old }
 
         // On any device.
-        ensures pages { D.page_count device.new ≡ D.page_count device.old }
-        ensures honest { D.honest device.new ≡ D.honest device.old }
-        ensures faults { D.failures device.new
-            ≡ faults_after (D.failures device.old) (is_page_lost result) }
+        ensures writes { OnlyWrites D.page_count D.honest D.failures D.held
+            (device_page self.old (flushed_number self.old) self.old.done) device.old
+            (is_page_lost result) device.new }
         ensures shape { self.new.shape ≡ self.old.shape }
         ensures gives { FlushGives self.old result self.new }
         ensures idle { (CanFlush self.old → ⊥) → device.new ≡ device.old }
@@ -31,9 +30,6 @@ impl<const PAGE: usize> KLog<PAGE> {
         // Where it is honest.
         ensures wrote { IsTrue (D.honest device.old) → result ≡ Flushed.Wrote →
             WritesNext PAGE self.old true (D.held device.old) (D.held device.new) }
-        ensures elsewhere { IsTrue (D.honest device.old) → (page : ℕ) →
-            page ≢ device_page self.old (flushed_number self.old) self.old.done →
-            D.held device.new page ≡ D.held device.old page }
         ensures apart { IsTrue (D.honest device.old) →
             pages_before self.old.shape.sets (D.held device.new)
             ≡ pages_before self.old.shape.sets (D.held device.old) }
@@ -62,10 +58,9 @@ impl<const PAGE: usize> KLog<PAGE> {
         requires flushing { self.old.is_flushing ≡ true }
 
         // On any device.
-        ensures pages { D.page_count device.new ≡ D.page_count device.old }
-        ensures honest { D.honest device.new ≡ D.honest device.old }
-        ensures faults { D.failures device.new
-            ≡ faults_after (D.failures device.old) (is_page_lost result) }
+        ensures writes { OnlyWrites D.page_count D.honest D.failures D.held
+            (device_page self.old (flushed_number self.old) self.old.done) device.old
+            (is_page_lost result) device.new }
         ensures shape { self.new.shape ≡ self.old.shape }
         ensures gives { FlushGives self.old result self.new }
         ensures idle { (CanFlush self.old → ⊥) → device.new ≡ device.old }
@@ -73,9 +68,6 @@ impl<const PAGE: usize> KLog<PAGE> {
         // Where it is honest.
         ensures wrote { IsTrue (D.honest device.old) → result ≡ Flushed.Wrote →
             WritesNext PAGE self.old true (D.held device.old) (D.held device.new) }
-        ensures elsewhere { IsTrue (D.honest device.old) → (page : ℕ) →
-            page ≢ device_page self.old (flushed_number self.old) self.old.done →
-            D.held device.new page ≡ D.held device.old page }
         ensures apart { IsTrue (D.honest device.old) →
             pages_before self.old.shape.sets (D.held device.new)
             ≡ pages_before self.old.shape.sets (D.held device.old) }
@@ -104,10 +96,9 @@ impl<const PAGE: usize> KLog<PAGE> {
         requires page_size { IsPageSize PAGE }
         requires room { HasRoom (D.page_count device.old) self.now }
         requires flushing { self.now.is_flushing ≡ true }
-        ensures pages { D.page_count device.new ≡ D.page_count device.old }
-        ensures honest { D.honest device.new ≡ D.honest device.old }
-        ensures faults { D.failures device.new
-            ≡ faults_after (D.failures device.old) (not result) }
+        ensures writes { OnlyWrites D.page_count D.honest D.failures D.held
+            (device_page self.now (flushed_number self.now) self.now.done) device.old (not result)
+            device.new }
         ensures written { IsTrue (D.honest device.old) →
             WritesNext PAGE self.now result (D.held device.old) (D.held device.new) }
     {

@@ -1,6 +1,6 @@
 // Looking a key up in the log.
 ghost use Rattle.std.specs.Prelude.{◌≡◌, ℕ, List, Option, IfOk, IsTrue, Contains};
-ghost use Rattle.page_device.specs.Device.{faults_after};
+ghost use Rattle.page_device.specs.Lending.{OnlyReads};
 ghost use Rattle.record_pages.specs.Sizes.{IsPageSize};
 ghost use Rattle.klog_index.specs.Entries.{of_tag};
 ghost use Rattle.klog.specs.Names.{HasRoom};
@@ -40,10 +40,8 @@ impl<const PAGE: usize> KLog<PAGE> {
         requires place { placed.now ≡ place_in self.old.shape key.now }
 
         // On any device.
-        ensures pages { D.page_count device.new ≡ D.page_count device.old }
-        ensures honest { D.honest device.new ≡ D.honest device.old }
-        ensures faults { D.failures device.new
-            ≡ faults_after (D.failures device.old) (is_log_fault result) }
+        ensures reads { OnlyReads D.page_count D.honest D.failures D.held device.old (is_log_fault result)
+            device.new }
         ensures shape { self.new.shape ≡ self.old.shape }
         ensures leaves { LogLookLeaves self.old placed.now.set placed.now.tag result self.new
             (device.new ≡ device.old) }
@@ -63,7 +61,6 @@ impl<const PAGE: usize> KLog<PAGE> {
             (device.new ≡ device.old) }
 
         // Where it is honest.
-        ensures same { IsTrue (D.honest device.old) → D.held device.new ≡ D.held device.old }
         ensures gives { IsTrue (D.honest device.old) →
             IsSpelledOn PAGE (D.held device.old) self.old →
             IfOk result (λ r. LogLookGives (live_on (D.held device.old) self.old) key.now self.old r
@@ -94,21 +91,18 @@ impl<const PAGE: usize> KLog<PAGE> {
         requires page_size { IsPageSize PAGE }
         requires room { HasRoom (D.page_count device.old) self.now }
         requires place { placed.now ≡ place_in self.now.shape key.now }
-        ensures pages { D.page_count device.new ≡ D.page_count device.old }
-        ensures honest { D.honest device.new ≡ D.honest device.old }
-        ensures faults { D.failures device.new
-            ≡ faults_after (D.failures device.old) (is_found_fault result) }
+        ensures reads { OnlyReads D.page_count D.honest D.failures D.held device.old (is_found_fault result)
+            device.new }
         ensures its { IfOk result (IsOfTag self.now placed.now.set placed.now.tag
             (device.new ≡ device.old)) }
         ensures buffered { AreBuffered self.now
             (of_tag placed.now.set placed.now.tag self.now.entries) →
             device.new ≡ device.old }
-        ensures same { IsTrue (D.honest device.old) → D.held device.new ≡ D.held device.old }
         ensures finds_at { (known : ℕ → Option (List ℕ)) → AreHeldBy D.honest D.held device.old known →
             FindsAt PAGE known self.now placed.now.set placed.now.tag key.now result }
         ensures finds { IsTrue (D.honest device.old) →
             IsSpelledOn PAGE (D.held device.old) self.now →
-            IfOk result (Finds (live_on (D.held device.old) self.now) key.now) }
+            IfOk result (Finds self.now (live_on (D.held device.old) self.now) key.now) }
     {
         let mut bytes = None;
         let mut entries = self.index.entries_of(placed.set);
@@ -139,12 +133,9 @@ impl<const PAGE: usize> KLog<PAGE> {
         requires room { HasRoom (D.page_count device.old) self.now }
         requires listed { Contains self.now.entries entry.now }
         requires its { IsPlaceOf self.now.shape key.now entry.now }
-        ensures pages { D.page_count device.new ≡ D.page_count device.old }
-        ensures honest { D.honest device.new ≡ D.honest device.old }
-        ensures faults { D.failures device.new
-            ≡ faults_after (D.failures device.old) (is_told_fault result) }
+        ensures reads { OnlyReads D.page_count D.honest D.failures D.held device.old (is_told_fault result)
+            device.new }
         ensures buffered { IsTrue (is_buffered self.now entry.now) → device.new ≡ device.old }
-        ensures same { IsTrue (D.honest device.old) → D.held device.new ≡ D.held device.old }
         ensures tells { (known : ℕ → Option (List ℕ)) → AreHeldBy D.honest D.held device.old known →
             TellsKey PAGE known self.now entry.now key.now result }
     {

@@ -1,14 +1,15 @@
 // What leaves the log, from its oldest segment.
 ghost use Rattle.std.specs.Prelude.{◌≡◌, ◌<◌, ℕ, List, [], ◌∷◌, length, Option, Some, IfOk, IsTrue, filter, not, false, Contains};
 ghost use Rattle.page_device.specs.Device.{faults_after};
+ghost use Rattle.page_device.specs.Lending.{OnlyReads, ReadsOrStops};
 ghost use Rattle.record_pages.specs.Sizes.{IsPageSize};
 ghost use Rattle.record_pages.specs.Recs.{Rec};
 ghost use Rattle.record_pages.specs.Lent.{record_shown};
 ghost use Rattle.klog.specs.Names.{HasRoom};
 ghost use Rattle.klog.specs.Shown.{CanStandFor, IsLiveOn, IsSpelledOn, shown_on, live_on};
 ghost use Rattle.klog.specs.Known.{is_buffered, AreBuffered};
-ghost use Rattle.klog.specs.Take.{is_missing, FailsOnlyIfMissing, Copies, is_lost_page, FailsOnlyIfLostPage, IsToBeTaken, Gathers, GathersAt};
-ghost use Rattle.klog.specs.Moves.{TellsOldest, IsFirstLive, IsOfOldest, freed, is_taken, dropped, without_entry, live_without_entry, without_its_page, live_without_page, EntersAnew, is_readmit_fault, ReadmitLeaves, live_anew, ReadmitGives, ReadsBack, is_taking_lost, FailsOnlyIfLost, taken_entries, TakeLeaves, TakeGives, TakesAt};
+ghost use Rattle.klog.specs.Take.{is_missing, Copies, is_lost_page, IsToBeTaken, Gathers, GathersAt};
+ghost use Rattle.klog.specs.Moves.{TellsOldest, IsFirstLive, IsOfOldest, freed, is_taken, dropped, without_entry, live_without_entry, without_its_page, live_without_page, EntersAnew, is_readmit_fault, ReadmitLeaves, live_anew, ReadmitGives, ReadsBack, is_taking_lost, taken_entries, TakeLeaves, TakeGives, TakesAt};
 
 use super::KLog;
 use crate::fetched::Fetched;
@@ -99,15 +100,12 @@ impl<const PAGE: usize> KLog<PAGE> {
         requires oldest { IsOfOldest self.old entry.now }
 
         // On any device.
-        ensures pages { D.page_count device.new ≡ D.page_count device.old }
-        ensures honest { D.honest device.new ≡ D.honest device.old }
-        ensures faults { D.failures device.new
-            ≡ faults_after (D.failures device.old) (is_readmit_fault result) }
+        ensures reads { OnlyReads D.page_count D.honest D.failures D.held device.old
+            (is_readmit_fault result) device.new }
         ensures shape { self.new.shape ≡ self.old.shape }
         ensures leaves { ReadmitLeaves PAGE self.old entry.now result self.new }
 
         // Where it is honest.
-        ensures same { IsTrue (D.honest device.old) → D.held device.new ≡ D.held device.old }
         ensures reads_back { IsTrue (D.honest device.old) →
             ReadsBack PAGE (D.held device.old) self.old entry.now result self.new }
         ensures gives { IsTrue (D.honest device.old) →
@@ -144,17 +142,14 @@ impl<const PAGE: usize> KLog<PAGE> {
         requires room { HasRoom (D.page_count device.old) self.old }
 
         // On any device.
-        ensures pages { D.page_count device.new ≡ D.page_count device.old }
-        ensures honest { D.honest device.new ≡ D.honest device.old }
-        ensures fails_only_if_lost { FailsOnlyIfLost (D.failures device.old) result
-            (D.failures device.new) }
+        ensures reads { ReadsOrStops D.page_count D.honest D.failures D.held device.old
+            (is_taking_lost result) device.new }
         ensures shape { self.new.shape ≡ self.old.shape }
         ensures leaves { TakeLeaves self.old set result self.new }
         ensures buffered { AreBuffered self.old (taken_entries self.old set) →
             device.new ≡ device.old }
 
         // Where it is honest.
-        ensures same { IsTrue (D.honest device.old) → D.held device.new ≡ D.held device.old }
         ensures takes_at { IsTrue (D.honest device.old) →
             TakesAt PAGE (D.held device.old) self.old set (D.failures device.old) result self.new
             (D.failures device.new) }
@@ -187,14 +182,11 @@ impl<const PAGE: usize> KLog<PAGE> {
     ) -> Result<Gathered, AllocError>
         requires page_size { IsPageSize PAGE }
         requires room { HasRoom (D.page_count device.old) self.now }
-        ensures pages { D.page_count device.new ≡ D.page_count device.old }
-        ensures honest { D.honest device.new ≡ D.honest device.old }
-        ensures fails_only_if_lost { FailsOnlyIfLostPage (D.failures device.old) result
-            (D.failures device.new) }
+        ensures reads { ReadsOrStops D.page_count D.honest D.failures D.held device.old
+            (is_lost_page result) device.new }
         ensures its { IfOk result (IsToBeTaken self.now set) }
         ensures buffered { AreBuffered self.now (taken_entries self.now set) →
             device.new ≡ device.old }
-        ensures same { IsTrue (D.honest device.old) → D.held device.new ≡ D.held device.old }
         ensures gathers_at { IsTrue (D.honest device.old) →
             GathersAt PAGE (D.held device.old) self.now set (D.failures device.old) result
             (D.failures device.new) }
@@ -231,12 +223,9 @@ impl<const PAGE: usize> KLog<PAGE> {
         requires page_size { IsPageSize PAGE }
         requires room { HasRoom (D.page_count device.old) self.now }
         requires listed { Contains self.now.entries entry.now }
-        ensures pages { D.page_count device.new ≡ D.page_count device.old }
-        ensures honest { D.honest device.new ≡ D.honest device.old }
-        ensures fails_only_if_missing { FailsOnlyIfMissing (D.failures device.old) result
-            (D.failures device.new) }
+        ensures reads { ReadsOrStops D.page_count D.honest D.failures D.held device.old
+            (is_missing result) device.new }
         ensures buffered { IsTrue (is_buffered self.now entry.now) → device.new ≡ device.old }
-        ensures same { IsTrue (D.honest device.old) → D.held device.new ≡ D.held device.old }
         ensures faults { IsTrue (D.honest device.old) →
             IsLiveOn PAGE (D.held device.old) self.now entry.now →
             D.failures device.new ≡ faults_after (D.failures device.old) (is_missing result) }

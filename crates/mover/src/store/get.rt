@@ -5,15 +5,16 @@ ghost use Rattle.klog_index.specs.declared.entry.Entry.{Entry};
 ghost use Rattle.klog_index.specs.Entries.{of_tag};
 ghost use Rattle.klog.specs.declared.looked.Looked.{Looked};
 ghost use Rattle.klog.specs.Shown.{place_in};
-ghost use Rattle.klog.specs.Look.{is_log_fault, LogLookLeaves, IsInBuffers};
+ghost use Rattle.klog.specs.Look.{is_log_fault, IsInBuffers};
 ghost use Rattle.klog.specs.Known.{AreBuffered};
 ghost use Rattle.kset.specs.Notes.{lets_show};
 ghost use Rattle.kset.specs.Sets.{notes_of, IsPlaceIn};
 ghost use Rattle.memory_cache.specs.MemoryList.{value_in, after_get};
-ghost use Rattle.mover.specs.Asking.{AsksNothing, IfThen, IsNotOfLog, KeepsIfMiss, HitsInLog};
-ghost use Rattle.mover.specs.Store.{KeepsTiers, KeepsMoves, OnlyReads};
+ghost use Rattle.mover.specs.Asking.{AsksNothing, IfThen, LogLeaves, SetLeaves, GetLeaves};
+ghost use Rattle.mover.specs.Store.{OnlyReads};
 ghost use Rattle.mover.specs.Lane.{lane_of};
-ghost use Rattle.mover.specs.Get.{ask_log, ask_set, StepGives, LogTells, KeepsUnlessHit, is_fault, answer_of_set};
+ghost use Rattle.mover.specs.Get.{ask_log, ask_set, NeedsSetPage, NeedsFlashPage, StepGives, LogTells, is_fault, answer_of_set};
+ghost use Rattle.mover.specs.Leaving.{HasAll};
 ghost use Rattle.mover.specs.Calls.{StoreGets, AnswersFromBuffers, IsLowered};
 
 use super::Store;
@@ -53,20 +54,17 @@ impl<D: PageDevice<PAGE>, const PAGE: usize> Store<D, PAGE> {
     // What the tiers on flash say of a key.
     fn look_below(&mut self, key: &Key) -> Result<Answer, AllocError>
         ensures reads { OnlyReads D.honest D.failures D.held self.old (is_fault result) self.new }
-        ensures stays { KeepsMoves self.old self.new }
-        ensures out_of_memory { OnErr result (KeepsTiers self.old self.new) }
-        ensures memory { self.new.memory ≡ self.old.memory }
+        ensures leaves { IfOk result (λ answer. GetLeaves key.now answer self.old self.new) }
+        ensures out_of_memory { OnErr result (HasAll self.old self.new) }
         ensures unasked { IfThen (AsksNothing key.now self.old)
             (self.new.device ≡ self.old.device) }
-        ensures missed { IfOk result (λ answer. KeepsIfMiss answer self.old self.new) }
-        ensures in_log { IfOk result (λ answer. HitsInLog key.now answer self.old self.new
-            (self.new.device ≡ self.old.device)) }
         ensures in_buffers { (e : Entry) → (r : Rec) → IsInBuffers PAGE self.old.log
             (place_in self.old.log.shape key.now).set (place_in self.old.log.shape key.now).tag
             key.now e r → IfOk result (λ answer.
             AnswersFromBuffers key.now e r self.old answer self.new) }
         ensures gives { IsTrue (D.honest self.old.device) → IfOk result (λ answer. StepGives
-            (ask_log key.now (lane_of D.held self.old)) (lane_of D.held self.old) answer
+            (ask_log key.now (lane_of D.held self.old))
+            (NeedsFlashPage key.now (lane_of D.held self.old)) (lane_of D.held self.old) answer
             (lane_of D.held self.new)) }
     {
         let placed = self.place(key);
@@ -85,21 +83,15 @@ impl<D: PageDevice<PAGE>, const PAGE: usize> Store<D, PAGE> {
     fn look_log(&mut self, placed: &Placed, key: &Key) -> Result<klog::Looked, AllocError>
         requires { placed.now ≡ place_in self.old.log.shape key.now }
         ensures reads { OnlyReads D.honest D.failures D.held self.old (is_log_fault result) self.new }
-        ensures stays { KeepsMoves self.old self.new }
-        ensures keeps { KeepsUnlessHit result self.old self.new }
+        ensures leaves { IfOk result (λ looked. LogLeaves placed.now looked self.old self.new) }
+        ensures out_of_memory { OnErr result (HasAll self.old self.new) }
         ensures unasked { IfThen (AreBuffered self.old.log
             (of_tag placed.now.set placed.now.tag self.old.log.entries))
             (self.new.device ≡ self.old.device) }
-        ensures in_log { LogLookLeaves self.old.log placed.now.set placed.now.tag result
-            self.new.log (self.new.device ≡ self.old.device) }
         ensures in_buffers { (e : Entry) → (r : Rec) →
             IsInBuffers PAGE self.old.log placed.now.set placed.now.tag key.now e r →
             IfOk result (λ looked. (looked ≡ Looked.Hit r.value)
             × IsLowered placed.now.set e self.old self.new) }
-        ensures rest { self.new ≡ record self.old {
-          device = self.new.device;
-          log = self.new.log;
-        } }
         ensures tells { IsTrue (D.honest self.old.device) → IfOk result (λ looked. LogTells key.now
             (lane_of D.held self.old) looked (lane_of D.held self.new)) }
     {
@@ -112,16 +104,15 @@ impl<D: PageDevice<PAGE>, const PAGE: usize> Store<D, PAGE> {
         requires at { placed.now ≡ place_in self.old.log.shape key.now }
         requires its { IsPlaceIn self.old.sets placed.now }
         ensures reads { OnlyReads D.honest D.failures D.held self.old (is_fault result) self.new }
-        ensures stays { KeepsMoves self.old self.new }
-        ensures out_of_memory { OnErr result (KeepsTiers self.old self.new) }
+        ensures leaves { IfOk result (λ answer.
+            SetLeaves placed.now.set answer self.old self.new) }
+        ensures out_of_memory { OnErr result (HasAll self.old self.new) }
         ensures unasked { IfThen
             (lets_show (notes_of self.old.sets placed.now.set) placed.now.hash ≡ false)
             (self.new.device ≡ self.old.device) }
-        ensures memory { self.new.memory ≡ self.old.memory }
-        ensures missed { IfOk result (λ answer. KeepsIfMiss answer self.old self.new) }
-        ensures not_of_log { IfOk result IsNotOfLog }
         ensures gives { IsTrue (D.honest self.old.device) → IfOk result (λ answer. StepGives
-            (ask_set key.now (lane_of D.held self.old)) (lane_of D.held self.old) answer
+            (ask_set key.now (lane_of D.held self.old))
+            (NeedsSetPage key.now (lane_of D.held self.old)) (lane_of D.held self.old) answer
             (lane_of D.held self.new)) }
     {
         let looked = self.sets.look(self.alloc, &mut self.device, placed, key)?;

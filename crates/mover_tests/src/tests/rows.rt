@@ -1,12 +1,15 @@
 //! What users of a store rely on, of any store and any device.
 ghost use Rattle.mover.specs.Lane.{lane_of};
 ghost use Rattle.mover.specs.Visible.{IsShown};
-ghost use Rattle.std.specs.Prelude.{◌≡◌, ◌≢◌, ℕ, List, Ok, IfOk, IsTrue};
+ghost use Rattle.std.specs.Prelude.{◌≡◌, ◌≢◌, ℕ, List, Some, Ok, IfOk, IsTrue};
 ghost use Rattle.record_pages.specs.declared.answer.Answer.{Answer};
 ghost use Rattle.record_pages.specs.declared.answer.Answer.TheVariants.{Hit, Miss};
 ghost use Rattle.record_pages.specs.declared.miss_cause.MissCause.{MissCause};
 ghost use Rattle.record_pages.specs.declared.tier.Tier.{Tier};
-ghost use Rattle.mover.specs.Store.{KeepsTiers};
+ghost use Rattle.record_pages.specs.declared.tier.Tier.TheVariants.{Memory};
+ghost use Rattle.mover.specs.Leaving.{HasAll};
+ghost use Rattle.kset.specs.Sets.{notes_of};
+ghost use Rattle.mover.specs.declared.flight.Flight.{Flight};
 ghost use Rattle.mover.specs.Flight.{IsInFlight};
 ghost use Rattle.mover.specs.declared.committed.Committed.{Committed};
 ghost use Rattle.mover.specs.declared.aborted.Aborted.{Aborted};
@@ -19,12 +22,13 @@ use policy_laws::Plan;
 use record_pages::{Answer, Key, Value};
 use std::alloc::AllocError;
 
-/// A get that misses, for any cause, leaves memory, the log, the sets and the move in flight as they were.
+/// A get that misses, for any cause, leaves memory, the log, the sets and the move in flight as they were, and how many
+/// moves began.
 pub fn a_miss_keeps_all<D: PageDevice<PAGE>, const PAGE: usize>(
     store: &mut Store<D, PAGE>,
     key: &Key,
 ) -> Result<Answer, AllocError>
-    ensures { (cause : MissCause) → result ≡ Ok (Miss cause) → KeepsTiers store.old store.new }
+    ensures { (cause : MissCause) → result ≡ Ok (Miss cause) → HasAll store.old store.new }
 {
     let answer = store.get(key)?;
     Ok(answer)
@@ -117,4 +121,37 @@ pub fn a_hit_is_what_was_put<D: PageDevice<PAGE>, const PAGE: usize>(
     };
     let answer = store.get(again)?;
     Ok(answer)
+}
+
+/// A get of a key that was just put is answered from memory with the value that was put, and makes no call of the device,
+/// whatever the device.
+pub fn a_put_is_answered_from_memory<D: PageDevice<PAGE>, const PAGE: usize>(
+    store: &mut Store<D, PAGE>,
+    key: Key,
+    value: Value,
+    word: u32,
+    again: &Key,
+) -> Result<Answer, AllocError>
+    requires same { again.now ≡ key }
+    ensures answered { IfOk result (λ answer. answer ≡ Hit value Memory) }
+    ensures unread { store.new.device ≡ store.old.device }
+{
+    let _layout = store.layout();
+    let Ok(_) = store.put(key, value, word) else {
+        return Err(AllocError);
+    };
+    let answer = store.get(again)?;
+    Ok(answer)
+}
+
+/// A commit whose page was not written forgets the set of its move alone: what is noted of any other set stays.
+pub fn a_forgotten_commit_keeps_other_sets<D: PageDevice<PAGE>, const PAGE: usize>(
+    store: &mut Store<D, PAGE>,
+    plan: &Plan,
+    number: u64,
+) -> Committed
+    ensures { (f : Flight) → (set : ℕ) → store.old.flight ≡ Some f → set ≢ f.moving.set →
+        result ≡ Committed.Forgotten → notes_of store.new.sets set ≡ notes_of store.old.sets set }
+{
+    store.move_commit(plan, number)
 }

@@ -7,7 +7,8 @@ use Rattle.history_recorder.specs.declared.noted.Noted.{Noted}
 use Rattle.history_recorder.specs.Lane.{Lane, IsOfLane}
 use Rattle.history_recorder.specs.Answering.{MayHaveGot}
 use Rattle.history_recorder.proofs.Refusing.{on_err}
-use Rattle.history_recorder.proofs.Sounding.{recorded_still, recorded_get, still_in_order, kept_lane}
+use Rattle.history_recorder.proofs.Sounding.{recorded_still, recorded_get, still_in_order}
+use Rattle.mover.proofs.Beginning.{same_lane_held}
 use Rattle.history_recorder.proofs.lane.RecordedLane.get.Goals as goal
 
 pub invariant_of-self : goal.invariant_of-self
@@ -16,7 +17,7 @@ invariant_of-self g c =
     let old : Lane g.row.D.Denot = record { store = c.self.inside.store; lane = c.self.inside.lane; calls = c.self.inside.calls } in
     let gets = c.in_err-answer.ensures in
     recorded_still d.honest d.held old c.self.invariant c.get.new.self old.calls refl gets.reads.layout gets.reads.honesty
-    (λ is. still_in_order (lane_of d.held old.store) (lane_of d.held c.get.new.self) (c.self.invariant.order is) (kept_lane d.held old.store c.get.new.self (gets.reads.same is) gets.out_of_memory gets.stays))
+    (λ is. still_in_order (lane_of d.held old.store) (lane_of d.held c.get.new.self) (c.self.invariant.order is) (same_lane_held d.held old.store c.get.new.self gets.out_of_memory (gets.reads.same is)))
 
 pub invariant_of-self-in_err-noted : goal.invariant_of-self-in_err-noted
 invariant_of-self-in_err-noted g c =

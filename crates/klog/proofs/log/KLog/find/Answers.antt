@@ -69,11 +69,17 @@ pub returns-in-Fault-clause-finds_at : goal.returns-in-Fault-clause-finds_at
 returns-in-Fault-clause-finds_at g c = λ known knows.
     let k = c.args.self.now in
     let at = turn_at k c.args.placed.now.set c.args.placed.now.tag c.loop.counter c.in-Some.entry _ _ c.loop.invariant.rest c.in-Some.ensures in
-    let failed = subst (λ (t : Told). g.D.PageDevice.failures c.ask.new.device ≡ faults_after (g.D.PageDevice.failures c.loop.device) (is_told_fault (Ok t))) c.in-Fault.is c.in_ok-ask.ensures.faults in (
+    let failed = subst (λ (t : Told). g.D.PageDevice.failures c.ask.new.device ≡ faults_after (g.D.PageDevice.failures c.loop.device) (is_told_fault (Ok t))) c.in-Fault.is c.in_ok-ask.ensures.reads.faults in (
       c.in-Some.entry,
       turn_reached g.row.PAGE known k c.args.placed.now.set c.args.placed.now.tag c.args.key.now c.loop.counter c.in-Some.entry at (c.loop.invariant.newer known knows),
       unbuffered (is_buffered k c.in-Some.entry) (g.D.PageDevice.failures c.loop.device) (g.D.PageDevice.failures c.ask.new.device) (λ b. ap g.D.PageDevice.failures (c.ask.ensures.buffered b)) failed,
     )
+
+pub returns-in-Fault-clause-finds : goal.returns-in-Fault-clause-finds
+returns-in-Fault-clause-finds g c = λ honest spelled.
+    let held = g.D.PageDevice.held c.args.device.now in
+    let knows = all_held g.D.PageDevice.honest g.D.PageDevice.held c.args.device.now honest in
+    finds_of g.row.PAGE held c.args.self.now c.args.key.now c.args.placed.now found.Fault c.requires.place (returns-in-Fault-clause-finds_at g c held knows) spelled
 
 pub returns-in-Damaged-clause-buffered : goal.returns-in-Damaged-clause-buffered
 returns-in-Damaged-clause-buffered g c = λ all.
@@ -135,7 +141,7 @@ loop-preserved g c =
       pages = search rules;
       honest = search rules;
       failures = search rules;
-      same = λ honest. c.ask.ensures.same (subst (λ (b : Bool). IsTrue b) (sym c.loop.invariant.honest) honest) ∙ c.loop.invariant.same honest;
+      same = λ honest. c.ask.ensures.reads.same (subst (λ (b : Bool). IsTrue b) (sym c.loop.invariant.honest) honest) ∙ c.loop.invariant.same honest;
       buffered = λ all.
           let both = turn_first (λ e. IsTrue (is_buffered k e)) k c.args.placed.now.set c.args.placed.now.tag c.loop.counter c.in-Some.entry at all in
           c.ask.ensures.buffered both.1 ∙ c.loop.invariant.buffered both.0;

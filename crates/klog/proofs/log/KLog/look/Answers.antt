@@ -26,7 +26,7 @@ returns-in-Hit-clause-looks_at g c = λ known knows.
 
 pub returns-in-Hit-clause-spelled : goal.returns-in-Hit-clause-spelled
 returns-in-Hit-clause-spelled g c = λ honest h.
-    subst (λ (held : ℕ → Option (List ℕ)). IsSpelledOn g.row.PAGE held c.lower.new.self) (sym (c.find.ensures.same honest)) (c.lower.ensures.spelled (g.D.PageDevice.held c.args.device.now) h)
+    subst (λ (held : ℕ → Option (List ℕ)). IsSpelledOn g.row.PAGE held c.lower.new.self) (sym (c.find.ensures.reads.same honest)) (c.lower.ensures.spelled (g.D.PageDevice.held c.args.device.now) h)
 
 pub returns-in-Absent-clause-looks_at : goal.returns-in-Absent-clause-looks_at
 returns-in-Absent-clause-looks_at g c = λ known knows.

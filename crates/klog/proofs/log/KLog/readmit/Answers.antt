@@ -9,11 +9,11 @@ use Rattle.klog.proofs.log.KLog.readmit.Goals as goal
 
 pub returns-in-Fault-clause-spelled : goal.returns-in-Fault-clause-spelled
 returns-in-Fault-clause-spelled g c = λ honest h.
-    subst (λ (held : ℕ → Option (List ℕ)). IsSpelledOn g.row.PAGE held c.lose_page_of.new.self) (sym (c.fetch_stored.ensures.same honest)) (c.lose_page_of.ensures.spelled (g.D.PageDevice.held c.args.device.now) h)
+    subst (λ (held : ℕ → Option (List ℕ)). IsSpelledOn g.row.PAGE held c.lose_page_of.new.self) (sym (c.fetch_stored.ensures.reads.same honest)) (c.lose_page_of.ensures.spelled (g.D.PageDevice.held c.args.device.now) h)
 
 pub returns-in-Damaged-clause-spelled : goal.returns-in-Damaged-clause-spelled
 returns-in-Damaged-clause-spelled g c = λ honest h.
-    subst (λ (held : ℕ → Option (List ℕ)). IsSpelledOn g.row.PAGE held c.lose_page_of-in-Damaged.new.self) (sym (c.fetch_stored.ensures.same honest)) (c.lose_page_of-in-Damaged.ensures.spelled (g.D.PageDevice.held c.args.device.now) h)
+    subst (λ (held : ℕ → Option (List ℕ)). IsSpelledOn g.row.PAGE held c.lose_page_of-in-Damaged.new.self) (sym (c.fetch_stored.ensures.reads.same honest)) (c.lose_page_of-in-Damaged.ensures.spelled (g.D.PageDevice.held c.args.device.now) h)
 
 pub returns-in-Damaged-clause-reads_back : goal.returns-in-Damaged-clause-reads_back
 returns-in-Damaged-clause-reads_back g c = λ honest.
@@ -27,7 +27,7 @@ returns-in-Fault-clause-gives g c = λ honest h.
       its = r.0;
       was_live = r.2;
       moved = c.lose_page_of.ensures.lost;
-      left = ap (λ (now : ℕ → Option (List ℕ)). live_on now c.lose_page_of.new.self) (c.fetch_stored.ensures.same honest) ∙ c.lose_page_of.ensures.shown held;
+      left = ap (λ (now : ℕ → Option (List ℕ)). live_on now c.lose_page_of.new.self) (c.fetch_stored.ensures.reads.same honest) ∙ c.lose_page_of.ensures.shown held;
     }
 
 pub returns-in-Damaged-clause-gives : goal.returns-in-Damaged-clause-gives
@@ -50,11 +50,11 @@ returns-in-Record-clause-gives g c = λ honest h.
       its = r.0;
       was_live = r.2;
       moved = subst (λ (x : Rec). MovesTo g.row.PAGE k e x c.enter_anew.result c.enter_anew.new.self) same (moves_to g.row.PAGE k e (record_shown c.in-Record.found) c.enter_anew.result c.enter_anew.new.self c.enter_anew.ensures.enters);
-      left = ap (λ (now : ℕ → Option (List ℕ)). live_on now c.enter_anew.new.self) (c.fetch_stored.ensures.same honest)
+      left = ap (λ (now : ℕ → Option (List ℕ)). live_on now c.enter_anew.new.self) (c.fetch_stored.ensures.reads.same honest)
           ∙ c.enter_anew.ensures.shown held
           ∙ ap (λ (x : Rec). live_anew g.row.PAGE k e x c.enter_anew.result (live_on held k)) same;
     }
 
 pub returns-in-Record-clause-spelled : goal.returns-in-Record-clause-spelled
 returns-in-Record-clause-spelled g c = λ honest h.
-    subst (λ (held : ℕ → Option (List ℕ)). IsSpelledOn g.row.PAGE held c.enter_anew.new.self) (sym (c.fetch_stored.ensures.same honest)) (c.enter_anew.ensures.spelled (g.D.PageDevice.held c.args.device.now) h)
+    subst (λ (held : ℕ → Option (List ℕ)). IsSpelledOn g.row.PAGE held c.enter_anew.new.self) (sym (c.fetch_stored.ensures.reads.same honest)) (c.enter_anew.ensures.spelled (g.D.PageDevice.held c.args.device.now) h)

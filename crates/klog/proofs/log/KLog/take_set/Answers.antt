@@ -25,7 +25,7 @@ returns-in-Lost-clause-gives g c = λ honest h.
       its,
       (at live).1,
       c.lose_page_of.ensures.lost,
-      ap (λ (now : ℕ → Option (List ℕ)). live_on now c.lose_page_of.new.self) (c.gather.ensures.same honest) ∙ c.lose_page_of.ensures.shown held,
+      ap (λ (now : ℕ → Option (List ℕ)). live_on now c.lose_page_of.new.self) (c.gather.ensures.reads.same honest) ∙ c.lose_page_of.ensures.shown held,
     )
 
 pub returns-in-Records-clause-leaves : goal.returns-in-Records-clause-leaves
@@ -33,4 +33,4 @@ returns-in-Records-clause-leaves g c = (refl, subst (IsToBeTaken c.args.self.now
 
 pub returns-in-Lost-clause-spelled : goal.returns-in-Lost-clause-spelled
 returns-in-Lost-clause-spelled g c = λ honest h.
-    subst (λ (held : ℕ → Option (List ℕ)). IsSpelledOn g.row.PAGE held c.lose_page_of.new.self) (sym (c.gather.ensures.same honest)) (c.lose_page_of.ensures.spelled (g.D.PageDevice.held c.args.device.now) h)
+    subst (λ (held : ℕ → Option (List ℕ)). IsSpelledOn g.row.PAGE held c.lose_page_of.new.self) (sym (c.gather.ensures.reads.same honest)) (c.lose_page_of.ensures.spelled (g.D.PageDevice.held c.args.device.now) h)

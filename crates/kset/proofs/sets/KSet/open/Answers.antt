@@ -1,6 +1,3 @@
-use Rattle.std.proofs.Common.{◌∙◌, ap, replicate}
-use Rattle.kset.specs.Notes.{Notes, no_notes}
-use Rattle.kset.specs.Sets.{SetsState}
 use Rattle.kset.proofs.ShownLaws.{shown-opening}
 use Rattle.kset.proofs.sets.KSet.open.Goals as goal
 

@@ -18,8 +18,8 @@ returns-then-is_empty-clause-gives g c =
     let none : notes.filter ≡ empty = sym (ap (λ (n : Notes). n.filter) c.notes.ensures) ∙ c.if-is_empty.ensures.0 refl in
     λ honest spelled. c.new.ensures ∙ ap (with_flags notes) (sym (visible_from-empty notes none 0 records))
 
-pub returns-in_default-page_of-clause-faults : goal.returns-in_default-page_of-clause-faults
-returns-in_default-page_of-clause-faults g c =
+pub returns-in_default-page_of-clause-gives : goal.returns-in_default-page_of-clause-gives
+returns-in_default-page_of-clause-gives g c =
     let set = c.args.set in
     let held = g.D.PageDevice.held c.args.device.now in
     let count = set_count c.args.self.now in

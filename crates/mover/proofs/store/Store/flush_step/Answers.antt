@@ -15,7 +15,7 @@ invariant_of-self g c =
     let old : StoreState g.row.D.Denot = record { layout = s.layout; device = s.device; memory = s.memory; log = s.log; sets = s.sets; flight = s.flight; moves = s.moves } in
     let count = counted_alike g.row.PAGE d.page_count d.honest d.held old c.self.invariant in
     kept_flash g.row.PAGE d.page_count d.honest d.held old c.self.invariant
-    c.flush_step.new.device c.flush_step.new.self s.sets c.flush_step.ensures.shape refl c.flush_step.ensures.pages c.flush_step.ensures.honest c.flush_step.ensures.spelled
+    c.flush_step.new.device c.flush_step.new.self s.sets c.flush_step.ensures.shape refl c.flush_step.ensures.writes.pages c.flush_step.ensures.writes.honest c.flush_step.ensures.spelled
     (λ is. sets_framed g.row.PAGE (d.held s.device) (d.held c.flush_step.new.device) s.sets (rw count (c.flush_step.ensures.apart is)))
     (λ is placed. subst (AreOfTheirSets s.log.shape.lanes s.log.shape.sets) (sym (visible_framed (d.held s.device) (d.held c.flush_step.new.device) s.sets (rw count (c.flush_step.ensures.apart is)))) placed)
 

@@ -5,7 +5,8 @@ use Rattle.klog.specs.Known.{AreBuffered}
 use Rattle.mover.specs.Store.{StoreState}
 use Rattle.mover.specs.Lane.{lane_of}
 use Rattle.mover.specs.Get.{LogTells}
-use Rattle.mover.proofs.Getting.{log_told, lowered_store}
+use Rattle.mover.proofs.Getting.{log_told, log_leaves, lowered_store}
+use Rattle.mover.specs.Asking.{LogLeaves}
 use Rattle.mover.specs.Calls.{IsLowered}
 use Rattle.klog.specs.Look.{IsInBuffers}
 use Rattle.klog.specs.declared.looked.Looked.TheVariants as log
@@ -17,14 +18,14 @@ invariant_of-self g c =
     let s = c.self.inside in
     let d = g.D.PageDevice in
     kept_log_read g.row.PAGE d.page_count d.honest d.held (record { layout = s.layout; device = s.device; memory = s.memory; log = s.log; sets = s.sets; flight = s.flight; moves = s.moves }) c.self.invariant
-    c.look.new.device c.look.new.self c.look.ensures.shape c.look.ensures.pages c.look.ensures.honest c.look.ensures.same c.look.ensures.spelled
+    c.look.new.device c.look.new.self c.look.ensures.shape c.look.ensures.reads.pages c.look.ensures.reads.honest c.look.ensures.reads.same c.look.ensures.spelled
 
 pub invariant_of-self-2 : goal.invariant_of-self-2
 invariant_of-self-2 g c =
     let s = c.self.inside in
     let d = g.D.PageDevice in
     kept_log_read g.row.PAGE d.page_count d.honest d.held (record { layout = s.layout; device = s.device; memory = s.memory; log = s.log; sets = s.sets; flight = s.flight; moves = s.moves }) c.self.invariant
-    c.look.new.device c.look.new.self c.look.ensures.shape c.look.ensures.pages c.look.ensures.honest c.look.ensures.same c.look.ensures.spelled
+    c.look.new.device c.look.new.self c.look.ensures.shape c.look.ensures.reads.pages c.look.ensures.reads.honest c.look.ensures.reads.same c.look.ensures.spelled
 
 pub returns-clause-unasked : goal.returns-clause-unasked
 returns-clause-unasked g c = record {
@@ -44,7 +45,7 @@ returns-clause-tells g c = λ is.
     let new : StoreState g.row.D.Denot = record { layout = s.layout; device = c.look.new.device; memory = s.memory; log = c.look.new.self; sets = s.sets; flight = s.flight; moves = s.moves } in
     let on = subst (λ (x : StoreState g.row.D.Denot). IsTrue (d.honest x.device)) (sym c.self.view_is) is in
     subst (λ (x : StoreState g.row.D.Denot). LogTells c.args.key.now (lane_of d.held x) c.in_ok-looked.looked (lane_of d.held new)) c.self.view_is
-    (log_told d.held old c.look.new.device c.args.key.now (c.look.ensures.same on) c.look.new.self c.in_ok-looked.looked (c.in_ok-looked.ensures.gives on (c.self.invariant.log_spelled on)))
+    (log_told d.held old c.look.new.device c.args.key.now (c.look.ensures.reads.same on) c.look.new.self c.in_ok-looked.looked (c.in_ok-looked.ensures.gives on (c.self.invariant.log_spelled on)))
 
 pub returns-clause-in_buffers : goal.returns-clause-in_buffers
 returns-clause-in_buffers g c = λ e r.
@@ -53,3 +54,11 @@ returns-clause-in_buffers g c = λ e r.
     let new : StoreState g.row.D.Denot = record { layout = s.layout; device = c.look.new.device; memory = s.memory; log = c.look.new.self; sets = s.sets; flight = s.flight; moves = s.moves } in
     subst (λ (x : StoreState g.row.D.Denot). IsInBuffers g.row.PAGE x.log c.args.placed.now.set c.args.placed.now.tag c.args.key.now e r → (c.in_ok-looked.looked ≡ log.Hit r.value) × IsLowered c.args.placed.now.set e x new) c.self.view_is
     (λ here. let it = c.in_ok-looked.ensures.in_buffers e r here in (it.0, lowered_store old c.look.new.device c.look.new.self c.args.placed.now.set e it.1 it.2))
+
+pub returns-clause-leaves : goal.returns-clause-leaves
+returns-clause-leaves g c =
+    let s = c.self.inside in
+    let old : StoreState g.row.D.Denot = record { layout = s.layout; device = s.device; memory = s.memory; log = s.log; sets = s.sets; flight = s.flight; moves = s.moves } in
+    let new : StoreState g.row.D.Denot = record { layout = s.layout; device = c.look.new.device; memory = s.memory; log = c.look.new.self; sets = s.sets; flight = s.flight; moves = s.moves } in
+    subst (λ (x : StoreState g.row.D.Denot). LogLeaves c.args.placed.now c.in_ok-looked.looked x new) c.self.view_is
+    (log_leaves old c.look.new.device c.look.new.self c.args.placed.now c.in_ok-looked.looked c.in_ok-looked.ensures.leaves)

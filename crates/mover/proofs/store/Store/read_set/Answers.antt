@@ -7,7 +7,7 @@ use Rattle.mover.specs.Lane.{lane_of}
 use Rattle.mover.specs.Begin.{LaneReads}
 use Rattle.mover.proofs.Keeping.{kept_set_read}
 use Rattle.mover.specs.Leaving.{ReadingLeaves}
-use Rattle.mover.proofs.Beginning.{lane_read, not_lost, reading_leaves}
+use Rattle.mover.proofs.Beginning.{lane_read, set_failed, not_lost, reading_leaves}
 use Rattle.kset.specs.Laws.{AreOfTheirSets}
 use Rattle.kset.specs.Shown.{visible_in}
 use Rattle.mover.proofs.store.Store.read_set.Goals as goal
@@ -17,7 +17,7 @@ invariant_of-self g c =
     let s = c.self.inside in
     let d = g.D.PageDevice in
     kept_set_read g.row.PAGE d.page_count d.honest d.held (record { layout = s.layout; device = s.device; memory = s.memory; log = s.log; sets = s.sets; flight = s.flight; moves = s.moves }) c.self.invariant
-    c.read_set.new.device c.read_set.new.self c.read_set.ensures.keeps.sizes c.read_set.ensures.keeps.pages c.read_set.ensures.keeps.honest c.read_set.ensures.same c.read_set.ensures.keeps.spelled
+    c.read_set.new.device c.read_set.new.self c.read_set.ensures.keeps.sizes c.read_set.ensures.reads.pages c.read_set.ensures.reads.honest c.read_set.ensures.reads.same c.read_set.ensures.keeps.spelled
     (λ is placed. subst (AreOfTheirSets s.log.shape.lanes s.log.shape.sets) (sym (c.read_set.ensures.shown is))
     (c.readings_keep_sets.ensures s.log.shape.lanes s.log.shape.sets c.args.set c.read_set.result (visible_in (d.held s.device) s.sets) placed))
 
@@ -26,7 +26,7 @@ invariant_of-self-2 g c =
     let s = c.self.inside in
     let d = g.D.PageDevice in
     kept_set_read g.row.PAGE d.page_count d.honest d.held (record { layout = s.layout; device = s.device; memory = s.memory; log = s.log; sets = s.sets; flight = s.flight; moves = s.moves }) c.self.invariant
-    c.read_set.new.device c.read_set.new.self c.read_set.ensures.keeps.sizes c.read_set.ensures.keeps.pages c.read_set.ensures.keeps.honest c.read_set.ensures.same c.read_set.ensures.keeps.spelled
+    c.read_set.new.device c.read_set.new.self c.read_set.ensures.keeps.sizes c.read_set.ensures.reads.pages c.read_set.ensures.reads.honest c.read_set.ensures.reads.same c.read_set.ensures.keeps.spelled
     (λ is placed. subst (AreOfTheirSets s.log.shape.lanes s.log.shape.sets) (sym (c.read_set.ensures.shown is))
     (c.readings_keep_sets.ensures s.log.shape.lanes s.log.shape.sets c.args.set c.read_set.result (visible_in (d.held s.device) s.sets) placed))
 
@@ -36,7 +36,7 @@ returns-clause-faults g c = λ is.
     let d = g.D.PageDevice in
     let on = subst (λ (x : StoreState g.row.D.Denot). IsTrue (d.honest x.device)) (sym c.self.view_is) is in
     subst (λ (x : StoreState g.row.D.Denot). d.failures c.read_set.new.device ≡ faults_after (d.failures x.device) (is_set_lost (Ok c.in_ok-read.read))) c.self.view_is
-    (c.in_ok-read.ensures.faults on (c.self.invariant.sets_spelled on))
+    (set_failed c.in_ok-read.read _ (d.failures s.device) (d.failures c.read_set.new.device) c.in_ok-read.ensures.reads.may_fail (c.in_ok-read.ensures.gives on (c.self.invariant.sets_spelled on)))
 
 pub returns-clause-gives : goal.returns-clause-gives
 returns-clause-gives g c = λ is.
@@ -46,7 +46,7 @@ returns-clause-gives g c = λ is.
     let new : StoreState g.row.D.Denot = record { layout = s.layout; device = c.read_set.new.device; memory = s.memory; log = s.log; sets = c.read_set.new.self; flight = s.flight; moves = s.moves } in
     let on = subst (λ (x : StoreState g.row.D.Denot). IsTrue (d.honest x.device)) (sym c.self.view_is) is in
     subst (λ (x : StoreState g.row.D.Denot). LaneReads c.args.set (lane_of d.held x) c.in_ok-read.read (lane_of d.held new)) c.self.view_is
-    (lane_read d.held old c.read_set.new.device (c.read_set.ensures.same on) c.read_set.new.self c.args.set c.in_ok-read.read c.in_ok-read.ensures.leaves (c.in_ok-read.ensures.gives on (c.self.invariant.sets_spelled on))
+    (lane_read d.held old c.read_set.new.device (c.read_set.ensures.reads.same on) c.read_set.new.self c.args.set c.in_ok-read.read (d.failures s.device) (d.failures c.read_set.new.device) c.in_ok-read.ensures.leaves (c.in_ok-read.ensures.gives on (c.self.invariant.sets_spelled on))
     (c.in_ok-read.ensures.shown on) (λ none. not_lost c.in_ok-read.read (Ok c.in_ok-read.read) (c.in_ok-read.ensures.unread none).0 refl))
 
 pub returns-clause-writes : goal.returns-clause-writes
@@ -54,8 +54,8 @@ returns-clause-writes g c =
     let d = g.D.PageDevice in
     record {
       layout = ap (λ (x : StoreState g.row.D.Denot). x.layout) c.self.view_is;
-      honesty = c.read_set.ensures.keeps.honest ∙ ap (λ (x : StoreState g.row.D.Denot). d.honest x.device) c.self.view_is;
-      same = λ is. c.read_set.ensures.same (subst (λ (x : StoreState g.row.D.Denot). IsTrue (d.honest x.device)) (sym c.self.view_is) is) ∙ ap (λ (x : StoreState g.row.D.Denot). d.held x.device) c.self.view_is;
+      honesty = c.read_set.ensures.reads.honest ∙ ap (λ (x : StoreState g.row.D.Denot). d.honest x.device) c.self.view_is;
+      same = λ is. c.read_set.ensures.reads.same (subst (λ (x : StoreState g.row.D.Denot). IsTrue (d.honest x.device)) (sym c.self.view_is) is) ∙ ap (λ (x : StoreState g.row.D.Denot). d.held x.device) c.self.view_is;
     }
 
 pub returns-clause-leaves : goal.returns-clause-leaves

@@ -18,7 +18,7 @@ invariant_of-self g c =
     let old : StoreState g.row.D.Denot = record { layout = s.layout; device = s.device; memory = s.memory; log = s.log; sets = s.sets; flight = s.flight; moves = s.moves } in
     let count = counted_alike g.row.PAGE d.page_count d.honest d.held old c.self.invariant in
     kept_flash g.row.PAGE d.page_count d.honest d.held old c.self.invariant
-    c.rewrite.new.device s.log c.rewrite.new.self refl c.rewrite.ensures.keeps.sizes c.rewrite.ensures.keeps.pages c.rewrite.ensures.keeps.honest
+    c.rewrite.new.device s.log c.rewrite.new.self refl c.rewrite.ensures.keeps.sizes c.rewrite.ensures.writes.pages c.rewrite.ensures.writes.honest
     (λ is. log_framed g.row.PAGE (d.held s.device) (d.held c.rewrite.new.device) s.log (rw (sym count) (c.rewrite.ensures.apart is))) c.rewrite.ensures.keeps.spelled
     (λ is placed. subst (AreOfTheirSets s.log.shape.lanes s.log.shape.sets) (sym (c.rewrite.ensures.shown is))
     (c.rewritings_keep_sets.ensures s.log.shape.lanes s.log.shape.sets c.args.set c.args.writer.now c.rewrite.result (visible_in (d.held s.device) s.sets)

@@ -1,6 +1,6 @@
 -- A get behind a put.
 use Rattle.std.specs.Prelude.{List, ℕ}
-use Rattle.mover.specs.Get.{get_step, StepGives}
+use Rattle.mover.specs.Get.{GetGives}
 use Rattle.std.proofs.Common.{IsTrue, sym, subst}
 use Rattle.mover.specs.Lane.{lane_of}
 use Rattle.mover_tests.proofs.Struck.{put_is_hit}
@@ -12,4 +12,4 @@ returns g c told tier hit =
     let gives = c.in_ok-answer.ensures.gives (subst (λ (x : g.row.D.Denot). IsTrue (d.honest x)) (sym c.put.ensures.device) c.requires.honest) in
     put_is_hit g.row.PAGE c.args.store.now.layout.admit c.args.word c.args.key c.args.value told tier c.in-Ok.field-0 c.in_ok-answer.answer (lane_of d.held c.args.store.now) (lane_of d.held c.put.new.self) (lane_of d.held c.get.new.self)
     c.put_shows.ensures c.get_shows.ensures (c.layout-layout.ensures.order c.requires.honest) c.in-Ok.ensures.gives
-    (subst (λ (k : List ℕ). StepGives (get_step k (lane_of d.held c.put.new.self)) (lane_of d.held c.put.new.self) c.in_ok-answer.answer (lane_of d.held c.get.new.self)) c.requires.same gives) hit
+    (subst (λ (k : List ℕ). GetGives k (lane_of d.held c.put.new.self) c.in_ok-answer.answer (lane_of d.held c.get.new.self)) c.requires.same gives) hit

@@ -6,4 +6,4 @@ invariant_of-self g c =
     let s = c.self.inside in
     let d = g.D.PageDevice in
     kept g.row.PAGE s.layout d.page_count d.honest d.held (record { device = s.device; log = s.log }) (record { device = c.readmit.new.device; log = c.readmit.new.self }) c.self.invariant
-    c.readmit.ensures.shape c.readmit.ensures.pages c.readmit.ensures.honest c.readmit.ensures.spelled
+    c.readmit.ensures.shape c.readmit.ensures.reads.pages c.readmit.ensures.reads.honest c.readmit.ensures.spelled
