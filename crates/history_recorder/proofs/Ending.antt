@@ -10,8 +10,8 @@ use Rattle.mover.specs.declared.committed.Committed.TheVariants as committed
 
 module _ {D : Type 0} where
   pub commit_keeps_layout : (plan : List Choice) (old : StoreState D) (answer : Committed) (new : StoreState D) → CommitLeaves plan old answer new → new.layout ≡ old.layout
-  commit_keeps_layout plan old committed.Written new leaves = ap (λ (s : StoreState D). s.layout) leaves.2
-  commit_keeps_layout plan old committed.Forgotten new leaves = ap (λ (s : StoreState D). s.layout) leaves.2
+  commit_keeps_layout plan old committed.Written new leaves = ap (λ (s : StoreState D). s.layout) leaves.left
+  commit_keeps_layout plan old committed.Forgotten new leaves = ap (λ (s : StoreState D). s.layout) leaves.left
   commit_keeps_layout plan old committed.StalePlan new leaves = ap (λ (s : StoreState D). s.layout) leaves
   commit_keeps_layout plan old committed.BadPlan new leaves = ap (λ (s : StoreState D). s.layout) leaves
 

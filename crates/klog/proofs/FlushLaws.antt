@@ -11,7 +11,7 @@ use Rattle.klog_index.specs.declared.entry.Entry.{Entry}
 use Rattle.klog.specs.Buffer.{page_of}
 use Rattle.klog.specs.Log.{LogState}
 use Rattle.klog.specs.Names.{names, name_of, segment_of, flushed_number, filled_number, ring_page}
-use Rattle.klog.specs.Shown.{shown, record_on, record_of_held, IsLive, IsFlushed, IsSpelled, IsSpelledOn, live_on}
+use Rattle.klog.specs.Shown.{shown, record_on, record_of_held, IsLive, HoldsPage, IsFlushed, IsSpelled, IsSpelledOn, live_on}
 use Rattle.klog.specs.Keeps.{IsHeld, IsLog}
 use Rattle.klog.specs.Flush.{is_on_page, without_next, moved_on, WritesNext}
 use Rattle.klog.proofs.BufferLaws.{page_within}
@@ -63,8 +63,7 @@ shown_over pages pages' k e h held is free lq others =
 
 -- a page of the segment that is flushed is known to hold what the buffer holds
 abbrev pub IsKnownPage : ℕ → (ℕ → Option (List ℕ)) → LogState → ℕ → ℕ → Type 0
-IsKnownPage bytes pages k segment page =
-    (text : List ℕ) × (pages (ring_page k segment page) ≡ Some text) × SpellsLogPage bytes text (record { segment = segment; page = page; records = page_of k.flushing page })
+IsKnownPage bytes pages k segment page = HoldsPage bytes segment page (page_of k.flushing page) (pages (ring_page k segment page))
 
 -- the entry's page is known, as far as the page that was written last
 abbrev pub IsDone : ℕ → (ℕ → Option (List ℕ)) → LogState → Entry → Type 0
@@ -113,7 +112,7 @@ shown_finished bytes pages k e is last done live =
                 let in_buffer = shown_flushed pages k e not_filled is at in
                 let within = page_within k.flushing e.place.page e.place.slot r.0 (sym in_buffer ∙ r.1) in
                 let d = done at (omega (arith, within, last)) in
-                stored' ∙ read_again bytes s e.place.page e.place.slot (pages (ring_page k s e.place.page)) d.0 (page_of k.flushing e.place.page) d.1 d.2 ∙ sym in_buffer
+                stored' ∙ read_again bytes s e.place.page e.place.slot (pages (ring_page k s e.place.page)) d.text (page_of k.flushing e.place.page) d.holds d.spells ∙ sym in_buffer
             | inr differs ↦ stored' ∙ sym (shown_stored pages k e not_filled (not_flushed k e differs))
           ]
     ]
@@ -166,7 +165,7 @@ kept_done : (bytes : ℕ) (pages pages' : ℕ → Option (List ℕ)) (k : LogSta
 kept_done bytes pages pages' k e is others flushed differs = λ at below.
     let f = flushed at is (omega (arith, below, differs)) in
     let apart = λ (q : ring_page k (segment_of k e) e.place.page ≡ ring_page k (flushed_number k) k.done). other_page k (flushed_number k) e.place.page k.done differs (ap (λ (n : ℕ). ring_page k n e.place.page) (sym at) ∙ q) in
-    (f.0, others (ring_page k (segment_of k e) e.place.page) apart ∙ f.1, f.2)
+    record { text = f.text; holds = others (ring_page k (segment_of k e) e.place.page) apart ∙ f.holds; spells = f.spells }
 
 -- the page was written
 pub goes_on_wrote : (bytes : ℕ) (held held' : ℕ → Option (List ℕ)) (k : LogState) → IsLog k → k.is_flushing ≡ true → k.stored < k.shape.segments → WritesNext bytes k true held held' → IsSpelledOn bytes held k → GoesOn bytes held held' k (moved_on k)

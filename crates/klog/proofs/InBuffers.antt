@@ -13,7 +13,7 @@ use Rattle.klog.specs.declared.looked.Looked.TheVariants as looked
 use Rattle.klog.specs.Log.{LogState}
 use Rattle.klog.specs.Shown.{shown_on, CanStandFor, IsLiveOn}
 use Rattle.klog.specs.Known.{no_pages, is_buffered, IsPageKnown, IsHad, ShowsIfHad}
-use Rattle.klog.specs.Look.{ShowsOther, IsReached, LooksAt, lowered_in, IsInBuffers}
+use Rattle.klog.specs.Look.{ShowsOther, IsReached, LooksAt, lowered_in, IsInBuffers, GivesBuffered}
 use Rattle.klog.proofs.LookLaws.{got, got_early, reached_listed}
 
 module _ (bytes : ℕ) (k : LogState) (set tag : ℕ) (key : List ℕ) (e : Entry) (r : Rec) (here : IsInBuffers bytes k set tag key e r) where
@@ -66,22 +66,23 @@ module _ (bytes : ℕ) (k : LogState) (set tag : ℕ) (key : List ℕ) (e : Entr
   both None C D one other = one
 
   -- a hit is its record
-  hit : (new : LogState) (value : List ℕ) (nc : Type 0) → LooksAt bytes no_pages k set tag key (Ok (looked.Hit value)) new nc → (looked.Hit value ≡ looked.Hit r.value) × (new ≡ lowered_in k set e.place) × nc
+  hit : (new : LogState) (value : List ℕ) (nc : Type 0) → LooksAt bytes no_pages k set tag key (Ok (looked.Hit value)) new nc → GivesBuffered k set e r new nc (looked.Hit value)
   hit new value nc at =
-      ⊎_elim (λ same. found (same_entry at.0 at.1 same))
+      ⊎_elim (λ same. found (same_entry at.entry at.reached same))
       (⊎_elim
-      (λ lt. absurd (both (shown_on no_pages k at.0) (CanStandFor bytes k.shape at.0) (λ x. x.value ≡ value) (other_before at.0 at.1 lt (before_had at.0 at.1 lt)) (at.3 (before_had at.0 at.1 lt))))
-      (λ gt. absurd (not_past at.0 at.1 gt)))
-      (cases_order at.1.behind behind)
+      (λ lt. absurd (both (shown_on no_pages k at.entry) (CanStandFor bytes k.shape at.entry) (λ x. x.value ≡ value) (other_before at.entry at.reached lt (before_had at.entry at.reached lt)) (at.shows (before_had at.entry at.reached lt))))
+      (λ gt. absurd (not_past at.entry at.reached gt)))
+      (cases_order at.reached.behind behind)
     where
-      found : at.0 ≡ e → (looked.Hit value ≡ looked.Hit r.value) × (new ≡ lowered_in k set e.place) × nc
+      found : at.entry ≡ e → GivesBuffered k set e r new nc (looked.Hit value)
       found is =
-          let shows : ShowsIfHad bytes no_pages k e (λ x. (has_key key x ≡ true) × (x.value ≡ value)) = subst (λ (x : Entry). ShowsIfHad bytes no_pages k x (λ x. (has_key key x ≡ true) × (x.value ≡ value))) is at.3 in
-          let its = subst (λ (o : Option Rec). IsSomeAnd o (λ x. CanStandFor bytes k.shape e x × ((has_key key x ≡ true) × (x.value ≡ value)))) here.shows (shows here_had) in (
-            ap looked.Hit (sym its.1.1),
-            at.2 ∙ ap (λ (x : Entry). lowered_in k set x.place) is,
-            at.4 (subst (λ (x : Entry). IsTrue (is_buffered k x)) (sym is) (early e behind (omega arith) here.reached.at)),
-          )
+          let shows : ShowsIfHad bytes no_pages k e (λ x. (has_key key x ≡ true) × (x.value ≡ value)) = subst (λ (x : Entry). ShowsIfHad bytes no_pages k x (λ x. (has_key key x ≡ true) × (x.value ≡ value))) is at.shows in
+          let its = subst (λ (o : Option Rec). IsSomeAnd o (λ x. CanStandFor bytes k.shape e x × ((has_key key x ≡ true) × (x.value ≡ value)))) here.shows (shows here_had) in
+          record {
+            hit = ap looked.Hit (sym its.1.1);
+            lowered = at.lowered ∙ ap (λ (x : Entry). lowered_in k set x.place) is;
+            uncalled = at.uncalled (subst (λ (x : Entry). IsTrue (is_buffered k x)) (sym is) (early e behind (omega arith) here.reached.at));
+          }
 
   -- no fault is met
   not_unbuffered : (x : Entry) (h : IsReached bytes no_pages k set tag key x) → is_buffered k x ≡ false → ⊥
@@ -106,14 +107,14 @@ module _ (bytes : ℕ) (k : LogState) (set tag : ℕ) (key : List ℕ) (e : Entr
       (cases_order h.behind behind)
 
   by_result : (new : LogState) (nc : Type 0) (result : Result Looked AllocError) → LooksAt bytes no_pages k set tag key result new nc
-      → IfOk result (λ l. (l ≡ looked.Hit r.value) × (new ≡ lowered_in k set e.place) × nc)
+      → IfOk result (GivesBuffered k set e r new nc)
   by_result new nc (Ok (looked.Hit value)) at = hit new value nc at
   by_result new nc (Ok looked.Absent) at = absurd (not_other (All-contains (ShowsOther bytes no_pages k key) es e at (reached_listed bytes no_pages k set tag key e here.reached)))
-  by_result new nc (Ok looked.Fault) at = absurd (not_unbuffered at.0 at.1 at.2)
-  by_result new nc (Ok looked.Damaged) at = absurd (not_damaged at.0 at.1 at.2)
+  by_result new nc (Ok looked.Fault) at = absurd (not_unbuffered at.entry at.reached at.stored)
+  by_result new nc (Ok looked.Damaged) at = absurd (not_damaged at.entry at.reached at.dead)
   by_result new nc (Err x) at = tt
 
 pub told_by_buffers : (bytes : ℕ) (k new : LogState) (set tag : ℕ) (key : List ℕ) (e : Entry) (r : Rec) (result : Result Looked AllocError) (nc : Type 0)
     → LooksAt bytes no_pages k set tag key result new nc → IsInBuffers bytes k set tag key e r
-    → IfOk result (λ l. (l ≡ looked.Hit r.value) × (new ≡ lowered_in k set e.place) × nc)
+    → IfOk result (GivesBuffered k set e r new nc)
 told_by_buffers bytes k new set tag key e r result nc at here = by_result bytes k set tag key e r here new nc result at

@@ -312,10 +312,10 @@ pub finds_of : (bytes : ℕ) (held : ℕ → Option (List ℕ)) (k : LogState) (
     → FindsAt bytes held k placed.set placed.tag key (Ok f) → IsSpelledOn bytes held k → Finds k (live_on held k) key f
 finds_of bytes held k key placed (found.Hit e value) is at spelled = hit_newest bytes held k key placed e value is spelled at.0 at.1
 finds_of bytes held k key placed found.Absent is at spelled = absent_none bytes held k key placed is spelled at
-finds_of bytes held k key placed found.Fault is at spelled = comes_to_page bytes held k key placed at.0 is spelled at.1 at.2
+finds_of bytes held k key placed found.Fault is at spelled = comes_to_page bytes held k key placed at.entry is spelled at.reached at.stored
 finds_of bytes held k key placed found.Damaged is at spelled =
-    at.2 (All-contains (IsLiveOn bytes held k) (of_tag placed.set placed.tag k.entries) at.0 (spelled_live bytes held k placed.set placed.tag spelled)
-    (reached_listed bytes held k placed.set placed.tag key at.0 at.1))
+    at.dead (All-contains (IsLiveOn bytes held k) (of_tag placed.set placed.tag k.entries) at.entry (spelled_live bytes held k placed.set placed.tag spelled)
+    (reached_listed bytes held k placed.set placed.tag key at.entry at.reached))
 
 -- where none is left, none stands further behind
 pub got_none : (k : LogState) (set tag behind : ℕ) (now : List Entry) → now ≡ drop behind (of_tag set tag k.entries) → now ≡ [] → length (of_tag set tag k.entries) ≤ behind

@@ -119,7 +119,11 @@ spelled_freed bytes held k tells log h = record {
     flushed_as : (bytes : ℕ) (pages : ℕ → Option (List ℕ)) (k : LogState) (e : Entry) → 0 < k.stored → segment_of (freed k) e ≡ segment_of k e → IsFlushed bytes pages k e → IsFlushed bytes pages (freed k) e
     flushed_as bytes pages k e some same h at is below =
         let t = h (sym same ∙ at ∙ flushed_freed k some) is below in
-        (t.0, ap (λ (n : ℕ). pages (ring_page k n e.place.page)) same ∙ t.1, subst (λ (n : ℕ). SpellsLogPage bytes t.0 (record { segment = n; page = e.place.page; records = page_of k.flushing e.place.page })) (sym same) t.2)
+        record {
+          text = t.text;
+          holds = ap (λ (n : ℕ). pages (ring_page k n e.place.page)) same ∙ t.holds;
+          spells = subst (λ (n : ℕ). SpellsLogPage bytes t.text (record { segment = n; page = e.place.page; records = page_of k.flushing e.place.page })) (sym same) t.spells;
+        }
 
 -- ---- an entry is dropped
 

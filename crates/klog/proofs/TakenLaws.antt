@@ -121,9 +121,9 @@ moved_number k e =
 
 -- after any step of flushing
 pub flush_keeps : FlushKeepsPlaces
-flush_keeps k k' flushed.Nothing e h g = subst (λ q. KeepsPlace k q e) (sym g.2) (h, refl)
-flush_keeps k k' flushed.Sealed e h g = subst (λ q. KeepsPlace k q e) (sym g.2) (stays_sealed k e g.0 h, refl)
-flush_keeps k k' flushed.LogFull e h g = subst (λ q. KeepsPlace k q e) (sym g.3) (h, refl)
+flush_keeps k k' flushed.Nothing e h g = subst (λ q. KeepsPlace k q e) (sym g.same) (h, refl)
+flush_keeps k k' flushed.Sealed e h g = subst (λ q. KeepsPlace k q e) (sym g.left) (stays_sealed k e g.idle h, refl)
+flush_keeps k k' flushed.LogFull e h g = subst (λ q. KeepsPlace k q e) (sym g.same) (h, refl)
 flush_keeps k k' flushed.Wrote e h g = subst (λ q. KeepsPlace k q e) (sym g.1) (stays_moved k e g.0.0 h, moved_number k e)
 flush_keeps k k' flushed.PageLost e h g = subst (λ q. KeepsPlace k q e) (sym g.1) (stays_moved (without_next k) e g.0.0 (stays_list k _ e h), moved_number (without_next k) e)
 

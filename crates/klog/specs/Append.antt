@@ -45,13 +45,23 @@ is_full bytes k r =
     if can_add bytes (filling_buffer k) r then nat_lt (2 ^ 62) (filled_number k)
     else (k.is_flushing || nat_le (2 ^ 62) (filled_number k))
 
+-- the index has room, and no place is left
+pub record LacksPlace (bytes : ℕ) (old : LogState) (r : Rec) (new : LogState) : Type 0 where
+  pub listed : length old.entries < old.shape.limit
+  pub full : is_full bytes old r ≡ true
+  pub same : new ≡ old
+
+-- the index has room, and so has a page: the record is added
+pub record Appends (bytes : ℕ) (old : LogState) (r : Rec) (new : LogState) : Type 0 where
+  pub listed : length old.entries < old.shape.limit
+  pub room : is_full bytes old r ≡ false
+  pub added : new ≡ appended bytes old r
+
 -- refused where the index is full, or else where no place is left; added otherwise
 abbrev pub AppendGives : ℕ → LogState → Rec → Appended → LogState → Type 0
 AppendGives bytes old r answers.IndexFull new = (length old.entries ≡ old.shape.limit) × (new ≡ old)
-AppendGives bytes old r answers.Full new =
-    (length old.entries < old.shape.limit) × (is_full bytes old r ≡ true) × (new ≡ old)
-AppendGives bytes old r answers.Appended new =
-    (length old.entries < old.shape.limit) × (is_full bytes old r ≡ false) × (new ≡ appended bytes old r)
+AppendGives bytes old r answers.Full new = LacksPlace bytes old r new
+AppendGives bytes old r answers.Appended new = Appends bytes old r new
 
 -- the live records once the record has entered, or found no place: then it is the newest of them
 abbrev pub live_entered : ℕ → LogState → Rec → Bool → List (Entry × Rec) → List (Entry × Rec)

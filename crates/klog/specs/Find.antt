@@ -12,7 +12,7 @@ use Rattle.klog.specs.declared.found.Found.TheVariants as found
 use Rattle.klog.specs.Log.{LogState}
 use Rattle.klog.specs.Shown.{newest_with, IsLiveOn}
 use Rattle.klog.specs.Known.{is_buffered, ShowsIfHad}
-use Rattle.klog.specs.Look.{ShowsOther, IsReached, ComesToPage}
+use Rattle.klog.specs.Look.{ShowsOther, IsReached, FailsAt, DamagedAt, WantsAt, ComesToPage}
 
 -- those of these entries that have this tag
 abbrev pub with_tag : ℕ → List Entry → List Entry
@@ -57,8 +57,6 @@ abbrev pub FindsAt : ℕ → (ℕ → Option (List ℕ)) → LogState → ℕ �
 FindsAt bytes held k set tag key (Ok (found.Hit e value)) =
     IsReached bytes held k set tag key e × ShowsIfHad bytes held k e (λ r. (has_key key r ≡ true) × (r.value ≡ value))
 FindsAt bytes held k set tag key (Ok found.Absent) = All (ShowsOther bytes held k key) (of_tag set tag k.entries)
-FindsAt bytes held k set tag key (Ok found.Fault) = (e : Entry) × IsReached bytes held k set tag key e × (is_buffered k e ≡ false)
-FindsAt bytes held k set tag key (Ok found.Damaged) =
-    (e : Entry) × IsReached bytes held k set tag key e × (IsLiveOn bytes held k e → ⊥)
-FindsAt bytes held k set tag key (Err x) =
-    (e : Entry) × IsReached bytes held k set tag key e × ShowsIfHad bytes held k e (λ r. has_key key r ≡ true)
+FindsAt bytes held k set tag key (Ok found.Fault) = FailsAt bytes held k set tag key
+FindsAt bytes held k set tag key (Ok found.Damaged) = DamagedAt bytes held k set tag key
+FindsAt bytes held k set tag key (Err x) = WantsAt bytes held k set tag key

@@ -1,8 +1,7 @@
 -- What a flush step does.
-use Rattle.std.specs.Prelude.{◌≡◌, ◌≢◌, ℕ, ◌+◌, ◌<◌, List, [], length, filter, Option, Some, Bool, true, false, not, ◌==◌, if◌then◌else◌}
+use Rattle.std.specs.Prelude.{◌≡◌, ◌≢◌, ℕ, ◌+◌, ◌<◌, List, [], length, filter, Option, Bool, true, false, not, ◌==◌, if◌then◌else◌}
 use Rattle.std.specs.Bool.{OnTrue}
 use Rattle.record_pages.specs.Recs.{Rec}
-use Rattle.record_pages.specs.PageText.{SpellsLogPage}
 use Rattle.klog_index.specs.declared.entry.Entry.{Entry}
 use Rattle.klog_index.specs.Entries.{is_on, without}
 use Rattle.klog.specs.declared.flushed.Flushed.{Flushed}
@@ -10,6 +9,7 @@ use Rattle.klog.specs.declared.flushed.Flushed.TheVariants as answers
 use Rattle.klog.specs.Buffer.{page_of}
 use Rattle.klog.specs.Log.{LogState, with_list}
 use Rattle.klog.specs.Names.{name_of, flushed_number, device_page}
+use Rattle.klog.specs.Shown.{HoldsPage}
 use Rattle.klog.specs.Append.{sealed}
 
 -- the page was not written
@@ -39,12 +39,30 @@ moved_on k =
 abbrev pub CanFlush : LogState → Type 0
 CanFlush k = (k.is_flushing ≡ true) × (k.done ≡ 0 → k.stored < k.shape.segments)
 
+-- there is nothing to flush: no segment is flushed, and the filled one is empty
+pub record HasNothing (old new : LogState) : Type 0 where
+  pub idle : old.is_flushing ≡ false
+  pub empty : old.filling ≡ []
+  pub same : new ≡ old
+
+-- the filled segment is the one that is flushed next
+pub record Seals (old new : LogState) : Type 0 where
+  pub idle : old.is_flushing ≡ false
+  pub some : old.filling ≢ []
+  pub left : new ≡ sealed old
+
+-- no segment of the device is free for the one that is flushed
+pub record Waits (old new : LogState) : Type 0 where
+  pub flushing : old.is_flushing ≡ true
+  pub first : old.done ≡ 0
+  pub full : old.stored ≡ old.shape.segments
+  pub same : new ≡ old
+
 -- when each answer comes, and what it leaves
 abbrev pub FlushGives : LogState → Flushed → LogState → Type 0
-FlushGives old answers.Nothing new = (old.is_flushing ≡ false) × (old.filling ≡ []) × (new ≡ old)
-FlushGives old answers.Sealed new = (old.is_flushing ≡ false) × (old.filling ≢ []) × (new ≡ sealed old)
-FlushGives old answers.LogFull new =
-    (old.is_flushing ≡ true) × (old.done ≡ 0) × (old.stored ≡ old.shape.segments) × (new ≡ old)
+FlushGives old answers.Nothing new = HasNothing old new
+FlushGives old answers.Sealed new = Seals old new
+FlushGives old answers.LogFull new = Waits old new
 FlushGives old answers.Wrote new = CanFlush old × (new ≡ moved_on old)
 FlushGives old answers.PageLost new = CanFlush old × (new ≡ moved_on (without_next old))
 
@@ -56,7 +74,5 @@ live_flushed old flushed live =
 -- A write of the page that is flushed next. Where the device takes it, the page is known to hold the records of the
 -- buffer; all other pages of the device stay.
 pub record WritesNext (bytes : ℕ) (k : LogState) (wrote : Bool) (old new : ℕ → Option (List ℕ)) : Type 0 where
-  pub written : OnTrue wrote ((text : List ℕ)
-      × (new (device_page k (flushed_number k) k.done) ≡ Some text)
-      × SpellsLogPage bytes text (record { segment = flushed_number k; page = k.done; records = page_of k.flushing k.done }))
+  pub written : OnTrue wrote (HoldsPage bytes (flushed_number k) k.done (page_of k.flushing k.done) (new (device_page k (flushed_number k) k.done)))
   pub others : (p : ℕ) → p ≢ device_page k (flushed_number k) k.done → new p ≡ old p

@@ -25,11 +25,17 @@ lowered_in k set place = with_list k (with_lowered (is_in set place) k.entries)
 abbrev pub live_lowered : ℕ → Place → List (Entry × Rec) → List (Entry × Rec)
 live_lowered set place live = map (λ x. (if is_in set place x.0 then lowered x.0 else x.0, x.1)) live
 
--- a hit lowers one of the entries with this set and tag, and where that one lies in a buffer the device was not called,
--- whatever older ones there are; else nothing changes
+-- one of the entries with this set and tag is lowered, and where that one lies in a buffer the device was not called,
+-- whatever older ones there are
+pub record LowersEntry (old : LogState) (set tag : ℕ) (new : LogState) (not_called : Type 0) : Type 0 where
+  pub entry : Entry
+  pub listed : Contains (of_tag set tag old.entries) entry
+  pub lowered : new ≡ lowered_in old set entry.place
+  pub uncalled : IsTrue (is_buffered old entry) → not_called
+
+-- a hit lowers an entry; else nothing changes
 abbrev pub LogLookLeaves : LogState → ℕ → ℕ → Result Looked AllocError → LogState → Type 0 → Type 0
-LogLookLeaves old set tag (Ok (looked.Hit value)) new not_called =
-    (e : Entry) × Contains (of_tag set tag old.entries) e × (new ≡ lowered_in old set e.place) × (IsTrue (is_buffered old e) → not_called)
+LogLookLeaves old set tag (Ok (looked.Hit value)) new not_called = LowersEntry old set tag new not_called
 LogLookLeaves old set tag (Ok looked.Absent) new not_called = new ≡ old
 LogLookLeaves old set tag (Ok looked.Fault) new not_called = new ≡ old
 LogLookLeaves old set tag (Ok looked.Damaged) new not_called = new ≡ old
@@ -45,14 +51,23 @@ pub record ComesToPage (k : LogState) (key : List ℕ) (live : List (Entry × Re
   pub stored : is_buffered k at.0 ≡ false
   pub others : newest_with newer key ≡ None
 
+-- this live record has the value, and its entry is lowered
+pub record GivesRecord (live : List (Entry × Rec)) (value : List ℕ) (old new : LogState) (after : List (Entry × Rec)) (x : Entry × Rec) : Type 0 where
+  pub its : x.1.value ≡ value
+  pub lowered : new ≡ lowered_in old x.0.set x.0.place
+  pub left : after ≡ live_lowered x.0.set x.0.place live
+
+-- the log and its live records stay
+pub record StaysAlive (live : List (Entry × Rec)) (old new : LogState) (after : List (Entry × Rec)) : Type 0 where
+  pub log : new ≡ old
+  pub left : after ≡ live
+
 -- A hit is the newest live record of the key, whose entry is lowered; absent is a key that no live record has; a fault
 -- comes only where the search comes to a page; no page is damaged. Before and after the call these records are live.
 abbrev pub LogLookGives : List (Entry × Rec) → List ℕ → LogState → Looked → LogState → List (Entry × Rec) → Type 0
-LogLookGives live key old (looked.Hit value) new after =
-    IsSomeAnd (newest_with live key) (λ x. (x.1.value ≡ value)
-    × (new ≡ lowered_in old x.0.set x.0.place) × (after ≡ live_lowered x.0.set x.0.place live))
-LogLookGives live key old looked.Absent new after = (newest_with live key ≡ None) × (new ≡ old) × (after ≡ live)
-LogLookGives live key old looked.Fault new after = ComesToPage old key live × (new ≡ old) × (after ≡ live)
+LogLookGives live key old (looked.Hit value) new after = IsSomeAnd (newest_with live key) (GivesRecord live value old new after)
+LogLookGives live key old looked.Absent new after = (newest_with live key ≡ None) × StaysAlive live old new after
+LogLookGives live key old looked.Fault new after = ComesToPage old key live × StaysAlive live old new after
 LogLookGives live key old looked.Damaged new after = ⊥
 
 -- the entry shows another key, where what it shows is known
@@ -65,21 +80,40 @@ pub record IsReached (bytes : ℕ) (held : ℕ → Option (List ℕ)) (k : LogSt
   pub at : slice_get (of_tag set tag k.entries) behind ≡ Some e
   pub newer : All (ShowsOther bytes held k key) (take behind (of_tag set tag k.entries))
 
--- What lies behind each answer of a look-up, whatever else is known: a hit is the value of an entry that the search came
--- to, and which is lowered, and the device was not called where it lies in a buffer; absent is a key that no entry of
--- its set and tag shows; a fault was met at an entry that the search came to, in no buffer; at a damaged one no record
--- lies that may stand for it; and memory is wanted only for a value.
+-- a hit, whatever else is known: the search came to an entry, which shows the value, and is lowered; the device was not
+-- called where it lies in a buffer
+pub record HitsAt (bytes : ℕ) (held : ℕ → Option (List ℕ)) (old : LogState) (set tag : ℕ) (key value : List ℕ) (new : LogState) (not_called : Type 0) : Type 0 where
+  pub entry : Entry
+  pub reached : IsReached bytes held old set tag key entry
+  pub lowered : new ≡ lowered_in old set entry.place
+  pub shows : ShowsIfHad bytes held old entry (λ r. (has_key key r ≡ true) × (r.value ≡ value))
+  pub uncalled : IsTrue (is_buffered old entry) → not_called
+
+-- a fault: the search came to an entry that lies in no buffer
+pub record FailsAt (bytes : ℕ) (held : ℕ → Option (List ℕ)) (old : LogState) (set tag : ℕ) (key : List ℕ) : Type 0 where
+  pub entry : Entry
+  pub reached : IsReached bytes held old set tag key entry
+  pub stored : is_buffered old entry ≡ false
+
+-- damage: the search came to an entry for which no record may stand
+pub record DamagedAt (bytes : ℕ) (held : ℕ → Option (List ℕ)) (old : LogState) (set tag : ℕ) (key : List ℕ) : Type 0 where
+  pub entry : Entry
+  pub reached : IsReached bytes held old set tag key entry
+  pub dead : IsLiveOn bytes held old entry → ⊥
+
+-- want of memory: the search came to an entry with the key, whose value was to be copied
+pub record WantsAt (bytes : ℕ) (held : ℕ → Option (List ℕ)) (old : LogState) (set tag : ℕ) (key : List ℕ) : Type 0 where
+  pub entry : Entry
+  pub reached : IsReached bytes held old set tag key entry
+  pub shows : ShowsIfHad bytes held old entry (λ r. has_key key r ≡ true)
+
+-- what lies behind each answer of a look-up, whatever else is known; absent is a key that no entry of its set and tag shows
 abbrev pub LooksAt : ℕ → (ℕ → Option (List ℕ)) → LogState → ℕ → ℕ → List ℕ → Result Looked AllocError → LogState → Type 0 → Type 0
-LooksAt bytes held old set tag key (Ok (looked.Hit value)) new not_called =
-    (e : Entry) × IsReached bytes held old set tag key e × (new ≡ lowered_in old set e.place)
-    × ShowsIfHad bytes held old e (λ r. (has_key key r ≡ true) × (r.value ≡ value))
-    × (IsTrue (is_buffered old e) → not_called)
+LooksAt bytes held old set tag key (Ok (looked.Hit value)) new not_called = HitsAt bytes held old set tag key value new not_called
 LooksAt bytes held old set tag key (Ok looked.Absent) new not_called = All (ShowsOther bytes held old key) (of_tag set tag old.entries)
-LooksAt bytes held old set tag key (Ok looked.Fault) new not_called = (e : Entry) × IsReached bytes held old set tag key e × (is_buffered old e ≡ false)
-LooksAt bytes held old set tag key (Ok looked.Damaged) new not_called =
-    (e : Entry) × IsReached bytes held old set tag key e × (IsLiveOn bytes held old e → ⊥)
-LooksAt bytes held old set tag key (Err x) new not_called =
-    (e : Entry) × IsReached bytes held old set tag key e × ShowsIfHad bytes held old e (λ r. has_key key r ≡ true)
+LooksAt bytes held old set tag key (Ok looked.Fault) new not_called = FailsAt bytes held old set tag key
+LooksAt bytes held old set tag key (Ok looked.Damaged) new not_called = DamagedAt bytes held old set tag key
+LooksAt bytes held old set tag key (Err x) new not_called = WantsAt bytes held old set tag key
 
 -- The record that the buffers tell of a key. Of the entries of the key's set and tag, newest first, all up to this one lie in
 -- buffers, those before it show other keys, and it shows this record, which has the key.
@@ -89,3 +123,9 @@ pub record IsInBuffers (bytes : ℕ) (k : LogState) (set tag : ℕ) (key : List 
   pub shows : shown_on no_pages k e ≡ Some r
   pub its : CanStandFor bytes k.shape e r
   pub has : has_key key r ≡ true
+
+-- that record is given: its value is answered, its entry is lowered, and the device was not called
+pub record GivesBuffered (old : LogState) (set : ℕ) (e : Entry) (r : Rec) (new : LogState) (not_called : Type 0) (answer : Looked) : Type 0 where
+  pub hit : answer ≡ looked.Hit r.value
+  pub lowered : new ≡ lowered_in old set e.place
+  pub uncalled : not_called

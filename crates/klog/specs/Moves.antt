@@ -20,6 +20,7 @@ use Rattle.klog.specs.Shown.{CanStandFor, IsLiveOn}
 use Rattle.klog.specs.Known.{is_buffered, ShowsIfHad}
 use Rattle.klog.specs.Append.{entering, entry_for, taker, appended, is_full}
 use Rattle.klog.specs.Flush.{is_on_page, without_page}
+use Rattle.klog.specs.Look.{StaysAlive}
 
 -- what is said of the oldest segment on the device: there is none; it has no live record; or which is its first, by page, then slot
 abbrev pub TellsOldest : LogState → Oldest → Type 0
@@ -76,15 +77,25 @@ abbrev pub is_readmit_fault : Readmitted → Bool
 is_readmit_fault answers.Fault = true
 is_readmit_fault _ = false
 
+-- a record that may stand for the entry is appended anew
+pub record AppendsAnew (bytes : ℕ) (old : LogState) (e : Entry) (new : LogState) : Type 0 where
+  pub its : Rec
+  pub can : CanStandFor bytes old.shape e its
+  pub room : is_full bytes (without_entry old e) (entering its.key its.value) ≡ false
+  pub added : new ≡ appended bytes (without_entry old e) (entering its.key its.value)
+
+-- a record that may stand for the entry finds no place, and is lost
+pub record FindsNoPlace (bytes : ℕ) (old : LogState) (e : Entry) (new : LogState) : Type 0 where
+  pub its : Rec
+  pub can : CanStandFor bytes old.shape e its
+  pub full : is_full bytes (without_entry old e) (entering its.key its.value) ≡ true
+  pub left : new ≡ without_entry old e
+
 -- A record that may stand for the entry is appended anew, or is lost where no place is left; where its page is not to be
 -- had all entries of that page are dropped.
 abbrev pub ReadmitLeaves : ℕ → LogState → Entry → Readmitted → LogState → Type 0
-ReadmitLeaves bytes old e answers.Readmitted new =
-    (r : Rec) × CanStandFor bytes old.shape e r × (is_full bytes (without_entry old e) (entering r.key r.value) ≡ false)
-    × (new ≡ appended bytes (without_entry old e) (entering r.key r.value))
-ReadmitLeaves bytes old e answers.Dropped new =
-    (r : Rec) × CanStandFor bytes old.shape e r × (is_full bytes (without_entry old e) (entering r.key r.value) ≡ true)
-    × (new ≡ without_entry old e)
+ReadmitLeaves bytes old e answers.Readmitted new = AppendsAnew bytes old e new
+ReadmitLeaves bytes old e answers.Dropped new = FindsNoPlace bytes old e new
 ReadmitLeaves bytes old e answers.Fault new = new ≡ without_its_page old e
 ReadmitLeaves bytes old e answers.Damaged new = new ≡ without_its_page old e
 
@@ -144,11 +155,16 @@ is_taking_lost _ = false
 abbrev pub taken_entries : LogState → ℕ → List Entry
 taken_entries k set = take most_taken (of_set set k.entries)
 
+-- a page with a record that was to be taken is lost: all its entries are dropped
+pub record LosesPageOf (old : LogState) (set : ℕ) (new : LogState) : Type 0 where
+  pub entry : Entry
+  pub listed : Contains (taken_entries old set) entry
+  pub left : new ≡ without_its_page old entry
+
 -- where a page was lost, one with a record that was to be taken, all its entries are dropped; else nothing changes, and
 -- no more records are given than are taken at once
 abbrev pub TakeLeaves : LogState → ℕ → Result SetTaken AllocError → LogState → Type 0
-TakeLeaves old set (Ok taken.PageLost) new =
-    (e : Entry) × Contains (taken_entries old set) e × (new ≡ without_its_page old e)
+TakeLeaves old set (Ok taken.PageLost) new = LosesPageOf old set new
 TakeLeaves old set (Ok (taken.Records rs)) new = (new ≡ old) × (length rs ≤ most_taken)
 TakeLeaves old set (Err e) new = new ≡ old
 
@@ -160,25 +176,44 @@ taken_as k x = record { stored = rec x.1.key x.1.value x.0.prediction; place = x
 abbrev pub taken_of : LogState → ℕ → List (Entry × Rec) → List TakenRecord
 taken_of k set live = map (taken_as k) (take most_taken (filter (λ x. is_of set x.0) live))
 
+-- a page on the device with a record that was to be taken is lost: its entries and records are gone
+pub record LosesStoredPage (old : LogState) (set : ℕ) (live : List (Entry × Rec)) (new : LogState) (after : List (Entry × Rec)) : Type 0 where
+  pub entry : Entry
+  pub listed : Contains (taken_entries old set) entry
+  pub stored : is_buffered old entry ≡ false
+  pub left : new ≡ without_its_page old entry
+  pub live_left : after ≡ live_without_page old entry live
+
 -- What is answered, of these live records, and the log and what is live after it: the records that are taken are still
 -- live; where a page on the device was lost, one with a record that was to be taken, its entries and records are gone.
 abbrev pub TakeGives : LogState → ℕ → List (Entry × Rec) → SetTaken → LogState → List (Entry × Rec) → Type 0
-TakeGives old set live (taken.Records rs) new after = (rs ≡ taken_of old set live) × (new ≡ old) × (after ≡ live)
-TakeGives old set live taken.PageLost new after =
-    (e : Entry) × Contains (taken_entries old set) e × (is_buffered old e ≡ false)
-    × (new ≡ without_its_page old e) × (after ≡ live_without_page old e live)
+TakeGives old set live (taken.Records rs) new after = (rs ≡ taken_of old set live) × StaysAlive live old new after
+TakeGives old set live taken.PageLost new after = LosesStoredPage old set live new after
 
 -- records are those of these entries, each as it is taken, where what the entry shows is known
 pub record AreCopies (bytes : ℕ) (held : ℕ → Option (List ℕ)) (k : LogState) (es : List Entry) (rs : List TakenRecord) : Type 0 where
   pub count : length rs ≡ length es
   pub each : (i : ℕ) (e : Entry) → slice_get es i ≡ Some e → ShowsIfHad bytes held k e (λ r. slice_get rs i ≡ Some (taken_as k (e, r)))
 
+-- a page with a record that was to be taken is lost; where such a record is known, the device failed, and the record lies
+-- in no buffer
+pub record LosesPageAt (bytes : ℕ) (held : ℕ → Option (List ℕ)) (old : LogState) (set before : ℕ) (new : LogState) (after : ℕ) : Type 0 where
+  pub entry : Entry
+  pub listed : Contains (taken_entries old set) entry
+  pub left : new ≡ without_its_page old entry
+  pub failed : IsLiveOn bytes held old entry → after ≡ faults_after before true
+  pub stored : IsLiveOn bytes held old entry → is_buffered old entry ≡ false
+
+-- memory was wanted for a record that was to be taken
+pub record WantsToTake (bytes : ℕ) (held : ℕ → Option (List ℕ)) (old : LogState) (set : ℕ) : Type 0 where
+  pub entry : Entry
+  pub listed : Contains (taken_entries old set) entry
+  pub shows : ShowsIfHad bytes held old entry (λ r. Unit {0})
+
 -- What lies behind each answer of a taking, whatever else is known, by the device's count of failures before and after:
 -- each record is its entry's; a page is lost where an entry to be taken shows no record that may stand for it, or the
 -- device failed; and memory is wanted only for a record.
 abbrev pub TakesAt : ℕ → (ℕ → Option (List ℕ)) → LogState → ℕ → ℕ → Result SetTaken AllocError → LogState → ℕ → Type 0
 TakesAt bytes held old set before (Ok (taken.Records rs)) new after = AreCopies bytes held old (taken_entries old set) rs
-TakesAt bytes held old set before (Ok taken.PageLost) new after =
-    (e : Entry) × Contains (taken_entries old set) e × (new ≡ without_its_page old e) × (IsLiveOn bytes held old e → (after ≡ faults_after before true) × (is_buffered old e ≡ false))
-TakesAt bytes held old set before (Err x) new after =
-    (e : Entry) × Contains (taken_entries old set) e × ShowsIfHad bytes held old e (λ r. Unit {0})
+TakesAt bytes held old set before (Ok taken.PageLost) new after = LosesPageAt bytes held old set before new after
+TakesAt bytes held old set before (Err x) new after = WantsToTake bytes held old set

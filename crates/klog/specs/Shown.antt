@@ -67,13 +67,17 @@ IsLive bytes pages k e = IsSomeAnd (shown pages k e) (CanStandFor bytes k.shape 
 abbrev pub IsLiveOn : ℕ → (ℕ → Option (List ℕ)) → LogState → Entry → Type 0
 IsLiveOn bytes held k e = IsLive bytes (pages_from k.shape.sets held) k e
 
+-- a page is known, and spells this page of a segment with these records
+pub record HoldsPage (bytes segment page : ℕ) (rs : List Rec) (known : Option (List ℕ)) : Type 0 where
+  pub text : List ℕ
+  pub holds : known ≡ Some text
+  pub spells : SpellsLogPage bytes text (record { segment = segment; page = page; records = rs })
+
 -- if the entry's page was flushed already, it is known to hold the records of the buffer
 abbrev pub IsFlushed : ℕ → (ℕ → Option (List ℕ)) → LogState → Entry → Type 0
 IsFlushed bytes pages k e =
     segment_of k e ≡ flushed_number k → k.is_flushing ≡ true → e.place.page < k.done →
-    (text : List ℕ)
-    × (pages (ring_page k (segment_of k e) e.place.page) ≡ Some text)
-    × SpellsLogPage bytes text (record { segment = segment_of k e; page = e.place.page; records = page_of k.flushing e.place.page })
+    HoldsPage bytes (segment_of k e) e.place.page (page_of k.flushing e.place.page) (pages (ring_page k (segment_of k e) e.place.page))
 
 -- each live record lies in a buffer or on a known page, and the pages that were flushed already hold what the buffer holds
 pub record IsSpelled (bytes : ℕ) (pages : ℕ → Option (List ℕ)) (k : LogState) : Type 0 where

@@ -10,7 +10,7 @@ use Rattle.klog.specs.declared.gathered.Gathered.TheVariants as gathered
 use Rattle.klog.specs.Log.{LogState}
 use Rattle.klog.specs.Shown.{IsLiveOn}
 use Rattle.klog.specs.Known.{is_buffered, ShowsIfHad}
-use Rattle.klog.specs.Moves.{most_taken, taken_as, taken_of, taken_entries, AreCopies}
+use Rattle.klog.specs.Moves.{most_taken, taken_as, taken_of, taken_entries, AreCopies, WantsToTake}
 
 -- no record was had
 abbrev pub is_missing : Result (Option TakenRecord) AllocError → Bool
@@ -42,5 +42,4 @@ Gathers k set live (gathered.Lost e) = Unit {0}
 abbrev pub GathersAt : ℕ → (ℕ → Option (List ℕ)) → LogState → ℕ → ℕ → Result Gathered AllocError → ℕ → Type 0
 GathersAt bytes held k set before (Ok (gathered.Records rs)) after = AreCopies bytes held k (taken_entries k set) rs
 GathersAt bytes held k set before (Ok (gathered.Lost e)) after = IsLiveOn bytes held k e → (after ≡ faults_after before true) × (is_buffered k e ≡ false)
-GathersAt bytes held k set before (Err x) after =
-    (e : Entry) × Contains (taken_entries k set) e × ShowsIfHad bytes held k e (λ r. Unit {0})
+GathersAt bytes held k set before (Err x) after = WantsToTake bytes held k set

@@ -92,7 +92,7 @@ told_after_append bytes old new key value placed small is_key is_value place giv
     let t : LogState = taker bytes old r in
     let e : Entry = entry_for bytes t r in
     let shows : shown_on no_pages (put_on bytes t r) e ≡ Some r =
-    subst (λ (k : LogState). shown_on no_pages k e ≡ Some r) gives.2 (first_shown (shown_on no_pages new) new.entries e r (live_on no_pages old) live) in
+    subst (λ (k : LogState). shown_on no_pages k e ≡ Some r) gives.added (first_shown (shown_on no_pages new) new.entries e r (live_on no_pages old) live) in
     let same : place_in t.shape key ≡ placed = ap (λ (s : Shape). place_in s key) (taker_shape bytes old r) ∙ sym place in
-    subst (λ (k : LogState). IsInBuffers bytes k placed.set placed.tag key e r) (sym gives.2)
+    subst (λ (k : LogState). IsInBuffers bytes k placed.set placed.tag key e r) (sym gives.added)
     (subst (λ (p : Placed). IsInBuffers bytes (put_on bytes t r) p.set p.tag key e r) same (told_by_filled bytes t key value small is_key is_value shows))

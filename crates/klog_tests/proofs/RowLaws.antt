@@ -21,7 +21,7 @@ use Rattle.klog.specs.Keeps.{IsHeld}
 use Rattle.klog.specs.Laws.{NamesTellNumbers}
 use Rattle.klog.specs.Known.{no_pages, is_buffered, AreBuffered}
 use Rattle.klog.specs.Append.{entering, entry_for, sealed, taker}
-use Rattle.klog.specs.Look.{LooksAt, LogLookGives, lowered_in, live_lowered}
+use Rattle.klog.specs.Look.{LooksAt, LogLookGives, GivesRecord}
 use Rattle.klog.specs.Moves.{TakeLeaves, ReadmitLeaves, without_entry, is_taken, dropped}
 use Rattle.klog.specs.declared.taken_record.TakenRecord.{TakenRecord}
 use Rattle.klog.specs.declared.flushed.Flushed.{Flushed}
@@ -77,8 +77,8 @@ one_page segment page es gone other was there lost apart = step (is_on segment p
 pub left_by_take : (old new : LogState) (set : ℕ) (a : SetTaken) → TakeLeaves old set (Ok a) new → (gone other : Entry) → Contains old.entries gone → Contains old.entries other
     → (Contains new.entries gone → ⊥) → AreOnOthers other gone → Contains new.entries other
 left_by_take old new set taken.PageLost h gone other was there lost apart =
-    subst (λ (k : LogState). Contains k.entries other) (sym h.2)
-    (one_page (name_of old (segment_of old h.0)) h.0.place.page old.entries gone other was there (λ q. lost (subst (λ (k : LogState). Contains k.entries gone) (sym h.2) q)) apart)
+    subst (λ (k : LogState). Contains k.entries other) (sym h.left)
+    (one_page (name_of old (segment_of old h.entry)) h.entry.place.page old.entries gone other was there (λ q. lost (subst (λ (k : LogState). Contains k.entries gone) (sym h.left) q)) apart)
 left_by_take old new set (taken.Records rs) h gone other was there lost apart = subst (λ (k : LogState). Contains k.entries other) (sym h.0) there
 
 -- an entry on another page is not at the entry's place
@@ -116,11 +116,11 @@ left_by_readmit bytes old new e a names held leaves other there apart = step a l
     step : (a : Readmitted) → ReadmitLeaves bytes old e a new → Contains new.entries other
     step answers.Fault h = subst (λ (k : LogState). Contains k.entries other) (sym h) page_gone
     step answers.Damaged h = subst (λ (k : LogState). Contains k.entries other) (sym h) page_gone
-    step answers.Dropped h = subst (λ (k : LogState). Contains k.entries other) (sym h.3) entry_gone
+    step answers.Dropped h = subst (λ (k : LogState). Contains k.entries other) (sym h.left) entry_gone
     step answers.Readmitted h =
-        let r : Rec = entering h.0.key h.0.value in
+        let r : Rec = entering h.its.key h.its.value in
         let k : LogState = without_entry old e in
-        subst (λ (k : LogState). Contains k.entries other) (sym h.3)
+        subst (λ (k : LogState). Contains k.entries other) (sym h.added)
         (Contains-append_right (entry_for bytes (taker bytes k r) r ∷ []) (taker bytes k r).entries other (subst (λ (es : List Entry). Contains es other) (sym (taker_entries bytes k r)) entry_gone))
 
 -- no entry with a tag is left where those with it are dropped
@@ -145,11 +145,11 @@ no_slot es i e none at = let within = slice_get_within es i e at in let empty : 
 -- where no entry has the tag a look answers Absent
 pub absent_where_none : (bytes : ℕ) (k new : LogState) (set tag : ℕ) (key : List ℕ) (result : Result Looked AllocError) (nc : Type 0) → of_tag set tag k.entries ≡ []
     → LooksAt bytes no_pages k set tag key result new nc → result ≡ Ok looked.Absent
-absent_where_none bytes k new set tag key (Ok (looked.Hit value)) nc none at = absurd (no_slot (of_tag set tag k.entries) at.1.behind at.0 none at.1.at)
+absent_where_none bytes k new set tag key (Ok (looked.Hit value)) nc none at = absurd (no_slot (of_tag set tag k.entries) at.reached.behind at.entry none at.reached.at)
 absent_where_none bytes k new set tag key (Ok looked.Absent) nc none at = refl
-absent_where_none bytes k new set tag key (Ok looked.Fault) nc none at = absurd (no_slot (of_tag set tag k.entries) at.1.behind at.0 none at.1.at)
-absent_where_none bytes k new set tag key (Ok looked.Damaged) nc none at = absurd (no_slot (of_tag set tag k.entries) at.1.behind at.0 none at.1.at)
-absent_where_none bytes k new set tag key (Err x) nc none at = absurd (no_slot (of_tag set tag k.entries) at.1.behind at.0 none at.1.at)
+absent_where_none bytes k new set tag key (Ok looked.Fault) nc none at = absurd (no_slot (of_tag set tag k.entries) at.reached.behind at.entry none at.reached.at)
+absent_where_none bytes k new set tag key (Ok looked.Damaged) nc none at = absurd (no_slot (of_tag set tag k.entries) at.reached.behind at.entry none at.reached.at)
+absent_where_none bytes k new set tag key (Err x) nc none at = absurd (no_slot (of_tag set tag k.entries) at.reached.behind at.entry none at.reached.at)
 
 -- entries of other sets stay where taken records are dropped
 pub off_set : (k : LogState) (set : ℕ) (ts : List TakenRecord) (other : Entry) → Contains k.entries other → other.set ≢ set → Contains (dropped k set ts).entries other
@@ -191,8 +191,8 @@ not_absent live key x old looked.Damaged new after there h is = absurd h
 pub is_its_hit : (live : List (Entry × Rec)) (key : List ℕ) (x : Entry × Rec) (old : LogState) (a : Looked) (new : LogState) (after : List (Entry × Rec)) → newest_with live key ≡ Some x
     → LogLookGives live key old a new after → (value : List ℕ) → ◌≡◌ {A = Result Looked AllocError} (Ok a) (Ok (looked.Hit value)) → value ≡ x.1.value
 is_its_hit live key x old (looked.Hit value) new after there h wanted is =
-    let its = subst (λ (o : Option (Entry × Rec)). IsSomeAnd o (λ x. (x.1.value ≡ value) × (new ≡ lowered_in old x.0.set x.0.place) × (after ≡ live_lowered x.0.set x.0.place live))) there h in
-    let same : value ≡ wanted = grind (arith, is) in sym same ∙ sym its.0
+    let its = subst (λ (o : Option (Entry × Rec)). IsSomeAnd o (GivesRecord live value old new after)) there h in
+    let same : value ≡ wanted = grind (arith, is) in sym same ∙ sym its.its
 is_its_hit live key x old looked.Absent new after there h wanted is = grind (arith, is)
 is_its_hit live key x old looked.Fault new after there h wanted is = grind (arith, is)
 is_its_hit live key x old looked.Damaged new after there h wanted is = absurd h

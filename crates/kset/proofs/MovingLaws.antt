@@ -1,24 +1,22 @@
 -- What the sets show stays of the sets, and current.
-use Rattle.std.proofs.Common.{◌≡◌, ◌≢◌, ◌<◌, ℕ, Bool, true, false, cond, eqb, List, [], length, filter, not, Option, All, refl, sym, ap, subst, ◌∙◌, arith}
+use Rattle.std.proofs.Common.{◌≡◌, ◌≢◌, ◌<◌, ℕ, Bool, true, false, cond, eqb, List, [], length, not, Option, All, refl, sym, ap, subst, ◌∙◌, arith}
 use Rattle.std.specs.Prelude.{◌==◌}
 use Rattle.std.specs.List.{enumerate_from}
 use Rattle.std.proofs.lemmas.Bool.{eqb-true, eqb-false}
 use Rattle.std.proofs.lemmas.Bool.Decides.{nat_tests}
 use Rattle.std.proofs.lemmas.List.Elements.{All-nil, All-filter, filter_passes}
 use Rattle.std.proofs.lemmas.List.FromFn.{length-enumerate_from, get_or-enumerate_from}
-use Rattle.page_device.specs.Frames.{pages_before}
 use Rattle.record_pages.specs.Recs.{Rec}
 use Rattle.set_hash.specs.Fnv.{fnv1a}
 use Rattle.set_hash.specs.Place.{placed_of}
 use Rattle.kset.specs.declared.rewritten.Rewritten.TheVariants.{Written, Forgotten}
 use Rattle.kset.specs.declared.set_read.SetRead.TheVariants.{Records, PageLost}
 use Rattle.std.specs.Prelude.{Ok, Err}
-use Rattle.kset.specs.Notes.{Notes}
 use Rattle.kset.specs.Sets.{notes_of}
 use Rattle.kset.specs.Pages.{AreSpelled, records_on}
 use Rattle.kset.specs.Shown.{visible_from}
 use Rattle.kset.specs.After.{with_set, is_one_too_many, without_hash, after_strike}
-use Rattle.kset.specs.Laws.{StrikesKeepSets, ReadingsKeepSets, RewritingsKeepSets, IsCurrent, AreCurrent, StrikesKeepCurrent, ReadingsKeepCurrent, RewritingsKeepCurrent, FramesKeepSets}
+use Rattle.kset.specs.Laws.{StrikesKeepSets, ReadingsKeepSets, RewritingsKeepSets, IsCurrent, StrikesKeepCurrent, ReadingsKeepCurrent, RewritingsKeepCurrent, FramesKeepSets}
 
 -- what holds of what one set shows now, and of what each other shows, holds of what all show
 all_with : {X : Type 0} (P : ℕ → X → Type 0) (visible : ℕ → List X) (set : ℕ) (shows : List X) → ((other : ℕ) → other ≢ set → All (P other) (visible other)) → All (P set) shows →

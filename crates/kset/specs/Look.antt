@@ -13,9 +13,15 @@ abbrev pub is_set_fault : Result Looked AllocError → Bool
 is_set_fault (Ok looked.Fault) = true
 is_set_fault _ = false
 
--- a hit notes some slot of the page as hit; else nothing changes
+-- one slot of the page is noted as hit
+pub record NotesSlot (old : SetsState) (set : ℕ) (new : SetsState) : Type 0 where
+  pub slot : ℕ
+  pub within : slot < max_records
+  pub noted : new ≡ hit_in old set slot
+
+-- a hit notes a slot as hit; else nothing changes
 abbrev pub SetLookLeaves : SetsState → ℕ → Result Looked AllocError → SetsState → Type 0
-SetLookLeaves old set (Ok (looked.Hit value)) new = (slot : ℕ) × (slot < max_records) × (new ≡ hit_in old set slot)
+SetLookLeaves old set (Ok (looked.Hit value)) new = NotesSlot old set new
 SetLookLeaves old set (Ok looked.Absent) new = new ≡ old
 SetLookLeaves old set (Ok looked.Fault) new = new ≡ old
 SetLookLeaves old set (Ok looked.Damaged) new = new ≡ old

@@ -56,8 +56,8 @@ module _ {D : Type 0} (held : D → ℕ → Option (List ℕ)) (s : StoreState D
   -- a taking from the log is one from the lane
   pub lane_taken : (k : LogState) (set : ℕ) (answer : SetTaken) → TakeGives s.log set (live_on (held s.device) s.log) answer k (live_on (held d) k) →
       LaneTakes set (lane_of held s) answer (lane_of held (record s { device = d; log = k }))
-  lane_taken k set (taken.Records rs) gives = (gives.0, log_as k s.log (live_on (held s.device) s.log) gives.1 gives.2)
-  lane_taken k set taken.PageLost gives = (gives.0, gives.1, gives.2, log_as k _ _ gives.3 gives.4)
+  lane_taken k set (taken.Records rs) gives = (gives.0, log_as k s.log (live_on (held s.device) s.log) gives.1.log gives.1.left)
+  lane_taken k set taken.PageLost gives = record { entry = gives.entry; listed = gives.listed; stored = gives.stored; left = log_as k _ _ gives.left gives.live_left }
 
   -- a lane with other sets
   sets_as : (q sets : SetsState) (visible : ℕ → List (ℕ × Rec)) → q ≡ sets → visible_in (held d) q ≡ visible →
@@ -123,9 +123,9 @@ module _ {D : Type 0} (s : StoreState D) (d : D) where
       log_is : (log : LogState) → k ≡ log → HasLog log s (record s { device = d; log = k })
       log_is log is = λ i. record { layout = s.layout; device = d; memory = s.memory; log = is i; sets = s.sets; flight = s.flight; moves = s.moves }
   taking_leaves k set taken.PageLost leaves = record {
-    entry = leaves.0;
-    listed = leaves.1;
-    rest = λ i. record { layout = s.layout; device = d; memory = s.memory; log = leaves.2 i; sets = s.sets; flight = s.flight; moves = s.moves };
+    entry = leaves.entry;
+    listed = leaves.listed;
+    rest = λ i. record { layout = s.layout; device = d; memory = s.memory; log = leaves.left i; sets = s.sets; flight = s.flight; moves = s.moves };
   }
 
   -- a reading of a set

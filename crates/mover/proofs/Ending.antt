@@ -59,7 +59,7 @@ first_begins size least old new e b free room first = step b
     stepped b = subst (λ s. IsStep s b new) (sym same)
 
     step : (b : Begin) → EntryBegins size least e old b new → BeginGives size least old b new
-    step begin.PageLost gives = (free, room, e, first, gives)
+    step begin.PageLost gives = record { free = free; few = room; first = e; is_first = first; lost = gives }
     step begin.Nothing gives = stepped begin.Nothing gives
     step begin.Busy gives = stepped begin.Busy gives
     step begin.Freed gives = stepped begin.Freed gives

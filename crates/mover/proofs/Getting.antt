@@ -7,7 +7,7 @@ use Rattle.std.specs.declared.alloc.AllocError.{AllocError}
 use Rattle.set_hash.specs.declared.placed.Placed.{Placed}
 use Rattle.klog_index.specs.Entries.{of_tag}
 use Rattle.klog.specs.Known.{AreBuffered}
-use Rattle.klog.specs.Look.{LogLookGives, LogLookLeaves, is_log_fault, lowered_in, live_lowered, IsInBuffers}
+use Rattle.klog.specs.Look.{LogLookGives, LogLookLeaves, is_log_fault, lowered_in, IsInBuffers, GivesRecord}
 use Rattle.mover.specs.Calls.{IsLowered, AnswersFromBuffers}
 use Rattle.klog.specs.Log.{LogState}
 use Rattle.klog_index.specs.declared.entry.Entry.{Entry}
@@ -93,15 +93,15 @@ module _ {D : Type 0} (held : D → ℕ → Option (List ℕ)) (s : StoreState D
         moves = s.moves;
       }
 
-      hit : (value : List ℕ) (o : Option (Entry × Rec)) → IsSomeAnd o (λ x. (x.1.value ≡ value) × (k ≡ lowered_in s.log x.0.set x.0.place) × (live_on (held d) k ≡ live_lowered x.0.set x.0.place (live_on (held s.device) s.log))) →
+      hit : (value : List ℕ) (o : Option (Entry × Rec)) → IsSomeAnd o (GivesRecord (live_on (held s.device) s.log) value s.log k (live_on (held d) k)) →
           IsSomeAnd o (λ x. (x.1.value ≡ value) × (lane_of held (record s { device = d; log = k }) ≡ lane_lowered (lane_of held s) x.0))
       hit value None has = absurd has
-      hit value (Some x) has = (has.0, lane_as _ _ has.1 has.2)
+      hit value (Some x) has = (has.its, lane_as _ _ has.lowered has.left)
 
       step : (looked : LogLooked) → LogLookGives (live_on (held s.device) s.log) key s.log looked k (live_on (held d) k) → LogTells key (lane_of held s) looked (lane_of held (record s { device = d; log = k }))
       step (log.Hit value) gives = hit value (newest_with (live_on (held s.device) s.log) key) gives
-      step log.Absent gives = (gives.0, lane_as s.log (live_on (held s.device) s.log) gives.1 gives.2)
-      step log.Fault gives = (gives.0, lane_as s.log (live_on (held s.device) s.log) gives.1 gives.2)
+      step log.Absent gives = (gives.0, lane_as s.log (live_on (held s.device) s.log) gives.1.log gives.1.left)
+      step log.Fault gives = (gives.0, lane_as s.log (live_on (held s.device) s.log) gives.1.log gives.1.left)
       step log.Damaged gives = gives
 
 -- a hit in memory is the answer
@@ -161,7 +161,7 @@ module _ {D : Type 0} (s : StoreState D) (d : D) where
       log_is log is = λ i. record { layout = s.layout; device = d; memory = s.memory; log = is i; sets = s.sets; flight = s.flight; moves = s.moves }
 
       step : (looked : LogLooked) → LogLookLeaves s.log at.set at.tag (Ok looked) k (d ≡ s.device) → LogLeaves at looked s (record s { device = d; log = k })
-      step (log.Hit value) leaves = record { entry = leaves.0; listed = leaves.1; rest = log_is (lowered_in s.log at.set leaves.0.place) leaves.2; unasked = leaves.3 }
+      step (log.Hit value) leaves = record { entry = leaves.entry; listed = leaves.listed; rest = log_is (lowered_in s.log at.set leaves.entry.place) leaves.lowered; unasked = leaves.uncalled }
       step log.Absent leaves = log_is s.log leaves
       step log.Fault leaves = log_is s.log leaves
       step log.Damaged leaves = log_is s.log leaves
@@ -173,7 +173,7 @@ module _ {D : Type 0} (s : StoreState D) (d : D) where
       sets_are sets is = λ i. record { layout = s.layout; device = d; memory = s.memory; log = s.log; sets = is i; flight = s.flight; moves = s.moves }
 
       step : (looked : SetLooked) → SetLookLeaves s.sets n (Ok looked) q → SetLeaves n (answer_of_set looked) s (record s { device = d; sets = q })
-      step (set.Hit value) leaves = record { slot = leaves.0; within = leaves.1; rest = sets_are (hit_in s.sets n leaves.0) leaves.2 }
+      step (set.Hit value) leaves = record { slot = leaves.slot; within = leaves.within; rest = sets_are (hit_in s.sets n leaves.slot) leaves.noted }
       step set.Absent leaves = sets_are s.sets leaves
       step set.Fault leaves = sets_are s.sets leaves
       step set.Damaged leaves = sets_are s.sets leaves

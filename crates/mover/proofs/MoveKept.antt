@@ -98,7 +98,7 @@ module _ (size least : ℕ) (lane : LaneState) (was : IsInOrder lane) where
   lost_kept e new judgement.Drop lost = absurd lost
   lost_kept e new judgement.Readmit lost = subst (KeepsOrder lane) (sym lost) (page_kept e)
   lost_kept e new judgement.Move lost =
-      ⊎_elim (λ log. subst (KeepsOrder lane) (sym log.3) (page_kept log.0)) (λ set. subst (KeepsOrder lane) (sym set.1) (set_kept e.set)) lost
+      ⊎_elim (λ log. subst (KeepsOrder lane) (sym log.left) (page_kept log.entry)) (λ set. subst (KeepsOrder lane) (sym set.1) (set_kept e.set)) lost
 
   -- what a beginning leaves is in order
   pub begun_kept : (b : Begin) (new : LaneState) → BeginGives size least lane b new → KeepsOrder lane new
@@ -108,7 +108,7 @@ module _ (size least : ℕ) (lane : LaneState) (was : IsInOrder lane) where
       stepped is = subst (KeepsOrder lane) (sym is) begin_step_kept
 
       by_answer : (b : Begin) → BeginGives size least lane b new → KeepsOrder lane new
-      by_answer begin.PageLost gives = lost_kept gives.2 new (judged least lane gives.2) gives.4
+      by_answer begin.PageLost gives = lost_kept gives.first new (judged least lane gives.first) gives.lost
       by_answer begin.Nothing gives = stepped gives.1
       by_answer begin.Busy gives = stepped gives.1
       by_answer begin.Freed gives = stepped gives.1
@@ -139,7 +139,7 @@ pub commit_kept : (size : ℕ) (plan : List Choice) (number : ℕ) (old new : La
 commit_kept size plan number old new answer was = by_answer answer
   where
     so : (ended : Rewritten) → Commits size plan number ended old new → KeepsOrder old new
-    so ended is = subst (KeepsOrder old) (sym is.4) (committed_kept size is.0 plan ended old was is.1 is.3)
+    so ended is = subst (KeepsOrder old) (sym is.ended) (committed_kept size is.its plan ended old was is.flies is.fits)
 
     by_answer : (answer : Committed) → CommitGives size plan number old answer new → KeepsOrder old new
     by_answer answers.Written is = so rewritten.Written is

@@ -178,7 +178,7 @@ lost_shows : (size : ℕ) (e : Entry) (old new : LaneState) (j : Judgement) → 
 lost_shows size e old new judgement.Drop lost = absurd lost
 lost_shows size e old new judgement.Readmit lost = subst (ShowsNoMore old) (sym lost) (sees_no_more old (lane_without_page e old) refl (page_shows old e))
 lost_shows size e old new judgement.Move lost =
-    ⊎_elim (λ log. subst (ShowsNoMore old) (sym log.3) (sees_no_more old (lane_without_page log.0 old) refl (page_shows old log.0)))
+    ⊎_elim (λ log. subst (ShowsNoMore old) (sym log.left) (sees_no_more old (lane_without_page log.entry old) refl (page_shows old log.entry)))
     (λ set. subst (ShowsNoMore old) (sym set.1) (sees_no_more old (lane_forgotten e.set old) refl (forgotten_shows old e.set (forgotten old.sets e.set)))) lost
 
 -- what a beginning leaves shows nothing that was not shown
@@ -189,7 +189,7 @@ begun_shows size least old b new log sets = by_answer b
     stepped is = subst (ShowsNoMore old) (sym is) (begin_shows size least old log sets)
 
     by_answer : (b : Begin) → BeginGives size least old b new → ShowsNoMore old new
-    by_answer begin.PageLost gives = lost_shows size gives.2 old new (judged least old gives.2) gives.4
+    by_answer begin.PageLost gives = lost_shows size gives.first old new (judged least old gives.first) gives.lost
     by_answer begin.Nothing gives = stepped gives.1
     by_answer begin.Busy gives = stepped gives.1
     by_answer begin.Freed gives = stepped gives.1
@@ -254,7 +254,7 @@ pub commit_shows : (size : ℕ) (plan : List Choice) (number : ℕ) (old : LaneS
 commit_shows size plan number old answer new = by_answer answer
   where
     so : (ended : Rewritten) → Commits size plan number ended old new → ShowsNoMore old new
-    so ended is = subst (ShowsNoMore old) (sym is.4) (committed_shows size is.0 plan ended old is.1 is.3)
+    so ended is = subst (ShowsNoMore old) (sym is.ended) (committed_shows size is.its plan ended old is.flies is.fits)
 
     by_answer : (answer : Committed) → CommitGives size plan number old answer new → ShowsNoMore old new
     by_answer answers.Written is = so rewritten.Written is

@@ -165,9 +165,9 @@ flushed_shape old new = by_answer
     moved k false = refl
 
     by_answer : (flushed : Flushed) → FlushGives old flushed new → new.shape ≡ old.shape
-    by_answer flushes.Nothing gives = ap (λ (k : LogState). k.shape) gives.2
-    by_answer flushes.Sealed gives = ap (λ (k : LogState). k.shape) gives.2
-    by_answer flushes.LogFull gives = ap (λ (k : LogState). k.shape) gives.3
+    by_answer flushes.Nothing gives = ap (λ (k : LogState). k.shape) gives.same
+    by_answer flushes.Sealed gives = ap (λ (k : LogState). k.shape) gives.left
+    by_answer flushes.LogFull gives = ap (λ (k : LogState). k.shape) gives.same
     by_answer flushes.Wrote gives = ap (λ (k : LogState). k.shape) gives.1 ∙ moved old (old.done + 1 == length old.flushing)
     by_answer flushes.PageLost gives = ap (λ (k : LogState). k.shape) gives.1 ∙ moved (without_next old) (old.done + 1 == length old.flushing)
 

@@ -69,9 +69,9 @@ append_told {D} held size s k r answer gives shown = step answer gives shown
     step : (answer : Appended) → AppendGives size s.log r answer k → live_on (held s.device) k ≡ live_appended size s.log r answer (live_on (held s.device) s.log) →
         IsStep (append_step size r (lane_of held s)) (pushed_as answer) (lane_of held (record s { log = k }))
     step answers.IndexFull gives shown = rw (full gives.0) (refl, lane_as s.log (live_on (held s.device) s.log) gives.1 shown)
-    step answers.Full gives shown = rw (listed gives.0, gives.1) (refl, lane_as s.log (live_on (held s.device) s.log) gives.2 shown)
+    step answers.Full gives shown = rw (listed gives.listed, gives.full) (refl, lane_as s.log (live_on (held s.device) s.log) gives.same shown)
     step answers.Appended gives shown =
-        rw (listed gives.0, gives.1) (refl, lane_as (appended size s.log r) ((entry_for size (taker size s.log r) r, r) ∷ live_on (held s.device) s.log) gives.2 shown)
+        rw (listed gives.listed, gives.room) (refl, lane_as (appended size s.log r) ((entry_for size (taker size s.log r) r, r) ∷ live_on (held s.device) s.log) gives.added shown)
 
 -- what is stored in memory, struck, and pushed out is a put
 pub put_told : {D : Type 0} (held : D → ℕ → Option (List ℕ)) (size word : ℕ) (p : Pair) (s between struck : StoreState D) (out : Option Pair) (at : Placed) (pushed : Pushed) (new : LaneState) →

@@ -141,11 +141,17 @@ begin_step_by size least lane (Some f) = record { reply = begin.Busy; lane = lan
 abbrev pub begin_step : ℕ → ℕ → LaneState → Step Begin
 begin_step size least lane = begin_step_by size least lane lane.flight
 
+-- a page on the device with a record of a set that was to be taken is lost
+pub record LosesTaken (set : ℕ) (old new : LaneState) : Type 0 where
+  pub entry : Entry
+  pub listed : Contains (taken_entries old.log set) entry
+  pub stored : is_buffered old.log entry ≡ false
+  pub left : new ≡ lane_without_page entry old
+
 -- a taking of the records of a set: they stay; or one of their pages on the device is lost
 abbrev pub LaneTakes : ℕ → LaneState → SetTaken → LaneState → Type 0
 LaneTakes set old (taken.Records rs) new = (rs ≡ taken_of old.log set old.live) × (new ≡ old)
-LaneTakes set old taken.PageLost new =
-    (e : Entry) × Contains (taken_entries old.log set) e × (is_buffered old.log e ≡ false) × (new ≡ lane_without_page e old)
+LaneTakes set old taken.PageLost new = LosesTaken set old new
 
 -- a reading of the visible records of a set: they stay; or its page is lost, which is not asked for where the filter is
 -- empty, and the set is forgotten
@@ -169,10 +175,17 @@ abbrev pub EntryBegins : ℕ → ℕ → Entry → LaneState → Begin → LaneS
 EntryBegins size least e old begin.PageLost new = LosesPage size e old (judged least old e) new
 EntryBegins size least e old answer new = IsStep (entry_step size old e (judged least old e)) answer new
 
+-- a page is lost as a move begins with the first entry of the oldest segment
+pub record LosesFirst (size least : ℕ) (old new : LaneState) : Type 0 where
+  pub free : old.flight ≡ None
+  pub few : old.moves < most_moves
+  pub first : Entry
+  pub is_first : oldest_in old.log ≡ oldest.First first
+  pub lost : LosesPage size first old (judged least old first) new
+
 -- how a move begins: by its step; or a page is lost as it begins with the first entry of the oldest segment
 abbrev pub BeginGives : ℕ → ℕ → LaneState → Begin → LaneState → Type 0
-BeginGives size least old begin.PageLost new =
-    (old.flight ≡ None) × (old.moves < most_moves) × (e : Entry) × (oldest_in old.log ≡ oldest.First e) × LosesPage size e old (judged least old e) new
+BeginGives size least old begin.PageLost new = LosesFirst size least old new
 BeginGives size least old answer new = IsStep (begin_step size least old) answer new
 
 -- a call that writes no page

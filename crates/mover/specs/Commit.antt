@@ -70,14 +70,18 @@ pub record IsFitting (job : Job) (plan : List Choice) : Type 0 where
   pub few : length plan ≤ max_records
 
 -- a move with this number is in flight, and the plan fits
-abbrev pub IsFittingIn : ℕ → List Choice → ℕ → Option Flight → Type 0
-IsFittingIn size plan number flight =
-    (f : Flight) × (flight ≡ Some f) × (f.moving.number ≡ number) × IsFitting (job_of size f.moving) plan
+pub record IsFittingIn (size : ℕ) (plan : List Choice) (number : ℕ) (flight : Option Flight) : Type 0 where
+  pub its : Flight
+  pub flies : flight ≡ Some its
+  pub numbered : its.moving.number ≡ number
+  pub fits : IsFitting (job_of size its.moving) plan
 
 -- a move with this number is in flight, and the plan does not fit
-abbrev pub IsBadIn : ℕ → List Choice → ℕ → Option Flight → Type 0
-IsBadIn size plan number flight =
-    (f : Flight) × (flight ≡ Some f) × (f.moving.number ≡ number) × (¬ IsFitting (job_of size f.moving) plan)
+pub record IsBadIn (size : ℕ) (plan : List Choice) (number : ℕ) (flight : Option Flight) : Type 0 where
+  pub its : Flight
+  pub flies : flight ≡ Some its
+  pub numbered : its.moving.number ≡ number
+  pub misfits : ¬ IsFitting (job_of size its.moving) plan
 
 -- when each answer of a commit comes
 abbrev pub CommitAnswers : ℕ → List Choice → ℕ → Option Flight → Committed → Type 0
@@ -87,8 +91,10 @@ CommitAnswers size plan number flight answers.StalePlan = ¬ IsInFlight flight n
 CommitAnswers size plan number flight answers.BadPlan = IsBadIn size plan number flight
 
 -- the move in flight landed in a store by a plan
-abbrev pub Lands : {D : Type 0} → List Choice → Rewritten → StoreState D → StoreState D → Type 0
-Lands plan rewritten old new = (f : Flight) × (old.flight ≡ Some f) × (new ≡ landed_in f plan rewritten old new.device)
+pub record Lands {D : Type 0} (plan : List Choice) (rewritten : Rewritten) (old new : StoreState D) : Type 0 where
+  pub its : Flight
+  pub flies : old.flight ≡ Some its
+  pub left : new ≡ landed_in its plan rewritten old new.device
 
 -- what a commit leaves: each refusal the same store
 abbrev pub CommitLeaves : {D : Type 0} → List Choice → StoreState D → Committed → StoreState D → Type 0
@@ -108,10 +114,12 @@ is_unwritten answers.Forgotten = true
 is_unwritten _ = false
 
 -- a move with this number is in flight, the plan fits, and the move ends by it
-abbrev pub Commits : ℕ → List Choice → ℕ → Rewritten → LaneState → LaneState → Type 0
-Commits size plan number rewritten old new =
-    (f : Flight) × (old.flight ≡ Some f) × (f.moving.number ≡ number) × IsFitting (job_of size f.moving) plan
-    × (new ≡ committed f plan rewritten old)
+pub record Commits (size : ℕ) (plan : List Choice) (number : ℕ) (rewritten : Rewritten) (old new : LaneState) : Type 0 where
+  pub its : Flight
+  pub flies : old.flight ≡ Some its
+  pub numbered : its.moving.number ≡ number
+  pub fits : IsFitting (job_of size its.moving) plan
+  pub ended : new ≡ committed its plan rewritten old
 
 -- when each answer of a commit comes, and what it leaves
 abbrev pub CommitGives : ℕ → List Choice → ℕ → LaneState → Committed → LaneState → Type 0

@@ -69,6 +69,6 @@ some_same is = cc
 -- a commit whose page was not written leaves what is noted of other sets
 pub others_stay : {D : Type 0} (plan : List Choice) (old new : StoreState D) (f : Flight) (set : ℕ) → old.flight ≡ Some f → set ≢ f.moving.set → CommitLeaves plan old committed.Forgotten new → notes_of new.sets set ≡ notes_of old.sets set
 others_stay plan old new f set flies other leaves =
-    let its : leaves.0 ≡ f = some_same (sym leaves.1 ∙ flies) in
-    let apart : set ≢ leaves.0.moving.set = subst (λ (x : Flight). set ≢ x.moving.set) (sym its) other in
-    ap (λ (s : StoreState _). notes_of s.sets set) leaves.2 ∙ get_or-set_other old.sets.notes leaves.0.moving.set set no_notes no_notes apart
+    let its : leaves.its ≡ f = some_same (sym leaves.flies ∙ flies) in
+    let apart : set ≢ leaves.its.moving.set = subst (λ (x : Flight). set ≢ x.moving.set) (sym its) other in
+    ap (λ (s : StoreState _). notes_of s.sets set) leaves.left ∙ get_or-set_other old.sets.notes leaves.its.moving.set set no_notes no_notes apart

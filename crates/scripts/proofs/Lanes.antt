@@ -69,14 +69,14 @@ filling_seals lane some = seals lane lane.log.filling some
 -- a flush step that lost no page is its function
 pub flush_is_step : (old new : LaneState) (answer : Flushed) → is_page_lost answer ≡ false → LaneFlushes old answer new → IsStep (flush_step old) answer new
 flush_is_step old new flushed.Nothing unfailed gives =
-    let is : flush_step old ≡ log_flushed old flushed.Nothing old.log = rw (gives.0.0, gives.0.1) refl in
-    (ap (λ (s : Step Flushed). s.reply) (sym is), gives.1 ∙ ap (λ k. record old { log = k }) gives.0.2 ∙ ap (λ (s : Step Flushed). s.lane) (sym is))
+    let is : flush_step old ≡ log_flushed old flushed.Nothing old.log = rw (gives.0.idle, gives.0.empty) refl in
+    (ap (λ (s : Step Flushed). s.reply) (sym is), gives.1 ∙ ap (λ k. record old { log = k }) gives.0.same ∙ ap (λ (s : Step Flushed). s.lane) (sym is))
 flush_is_step old new flushed.Sealed unfailed gives =
-    let is : flush_step old ≡ log_flushed old flushed.Sealed (sealed old.log) = ap (λ flushing. if flushing then write_step old else seal_step old old.log.filling) gives.0.0 ∙ filling_seals old gives.0.1 in
-    (ap (λ (s : Step Flushed). s.reply) (sym is), gives.1 ∙ ap (λ k. record old { log = k }) gives.0.2 ∙ ap (λ (s : Step Flushed). s.lane) (sym is))
+    let is : flush_step old ≡ log_flushed old flushed.Sealed (sealed old.log) = ap (λ flushing. if flushing then write_step old else seal_step old old.log.filling) gives.0.idle ∙ filling_seals old gives.0.some in
+    (ap (λ (s : Step Flushed). s.reply) (sym is), gives.1 ∙ ap (λ k. record old { log = k }) gives.0.left ∙ ap (λ (s : Step Flushed). s.lane) (sym is))
 flush_is_step old new flushed.LogFull unfailed gives =
-    let is : flush_step old ≡ log_flushed old flushed.LogFull old.log = ap (λ flushing. if flushing then write_step old else seal_step old old.log.filling) gives.0.0 ∙ fills old gives.0.1 gives.0.2 in
-    (ap (λ (s : Step Flushed). s.reply) (sym is), gives.1 ∙ ap (λ k. record old { log = k }) gives.0.3 ∙ ap (λ (s : Step Flushed). s.lane) (sym is))
+    let is : flush_step old ≡ log_flushed old flushed.LogFull old.log = ap (λ flushing. if flushing then write_step old else seal_step old old.log.filling) gives.0.flushing ∙ fills old gives.0.first gives.0.full in
+    (ap (λ (s : Step Flushed). s.reply) (sym is), gives.1 ∙ ap (λ k. record old { log = k }) gives.0.same ∙ ap (λ (s : Step Flushed). s.lane) (sym is))
 flush_is_step old new flushed.Wrote unfailed gives =
     let is : flush_step old ≡ log_flushed old flushed.Wrote (moved_on old.log) = ap (λ flushing. if flushing then write_step old else seal_step old old.log.filling) gives.0.0.0 ∙ writes old gives.0.0.1 in
     (ap (λ (s : Step Flushed). s.reply) (sym is), gives.1 ∙ ap (λ k. record old { log = k }) gives.0.1 ∙ ap (λ (s : Step Flushed). s.lane) (sym is))

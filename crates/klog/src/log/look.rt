@@ -12,7 +12,7 @@ ghost use Rattle.klog.specs.Find.{with_tag, is_told_fault, TellsKey, is_found_fa
 ghost use Rattle.record_pages.specs.Recs.{Rec};
 ghost use Rattle.klog_index.specs.declared.entry.Entry.{Entry};
 ghost use Rattle.klog.specs.declared.looked.Looked.{Looked};
-ghost use Rattle.klog.specs.Look.{is_log_fault, LogLookLeaves, LogLookGives, LooksAt, IsInBuffers, lowered_in, live_lowered};
+ghost use Rattle.klog.specs.Look.{is_log_fault, LogLookLeaves, LogLookGives, LooksAt, IsInBuffers, GivesBuffered, lowered_in, live_lowered};
 
 use super::KLog;
 use crate::fetched::Fetched;
@@ -51,9 +51,8 @@ impl<const PAGE: usize> KLog<PAGE> {
 
         ensures in_buffers { (e : Entry) → (r : Rec) →
             IsInBuffers PAGE self.old placed.now.set placed.now.tag key.now e r →
-            IfOk result (λ l. (l ≡ Looked.Hit r.value)
-            × (self.new ≡ lowered_in self.old placed.now.set e.place)
-            × (device.new ≡ device.old)) }
+            IfOk result (GivesBuffered self.old placed.now.set e r self.new
+            (device.new ≡ device.old)) }
 
         // Whatever is known of its pages.
         ensures looks_at { (known : ℕ → Option (List ℕ)) → AreHeldBy D.honest D.held device.old known →

@@ -52,11 +52,11 @@ returns-in_err-ask-clause-finds_at g c = λ known knows.
     let at = turn_at k c.args.placed.now.set c.args.placed.now.tag c.loop.counter c.in-Some.entry _ _ c.loop.invariant.rest c.in-Some.ensures in
     let on = held_still g.D.PageDevice.honest g.D.PageDevice.held c.args.device.now c.loop.device known c.loop.invariant.honest c.loop.invariant.same knows in
     let failed = err_from_is_err_and c.from_residual.result c.from_residual.ensures.1 in
-    let finds : FindsAt g.row.PAGE known k c.args.placed.now.set c.args.placed.now.tag c.args.key.now (Err failed.0) = (
-      c.in-Some.entry,
-      turn_reached g.row.PAGE known k c.args.placed.now.set c.args.placed.now.tag c.args.key.now c.loop.counter c.in-Some.entry at (c.loop.invariant.newer known knows),
-      turn_tells g.row.PAGE known k c.args.key.now c.in-Some.entry (Err failed.0) (Err failed.0) refl (c.in_err-ask.ensures.tells known on),
-    ) in
+    let finds : FindsAt g.row.PAGE known k c.args.placed.now.set c.args.placed.now.tag c.args.key.now (Err failed.0) = record {
+      entry = c.in-Some.entry;
+      reached = turn_reached g.row.PAGE known k c.args.placed.now.set c.args.placed.now.tag c.args.key.now c.loop.counter c.in-Some.entry at (c.loop.invariant.newer known knows);
+      shows = turn_tells g.row.PAGE known k c.args.key.now c.in-Some.entry (Err failed.0) (Err failed.0) refl (c.in_err-ask.ensures.tells known on);
+    } in
     subst (FindsAt g.row.PAGE known k c.args.placed.now.set c.args.placed.now.tag c.args.key.now) (sym failed.1) finds
 
 pub returns-in-Fault-clause-buffered : goal.returns-in-Fault-clause-buffered
@@ -69,11 +69,12 @@ pub returns-in-Fault-clause-finds_at : goal.returns-in-Fault-clause-finds_at
 returns-in-Fault-clause-finds_at g c = λ known knows.
     let k = c.args.self.now in
     let at = turn_at k c.args.placed.now.set c.args.placed.now.tag c.loop.counter c.in-Some.entry _ _ c.loop.invariant.rest c.in-Some.ensures in
-    let failed = subst (λ (t : Told). g.D.PageDevice.failures c.ask.new.device ≡ faults_after (g.D.PageDevice.failures c.loop.device) (is_told_fault (Ok t))) c.in-Fault.is c.in_ok-ask.ensures.reads.faults in (
-      c.in-Some.entry,
-      turn_reached g.row.PAGE known k c.args.placed.now.set c.args.placed.now.tag c.args.key.now c.loop.counter c.in-Some.entry at (c.loop.invariant.newer known knows),
-      unbuffered (is_buffered k c.in-Some.entry) (g.D.PageDevice.failures c.loop.device) (g.D.PageDevice.failures c.ask.new.device) (λ b. ap g.D.PageDevice.failures (c.ask.ensures.buffered b)) failed,
-    )
+    let failed = subst (λ (t : Told). g.D.PageDevice.failures c.ask.new.device ≡ faults_after (g.D.PageDevice.failures c.loop.device) (is_told_fault (Ok t))) c.in-Fault.is c.in_ok-ask.ensures.reads.faults in
+    record {
+      entry = c.in-Some.entry;
+      reached = turn_reached g.row.PAGE known k c.args.placed.now.set c.args.placed.now.tag c.args.key.now c.loop.counter c.in-Some.entry at (c.loop.invariant.newer known knows);
+      stored = unbuffered (is_buffered k c.in-Some.entry) (g.D.PageDevice.failures c.loop.device) (g.D.PageDevice.failures c.ask.new.device) (λ b. ap g.D.PageDevice.failures (c.ask.ensures.buffered b)) failed;
+    }
 
 pub returns-in-Fault-clause-finds : goal.returns-in-Fault-clause-finds
 returns-in-Fault-clause-finds g c = λ honest spelled.
@@ -91,11 +92,12 @@ pub returns-in-Damaged-clause-finds_at : goal.returns-in-Damaged-clause-finds_at
 returns-in-Damaged-clause-finds_at g c = λ known knows.
     let k = c.args.self.now in
     let at = turn_at k c.args.placed.now.set c.args.placed.now.tag c.loop.counter c.in-Some.entry _ _ c.loop.invariant.rest c.in-Some.ensures in
-    let on = held_still g.D.PageDevice.honest g.D.PageDevice.held c.args.device.now c.loop.device known c.loop.invariant.honest c.loop.invariant.same knows in (
-      c.in-Some.entry,
-      turn_reached g.row.PAGE known k c.args.placed.now.set c.args.placed.now.tag c.args.key.now c.loop.counter c.in-Some.entry at (c.loop.invariant.newer known knows),
-      turn_tells g.row.PAGE known k c.args.key.now c.in-Some.entry (Ok c.in_ok-ask.field-0) (Ok told.Damaged) (ap Ok c.in-Damaged.is) (c.in_ok-ask.ensures.tells known on),
-    )
+    let on = held_still g.D.PageDevice.honest g.D.PageDevice.held c.args.device.now c.loop.device known c.loop.invariant.honest c.loop.invariant.same knows in
+    record {
+      entry = c.in-Some.entry;
+      reached = turn_reached g.row.PAGE known k c.args.placed.now.set c.args.placed.now.tag c.args.key.now c.loop.counter c.in-Some.entry at (c.loop.invariant.newer known knows);
+      dead = turn_tells g.row.PAGE known k c.args.key.now c.in-Some.entry (Ok c.in_ok-ask.field-0) (Ok told.Damaged) (ap Ok c.in-Damaged.is) (c.in_ok-ask.ensures.tells known on);
+    }
 
 pub returns-in-Damaged-clause-finds : goal.returns-in-Damaged-clause-finds
 returns-in-Damaged-clause-finds g c = λ honest spelled.

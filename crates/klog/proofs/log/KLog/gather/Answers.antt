@@ -51,11 +51,11 @@ returns-in_err-taken-clause-gathers_at g c = λ honest.
     let at = turn_at k c.args.set c.loop.counter c.in-Some.entry c.loop.entries c.next.new.self c.loop.invariant.rest c.in-Some.ensures.steps in
     let on : IsTrue (g.D.PageDevice.honest c.loop.device) = subst (λ (b : Bool). IsTrue b) (sym c.loop.invariant.honest) honest in
     let failed = err_from_is_err_and c.from_residual.result c.from_residual.ensures.1 in
-    let gathers : GathersAt g.row.PAGE held k c.args.set (g.D.PageDevice.failures c.args.device.now) (Err failed.0) (g.D.PageDevice.failures c.copy.new.device) = (
-      c.in-Some.entry,
-      turn_taken k c.args.set c.loop.counter c.in-Some.entry c.loop-test.true at,
-      turn_copies g.row.PAGE held (g.D.PageDevice.held c.loop.device) k c.in-Some.entry (Err failed.0) (Err failed.0) (c.loop.invariant.same honest) refl (c.in_err-taken.ensures.copies on),
-    ) in
+    let gathers : GathersAt g.row.PAGE held k c.args.set (g.D.PageDevice.failures c.args.device.now) (Err failed.0) (g.D.PageDevice.failures c.copy.new.device) = record {
+      entry = c.in-Some.entry;
+      listed = turn_taken k c.args.set c.loop.counter c.in-Some.entry c.loop-test.true at;
+      shows = turn_copies g.row.PAGE held (g.D.PageDevice.held c.loop.device) k c.in-Some.entry (Err failed.0) (Err failed.0) (c.loop.invariant.same honest) refl (c.in_err-taken.ensures.copies on);
+    } in
     subst (λ (r : Result Gathered AllocError). GathersAt g.row.PAGE held k c.args.set (g.D.PageDevice.failures c.args.device.now) r (g.D.PageDevice.failures c.copy.new.device)) (sym failed.1) gathers
 
 pub returns-in_default-2-clause-its : goal.returns-in_default-2-clause-its
@@ -99,12 +99,12 @@ returns-in_err-push-clause-gathers_at g c = λ honest.
     let at = turn_at k c.args.set c.loop.counter c.in-Some.entry c.loop.entries c.next.new.self c.loop.invariant.rest c.in-Some.ensures.steps in
     let on : IsTrue (g.D.PageDevice.honest c.loop.device) = subst (λ (b : Bool). IsTrue b) (sym c.loop.invariant.honest) honest in
     let failed = err_from_is_err_and c.from_residual-in_err-push.result c.from_residual-in_err-push.ensures.1 in
-    let gathers : GathersAt g.row.PAGE held k c.args.set (g.D.PageDevice.failures c.args.device.now) (Err failed.0) (g.D.PageDevice.failures c.copy.new.device) = (
-      c.in-Some.entry,
-      turn_taken k c.args.set c.loop.counter c.in-Some.entry c.loop-test.true at,
-      shows_weaker g.row.PAGE held k c.in-Some.entry (λ r. c.in-Some-2.taken ≡ taken_as k (c.in-Some.entry, r)) (λ r. Unit {0}) (λ r is. tt)
-          (turn_copies g.row.PAGE held (g.D.PageDevice.held c.loop.device) k c.in-Some.entry (Ok c.in_ok-taken.field-0) (Ok (Some c.in-Some-2.taken)) (c.loop.invariant.same honest) (ap Ok c.in-Some-2.is) (c.in_ok-taken.ensures.copies on)),
-    ) in
+    let gathers : GathersAt g.row.PAGE held k c.args.set (g.D.PageDevice.failures c.args.device.now) (Err failed.0) (g.D.PageDevice.failures c.copy.new.device) = record {
+      entry = c.in-Some.entry;
+      listed = turn_taken k c.args.set c.loop.counter c.in-Some.entry c.loop-test.true at;
+      shows = shows_weaker g.row.PAGE held k c.in-Some.entry (λ r. c.in-Some-2.taken ≡ taken_as k (c.in-Some.entry, r)) (λ r. Unit {0}) (λ r is. tt)
+          (turn_copies g.row.PAGE held (g.D.PageDevice.held c.loop.device) k c.in-Some.entry (Ok c.in_ok-taken.field-0) (Ok (Some c.in-Some-2.taken)) (c.loop.invariant.same honest) (ap Ok c.in-Some-2.is) (c.in_ok-taken.ensures.copies on));
+    } in
     subst (λ (r : Result Gathered AllocError). GathersAt g.row.PAGE held k c.args.set (g.D.PageDevice.failures c.args.device.now) r (g.D.PageDevice.failures c.copy.new.device)) (sym failed.1) gathers
 
 pub loop-preserved : goal.loop-preserved

@@ -12,7 +12,7 @@ use Rattle.klog.proofs.log.KLog.look.Goals as goal
 pub returns-in-Hit-clause-leaves : goal.returns-in-Hit-clause-leaves
 returns-in-Hit-clause-leaves g c =
     let its = subst (IsOfTag c.args.self.now c.args.placed.now.set c.args.placed.now.tag (c.find.new.device ≡ c.args.device.now)) c.in-Hit.is c.in_ok-find.ensures.its in
-    (c.in-Hit.entry, its.0, lowered_there c.args.self.now _ c.args.placed.now.set c.args.placed.now.tag c.in-Hit.entry its.0 c.lower.ensures.lowered, its.1)
+    record { entry = c.in-Hit.entry; listed = its.0; lowered = lowered_there c.args.self.now _ c.args.placed.now.set c.args.placed.now.tag c.in-Hit.entry its.0 c.lower.ensures.lowered; uncalled = its.1 }
 
 pub returns-in-Hit-clause-looks_at : goal.returns-in-Hit-clause-looks_at
 returns-in-Hit-clause-looks_at g c = λ known knows.
@@ -22,7 +22,7 @@ returns-in-Hit-clause-looks_at g c = λ known knows.
     let at = subst (λ (f : Found). FindsAt g.row.PAGE known k set tag c.args.key.now (Ok f)) c.in-Hit.is (c.in_ok-find.ensures.finds_at known knows) in
     let listed = reached_listed g.row.PAGE known k set tag c.args.key.now c.in-Hit.entry at.0 in
     let its = subst (IsOfTag k set tag (c.find.new.device ≡ c.args.device.now)) c.in-Hit.is c.in_ok-find.ensures.its in
-    (c.in-Hit.entry, at.0, lowered_there k _ set tag c.in-Hit.entry listed c.lower.ensures.lowered, at.1, its.1)
+    record { entry = c.in-Hit.entry; reached = at.0; lowered = lowered_there k _ set tag c.in-Hit.entry listed c.lower.ensures.lowered; shows = at.1; uncalled = its.1 }
 
 pub returns-in-Hit-clause-spelled : goal.returns-in-Hit-clause-spelled
 returns-in-Hit-clause-spelled g c = λ honest h.

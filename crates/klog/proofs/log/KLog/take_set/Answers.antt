@@ -20,13 +20,14 @@ returns-in-Lost-clause-gives g c = λ honest h.
     let held = g.D.PageDevice.held c.args.device.now in
     let its = subst (IsToBeTaken k set) c.in-Lost.is c.in_ok-records.ensures.its in
     let at = subst (λ (x : Gathered). GathersAt g.row.PAGE held k set (g.D.PageDevice.failures c.args.device.now) (Ok x) (g.D.PageDevice.failures c.gather.new.device)) c.in-Lost.is (c.in_ok-records.ensures.gathers_at honest) in
-    let live : IsLiveOn g.row.PAGE held k e = All-contains (IsLiveOn g.row.PAGE held k) k.entries e h.live (listed_taken k set e its) in (
-      e,
-      its,
-      (at live).1,
-      c.lose_page_of.ensures.lost,
-      ap (λ (now : ℕ → Option (List ℕ)). live_on now c.lose_page_of.new.self) (c.gather.ensures.reads.same honest) ∙ c.lose_page_of.ensures.shown held,
-    )
+    let live : IsLiveOn g.row.PAGE held k e = All-contains (IsLiveOn g.row.PAGE held k) k.entries e h.live (listed_taken k set e its) in
+    record {
+      entry = e;
+      listed = its;
+      stored = (at live).1;
+      left = c.lose_page_of.ensures.lost;
+      live_left = ap (λ (now : ℕ → Option (List ℕ)). live_on now c.lose_page_of.new.self) (c.gather.ensures.reads.same honest) ∙ c.lose_page_of.ensures.shown held;
+    }
 
 pub returns-in-Records-clause-leaves : goal.returns-in-Records-clause-leaves
 returns-in-Records-clause-leaves g c = (refl, subst (IsToBeTaken c.args.self.now c.args.set) c.in-Records.is c.in_ok-records.ensures.its)

@@ -9,4 +9,4 @@ returns-in-Ok g c =
     let here = told_after_append g.row.PAGE c.args.log.now c.append.new.self c.args.key.now c.args.value.now c.args.placed.now c.requires.small c.bytes-key.ensures.range c.bytes-value.ensures.range c.requires.place
     c.in-Appended.ensures.gives (c.in-Appended.ensures.shown no_pages) in
     let told = c.in-Ok.ensures.in_buffers (entry_for g.row.PAGE (taker g.row.PAGE c.args.log.now r) r) r here in
-    (told.0, told.2)
+    (told.hit, told.uncalled)

@@ -53,7 +53,7 @@ returns-clause-in_buffers g c = λ e r.
     let old : StoreState g.row.D.Denot = record { layout = s.layout; device = s.device; memory = s.memory; log = s.log; sets = s.sets; flight = s.flight; moves = s.moves } in
     let new : StoreState g.row.D.Denot = record { layout = s.layout; device = c.look.new.device; memory = s.memory; log = c.look.new.self; sets = s.sets; flight = s.flight; moves = s.moves } in
     subst (λ (x : StoreState g.row.D.Denot). IsInBuffers g.row.PAGE x.log c.args.placed.now.set c.args.placed.now.tag c.args.key.now e r → (c.in_ok-looked.looked ≡ log.Hit r.value) × IsLowered c.args.placed.now.set e x new) c.self.view_is
-    (λ here. let it = c.in_ok-looked.ensures.in_buffers e r here in (it.0, lowered_store old c.look.new.device c.look.new.self c.args.placed.now.set e it.1 it.2))
+    (λ here. let it = c.in_ok-looked.ensures.in_buffers e r here in (it.hit, lowered_store old c.look.new.device c.look.new.self c.args.placed.now.set e it.lowered it.uncalled))
 
 pub returns-clause-leaves : goal.returns-clause-leaves
 returns-clause-leaves g c =

@@ -66,13 +66,13 @@ returns g c =
       answers = search rules;
       leaves = search rules;
       gives = λ is.
-          commit_gives g.row.PAGE c.args.plan.now c.args.number old (lane_of d.held c.land.new.self) c.land.result c.committed_by.result c.committed_by.ensures (
-            flight,
-            c.in-Some.ensures.was,
-            c.in-Some.ensures.its,
-            c.is_fitting.ensures.0 fits,
-            c.land.ensures.gives (ap (λ (x : StoreState g.row.D.Denot). d.honest x.device) taken ∙ is) ∙ ap (λ (x : StoreState g.row.D.Denot). landed flight c.args.plan.now c.land.result (lane_of d.held x)) taken ∙ landed_committed flight c.args.plan.now c.land.result old,
-          );
+          commit_gives g.row.PAGE c.args.plan.now c.args.number old (lane_of d.held c.land.new.self) c.land.result c.committed_by.result c.committed_by.ensures (record {
+            its = flight;
+            flies = c.in-Some.ensures.was;
+            numbered = c.in-Some.ensures.its;
+            fits = c.is_fitting.ensures.0 fits;
+            ended = c.land.ensures.gives (ap (λ (x : StoreState g.row.D.Denot). d.honest x.device) taken ∙ is) ∙ ap (λ (x : StoreState g.row.D.Denot). landed flight c.args.plan.now c.land.result (lane_of d.held x)) taken ∙ landed_committed flight c.args.plan.now c.land.result old;
+          });
     }
 
 pub returns-then-not-is_fitting : goal.returns-then-not-is_fitting
