@@ -9,7 +9,9 @@ use Rattle.std.proofs.lemmas.Bool.{ltb-true}
 use Rattle.std.specs.Option.{option_map_or}
 use Rattle.history_recorder.specs.declared.noted.Noted.{Noted}
 use Rattle.certificate_checker.specs.declared.done.Done.{Done}
-use Rattle.shared_cache.specs.Claimed.{noted_of, IsEnded, AreClaimed, weigh_slots}
+use Rattle.shared_cache.specs.declared.listed.Listed.{Listed}
+use Rattle.shared_cache.specs.Finished.{done_of}
+use Rattle.shared_cache.specs.Claimed.{Claims, noted_of, IsEnded, AreClaimed, weigh_slots}
 
 -- no call is claimed
 pub claimed_none : (cs : List Noted) (n : ℕ) → n ≡ length cs → AreClaimed cs (replicate n None)
@@ -44,6 +46,10 @@ weigh_set h (x ∷ ss) (suc i) d at =
     let p = sum_by-cons (λ (s : Option Done). option_map_or h s 0) x ss in
     let q = sum_by-cons (λ (s : Option Done). option_map_or h s 0) x (set ss i (Some d)) in
     omega arith
+
+-- and so do the claims
+pub weigh_claimed : (c new : Claims) (l : Listed) → new ≡ record c { slots = set c.slots l.position (Some (done_of l)) } → slice_get c.slots l.position ≡ Some None → (h : Done → ℕ) → weigh_slots h new.slots ≡ weigh_slots h c.slots + h (done_of l)
+weigh_claimed c new l is free h = ap (λ (x : Claims). weigh_slots h x.slots) is ∙ weigh_set h c.slots l.position (done_of l) free
 
 -- a slot a call
 pub claimed_length : (cs : List Noted) (ss : List (Option Done)) → AreClaimed cs ss → length ss ≡ length cs

@@ -13,12 +13,12 @@ use Rattle.set_hash.specs.Place.{placed_of}
 use Rattle.trace_file.specs.declared.call.Call.{Call}
 use Rattle.certificate_checker.specs.declared.done.Done.{Done}
 use Rattle.certificate_checker.specs.Latest.{IsLawful}
-use Rattle.certificate_checker.specs.Lanes.{Stamped, stamp, calls_of, PointsRise, IsLane, ArePlaced}
+use Rattle.certificate_checker.specs.Lanes.{calls_of, PointsRise, IsLane, ArePlaced}
 use Rattle.history_recorder.specs.declared.noted.Noted.{Noted}
 use Rattle.history_recorder.specs.Lane.{Lane, IsRecorded, deed_noted, max_calls}
 use Rattle.history_recorder.specs.Operations.{lane_of_key}
 use Rattle.history_recorder.specs.Points.{at_point, noted_in}
-use Rattle.shared_cache.specs.Claimed.{Claims, noted_of, recorded_in, recorded_of, weigh_slots, weigh_lanes, IsEnded}
+use Rattle.shared_cache.specs.Claimed.{Claims, noted_of, recorded_in, recorded_of, IsEnded}
 use Rattle.shared_cache.specs.Over.{lane_by, IsOver, AreOver}
 
 -- one lane more is over
@@ -126,11 +126,6 @@ over_claimed honest lane_of cs ds c d k calls at is all h =
     let m : k ≡ 0 + length (recorded_in cs) = let l = length-map cs (λ (x : Claims). x.calls) in omega arith in
     subst (λ ls. AreOver honest lane_of 0 ls (ds ++ d ∷ [])) (sym (map-append (λ (x : Claims). x.calls) cs (c ∷ [])))
     (over_more honest lane_of 0 k (recorded_in cs) ds c.calls d m all (subst (λ n. IsOver honest lane_of k n d) (sym is) h))
-
--- and none of its calls is claimed
-pub unclaimed_more : (h : Stamped → ℕ) (n : ℕ) (cs : List Claims) (c : Claims) → weigh_lanes h n cs ≡ 0 → ((g : Done → ℕ) → weigh_slots g c.slots ≡ 0) → weigh_lanes h n (cs ++ c ∷ []) ≡ 0
-unclaimed_more h n [] c none new = let a = new (λ d. h (stamp n d)) in omega arith
-unclaimed_more h n (x ∷ cs) c none new = let rest = unclaimed_more h (suc n) cs c (omega arith) new in omega arith
 
 -- a lane for each that was taken apart
 pub lanes_as_claims : (ls : List (List Done)) (cs : List Claims) → recorded_of ls ≡ recorded_in cs → length ls ≡ length cs

@@ -2,14 +2,17 @@
 use Rattle.std.proofs.Common.{◌≡◌, ℕ, zero, suc, ◌+◌, ◌<◌, List, [], ◌∷◌, ◌++◌, length, refl, ap, ◌∙◌, arith, get_or, set, map, sum_by, append_assoc, length-append, All}
 use Rattle.std.proofs.lemmas.List.Sums.{sum_by-append, sum_by-cons}
 use mathlib.Core.List.{map-append}
-use Rattle.std.proofs.lemmas.List.Elements.{All-append, All-cons, All-nil}
+use Rattle.std.proofs.lemmas.List.Elements.{All-append, All-cons, All-head, All-nil, All-tail}
+use Rattle.std.specs.List.Sorted.{IsPermutation}
+use Rattle.std.proofs.lemmas.List.Sorted.{sum_by-IsPermutation}
 use Rattle.history_recorder.specs.declared.noted.Noted.{Noted}
 use Rattle.certificate_checker.specs.declared.done.Done.{Done}
 use Rattle.certificate_checker.specs.Lanes.{Stamped, stamp, stamped, stamped_from}
 use Rattle.shared_cache.specs.declared.listed.Listed.{Listed}
 use Rattle.shared_cache.specs.Passes.{Ticket}
 use Rattle.shared_cache.specs.Finished.{done_of, weigh_calls, weigh_passes}
-use Rattle.shared_cache.specs.Claimed.{Claims, weigh_slots, weigh_lanes, recorded_in, recorded_of, noted_of, IsEnded}
+use Rattle.shared_cache.proofs.Claiming.{weigh_none}
+use Rattle.shared_cache.specs.Claimed.{Claims, IsFresh, weigh_slots, weigh_lanes, recorded_in, recorded_of, noted_of, IsEnded}
 
 -- one call more is claimed in a lane
 pub lane_claimed : (h : Stamped → ℕ) (n k : ℕ) (cs : List Claims) (i : ℕ) (c u : Claims) (d : Done)
@@ -90,3 +93,15 @@ recorded_closed ls d c cs all is same = rw (map-append (λ (l : List Done). map 
 
 pub ended_closed : (ls : List (List Done)) (d : List Done) → All (All IsEnded) ls → All IsEnded d → All (All IsEnded) (ls ++ d ∷ [])
 ended_closed ls d all h = All-append (All IsEnded) ls (d ∷ []) all (All-cons (All IsEnded) d [] h (All-nil (All IsEnded)))
+
+-- lanes with no claim weigh nothing
+pub fresh_weigh : (h : Stamped → ℕ) (n : ℕ) (cs : List Claims) → All IsFresh cs → weigh_lanes h n cs ≡ 0
+fresh_weigh h n [] fresh = refl
+fresh_weigh h n (c ∷ cs) fresh =
+    let here = ap (weigh_slots (λ d. h (stamp n d))) (All-head IsFresh c cs fresh) ∙ weigh_none (λ d. h (stamp n d)) (length c.calls) in
+    let rest = fresh_weigh h (suc n) cs (All-tail IsFresh c cs fresh) in
+    omega (arith, here, rest)
+
+-- passes in another order weigh the same
+pub weigh_reordered : (h : Stamped → ℕ) (passes order : List Ticket) → IsPermutation passes order → weigh_passes h order ≡ weigh_passes h passes
+weigh_reordered h passes order same = sum_by-IsPermutation (λ (p : Ticket). weigh_calls h p.calls) passes order same

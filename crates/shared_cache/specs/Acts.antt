@@ -1,5 +1,5 @@
 -- What a call does to the book of its lane, and when it is refused.
-use Rattle.std.specs.Prelude.{◌≡◌, ◌≢◌, ℕ, ◌+◌, ◌<◌, ◌≤◌, ◌^◌, List, length, Option, Some, Ok, Bool, All, slice_get}
+use Rattle.std.specs.Prelude.{◌≡◌, ◌≢◌, ℕ, ◌+◌, ◌<◌, ◌≤◌, ◌^◌, ◌⊎◌, List, ◌++◌, ◌∷◌, [], length, Option, Some, Ok, Bool, All, slice_get}
 use Rattle.record_pages.specs.Sizes.{object_size, room}
 use Rattle.mover.specs.Store.{StoreState}
 use Rattle.mover.specs.Calls.{StoreGets, StorePuts, StoreRemoves}
@@ -13,6 +13,7 @@ use Rattle.history_recorder.specs.Answering.{MayHaveGot}
 use Rattle.history_recorder.specs.Operations.{key_of}
 use Rattle.shared_cache.specs.declared.act_fault.ActFault.{ActFault}
 use Rattle.shared_cache.specs.declared.act_fault.ActFault.TheVariants.{HistoryLost, HistoryFull, ClockFull, OutOfMemory}
+use Rattle.shared_cache.specs.declared.acted.Acted.{Acted}
 use Rattle.shared_cache.specs.declared.listed.Listed.{Listed}
 use Rattle.shared_cache.specs.declared.outcome.Outcome.{Outcome}
 use Rattle.shared_cache.specs.declared.outcome.Outcome.TheVariants as outcomes
@@ -29,9 +30,14 @@ act_by (asked.Remove key) _ = acts.Remove
 abbrev pub made : ℕ → ℕ → ℕ → Operation → Outcome → Noted
 made caller start point operation outcome = record { caller = caller; start = start; point = point; key = key_of operation; act = act_by operation outcome }
 
--- a call as it is listed
-abbrev pub listing : ℕ → ℕ → Noted → ℕ → Listed
-listing lane position call end = record { lane = lane; position = position; call = call; end = end }
+-- a call as it is listed: of a lane, at a position there, with its start, its point and its end
+abbrev pub listing : ℕ → ℕ → ℕ → ℕ → ℕ → ℕ → Operation → Outcome → Listed
+listing lane position caller start point end operation outcome = record {
+  lane = lane;
+  position = position;
+  call = made caller start point operation outcome;
+  end = end;
+}
 
 -- an operation puts no object that is too large for a page of this size
 abbrev pub IsFitting : ℕ → Operation → Type 0
@@ -59,16 +65,30 @@ module _ {D : Type 0} where
   abbrev pub Stands : Lane D → Ticket → Type 0
   Stands book ticket = (l : Listed) → former book.lane ticket.calls ≡ Some l → slice_get book.calls l.position ≡ Some l.call
 
-  -- it does not, and this is what stands there
-  abbrev pub StandsElse : Lane D → Ticket → ℕ → Option Noted → Type 0
-  StandsElse book ticket position found =
-      (l : Listed) × (former book.lane ticket.calls ≡ Some l) × (position ≡ l.position) × (found ≡ slice_get book.calls position) × (found ≢ Some l.call)
+  -- it does not: the pass's former call of the lane is of this position, where this stands
+  pub record StandsElse (book : Lane D) (ticket : Ticket) (position : ℕ) (found : Option Noted) : Type 0 where
+    pub call : Listed
+    pub last : former book.lane ticket.calls ≡ Some call
+    pub position_is : position ≡ call.position
+    pub stands : found ≡ slice_get book.calls position
+    pub other : found ≢ Some call.call
+
+  -- the former call stands, and the book takes no more
+  pub record IsFull (book : Lane D) (ticket : Ticket) : Type 0 where
+    pub stands : Stands book ticket
+    pub full : length book.calls ≡ max_calls
+
+  -- the former call stands, the book takes one more, and the pass has seen the last stamp
+  pub record IsPastLast (book : Lane D) (ticket : Ticket) (seen : ℕ) : Type 0 where
+    pub stands : Stands book ticket
+    pub room : length book.calls < max_calls
+    pub last : seen + 1 ≡ 2 ^ 63
 
   -- when each refusal comes, by what the pass has seen then
   abbrev pub Explains : Lane D → Ticket → ℕ → ActFault → Type 0
   Explains book ticket seen (HistoryLost position found) = StandsElse book ticket position found
-  Explains book ticket seen HistoryFull = Stands book ticket × (length book.calls ≡ max_calls)
-  Explains book ticket seen ClockFull = Stands book ticket × (length book.calls < max_calls) × (seen + 1 ≡ 2 ^ 63)
+  Explains book ticket seen HistoryFull = IsFull book ticket
+  Explains book ticket seen ClockFull = IsPastLast book ticket seen
   Explains book ticket seen OutOfMemory = Stands book ticket → length book.calls < max_calls
 
   -- what is true of every book beside what is true of its lane: each point is a stamp
@@ -81,3 +101,26 @@ Suits (asked.Get key) (outcomes.Got answer) = Unit {0}
 Suits (asked.Put key value word) (outcomes.Stored pushed) = Unit {0}
 Suits (asked.Remove key) outcomes.Removed = Unit {0}
 Suits _ _ = ⊥
+
+module _ {D : Type 0} (honest : D → Bool) (failures : D → ℕ) (held : D → ℕ → Option (List ℕ)) (size : ℕ) where
+  -- An operation was done while a lane's lock was held, at a stamp above all that the pass had seen and above all points of
+  -- the lane's calls. The book has one call more, last, and its store took that operation's step; the pass lists that call,
+  -- last, at its position, and with the stamp for its end.
+  pub record IsActed (operation : Operation) (start : ℕ) (book : Lane D) (ticket : Ticket) (acted : Acted) (book' : Lane D) (ticket' : Ticket) : Type 0 where
+    pub recorded : book' ≡ record book { store = book'.store; calls = book.calls ++ made ticket.caller start acted.point operation acted.outcome ∷ [] }
+    pub gives : ActGives honest failures held size operation book.store acted.outcome book'.store
+    pub listed : ticket'.calls ≡ ticket.calls ++ listing book.lane (length book.calls) ticket.caller start acted.point acted.point operation acted.outcome ∷ []
+    pub unseen : ticket.sight.seen < acted.point
+    pub above : All (λ n. n.point < acted.point) book.calls
+    pub seen : ticket'.sight.seen ≡ acted.point
+    pub stands : Stands book ticket
+    pub room : length book.calls < max_calls
+
+  -- An operation was refused while a lane's lock was held. It is in no list, and but for want of memory behind an answer
+  -- all is as it was.
+  pub record IsUnacted (operation : Operation) (book : Lane D) (ticket : Ticket) (fault : ActFault) (book' : Lane D) (ticket' : Ticket) : Type 0 where
+    pub explained : Explains book ticket ticket'.sight.seen fault
+    pub unlisted : ticket'.calls ≡ ticket.calls
+    pub unrecorded : book' ≡ record book { store = book'.store }
+    pub kept : fault ≢ OutOfMemory → book' ≡ book
+    pub leaves : (book'.store ≡ book.store) ⊎ ActLeaves honest failures held size operation book.store book'.store

@@ -1,5 +1,5 @@
 -- A shared cache, as contracts see it, and a call of it.
-use Rattle.std.specs.Prelude.{◌≡◌, ◌≢◌, ℕ, ◌<◌, List, ◌++◌, ◌∷◌, [], length, Any, Some, None}
+use Rattle.std.specs.Prelude.{◌≡◌, ◌≢◌, ℕ, ◌<◌, ◌≤◌, List, ◌++◌, ◌∷◌, [], length, Any, Some, None}
 use Rattle.record_pages.specs.Sizes.{IsPageSize}
 use Rattle.record_pages.specs.Table.{first_faulty}
 use Rattle.mover.specs.Store.{IsTooSmall}
@@ -11,7 +11,11 @@ use Rattle.record_pages.specs.declared.layout.Layout.{Layout}
 use Rattle.history_recorder.specs.declared.operation.Operation.{Operation}
 use Rattle.history_recorder.specs.Operations.{key_of, lane_of_key}
 use Rattle.shared_cache.specs.declared.outcome.Outcome.{Outcome}
-use Rattle.shared_cache.specs.Acts.{made, listing}
+use Rattle.shared_cache.specs.declared.act_fault.ActFault.{ActFault}
+use Rattle.shared_cache.specs.declared.act_fault.ActFault.TheVariants as acts
+use Rattle.shared_cache.specs.declared.call_fault.CallFault.{CallFault}
+use Rattle.shared_cache.specs.declared.call_fault.CallFault.TheVariants as calls
+use Rattle.shared_cache.specs.Acts.{listing}
 use Rattle.shared_cache.specs.Passes.{Ticket, IsEnd}
 use Rattle.shared_cache.specs.Stamps.{ClockId}
 
@@ -32,15 +36,23 @@ pub record IsMade (layout : Layout) (operation : Operation) (old : Ticket) (outc
   pub position : ℕ
   pub start : ℕ
   pub point : ℕ
-  pub listed : new.calls ≡ old.calls ++ listing (lane_of_key layout (key_of operation)) position (made old.caller start point operation outcome) new.sight.seen ∷ []
+  pub listed : new.calls ≡ old.calls ++ listing (lane_of_key layout (key_of operation)) position old.caller start point new.sight.seen operation outcome ∷ []
   pub started : old.sight.seen < start
   pub acted : start < point
   pub ended : IsEnd point new.sight.seen
 
--- the same caller at the same clock
+-- the same caller at the same clock, and nothing that was seen is forgotten
 pub record KeepsTie (old new : Ticket) : Type 0 where
   pub caller : new.caller ≡ old.caller
   pub clock : new.sight.clock ≡ old.sight.clock
+  pub seen : old.sight.seen ≤ new.sight.seen
+
+-- the refusal of a call whose act in this lane was refused so
+abbrev pub fault_in : ℕ → ActFault → CallFault
+fault_in lane (acts.HistoryLost position found) = calls.HistoryLost lane position found
+fault_in lane acts.HistoryFull = calls.HistoryFull
+fault_in lane acts.ClockFull = calls.ClockFull
+fault_in lane acts.OutOfMemory = calls.OutOfMemory
 
 -- a cache can be opened so over these devices, memory aside
 pub record CanShare {D : Type 0} (size : ℕ) (pages : D → ℕ) (config : Config) (devices : List D) (callers : ℕ) : Type 0 where

@@ -1,10 +1,18 @@
 -- The lanes' calls, while the calls that passes list claim them. No contract of a public call cites this: it is how
 -- `finish` goes its way.
-use Rattle.std.specs.Prelude.{◌≡◌, ℕ, suc, ◌+◌, ◌≤◌, List, [], ◌∷◌, Option, Some, None, map, sum_by}
+use Rattle.std.specs.Prelude.{◌≡◌, ◌≢◌, ◌↔◌, ◌⊎◌, ℕ, suc, ◌+◌, ◌<◌, ◌≤◌, List, [], ◌∷◌, Option, Some, None, length, map, replicate, slice_get, sum_by}
+use Rattle.std.specs.List.Sorted.{IsPermutation, IsNonDecreasingBy}
 use Rattle.std.specs.Option.{option_map_or}
 use Rattle.history_recorder.specs.declared.noted.Noted.{Noted}
 use Rattle.certificate_checker.specs.declared.done.Done.{Done}
 use Rattle.certificate_checker.specs.Lanes.{Stamped, stamp}
+use Rattle.shared_cache.specs.declared.finish_fault.FinishFault.{FinishFault}
+use Rattle.shared_cache.specs.declared.finish_fault.FinishFault.TheVariants.{OutOfMemory, LaneLost, Strange, Unlisted}
+use Rattle.shared_cache.specs.declared.lane_claims.Unready.{Unready}
+use Rattle.shared_cache.specs.declared.lane_claims.Unready.TheVariants as unready
+use Rattle.shared_cache.specs.declared.listed.Listed.{Listed}
+use Rattle.shared_cache.specs.Passes.{Ticket}
+use Rattle.shared_cache.specs.Blames.{AreOwn, IsFree, IsStrange, IsUnlisted, calls_in}
 
 -- a done call as its lane recorded it
 abbrev pub noted_of : Done → Noted
@@ -47,3 +55,70 @@ recorded_in claims = map (λ c. c.calls) claims
 -- the calls of lanes, as each lane recorded them
 abbrev pub recorded_of : List (List Done) → List (List Noted)
 recorded_of lanes = map (λ lane. map noted_of lane) lanes
+
+-- no call of a lane is claimed
+abbrev pub IsFresh : Claims → Type 0
+IsFresh claims = claims.slots ≡ replicate (length claims.calls) None
+
+-- a listed call is the one at its position, which is not claimed
+pub record Fits (claims : Claims) (l : Listed) : Type 0 where
+  pub stands : slice_get claims.calls l.position ≡ Some l.call
+  pub free : slice_get claims.slots l.position ≡ Some None
+
+-- the first position that is not claimed
+pub record IsFirstFree (slots : List (Option Done)) (position : ℕ) : Type 0 where
+  pub free : slice_get slots position ≡ Some None
+  pub before : (k : ℕ) → k < position → slice_get slots k ≢ Some None
+
+-- what is claimed of a lane is just what these list: a position is free where none of them is of it
+pub record IsBy (claims : Claims) (lane : ℕ) (calls : List Listed) : Type 0 where
+  pub many : length claims.slots ≡ length claims.calls
+  pub free : (position : ℕ) → position < length claims.calls → ((slice_get claims.slots position ≡ Some None) ↔ IsFree calls lane position)
+
+-- the same of each lane
+abbrev pub AreBy : List Claims → List Listed → Type 0
+AreBy lanes calls = (lane : ℕ) (claims : Claims) → slice_get lanes lane ≡ Some claims → IsBy claims lane calls
+
+-- these listed calls, all of them their lanes' own, are just what is claimed
+pub record AreMade (lanes : List Claims) (calls : List Listed) : Type 0 where
+  pub by : AreBy lanes calls
+  pub own : AreOwn (recorded_in lanes) calls
+
+-- each position of a lane is claimed
+abbrev pub IsTaken : Claims → Type 0
+IsTaken claims = (position : ℕ) → slice_get claims.slots position ≢ Some None
+
+-- why a lane's calls are not handed out
+abbrev pub IsUnready : List (Option Done) → Unready → Type 0
+IsUnready slots unready.OutOfMemory = Unit {0}
+IsUnready slots (unready.Unclaimed position) = IsFirstFree slots position
+
+-- why a lane is not closed
+abbrev pub LeavesOne : ℕ → List (Option Done) → FinishFault → Type 0
+LeavesOne lane slots OutOfMemory = Unit {0}
+LeavesOne lane slots (Unlisted number position) = (number ≡ lane) × IsFirstFree slots position
+LeavesOne lane slots _ = ⊥
+
+-- why what passes list is not claimed
+abbrev pub IsNoClaim : List (List Noted) → List Ticket → FinishFault → Type 0
+IsNoClaim recorded passes (Strange caller call) = IsStrange recorded passes caller call
+IsNoClaim recorded passes _ = ⊥
+
+-- why the lanes' calls are not those that are listed
+abbrev pub IsNoClose : List (List Noted) → List Listed → FinishFault → Type 0
+IsNoClose recorded calls OutOfMemory = Unit {0}
+IsNoClose recorded calls (Unlisted lane position) = IsUnlisted recorded calls lane position
+IsNoClose recorded calls _ = ⊥
+
+-- why lanes, so many of them, are not taken apart
+abbrev pub IsNoBook : ℕ → FinishFault → Type 0
+IsNoBook count OutOfMemory = Unit {0}
+IsNoBook count (LaneLost lane) = lane < count
+IsNoBook count _ = ⊥
+
+-- why lanes are not ended by passes, which go by their callers
+pub record IsNoEnd (recorded : List (List Noted)) (passes : List Ticket) (fault : FinishFault) : Type 0 where
+  pub order : List Ticket
+  pub same : IsPermutation passes order
+  pub sorted : IsNonDecreasingBy (λ p. p.caller) order
+  pub why : IsNoClaim recorded order fault ⊎ IsNoClose recorded (calls_in order) fault

@@ -2,6 +2,7 @@ pub mod Word
 pub mod Stamps
 pub mod Passes
 pub mod Finished
+pub mod Blames
 pub mod Claimed
 pub mod Over
 pub mod Acts

@@ -9,7 +9,8 @@ ghost use Rattle.history_recorder.specs.Operations.{key_of, lane_of_key};
 ghost use Rattle.history_recorder.specs.Points.{noted_in};
 ghost use Rattle.shared_cache.specs.Passes.{former, with_end, IsTimely, new_ticket, most_lanes};
 ghost use Rattle.shared_cache.specs.Over.{IsOver};
-ghost use Rattle.shared_cache.specs.Acts.{ActGives, ActLeaves, Explains, IsBook, IsFitting, Stands, listing, made};
+ghost use Rattle.shared_cache.specs.Acts.{Explains, IsActed, IsBook, IsFitting, IsUnacted, Stands};
+ghost use Rattle.shared_cache.specs.Caches.{KeepsTie};
 
 use crate::act_fault::ActFault;
 use crate::acted::Acted;
@@ -105,8 +106,7 @@ impl Pass {
             × (self.new.sight.seen ≡ max stamp self.old.sight.seen)) }
         ensures full { OnErr result ((2 ^ 63 ≤ stamp) × (self.new ≡ self.old)) }
         ensures calls { self.new.calls ≡ self.old.calls }
-        ensures same { (self.new.caller ≡ self.old.caller)
-            × (self.new.sight.clock ≡ self.old.sight.clock) }
+        ensures tie { KeepsTie self.old self.new }
     {
         self.seat.meet(stamp)
     }
@@ -117,10 +117,8 @@ impl Pass {
         ensures start { IfOk result (λ start. (self.old.sight.seen < start)
             × (self.new.sight.seen ≡ start)) }
         ensures full { OnErr result (self.new.sight.seen + 1 ≡ 2 ^ 63) }
-        ensures grows { self.old.sight.seen ≤ self.new.sight.seen }
         ensures calls { self.new.calls ≡ self.old.calls }
-        ensures same { (self.new.caller ≡ self.old.caller)
-            × (self.new.sight.clock ≡ self.old.sight.clock) }
+        ensures tie { KeepsTie self.old self.new }
     {
         clock.tick(&mut self.seat)
     }
@@ -129,10 +127,8 @@ impl Pass {
     pub(crate) fn end(&mut self, clock: &Clock)
         requires { self.old.sight.clock ≡ clock.now }
         ensures calls { self.new.calls ≡ with_end self.new.sight.seen self.old.calls }
-        ensures grows { self.old.sight.seen ≤ self.new.sight.seen }
         ensures later { self.new.sight.seen + 1 ≢ 2 ^ 63 → self.old.sight.seen < self.new.sight.seen }
-        ensures same { (self.new.caller ≡ self.old.caller)
-            × (self.new.sight.clock ≡ self.old.sight.clock) }
+        ensures tie { KeepsTie self.old self.new }
     {
         let end = self.draw_end(clock);
         set_end(&mut self.calls, end);
@@ -155,11 +151,10 @@ impl Pass {
     /// Draws a stamp, or takes the last one where the clock is full.
     fn draw_end(&mut self, clock: &Clock) -> u64
         requires { self.old.sight.clock ≡ clock.now }
-        ensures end { (result ≡ self.new.sight.seen) × (self.old.sight.seen ≤ result) }
+        ensures end { result ≡ self.new.sight.seen }
         ensures later { result + 1 ≢ 2 ^ 63 → self.old.sight.seen < result }
         ensures calls { self.new.calls ≡ self.old.calls }
-        ensures same { (self.new.caller ≡ self.old.caller)
-            × (self.new.sight.clock ≡ self.old.sight.clock) }
+        ensures tie { KeepsTie self.old self.new }
     {
         match clock.tick(&mut self.seat) {
             Ok(end) => end,
@@ -174,10 +169,8 @@ impl Pass {
         ensures point { IfOk result (λ point. (after < point) × (self.old.sight.seen < point)
             × (self.new.sight.seen ≡ point) × (point < 2 ^ 63)) }
         ensures full { OnErr result (self.new.sight.seen + 1 ≡ 2 ^ 63) }
-        ensures grows { self.old.sight.seen ≤ self.new.sight.seen }
         ensures calls { self.new.calls ≡ self.old.calls }
-        ensures same { (self.new.caller ≡ self.old.caller)
-            × (self.new.sight.clock ≡ self.old.sight.clock) }
+        ensures tie { KeepsTie self.old self.new }
     {
         clock.observe(&mut self.seat, after);
         clock.tick(&mut self.seat)
@@ -257,7 +250,7 @@ impl<D: PageDevice<PAGE>, const PAGE: usize> LaneBook<D, PAGE> {
 
     /// Whether it is of the lane with this number, and of this configuration.
     pub(crate) fn is_of(&self, lane: u32, config: &Config) -> bool
-        ensures { IsTrue result →
+        ensures { IsTrue result ↔
             ((self.now.lane ≡ lane) × HasNumbersOf self.now.store.layout config.now) }
     {
         let own = self.config();
@@ -290,34 +283,11 @@ impl<D: PageDevice<PAGE>, const PAGE: usize> LaneBook<D, PAGE> {
         requires start { start ≤ pass.old.sight.seen }
         requires own { IsOfLane self.old.store.layout self.old.lane (key_of operation) }
         requires fits { IsFitting PAGE operation }
-
-        // One call more in the book, last, and its step of the store.
-        ensures recorded { IfOk result (λ acted. self.new ≡ record self.old {
-          store = self.new.store;
-          calls = self.old.calls ++ made pass.old.caller start acted.point operation acted.outcome ∷ [];
-        }) }
-        ensures gives { IfOk result (λ acted. ActGives D.honest D.failures D.held PAGE operation
-            self.old.store acted.outcome self.new.store) }
-
-        // One call more in the pass, last, with its position in the book.
-        ensures listed { IfOk result (λ acted. pass.new.calls ≡ pass.old.calls
-            ++ listing self.old.lane (length self.old.calls)
-            (made pass.old.caller start acted.point operation acted.outcome) acted.point ∷ []) }
-        ensures point { IfOk result (λ acted. (pass.old.sight.seen < acted.point)
-            × All (λ n. n.point < acted.point) self.old.calls
-            × (pass.new.sight.seen ≡ acted.point)) }
-        ensures same { (pass.new.caller ≡ pass.old.caller)
-            × (pass.new.sight.clock ≡ pass.old.sight.clock) }
-
-        // When it is refused, and what that leaves.
-        ensures stands { OnOk result (Stands self.old pass.old
-            × (length self.old.calls < max_calls)) }
-        ensures refused { IfErr result (Explains self.old pass.old pass.new.sight.seen) }
-        ensures unlisted { OnErr result (pass.new.calls ≡ pass.old.calls) }
-        ensures unrecorded { OnErr result (self.new ≡ record self.old { store = self.new.store }) }
-        ensures kept { IfErr result (λ fault. fault ≢ ActFault.OutOfMemory → self.new ≡ self.old) }
-        ensures out_of_memory { OnErr result ((self.new.store ≡ self.old.store)
-            ⊎ ActLeaves D.honest D.failures D.held PAGE operation self.old.store self.new.store) }
+        ensures acts { IfOk result (λ acted. IsActed D.honest D.failures D.held PAGE operation start
+            self.old pass.old acted self.new pass.new) }
+        ensures refused { IfErr result (λ fault. IsUnacted D.honest D.failures D.held PAGE operation
+            self.old pass.old fault self.new pass.new) }
+        ensures tie { KeepsTie pass.old pass.new }
     {
         self.check(pass)?;
         let position = self.recorded.len();

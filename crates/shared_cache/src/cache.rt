@@ -6,7 +6,8 @@ ghost use Rattle.certificate_checker.specs.Acceptance.{IsAccepted};
 ghost use Rattle.history_recorder.specs.declared.operation.Operation.{Operation};
 ghost use Rattle.shared_cache.specs.declared.outcome.Outcome.{Outcome};
 ghost use Rattle.shared_cache.specs.Acts.{IsFitting, Suits};
-ghost use Rattle.shared_cache.specs.Caches.{CanShare, ExplainsOpening, IsMade, KeepsTie};
+ghost use Rattle.shared_cache.specs.Blames.{Blames};
+ghost use Rattle.shared_cache.specs.Caches.{CanShare, ExplainsOpening, IsMade, KeepsTie, fault_in};
 ghost use Rattle.shared_cache.specs.Finished.{IsFinished, IsLeastMissing};
 ghost use Rattle.shared_cache.specs.Passes.{Ticket, new_ticket};
 ghost use Rattle.shared_cache.specs.Stamps.{new_sight};
@@ -221,6 +222,7 @@ impl<D: PageDevice<PAGE>, P: EvictionPolicy + Drop, const PAGE: usize> SharedCac
         ensures accepted { IfOk result (λ finished. All (λ d. IsTrue (D.honest d)) finished.devices.items
             → IsAccepted finished.history finished.certificate) }
         ensures devices { IfOk result (λ finished. length finished.devices.items ≡ self.layout.lanes) }
+        ensures refused { IfErr result (Blames self.callers self.layout.lanes passes.items) }
     {
         let SharedCache {
             alloc,
@@ -285,8 +287,7 @@ impl<D: PageDevice<PAGE>, P: EvictionPolicy + Drop, const PAGE: usize> SharedCac
 
 /// The refusal of a call whose act was refused in this lane.
 fn refused(fault: ActFault, lane: u32) -> CallFault
-    ensures full { result ≡ CallFault.ClockFull → fault ≡ ActFault.ClockFull }
-    ensures small { result ≢ CallFault.TooLarge }
+    ensures { result ≡ fault_in lane fault }
 {
     match fault {
         ActFault::OutOfMemory => CallFault::OutOfMemory,

@@ -1,10 +1,11 @@
 // The calls of all lanes, while the passes claim them.
-ghost use Rattle.std.specs.Prelude.{◌≡◌, ◌≢◌, ℕ, ◌≤◌, ◌<◌, ◌+◌, All, IfOk, OnOk, IfErr, IfSome, IfNone, Err, length, map, sum_by, true};
+ghost use Rattle.std.specs.Prelude.{◌≡◌, ℕ, ◌≤◌, ◌<◌, ◌+◌, ◌++◌, [], List, All, IfOk, OnOk, IfErr, IfSome, IfNone, length, map, sum_by, true};
 ghost use Rattle.certificate_checker.specs.declared.done.Done.{Done};
 ghost use Rattle.certificate_checker.specs.Lanes.{Stamped, stamped};
 ghost use Rattle.shared_cache.specs.Passes.{most_lanes};
 ghost use Rattle.shared_cache.specs.Finished.{weigh_calls, weigh_passes, has_pass, IsLeastMissing};
-ghost use Rattle.shared_cache.specs.Claimed.{IsEnded, noted_of, weigh_slots, weigh_lanes, recorded_in, recorded_of};
+ghost use Rattle.shared_cache.specs.Blames.{IsFirstStrange, calls_in};
+ghost use Rattle.shared_cache.specs.Claimed.{AreBy, AreMade, IsEnded, IsNoClaim, IsNoClose, IsTaken, LeavesOne, noted_of, weigh_slots, weigh_lanes, recorded_in, recorded_of};
 
 use crate::books::Pass;
 use crate::finish_fault::FinishFault;
@@ -39,15 +40,17 @@ fn has(passes: &[Pass], caller: u16) -> bool
     passes.iter().any(|pass| pass.caller() == caller)
 }
 
-/// Claims the calls that passes list, in their order. The first that is not as it is listed is strange.
+/// Claims the calls that passes list, in their order. The first that is not its lane's own is strange.
 pub(crate) fn claim_passes(
     claims: &mut Vec<LaneClaims>,
     passes: Vec<Pass>,
 ) -> Result<(), FinishFault>
+    requires { AreMade claims.old.items [] }
     ensures claimed { OnOk result ((h : Stamped → ℕ) → weigh_lanes h 0 claims.new.items
         ≡ weigh_lanes h 0 claims.old.items + weigh_passes h passes.items) }
     ensures calls { OnOk result (recorded_in claims.new.items ≡ recorded_in claims.old.items) }
-    ensures has_all { (caller : ℕ) → result ≢ Err (FinishFault.MissingPass caller) }
+    ensures made { OnOk result (AreMade claims.new.items (calls_in passes.items)) }
+    ensures strange { IfErr result (IsNoClaim (recorded_in claims.old.items) passes.items) }
 {
     let mut left = VecDeque::from(passes);
     while let Some(pass) = left.pop_front() {
@@ -59,13 +62,20 @@ pub(crate) fn claim_passes(
     Ok(())
 }
 
-/// Claims listed calls, in their order. At `Err` the call at that place is not as it is listed.
+/// Claims listed calls, in their order, behind those that made the claims that there are. At `Err` the call at that place is
+/// not its lane's own.
 fn claim_calls(claims: &mut Vec<LaneClaims>, calls: Vec<Listed>) -> Result<(), usize>
     requires { All (λ l. l.call.point ≤ l.end) calls.items }
     ensures claimed { OnOk result ((h : Stamped → ℕ) → weigh_lanes h 0 claims.new.items
         ≡ weigh_lanes h 0 claims.old.items + weigh_calls h calls.items) }
     ensures calls { OnOk result (recorded_in claims.new.items ≡ recorded_in claims.old.items) }
-    ensures strange { IfErr result (λ place. place < length calls.items) }
+    ensures made { OnOk result ((before : List Listed) → AreMade claims.old.items before
+        → AreMade claims.new.items (before ++ calls.items)) }
+    ensures within { IfErr result (λ place. place < length calls.items) }
+    ensures strange { IfErr result (λ place. (before : List Listed)
+        → AreMade claims.old.items before
+        → IsFirstStrange (recorded_in claims.old.items) (before ++ calls.items)
+        (length before + place)) }
 {
     let mut left = VecDeque::from(calls);
     let mut place = 0;
@@ -83,7 +93,7 @@ fn claim_calls(claims: &mut Vec<LaneClaims>, calls: Vec<Listed>) -> Result<(), u
     Ok(())
 }
 
-/// The lanes' calls with their ends, if each call was claimed.
+/// The lanes' calls with their ends, if each call was claimed. The first that was not is unlisted.
 pub(crate) fn close_claims(
     alloc: Global,
     claims: Vec<LaneClaims>,
@@ -93,7 +103,8 @@ pub(crate) fn close_claims(
         sum_by h (stamped lanes.items) ≡ weigh_lanes h 0 claims.items) }
     ensures calls { IfOk result (λ lanes. recorded_of lanes.items ≡ recorded_in claims.items) }
     ensures ended { IfOk result (λ lanes. All (All IsEnded) lanes.items) }
-    ensures has_all { (caller : ℕ) → result ≢ Err (FinishFault.MissingPass caller) }
+    ensures unlisted { IfErr result (λ fault. (calls : List Listed) → AreBy claims.items calls
+        → IsNoClose (recorded_in claims.items) calls fault) }
 {
     let mut lanes = Vec::new(alloc);
     let mut left = VecDeque::from(claims);
@@ -106,13 +117,14 @@ pub(crate) fn close_claims(
     Ok(lanes)
 }
 
-/// The calls of a lane with their ends, if each was claimed.
+/// The calls of a lane with their ends, if each was claimed. The first that was not is unlisted.
 fn close_lane(alloc: Global, lane: u32, claims: LaneClaims) -> Result<Dones, FinishFault>
     ensures weighed { IfOk result (λ dones. (h : Done → ℕ) →
         sum_by h dones ≡ weigh_slots h claims.slots) }
     ensures calls { IfOk result (λ dones. map noted_of dones ≡ claims.calls) }
     ensures ended { IfOk result (All IsEnded) }
-    ensures has_all { (caller : ℕ) → result ≢ Err (FinishFault.MissingPass caller) }
+    ensures taken { OnOk result (IsTaken claims) }
+    ensures unlisted { IfErr result (LeavesOne lane claims.slots) }
 {
     match claims.close(alloc) {
         Ok(dones) => Ok(dones),

@@ -1,10 +1,10 @@
 // The lanes of a cache that is over.
-ghost use Rattle.std.specs.Prelude.{◌≡◌, ◌≢◌, ◌≤◌, ℕ, All, IfOk, Err, length, map, sum_by};
+ghost use Rattle.std.specs.Prelude.{◌≡◌, ◌≤◌, ℕ, All, IfOk, IfErr, length, map, sum_by};
 ghost use Rattle.history_recorder.specs.Points.{noted_in};
 ghost use Rattle.certificate_checker.specs.Lanes.{Stamped, stamped};
 ghost use Rattle.shared_cache.specs.Passes.{most_lanes};
 ghost use Rattle.shared_cache.specs.Finished.{weigh_passes};
-ghost use Rattle.shared_cache.specs.Claimed.{IsEnded, recorded_in, recorded_of, weigh_lanes};
+ghost use Rattle.shared_cache.specs.Claimed.{IsEnded, IsFresh, IsNoBook, IsNoEnd, recorded_in, recorded_of};
 ghost use Rattle.shared_cache.specs.Over.{AreOver, IsOver, lane_by};
 
 use crate::books::{LaneBook, Pass};
@@ -29,8 +29,8 @@ pub(crate) fn take_apart<D: PageDevice<PAGE>, const PAGE: usize>(
         AreOver D.honest (lane_by config.now) 0 (recorded_in taken.0.items) taken.1.items) }
     ensures count { IfOk result (λ taken. length taken.0.items ≡ length books.items) }
     ensures devices { IfOk result (λ taken. length taken.1.items ≡ length books.items) }
-    ensures unclaimed { IfOk result (λ taken. (h : Stamped → ℕ) → weigh_lanes h 0 taken.0.items ≡ 0) }
-    ensures has_all { (caller : ℕ) → result ≢ Err (FinishFault.MissingPass caller) }
+    ensures fresh { IfOk result (λ taken. All IsFresh taken.0.items) }
+    ensures lost { IfErr result (IsNoBook (length books.items)) }
 {
     let mut claims = Vec::new(alloc);
     let mut devices = Vec::new(alloc);
@@ -58,7 +58,7 @@ fn parts_of<D: PageDevice<PAGE>, const PAGE: usize>(
 ) -> Result<RecordedParts<D>, FinishFault>
     ensures over { IfOk result (λ parts. IsOver D.honest (lane_by config.now) lane
         (map noted_in parts.calls) parts.device) }
-    ensures has_all { (caller : ℕ) → result ≢ Err (FinishFault.MissingPass caller) }
+    ensures lost { IfErr result (λ fault. fault ≡ FinishFault.LaneLost lane) }
 {
     let book = lock.into_inner();
     if !book.is_of(lane, config) {
@@ -67,19 +67,20 @@ fn parts_of<D: PageDevice<PAGE>, const PAGE: usize>(
     Ok(book.into_parts())
 }
 
-/// The lanes' calls with the ends that the passes list, if each is listed once and as it was recorded.
+/// The lanes' calls with the ends that the passes list, if each is listed once and as it was recorded. The passes go by their
+/// callers.
 pub(crate) fn ended_lanes(
     alloc: Global,
     claims: Vec<LaneClaims>,
     passes: Vec<Pass>,
 ) -> Result<Vec<Dones>, FinishFault>
     requires few { length claims.items ≤ most_lanes }
-    requires unclaimed { (h : Stamped → ℕ) → weigh_lanes h 0 claims.items ≡ 0 }
+    requires fresh { All IsFresh claims.items }
     ensures listed { IfOk result (λ lanes. (h : Stamped → ℕ) →
         sum_by h (stamped lanes.items) ≡ weigh_passes h passes.items) }
     ensures calls { IfOk result (λ lanes. recorded_of lanes.items ≡ recorded_in claims.items) }
     ensures ended { IfOk result (λ lanes. All (All IsEnded) lanes.items) }
-    ensures has_all { (caller : ℕ) → result ≢ Err (FinishFault.MissingPass caller) }
+    ensures refused { IfErr result (IsNoEnd (recorded_in claims.items) passes.items) }
 {
     let mut claims = claims;
     let mut passes = passes;

@@ -1,10 +1,10 @@
 // A lane's calls, while the passes claim them.
-ghost use Rattle.std.specs.Prelude.{◌≡◌, ℕ, ◌<◌, ◌≤◌, ◌+◌, IfOk, IsTrue, All, map, sum_by, replicate, None};
+ghost use Rattle.std.specs.Prelude.{◌≡◌, ◌↔◌, ℕ, ◌≤◌, IfOk, IfErr, OnOk, IsTrue, IsFalse, All, map, sum_by, replicate, slice_set, None, Some};
 ghost use Rattle.trace_file.specs.declared.call.Call.{Call};
 ghost use Rattle.history_recorder.specs.Points.{noted_in};
 ghost use Rattle.certificate_checker.specs.declared.done.Done.{Done};
 ghost use Rattle.shared_cache.specs.Finished.{done_of};
-ghost use Rattle.shared_cache.specs.Claimed.{IsEnded, noted_of, weigh_slots};
+ghost use Rattle.shared_cache.specs.Claimed.{Fits, IsEnded, IsFresh, IsTaken, IsUnready, noted_of, weigh_slots};
 
 use crate::comparing::is_recorded_as;
 use crate::listed::Listed;
@@ -47,7 +47,7 @@ impl LaneClaims {
     /// The calls of a lane, none of them claimed.
     pub(crate) fn new(alloc: Global, recorded: History) -> Result<LaneClaims, AllocError>
         ensures calls { IfOk result (λ c. c.calls ≡ map noted_in recorded) }
-        ensures none { IfOk result (λ c. (h : Done → ℕ) → weigh_slots h c.slots ≡ 0) }
+        ensures fresh { IfOk result IsFresh }
     {
         let slots = empty_slots(alloc, recorded.len())?;
         Ok(LaneClaims { recorded, slots })
@@ -56,9 +56,11 @@ impl LaneClaims {
     /// Claims a listed call, if it is the one at its position and was not claimed before.
     pub(crate) fn claim(&mut self, listed: Listed) -> bool
         requires { listed.call.point ≤ listed.end }
-        ensures claimed { IsTrue result → (h : Done → ℕ) →
-            weigh_slots h self.new.slots ≡ weigh_slots h self.old.slots + h (done_of listed) }
-        ensures calls { self.new.calls ≡ self.old.calls }
+        ensures fits { IsTrue result ↔ Fits self.old listed }
+        ensures claimed { IsTrue result → self.new ≡ record self.old {
+          slots = slice_set self.old.slots listed.position (Some (done_of listed));
+        } }
+        ensures kept { IsFalse result → self.new ≡ self.old }
     {
         let position = listed.position;
         if position >= self.recorded.len() {
@@ -82,11 +84,13 @@ impl LaneClaims {
         true
     }
 
-    /// The calls with their ends, if each was claimed.
+    /// The calls with their ends, if each was claimed. `Unclaimed` has the first position that was not.
     pub(crate) fn close(self, alloc: Global) -> Result<Dones, Unready>
         ensures weighed { IfOk result (λ dones. (h : Done → ℕ) → sum_by h dones ≡ weigh_slots h self.slots) }
         ensures calls { IfOk result (λ dones. map noted_of dones ≡ self.calls) }
         ensures ended { IfOk result (All IsEnded) }
+        ensures taken { OnOk result (IsTaken self) }
+        ensures refused { IfErr result (IsUnready self.slots) }
     {
         let LaneClaims { recorded: _, slots } = self;
         let Ok(mut dones) = Vec::with_capacity(alloc, slots.len()) else {

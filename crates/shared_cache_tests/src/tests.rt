@@ -1,5 +1,6 @@
 //! A cache that threads share: what was put is found by each caller, and its calls are one history that the checker
 //! accepts.
+mod apart;
 mod clock;
 mod finishing;
 mod gate;
@@ -7,6 +8,7 @@ mod gate_device;
 mod gate_policy;
 mod gates;
 mod many;
+mod numbered_device;
 mod opening;
 mod rounds;
 mod run;

@@ -196,7 +196,7 @@ pub fn key(alloc: Global, bytes: &[u8]) -> Option<Key> {
 }
 
 // The value of these bytes, made once more where memory was refused.
-fn value(alloc: Global, bytes: &[u8]) -> Option<Value> {
+pub fn value(alloc: Global, bytes: &[u8]) -> Option<Value> {
     match Value::new(alloc, bytes) {
         Ok(value) => Some(value),
         Err(_) => Value::new(alloc, bytes).ok(),

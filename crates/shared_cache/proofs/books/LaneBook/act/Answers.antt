@@ -12,3 +12,15 @@ pub invariant_of-pass-2 : goal.invariant_of-pass-2
 invariant_of-pass-2 g c =
     let at : c.in_ok-done.done.noted.point ≡ c.in-Ok.point = ap (λ (n : Noted). n.point) c.in_ok-done.ensures.noted in
     rw (c.list.ensures.former, c.list.ensures.calls, c.in_ok-reserve.ensures.items) (pass_more _ _ _ _ c.pass.invariant (record { ended = rw at (search rules); met = search rules }) (search rules) (search rules))
+
+pub returns-clause-acts : goal.returns-clause-acts
+returns-clause-acts g c = record {
+  recorded = search rules;
+  gives = search rules;
+  listed = search rules;
+  unseen = search rules;
+  above = search rules;
+  seen = search rules;
+  stands = search rules;
+  room = search rules;
+}

@@ -1,4 +1,7 @@
-use Rattle.std.proofs.Common.{rules, ◌≡◌, ◌≤◌, length, sym, subst, ◌∙◌}
+use Rattle.std.proofs.Common.{rules, ◌≡◌, ◌≤◌, Err, length, sym, subst, ◌∙◌}
+use Rattle.std.proofs.lemmas.List.{length-map}
+use Rattle.shared_cache.specs.Claimed.{Claims, recorded_in}
+use Rattle.shared_cache.proofs.Blaming.{blamed}
 use Rattle.certificate_checker.proofs.LaneEnds.{placed_apart}
 use Rattle.shared_cache.specs.Over.{AreOver, lane_by}
 use Rattle.shared_cache.proofs.LanesOver.{rise_over, few_in, lanes_over, placed_over, lanes_as_claims}
@@ -40,3 +43,11 @@ returns-clause-accepted g c =
     λ is. c.in-Ok.ensures.accepted
     (lanes_over g.D.PageDevice.honest by 0 c.in_ok-lanes.lanes.items c.in_ok-claims.devices.items all c.in_ok-lanes.ensures.ended is)
     (placed_apart by c.in_ok-lanes.lanes.items (placed_over g.D.PageDevice.honest by c.in_ok-lanes.lanes.items c.in_ok-claims.devices.items all))
+
+pub returns-in_err-lanes-clause-refused : goal.returns-in_err-lanes-clause-refused
+returns-in_err-lanes-clause-refused g c =
+    let is : c.from_residual-in_err-lanes.result ≡ Err c.in_err-lanes.field-0.0 = search rules in
+    let no = c.in_err-lanes.ensures.refused in
+    let many : length (recorded_in c.in_ok-claims.claims.items) ≡ c.args.self.layout.lanes =
+    rw (← c.self.view_is) (length-map c.in_ok-claims.claims.items (λ (x : Claims). x.calls) ∙ c.in_ok-claims.ensures.count ∙ c.self.invariant.books) in
+    rw is (blamed c.args.self.callers c.args.self.layout.lanes (recorded_in c.in_ok-claims.claims.items) c.args.passes.items no.order _ many no.same no.why)

@@ -1,11 +1,10 @@
-use Rattle.std.proofs.Common.{rules, ◌≡◌, ◌∙◌, ap, Some, None, slice_get, refl, sym}
+use Rattle.std.proofs.Common.{rules, ◌∙◌, ap, Some, refl, sym}
 use Rattle.std.proofs.lemmas.Option.{slice_get-map}
 use Rattle.std.specs.Option.{option_map}
 use Rattle.history_recorder.specs.Points.{noted_in}
 use Rattle.history_recorder.specs.declared.noted.Noted.{Noted}
-use Rattle.shared_cache.specs.Finished.{done_of}
 use Rattle.shared_cache.specs.Claimed.{noted_of}
-use Rattle.shared_cache.proofs.Claiming.{claimed_set, weigh_set, got}
+use Rattle.shared_cache.proofs.Claiming.{claimed_set}
 use Rattle.shared_cache.proofs.lane_claims.LaneClaims.claim.Goals as goal
 
 pub invariant_of-self : goal.invariant_of-self
@@ -13,9 +12,3 @@ invariant_of-self c =
     let a = slice_get-map noted_in c.self.inside.recorded c.args.listed.position ∙ ap (option_map noted_in) c.at-call.ensures.call in
     let same = c.if-not-is_recorded_as.ensures.0 refl in
     claimed_set _ _ _ c.ended.result c.self.invariant (a ∙ ap (λ (n : Noted). Some n) (sym same ∙ sym (ap noted_of c.ended.ensures))) (search rules)
-
-pub returns-clause-claimed : goal.returns-clause-claimed
-returns-clause-claimed c =
-    let d = c.in-Some-None.ensures.lookup in
-    let free : slice_get c.self.inside.slots.items c.args.listed.position ≡ Some None = got _ _ _ _ _ c.deref.ensures.value d.0 d.1 c.in-Some-None.field-0-is in
-    λ _ h. rw (← c.self.view_is, c.ended.ensures) (weigh_set h c.self.inside.slots.items _ (done_of c.args.listed) free)
