@@ -1,5 +1,6 @@
 -- How a run ends: by what, its exit status, and what it writes to standard error.
-use Rattle.std.specs.Prelude.{◌≡◌, ◌⊎◌, ℕ, ◌==◌, List, Option, Some, None, codes, if◌then◌else◌}
+use Rattle.std.specs.Prelude.{◌≡◌, ◌⊎◌, ℕ, ◌==◌, List, [], ◌++◌, Option, Some, None, codes, if◌then◌else◌}
+use Rattle.std.specs.Option.{option_map_or}
 use Rattle.certificate_checker.specs.declared.verdict.Verdict.{Verdict}
 use Rattle.certificate_checker.specs.declared.verdict.Verdict.TheVariants as verdicts
 use Rattle.shared_cache.specs.declared.finish_fault.FinishFault.{FinishFault}
@@ -39,6 +40,10 @@ message_of ends.SharesExceed = Some (codes "gets and removes exceed 100")
 message_of ends.OutOfMemory = Some (codes "out of memory")
 message_of ends.FileFault = Some (codes "file fault")
 message_of ends.FinishFault = Some (codes "finish fault")
+
+-- the same with its line feed, and nothing where none is written
+abbrev pub line_of : RunEnd → List ℕ
+line_of end = option_map_or (λ message. message ++ codes "\n") (message_of end) []
 
 -- a cache was not opened or not finished
 abbrev pub IsRefusal : RunEnd → Type 0

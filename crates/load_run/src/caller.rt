@@ -4,20 +4,21 @@ ghost use Rattle.load.specs.Operations.{next_of};
 ghost use Rattle.shared_cache.specs.Caches.{KeepsTie};
 ghost use Rattle.load_run.specs.Calls.{IsCalled, IsEnded, first_generator};
 
-use crate::shared::Cache;
 use history_recorder::Operation;
 use load::{Load, next_operation};
+use page_device::PageDevice;
+use policy_laws::EvictionPolicy;
 use rand_pcg::Lcg64Xsh32;
-use shared_cache::{CallFault, Pass};
+use shared_cache::{CallFault, Pass, SharedCache};
 use std::alloc::Global;
 use std::sync::Wait;
 use std::sync::atomic::{AtomicU64, Ordering};
 
 /// Makes the calls of a caller, by a generator of its own, and counts them by the thousand.
-pub fn start_caller<R: Wait>(
+pub fn start_caller<D: PageDevice<PAGE>, P: EvictionPolicy + Drop, const PAGE: usize, R: Wait>(
     rt: &R,
     alloc: Global,
-    cache: &Cache,
+    cache: &SharedCache<D, P, PAGE>,
     load: &Load,
     made: &AtomicU64,
     pass: Pass,
@@ -31,10 +32,10 @@ pub fn start_caller<R: Wait>(
 }
 
 /// Makes the calls of a caller, and stops at its first refusal.
-pub fn make_calls<R: Wait>(
+pub fn make_calls<D: PageDevice<PAGE>, P: EvictionPolicy + Drop, const PAGE: usize, R: Wait>(
     rt: &R,
     alloc: Global,
-    cache: &Cache,
+    cache: &SharedCache<D, P, PAGE>,
     load: &Load,
     made: &AtomicU64,
     mut generator: Lcg64Xsh32,
@@ -60,10 +61,10 @@ fn count(made: &AtomicU64, number: u32) {
 }
 
 /// Makes the call of a caller with this number.
-fn make_next<R: Wait>(
+fn make_next<D: PageDevice<PAGE>, P: EvictionPolicy + Drop, const PAGE: usize, R: Wait>(
     rt: &R,
     alloc: Global,
-    cache: &Cache,
+    cache: &SharedCache<D, P, PAGE>,
     load: &Load,
     generator: &mut Lcg64Xsh32,
     pass: &mut Pass,
@@ -87,9 +88,9 @@ fn make_next<R: Wait>(
 }
 
 /// Makes a call.
-fn make<R: Wait>(
+fn make<D: PageDevice<PAGE>, P: EvictionPolicy + Drop, const PAGE: usize, R: Wait>(
     rt: &R,
-    cache: &Cache,
+    cache: &SharedCache<D, P, PAGE>,
     pass: &mut Pass,
     operation: Operation,
 ) -> Result<(), CallFault>

@@ -2,12 +2,13 @@
 ghost use Rattle.std.specs.Prelude.{◌≡◌, ◌<◌, All};
 
 use crate::caller::start_caller;
-use crate::shared::Cache;
 use crate::watching::watch;
 use crate::worker::work;
 use crossbeam_channel::Sender;
 use load::Load;
-use shared_cache::Pass;
+use page_device::PageDevice;
+use policy_laws::EvictionPolicy;
+use shared_cache::{Pass, SharedCache};
 use std::alloc::Global;
 use std::io::{IsTerminal, Write};
 use std::sync::Wait;
@@ -19,10 +20,16 @@ use std::time::Clock;
 /// Runs each caller in a thread, which sends its pass when it ended, beside the workers, until all have ended. A caller
 /// for which no thread can be made sends nothing. How many calls were made is told to `err` meanwhile, where that is a
 /// terminal.
-pub fn run_crew<R: Threads + Wait + Sync + Clock, E: Write + IsTerminal>(
+pub fn run_crew<
+    D: PageDevice<PAGE> + Send,
+    P: EvictionPolicy + Drop + Sync,
+    const PAGE: usize,
+    R: Threads + Wait + Sync + Clock,
+    E: Write + IsTerminal,
+>(
     rt: &R,
     alloc: Global,
-    cache: &Cache,
+    cache: &SharedCache<D, P, PAGE>,
     load: &Load,
     mut passes: Vec<Pass>,
     to: &Sender<Pass>,

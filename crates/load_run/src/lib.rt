@@ -15,6 +15,7 @@ mod watching;
 mod worker;
 
 pub use hits::hits_of;
+pub use made::{Made, make_history};
 pub use run::run_load;
 pub use run_end::RunEnd;
 pub use summary::Summary;

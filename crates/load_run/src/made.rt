@@ -1,16 +1,17 @@
 // The history that a run made.
-ghost use Rattle.std.specs.Prelude.{◌≡◌, IfOk, IfErr, count_by, length};
+ghost use Rattle.std.specs.Prelude.{◌≡◌, All, IfOk, IfErr, IsTrue, count_by, length};
 ghost use Rattle.certificate_checker.specs.Acceptance.{IsAccepted};
 ghost use Rattle.load_run.specs.Ends.{IsRefusal};
 ghost use Rattle.load_run.specs.Wholes.{IsWhole, is_short};
 
 use crate::crew::run_crew;
 use crate::run_end::RunEnd;
-use crate::shared::{Device, open};
 use crate::watching::tell_step;
 use crossbeam_channel::{Receiver, bounded};
 use load::Load;
-use shared_cache::{Finished, Pass};
+use page_device::PageDevice;
+use policy_laws::EvictionPolicy;
+use shared_cache::{Finished, Pass, SharedCache};
 use std::alloc::{AllocError, Global};
 use std::io::{IsTerminal, Write};
 use std::sync::Wait;
@@ -24,29 +25,50 @@ struct Left {
     stopped: usize,
 }
 
-/// The history that a run made, and how many callers stopped at a refusal.
+/// What the threads of a load made: what is left of their cache, and how many callers stopped at a refusal.
 #[derive(Drop)]
-pub struct Made {
-    pub finished: Finished<Device>,
+pub struct Made<D> {
+    /// The history, its certificate, and the devices, in the order of their lanes.
+    pub finished: Finished<D>,
+    /// Callers that stopped at a refusal.
     pub stopped: usize,
 }
 
-/// Runs the threads of a load over a new cache, and ends the cache. Its progress is told to `err`, where that is a terminal.
-pub fn make_history<R: Threads + Wait + Sync + Clock, E: Write + IsTerminal>(
+/// Runs the threads of a load over a cache that was just opened, and ends the cache.
+///
+/// Each caller makes its operations in a thread of its own, with one of these passes, and stops at its first refusal; the
+/// workers flush and move in each lane beside them, until all callers have ended. A worker for which no thread can be made is
+/// left out. The numbers of the cache are its own: of those that the load has for one only that of the lanes has to be the
+/// same. How many calls were made is told to `err` meanwhile, where that is a terminal.
+///
+/// `OutOfMemory` where memory was refused outside a caller, or a thread to a caller; `FinishFault` where the cache was not
+/// finished, as where it has more callers than there are passes. The cache, the passes and the devices are dropped with each.
+pub fn make_history<
+    D: PageDevice<PAGE> + Send,
+    P: EvictionPolicy + Drop + Sync,
+    const PAGE: usize,
+    R: Threads + Wait + Sync + Clock,
+    E: Write + IsTerminal,
+>(
     rt: &R,
     alloc: Global,
     load: &Load,
+    cache: SharedCache<D, P, PAGE>,
+    passes: Vec<Pass>,
     err: &mut E,
-) -> Result<Made, RunEnd>
+) -> Result<Made<D>, RunEnd>
+    requires lanes { load.now.layout.lanes ≡ cache.layout.lanes }
+    requires ties { All (λ p. p.sight.clock ≡ cache.clock) passes.items }
+    requires callers { length passes.items ≡ load.now.callers }
     ensures accepted { IfOk result (λ made.
-        IsAccepted made.finished.history made.finished.certificate) }
+        All (λ d. IsTrue (D.honest d)) made.finished.devices.items
+        → IsAccepted made.finished.history made.finished.certificate) }
+    ensures devices { IfOk result (λ made.
+        length made.finished.devices.items ≡ load.now.layout.lanes) }
     ensures whole { IfOk result (λ made.
         IsWhole load.now (length made.finished.history) made.stopped) }
     ensures refused { IfErr result (λ end. IsRefusal end) }
 {
-    let Ok((cache, passes)) = open(alloc, load) else {
-        return Err(RunEnd::OutOfMemory);
-    };
     let Ok((to, from)) = bounded::<Pass, _>(alloc, load.callers as usize) else {
         return Err(RunEnd::OutOfMemory);
     };

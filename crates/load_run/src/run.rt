@@ -1,14 +1,16 @@
 // A run, from its load to its status.
-ghost use Rattle.std.specs.Prelude.{◌≡◌, ◌≢◌, ◌↔◌, ◌⊎◌, ◌<◌, ◌+◌, IfOk, IfErr};
+ghost use Rattle.std.specs.Prelude.{◌≡◌, ◌≢◌, ◌↔◌, ◌⊎◌, ◌<◌, ◌+◌, IfOk, IfErr, length};
 ghost use Rattle.certificate_checker.specs.Acceptance.{IsAccepted};
-ghost use Rattle.load_run.specs.Ends.{status_of};
+ghost use Rattle.load_run.specs.Ends.{IsRefusal, status_of};
 ghost use Rattle.load_run.specs.Runs.{IsRunOf, IsSaid, IsSummaryOf, WroteLines};
+ghost use Rattle.load_run.specs.Wholes.{IsWhole};
 
 use crate::cause::Cause;
 use crate::ended::Ended;
 use crate::hits::hits_of;
 use crate::made::{Made, make_history};
 use crate::run_end::RunEnd;
+use crate::shared::{Device, open};
 use crate::summary::Summary;
 use crate::watching::tell_step;
 use certificate_checker::check_with_hasher;
@@ -48,10 +50,7 @@ pub fn run_load<
 
 /// Writes the line of an end, where it has one, and what failed. What `err` refuses is not told.
 fn tell<E: Write>(err: &mut E, load: &Load, ended: &Ended) {
-    if let Some(message) = ended.end.message() {
-        let _ = err.write_all(message.as_bytes());
-        let _ = err.write_all(b"\n");
-    }
+    let _ = ended.end.tell(err);
     if let Some(cause) = &ended.cause {
         cause.tell(&load.trace, err);
     }
@@ -79,7 +78,7 @@ fn run_to_end<
         Ok(seed) => seed,
         Err(error) => return Ended::failed(Cause::Random(error)),
     };
-    let made = match make_history(rt, rt.alloc(), load, err) {
+    let made = match run_cache(rt, rt.alloc(), load, err) {
         Ok(made) => made,
         Err(end) => return Ended::plain(end),
     };
@@ -99,6 +98,28 @@ fn run_to_end<
     write_lines(rt.alloc(), &summary, out)
 }
 
+/// Runs the threads of a load over a new cache, whose devices are in memory.
+fn run_cache<R: Threads + Wait + Sync + Clock, E: Write + IsTerminal>(
+    rt: &R,
+    alloc: Global,
+    load: &Load,
+    err: &mut E,
+) -> Result<Made<Device>, RunEnd>
+    ensures accepted { IfOk result (λ made.
+        IsAccepted made.finished.history made.finished.certificate) }
+    ensures whole { IfOk result (λ made.
+        IsWhole load.now (length made.finished.history) made.stopped) }
+    ensures refused { IfErr result (λ end. IsRefusal end) }
+{
+    let Ok((cache, passes)) = open(alloc, load) else {
+        return Err(RunEnd::OutOfMemory);
+    };
+    match make_history(rt, alloc, load, cache, passes, err) {
+        Ok(made) => Ok(made),
+        Err(end) => Err(end),
+    }
+}
+
 /// Opens the file of the trace, which is made where it is absent, and leaves in it what it holds.
 fn open_trace<R: Files>(rt: &R, name: &FileName) -> io::Result<R::File> {
     OpenOptions::new()
@@ -108,7 +129,7 @@ fn open_trace<R: Files>(rt: &R, name: &FileName) -> io::Result<R::File> {
 }
 
 /// What is told of a history that was made.
-fn summary_of(alloc: Global, seed: RandomSeed, made: &Made) -> Result<Summary, AllocError>
+fn summary_of(alloc: Global, seed: RandomSeed, made: &Made<Device>) -> Result<Summary, AllocError>
     ensures is { IfOk result (λ summary. IsSummaryOf summary made.now.finished.history made.now.finished.certificate) }
     ensures stopped { IfOk result (λ summary. summary.stopped ≡ made.now.stopped) }
 {

@@ -1,10 +1,13 @@
 // How a run ends.
-ghost use Rattle.std.specs.Prelude.{◌≡◌, ℕ};
+ghost use Rattle.std.specs.Prelude.{◌≡◌, ℕ, OnOk};
+ghost use Rattle.std.specs.Io.KnownBytes.{Appends};
 ghost use Rattle.std.specs.Option.{option_map};
-ghost use Rattle.load_run.specs.Ends.{end_of_verdict, end_of_finish, status_of, message_of};
+ghost use Rattle.load_run.specs.Ends.{end_of_verdict, end_of_finish, status_of, message_of, line_of};
 
 use certificate_checker::Verdict;
 use shared_cache::FinishFault;
+use std::io;
+use std::io::Write;
 
 /// How a run ended.
 #[derive(Clone, Copy, Debug, PartialEq, Eq)]
@@ -74,6 +77,21 @@ impl RunEnd {
             RunEnd::OutOfMemory => Some("out of memory"),
             RunEnd::FileFault => Some("file fault"),
             RunEnd::FinishFault => Some("finish fault"),
+        }
+    }
+
+    /// Writes that line with its line feed, or nothing where there is none. A fault is the first that `err` has, and what it
+    /// took before that stays.
+    pub fn tell<E: Write>(self, err: &mut E) -> io::Result<()>
+        ensures { OnOk result (Appends (E.contents err.old) (E.contents err.new) (line_of self)) }
+    {
+        let Some(message) = self.message() else {
+            return Ok(());
+        };
+        err.write_all(message.as_bytes())?;
+        match err.write_all(b"\n") {
+            Ok(()) => Ok(()),
+            Err(error) => Err(error),
         }
     }
 }

@@ -19,7 +19,7 @@ pub type Cache = SharedCache<Device, Rriparoo, PAGE>;
 
 /// A cache for a load over devices in memory, with a pass for each caller.
 pub fn open(alloc: Global, load: &Load) -> Result<(Cache, Vec<Pass>), AllocError>
-    ensures lanes { IfOk result (λ opened. opened.0.layout.lanes ≡ load.now.layout.lanes) }
+    ensures layout { IfOk result (λ opened. opened.0.layout ≡ load.now.layout) }
     ensures ties { IfOk result (λ opened. All (λ p. p.sight.clock ≡ opened.0.clock) opened.1.items) }
     ensures passes { IfOk result (λ opened. length opened.1.items ≡ load.now.callers) }
 {

@@ -1,9 +1,10 @@
 // A worker of a run.
 ghost use Rattle.std.specs.Prelude.{◌≡◌, ◌<◌, ◌+◌, ◌%◌};
 
-use crate::shared::Cache;
 use klog::Flushed;
-use shared_cache::Moved;
+use page_device::PageDevice;
+use policy_laws::EvictionPolicy;
+use shared_cache::{Moved, SharedCache};
 use std::sync::Wait;
 use std::sync::atomic::{AtomicU64, Ordering};
 use std::time::Duration;
@@ -13,7 +14,13 @@ const NAP: u64 = 50;
 
 /// Flushes and moves in each lane in turn, beginning with the one of the worker's number, until all callers ended. Where
 /// there was nothing to do in as many lanes as there are, one after the other, it leaves their locks alone for a while.
-pub fn work<R: Wait>(rt: &R, cache: &Cache, lanes: u32, worker: u32, running: &AtomicU64)
+pub fn work<D: PageDevice<PAGE>, P: EvictionPolicy + Drop, const PAGE: usize, R: Wait>(
+    rt: &R,
+    cache: &SharedCache<D, P, PAGE>,
+    lanes: u32,
+    worker: u32,
+    running: &AtomicU64,
+)
     requires lanes { lanes ≡ cache.now.layout.lanes }
     requires some { 0 < lanes }
 {
@@ -51,7 +58,11 @@ fn lane_after(lane: u32, lanes: u32) -> u32
 }
 
 /// One round of flushing and one of moving in a lane. Whether there was something to do.
-fn go_round<R: Wait>(rt: &R, cache: &Cache, lane: u32) -> bool
+fn go_round<D: PageDevice<PAGE>, P: EvictionPolicy + Drop, const PAGE: usize, R: Wait>(
+    rt: &R,
+    cache: &SharedCache<D, P, PAGE>,
+    lane: u32,
+) -> bool
     requires { lane < cache.now.layout.lanes }
 {
     let flushed = cache.flush_round(rt, lane);

@@ -1,6 +1,12 @@
+mod counting_device;
+mod counting_policy;
+mod counts;
 mod ends;
 mod operations;
 mod options;
+mod plans;
+mod rounds;
 mod runs;
 mod screen;
+mod seen;
 mod tiers;

@@ -1,7 +1,8 @@
-//! How a run ends of which a caller stopped. No test can bring a refusal about: memory is refused by hand, and a lane is full
-//! at 16,777,216 calls.
+//! How a run ends, and the line that it tells. Of the ends that have a line a run can be brought to `SharesExceed` and
+//! `FileFault` alone, and to none at which a caller stopped: memory is refused by hand, and a lane is full at 16,777,216 calls.
 use certificate_checker::Verdict;
 use load_run::{RunEnd, Summary};
+use std::alloc::Global;
 use std::test::Fail;
 
 /// Seven calls, of callers of which one stopped.
@@ -23,4 +24,55 @@ fn a_caller_that_stopped_is_told(rt: HostRuntime) -> Result<(), Fail> {
         "calls 7\nhits 2\nstopped 1\naccepted 7 calls\n"
     );
     Ok(())
+}
+
+/// An end, and what it tells.
+#[derive(Clone, Copy)]
+struct Row {
+    end: RunEnd,
+    line: &'static [u8],
+}
+
+const ROWS: [Row; 7] = [
+    Row {
+        end: RunEnd::Accepted,
+        line: b"",
+    },
+    Row {
+        end: RunEnd::Rejected,
+        line: b"",
+    },
+    Row {
+        end: RunEnd::Stopped,
+        line: b"",
+    },
+    Row {
+        end: RunEnd::SharesExceed,
+        line: b"gets and removes exceed 100\n",
+    },
+    Row {
+        end: RunEnd::OutOfMemory,
+        line: b"out of memory\n",
+    },
+    Row {
+        end: RunEnd::FileFault,
+        line: b"file fault\n",
+    },
+    Row {
+        end: RunEnd::FinishFault,
+        line: b"finish fault\n",
+    },
+];
+
+/// Whether an end tells the line of its row, and nothing else.
+fn is_told(alloc: Global, row: &Row) -> bool {
+    let mut err: Vec<u8> = Vec::new(alloc);
+    row.end.tell(&mut err).is_ok() && err.as_slice() == row.line
+}
+
+#[test]
+fn each_end_tells_its_line(rt: HostRuntime) {
+    for row in &ROWS {
+        assert!(rt; is_told(rt.alloc(), row));
+    }
 }

@@ -49,7 +49,7 @@ fn run_of<R: Threads + Wait + Sync + AllocGlobal + Files + Clock + RandomSource>
 }
 
 /// The load that words ask for.
-fn load_of<'a>(alloc: Global, words: &'a [&'a str]) -> Option<Load> {
+pub fn load_of<'a>(alloc: Global, words: &'a [&'a str]) -> Option<Load> {
     match parse_line(alloc, words) {
         Ok(Line::Run(load)) => Some(load),
         _ => None,
