@@ -1,8 +1,8 @@
 -- Which of the next calls of lanes is the first.
 use Rattle.std.proofs.Common.{◌≡◌, ℕ, ◌+◌, ◌<◌, ◌≤◌, Option, Some, None, List, length, get_or, refl, sym, ap, ◌∙◌, subst, arith, inl, inr}
-use Rattle.std.specs.Prelude.{slice_get}
+use Rattle.std.specs.Prelude.{slice_get, option_map}
 use Rattle.std.proofs.lemmas.Bool.{cases_eq}
-use Rattle.std.proofs.lemmas.Option.{slice_get_within, slice_get_read, slice_get-get_or}
+use Rattle.std.proofs.lemmas.Option.{none-some, same_Some, slice_get_within, slice_get_read, slice_get-get_or}
 use Rattle.certificate_checker.specs.declared.done.Done.{Done}
 use Rattle.certificate_checker.specs.Lanes.{Stamped, stamp, ComesFirst}
 use Rattle.history_recorder.specs.declared.head.Head.{Head}
@@ -25,15 +25,25 @@ first_through a b c one other = elim one [
 
 -- ---- next calls
 
--- the next call of a lane, as the code reads it
-pub next_read : (lanes : List (List Done)) (heads : List Head) (number : ℕ) (lane : List Done) (head : Head) (done : Done) → number < length lanes → number < length heads → lane ≡ get_or lanes number lane → slice_get lane (get_or heads number head).listed ≡ Some done → IsNext lanes heads number done
-next_read lanes heads number lane head done in_lanes in_heads is next = record {
-  lane = lane;
-  head = get_or heads number head;
-  in_lanes = slice_get_read lanes (length lanes) number lane refl in_lanes is;
-  in_heads = slice_get-get_or heads number head in_heads;
-  is = next;
-}
+-- the call whose point was read
+pointed : (o : Option Done) (point : ℕ) → option_map (λ (d : Done). d.point) o ≡ Some point → (done : Done) × (o ≡ Some done) × (done.point ≡ point)
+pointed None point is = absurd (none-some point is)
+pointed (Some done) point is = (done, refl, same_Some done.point point is)
+
+-- the next call of a lane, by its point as the code reads it
+pub next_read : (lanes : List (List Done)) (heads : List Head) (number : ℕ) (lane : List Done) (head : Head) (point : ℕ) → number < length lanes → number < length heads → lane ≡ get_or lanes number lane → option_map (λ (d : Done). d.point) (slice_get lane (get_or heads number head).listed) ≡ Some point → (done : Done) × IsNext lanes heads number done × (done.point ≡ point)
+next_read lanes heads number lane head point in_lanes in_heads is next =
+    let read = pointed (slice_get lane (get_or heads number head).listed) point next in (
+      read.0,
+      record {
+        lane = lane;
+        head = get_or heads number head;
+        in_lanes = slice_get_read lanes (length lanes) number lane refl in_lanes is;
+        in_heads = slice_get-get_or heads number head in_heads;
+        is = read.1;
+      },
+      read.2,
+    )
 
 -- the first next call, as the code reads it of a copy of the heads
 pub first_read : (lanes : List (List Done)) (copy heads : List Head) (found first : Option Next) → copy ≡ heads → found ≡ first → IsFirstBelow lanes copy (length lanes) found → IsFirstBelow lanes heads (length lanes) first

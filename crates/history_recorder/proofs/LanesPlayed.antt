@@ -1,5 +1,5 @@
 -- What the steps of a recorded lane are to those who play it.
-use Rattle.std.proofs.Common.{◌≡◌, ◌<◌, ◌≤◌, ◌⊎◌, ◌↔◌, ℕ, Bool, List, [], ◌∷◌, ◌++◌, length, Option, Some, None, ap, ◌∙◌, refl, arith, inl, inr}
+use Rattle.std.proofs.Common.{◌≡◌, ◌<◌, ◌≤◌, ◌⊎◌, ◌↔◌, ℕ, Bool, List, [], ◌∷◌, ◌++◌, length, Option, Some, None, sym, ap, ◌∙◌, refl, arith, inl, inr}
 use Rattle.std.specs.Prelude.{IsTrue, Result, Ok, Err, IfOk, OnErr}
 use Rattle.std.proofs.lemmas.Bool.{cases_lt}
 use Rattle.record_pages.specs.Sizes.{object_size, room}
@@ -7,6 +7,7 @@ use Rattle.record_pages.specs.declared.answer.Answer.{Answer}
 use Rattle.record_pages.specs.declared.layout.Layout.{Layout}
 use Rattle.record_pages.specs.declared.pushed.Pushed.{Pushed}
 use Rattle.klog.specs.declared.flushed.Flushed.{Flushed}
+use Rattle.trace_file.specs.declared.act.Act.{Act}
 use Rattle.trace_file.specs.declared.act.Act.TheVariants as acts
 use Rattle.mover.specs.Lane.{LaneState, lane_of}
 use Rattle.mover.specs.Get.{GetGives}
@@ -84,15 +85,19 @@ module _ {D : Type 0} (honest : D → Bool) (failures : D → ℕ) (held : D →
   well_kept = record { starts = r.starts; points = r.points; few = r.few; its = r.keys; lawful = r.lawful; sound = r.sound }
 
   module _ (size caller start point : ℕ) (key : List ℕ) where
-    pub got_ok : {X : Type 0} (result : Result X RecordFault) (got : X) (answer : Answer) (n : Noted) → result ≡ Ok got → n ≡ record { caller = caller; start = start; point = point; key = key; act = act_of answer } → new ≡ record old { store = new.store; calls = old.calls ++ n ∷ [] } → StoreGets size honest failures held key old.store (Ok answer) new.store → ((result ≡ Err faults.HistoryFull) ↔ (max_calls ≤ length old.calls)) → LaneActs honest held size caller start point (operations.Get key) old (record { reply = replies.Got (Ok answer); noted = Some n }) new
-    got_ok result got answer n is noted recorded gets full = record {
+    -- the call that is recorded of an act
+    abbrev called : Act → Noted
+    called act = record { caller = caller; start = start; point = point; key = key; act = act }
+
+    pub got_ok : (result : Result Answer RecordFault) (answer : Answer) (n : Noted) → result ≡ Ok answer → n ≡ called (act_of answer) → new ≡ record old { store = new.store; calls = old.calls ++ called (act_of answer) ∷ [] } → StoreGets size honest failures held key old.store (Ok answer) new.store → ((result ≡ Err faults.HistoryFull) ↔ (max_calls ≤ length old.calls)) → LaneActs honest held size caller start point (operations.Get key) old (record { reply = replies.Got (Ok answer); noted = Some n }) new
+    got_ok result answer n is noted recorded gets full = record {
       layout = gets.reads.layout;
       lane = ap (λ (l : Lane D). l.lane) recorded;
       honesty = gets.reads.honesty;
       kind = tt;
-      refused = has_room result (length old.calls) full (no_fault result got faults.HistoryFull is);
+      refused = has_room result (length old.calls) full (no_fault result answer faults.HistoryFull is);
       noted = ap Some noted;
-      recorded = ap (λ (l : Lane D). l.calls) recorded;
+      recorded = ap (λ (l : Lane D). l.calls) recorded ∙ ap (λ (m : Noted). old.calls ++ m ∷ []) (sym noted);
       kept = well_kept;
       step = gets.gives;
     }
@@ -131,14 +136,14 @@ module _ {D : Type 0} (honest : D → Bool) (failures : D → ℕ) (held : D →
       step = refused_step result fault is keeps either;
     }
 
-    pub removed_ok : {X : Type 0} (result : Result X RecordFault) (removal : X) (n : Noted) → result ≡ Ok removal → n ≡ record { caller = caller; start = start; point = point; key = key; act = acts.Remove } → new ≡ record old { store = new.store; calls = old.calls ++ n ∷ [] } → StoreRemoves held key old.store new.store → ((result ≡ Err faults.HistoryFull) ↔ (max_calls ≤ length old.calls)) → LaneActs honest held size caller start point (operations.Remove key) old (record { reply = replies.Removed (Ok tt); noted = Some n }) new
-    removed_ok result removal n is noted recorded removes full = record {
+    pub removed_ok : {X : Type 0} (result : Result X RecordFault) (removal : X) → result ≡ Ok removal → new ≡ record old { store = new.store; calls = old.calls ++ called acts.Remove ∷ [] } → StoreRemoves held key old.store new.store → ((result ≡ Err faults.HistoryFull) ↔ (max_calls ≤ length old.calls)) → LaneActs honest held size caller start point (operations.Remove key) old (record { reply = replies.Removed (Ok tt); noted = Some (called acts.Remove) }) new
+    removed_ok result removal is recorded removes full = record {
       layout = removes.layout;
       lane = ap (λ (l : Lane D). l.lane) recorded;
       honesty = ap honest removes.device;
       kind = tt;
       refused = has_room result (length old.calls) full (no_fault result removal faults.HistoryFull is);
-      noted = ap Some noted;
+      noted = refl;
       recorded = ap (λ (l : Lane D). l.calls) recorded;
       kept = well_kept;
       step = λ h. removes.removed;
@@ -158,17 +163,17 @@ module _ {D : Type 0} (honest : D → Bool) (failures : D → ℕ) (held : D →
     }
 
     module _ (value : List ℕ) (word : ℕ) where
-      pub stored_ok : {X : Type 0} (result : Result X RecordPutFault) (stored : X) (pushed : Pushed) (n : Noted) → result ≡ Ok stored → n ≡ record { caller = caller; start = start; point = point; key = key; act = acts.Put value } → new ≡ record old { store = new.store; calls = old.calls ++ n ∷ [] } → StorePuts size held (record { key = key; value = value }) word old.store (Ok pushed) new.store → ((result ≡ Err put_faults.TooLarge) ↔ (room size < object_size key value)) → ((result ≡ Err put_faults.HistoryFull) ↔ ((object_size key value ≤ room size) × (max_calls ≤ length old.calls))) → LaneActs honest held size caller start point (operations.Put key value word) old (record { reply = replies.Stored (Ok pushed); noted = Some n }) new
-      stored_ok result stored pushed n is noted recorded puts large full =
-          let fits = fits_alone size (length old.calls) key value result large full (no_put_fault result stored put_faults.TooLarge is) in
+      pub stored_ok : (result : Result Pushed RecordPutFault) (pushed : Pushed) (n : Noted) → result ≡ Ok pushed → n ≡ called (acts.Put value) → new ≡ record old { store = new.store; calls = old.calls ++ called (acts.Put value) ∷ [] } → StorePuts size held (record { key = key; value = value }) word old.store (Ok pushed) new.store → ((result ≡ Err put_faults.TooLarge) ↔ (room size < object_size key value)) → ((result ≡ Err put_faults.HistoryFull) ↔ ((object_size key value ≤ room size) × (max_calls ≤ length old.calls))) → LaneActs honest held size caller start point (operations.Put key value word) old (record { reply = replies.Stored (Ok pushed); noted = Some n }) new
+      stored_ok result pushed n is noted recorded puts large full =
+          let fits = fits_alone size (length old.calls) key value result large full (no_put_fault result pushed put_faults.TooLarge is) in
           record {
             layout = puts.layout;
             lane = ap (λ (l : Lane D). l.lane) recorded;
             honesty = ap honest puts.device;
             kind = tt;
-            refused = (fits, put_room size (length old.calls) key value result large full fits (no_put_fault result stored put_faults.HistoryFull is));
+            refused = (fits, put_room size (length old.calls) key value result large full fits (no_put_fault result pushed put_faults.HistoryFull is));
             noted = ap Some noted;
-            recorded = ap (λ (l : Lane D). l.calls) recorded;
+            recorded = ap (λ (l : Lane D). l.calls) recorded ∙ ap (λ (m : Noted). old.calls ++ m ∷ []) (sym noted);
             kept = well_kept;
             step = λ h. puts.gives;
           }

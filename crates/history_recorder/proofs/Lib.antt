@@ -1,3 +1,4 @@
+pub mod DonesIn
 pub mod Ending
 pub mod InTurn
 pub mod Kept

@@ -9,3 +9,4 @@ pub mod World
 pub mod Game
 pub mod Opened
 pub mod Laws
+pub mod Done

@@ -5,11 +5,11 @@ ghost use Rattle.trace_file.specs.Calls.{value_of};
 ghost use Rattle.trace_file.specs.Lent.{act_shown};
 ghost use Rattle.history_recorder.specs.Points.{at_point, noted_shown};
 
-use crate::noted::Noted;
 use crate::noted_ref::NotedRef;
+use record_pages::Key;
 use std::alloc::{AllocError, Global};
 use std::marker::Model;
-use trace_file::History;
+use trace_file::{ActRef, CallRef, History};
 
 /// The calls of a lane, whose bytes lie in one store. Each is kept with its point for its end.
 #[derive(Drop)]
@@ -45,11 +45,26 @@ impl CallRecord {
     }
 
     /// Records a call after the others, or leaves them as they were where memory is refused.
-    pub(crate) fn push(&mut self, noted: &Noted) -> Result<(), AllocError>
-        ensures ok { OnOk result (self.new ≡ self.old ++ noted.now ∷ []) }
+    pub(crate) fn push(
+        &mut self,
+        caller: u16,
+        start: u64,
+        point: u64,
+        key: &Key,
+        act: ActRef<'_>,
+    ) -> Result<(), AllocError>
+        requires { IsValue (value_of (act_shown act)) }
+        ensures ok { OnOk result (self.new ≡ self.old ++ (record {
+          caller = caller;
+          start = start;
+          point = point;
+          key = key.now;
+          act = act_shown act.entry;
+        }) ∷ []) }
         ensures err { OnErr result (self.new ≡ self.old) }
     {
-        self.history.push_ref(&noted.lent())?;
+        let call = CallRef::new(caller, start, point, key.bytes(), act);
+        self.history.push_ref(&call)?;
         Ok(())
     }
 

@@ -1,23 +1,33 @@
 // The done calls of a lane.
-ghost use Rattle.std.specs.Prelude.{◌≡◌, ◌<◌, [], ◌∷◌, ◌++◌, ◌↔◌, IsTrue, Some, length, OnOk, OnErr, slice_get};
+ghost use Rattle.std.specs.Prelude.{◌≡◌, ◌<◌, [], ◌∷◌, ◌++◌, ◌↔◌, IsTrue, Some, length, map, OnOk, OnErr, slice_get};
+ghost use Rattle.std.specs.Option.{option_map};
+ghost use Rattle.trace_file.specs.Calls.{IsCall};
+ghost use Rattle.trace_file.specs.Lent.{call_shown};
+ghost use Rattle.history_recorder.specs.Done.{dones_in};
 
 use certificate_checker::Done;
 use std::alloc::{AllocError, Global};
 use std::marker::Model;
+use trace_file::{CallRef, History};
 
-/// The done calls of one lane, in the order in which they were done.
+/// The done calls of one lane, in the order in which they were done. The bytes of all of them lie in one place.
 #[derive(Debug, Drop)]
 pub struct Dones {
-    dones: Vec<Done>,
+    // Each call with its point for its end.
+    calls: History,
+    ends: Vec<u64>,
 }
 
 impl Model for Dones {
-    ghost use Rattle.std.specs.Prelude.{List};
+    ghost use Rattle.std.specs.Prelude.{◌≡◌, List, length};
     ghost use Rattle.certificate_checker.specs.declared.done.Done.{Done};
+    ghost use Rattle.history_recorder.specs.Done.{dones_in};
 
     ghost Value = { List Done };
 
-    ghost view = { λ list. list.dones.items };
+    ghost view = { λ list. dones_in list.calls list.ends.items };
+
+    ghost invariant = { λ list. length list.ends.items ≡ length list.calls };
 }
 
 impl Dones {
@@ -26,22 +36,31 @@ impl Dones {
         ensures { result ≡ [] }
     {
         Dones {
-            dones: Vec::new(alloc),
+            calls: History::new(alloc),
+            ends: Vec::new(alloc),
         }
+    }
+
+    /// The calls of a lane that kept each with its point for its end, with these ends, one a call. It takes no memory.
+    pub fn of(calls: History, ends: Vec<u64>) -> Dones
+        requires { length ends.items ≡ length calls }
+        ensures { result ≡ dones_in calls ends.items }
+    {
+        Dones { calls, ends }
     }
 
     /// How many calls there are.
     pub fn len(&self) -> usize
         ensures { result ≡ length self.now }
     {
-        self.dones.len()
+        self.ends.len()
     }
 
     /// Whether there are no calls.
     pub fn is_empty(&self) -> bool
         ensures { IsTrue result ↔ (self.now ≡ []) }
     {
-        self.dones.is_empty()
+        self.len() == 0
     }
 
     /// Puts a call behind the others, or drops it and leaves the list as it was where memory is refused.
@@ -49,38 +68,35 @@ impl Dones {
         ensures ok { OnOk result (self.new ≡ self.old ++ done ∷ []) }
         ensures err { OnErr result (self.new ≡ self.old) }
     {
-        self.dones.push(done)?;
+        let call = done.call.lent();
+        let at_point = CallRef::new(call.caller, call.start, done.point, call.key, call.act);
+        self.ends.reserve(1)?;
+        self.calls.push_ref(&at_point)?;
+        self.ends.push(call.end).unwrap();
         Ok(())
     }
 
-    /// The call with this number, counted from 0.
-    pub fn at(&self, number: usize) -> &Done
+    /// The call with this number, counted from 0, lent.
+    pub fn at(&self, number: usize) -> CallRef<'_>
         requires { number < length self.now }
-        ensures { slice_get self.now number ≡ Some result.now }
+        ensures call { option_map (λ done. done.call) (slice_get self.now number) ≡ Some (call_shown result) }
+        ensures lawful { IsCall (call_shown result) }
     {
-        &self.dones[number]
+        let call = self.calls.at(number);
+        CallRef::new(
+            call.caller,
+            call.start,
+            self.ends[number],
+            call.key,
+            call.act,
+        )
     }
 
-    /// The calls, in order.
-    pub fn as_slice(&self) -> &[Done]
-        ensures { result.now ≡ self.now }
+    /// The stamp at which the call with this number was done.
+    pub fn point(&self, number: usize) -> u64
+        requires { number < length self.now }
+        ensures { option_map (λ done. done.point) (slice_get self.now number) ≡ Some result }
     {
-        self.dones.as_slice()
-    }
-
-    /// The list of the calls.
-    pub fn into_vec(self) -> Vec<Done>
-        ensures { result.items ≡ self }
-    {
-        self.dones
-    }
-}
-
-/// The calls of a list, in its order.
-impl From<Vec<Done>> for Dones {
-    ghost from_gives = { λ dones made. made ≡ dones.items };
-
-    fn from(dones: Vec<Done>) -> Dones {
-        Dones { dones }
+        self.calls.at(number).end
     }
 }

@@ -88,7 +88,7 @@ impl<L: PlayedLane<PAGE>, const PAGE: usize> Game<L, PAGE> {
         };
         let point = self.ledger.number() + 1;
         let lane = place(&self.layout, call.operation.key().bytes()).lane;
-        let acted = self.lanes[lane as usize].act(caller, call.start, point, call.operation);
+        let acted = self.lanes[lane as usize].act(caller, call.start, point, call.operation)?;
         self.ledger.act(caller, lane, acted.noted)?;
         Ok(acted.reply)
     }

@@ -14,20 +14,16 @@ ghost use Rattle.trace_file.specs.Lent.{act_shown};
 ghost use Rattle.certificate_checker.specs.Acceptance.{IsAccepted};
 
 use crate::call_record::CallRecord;
-use crate::got::Got;
-use crate::noted::Noted;
 use crate::noted_ref::NotedRef;
 use crate::record_fault::RecordFault;
 use crate::record_put_fault::RecordPutFault;
 use crate::recorded_parts::RecordedParts;
-use crate::removed::Removed;
-use crate::stored::Stored;
 use mover::{OpenFault, Store, get_shows, opening_shows_nothing, put_shows, removal_shows};
 use page_device::PageDevice;
 use record_pages::{Answer, Config, Key, Layout, Pushed, Value, is_too_large};
 use std::alloc::{AllocError, Global};
 use std::marker::Model;
-use trace_file::Act;
+use trace_file::{Act, ActRef};
 
 mod moves;
 mod steps;
@@ -178,27 +174,26 @@ impl<D: PageDevice<PAGE>, const PAGE: usize> RecordedLane<D, PAGE> {
         start: u64,
         point: u64,
         key: &Key,
-    ) -> Result<Got, RecordFault>
+    ) -> Result<Answer, RecordFault>
         requires start { start < point }
         requires rises { All (λ n. n.point < point) self.old.calls }
         requires own { IsOfLane self.old.store.layout self.old.lane key.now }
 
-        ensures noted { IfOk result (λ got. got.noted ≡ record {
-          caller = caller;
-          start = start;
-          point = point;
-          key = key.now;
-          act = act_of got.answer;
-        }) }
-        ensures recorded { IfOk result (λ got. self.new ≡ record self.old {
+        ensures recorded { IfOk result (λ answer. self.new ≡ record self.old {
           store = self.new.store;
-          calls = self.old.calls ++ got.noted ∷ [];
+          calls = self.old.calls ++ (record {
+            caller = caller;
+            start = start;
+            point = point;
+            key = key.now;
+            act = act_of answer;
+          }) ∷ [];
         }) }
         ensures unrecorded { OnErr result (self.new ≡ record self.old { store = self.new.store }) }
 
         // The store's answer, and what it leaves.
-        ensures gets { IfOk result (λ got. StoreGets PAGE D.honest D.failures D.held key.now
-            self.old.store (Ok got.answer) self.new.store) }
+        ensures gets { IfOk result (λ answer. StoreGets PAGE D.honest D.failures D.held key.now
+            self.old.store (Ok answer) self.new.store) }
 
         // When it is refused, and what that leaves.
         ensures full { IsErrOf result RecordFault.HistoryFull
@@ -212,10 +207,10 @@ impl<D: PageDevice<PAGE>, const PAGE: usize> RecordedLane<D, PAGE> {
         if self.calls.len() >= MAX_CALLS {
             return Err(RecordFault::HistoryFull);
         }
-        let copy = key.try_clone()?;
         let answer = self.store.get(key)?;
-        let noted = note_get(&mut self.calls, caller, start, point, copy, &answer)?;
-        Ok(Got { answer, noted })
+        self.calls
+            .push(caller, start, point, key, act_lent(&answer))?;
+        Ok(answer)
     }
 
     /// Puts a value into the store, and records it. No call of the device is made.
@@ -230,26 +225,25 @@ impl<D: PageDevice<PAGE>, const PAGE: usize> RecordedLane<D, PAGE> {
         key: Key,
         value: Value,
         word: u32,
-    ) -> Result<Stored, RecordPutFault>
+    ) -> Result<Pushed, RecordPutFault>
         requires start { start < point }
         requires rises { All (λ n. n.point < point) self.old.calls }
         requires own { IsOfLane self.old.store.layout self.old.lane key }
 
-        ensures noted { IfOk result (λ stored. stored.noted ≡ record {
-          caller = caller;
-          start = start;
-          point = point;
-          key = key;
-          act = Act.Put value;
-        }) }
-        ensures recorded { IfOk result (λ stored. self.new ≡ record self.old {
+        ensures recorded { OnOk result (self.new ≡ record self.old {
           store = self.new.store;
-          calls = self.old.calls ++ stored.noted ∷ [];
+          calls = self.old.calls ++ (record {
+            caller = caller;
+            start = start;
+            point = point;
+            key = key;
+            act = Act.Put value;
+          }) ∷ [];
         }) }
 
         // What becomes of the store.
-        ensures puts { IfOk result (λ stored. StorePuts PAGE D.held
-            (record { key = key; value = value }) word self.old.store (Ok stored.pushed)
+        ensures puts { IfOk result (λ pushed. StorePuts PAGE D.held
+            (record { key = key; value = value }) word self.old.store (Ok pushed)
             self.new.store) }
 
         // When it is refused, and what that leaves.
@@ -266,15 +260,18 @@ impl<D: PageDevice<PAGE>, const PAGE: usize> RecordedLane<D, PAGE> {
         if self.calls.len() >= MAX_CALLS {
             return Err(RecordPutFault::HistoryFull);
         }
-        let noted = Noted {
+        let calls = &mut self.calls;
+        let pushed = put_noted(
+            calls,
+            &mut self.store,
             caller,
             start,
             point,
-            key: key.try_clone()?,
-            act: Act::Put(value.try_clone()?),
-        };
-        let pushed = put_noted(&mut self.calls, &mut self.store, &noted, key, value, word)?;
-        Ok(Stored { pushed, noted })
+            key,
+            value,
+            word,
+        )?;
+        Ok(pushed)
     }
 
     /// Takes the key's pair out of the store, and records the removal. No call of the device is made.
@@ -287,21 +284,20 @@ impl<D: PageDevice<PAGE>, const PAGE: usize> RecordedLane<D, PAGE> {
         start: u64,
         point: u64,
         key: &Key,
-    ) -> Result<Removed, RecordFault>
+    ) -> Result<(), RecordFault>
         requires start { start < point }
         requires rises { All (λ n. n.point < point) self.old.calls }
         requires own { IsOfLane self.old.store.layout self.old.lane key.now }
 
-        ensures noted { IfOk result (λ removal. removal.noted ≡ record {
-          caller = caller;
-          start = start;
-          point = point;
-          key = key.now;
-          act = Act.Remove;
-        }) }
-        ensures recorded { IfOk result (λ removal. self.new ≡ record self.old {
+        ensures recorded { OnOk result (self.new ≡ record self.old {
           store = self.new.store;
-          calls = self.old.calls ++ removal.noted ∷ [];
+          calls = self.old.calls ++ (record {
+            caller = caller;
+            start = start;
+            point = point;
+            key = key.now;
+            act = Act.Remove;
+          }) ∷ [];
         }) }
 
         // What becomes of the store.
@@ -317,16 +313,9 @@ impl<D: PageDevice<PAGE>, const PAGE: usize> RecordedLane<D, PAGE> {
         if self.calls.len() >= MAX_CALLS {
             return Err(RecordFault::HistoryFull);
         }
-        let noted = Noted {
-            caller,
-            start,
-            point,
-            key: key.try_clone()?,
-            act: Act::Remove,
-        };
-        self.calls.push(&noted)?;
+        self.calls.push(caller, start, point, key, ActRef::Remove)?;
         self.store.remove(key);
-        Ok(Removed { noted })
+        Ok(())
     }
 
     /// The recorded calls as a history, in which each call ends at its point, and the device, as it is now. Where the
@@ -347,62 +336,42 @@ impl<D: PageDevice<PAGE>, const PAGE: usize> RecordedLane<D, PAGE> {
 
 ghost use Rattle.history_recorder.specs.Lane.{act_of};
 
-/// What is recorded of an answer.
-fn act_from(answer: &Answer) -> Result<Act, AllocError>
-    ensures { IfOk result (λ act. act ≡ act_of answer.now) }
+/// What is recorded of an answer, lent.
+fn act_lent(answer: &Answer) -> ActRef<'_>
+    ensures act { act_shown result ≡ act_of answer.now }
+    ensures value { IsValue (value_of (act_shown result)) }
 {
     match answer {
-        Answer::Hit(value, _) => Ok(Act::Hit(value.try_clone()?)),
-        Answer::Miss(_) => Ok(Act::Miss),
+        Answer::Hit(value, _) => ActRef::Hit(value.bytes()),
+        Answer::Miss(_) => ActRef::Miss,
     }
-}
-
-/// Records a get by its answer. Where memory is refused the record is as it was.
-fn note_get(
-    calls: &mut CallRecord,
-    caller: u16,
-    start: u64,
-    point: u64,
-    key: Key,
-    answer: &Answer,
-) -> Result<Noted, AllocError>
-    ensures noted { IfOk result (λ noted. noted ≡ record {
-      caller = caller;
-      start = start;
-      point = point;
-      key = key;
-      act = act_of answer.now;
-    }) }
-    ensures more { IfOk result (λ noted. calls.new ≡ calls.old ++ noted ∷ []) }
-    ensures err { OnErr result (calls.new ≡ calls.old) }
-{
-    let noted = Noted {
-        caller,
-        start,
-        point,
-        key,
-        act: act_from(answer)?,
-    };
-    calls.push(&noted)?;
-    Ok(noted)
 }
 
 /// Records a put and does it. Where memory is refused, record and store are as they were.
 fn put_noted<D: PageDevice<PAGE>, const PAGE: usize>(
     calls: &mut CallRecord,
     store: &mut Store<D, PAGE>,
-    noted: &Noted,
+    caller: u16,
+    start: u64,
+    point: u64,
     key: Key,
     value: Value,
     word: u32,
 ) -> Result<Pushed, AllocError>
-    ensures more { OnOk result (calls.new ≡ calls.old ++ noted.now ∷ []) }
+    ensures recorded { OnOk result (calls.new ≡ calls.old ++ (record {
+      caller = caller;
+      start = start;
+      point = point;
+      key = key;
+      act = Act.Put value;
+    }) ∷ []) }
     ensures puts { IfOk result (λ pushed. StorePuts PAGE D.held
         (record { key = key; value = value }) word store.old (Ok pushed) store.new) }
     ensures calls_kept { OnErr result (calls.new ≡ calls.old) }
     ensures store_kept { OnErr result (store.new ≡ store.old) }
 {
-    calls.push(noted)?;
+    let act = ActRef::Put(value.bytes());
+    calls.push(caller, start, point, &key, act)?;
     let Ok(pushed) = store.put(key, value, word) else {
         calls.drop_last();
         return Err(AllocError);

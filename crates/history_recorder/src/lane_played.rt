@@ -1,5 +1,5 @@
 // A recorded lane, as it is played.
-ghost use Rattle.std.specs.Prelude.{◌≡◌, ◌<◌, All};
+ghost use Rattle.std.specs.Prelude.{◌≡◌, ◌<◌, All, IfOk};
 ghost use Rattle.history_recorder.specs.Operations.{lane_of};
 ghost use Rattle.history_recorder.specs.Books.{IsBackgroundEvent};
 ghost use Rattle.history_recorder.specs.Lane.{IsOfLane, IsRecorded};
@@ -8,12 +8,15 @@ ghost use Rattle.history_recorder.specs.Game.{LaneActs, LaneSteps, layout_in, ho
 use crate::acted::Acted;
 use crate::event::Event;
 use crate::lane::RecordedLane;
+use crate::noted::Noted;
 use crate::operation::Operation;
 use crate::played_lane::PlayedLane;
 use crate::reply::Reply;
 use page_device::PageDevice;
 use policy_laws::Plan;
-use record_pages::{Key, Value};
+use record_pages::{Answer, Key, Value};
+use std::alloc::AllocError;
+use trace_file::Act;
 
 impl<D: PageDevice<PAGE>, const PAGE: usize> PlayedLane<PAGE> for RecordedLane<D, PAGE> {
     ghost layout = { layout_in };
@@ -26,19 +29,31 @@ impl<D: PageDevice<PAGE>, const PAGE: usize> PlayedLane<PAGE> for RecordedLane<D
 
     ghost calls = { λ lane. lane.calls };
 
-    fn act(&mut self, caller: u16, start: u64, point: u64, operation: Operation) -> Acted
+    fn act(
+        &mut self,
+        caller: u16,
+        start: u64,
+        point: u64,
+        operation: Operation,
+    ) -> Result<Acted, AllocError>
         requires start { start < point }
         requires rises { All (λ n. n.point < point) self.old.calls }
         requires its { lane_of self.old.store.layout operation ≡ self.old.lane }
-        ensures { LaneActs D.honest D.held PAGE caller start point operation self.old result
-            self.new }
+        ensures { IfOk result (λ acted. LaneActs D.honest D.held PAGE caller start point operation
+            self.old acted self.new) }
     {
         match operation {
-            Operation::Get(key) => self.act_get(caller, start, point, key),
+            Operation::Get(key) => match self.act_get(caller, start, point, key) {
+                Ok(acted) => Ok(acted),
+                Err(refused) => Err(refused),
+            },
             Operation::Put(key, value, word) => {
-                self.act_put(caller, start, point, key, value, word)
+                match self.act_put(caller, start, point, key, value, word) {
+                    Ok(acted) => Ok(acted),
+                    Err(refused) => Err(refused),
+                }
             }
-            Operation::Remove(key) => self.act_remove(caller, start, point, key),
+            Operation::Remove(key) => Ok(self.act_remove(caller, start, point, key)),
         }
     }
 
@@ -67,27 +82,40 @@ impl<D: PageDevice<PAGE>, const PAGE: usize> RecordedLane<D, PAGE> {
     }
 
     /// A get, as it is played.
-    fn act_get(&mut self, caller: u16, start: u64, point: u64, key: Key) -> Acted
+    fn act_get(
+        &mut self,
+        caller: u16,
+        start: u64,
+        point: u64,
+        key: Key,
+    ) -> Result<Acted, AllocError>
         requires start { start < point }
         requires rises { All (λ n. n.point < point) self.old.calls }
         requires own { IsOfLane self.old.store.layout self.old.lane key }
-        ensures { LaneActs D.honest D.held PAGE caller start point (Operation.Get key) self.old
-            result self.new }
+        ensures { IfOk result (λ acted. LaneActs D.honest D.held PAGE caller start point
+            (Operation.Get key) self.old acted self.new) }
     {
         match self.get(caller, start, point, &key) {
-            Ok(got) => {
+            Ok(answer) => {
                 self.recall();
-                Acted {
-                    reply: Reply::Got(Ok(got.answer)),
-                    noted: Some(got.noted),
-                }
+                let noted = Noted {
+                    caller,
+                    start,
+                    point,
+                    key,
+                    act: act_from(&answer)?,
+                };
+                Ok(Acted {
+                    reply: Reply::Got(Ok(answer)),
+                    noted: Some(noted),
+                })
             }
             Err(fault) => {
                 self.recall();
-                Acted {
+                Ok(Acted {
                     reply: Reply::Got(Err(fault)),
                     noted: None,
-                }
+                })
             }
         }
     }
@@ -101,27 +129,34 @@ impl<D: PageDevice<PAGE>, const PAGE: usize> RecordedLane<D, PAGE> {
         key: Key,
         value: Value,
         word: u32,
-    ) -> Acted
+    ) -> Result<Acted, AllocError>
         requires start { start < point }
         requires rises { All (λ n. n.point < point) self.old.calls }
         requires own { IsOfLane self.old.store.layout self.old.lane key }
-        ensures { LaneActs D.honest D.held PAGE caller start point (Operation.Put key value word)
-            self.old result self.new }
+        ensures { IfOk result (λ acted. LaneActs D.honest D.held PAGE caller start point
+            (Operation.Put key value word) self.old acted self.new) }
     {
+        let noted = Noted {
+            caller,
+            start,
+            point,
+            key: key.try_clone()?,
+            act: Act::Put(value.try_clone()?),
+        };
         match self.put(caller, start, point, key, value, word) {
-            Ok(stored) => {
+            Ok(pushed) => {
                 self.recall();
-                Acted {
-                    reply: Reply::Stored(Ok(stored.pushed)),
-                    noted: Some(stored.noted),
-                }
+                Ok(Acted {
+                    reply: Reply::Stored(Ok(pushed)),
+                    noted: Some(noted),
+                })
             }
             Err(fault) => {
                 self.recall();
-                Acted {
+                Ok(Acted {
                     reply: Reply::Stored(Err(fault)),
                     noted: None,
-                }
+                })
             }
         }
     }
@@ -135,11 +170,18 @@ impl<D: PageDevice<PAGE>, const PAGE: usize> RecordedLane<D, PAGE> {
             result self.new }
     {
         match self.remove(caller, start, point, &key) {
-            Ok(removal) => {
+            Ok(()) => {
                 self.recall();
+                let noted = Noted {
+                    caller,
+                    start,
+                    point,
+                    key,
+                    act: Act::Remove,
+                };
                 Acted {
                     reply: Reply::Removed(Ok(())),
-                    noted: Some(removal.noted),
+                    noted: Some(noted),
                 }
             }
             Err(fault) => {
@@ -187,5 +229,17 @@ impl<D: PageDevice<PAGE>, const PAGE: usize> RecordedLane<D, PAGE> {
         let aborted = self.move_abort(number);
         self.recall();
         Reply::Aborted(aborted)
+    }
+}
+
+ghost use Rattle.history_recorder.specs.Lane.{act_of};
+
+/// A copy of what is recorded of an answer.
+fn act_from(answer: &Answer) -> Result<Act, AllocError>
+    ensures { IfOk result (λ act. act ≡ act_of answer.now) }
+{
+    match answer {
+        Answer::Hit(value, _) => Ok(Act::Hit(value.try_clone()?)),
+        Answer::Miss(_) => Ok(Act::Miss),
     }
 }

@@ -22,19 +22,18 @@ pub fn lay_out(alloc: Global, lanes: Vec<Dones>) -> Result<(History, Certificate
     ensures accepted { IfOk result (λ laid. All IsLane lanes.items → AllPairs AreApart lanes.items
         → IsAccepted laid.0 laid.1) }
 {
-    let lanes = lanes.as_slice();
+    let certificate = certificate_of(alloc, lanes.as_slice())?;
     let history = history_of(alloc, lanes)?;
-    let certificate = certificate_of(alloc, lanes)?;
     Ok((history, certificate))
 }
 
-/// The calls of the lanes, one lane after the other.
-fn history_of(alloc: Global, lanes: &[Dones]) -> Result<History, AllocError>
-    ensures { IfOk result (λ history. history ≡ flat_map calls_of lanes.now) }
+/// The calls of the lanes, one lane after the other. A lane is dropped once it is laid out.
+fn history_of(alloc: Global, lanes: Vec<Dones>) -> Result<History, AllocError>
+    ensures { IfOk result (λ history. history ≡ flat_map calls_of lanes.items) }
 {
     let mut history = History::new(alloc);
     for lane in lanes {
-        push_calls(&mut history, lane)?;
+        push_calls(&mut history, &lane)?;
     }
     Ok(history)
 }
@@ -43,8 +42,8 @@ fn history_of(alloc: Global, lanes: &[Dones]) -> Result<History, AllocError>
 fn push_calls(history: &mut History, lane: &Dones) -> Result<(), AllocError>
     ensures { OnOk result (history.new ≡ history.old ++ calls_of lane.now) }
 {
-    for done in lane.as_slice() {
-        history.push_ref(&done.call.lent())?;
+    for number in 0..lane.len() {
+        history.push_ref(&lane.at(number))?;
     }
     Ok(())
 }

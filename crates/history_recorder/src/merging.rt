@@ -66,7 +66,7 @@ fn first_with(lanes: &[Dones], heads: &[Head], number: usize, first: Option<Next
     }
     let next = Next {
         lane: number,
-        point: lane.at(listed).point,
+        point: lane.point(listed),
     };
     match first {
         None => Some(next),

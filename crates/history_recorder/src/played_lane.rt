@@ -1,5 +1,5 @@
 // What a lane is to a world in which events are played.
-ghost use Rattle.std.specs.Prelude.{◌≡◌, ◌<◌, ℕ, Bool, List, All};
+ghost use Rattle.std.specs.Prelude.{◌≡◌, ◌<◌, ℕ, Bool, List, All, IfOk};
 ghost use Rattle.record_pages.specs.declared.layout.Layout.{Layout};
 ghost use Rattle.mover.specs.Lane.{LaneState};
 ghost use Rattle.history_recorder.specs.declared.noted.Noted.{Noted};
@@ -11,6 +11,7 @@ use crate::acted::Acted;
 use crate::event::Event;
 use crate::operation::Operation;
 use crate::reply::Reply;
+use std::alloc::AllocError;
 
 /// A lane of a world, as it does what events ask. What it holds is said only where its device is honest.
 pub(crate) trait PlayedLane<const PAGE: usize>: Drop {
@@ -29,13 +30,20 @@ pub(crate) trait PlayedLane<const PAGE: usize>: Drop {
     /// The calls that it recorded.
     ghost calls: { Self → List Noted };
 
-    /// Does what a call asks, and records it.
-    fn act(&mut self, caller: u16, start: u64, point: u64, operation: Operation) -> Acted
+    /// Does what a call asks, and records it. Where memory is refused for the copy of a recorded call nothing is said of
+    /// the lane.
+    fn act(
+        &mut self,
+        caller: u16,
+        start: u64,
+        point: u64,
+        operation: Operation,
+    ) -> Result<Acted, AllocError>
         requires start { start < point }
         requires rises { All (λ n. n.point < point) (calls self.old) }
         requires its { lane_of (layout self.old) operation ≡ lane self.old }
-        ensures { ActsSo layout lane honest calls state PAGE caller start point operation self.old
-            result self.new };
+        ensures { IfOk result (λ acted. ActsSo layout lane honest calls state PAGE caller start point
+            operation self.old acted self.new) };
 
     /// Takes a background step.
     fn background(&mut self, event: &Event) -> Reply

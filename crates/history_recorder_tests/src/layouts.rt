@@ -108,10 +108,12 @@ fn has_keys(history: &History, keys: &[u8]) -> bool {
 
 fn is_put(call: &CallRef<'_>, key: u8) -> bool {
     let bytes = [key];
+    puts(call, bytes.as_slice())
+}
+
+fn puts(call: &CallRef<'_>, key: &[u8]) -> bool {
     match call.act {
-        ActRef::Put(value) => {
-            call.caller == 7 && call.key == bytes.as_slice() && value == bytes.as_slice()
-        }
+        ActRef::Put(value) => call.caller == 7 && call.key == key && value == key,
         _ => false,
     }
 }
@@ -203,20 +205,50 @@ fn a_laid_out_call_has_its_start_and_end(rt: HostRuntime) -> Result<(), Fail> {
     Ok(())
 }
 
-/// Whether a list has two calls with these points.
-fn has_points(lane: &Dones, first: u64, second: u64) -> bool {
-    lane.len() == 2
-        && lane.as_slice()[0].point == first
-        && lane.at(1).point == second
-        && !lane.is_empty()
+/// Whether the call of a list with this number is this put, done as it says.
+fn is_done(lane: &Dones, number: usize, put: &Put) -> bool {
+    if number >= lane.len() {
+        return false;
+    }
+    let call = lane.at(number);
+    puts(&call, put.0) && call.start == put.1 && lane.point(number) == put.2 && call.end == put.3
 }
+
+/// Whether the calls of a list are these two puts, done as they say.
+fn has_two(lane: &Dones, first: &Put, second: &Put) -> bool {
+    lane.len() == 2 && !lane.is_empty() && is_done(lane, 0, first) && is_done(lane, 1, second)
+}
+
+const FIRST: Put = Put(b"a", 1, 2, 3);
+
+const SECOND: Put = Put(b"b", 4, 5, 7);
 
 #[test]
 fn a_list_of_done_calls_gives_its_calls_back(rt: HostRuntime) -> Result<(), Fail> {
     assert!(rt; Dones::new(rt.alloc()).is_empty());
-    let lane = lane_of(rt.alloc(), &[Put(b"a", 1, 2, 3), Put(b"b", 4, 5, 6)])?;
-    assert!(rt; has_points(&lane, 2, 5));
-    let again = Dones::from(lane.into_vec());
-    assert!(rt; has_points(&again, 2, 5));
+    let lane = lane_of(rt.alloc(), &[FIRST, SECOND])?;
+    assert!(rt; has_two(&lane, &FIRST, &SECOND));
+    Ok(())
+}
+
+/// The list of some puts, of their calls as a lane keeps them, each with its point for its end, and of their ends.
+fn kept_of(alloc: Global, puts: &[Put]) -> Result<Dones, Fail> {
+    let mut calls = History::new(alloc);
+    let mut ends = Vec::new(alloc);
+    for put in puts {
+        let kept = done_of(alloc, &Put(put.0, put.1, put.2, put.2))?;
+        calls.push(kept.call)?;
+        ends.push(put.3)?;
+    }
+    if calls.len() != ends.len() {
+        return Err("calls without an end".into());
+    }
+    Ok(Dones::of(calls, ends))
+}
+
+#[test]
+fn kept_calls_get_the_ends_beside_them(rt: HostRuntime) -> Result<(), Fail> {
+    let lane = kept_of(rt.alloc(), &[FIRST, SECOND])?;
+    assert!(rt; has_two(&lane, &FIRST, &SECOND));
     Ok(())
 }

@@ -4,9 +4,7 @@ mod run;
 ghost use Rattle.std.specs.Prelude.{◌≡◌, ◌<◌};
 
 use self::run::{Found, Step, as_written, run, tell_of};
-use history_recorder::{
-    Got, Noted, NotedRef, RecordFault, RecordPutFault, RecordedLane, RecordedParts, Removed, Stored,
-};
+use history_recorder::{NotedRef, RecordFault, RecordPutFault, RecordedLane, RecordedParts};
 use klog::Flushed;
 use mover::{Moved, OpenFault};
 use page_device::{FuseDevice, MemoryDevice, PageDevice};

@@ -41,13 +41,12 @@ seen_by new layout lane calls same holds are =
     ∙ ap (opened_from layout lane) are
 
 -- a call was recorded
-pub called : (old new : Lane Pages) (key : List ℕ) (act : Act) (lane : LaneState) (n : Noted) →
-    new ≡ record old { store = new.store; calls = old.calls ++ n ∷ [] } → n ≡ noted (length old.calls) key act →
+pub called : (old new : Lane Pages) (key : List ℕ) (act : Act) (lane : LaneState) →
+    new ≡ record old { store = new.store; calls = old.calls ++ noted (length old.calls) key act ∷ [] } →
     new.store.layout ≡ old.store.layout → lane_of held_by new.store ≡ lane →
     seen_of new ≡ after_call (seen_of old) lane key act
-called old new key act lane n whole is layout holds =
-    seen_by new old.store.layout lane (old.calls ++ noted (length old.calls) key act ∷ []) layout holds
-    (ap (λ (l : Lane Pages). l.calls) whole ∙ ap (λ (m : Noted). old.calls ++ m ∷ []) is)
+called old new key act lane whole layout holds =
+    seen_by new old.store.layout lane (old.calls ++ noted (length old.calls) key act ∷ []) layout holds (ap (λ (l : Lane Pages). l.calls) whole)
 
 -- no call was recorded
 pub uncalled : (old new : Lane Pages) (lane : LaneState) → new ≡ record old { store = new.store } →
@@ -55,15 +54,15 @@ pub uncalled : (old new : Lane Pages) (lane : LaneState) → new ≡ record old 
 uncalled old new lane whole layout holds = seen_by new old.store.layout lane old.calls layout holds (ap (λ (l : Lane Pages). l.calls) whole)
 
 -- a get answers and leaves what its step does
-pub got : (size : ℕ) (old new : Lane Pages) (key : List ℕ) (answer : Answer) (n : Noted) →
-    new ≡ record old { store = new.store; calls = old.calls ++ n ∷ [] } → n ≡ noted (length old.calls) key (act_of answer) →
+pub got : (size : ℕ) (old new : Lane Pages) (key : List ℕ) (answer : Answer) →
+    new ≡ record old { store = new.store; calls = old.calls ++ noted (length old.calls) key (act_of answer) ∷ [] } →
     StoreGets size honest failures held_by key old.store (Ok answer) new.store →
     (answer ≡ (get_step key (seen_of old).lane).reply)
     × (seen_of new ≡ after_call (seen_of old) (get_step key (seen_of old).lane).lane key (act_of answer))
-got size old new key answer n whole is told =
+got size old new key answer whole told =
     let unfailed = none_failed (is_fault (Ok answer)) told.reads.failed_once in
     let step = get_is_step (get_step key (lane_of held_by old.store)) (NeedsPage key (lane_of held_by old.store)) (lane_of held_by old.store) (lane_of held_by new.store) answer unfailed (told.gives refl) in
-    (step.0, called old new key (act_of answer) (get_step key (lane_of held_by old.store)).lane n whole is told.reads.layout step.1)
+    (step.0, called old new key (act_of answer) (get_step key (lane_of held_by old.store)).lane whole told.reads.layout step.1)
 
 -- a flush step answers and leaves what its function does
 pub flushed : (old new : Lane Pages) (answer : Flushed) → new ≡ record old { store = new.store } → StoreFlushes honest failures held_by old.store answer new.store →
@@ -100,25 +99,27 @@ kept_layout size key old new (inr got) = got.1.reads.layout
 pub stays_refused : (size : ℕ) (key : List ℕ) (old new : Lane Pages) → IsOfScript old → new ≡ record old { store = new.store } → MayHaveGot size honest failures held_by key old.store new.store → IsOfScript new
 stays_refused size key old new its whole kept = stays old new its whole (kept_layout size key old new kept)
 
-one_more : (calls : List Noted) (key : List ℕ) (act : Act) (n : Noted) → HasStamps calls → n ≡ noted (length calls) key act → HasStamps (calls ++ n ∷ [])
-one_more calls key act n stamps is i d within = elim (cases_lt i (length calls)) [
-  | inl before ↦
-      let same : slice_index_or (calls ++ n ∷ []) i d ≡ slice_index_or calls i d = get_or-append calls (n ∷ []) d i before in
-      subst (λ (m : Noted). (m.start ≡ 3 * i + 1) × (m.point ≡ 3 * i + 2) × (m.caller ≡ 0)) (sym same) (stamps i d before)
-  | inr past ↦
-      let last : i ≡ length calls = omega (arith, length_push calls n, within, past) in
-      let here : slice_index_or (calls ++ n ∷ []) i d ≡ noted (length calls) key act = ap (λ j. slice_index_or (calls ++ n ∷ []) j d) last ∙ get_or-append_seam calls n [] d ∙ is in
-      subst (λ (m : Noted). (m.start ≡ 3 * i + 1) × (m.point ≡ 3 * i + 2) × (m.caller ≡ 0)) (sym here) (omega (arith, last), omega (arith, last), refl)
-]
+one_more : (calls : List Noted) (key : List ℕ) (act : Act) → HasStamps calls → HasStamps (calls ++ noted (length calls) key act ∷ [])
+one_more calls key act stamps i d within =
+    let n = noted (length calls) key act in
+    elim (cases_lt i (length calls)) [
+      | inl before ↦
+          let same : slice_index_or (calls ++ n ∷ []) i d ≡ slice_index_or calls i d = get_or-append calls (n ∷ []) d i before in
+          subst (λ (m : Noted). (m.start ≡ 3 * i + 1) × (m.point ≡ 3 * i + 2) × (m.caller ≡ 0)) (sym same) (stamps i d before)
+      | inr past ↦
+          let last : i ≡ length calls = omega (arith, length_push calls n, within, past) in
+          let here : slice_index_or (calls ++ n ∷ []) i d ≡ n = ap (λ j. slice_index_or (calls ++ n ∷ []) j d) last ∙ get_or-append_seam calls n [] d in
+          subst (λ (m : Noted). (m.start ≡ 3 * i + 1) × (m.point ≡ 3 * i + 2) × (m.caller ≡ 0)) (sym here) (omega (arith, last), omega (arith, last), refl)
+    ]
 
 -- and where a call with the next number is
-pub goes_on : (old new : Lane Pages) (key : List ℕ) (act : Act) (n : Noted) → IsOfScript old →
-    new ≡ record old { store = new.store; calls = old.calls ++ n ∷ [] } → n ≡ noted (length old.calls) key act →
+pub goes_on : (old new : Lane Pages) (key : List ℕ) (act : Act) → IsOfScript old →
+    new ≡ record old { store = new.store; calls = old.calls ++ noted (length old.calls) key act ∷ [] } →
     new.store.layout ≡ old.store.layout → IsOfScript new
-goes_on old new key act n its whole is layout =
+goes_on old new key act its whole layout =
     let calls = ap (λ (l : Lane Pages). l.calls) whole in
     record {
-      stamps = subst HasStamps (sym calls) (one_more old.calls key act n its.stamps is);
+      stamps = subst HasStamps (sym calls) (one_more old.calls key act its.stamps);
       one = ap (λ (l : Layout). l.lanes) layout ∙ its.one;
       first = ap (λ (l : Lane Pages). l.lane) whole ∙ its.first;
     }

@@ -112,8 +112,8 @@ fn get_reply<const PAGE: usize>(
         ≡ (reply_to PAGE (seen_of lane.old) (Command.Get key.now)).opened) }
 {
     match lane.get(key) {
-        Ok(got) => {
-            append_answer(text, &got.answer)?;
+        Ok(answer) => {
+            append_answer(text, &answer)?;
             append(text, b"\n")
         }
         Err(RecordFault::HistoryFull) => {
@@ -138,7 +138,7 @@ fn put_reply<const PAGE: usize>(
         ≡ (reply_to PAGE (seen_of lane.old) (Command.Put key value word)).opened) }
 {
     match lane.put(key, value, word) {
-        Ok(_stored) => append(text, b"stored\n"),
+        Ok(_pushed) => append(text, b"stored\n"),
         Err(RecordPutFault::TooLarge) => append(text, b"too large\n"),
         Err(RecordPutFault::HistoryFull) => append(text, b"history full\n"),
         Err(RecordPutFault::OutOfMemory) => Err(AllocError),
@@ -157,7 +157,7 @@ fn remove_reply<const PAGE: usize>(
         ≡ (reply_to PAGE (seen_of lane.old) (Command.Remove key.now)).opened) }
 {
     match lane.remove(key) {
-        Ok(_removed) => append(text, b"removed\n"),
+        Ok(()) => append(text, b"removed\n"),
         Err(RecordFault::HistoryFull) => append(text, b"history full\n"),
         Err(RecordFault::OutOfMemory) => Err(AllocError),
     }

@@ -16,13 +16,11 @@ ghost use Rattle.scripts.specs.Own.{seen_of, opened_by, after_call, with_lane, o
 
 use crate::open_lane_fault::OpenLaneFault;
 use crate::recording::Recording;
-use history_recorder::{
-    Got, RecordFault, RecordPutFault, RecordedLane, Removed, Stored, accepted_in_turn,
-};
+use history_recorder::{RecordFault, RecordPutFault, RecordedLane, accepted_in_turn};
 use klog::Flushed;
 use mover::{Moved, OpenFault};
 use page_device::MemoryDevice;
-use record_pages::{Config, Field, Key, Layout, Value};
+use record_pages::{Answer, Config, Field, Key, Layout, Pushed, Value};
 use rriparoo::Rriparoo;
 use std::alloc::{AllocError, Global};
 use std::marker::Model;
@@ -79,23 +77,23 @@ impl<const PAGE: usize> ScriptLane<PAGE> {
     }
 
     /// Answers a get as the script's next call. A refused call takes no number.
-    pub fn get(&mut self, key: &Key) -> Result<Got, RecordFault>
-        ensures answer { IfOk result (λ got.
-            got.answer ≡ (get_step key.now (seen_of self.old).lane).reply) }
-        ensures after { IfOk result (λ got. seen_of self.new ≡ after_call (seen_of self.old)
-            (get_step key.now (seen_of self.old).lane).lane key.now (act_of got.answer)) }
+    pub fn get(&mut self, key: &Key) -> Result<Answer, RecordFault>
+        ensures answer { IfOk result (λ answer.
+            answer ≡ (get_step key.now (seen_of self.old).lane).reply) }
+        ensures after { IfOk result (λ answer. seen_of self.new ≡ after_call (seen_of self.old)
+            (get_step key.now (seen_of self.old).lane).lane key.now (act_of answer)) }
         ensures full { IsErrOf result RecordFault.HistoryFull ↔ (max_calls ≤ length self.old.calls) }
         ensures full_keeps { IsErrOf result RecordFault.HistoryFull → self.new ≡ self.old }
         ensures no_call { OnErr result (self.new.calls ≡ self.old.calls) }
     {
         let count = self.lane.len() as u64;
-        let got = self.lane.get(0, 3 * count + 1, 3 * count + 2, key)?;
-        Ok(got)
+        let answer = self.lane.get(0, 3 * count + 1, 3 * count + 2, key)?;
+        Ok(answer)
     }
 
     /// Puts a value as the script's next call. A refused call takes no number, and leaves the lane as it was.
-    pub fn put(&mut self, key: Key, value: Value, word: u32) -> Result<Stored, RecordPutFault>
-        ensures after { IfOk result (λ _. seen_of self.new ≡ after_call (seen_of self.old)
+    pub fn put(&mut self, key: Key, value: Value, word: u32) -> Result<Pushed, RecordPutFault>
+        ensures after { OnOk result (seen_of self.new ≡ after_call (seen_of self.old)
             (put_step PAGE self.old.store.layout.admit (record { key = key; value = value }) word
             (seen_of self.old).lane).lane key (Act.Put value)) }
         ensures large { IsErrOf result RecordPutFault.TooLarge ↔ (room PAGE < object_size key value) }
@@ -104,22 +102,22 @@ impl<const PAGE: usize> ScriptLane<PAGE> {
         ensures err { OnErr result (self.new ≡ self.old) }
     {
         let count = self.lane.len() as u64;
-        let stored = self
+        let pushed = self
             .lane
             .put(0, 3 * count + 1, 3 * count + 2, key, value, word)?;
-        Ok(stored)
+        Ok(pushed)
     }
 
     /// Removes a key as the script's next call. A refused call takes no number, and leaves the lane as it was.
-    pub fn remove(&mut self, key: &Key) -> Result<Removed, RecordFault>
-        ensures after { IfOk result (λ _. seen_of self.new ≡ after_call (seen_of self.old)
+    pub fn remove(&mut self, key: &Key) -> Result<(), RecordFault>
+        ensures after { OnOk result (seen_of self.new ≡ after_call (seen_of self.old)
             (removed key.now (seen_of self.old).lane) key.now Act.Remove) }
         ensures full { IsErrOf result RecordFault.HistoryFull ↔ (max_calls ≤ length self.old.calls) }
         ensures err { OnErr result (self.new ≡ self.old) }
     {
         let count = self.lane.len() as u64;
-        let removed = self.lane.remove(0, 3 * count + 1, 3 * count + 2, key)?;
-        Ok(removed)
+        self.lane.remove(0, 3 * count + 1, 3 * count + 2, key)?;
+        Ok(())
     }
 
     /// Has the lane forget a key. It is no call of the script's history.

@@ -1,6 +1,5 @@
 -- Which listed calls make claims, and which is the first that does not.
 use Rattle.std.proofs.Common.{◌≡◌, ◌≢◌, ◌⊎◌, ◌∙◌, ℕ, zero, suc, ◌+◌, ◌<◌, ◌≤◌, List, [], ◌∷◌, ◌++◌, length, map, take, set, get_or, replicate, Option, Some, None, slice_get, All, sym, refl, ap, subst, inl, inr, arith, append_assoc, append-nil, length-append, length-set}
-use mathlib.Core.List.{map-append}
 use Rattle.std.specs.List.{Contains}
 use Rattle.std.specs.List.Sorted.{IsPermutation}
 use Rattle.std.proofs.Math.Seq.{take-append_seam}
@@ -15,7 +14,7 @@ use Rattle.history_recorder.proofs.Stamps.{found_before, found_left, found_right
 use Rattle.certificate_checker.specs.declared.done.Done.{Done}
 use Rattle.shared_cache.specs.declared.finish_fault.FinishFault.{FinishFault}
 use Rattle.shared_cache.specs.declared.finish_fault.FinishFault.TheVariants.{MissingPass, Strange, OutOfMemory, LaneLost, Unlisted}
-use Rattle.shared_cache.specs.declared.listed.Listed.{Listed}
+use Rattle.shared_cache.specs.Listed.{Listed}
 use Rattle.shared_cache.specs.Passes.{Ticket}
 use Rattle.shared_cache.specs.Blames.{AreOwn, Blames, IsFirstStrange, IsFree, IsOfPlace, IsOwn, IsStrange, IsUnlisted, calls_in, recorded_at}
 use Rattle.shared_cache.specs.Claimed.{AreBy, AreMade, Claims, Fits, IsBy, IsFirstFree, IsFresh, IsNoClaim, IsNoClose, IsTaken, LeavesOne, recorded_in}
@@ -227,10 +226,6 @@ pub some_there : (dones : List Done) (left : List (Option Done)) (k : ℕ) → k
 some_there [] left k low is = absurd (omega (arith, low))
 some_there (d ∷ dones) left zero low is = let never : Some d ≡ no_done = same_Some (Some d) no_done is in absurd cc
 some_there (d ∷ dones) left (suc k) low is = some_there dones left k (omega (arith, low)) is
-
--- one more is handed out
-pub front_more : (slots : List (Option Done)) (dones : List Done) (d : Done) (left : List (Option Done)) → slots ≡ map Some dones ++ Some d ∷ left → slots ≡ map Some (dones ++ d ∷ []) ++ left
-front_more slots dones d left is = is ∙ sym (ap (λ front. front ++ left) (map-append Some dones (d ∷ [])) ∙ append_assoc (map Some dones) (Some d ∷ []) left)
 
 pub first_free : (slots : List (Option Done)) (dones : List Done) (left : List (Option Done)) (position : ℕ) → slots ≡ map Some dones ++ None ∷ left → position ≡ length dones → IsFirstFree slots position
 first_free slots dones left position is at =

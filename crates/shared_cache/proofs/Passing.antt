@@ -1,10 +1,10 @@
 -- Lists of calls in a pass, with one more at the end or with another end.
-use Rattle.std.proofs.Common.{Bool, true, false, ◌≡◌, ℕ, suc, ◌-◌, ◌<◌, ◌≤◌, ◌^◌, ◌==◌, List, [], ◌∷◌, ◌++◌, length, Option, Some, None, All, sym, refl, ap, ◌∙◌, arith, get_or, set, eq-eqb, ne_eqb, ⊎_elim}
+use Rattle.std.proofs.Common.{Bool, true, false, ◌≡◌, ℕ, suc, ◌<◌, ◌≤◌, ◌^◌, ◌==◌, List, [], ◌∷◌, ◌++◌, length, Option, Some, None, All, sym, refl, ap, ◌∙◌, arith, get_or, set, eq-eqb, ne_eqb, ⊎_elim}
 use Rattle.std.proofs.lemmas.Bool.{cases_eq}
 use Rattle.std.proofs.lemmas.List.{get_or-set_other, get_or-set_same}
 use Rattle.std.proofs.lemmas.List.Elements.{All-append, All-cons, All-nil}
 use Rattle.history_recorder.specs.declared.noted.Noted.{Noted}
-use Rattle.shared_cache.specs.declared.listed.Listed.{Listed}
+use Rattle.shared_cache.specs.Listed.{Listed}
 use Rattle.shared_cache.specs.Passes.{place_behind, former_at, with_end, IsTimely, IsPass, most_lanes}
 
 behind : (o : Option ℕ) (b : Bool) (n place : ℕ) → ((p : ℕ) → o ≡ Some p → p < n) → place_behind o b ≡ Some place → place < suc n
@@ -68,12 +68,6 @@ pass_more seen ls places l p timely low many = record {
       (λ other. get_or-set_other places l.lane lane (Some (length ls)) None (λ e. other (sym e)) ∙ (p.noted lane below ∙ sym (former_else lane ls l other)))
       (cases_eq l.lane lane);
 }
-
--- the last call of a list, written with another end
-pub with_end_set : (end : ℕ) (ls : List Listed) (n : ℕ) (l : Listed) → n ≡ length ls → 0 < n → l ≡ get_or ls (n - 1) l → set ls (n - 1) (record l { end = end }) ≡ with_end end ls
-with_end_set end [] n l len pos e = absurd (omega arith)
-with_end_set end (m ∷ []) n l len pos e = rw len (let is : l ≡ m = rw len at e in ap (λ (k : Listed). record k { end = end } ∷ []) is)
-with_end_set end (m ∷ k ∷ ls) n l len pos e = let h : n - 1 ≡ suc (n - 1 - 1) = omega arith in rw h (ap (λ (r : List Listed). m ∷ r) (with_end_set end (k ∷ ls) (n - 1) l (omega arith) (omega arith) (rw h at e)))
 
 pub with_end_snoc : (end : ℕ) (ls : List Listed) (l : Listed) → with_end end (ls ++ l ∷ []) ≡ ls ++ record l { end = end } ∷ []
 with_end_snoc end [] l = refl

@@ -14,10 +14,18 @@ use Rattle.history_recorder.specs.Operations.{key_of}
 use Rattle.shared_cache.specs.declared.act_fault.ActFault.{ActFault}
 use Rattle.shared_cache.specs.declared.act_fault.ActFault.TheVariants.{HistoryLost, HistoryFull, ClockFull, OutOfMemory}
 use Rattle.shared_cache.specs.declared.acted.Acted.{Acted}
-use Rattle.shared_cache.specs.declared.listed.Listed.{Listed}
+use Rattle.shared_cache.specs.declared.asked.Asked.{Asked}
+use Rattle.shared_cache.specs.declared.asked.Asked.TheVariants as lent
+use Rattle.shared_cache.specs.Listed.{Listed}
 use Rattle.shared_cache.specs.declared.outcome.Outcome.{Outcome}
 use Rattle.shared_cache.specs.declared.outcome.Outcome.TheVariants as outcomes
 use Rattle.shared_cache.specs.Passes.{Ticket, former}
+
+-- the operation that a lent one asks for
+abbrev pub asked_shown : Asked → Operation
+asked_shown (lent.Get key) = asked.Get key.now
+asked_shown (lent.Put key value word) = asked.Put key value word
+asked_shown (lent.Remove key) = asked.Remove key.now
 
 -- what is recorded of an operation by what it gave
 abbrev pub act_by : Operation → Outcome → Act

@@ -2,15 +2,18 @@
 -- `finish` goes its way.
 use Rattle.std.specs.Prelude.{◌≡◌, ◌≢◌, ◌↔◌, ◌⊎◌, ℕ, suc, ◌+◌, ◌<◌, ◌≤◌, List, [], ◌∷◌, Option, Some, None, length, map, replicate, slice_get, sum_by}
 use Rattle.std.specs.List.Sorted.{IsPermutation, IsNonDecreasingBy}
-use Rattle.std.specs.Option.{option_map_or}
+use Rattle.std.specs.Option.{option_map, option_map_or}
+use Rattle.trace_file.specs.declared.call.Call.{Call}
 use Rattle.history_recorder.specs.declared.noted.Noted.{Noted}
+use Rattle.history_recorder.specs.Done.{done_with}
+use Rattle.history_recorder.specs.Points.{noted_in}
 use Rattle.certificate_checker.specs.declared.done.Done.{Done}
 use Rattle.certificate_checker.specs.Lanes.{Stamped, stamp}
 use Rattle.shared_cache.specs.declared.finish_fault.FinishFault.{FinishFault}
 use Rattle.shared_cache.specs.declared.finish_fault.FinishFault.TheVariants.{OutOfMemory, LaneLost, Strange, Unlisted}
 use Rattle.shared_cache.specs.declared.lane_claims.Unready.{Unready}
 use Rattle.shared_cache.specs.declared.lane_claims.Unready.TheVariants as unready
-use Rattle.shared_cache.specs.declared.listed.Listed.{Listed}
+use Rattle.shared_cache.specs.Listed.{Listed}
 use Rattle.shared_cache.specs.Passes.{Ticket}
 use Rattle.shared_cache.specs.Blames.{AreOwn, IsFree, IsStrange, IsUnlisted, calls_in}
 
@@ -21,6 +24,11 @@ noted_of d = record { caller = d.call.caller; start = d.call.start; point = d.po
 -- a done call ends at its point or later
 abbrev pub IsEnded : Done → Type 0
 IsEnded d = d.point ≤ d.call.end
+
+-- the calls of a lane, each kept with its point for its end, that are claimed with these ends, at each position one or none
+abbrev pub slots_in : List Call → List (Option ℕ) → List (Option Done)
+slots_in (call ∷ calls) (end ∷ ends) = option_map (done_with call) end ∷ slots_in calls ends
+slots_in calls ends = []
 
 -- the calls that a lane recorded, and those of them that were claimed so far, each at its position
 pub record Claims : Type 0 where
@@ -38,6 +46,11 @@ AreClaimed [] [] = Unit {0}
 AreClaimed [] (s ∷ ss) = ⊥
 AreClaimed (c ∷ cs) [] = ⊥
 AreClaimed (c ∷ cs) (s ∷ ss) = IsClaimed c s × AreClaimed cs ss
+
+-- what is true of all claims on a lane: an end or none a call, and no end before its call's point
+pub record IsClaims (calls : List Call) (ends : List (Option ℕ)) : Type 0 where
+  pub many : length ends ≡ length calls
+  pub claimed : AreClaimed (map noted_in calls) (slots_in calls ends)
 
 -- the claimed calls, each weighed and all added up
 abbrev pub weigh_slots : (Done → ℕ) → List (Option Done) → ℕ

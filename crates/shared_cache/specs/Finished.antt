@@ -4,7 +4,7 @@ use Rattle.std.specs.List.{list_any}
 use Rattle.trace_file.specs.declared.call.Call.{Call}
 use Rattle.certificate_checker.specs.declared.done.Done.{Done}
 use Rattle.certificate_checker.specs.Lanes.{Stamped, stamp, stamped, PointsRise, IsLaidOut}
-use Rattle.shared_cache.specs.declared.listed.Listed.{Listed}
+use Rattle.shared_cache.specs.Listed.{Listed}
 use Rattle.shared_cache.specs.Passes.{Ticket}
 
 -- a listed call as a done one

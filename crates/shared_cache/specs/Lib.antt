@@ -1,5 +1,6 @@
 pub mod Word
 pub mod Stamps
+pub mod Listed
 pub mod Passes
 pub mod Finished
 pub mod Blames

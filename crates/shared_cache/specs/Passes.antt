@@ -1,6 +1,8 @@
 -- A pass as contracts see it, and what is true of every pass.
-use Rattle.std.specs.Prelude.{◌≡◌, ℕ, suc, ◌<◌, ◌≤◌, List, [], ◌∷◌, Option, Some, None, Bool, true, false, ◌==◌, All, slice_get, slice_index_or, ◌+◌, ◌^◌}
-use Rattle.shared_cache.specs.declared.listed.Listed.{Listed}
+use Rattle.std.specs.Prelude.{◌≡◌, ℕ, suc, ◌<◌, ◌≤◌, List, [], ◌∷◌, Option, Some, None, Bool, true, false, ◌==◌, All, slice_get, slice_index_or, ◌+◌, ◌^◌, length}
+use Rattle.trace_file.specs.Stored.{LiesIn}
+use Rattle.shared_cache.specs.declared.listed_entry.ListedEntry.{ListedEntry}
+use Rattle.shared_cache.specs.Listed.{Listed, calls_listed}
 use Rattle.shared_cache.specs.Stamps.{Sight}
 
 -- a pass: its caller, what its seat has seen of the clock, and the calls that it lists
@@ -16,6 +18,10 @@ new_ticket caller sight = record { caller = caller; sight = sight; calls = [] }
 -- the most lanes of a cache
 abbrev pub most_lanes : ℕ
 most_lanes = 16
+
+-- the most bytes of a call's key and value
+abbrev pub most_bytes : ℕ
+most_bytes = 2303
 
 -- a place one further back, or else the first place where it is one
 abbrev pub place_behind : Option ℕ → Bool → Option ℕ
@@ -43,6 +49,12 @@ with_end end [] = []
 with_end end (l ∷ []) = record l { end = end } ∷ []
 with_end end (l ∷ m ∷ ls) = l ∷ with_end end (m ∷ ls)
 
+-- the same of what is kept of a list
+abbrev pub kept_with_end : ℕ → List ListedEntry → List ListedEntry
+kept_with_end end [] = []
+kept_with_end end (e ∷ []) = record e { end = end } ∷ []
+kept_with_end end (e ∷ f ∷ es) = e ∷ kept_with_end end (f ∷ es)
+
 -- a listed call ends at its point or later, and its pass has seen that
 pub record IsTimely (seen : ℕ) (l : Listed) : Type 0 where
   pub ended : l.call.point ≤ l.end
@@ -57,3 +69,8 @@ pub record IsEnd (point end : ℕ) : Type 0 where
 pub record IsPass (seen : ℕ) (calls : List Listed) (places : List (Option ℕ)) : Type 0 where
   pub timely : All (IsTimely seen) calls
   pub noted : (lane : ℕ) → lane < most_lanes → slice_index_or places lane None ≡ former_at lane calls
+
+-- the same of what a pass keeps, whose bytes lie in its store
+pub record KeepsCalls (seen : ℕ) (bytes : List ℕ) (entries : List ListedEntry) (places : List (Option ℕ)) : Type 0 where
+  pub pass : IsPass seen (calls_listed bytes entries) places
+  pub lie : All (λ e. LiesIn (length bytes) e.entry) entries

@@ -1,36 +1,48 @@
 // What a lane's lock keeps, and what a caller carries. Nothing outside this file lists a call in a pass, or has a book
 // record one.
-ghost use Rattle.std.specs.Prelude.{◌≡◌, ◌≢◌, ◌↔◌, ◌+◌, ◌<◌, ◌≤◌, ◌^◌, ◌++◌, ◌∷◌, [], All, IfOk, IfErr, OnOk, OnErr, IsTrue, Some, ◌⊎◌, length, map, max, option_copied, slice_set};
+ghost use Rattle.std.specs.Prelude.{◌≡◌, ◌≢◌, ◌↔◌, ◌+◌, ◌<◌, ◌≤◌, ◌^◌, ◌++◌, ◌∷◌, [], All, IfOk, IfErr, OnOk, OnErr, IsTrue, Some, ◌⊎◌, length, map, max, slice_get, slice_set};
+ghost use Rattle.std.specs.Option.{option_map};
 ghost use Rattle.std.specs.Vec.{vec_capacity};
+ghost use Rattle.record_pages.specs.Bounded.{IsKey, IsValue};
 ghost use Rattle.record_pages.specs.Asked.{HasNumbersOf};
 ghost use Rattle.mover.specs.Store.{opening};
 ghost use Rattle.history_recorder.specs.Lane.{IsOfLane, max_calls};
 ghost use Rattle.history_recorder.specs.Operations.{key_of, lane_of_key};
-ghost use Rattle.history_recorder.specs.Points.{noted_in};
-ghost use Rattle.shared_cache.specs.Passes.{former, with_end, IsTimely, new_ticket, most_lanes};
+ghost use Rattle.trace_file.specs.Calls.{value_of};
+ghost use Rattle.trace_file.specs.Lent.{act_shown};
+ghost use Rattle.trace_file.specs.Stored.{LiesIn, call_in};
+ghost use Rattle.history_recorder.specs.Points.{noted_in, noted_shown};
+ghost use Rattle.shared_cache.specs.Listed.{listed_shown};
+ghost use Rattle.shared_cache.specs.Passes.{former, kept_with_end, most_bytes, with_end, IsTimely, new_ticket, most_lanes};
 ghost use Rattle.shared_cache.specs.Over.{IsOver};
-ghost use Rattle.shared_cache.specs.Acts.{Explains, IsActed, IsBook, IsFitting, IsUnacted, Stands};
+ghost use Rattle.shared_cache.specs.Acts.{Explains, IsActed, IsBook, IsFitting, IsUnacted, Stands, asked_shown};
 ghost use Rattle.shared_cache.specs.Caches.{KeepsTie};
 
 use crate::act_fault::ActFault;
 use crate::acted::Acted;
+use crate::asked::Asked;
 use crate::boxed::Boxed;
 use crate::clock::{Clock, ClockSeat};
 use crate::clock_full::ClockFull;
 use crate::comparing::is_recorded_as;
 use crate::copying::copy_of;
-use crate::listed::Listed;
+use crate::listed_entry::ListedEntry;
+use crate::listed_ref::ListedRef;
 use crate::performing::perform;
-use history_recorder::{MAX_CALLS, Operation, RecordedLane, RecordedParts};
+use history_recorder::{MAX_CALLS, NotedRef, RecordedLane, RecordedParts};
 use page_device::PageDevice;
-use record_pages::Config;
+use record_pages::{Config, Key, Value};
 use std::alloc::{AllocError, Global};
 use std::marker::Model;
+use trace_file::{CallRef, Entry};
 
 mod background;
 
 /// The most lanes of a cache.
 pub(crate) const MAX_LANES: usize = 16;
+
+/// The most bytes of a call's key and value.
+const MOST_BYTES: usize = Key::MAX_LEN + Value::MAX_LEN;
 
 /// The right of one caller to make calls, one at a time, with a list of those that it made.
 ///
@@ -40,19 +52,26 @@ pub(crate) const MAX_LANES: usize = 16;
 pub struct Pass {
     caller: u16,
     seat: ClockSeat,
-    calls: Vec<Listed>,
+    calls: Vec<ListedEntry>,
+    // The bytes of their keys and values.
+    bytes: Vec<u8>,
     // For each lane the place in the list of its last call.
     former: [Option<usize>; MAX_LANES],
 }
 
 impl Model for Pass {
-    ghost use Rattle.shared_cache.specs.Passes.{Ticket, IsPass};
+    ghost use Rattle.shared_cache.specs.Listed.{calls_listed};
+    ghost use Rattle.shared_cache.specs.Passes.{Ticket, KeepsCalls};
 
     ghost Value = { Ticket };
 
-    ghost view = { λ p. record { caller = p.caller; sight = p.seat; calls = p.calls.items } };
+    ghost view = { λ p. record {
+      caller = p.caller;
+      sight = p.seat;
+      calls = calls_listed p.bytes.items p.calls.items;
+    } };
 
-    ghost invariant = { λ p. IsPass p.seat.seen p.calls.items p.former };
+    ghost invariant = { λ p. KeepsCalls p.seat.seen p.bytes.items p.calls.items p.former };
 }
 
 impl Pass {
@@ -64,6 +83,7 @@ impl Pass {
             caller,
             seat,
             calls: Vec::new(alloc),
+            bytes: Vec::new(alloc),
             former: [None; MAX_LANES],
         }
     }
@@ -134,18 +154,34 @@ impl Pass {
         set_end(&mut self.calls, end);
     }
 
-    /// The calls that it lists, each of which ends at its point or later.
-    pub(crate) fn into_calls(self) -> Vec<Listed>
-        ensures calls { result.items ≡ self.calls }
-        ensures ended { All (λ l. l.call.point ≤ l.end) self.calls }
+    /// Takes the room that a call more needs, so that none is taken while a lock is held. `AllocError` changes nothing.
+    pub(crate) fn reserve(&mut self) -> Result<(), AllocError>
+        ensures { self.new ≡ self.old }
     {
-        let Pass {
-            caller: _,
-            seat: _,
-            calls,
-            former: _,
-        } = self;
-        calls
+        self.calls.reserve(1)?;
+        self.bytes.reserve(MOST_BYTES)?;
+        Ok(())
+    }
+
+    /// The call that it lists at a place, counted from 0, lent.
+    pub(crate) fn at(&self, place: usize) -> ListedRef<'_>
+        requires { place < length self.now.calls }
+        ensures { slice_get self.now.calls place ≡ Some (listed_shown result) }
+    {
+        let kept = self.calls[place];
+        let call = kept.entry.lent(self.bytes.as_slice());
+        ListedRef {
+            lane: kept.lane,
+            position: kept.position,
+            call: NotedRef {
+                caller: call.caller,
+                start: call.start,
+                point: call.end,
+                key: call.key,
+                act: call.act,
+            },
+            end: kept.end,
+        }
     }
 
     /// Draws a stamp, or takes the last one where the clock is full.
@@ -177,12 +213,12 @@ impl Pass {
     }
 
     /// The last call that it lists of a lane. It takes one step.
-    fn former(&self, lane: u32) -> Option<&Listed>
+    fn former(&self, lane: u32) -> Option<ListedRef<'_>>
         requires { lane < most_lanes }
-        ensures { option_copied result ≡ former lane self.now.calls }
+        ensures { option_map listed_shown result ≡ former lane self.now.calls }
     {
         match self.former[lane as usize] {
-            Some(place) => Some(&self.calls[place]),
+            Some(place) => Some(self.at(place)),
             None => None,
         }
     }
@@ -277,16 +313,16 @@ impl<D: PageDevice<PAGE>, const PAGE: usize> LaneBook<D, PAGE> {
         clock: &Clock,
         pass: &mut Pass,
         start: u64,
-        operation: Operation,
+        asked: Asked<'_>,
     ) -> Result<Acted, ActFault>
         requires clock { pass.old.sight.clock ≡ clock.now }
         requires start { start ≤ pass.old.sight.seen }
-        requires own { IsOfLane self.old.store.layout self.old.lane (key_of operation) }
-        requires fits { IsFitting PAGE operation }
-        ensures acts { IfOk result (λ acted. IsActed D.honest D.failures D.held PAGE operation start
-            self.old pass.old acted self.new pass.new) }
-        ensures refused { IfErr result (λ fault. IsUnacted D.honest D.failures D.held PAGE operation
-            self.old pass.old fault self.new pass.new) }
+        requires own { IsOfLane self.old.store.layout self.old.lane (key_of (asked_shown asked)) }
+        requires fits { IsFitting PAGE (asked_shown asked) }
+        ensures acts { IfOk result (λ acted. IsActed D.honest D.failures D.held PAGE
+            (asked_shown asked.entry) start self.old pass.old acted self.new pass.new) }
+        ensures refused { IfErr result (λ fault. IsUnacted D.honest D.failures D.held PAGE
+            (asked_shown asked.entry) self.old pass.old fault self.new pass.new) }
         ensures tie { KeepsTie pass.old pass.new }
     {
         self.check(pass)?;
@@ -299,18 +335,17 @@ impl<D: PageDevice<PAGE>, const PAGE: usize> LaneBook<D, PAGE> {
         };
         let lane = self.recorded.lane();
         pass.calls.reserve(1)?;
-        let done = perform(&mut self.recorded, pass.caller, start, point, operation)?;
-        let listed = Listed {
+        pass.bytes.reserve(MOST_BYTES)?;
+        let outcome = perform(&mut self.recorded, pass.caller, start, point, asked)?;
+        let entry = keep(&mut pass.bytes, &self.recorded.at(position));
+        let listed = ListedEntry {
             lane,
             position,
-            call: done.noted,
             end: point,
+            entry,
         };
         list(&mut pass.calls, &mut pass.former, listed);
-        Ok(Acted {
-            outcome: done.outcome,
-            point,
-        })
+        Ok(Acted { outcome, point })
     }
 
     /// Whether the pass's former call of this lane stands at its position. `HistoryLost` has a copy of what stands there
@@ -355,8 +390,25 @@ impl<D: PageDevice<PAGE>, const PAGE: usize> LaneBook<D, PAGE> {
     }
 }
 
+/// Keeps the bytes of a recorded call behind the others, for which there is room.
+fn keep(bytes: &mut Vec<u8>, call: &NotedRef<'_>) -> Entry
+    requires key { IsKey call.now.key.now }
+    requires value { IsValue (value_of (act_shown call.now.act)) }
+    requires room { length bytes.old.items + most_bytes ≤ vec_capacity bytes.old }
+    ensures bytes { bytes.new.items ≡ (bytes.old.items ++ call.now.key.now)
+        ++ value_of (act_shown call.now.act) }
+    ensures lies { LiesIn (length bytes.new.items) result }
+    ensures call { noted_in (call_in bytes.new.items result) ≡ noted_shown call.now }
+{
+    let call = CallRef::new(call.caller, call.start, call.point, call.key, call.act);
+    let entry = Entry::of(&call, bytes.len());
+    bytes.extend_from_slice(call.key).unwrap();
+    bytes.extend_from_slice(call.act.value()).unwrap();
+    entry
+}
+
 /// Lists a call for which there is room, and notes its place as that of the lane's last call.
-fn list(calls: &mut Vec<Listed>, former: &mut [Option<usize>; MAX_LANES], call: Listed)
+fn list(calls: &mut Vec<ListedEntry>, former: &mut [Option<usize>; MAX_LANES], call: ListedEntry)
     requires lane { call.lane < most_lanes }
     requires room { length calls.old.items < vec_capacity calls.old }
     ensures calls { calls.new.items ≡ calls.old.items ++ call ∷ [] }
@@ -368,9 +420,9 @@ fn list(calls: &mut Vec<Listed>, former: &mut [Option<usize>; MAX_LANES], call: 
 }
 
 /// Gives the last call, if there is one, this end.
-#[tactic(auto, using(crate::proofs::Passing::with_end_set))]
-fn set_end(calls: &mut Vec<Listed>, end: u64)
-    ensures { calls.new.items ≡ with_end end calls.old.items }
+#[tactic(auto, using(crate::proofs::Keeping::kept_end_set))]
+fn set_end(calls: &mut Vec<ListedEntry>, end: u64)
+    ensures { calls.new.items ≡ kept_with_end end calls.old.items }
 {
     let count = calls.len();
     if count > 0 {

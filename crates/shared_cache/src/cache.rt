@@ -5,7 +5,7 @@ ghost use Rattle.record_pages.specs.Sizes.{object_size, room};
 ghost use Rattle.certificate_checker.specs.Acceptance.{IsAccepted};
 ghost use Rattle.history_recorder.specs.declared.operation.Operation.{Operation};
 ghost use Rattle.shared_cache.specs.declared.outcome.Outcome.{Outcome};
-ghost use Rattle.shared_cache.specs.Acts.{IsFitting, Suits};
+ghost use Rattle.shared_cache.specs.Acts.{IsFitting, Suits, asked_shown};
 ghost use Rattle.shared_cache.specs.Blames.{Blames};
 ghost use Rattle.shared_cache.specs.Caches.{CanShare, ExplainsOpening, IsMade, KeepsTie, fault_in};
 ghost use Rattle.shared_cache.specs.Finished.{IsFinished, IsLeastMissing};
@@ -13,6 +13,7 @@ ghost use Rattle.shared_cache.specs.Passes.{Ticket, new_ticket};
 ghost use Rattle.shared_cache.specs.Stamps.{new_sight};
 
 use crate::act_fault::ActFault;
+use crate::asked::Asked;
 use crate::books::{LaneBook, Pass};
 use crate::call_fault::CallFault;
 use crate::claims::missing;
@@ -23,7 +24,7 @@ use crate::finished::Finished;
 use crate::open_cache_fault::OpenCacheFault;
 use crate::opening::{books_of, is_one_too_small, passes_of};
 use crate::outcome::Outcome;
-use history_recorder::{Operation, lay_out};
+use history_recorder::lay_out;
 use page_device::PageDevice;
 use policy_laws::EvictionPolicy;
 use record_pages::{Answer, Config, Key, Layout, Pushed, Value, is_too_large};
@@ -153,10 +154,7 @@ impl<D: PageDevice<PAGE>, P: EvictionPolicy + Drop, const PAGE: usize> SharedCac
         ensures small { result ≢ Err CallFault.TooLarge }
         ensures tie { KeepsTie pass.old pass.new }
     {
-        let Ok(key) = key.try_clone() else {
-            return Err(CallFault::OutOfMemory);
-        };
-        match self.call(rt, pass, Operation::Get(key)) {
+        match self.call(rt, pass, Asked::Get(key)) {
             Ok(Outcome::Got(answer)) => Ok(answer),
             Ok(_) => unreachable!(),
             Err(fault) => Err(fault),
@@ -183,7 +181,7 @@ impl<D: PageDevice<PAGE>, P: EvictionPolicy + Drop, const PAGE: usize> SharedCac
         if is_too_large::<PAGE>(&key, &value) {
             return Err(CallFault::TooLarge);
         }
-        match self.call(rt, pass, Operation::Put(key, value, word)) {
+        match self.call(rt, pass, Asked::Put(key, value, word)) {
             Ok(Outcome::Stored(pushed)) => Ok(pushed),
             Ok(_) => unreachable!(),
             Err(fault) => Err(fault),
@@ -200,10 +198,7 @@ impl<D: PageDevice<PAGE>, P: EvictionPolicy + Drop, const PAGE: usize> SharedCac
         ensures small { result ≢ Err CallFault.TooLarge }
         ensures tie { KeepsTie pass.old pass.new }
     {
-        let Ok(key) = key.try_clone() else {
-            return Err(CallFault::OutOfMemory);
-        };
-        match self.call(rt, pass, Operation::Remove(key)) {
+        match self.call(rt, pass, Asked::Remove(key)) {
             Ok(Outcome::Removed) => Ok(()),
             Ok(_) => unreachable!(),
             Err(fault) => Err(fault),
@@ -249,32 +244,30 @@ impl<D: PageDevice<PAGE>, P: EvictionPolicy + Drop, const PAGE: usize> SharedCac
     }
 
     /// A whole call: its start, one act in one hold of the lock of its lane, and its end.
-    fn call<R: Wait>(
-        &self,
-        rt: &R,
-        pass: &mut Pass,
-        operation: Operation,
-    ) -> Result<Outcome, CallFault>
+    fn call<R: Wait>(&self, rt: &R, pass: &mut Pass, asked: Asked<'_>) -> Result<Outcome, CallFault>
         requires clock { pass.old.sight.clock ≡ self.now.clock }
-        requires fits { IsFitting PAGE operation }
+        requires fits { IsFitting PAGE (asked_shown asked) }
         ensures made { IfOk result (λ outcome.
-            IsMade self.now.layout operation pass.old outcome pass.new) }
-        ensures suits { IfOk result (Suits operation) }
+            IsMade self.now.layout (asked_shown asked.entry) pass.old outcome pass.new) }
+        ensures suits { IfOk result (Suits (asked_shown asked.entry)) }
         ensures refused { OnErr result (pass.new.calls ≡ pass.old.calls) }
         ensures full { result ≡ Err CallFault.ClockFull → pass.new.sight.seen + 1 ≡ 2 ^ 63 }
         ensures small { result ≢ Err CallFault.TooLarge }
         ensures tie { KeepsTie pass.old pass.new }
     {
+        let Ok(()) = pass.reserve() else {
+            return Err(CallFault::OutOfMemory);
+        };
         let Ok(start) = pass.start(&self.clock) else {
             return Err(CallFault::ClockFull);
         };
-        let lane = place(&self.layout, operation.key().bytes()).lane;
+        let lane = place(&self.layout, asked.key().bytes()).lane;
         let mut guard = self.books[lane as usize].lock(rt);
         let book = &mut *guard;
         if !book.is_of(lane, &self.config) {
             return Err(CallFault::WrongLane);
         }
-        match book.act(&self.clock, pass, start, operation) {
+        match book.act(&self.clock, pass, start, asked) {
             Ok(acted) => {
                 drop(guard);
                 pass.end(&self.clock);

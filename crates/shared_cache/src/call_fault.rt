@@ -4,8 +4,7 @@ use thiserror::Error;
 
 /// Why a call was refused. It is in no history, and its pass lists no call more.
 ///
-/// They are tested in this order: `TooLarge`; `OutOfMemory` of the copy of a key; `ClockFull` at the start; and in the
-/// hold of the lane's lock `WrongLane`, `HistoryLost`, `HistoryFull`, `ClockFull` at the point, `OutOfMemory`.
+/// They are tested in this order: `TooLarge`; `OutOfMemory` of room in the pass; `ClockFull` at the start; and in the hold of the lane's lock `WrongLane`, `HistoryLost`, `HistoryFull`, `ClockFull` at the point, `OutOfMemory`.
 #[derive(Debug, Drop, Error)]
 pub enum CallFault {
     /// The object does not fit on a page.

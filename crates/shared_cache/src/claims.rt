@@ -2,6 +2,7 @@
 ghost use Rattle.std.specs.Prelude.{◌≡◌, ℕ, ◌≤◌, ◌<◌, ◌+◌, ◌++◌, [], List, All, IfOk, OnOk, IfErr, IfSome, IfNone, length, map, sum_by, true};
 ghost use Rattle.certificate_checker.specs.declared.done.Done.{Done};
 ghost use Rattle.certificate_checker.specs.Lanes.{Stamped, stamped};
+ghost use Rattle.shared_cache.specs.Listed.{Listed};
 ghost use Rattle.shared_cache.specs.Passes.{most_lanes};
 ghost use Rattle.shared_cache.specs.Finished.{weigh_calls, weigh_passes, has_pass, IsLeastMissing};
 ghost use Rattle.shared_cache.specs.Blames.{IsFirstStrange, calls_in};
@@ -10,7 +11,6 @@ ghost use Rattle.shared_cache.specs.Claimed.{AreBy, AreMade, IsEnded, IsNoClaim,
 use crate::books::Pass;
 use crate::finish_fault::FinishFault;
 use crate::lane_claims::{LaneClaims, Unready};
-use crate::listed::Listed;
 use history_recorder::Dones;
 use std::alloc::Global;
 use std::collections::VecDeque;
@@ -54,41 +54,40 @@ pub(crate) fn claim_passes(
 {
     let mut left = VecDeque::from(passes);
     while let Some(pass) = left.pop_front() {
-        let caller = pass.caller();
-        if let Err(call) = claim_calls(claims, pass.into_calls()) {
-            return Err(FinishFault::Strange { caller, call });
+        if let Err(call) = claim_calls(claims, &pass) {
+            return Err(FinishFault::Strange {
+                caller: pass.caller(),
+                call,
+            });
         }
     }
     Ok(())
 }
 
-/// Claims listed calls, in their order, behind those that made the claims that there are. At `Err` the call at that place is
-/// not its lane's own.
-fn claim_calls(claims: &mut Vec<LaneClaims>, calls: Vec<Listed>) -> Result<(), usize>
-    requires { All (λ l. l.call.point ≤ l.end) calls.items }
+/// Claims the calls that a pass lists, in their order, behind those that made the claims that there are. At `Err` the call at
+/// that place is not its lane's own.
+fn claim_calls(claims: &mut Vec<LaneClaims>, pass: &Pass) -> Result<(), usize>
     ensures claimed { OnOk result ((h : Stamped → ℕ) → weigh_lanes h 0 claims.new.items
-        ≡ weigh_lanes h 0 claims.old.items + weigh_calls h calls.items) }
+        ≡ weigh_lanes h 0 claims.old.items + weigh_calls h pass.now.calls) }
     ensures calls { OnOk result (recorded_in claims.new.items ≡ recorded_in claims.old.items) }
     ensures made { OnOk result ((before : List Listed) → AreMade claims.old.items before
-        → AreMade claims.new.items (before ++ calls.items)) }
-    ensures within { IfErr result (λ place. place < length calls.items) }
+        → AreMade claims.new.items (before ++ pass.now.calls)) }
+    ensures within { IfErr result (λ place. place < length pass.now.calls) }
     ensures strange { IfErr result (λ place. (before : List Listed)
         → AreMade claims.old.items before
-        → IsFirstStrange (recorded_in claims.old.items) (before ++ calls.items)
+        → IsFirstStrange (recorded_in claims.old.items) (before ++ pass.now.calls)
         (length before + place)) }
 {
-    let mut left = VecDeque::from(calls);
-    let mut place = 0;
-    while let Some(listed) = left.pop_front() {
+    for place in 0..pass.len() {
+        let listed = pass.at(place);
         let lane = listed.lane as usize;
         if lane >= claims.len() {
             return Err(place);
         }
         let of_lane = &mut claims[lane];
-        if !of_lane.claim(listed) {
+        if !of_lane.claim(&listed) {
             return Err(place);
         }
-        place += 1;
     }
     Ok(())
 }

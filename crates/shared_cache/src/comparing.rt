@@ -1,31 +1,32 @@
 // Whether a listed call is the one that was recorded.
 ghost use Rattle.std.specs.Prelude.{◌≡◌, ◌↔◌, IsTrue};
+ghost use Rattle.trace_file.specs.declared.act.Act.{Act};
 ghost use Rattle.trace_file.specs.Lent.{act_shown};
 ghost use Rattle.history_recorder.specs.Points.{noted_shown};
 
-use history_recorder::{Noted, NotedRef};
-use trace_file::{Act, ActRef};
+use history_recorder::NotedRef;
+use trace_file::ActRef;
 
 /// Whether a call is the one that a lane recorded: caller, start, point, key, kind and value.
-pub(crate) fn is_recorded_as(call: &Noted, recorded: &NotedRef<'_>) -> bool
-    ensures { IsTrue result ↔ (call.now ≡ noted_shown recorded.now) }
+pub(crate) fn is_recorded_as(call: &NotedRef<'_>, recorded: &NotedRef<'_>) -> bool
+    ensures { IsTrue result ↔ (noted_shown call.now ≡ noted_shown recorded.now) }
 {
     call.caller == recorded.caller
         && call.start == recorded.start
         && call.point == recorded.point
-        && call.key.bytes() == recorded.key
-        && is_act(&call.act, recorded.act)
+        && call.key == recorded.key
+        && is_act(call.act, recorded.act)
 }
 
-/// Whether an act is the one that is lent.
-fn is_act(act: &Act, lent: ActRef<'_>) -> bool
-    ensures { IsTrue result ↔ (act.now ≡ act_shown lent.entry) }
+/// Whether two acts that are lent are the same.
+fn is_act(act: ActRef<'_>, recorded: ActRef<'_>) -> bool
+    ensures { IsTrue result ↔ (act_shown act.entry ≡ act_shown recorded.entry) }
 {
     match act {
-        Act::Put(value) => is_put(value.bytes(), lent),
-        Act::Remove => matches!(lent, ActRef::Remove),
-        Act::Hit(value) => is_hit(value.bytes(), lent),
-        Act::Miss => matches!(lent, ActRef::Miss),
+        ActRef::Put(value) => is_put(value, recorded),
+        ActRef::Remove => matches!(recorded, ActRef::Remove),
+        ActRef::Hit(value) => is_hit(value, recorded),
+        ActRef::Miss => matches!(recorded, ActRef::Miss),
     }
 }
 

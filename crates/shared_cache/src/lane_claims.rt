@@ -1,37 +1,39 @@
 // A lane's calls, while the passes claim them.
 ghost use Rattle.std.specs.Prelude.{◌≡◌, ◌↔◌, ℕ, ◌≤◌, IfOk, IfErr, OnOk, IsTrue, IsFalse, All, map, sum_by, replicate, slice_set, None, Some};
-ghost use Rattle.trace_file.specs.declared.call.Call.{Call};
 ghost use Rattle.history_recorder.specs.Points.{noted_in};
 ghost use Rattle.certificate_checker.specs.declared.done.Done.{Done};
 ghost use Rattle.shared_cache.specs.Finished.{done_of};
+ghost use Rattle.shared_cache.specs.Listed.{listed_shown};
 ghost use Rattle.shared_cache.specs.Claimed.{Fits, IsEnded, IsFresh, IsTaken, IsUnready, noted_of, weigh_slots};
 
 use crate::comparing::is_recorded_as;
-use crate::listed::Listed;
-use certificate_checker::Done;
+use crate::listed_ref::ListedRef;
 use history_recorder::{Dones, NotedRef};
 use std::alloc::{AllocError, Global};
 use std::collections::VecDeque;
 use std::marker::Model;
-use trace_file::{Call, History};
+use trace_file::History;
 
-/// The calls that a lane recorded, and those that were claimed, with their ends, each at its position.
+/// The calls that a lane recorded, and the ends of those that were claimed, each at its position.
 #[derive(Drop)]
 pub(crate) struct LaneClaims {
     recorded: History,
-    slots: Vec<Option<Done>>,
+    ends: Vec<Option<u64>>,
 }
 
 impl Model for LaneClaims {
     ghost use Rattle.std.specs.Prelude.{map};
     ghost use Rattle.history_recorder.specs.Points.{noted_in};
-    ghost use Rattle.shared_cache.specs.Claimed.{Claims, AreClaimed};
+    ghost use Rattle.shared_cache.specs.Claimed.{Claims, IsClaims, slots_in};
 
     ghost Value = { Claims };
 
-    ghost view = { λ c. record { calls = map noted_in c.recorded; slots = c.slots.items } };
+    ghost view = { λ c. record {
+      calls = map noted_in c.recorded;
+      slots = slots_in c.recorded c.ends.items;
+    } };
 
-    ghost invariant = { λ c. AreClaimed (map noted_in c.recorded) c.slots.items };
+    ghost invariant = { λ c. IsClaims c.recorded c.ends.items };
 }
 
 /// Why a lane's calls were not handed out.
@@ -49,24 +51,24 @@ impl LaneClaims {
         ensures calls { IfOk result (λ c. c.calls ≡ map noted_in recorded) }
         ensures fresh { IfOk result IsFresh }
     {
-        let slots = empty_slots(alloc, recorded.len())?;
-        Ok(LaneClaims { recorded, slots })
+        let ends = no_ends(alloc, recorded.len())?;
+        Ok(LaneClaims { recorded, ends })
     }
 
     /// Claims a listed call, if it is the one at its position and was not claimed before.
-    pub(crate) fn claim(&mut self, listed: Listed) -> bool
-        requires { listed.call.point ≤ listed.end }
-        ensures fits { IsTrue result ↔ Fits self.old listed }
+    pub(crate) fn claim(&mut self, listed: &ListedRef<'_>) -> bool
+        requires { listed.now.call.point ≤ listed.now.end }
+        ensures fits { IsTrue result ↔ Fits self.old (listed_shown listed.now) }
         ensures claimed { IsTrue result → self.new ≡ record self.old {
-          slots = slice_set self.old.slots listed.position (Some (done_of listed));
+          slots = slice_set self.old.slots listed.now.position (Some (done_of (listed_shown listed.now)));
         } }
         ensures kept { IsFalse result → self.new ≡ self.old }
     {
         let position = listed.position;
-        if position >= self.recorded.len() {
+        if position >= self.ends.len() {
             return false;
         }
-        let Some(None) = self.slots.get(position) else {
+        let None = self.ends[position] else {
             return false;
         };
         let call = self.recorded.at(position);
@@ -80,7 +82,7 @@ impl LaneClaims {
         if !is_recorded_as(&listed.call, &recorded) {
             return false;
         }
-        self.slots[position] = Some(ended(listed));
+        self.ends[position] = Some(listed.end);
         true
     }
 
@@ -92,54 +94,32 @@ impl LaneClaims {
         ensures taken { OnOk result (IsTaken self) }
         ensures refused { IfErr result (IsUnready self.slots) }
     {
-        let LaneClaims { recorded: _, slots } = self;
-        let Ok(mut dones) = Vec::with_capacity(alloc, slots.len()) else {
+        let LaneClaims { recorded, ends } = self;
+        let Ok(mut all) = Vec::with_capacity(alloc, ends.len()) else {
             return Err(Unready::OutOfMemory);
         };
-        let mut slots = VecDeque::from(slots);
-        while let Some(slot) = slots.pop_front() {
-            let Some(done) = slot else {
+        let mut ends = VecDeque::from(ends);
+        while let Some(end) = ends.pop_front() {
+            let Some(end) = end else {
                 return Err(Unready::Unclaimed {
-                    position: dones.len(),
+                    position: all.len(),
                 });
             };
-            let Ok(()) = dones.push(done) else {
+            let Ok(()) = all.push(end) else {
                 return Err(Unready::OutOfMemory);
             };
         }
-        Ok(Dones::from(dones))
+        Ok(Dones::of(recorded, all))
     }
 }
 
-/// So many slots with no call.
-fn empty_slots(alloc: Global, count: usize) -> Result<Vec<Option<Done>>, AllocError>
-    ensures { IfOk result (λ slots. slots.items ≡ replicate count None) }
+/// So many calls with no end.
+fn no_ends(alloc: Global, count: usize) -> Result<Vec<Option<u64>>, AllocError>
+    ensures { IfOk result (λ ends. ends.items ≡ replicate count None) }
 {
-    let mut slots = Vec::with_capacity(alloc, count)?;
+    let mut ends = Vec::with_capacity(alloc, count)?;
     for _ in 0..count {
-        slots.push(None)?;
+        ends.push(None)?;
     }
-    Ok(slots)
-}
-
-/// The done call of a listed one.
-fn ended(listed: Listed) -> Done
-    ensures { result ≡ done_of listed }
-{
-    let Listed {
-        lane: _,
-        position: _,
-        call,
-        end,
-    } = listed;
-    Done {
-        call: Call {
-            caller: call.caller,
-            start: call.start,
-            end,
-            key: call.key,
-            act: call.act,
-        },
-        point: call.point,
-    }
+    Ok(ends)
 }

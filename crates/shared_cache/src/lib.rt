@@ -4,6 +4,7 @@
 
 mod act_fault;
 mod acted;
+mod asked;
 mod books;
 mod boxed;
 mod cache;
@@ -18,7 +19,8 @@ mod ending;
 mod finish_fault;
 mod finished;
 mod lane_claims;
-mod listed;
+mod listed_entry;
+mod listed_ref;
 mod moved;
 mod open_cache_fault;
 mod opening;
@@ -27,6 +29,7 @@ mod performing;
 
 pub use act_fault::ActFault;
 pub use acted::Acted;
+pub use asked::Asked;
 pub use books::{LaneBook, Pass};
 pub use cache::SharedCache;
 pub use call_fault::CallFault;
@@ -34,7 +37,6 @@ pub use clock::{Clock, ClockSeat, LAST_STAMP};
 pub use clock_full::ClockFull;
 pub use finish_fault::FinishFault;
 pub use finished::Finished;
-pub use listed::Listed;
 pub use moved::Moved;
 pub use open_cache_fault::OpenCacheFault;
 pub use outcome::Outcome;

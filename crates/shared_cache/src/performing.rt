@@ -1,70 +1,53 @@
-// An operation, performed and recorded by its lane.
+// What is asked, performed and recorded by its lane.
 ghost use Rattle.std.specs.Prelude.{◌≡◌, ◌<◌, ◌++◌, ◌∷◌, [], All, IfOk, IfErr, OnErr, length};
 ghost use Rattle.history_recorder.specs.Lane.{IsOfLane, max_calls};
 ghost use Rattle.history_recorder.specs.Operations.{key_of};
-ghost use Rattle.shared_cache.specs.Acts.{ActGives, ActLeaves, IsFitting, made};
+ghost use Rattle.shared_cache.specs.Acts.{ActGives, ActLeaves, IsFitting, asked_shown, made};
 
 use crate::act_fault::ActFault;
+use crate::asked::Asked;
 use crate::boxed::Boxed;
 use crate::outcome::Outcome;
-use history_recorder::{Noted, Operation, RecordedLane};
+use history_recorder::RecordedLane;
 use page_device::PageDevice;
 
-/// What an operation gave, and a copy of the recorded call.
-#[derive(Drop)]
-pub(crate) struct Performed {
-    pub(crate) outcome: Outcome,
-    pub(crate) noted: Noted,
-}
-
-/// Has a lane answer an operation and record it. Only memory may be refused.
+/// Has a lane answer what is asked and record it. Only memory may be refused.
 pub(crate) fn perform<D: PageDevice<PAGE>, const PAGE: usize>(
     lane: &mut RecordedLane<Boxed<D>, PAGE>,
     caller: u16,
     start: u64,
     point: u64,
-    operation: Operation,
-) -> Result<Performed, ActFault>
+    asked: Asked<'_>,
+) -> Result<Outcome, ActFault>
     requires start { start < point }
     requires rises { All (λ n. n.point < point) lane.old.calls }
-    requires own { IsOfLane lane.old.store.layout lane.old.lane (key_of operation) }
-    requires fits { IsFitting PAGE operation }
+    requires own { IsOfLane lane.old.store.layout lane.old.lane (key_of (asked_shown asked)) }
+    requires fits { IsFitting PAGE (asked_shown asked) }
     requires room { length lane.old.calls < max_calls }
-    ensures noted { IfOk result (λ done.
-        done.noted ≡ made caller start point operation done.outcome) }
-    ensures recorded { IfOk result (λ done. lane.new ≡ record lane.old {
+    ensures recorded { IfOk result (λ outcome. lane.new ≡ record lane.old {
       store = lane.new.store;
-      calls = lane.old.calls ++ done.noted ∷ [];
+      calls = lane.old.calls ++ made caller start point (asked_shown asked.entry) outcome ∷ [];
     }) }
-    ensures gives { IfOk result (λ done. ActGives D.honest D.failures D.held PAGE operation
-        lane.old.store done.outcome lane.new.store) }
+    ensures gives { IfOk result (λ outcome. ActGives D.honest D.failures D.held PAGE
+        (asked_shown asked.entry) lane.old.store outcome lane.new.store) }
     ensures refused { IfErr result (λ fault. fault ≡ ActFault.OutOfMemory) }
     ensures unrecorded { OnErr result (lane.new ≡ record lane.old { store = lane.new.store }) }
-    ensures leaves { OnErr result
-        (ActLeaves D.honest D.failures D.held PAGE operation lane.old.store lane.new.store) }
+    ensures leaves { OnErr result (ActLeaves D.honest D.failures D.held PAGE
+        (asked_shown asked.entry) lane.old.store lane.new.store) }
 {
-    match operation {
-        Operation::Get(key) => match lane.get(caller, start, point, &key) {
-            Ok(got) => Ok(Performed {
-                outcome: Outcome::Got(got.answer),
-                noted: got.noted,
-            }),
+    match asked {
+        Asked::Get(key) => match lane.get(caller, start, point, key) {
+            Ok(answer) => Ok(Outcome::Got(answer)),
             Err(_) => Err(ActFault::OutOfMemory),
         },
-        Operation::Put(key, value, word) => {
+        Asked::Put(key, value, word) => {
             match lane.put(caller, start, point, key, value, word) {
-                Ok(stored) => Ok(Performed {
-                    outcome: Outcome::Stored(stored.pushed),
-                    noted: stored.noted,
-                }),
+                Ok(pushed) => Ok(Outcome::Stored(pushed)),
                 Err(_) => Err(ActFault::OutOfMemory),
             }
         }
-        Operation::Remove(key) => match lane.remove(caller, start, point, &key) {
-            Ok(removal) => Ok(Performed {
-                outcome: Outcome::Removed,
-                noted: removal.noted,
-            }),
+        Asked::Remove(key) => match lane.remove(caller, start, point, key) {
+            Ok(()) => Ok(Outcome::Removed),
             Err(_) => Err(ActFault::OutOfMemory),
         },
     }

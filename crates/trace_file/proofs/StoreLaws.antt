@@ -1,5 +1,5 @@
 -- A store that grows keeps the calls that lie in it.
-use Rattle.std.proofs.Common.{◌≡◌, ℕ, ◌+◌, ◌-◌, ◌<◌, ◌≤◌, List, [], ◌∷◌, ◌++◌, length, take, drop, get_or, All, Result, Ok, Err, refl, sym, ap, ◌∙◌, arith}
+use Rattle.std.proofs.Common.{◌≡◌, ℕ, ◌+◌, ◌-◌, ◌<◌, ◌≤◌, List, [], ◌∷◌, ◌++◌, length, take, drop, get_or, All, Result, Ok, Err, refl, sym, ap, subst, ◌∙◌, arith}
 use Rattle.std.specs.Prelude.{OnErr, slice_get, Some}
 use Rattle.std.specs.Option.{option_map}
 use Rattle.std.specs.List.{AllByRecursion}
@@ -95,15 +95,24 @@ pushed_call store new key value es now calls e call lie is grown pushed one =
     ∙ ap (λ (cs : List Call). cs ++ call_in new e ∷ []) (still store new (key ++ value) es calls lie is (grown ∙ append_assoc store key value))
     ∙ ap (λ (x : Call). calls ++ x ∷ []) (ap (λ (s : List ℕ). call_in s e) grown ∙ one)
 
+-- the call that an entry stands for, by its parts
+pub lent_call : (store : List ℕ) (e : Entry) (call : Call) → e.caller ≡ call.caller → e.start ≡ call.start → e.end ≡ call.end → part e.offset e.key_len store ≡ call.key
+    → act_of e.kind (part (e.offset + e.key_len) e.value_len store) ≡ call.act → call_in store e ≡ call
+unfolding call_in
+lent_call store e call caller start end key act = same_call (call_in store e) call caller start end key act
+
 -- the call at a position is that of the entry there
 pub read_call : (store : List ℕ) (es : List Entry) (calls : List Call) (i : ℕ) (e : Entry) (call : Call) → calls_in store es ≡ calls → e ≡ get_or es i e → i < length calls
-    → e.caller ≡ call.caller → e.start ≡ call.start → e.end ≡ call.end → part e.offset e.key_len store ≡ call.key → act_of e.kind (part (e.offset + e.key_len) e.value_len store) ≡ call.act
-    → slice_get calls i ≡ Some call
-unfolding call_in
-read_call store es calls i e call is at lt caller start end key act =
+    → call ≡ call_in store e → slice_get calls i ≡ Some call
+read_call store es calls i e call is at lt shown =
     let found : slice_get es i ≡ Some e = slice_get_read es (length es) i e refl (omega (arith, length-map es (call_in store), ap length is)) at in
-    let same : call_in store e ≡ call = same_call (call_in store e) call caller start end key act in
-    ap (λ (cs : List Call). slice_get cs i) (sym is) ∙ slice_get-map (call_in store) es i ∙ ap (option_map (call_in store)) found ∙ ap (λ (x : Call). Some x) same
+    ap (λ (cs : List Call). slice_get cs i) (sym is) ∙ slice_get-map (call_in store) es i ∙ ap (option_map (call_in store)) found ∙ ap (λ (x : Call). Some x) (sym shown)
+
+-- that entry lies in the store
+pub lies_at : (store s : List ℕ) (es : List Entry) (calls : List Call) (i : ℕ) (e : Entry) → calls_in store es ≡ calls → All (LiesIn (length store)) es → e ≡ get_or es i e → i < length calls → s ≡ store → LiesIn (length s) e
+lies_at store s es calls i e is lie at lt same =
+    let within : i < length es = omega (arith, length-map es (call_in store), ap length is) in
+    subst (λ (x : Entry). LiesIn (length s) x) (sym at) (subst (λ (b : List ℕ). LiesIn (length b) (get_or es i e)) (sym same) (lie i e within))
 
 -- a slice of the store is a part of it
 pub slice_is : (store s : List ℕ) (offset len : ℕ) → s ≡ store → part offset len store ≡ take (offset + len - offset) (drop offset s)

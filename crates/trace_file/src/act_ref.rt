@@ -22,7 +22,7 @@ impl<'a> ActRef<'a> {
     ghost use Rattle.trace_file.specs.Stored.{act_of};
 
     /// The bytes of the value, none where the act has no value.
-    pub(crate) fn value(&self) -> &'a [u8]
+    pub fn value(&self) -> &'a [u8]
         ensures { result.now ≡ value_of (act_shown self.now) }
     {
         match self {

@@ -1,9 +1,17 @@
-// Where a call of a history lies in its store of bytes.
+// Where a call lies in a store of bytes.
+ghost use Rattle.std.specs.Prelude.{◌≡◌, ◌+◌, ◌<◌, ◌^◌, ◌++◌, List, ℕ, length};
+ghost use Rattle.trace_file.specs.Calls.{IsCall, value_of};
+ghost use Rattle.trace_file.specs.Lent.{act_shown, call_shown};
+ghost use Rattle.trace_file.specs.Stored.{LiesIn, act_of, call_in};
+
+use crate::act_ref::ActRef;
+use crate::call_ref::CallRef;
 use crate::kind::Kind;
 
-/// A call whose key and value lie in a store of bytes: the key at `offset`, the value behind it.
+/// A call whose key and value lie in a store of bytes: the key at `offset`, the value behind it. It is for those who keep
+/// calls in a store of their own.
 #[derive(Clone, Copy, Debug)]
-pub(crate) struct Entry {
+pub struct Entry {
     pub(crate) start: u64,
     pub(crate) end: u64,
     pub(crate) offset: usize,
@@ -11,4 +19,57 @@ pub(crate) struct Entry {
     pub(crate) value_len: u16,
     pub(crate) key_len: u8,
     pub(crate) kind: Kind,
+}
+
+impl Entry {
+    /// The entry of a call whose key and then its value are put behind so many bytes.
+    pub fn of(call: &CallRef<'_>, offset: usize) -> Entry
+        requires { IsCall (call_shown call.now) }
+        ensures lies { LiesIn (offset + length call.now.key.now
+            + length (value_of (act_shown call.now.act))) result }
+        ensures behind { result.offset ≡ offset }
+        ensures call { (store : List ℕ) → offset ≡ length store →
+            call_in ((store ++ call.now.key.now) ++ value_of (act_shown call.now.act)) result
+            ≡ call_shown call.now }
+    {
+        let value = call.act.value();
+        Entry {
+            start: call.start,
+            end: call.end,
+            offset,
+            caller: call.caller,
+            value_len: value.len() as u16,
+            key_len: call.key.len() as u8,
+            kind: call.act.kind(),
+        }
+    }
+
+    /// The call, lent by the store in which it lies.
+    pub fn lent<'a>(&self, store: &'a [u8]) -> CallRef<'a>
+        requires { LiesIn (length store.now) self.now }
+        ensures call { call_shown result ≡ call_in store.now self.now }
+        ensures lawful { IsCall (call_shown result) }
+    {
+        let key_end = self.offset + self.key_len as usize;
+        let value_end = key_end + self.value_len as usize;
+        CallRef {
+            caller: self.caller,
+            start: self.start,
+            end: self.end,
+            key: &store[self.offset..key_end],
+            act: lent(self.kind, &store[key_end..value_end]),
+        }
+    }
+}
+
+/// The act of a kind, with the bytes of its value where it has one.
+fn lent(kind: Kind, value: &[u8]) -> ActRef<'_>
+    ensures { act_shown result ≡ act_of kind value.now }
+{
+    match kind {
+        Kind::Put => ActRef::Put(value),
+        Kind::Remove => ActRef::Remove,
+        Kind::Hit => ActRef::Hit(value),
+        Kind::Miss => ActRef::Miss,
+    }
 }

@@ -1,11 +1,9 @@
 // Recorded calls in the order in which they were recorded.
 ghost use Rattle.std.specs.Prelude.{◌≡◌, ◌+◌, ◌-◌, ◌^◌, ◌<◌, ◌≤◌, [], ◌∷◌, ◌++◌, ◌↔◌, All, IsTrue, List, ℕ, Some, length, OnOk, OnErr, slice_get, take, drop};
 
-use crate::act_ref::ActRef;
 use crate::call::Call;
 use crate::call_ref::CallRef;
 use crate::entry::Entry;
-use crate::kind::Kind;
 use std::alloc::{AllocError, Global};
 use std::marker::Model;
 
@@ -74,17 +72,8 @@ impl History {
         ensures ok { OnOk result (self.new ≡ self.old ++ call_shown call.now ∷ []) }
         ensures err { OnErr result (self.new ≡ self.old) }
     {
-        let offset = self.store.len();
+        let entry = Entry::of(call, self.store.len());
         let value = call.act.value();
-        let entry = Entry {
-            start: call.start,
-            end: call.end,
-            offset,
-            caller: call.caller,
-            value_len: value.len() as u16,
-            key_len: call.key.len() as u8,
-            kind: call.act.kind(),
-        };
         put_behind(&mut self.entries, &mut self.store, entry, call.key, value)?;
         Ok(())
     }
@@ -105,21 +94,9 @@ impl History {
         ensures lawful { IsCall (call_shown result) }
     {
         let entry = self.entries[position];
-        let key_end = entry.offset + entry.key_len as usize;
-        let value_end = key_end + entry.value_len as usize;
-        let store = self.store.as_slice();
-        CallRef {
-            caller: entry.caller,
-            start: entry.start,
-            end: entry.end,
-            key: &store[entry.offset..key_end],
-            act: lent(entry.kind, &store[key_end..value_end]),
-        }
+        entry.lent(self.store.as_slice())
     }
 }
-
-ghost use Rattle.trace_file.specs.Lent.{act_shown};
-ghost use Rattle.trace_file.specs.Stored.{act_of};
 
 /// Puts an entry behind the others and its bytes behind the store's. Where memory is refused both keep
 /// just what they held, so that no bytes are left of a call that was not recorded.
@@ -142,16 +119,4 @@ fn put_behind(
     store.extend_from_slice(value).unwrap();
     entries.push(entry).unwrap();
     Ok(())
-}
-
-/// The act of a kind, with the bytes of its value where it has one.
-pub(crate) fn lent(kind: Kind, value: &[u8]) -> ActRef<'_>
-    ensures { act_shown result ≡ act_of kind value.now }
-{
-    match kind {
-        Kind::Put => ActRef::Put(value),
-        Kind::Remove => ActRef::Remove,
-        Kind::Hit => ActRef::Hit(value),
-        Kind::Miss => ActRef::Miss,
-    }
 }

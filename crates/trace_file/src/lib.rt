@@ -29,6 +29,7 @@ pub use act_ref::ActRef;
 pub use call::Call;
 pub use call_ref::CallRef;
 pub use certificate::Certificate;
+pub use entry::Entry;
 pub use from_reader::read_trace;
 pub use history::History;
 pub use laws::{fault_laws, trace_laws};

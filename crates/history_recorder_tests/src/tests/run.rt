@@ -113,8 +113,8 @@ fn put_gives<D: PageDevice<PAGE>, const PAGE: usize>(
     pushed: Pushed,
 ) -> Result<bool, Fail> {
     let before = lane.len();
-    let stored = stored(put(alloc, lane, caller, name, bytes, word)?)?;
-    Ok(stored.pushed == pushed && is_last(lane, before, caller, &stored.noted))
+    let given = stored(put(alloc, lane, caller, name, bytes, word)?)?;
+    Ok(given == pushed && is_last(lane, before, caller, name, ActRef::Put(bytes)))
 }
 
 fn refuses<D: PageDevice<PAGE>, const PAGE: usize>(
@@ -137,8 +137,8 @@ fn get_gives<D: PageDevice<PAGE>, const PAGE: usize>(
     found: &Found,
 ) -> Result<bool, Fail> {
     let before = lane.len();
-    let got = get(alloc, lane, caller, name)?;
-    Ok(is_found(&got.answer, found) && is_last(lane, before, caller, &got.noted))
+    let answer = get(alloc, lane, caller, name)?;
+    Ok(is_found(&answer, found) && is_last(lane, before, caller, name, act_of(&answer)))
 }
 
 fn removes<D: PageDevice<PAGE>, const PAGE: usize>(
@@ -148,8 +148,8 @@ fn removes<D: PageDevice<PAGE>, const PAGE: usize>(
     name: &[u8],
 ) -> Result<bool, Fail> {
     let before = lane.len();
-    let removed = remove(alloc, lane, caller, name)?;
-    Ok(is_last(lane, before, caller, &removed.noted))
+    remove(alloc, lane, caller, name)?;
+    Ok(is_last(lane, before, caller, name, ActRef::Remove))
 }
 
 fn forgets<D: PageDevice<PAGE>, const PAGE: usize>(
@@ -227,13 +227,13 @@ fn put<D: PageDevice<PAGE>, const PAGE: usize>(
     name: &[u8],
     bytes: &[u8],
     word: u32,
-) -> Result<Result<Stored, RecordPutFault>, Fail> {
+) -> Result<Result<Pushed, RecordPutFault>, Fail> {
     match put_once(alloc, lane, caller, name, bytes, word)? {
         Err(RecordPutFault::OutOfMemory) => {
             let again = put_once(alloc, lane, caller, name, bytes, word)?;
             Ok(again)
         }
-        Ok(stored) => Ok(Ok(stored)),
+        Ok(pushed) => Ok(Ok(pushed)),
         Err(fault) => Ok(Err(fault)),
     }
 }
@@ -245,7 +245,7 @@ fn put_once<D: PageDevice<PAGE>, const PAGE: usize>(
     name: &[u8],
     bytes: &[u8],
     word: u32,
-) -> Result<Result<Stored, RecordPutFault>, Fail> {
+) -> Result<Result<Pushed, RecordPutFault>, Fail> {
     let (start, point) = stamps(lane)?;
     let value = value(alloc, bytes)?;
     let key = own_key(alloc, lane, name)?;
@@ -258,9 +258,9 @@ fn get<D: PageDevice<PAGE>, const PAGE: usize>(
     lane: &mut RecordedLane<D, PAGE>,
     caller: u16,
     name: &[u8],
-) -> Result<Got, Fail> {
+) -> Result<Answer, Fail> {
     match get_once(alloc, lane, caller, name)? {
-        Ok(got) => Ok(got),
+        Ok(answer) => Ok(answer),
         Err(_) => Ok(get_once(alloc, lane, caller, name)??),
     }
 }
@@ -270,7 +270,7 @@ fn get_once<D: PageDevice<PAGE>, const PAGE: usize>(
     lane: &mut RecordedLane<D, PAGE>,
     caller: u16,
     name: &[u8],
-) -> Result<Result<Got, RecordFault>, Fail> {
+) -> Result<Result<Answer, RecordFault>, Fail> {
     let (start, point) = stamps(lane)?;
     let key = own_key(alloc, lane, name)?;
     Ok(lane.get(caller, start, point, &key))
@@ -282,9 +282,9 @@ fn remove<D: PageDevice<PAGE>, const PAGE: usize>(
     lane: &mut RecordedLane<D, PAGE>,
     caller: u16,
     name: &[u8],
-) -> Result<Removed, Fail> {
+) -> Result<(), Fail> {
     match remove_once(alloc, lane, caller, name)? {
-        Ok(removed) => Ok(removed),
+        Ok(()) => Ok(()),
         Err(_) => Ok(remove_once(alloc, lane, caller, name)??),
     }
 }
@@ -294,7 +294,7 @@ fn remove_once<D: PageDevice<PAGE>, const PAGE: usize>(
     lane: &mut RecordedLane<D, PAGE>,
     caller: u16,
     name: &[u8],
-) -> Result<Result<Removed, RecordFault>, Fail> {
+) -> Result<Result<(), RecordFault>, Fail> {
     let (start, point) = stamps(lane)?;
     let key = own_key(alloc, lane, name)?;
     Ok(lane.remove(caller, start, point, &key))
@@ -309,11 +309,11 @@ fn moved<D: PageDevice<PAGE>, const PAGE: usize>(
     }
 }
 
-fn stored(answer: Result<Stored, RecordPutFault>) -> Result<Stored, Fail> {
+fn stored(answer: Result<Pushed, RecordPutFault>) -> Result<Pushed, Fail> {
     Ok(answer?)
 }
 
-fn is_too_large(answer: Result<Stored, RecordPutFault>) -> bool {
+fn is_too_large(answer: Result<Pushed, RecordPutFault>) -> bool {
     match answer {
         Err(RecordPutFault::TooLarge) => true,
         _ => false,
@@ -331,36 +331,42 @@ fn is_found(answer: &Answer, wanted: &Found) -> bool {
     }
 }
 
-// Whether this is the one call that was recorded behind so many, made by this caller, and its stamps are the last two.
+// Whether one call was recorded behind so many: by this caller, of this key, with this act, and its stamps are the last two.
 fn is_last<D: PageDevice<PAGE>, const PAGE: usize>(
     lane: &RecordedLane<D, PAGE>,
     before: usize,
     caller: u16,
-    noted: &Noted,
+    name: &[u8],
+    act: ActRef<'_>,
 ) -> bool {
     if before >= lane.len() || lane.len() - before != 1 {
         return false;
     }
-    noted.caller == caller
-        && noted.start < noted.point
-        && noted.point == lane.last_point()
-        && is_copy(noted, lane.at(before))
+    let last = lane.at(before);
+    last.caller == caller
+        && has_stamps(last, lane.last_point())
+        && last.key == name
+        && is_same_act(last.act, act)
 }
 
-fn is_copy(noted: &Noted, last: NotedRef<'_>) -> bool {
-    noted.caller == last.caller
-        && noted.start == last.start
-        && noted.point == last.point
-        && noted.key.bytes() == last.key
-        && is_same_act(&noted.act, last.act)
+fn has_stamps(noted: NotedRef<'_>, point: u64) -> bool {
+    noted.point == point && noted.start < point && point - noted.start == 1
 }
 
-fn is_same_act(act: &Act, lent: ActRef<'_>) -> bool {
-    match (act, lent) {
-        (Act::Put(value), ActRef::Put(bytes)) => value.bytes() == bytes,
-        (Act::Hit(value), ActRef::Hit(bytes)) => value.bytes() == bytes,
-        (Act::Remove, ActRef::Remove) => true,
-        (Act::Miss, ActRef::Miss) => true,
+// What is recorded of an answer.
+fn act_of(answer: &Answer) -> ActRef<'_> {
+    match answer {
+        Answer::Hit(value, _) => ActRef::Hit(value.bytes()),
+        Answer::Miss(_) => ActRef::Miss,
+    }
+}
+
+fn is_same_act(one: ActRef<'_>, other: ActRef<'_>) -> bool {
+    match (one, other) {
+        (ActRef::Put(value), ActRef::Put(bytes)) => value == bytes,
+        (ActRef::Hit(value), ActRef::Hit(bytes)) => value == bytes,
+        (ActRef::Remove, ActRef::Remove) => true,
+        (ActRef::Miss, ActRef::Miss) => true,
         _ => false,
     }
 }

@@ -24,23 +24,23 @@ returns-in-None c =
     let lanes = c.args.lanes.now in
     let heads = c.args.heads.now in
     let number = c.args.number in
-    let next = next_read lanes heads number c.index-lanes-number.result (record { first = 0; listed = 0 }) c.at.result.now c.requires.in_lanes c.requires.in_heads c.index-lanes-number.is c.at.ensures in
-    only_one lanes heads number c.at.result.now c.at.result.now.point next refl (subst (IsFirstBelow lanes heads number) c.in-None.is c.requires.first)
+    let next = next_read lanes heads number c.index-lanes-number.result (record { first = 0; listed = 0 }) c.point.result c.requires.in_lanes c.requires.in_heads c.index-lanes-number.is c.point.ensures in
+    only_one lanes heads number next.0 c.point.result next.1 next.2 (subst (IsFirstBelow lanes heads number) c.in-None.is c.requires.first)
 
 pub returns-then-next-held : goal.returns-then-next-held
 returns-then-next-held c =
     let lanes = c.args.lanes.now in
     let heads = c.args.heads.now in
     let number = c.args.number in
-    let next = next_read lanes heads number c.index-lanes-number.result (record { first = 0; listed = 0 }) c.at.result.now c.requires.in_lanes c.requires.in_heads c.index-lanes-number.is c.at.ensures in
+    let next = next_read lanes heads number c.index-lanes-number.result (record { first = 0; listed = 0 }) c.point.result c.requires.in_lanes c.requires.in_heads c.index-lanes-number.is c.point.ensures in
     let before = c.if-next-held.true in
-    new_first lanes heads number c.at.result.now c.at.result.now.point c.in-Some.held next refl (omega (arith, before)) (subst (IsFirstBelow lanes heads number) c.in-Some.is c.requires.first)
+    new_first lanes heads number next.0 c.point.result c.in-Some.held next.1 next.2 (omega (arith, before)) (subst (IsFirstBelow lanes heads number) c.in-Some.is c.requires.first)
 
 pub returns-else-next-held : goal.returns-else-next-held
 returns-else-next-held c =
     let lanes = c.args.lanes.now in
     let heads = c.args.heads.now in
     let number = c.args.number in
-    let next = next_read lanes heads number c.index-lanes-number.result (record { first = 0; listed = 0 }) c.at.result.now c.requires.in_lanes c.requires.in_heads c.index-lanes-number.is c.at.ensures in
+    let next = next_read lanes heads number c.index-lanes-number.result (record { first = 0; listed = 0 }) c.point.result c.requires.in_lanes c.requires.in_heads c.index-lanes-number.is c.point.ensures in
     let before = c.if-next-held.false in
-    same_first lanes heads number c.at.result.now c.at.result.now.point c.in-Some.held next refl (omega (arith, before)) (subst (IsFirstBelow lanes heads number) c.in-Some.is c.requires.first)
+    same_first lanes heads number next.0 c.point.result c.in-Some.held next.1 next.2 (omega (arith, before)) (subst (IsFirstBelow lanes heads number) c.in-Some.is c.requires.first)

@@ -1,4 +1,4 @@
-use Rattle.std.proofs.Common.{rules, refl, sym, ap, subst, length, ◌<◌, ◌∙◌, ◌++◌, ◌∷◌, [], append_assoc}
+use Rattle.std.proofs.Common.{rules, refl, sym, ap, subst, ◌∙◌, ◌++◌, ◌∷◌, [], append_assoc}
 use Rattle.shared_cache.specs.Claimed.{AreMade}
 use Rattle.shared_cache.specs.Blames.{calls_in}
 use Rattle.shared_cache.proofs.Blaming.{calls_more, strange_pass}
@@ -13,19 +13,16 @@ loop-pass-preserved c =
     let v = c.loop-pass.invariant in
     let told = c.in_default-claim_calls.ensures in
     let p = c.in-Some.ensures.items in
-    let own = c.into_calls.ensures.calls in
     record {
-      weighed = λ h. passes_claimed h c.loop-pass.claims.items c.claim_calls.new.claims.items c.in-Some.pass c.pop_front.new.self.items _ (rw p at (v.weighed h)) (rw own at (told.claimed h));
+      weighed = λ h. passes_claimed h c.loop-pass.claims.items c.claim_calls.new.claims.items c.in-Some.pass c.pop_front.new.self.items _ (rw p at (v.weighed h)) (told.claimed h);
       calls = told.calls ∙ v.calls;
       done = v.done ++ c.in-Some.pass ∷ [];
       split = append_assoc v.done (c.in-Some.pass ∷ []) c.pop_front.new.self.items ∙ ap (λ ps. v.done ++ ps) (sym p) ∙ v.split;
-      made = subst (λ ls. AreMade c.claim_calls.new.claims.items ls) (ap (λ ls. calls_in v.done ++ ls) own ∙ calls_more v.done c.in-Some.pass) (told.made (calls_in v.done) v.made);
+      made = subst (λ ls. AreMade c.claim_calls.new.claims.items ls) (calls_more v.done c.in-Some.pass) (told.made (calls_in v.done) v.made);
     }
 
 pub returns-in-Err-clause-strange : goal.returns-in-Err-clause-strange
 returns-in-Err-clause-strange c =
     let v = c.loop-pass.invariant in
-    let own = c.into_calls.ensures.calls in
-    let within : c.in-Err.call < length c.in-Some.pass.calls = rw (← own) c.in-Err.ensures.within in
-    let first = rw (v.calls, own) at (c.in-Err.ensures.strange (calls_in v.done) v.made) in
-    strange_pass _ c.args.passes.items v.done c.pop_front.new.self.items c.in-Some.pass _ _ (sym (ap (λ ps. v.done ++ ps) (sym c.in-Some.ensures.items) ∙ v.split)) (search rules) within first
+    let first = rw v.calls at (c.in-Err.ensures.strange (calls_in v.done) v.made) in
+    strange_pass _ c.args.passes.items v.done c.pop_front.new.self.items c.in-Some.pass _ _ (sym (ap (λ ps. v.done ++ ps) (sym c.in-Some.ensures.items) ∙ v.split)) (search rules) c.in-Err.ensures.within first

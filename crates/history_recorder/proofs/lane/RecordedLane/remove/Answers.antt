@@ -12,14 +12,13 @@ use Rattle.history_recorder.proofs.lane.RecordedLane.remove.Goals as goal
 pub invariant_of-self-2 : goal.invariant_of-self-2
 invariant_of-self-2 g c =
     let d = g.D.PageDevice in
+    let a = c.args in
     let old : Lane g.row.D.Denot = record { store = c.self.inside.store; lane = c.self.inside.lane; calls = c.self.inside.calls } in
-    let n : Noted = record { caller = c.args.caller; start = c.args.start; point = c.args.point; key = c.in_ok-try_clone.field-0; act = Remove } in
-    let rises = subst (λ (l : Lane g.row.D.Denot). All (λ (m : Noted). m.point < c.args.point) l.calls) (sym c.self.view_is) c.requires.rises in
-    let own = subst (λ (l : Lane g.row.D.Denot). IsOfLane l.store.layout l.lane c.args.key.now) (sym c.self.view_is) c.requires.own in
-    recorded_remove d.honest d.held old c.self.invariant n c.remove.new.self c.push.new.self c.in_ok-push.ensures.ok c.remove.ensures.layout (ap d.honest c.remove.ensures.device) c.requires.start rises
-    (subst (IsOfLane old.store.layout old.lane) (sym c.in_ok-try_clone.ensures) own)
-    (omega arith) c.args.key.now c.in_ok-try_clone.ensures refl
-    (λ is. c.removal_shows.ensures c.args.key.now (lane_of d.held old.store) (lane_of d.held c.remove.new.self) (c.self.invariant.order is) c.remove.ensures.removed)
+    let n : Noted = record { caller = a.caller; start = a.start; point = a.point; key = a.key.now; act = Remove } in
+    let rises = subst (λ (l : Lane g.row.D.Denot). All (λ (m : Noted). m.point < a.point) l.calls) (sym c.self.view_is) c.requires.rises in
+    let own = subst (λ (l : Lane g.row.D.Denot). IsOfLane l.store.layout l.lane a.key.now) (sym c.self.view_is) c.requires.own in
+    recorded_remove d.honest d.held old c.self.invariant n c.remove.new.self c.push.new.self c.in_ok-push.ensures.ok c.remove.ensures.layout (ap d.honest c.remove.ensures.device) c.requires.start rises own (omega arith) a.key.now refl refl
+    (λ is. c.removal_shows.ensures a.key.now (lane_of d.held old.store) (lane_of d.held c.remove.new.self) (c.self.invariant.order is) c.remove.ensures.removed)
 
 pub returns-clause-removes : goal.returns-clause-removes
 returns-clause-removes g c =

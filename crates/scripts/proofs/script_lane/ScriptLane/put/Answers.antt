@@ -9,12 +9,12 @@ use Rattle.scripts.proofs.script_lane.ScriptLane.put.Goals as goal
 
 pub returns-clause-after : goal.returns-clause-after
 returns-clause-after g c =
-    let said = c.in_ok-stored.ensures in
+    let said = c.in_ok-pushed.ensures in
     subst (λ (old : Lane Pages). seen_of c.put.new.self ≡ after_call (seen_of old) (put_step g.row.PAGE old.store.layout.admit (record { key = c.args.key; value = c.args.value }) c.args.word (seen_of old).lane).lane c.args.key (Put c.args.value)) c.self.view_is
     (called c.self.inside.lane c.put.new.self c.args.key (Put c.args.value) (put_step g.row.PAGE c.self.inside.lane.store.layout.admit (record { key = c.args.key; value = c.args.value }) c.args.word (seen_of c.self.inside.lane).lane).lane
-    c.in_ok-stored.stored.noted said.recorded (rw (← c.len-count.ensures.count) said.noted) said.puts.layout said.puts.gives.1)
+    (rw (← c.len-count.ensures.count) said.recorded) said.puts.layout said.puts.gives.1)
 
 pub invariant_of-self-2 : goal.invariant_of-self-2
 invariant_of-self-2 g c =
-    let said = c.in_ok-stored.ensures in
-    goes_on c.self.inside.lane c.put.new.self c.args.key (Put c.args.value) c.in_ok-stored.stored.noted c.self.invariant said.recorded (rw (← c.len-count.ensures.count) said.noted) said.puts.layout
+    let said = c.in_ok-pushed.ensures in
+    goes_on c.self.inside.lane c.put.new.self c.args.key (Put c.args.value) c.self.invariant (rw (← c.len-count.ensures.count) said.recorded) said.puts.layout

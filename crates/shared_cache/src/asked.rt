@@ -1,0 +1,30 @@
+// What a caller asks of a lane, with what is only read lent.
+ghost use Rattle.std.specs.Prelude.{◌≡◌};
+ghost use Rattle.history_recorder.specs.Operations.{key_of};
+ghost use Rattle.shared_cache.specs.Acts.{asked_shown};
+
+use record_pages::{Key, Value};
+
+/// An operation, as it is asked of the lane of its key: what the lane only reads is lent to it, and it keeps what it is given.
+#[derive(Drop)]
+pub enum Asked<'a> {
+    /// The value of a key.
+    Get(&'a Key),
+    /// To keep a value of a key, by the word of its admission.
+    Put(Key, Value, u32),
+    /// To keep no value of a key.
+    Remove(&'a Key),
+}
+
+impl<'a> Asked<'a> {
+    /// The key that it is about.
+    pub fn key(&self) -> &Key
+        ensures { result.now ≡ key_of (asked_shown self.now) }
+    {
+        match self {
+            Asked::Get(key) => key,
+            Asked::Put(key, _, _) => key,
+            Asked::Remove(key) => key,
+        }
+    }
+}
