@@ -1,0 +1,5 @@
+mod faults;
+mod files;
+mod keeping;
+mod late_names;
+mod refusals;

@@ -1,0 +1,30 @@
+//! Reads of a file that was cut behind the back of its device.
+ghost use Rattle.std.specs.Prelude.{◌≡◌, ◌^◌, ◌+◌, ◌%◌, IsTrue};
+
+use super::files::{Pages, is_cut, reads, writes};
+use page_device::PageDevice;
+use std::fs;
+use std::test::Fail;
+
+/// Whether a read of a page that the device has fails. That adds one to its failures.
+fn read_fails(device: &mut Pages, page: u32) -> bool
+    ensures { IsTrue result → device.new.failures ≡ (device.old.failures + 1) % 2 ^ 64 }
+{
+    let mut bytes = [0; 256];
+    page < device.pages() && device.read(page, &mut bytes).is_err()
+}
+
+#[test]
+fn a_page_past_the_end_of_the_file_is_a_fault(rt: HostRuntime) -> Result<(), Fail> {
+    let _ = fs::remove_file(&rt, "cut.pages");
+    let mut device = Pages::open(&rt, "cut.pages", 4)?;
+    assert!(rt; writes(&mut device, 0, 3) && writes(&mut device, 1, 4));
+    assert!(rt; is_cut(&rt, "cut.pages", 511));
+    assert!(rt;
+        reads(&mut device, 0, 3) && read_fails(&mut device, 1) && read_fails(&mut device, 2)
+    );
+    assert!(rt;
+        writes(&mut device, 1, 6) && reads(&mut device, 1, 6) && read_fails(&mut device, 2)
+    );
+    Ok(fs::remove_file(&rt, "cut.pages")?)
+}

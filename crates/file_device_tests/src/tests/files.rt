@@ -1,0 +1,36 @@
+//! Pages of one byte each, and what a file is outside its device.
+use file_device::FileDevice;
+use page_device::PageDevice;
+use std::fs;
+use std::fs::OpenOptions;
+use std::rt::Files;
+
+/// The devices of these tests have pages of 256 bytes.
+pub type Pages = FileDevice<256>;
+
+/// Whether a page that the device has is written, with this byte throughout.
+pub fn writes(device: &mut Pages, page: u32, byte: u8) -> bool {
+    page < device.pages() && device.write(page, &[byte; 256]).is_ok()
+}
+
+/// Whether a page that the device has is read, and holds this byte throughout.
+pub fn reads(device: &mut Pages, page: u32, byte: u8) -> bool {
+    let mut bytes = [byte ^ 255; 256];
+    page < device.pages() && device.read(page, &mut bytes).is_ok() && bytes == [byte; 256]
+}
+
+/// Whether a file is there and has so many bytes.
+pub fn has_length<R: Files>(rt: &R, path: &str, bytes: u64) -> bool {
+    match fs::metadata(rt, path) {
+        Ok(found) => found.len() == bytes,
+        Err(_) => false,
+    }
+}
+
+/// Whether a file got this length, behind the back of its device.
+pub fn is_cut<R: Files<File = fs::File>>(rt: &R, path: &str, bytes: u64) -> bool {
+    match OpenOptions::new().write(true).open(rt, path) {
+        Ok(file) => file.set_len(bytes).is_ok(),
+        Err(_) => false,
+    }
+}
