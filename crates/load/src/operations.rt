@@ -5,18 +5,27 @@ ghost use Rattle.std.specs.List.{repeat};
 ghost use Rattle.load.specs.Operations.{key_of, value_of, next_of};
 
 use crate::load::Load;
+use arrayvec::ArrayVec;
 use history_recorder::Operation;
+use itoa::Buffer;
 use rand_core::utils::NextWord;
 use rand_pcg::Lcg64Xsh32;
 use record_pages::{Key, KeyFault, Value, ValueFault};
 use std::alloc::{AllocError, Global};
 
-/// The key that a word names.
+/// The most bytes of a key: a `k` and a number of 32 bits in decimal.
+const KEY_LEN: usize = 11;
+
+/// The key that a word names. Its bytes are put together on the stack, so the key's own copy is all the memory it takes.
 fn key(alloc: Global, load: &Load, word: u32) -> Result<Key, AllocError>
     ensures { IfOk result (λ key. key ≡ key_of load.now word) }
 {
-    let text = format!(in alloc; "k{}", word % load.keys)?;
-    match Key::new(alloc, text.as_bytes()) {
+    let mut digits = Buffer::new();
+    let mut name = ArrayVec::<u8, KEY_LEN>::new();
+    name.try_extend_from_slice(b"k").unwrap();
+    name.try_extend_from_slice(digits.format(word % load.keys).as_bytes())
+        .unwrap();
+    match Key::new(alloc, name.as_slice()) {
         Ok(key) => Ok(key),
         Err(_) => Err(AllocError),
     }

@@ -208,7 +208,7 @@ impl Pass {
         ensures calls { self.new.calls ≡ self.old.calls }
         ensures tie { KeepsTie self.old self.new }
     {
-        clock.observe(&mut self.seat, after);
+        self.seat.meet(after)?;
         clock.tick(&mut self.seat)
     }
 

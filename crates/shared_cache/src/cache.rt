@@ -24,6 +24,7 @@ use crate::finished::Finished;
 use crate::open_cache_fault::OpenCacheFault;
 use crate::opening::{books_of, is_one_too_small, passes_of};
 use crate::outcome::Outcome;
+use crossbeam_utils::CachePadded;
 use history_recorder::lay_out;
 use page_device::PageDevice;
 use policy_laws::EvictionPolicy;
@@ -44,7 +45,8 @@ pub struct SharedCache<D: PageDevice<PAGE>, P: EvictionPolicy + Drop, const PAGE
     callers: u16,
     policy: P,
     clock: Clock,
-    books: Vec<Mutex<LaneBook<D, PAGE>>>,
+    // Each book stands on cache lines of its own, apart from its lock and the other books.
+    books: Vec<Mutex<CachePadded<LaneBook<D, PAGE>>>>,
 }
 
 impl<D: PageDevice<PAGE>, P: EvictionPolicy + Drop, const PAGE: usize> Model
@@ -263,7 +265,7 @@ impl<D: PageDevice<PAGE>, P: EvictionPolicy + Drop, const PAGE: usize> SharedCac
         };
         let lane = place(&self.layout, asked.key().bytes()).lane;
         let mut guard = self.books[lane as usize].lock(rt);
-        let book = &mut *guard;
+        let book = &mut **guard;
         if !book.is_of(lane, &self.config) {
             return Err(CallFault::WrongLane);
         }

@@ -11,6 +11,7 @@ use crate::books::{LaneBook, Pass};
 use crate::claims::{claim_passes, close_claims};
 use crate::finish_fault::FinishFault;
 use crate::lane_claims::LaneClaims;
+use crossbeam_utils::CachePadded;
 use history_recorder::{Dones, RecordedParts};
 use page_device::PageDevice;
 use record_pages::Config;
@@ -22,7 +23,7 @@ use std::sync::Mutex;
 pub(crate) fn take_apart<D: PageDevice<PAGE>, const PAGE: usize>(
     alloc: Global,
     config: &Config,
-    books: Vec<Mutex<LaneBook<D, PAGE>>>,
+    books: Vec<Mutex<CachePadded<LaneBook<D, PAGE>>>>,
 ) -> Result<(Vec<LaneClaims>, Vec<D>), FinishFault>
     requires { length books.items ≤ most_lanes }
     ensures over { IfOk result (λ taken.
@@ -52,7 +53,7 @@ pub(crate) fn take_apart<D: PageDevice<PAGE>, const PAGE: usize>(
 
 /// The calls and the device of the lane with this number, if its book stands there.
 fn parts_of<D: PageDevice<PAGE>, const PAGE: usize>(
-    lock: Mutex<LaneBook<D, PAGE>>,
+    lock: Mutex<CachePadded<LaneBook<D, PAGE>>>,
     lane: u32,
     config: &Config,
 ) -> Result<RecordedParts<D>, FinishFault>
@@ -60,7 +61,7 @@ fn parts_of<D: PageDevice<PAGE>, const PAGE: usize>(
         (map noted_in parts.calls) parts.device) }
     ensures lost { IfErr result (λ fault. fault ≡ FinishFault.LaneLost lane) }
 {
-    let book = lock.into_inner();
+    let book = lock.into_inner().into_inner();
     if !book.is_of(lane, config) {
         return Err(FinishFault::LaneLost { lane });
     }

@@ -5,6 +5,7 @@ ghost use Rattle.shared_cache.specs.Passes.{Ticket, new_ticket};
 
 use crate::books::{LaneBook, Pass};
 use crate::clock::{Clock, ClockSeat};
+use crossbeam_utils::CachePadded;
 use page_device::PageDevice;
 use record_pages::Config;
 use std::alloc::{AllocError, Global};
@@ -35,12 +36,12 @@ pub(crate) fn passes_of(
     Ok(passes)
 }
 
-/// An empty book for each lane, each under its lock.
+/// An empty book for each lane, each under its lock, on cache lines of its own.
 pub(crate) fn books_of<D: PageDevice<PAGE>, const PAGE: usize>(
     alloc: Global,
     config: &Config,
     devices: Vec<D>,
-) -> Result<Vec<Mutex<LaneBook<D, PAGE>>>, AllocError>
+) -> Result<Vec<Mutex<CachePadded<LaneBook<D, PAGE>>>>, AllocError>
     requires { length devices.items ≡ config.now.lanes }
     ensures { IfOk result (λ books. length books.items ≡ config.now.lanes) }
 {
@@ -50,7 +51,8 @@ pub(crate) fn books_of<D: PageDevice<PAGE>, const PAGE: usize>(
         let Some(device) = devices.pop_front() else {
             unreachable!()
         };
-        books.push(Mutex::new(LaneBook::new(alloc, config, lane, device)?))?;
+        let book = LaneBook::new(alloc, config, lane, device)?;
+        books.push(Mutex::new(CachePadded::new(book)))?;
     }
     Ok(books)
 }

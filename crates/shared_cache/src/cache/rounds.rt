@@ -18,7 +18,7 @@ impl<D: PageDevice<PAGE>, P: EvictionPolicy + Drop, const PAGE: usize> SharedCac
         requires { lane < self.now.layout.lanes }
     {
         let mut guard = self.books[lane as usize].lock(rt);
-        let book = &mut *guard;
+        let book = &mut **guard;
         book.flush()
     }
 
@@ -65,7 +65,7 @@ impl<D: PageDevice<PAGE>, P: EvictionPolicy + Drop, const PAGE: usize> SharedCac
         requires { lane < self.now.layout.lanes }
     {
         let mut guard = self.books[lane as usize].lock(rt);
-        let book = &mut *guard;
+        let book = &mut **guard;
         book.begin()
     }
 
@@ -74,7 +74,7 @@ impl<D: PageDevice<PAGE>, P: EvictionPolicy + Drop, const PAGE: usize> SharedCac
         requires { lane < self.now.layout.lanes }
     {
         let mut guard = self.books[lane as usize].lock(rt);
-        let book = &mut *guard;
+        let book = &mut **guard;
         book.commit(plan, number)
     }
 
@@ -83,7 +83,7 @@ impl<D: PageDevice<PAGE>, P: EvictionPolicy + Drop, const PAGE: usize> SharedCac
         requires { lane < self.now.layout.lanes }
     {
         let mut guard = self.books[lane as usize].lock(rt);
-        let book = &mut *guard;
+        let book = &mut **guard;
         let _aborted = book.abort(number);
     }
 }
