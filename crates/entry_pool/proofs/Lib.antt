@@ -6,4 +6,5 @@ pub mod Written
 pub mod Sound
 pub mod Settled
 pub mod Marks
+pub mod BackLaws
 pub mod FreshLaws

@@ -2,6 +2,7 @@
 #![tactic(auto)]
 
 mod by_age;
+mod from_oldest;
 mod in_set;
 mod item;
 mod links;
@@ -12,6 +13,7 @@ mod row;
 mod words;
 
 pub use by_age::ByAge;
+pub use from_oldest::FromOldest;
 pub use in_set::InSet;
 pub use item::Item;
 pub use node::{NONE, Node};

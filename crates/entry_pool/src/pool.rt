@@ -1,10 +1,11 @@
 // The pool of rows.
-ghost use Rattle.std.specs.Prelude.{◌≡◌, ◌<◌, ◌≤◌, ◌^◌, ◌∷◌, [], Some, None, IfOk, length};
+ghost use Rattle.std.specs.Prelude.{◌≡◌, ◌<◌, ◌≤◌, ◌^◌, ◌∷◌, [], Some, None, IfOk, length, reverse};
 ghost use Rattle.std.specs.List.{last_or};
 ghost use Rattle.entry_pool.specs.Chains.{IsDistinct};
 ghost use Rattle.entry_pool.specs.Rows.{numbers, in_set, with_rows, without_at, with_prediction_at, IsHeld, IsMark, IsNext};
 
 use crate::by_age::{ByAge, rows_by_age};
+use crate::from_oldest::{FromOldest, rows_from_oldest};
 use crate::in_set::{InSet, rows_in_set};
 use crate::item::Item;
 use crate::links::Links;
@@ -142,6 +143,21 @@ impl EntryPool {
         })
     }
 
+    // The next newer row behind a mark: a row's number, or `NONE` for the place before the oldest.
+    pub(crate) fn next_newer(&self, mark: u32) -> Option<Row>
+        requires { IsMark mark (reverse self.now.rows) }
+        ensures { IsNext mark (reverse self.now.rows) result }
+    {
+        let at = self.links.newer(mark);
+        if at == NONE {
+            return None;
+        }
+        Some(Row {
+            at,
+            item: self.links.item(at),
+        })
+    }
+
     /// The rows of a set, newest first.
     pub fn in_set(&self, set: u32) -> InSet<'_>
         ensures { result ≡ in_set set self.now.rows }
@@ -154,6 +170,13 @@ impl EntryPool {
         ensures { result ≡ self.now.rows }
     {
         rows_by_age(self)
+    }
+
+    /// The rows, oldest first.
+    pub fn from_oldest(&self) -> FromOldest<'_>
+        ensures { result ≡ reverse self.now.rows }
+    {
+        rows_from_oldest(self)
     }
 
     /// The oldest row.

@@ -4,7 +4,8 @@ use Rattle.std.specs.Prelude.{◌&&◌, slice_get, ◌⊎◌}
 use Rattle.std.specs.List.{last_or}
 use Rattle.std.specs.Option.{option_map}
 use Rattle.std.proofs.lemmas.Bool.{cases_Bool, cond_both, eq-eqb, ne_eqb}
-use Rattle.std.proofs.lemmas.List.Elements.{All-tail, All-head}
+use Rattle.std.proofs.lemmas.List.{append-nil}
+use Rattle.std.proofs.lemmas.List.Elements.{All-tail, All-head, filter-append}
 use Rattle.entry_pool.specs.declared.row.Row.{Row}
 use Rattle.entry_pool.specs.Chains.{IsIn, IsDistinct}
 use Rattle.entry_pool.specs.Rows.{numbers, in_set, without_at, with_prediction_at, repredicted}
@@ -268,9 +269,24 @@ length-kept p (e ∷ es) =
     cond_both (p e) (e ∷ filter p es) (filter p es) (λ ys. length ys ≤ length (e ∷ es)) (λ _. omega (arith, rest)) (λ _. omega (arith, rest))
 
 -- the entries of one row more
-pub entries-push : (rows : List Row) (r : Row) → entries_of (rows ++ r ∷ []) ≡ entries_of rows ++ entry_of r.item ∷ []
+entries-push : (rows : List Row) (r : Row) → entries_of (rows ++ r ∷ []) ≡ entries_of rows ++ entry_of r.item ∷ []
 entries-push [] r = refl
 entries-push (x ∷ xs) r = ap (λ (es : List Entry). entry_of x.item ∷ es) (entries-push xs r)
+
+-- one row more that is not of the kind stays
+pub without-kept : (p : Entry → Bool) (rows : List Row) (r : Row) → p (entry_of r.item) ≡ false → without p (entries_of (rows ++ r ∷ [])) ≡ without p (entries_of rows) ++ entry_of r.item ∷ []
+without-kept p rows r is =
+    ap (without p) (entries-push rows r)
+    ∙ filter-append (λ e. not (p e)) (entries_of rows) (entry_of r.item ∷ [])
+    ∙ ap (λ (b : Bool). without p (entries_of rows) ++ cond (not b) (entry_of r.item ∷ []) []) is
+
+-- and one that is does not
+pub without-gone : (p : Entry → Bool) (rows : List Row) (r : Row) → p (entry_of r.item) ≡ true → without p (entries_of (rows ++ r ∷ [])) ≡ without p (entries_of rows)
+without-gone p rows r is =
+    ap (without p) (entries-push rows r)
+    ∙ filter-append (λ e. not (p e)) (entries_of rows) (entry_of r.item ∷ [])
+    ∙ ap (λ (b : Bool). without p (entries_of rows) ++ cond (not b) (entry_of r.item ∷ []) []) is
+    ∙ append-nil (without p (entries_of rows))
 
 pub same-map : {X : Type 0} (xs : List X) → map (λ (x : X). x) xs ≡ xs
 same-map [] = refl

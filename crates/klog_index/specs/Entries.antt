@@ -1,5 +1,6 @@
 -- An index as the list of its entries.
-use Rattle.std.specs.Prelude.{◌≡◌, ◌≢◌, ℕ, ◌-◌, List, Bool, not, ◌==◌, ◌&&◌, filter, map, All, AllPairs, if◌then◌else◌}
+use Rattle.std.specs.Prelude.{◌≢◌, ℕ, ◌-◌, List, Bool, not, ◌==◌, ◌&&◌, filter, map, All, AllPairs, if◌then◌else◌}
+use Rattle.std.specs.List.{list_any}
 use Rattle.klog_index.specs.declared.place.Place.{Place}
 use Rattle.klog_index.specs.declared.entry.Entry.{Entry}
 
@@ -16,6 +17,14 @@ is_place p q = p.segment == q.segment && p.page == q.page && p.slot == q.slot
 -- the entry is of this set
 abbrev pub is_of : ℕ → Entry → Bool
 is_of set e = e.set == set
+
+-- the entry is of one of these sets
+abbrev pub is_of_any : List ℕ → Entry → Bool
+is_of_any sets e = list_any (λ n. n == e.set) sets
+
+-- the entry is of the segment with this name
+abbrev pub is_of_segment : ℕ → Entry → Bool
+is_of_segment segment e = e.place.segment == segment
 
 -- the entry is of this set and has this tag
 abbrev pub has_tag : ℕ → ℕ → Entry → Bool

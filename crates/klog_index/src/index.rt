@@ -31,8 +31,8 @@ impl Model for LogIndex {
     ghost invariant = { λ x. RowsApart x.pool.rows };
 }
 
-ghost use Rattle.klog_index.specs.Entries.{Entries, with_entries, without, with_lowered, of_set, of_tag, is_of, passes_of, has_tag, is_at, is_in, is_on, IsFree, AreApart};
-ghost use Rattle.klog_index.specs.First.{FindsFirst};
+ghost use Rattle.klog_index.specs.Entries.{Entries, with_entries, without, with_lowered, of_set, of_tag, is_of, is_of_any, passes_of, has_tag, is_at, is_in, is_on, IsFree, AreApart};
+ghost use Rattle.klog_index.specs.First.{FindsFirst, oldest_but};
 
 impl LogIndex {
     /// An index with no entry, of so many sets, for so many entries. All memory is taken here.
@@ -146,13 +146,32 @@ impl LogIndex {
         self.entries_of(set).count()
     }
 
-    /// The entry of least page, then slot, of the segment with this name.
-    pub fn first_of(&self, segment: u16) -> Option<Entry>
-        ensures { FindsFirst segment self.now.entries result }
+    /// From the oldest entry on, as far as they are of the segment with this name, the first that is of none of these
+    /// sets. There is none where the oldest entry is of another segment, or all of this one are of these sets.
+    ///
+    /// Walks along the entries of the segment that are passed over, and looks at one more.
+    pub fn oldest_but(&self, segment: u16, sets: &[u32]) -> Option<Entry>
+        ensures { result ≡ oldest_but segment sets.now self.now.entries }
+    {
+        self.pool
+            .from_oldest()
+            .map(|row| entry_of(&row.item))
+            .take_while(|e| e.place.segment == segment)
+            .find(|e| !sets.contains(&e.set))
+    }
+
+    /// Of the entries of the segment with this name that are of none of these sets, the one of least page, then slot.
+    ///
+    /// Walks along all entries.
+    pub fn first_of(&self, segment: u16, sets: &[u32]) -> Option<Entry>
+        ensures { FindsFirst segment (without (is_of_any sets.now) self.now.entries) result }
     {
         let mut first = None;
         for row in self.pool.by_age() {
-            first = first_with(segment, first, &entry_of(&row.item));
+            let entry = entry_of(&row.item);
+            if !sets.contains(&entry.set) {
+                first = first_with(segment, first, &entry);
+            }
         }
         first
     }

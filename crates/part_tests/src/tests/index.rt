@@ -19,7 +19,9 @@ enum Look {
     OfSet(u32, usize, Option<Seen>),
     Find(u32, u16, usize, Option<Seen>),
     Oldest(Option<Seen>),
-    FirstOf(u16, Option<Seen>),
+    /// Of a segment, where some sets are passed over.
+    FirstOf(u16, &'static [u32], Option<Seen>),
+    OldestBut(u16, &'static [u32], Option<Seen>),
 }
 
 /// An entry: its set and tag, the segment, page and slot of its place, and its prediction.
@@ -50,7 +52,8 @@ fn shows(index: &LogIndex, look: &Look) -> bool {
         Look::OfSet(set, skip, seen) => is_seen(index.of_set(*set, *skip), *seen),
         Look::Find(set, tag, skip, seen) => is_seen(index.find(*set, *tag, *skip), *seen),
         Look::Oldest(seen) => is_seen(index.oldest(), *seen),
-        Look::FirstOf(segment, seen) => is_seen(index.first_of(*segment), *seen),
+        Look::FirstOf(segment, sets, seen) => is_seen(index.first_of(*segment, sets), *seen),
+        Look::OldestBut(segment, sets, seen) => is_seen(index.oldest_but(*segment, sets), *seen),
     }
 }
 
@@ -96,8 +99,8 @@ const BOTH: [Look; 10] = [
     Look::Oldest(OLDER),
     Look::Find(2, 9, 0, OLDER),
     Look::Find(2, 9, 1, None),
-    Look::FirstOf(257, OLDER),
-    Look::FirstOf(8, None),
+    Look::FirstOf(257, &[], OLDER),
+    Look::FirstOf(8, &[], None),
 ];
 
 #[test]
@@ -140,6 +143,72 @@ fn a_walk_gives_the_entries_of_one_set(rt: HostRuntime) -> Result<(), Fail> {
     assert_eq!(rt; strayed(&index, &FULL), None);
     assert!(rt; gives(index.entries_of(2), &OF_SET_2));
     assert!(rt; gives(index.entries_of(1), &[]));
+    Ok(())
+}
+
+// Oldest first: an entry of set 2, one of set 3 and one of set 2 of segment 5, then one of set 1 of segment 6.
+fn of_two_segments(alloc: Global) -> Result<LogIndex, Fail> {
+    let six = Prediction::new(6).unwrap();
+    let mut index = LogIndex::open(alloc, 4, 8)?;
+    index.add(2, 7, place(5, 4), six)?;
+    index.add(3, 8, place(5, 9), six)?;
+    index.add(2, 9, place(5, 0), six)?;
+    index.add(1, 7, place(6, 2), six)?;
+    Ok(index)
+}
+
+const OLDEST: Option<Seen> = Some(Seen(2, 7, 5, 1, 4, 6));
+
+const OF_SET_3: Option<Seen> = Some(Seen(3, 8, 5, 1, 9, 6));
+
+const LEAST: Option<Seen> = Some(Seen(2, 9, 5, 1, 0, 6));
+
+const OF_SEGMENT_6: Option<Seen> = Some(Seen(1, 7, 6, 1, 2, 6));
+
+// With no set as `oldest` where that is of the segment; sets that have no entry of the segment change nothing; one whose
+// entry is the oldest gives the next one; all of them give none, though the next segment has an entry of another set.
+const PASSED_OVER: [Look; 14] = [
+    Look::Oldest(OLDEST),
+    Look::OldestBut(5, &[], OLDEST),
+    Look::OldestBut(5, &[0, 1], OLDEST),
+    Look::OldestBut(5, &[3], OLDEST),
+    Look::OldestBut(5, &[2], OF_SET_3),
+    Look::OldestBut(5, &[2, 3], None),
+    Look::OldestBut(5, &[3, 0, 2], None),
+    Look::OldestBut(6, &[], None),
+    Look::OldestBut(6, &[2, 3], None),
+    Look::FirstOf(5, &[], LEAST),
+    Look::FirstOf(5, &[2, 1], OF_SET_3),
+    Look::FirstOf(5, &[3, 2], None),
+    Look::FirstOf(6, &[3, 2], OF_SEGMENT_6),
+    Look::FirstOf(6, &[1], None),
+];
+
+const PASSED_OVER_IN_THE_NEXT: [Look; 4] = [
+    Look::OldestBut(5, &[], None),
+    Look::OldestBut(6, &[], OF_SEGMENT_6),
+    Look::OldestBut(6, &[3, 2], OF_SEGMENT_6),
+    Look::OldestBut(6, &[1], None),
+];
+
+#[test]
+fn some_sets_are_passed_over(rt: HostRuntime) -> Result<(), Fail> {
+    let mut index = of_two_segments(rt.alloc())?;
+    assert_eq!(rt; strayed(&index, &PASSED_OVER), None);
+    index.drop_page(5, 1);
+    assert_eq!(rt; strayed(&index, &PASSED_OVER_IN_THE_NEXT), None);
+    Ok(())
+}
+
+const NOTHING_PASSED_OVER: [Look; 2] = [
+    Look::OldestBut(5, &[], None),
+    Look::OldestBut(5, &[2], None),
+];
+
+#[test]
+fn an_empty_index_has_no_oldest_entry(rt: HostRuntime) -> Result<(), Fail> {
+    let index = LogIndex::open(rt.alloc(), 4, 8)?;
+    assert_eq!(rt; strayed(&index, &NOTHING_PASSED_OVER), None);
     Ok(())
 }
 

@@ -174,7 +174,17 @@ fn agree(index: &LogIndex, plain: &PlainIndex) -> bool {
         && (0..5).all(|set| agree_on_set(index, plain, set))
         && [1, 2, 3, 4, 7, 200, 255, 9]
             .iter()
-            .all(|s| index.first_of(*s) == plain.first_of(*s))
+            .all(|segment| agree_on_segment(index, plain, *segment))
+}
+
+// Sets that are passed over.
+const PASSED: [&[u32]; 6] = [&[], &[0], &[1], &[2, 4], &[1, 0], &[3, 2, 1, 0]];
+
+fn agree_on_segment(index: &LogIndex, plain: &PlainIndex, segment: u16) -> bool {
+    PASSED.iter().all(|sets| {
+        index.first_of(segment, sets) == plain.first_of(segment, sets)
+            && index.oldest_but(segment, sets) == plain.oldest_but(segment, sets)
+    })
 }
 
 fn agree_on_set(index: &LogIndex, plain: &PlainIndex, set: u32) -> bool {

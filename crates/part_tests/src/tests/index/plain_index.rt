@@ -55,9 +55,23 @@ impl PlainIndex {
         self.entries.iter().last().copied()
     }
 
-    pub fn first_of(&self, segment: u16) -> Option<Entry> {
+    /// From the end of the list on, as far as the entries are of the segment, the first that is of none of these sets.
+    pub fn oldest_but(&self, segment: u16, sets: &[u32]) -> Option<Entry> {
+        for entry in self.entries.iter().rev() {
+            if entry.place.segment != segment {
+                return None;
+            }
+            if !is_of_any(sets, entry) {
+                return Some(*entry);
+            }
+        }
+        None
+    }
+
+    /// Of the entries that are of none of these sets, the earliest one of the segment.
+    pub fn first_of(&self, segment: u16, sets: &[u32]) -> Option<Entry> {
         let mut first: Option<Entry> = None;
-        for entry in self.entries.iter() {
+        for entry in self.entries.iter().filter(|e| !is_of_any(sets, e)) {
             first = earlier(segment, first, entry);
         }
         first
@@ -95,6 +109,11 @@ impl PlainIndex {
             }
         }
     }
+}
+
+// Whether an entry is of one of these sets.
+fn is_of_any(sets: &[u32], entry: &Entry) -> bool {
+    sets.iter().any(|set| *set == entry.set)
 }
 
 // The earlier one of a segment, by page and slot.
