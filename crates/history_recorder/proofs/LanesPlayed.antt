@@ -219,7 +219,7 @@ module _ {D : Type 0} (honest : D → Bool) (failures : D → ℕ) (held : D →
 
   pub committed_so : (size lane : ℕ) (plan : List Choice) (number : ℕ) (answer : Committed) → new ≡ record old { store = new.store } → StoreCommits size honest failures held plan number old.store answer new.store → LaneSteps honest held size (events.Commit lane plan number) old (replies.Committed answer) new
   committed_so size lane plan number answer unrecorded commits = record {
-    layout = commit_keeps_layout plan old.store answer new.store commits.leaves;
+    layout = commit_keeps_layout plan number old.store answer new.store commits.leaves;
     lane = ap (λ (l : Lane D). l.lane) unrecorded;
     honesty = commits.honesty;
     kind = tt;
@@ -230,9 +230,9 @@ module _ {D : Type 0} (honest : D → Bool) (failures : D → ℕ) (held : D →
 
   pub aborted_so : (size lane number : ℕ) (answer : Aborted) → new ≡ record old { store = new.store } → StoreAborts held number old.store answer new.store → LaneSteps honest held size (events.Abort lane number) old (replies.Aborted answer) new
   aborted_so size lane number answer unrecorded aborts = record {
-    layout = ap (λ (s : StoreState D). s.layout) aborts.leaves ∙ abort_keeps_layout answer old.store;
+    layout = ap (λ (s : StoreState D). s.layout) aborts.leaves ∙ abort_keeps_layout number answer old.store;
     lane = ap (λ (l : Lane D). l.lane) unrecorded;
-    honesty = ap honest (ap (λ (s : StoreState D). s.device) aborts.leaves ∙ abort_keeps_device answer old.store);
+    honesty = ap honest (ap (λ (s : StoreState D). s.device) aborts.leaves ∙ abort_keeps_device number answer old.store);
     kind = tt;
     recorded = ap (λ (l : Lane D). l.calls) unrecorded;
     kept = well_kept;

@@ -19,7 +19,7 @@ use Rattle.certificate_checker.proofs.Growing.{lawful-push}
 use Rattle.mover.specs.Store.{StoreState}
 use Rattle.mover.specs.Begin.{lane_counted, begin_step, BeginGives}
 use Rattle.mover.specs.Whole.{MoveGives}
-use Rattle.mover.specs.Laws.{IsInOrder, StepsInOrder, BeginShows, WholeMoveShows, IsPlannedFor}
+use Rattle.mover.specs.Laws.{IsInOrder, StepsInOrder, BeginShows, WholeMoveShows, IsPlannedFor, AreCounted}
 use Rattle.mover.specs.declared.begin.Begin.{Begin}
 use Rattle.mover.specs.declared.moved.Moved.{Moved}
 use Rattle.policy_laws.specs.declared.choice.Choice.{Choice}
@@ -27,6 +27,7 @@ use Rattle.policy_laws.specs.declared.job.Job.{Job}
 use Rattle.std.specs.declared.alloc.AllocError.{AllocError}
 use Rattle.mover.specs.Lane.{LaneState, lane_of}
 use Rattle.mover.specs.Visible.{ShowsFrom, TellsVisible}
+use Rattle.mover.proofs.Showing.{no_more, sees_no_more}
 use Rattle.history_recorder.specs.declared.noted.Noted.{Noted}
 use Rattle.history_recorder.specs.Lane.{Lane, deed_noted, deeds_of, act_of, IsOfLane, IsSound, IsRecorded, max_calls}
 
@@ -90,7 +91,7 @@ still_in_order old new was same = subst (StepsInOrder None None old) (sym same) 
 -- one move more was counted
 pub counted_in_order : (old new : LaneState) → IsInOrder old → new ≡ lane_counted old → StepsInOrder None None old new
 counted_in_order old new was same = subst (StepsInOrder None None old) (sym same) (record {
-  shows = λ p shown. inl (shown, λ no. none_some no);
+  shows = no_more old (lane_counted old) (sees_no_more old (lane_counted old) refl (λ p visible. visible));
   order = record { placed = record { log = was.placed.log; sets = was.placed.sets; flight = was.placed.flight }; marked = was.marked };
   shape = refl;
 })
@@ -101,11 +102,11 @@ begun_in_order law size least old new (Ok begun) was gives stays = law size leas
 begun_in_order law size least old new (Err e) was gives stays = still_in_order old new was stays
 
 -- a whole move was made, or memory was refused
-pub moved_in_order : WholeMoveShows → (size least : ℕ) (plan_of : Job → List Choice) (old new : LaneState) (result : Result Moved AllocError) → IsInOrder old → IfOk result (λ moved. IsPlannedFor plan_of moved (begin_step size least old).reply) →
+pub moved_in_order : WholeMoveShows → (size least : ℕ) (plan_of : Job → List Choice) (old new : LaneState) (result : Result Moved AllocError) → IsInOrder old → AreCounted old → IfOk result (λ moved. IsPlannedFor plan_of moved (begin_step size least old).reply) →
     IfOk result (λ moved. MoveGives size least plan_of old moved new) → OnErr result ((new ≡ old) ⊎ (new ≡ lane_counted old)) → StepsInOrder None None old new
-moved_in_order law size least plan_of old new (Ok moved) was planned gives stays = law size least plan_of old new moved was planned gives
-moved_in_order law size least plan_of old new (Err e) was planned gives (inl same) = still_in_order old new was same
-moved_in_order law size least plan_of old new (Err e) was planned gives (inr counted) = counted_in_order old new was counted
+moved_in_order law size least plan_of old new (Ok moved) was numbered planned gives stays = law size least plan_of old new moved was numbered planned gives
+moved_in_order law size least plan_of old new (Err e) was numbered planned gives (inl same) = still_in_order old new was same
+moved_in_order law size least plan_of old new (Err e) was numbered planned gives (inr counted) = counted_in_order old new was counted
 
 -- ---- what is true of every lane
 

@@ -2,7 +2,11 @@
 #![tactic(auto)]
 
 #[cfg(test)]
+mod beside;
+#[cfg(test)]
 mod layouts;
+#[cfg(test)]
+mod plain_lane;
 #[cfg(test)]
 mod tests;
 #[cfg(test)]

@@ -13,7 +13,7 @@ use trace_file::{ActRef, CallRef, Certificate, History};
 
 /// An event.
 #[derive(Clone, Copy)]
-enum Happens {
+pub(crate) enum Happens {
     Get(u16, &'static [u8]),
     Put(u16, &'static [u8], &'static [u8]),
     Remove(u16, &'static [u8]),
@@ -28,22 +28,24 @@ enum Happens {
 
 /// A call of a history: its caller, start, end, key, and what it did: p, h, m or r, with the value.
 #[derive(Clone, Copy)]
-struct Called(u16, u64, u64, &'static [u8], u8, &'static [u8]);
+pub(crate) struct Called(u16, u64, u64, &'static [u8], u8, &'static [u8]);
 
-/// A world of so many lanes, with room for so many objects in memory, and of three callers.
+/// A world of so many lanes of so many sets, with room for so many objects in memory, and of three callers.
 #[derive(Clone, Copy)]
-struct Row {
-    lanes: u32,
-    memory: u32,
+pub(crate) struct Row {
+    pub(crate) lanes: u32,
+    pub(crate) sets: u32,
+    pub(crate) memory: u32,
     /// Each event, and the letter of its reply.
-    events: &'static [(Happens, u8)],
-    history: &'static [Called],
-    certificate: &'static [u32],
+    pub(crate) events: &'static [(Happens, u8)],
+    pub(crate) history: &'static [Called],
+    pub(crate) certificate: &'static [u32],
 }
 
 fn config(row: &Row) -> Config {
     Config {
         lanes: row.lanes,
+        sets: row.sets,
         memory: row.memory,
         ..ONE_LANE
     }
@@ -62,8 +64,11 @@ fn devices<const PAGE: usize>(
     Ok(devices)
 }
 
+// The pages of four sets and of two segments.
+const PAGES: u32 = 6;
+
 fn world(alloc: Global, row: &Row) -> Result<World<MemoryDevice<256>, 256>, Fail> {
-    let devices = devices(alloc, row.lanes, 3)?;
+    let devices = devices(alloc, row.lanes, PAGES)?;
     Ok(World::open(alloc, &config(row), devices, 3)?)
 }
 
@@ -104,7 +109,7 @@ fn events(alloc: Global, row: &Row) -> Result<Vec<Event>, Fail> {
 }
 
 // The letter of a reply.
-fn letter(reply: &Reply) -> u8 {
+pub(crate) fn letter(reply: &Reply) -> u8 {
     match reply {
         Reply::Ignored => b'-',
         Reply::Begun(_) => b'b',
@@ -201,7 +206,7 @@ fn plays_again(alloc: Global, row: &Row) -> Result<bool, Fail> {
 }
 
 // What is played of a row, once more where memory was refused to `play` itself.
-fn played(alloc: Global, row: &Row) -> Result<Played, Fail> {
+pub(crate) fn played(alloc: Global, row: &Row) -> Result<Played, Fail> {
     let events = events(alloc, row)?;
     match play(alloc, world(alloc, row)?, events.as_slice()) {
         Ok(played) => Ok(played),
@@ -209,7 +214,7 @@ fn played(alloc: Global, row: &Row) -> Result<Played, Fail> {
     }
 }
 
-fn is_accepted(alloc: Global, played: &Played) -> Result<bool, Fail> {
+pub(crate) fn is_accepted(alloc: Global, played: &Played) -> Result<bool, Fail> {
     let verdict = match check(alloc, &played.history, &played.certificate) {
         Ok(verdict) => verdict,
         Err(_) => check(alloc, &played.history, &played.certificate)?,
@@ -230,6 +235,7 @@ fn is_refused(played: &Played) -> bool {
 // A get that is done behind the put that began before it.
 const ACT_OF_A_PUT_FIRST: Row = Row {
     lanes: 1,
+    sets: 1,
     memory: 4,
     events: &[
         (Happens::Put(0, b"a", b"1"), b'b'),
@@ -255,6 +261,7 @@ fn a_get_done_behind_a_put_finds_its_value(rt: HostRuntime) -> Result<(), Fail> 
 // The same, done before it.
 const ACT_OF_A_GET_FIRST: Row = Row {
     lanes: 1,
+    sets: 1,
     memory: 4,
     events: &[
         (Happens::Put(0, b"a", b"1"), b'b'),
@@ -280,6 +287,7 @@ fn a_get_done_before_a_put_misses(rt: HostRuntime) -> Result<(), Fail> {
 // Two lanes; the second is done first.
 const SECOND_LANE_FIRST: Row = Row {
     lanes: 2,
+    sets: 1,
     memory: 4,
     events: &[
         (Happens::Put(0, b"a", b"1"), b'b'),
@@ -305,6 +313,7 @@ fn calls_of_two_lanes_are_listed_as_they_were_done(rt: HostRuntime) -> Result<()
 // A key is removed while its object is in flight, and the move does not bring it back.
 const REMOVED_IN_FLIGHT: Row = Row {
     lanes: 1,
+    sets: 1,
     memory: 1,
     events: &[
         (Happens::Put(0, b"ax", b"1"), b'b'),
@@ -343,6 +352,7 @@ fn a_key_that_is_removed_in_flight_does_not_come_back(rt: HostRuntime) -> Result
 // Callers and ends that are not there, and plans that are stale or bad.
 const STRANGERS: Row = Row {
     lanes: 1,
+    sets: 1,
     memory: 1,
     events: &[
         (Happens::Get(3, b"ax"), b'-'),
@@ -381,6 +391,7 @@ fn strange_callers_and_plans_change_nothing(rt: HostRuntime) -> Result<(), Fail>
 // Moves in flight in both lanes. A put strikes the item of the first, whose new value is found and not the moved one.
 const BOTH_IN_FLIGHT: Row = Row {
     lanes: 2,
+    sets: 1,
     memory: 1,
     events: &[
         (Happens::Put(0, b"a", b"1"), b'b'),
@@ -429,6 +440,123 @@ const BOTH_IN_FLIGHT: Row = Row {
 #[test]
 fn moves_of_two_lanes_are_in_flight_at_once(rt: HostRuntime) -> Result<(), Fail> {
     assert!(rt; plays(rt.alloc(), &BOTH_IN_FLIGHT)?);
+    Ok(())
+}
+
+// Two moves of one lane are in flight, and end in the other order.
+const TWO_OF_A_LANE: Row = Row {
+    lanes: 1,
+    sets: 2,
+    memory: 1,
+    events: &[
+        (Happens::Put(0, b"ax", b"1"), b'b'),
+        (Happens::Act(0), b'p'),
+        (Happens::End(0), b'e'),
+        (Happens::Put(0, b"bx", b"2"), b'b'),
+        (Happens::Act(0), b'p'),
+        (Happens::End(0), b'e'),
+        (Happens::Put(0, b"cx", b"3"), b'b'),
+        (Happens::Act(0), b'p'),
+        (Happens::End(0), b'e'),
+        (Happens::Flush(0), b's'),
+        (Happens::Flush(0), b'w'),
+        (Happens::MoveBegin(0), b'j'),
+        (Happens::MoveBegin(0), b'j'),
+        (Happens::MoveBegin(0), b'n'),
+        (Happens::Commit(0, 0, 2), b'W'),
+        (Happens::Commit(0, 0, 1), b'W'),
+        (Happens::Get(0, b"ax"), b'b'),
+        (Happens::Act(0), b'h'),
+        (Happens::End(0), b'e'),
+        (Happens::Get(0, b"bx"), b'b'),
+        (Happens::Act(0), b'h'),
+        (Happens::End(0), b'e'),
+        (Happens::MoveBegin(0), b'n'),
+    ],
+    history: &[
+        Called(0, 1, 3, b"ax", b'p', b"1"),
+        Called(0, 4, 6, b"bx", b'p', b"2"),
+        Called(0, 7, 9, b"cx", b'p', b"3"),
+        Called(0, 10, 12, b"ax", b'h', b"1"),
+        Called(0, 13, 15, b"bx", b'h', b"2"),
+    ],
+    certificate: &[0, 1, 2, 3, 4],
+};
+
+// While a move is in flight four segments are freed, and one with the name of the first is filled.
+const OVER_A_NAME: Row = Row {
+    lanes: 1,
+    sets: 1,
+    memory: 1,
+    events: &[
+        (Happens::Put(0, b"a", b"1"), b'b'),
+        (Happens::Act(0), b'p'),
+        (Happens::End(0), b'e'),
+        (Happens::Put(0, b"bx", b"2"), b'b'),
+        (Happens::Act(0), b'p'),
+        (Happens::End(0), b'e'),
+        (Happens::Flush(0), b's'),
+        (Happens::Flush(0), b'w'),
+        (Happens::MoveBegin(0), b'j'),
+        (Happens::Put(0, b"c", b"3"), b'b'),
+        (Happens::Act(0), b'p'),
+        (Happens::End(0), b'e'),
+        (Happens::MoveBegin(0), b'n'),
+        (Happens::Flush(0), b's'),
+        (Happens::Flush(0), b'w'),
+        (Happens::Remove(0, b"bx"), b'b'),
+        (Happens::Act(0), b'r'),
+        (Happens::End(0), b'e'),
+        (Happens::MoveBegin(0), b'n'),
+        (Happens::Put(0, b"dx", b"4"), b'b'),
+        (Happens::Act(0), b'p'),
+        (Happens::End(0), b'e'),
+        (Happens::Flush(0), b's'),
+        (Happens::Flush(0), b'w'),
+        (Happens::Remove(0, b"c"), b'b'),
+        (Happens::Act(0), b'r'),
+        (Happens::End(0), b'e'),
+        (Happens::MoveBegin(0), b'n'),
+        (Happens::Put(0, b"ex", b"5"), b'b'),
+        (Happens::Act(0), b'p'),
+        (Happens::End(0), b'e'),
+        (Happens::Flush(0), b's'),
+        (Happens::Flush(0), b'w'),
+        (Happens::Remove(0, b"dx"), b'b'),
+        (Happens::Act(0), b'r'),
+        (Happens::End(0), b'e'),
+        (Happens::MoveBegin(0), b'n'),
+        (Happens::Put(0, b"fx", b"6"), b'b'),
+        (Happens::Act(0), b'p'),
+        (Happens::End(0), b'e'),
+        (Happens::Commit(0, 0, 1), b'W'),
+        (Happens::Get(0, b"ex"), b'b'),
+        (Happens::Act(0), b'h'),
+        (Happens::End(0), b'e'),
+        (Happens::Get(0, b"a"), b'b'),
+        (Happens::Act(0), b'h'),
+        (Happens::End(0), b'e'),
+    ],
+    history: &[
+        Called(0, 1, 3, b"a", b'p', b"1"),
+        Called(0, 4, 6, b"bx", b'p', b"2"),
+        Called(0, 7, 9, b"c", b'p', b"3"),
+        Called(0, 10, 12, b"bx", b'r', b""),
+        Called(0, 13, 15, b"dx", b'p', b"4"),
+        Called(0, 16, 18, b"c", b'r', b""),
+        Called(0, 19, 21, b"ex", b'p', b"5"),
+        Called(0, 22, 24, b"dx", b'r', b""),
+        Called(0, 25, 27, b"fx", b'p', b"6"),
+        Called(0, 28, 30, b"ex", b'h', b"5"),
+        Called(0, 31, 33, b"a", b'h', b"1"),
+    ],
+    certificate: &[0, 1, 2, 3, 4, 5, 6, 7, 8, 9, 10],
+};
+
+#[test]
+fn moves_of_one_lane_are_in_flight_at_once(rt: HostRuntime) -> Result<(), Fail> {
+    assert!(rt; plays(rt.alloc(), &TWO_OF_A_LANE)?);
+    assert!(rt; plays(rt.alloc(), &OVER_A_NAME)?);
     Ok(())
 }
 

@@ -72,7 +72,7 @@ segments_freed : (k : LogState) → IsLog k → NoneOfSegment (name_of k k.first
 segments_freed k log none = λ i d lt. segment_freed k (get_or k.entries i d) log (log.held i d lt) (none i d lt)
 
 -- the log without its oldest segment is a log
-pub log_freed : (k : LogState) → TellsOldest k oldest.Empty → IsLog k → IsLog (freed k)
+pub log_freed : (k : LogState) → TellsOldest [] k oldest.Empty → IsLog k → IsLog (freed k)
 log_freed k tells h = record {
   some_sets = h.some_sets;
   few_sets = h.few_sets;
@@ -102,13 +102,13 @@ log_freed k tells h = record {
 }
 
 -- its entries show the same
-pub live_on-freed : (held : ℕ → Option (List ℕ)) (k : LogState) → TellsOldest k oldest.Empty → IsLog k → live_on held (freed k) ≡ live_on held k
+pub live_on-freed : (held : ℕ → Option (List ℕ)) (k : LogState) → TellsOldest [] k oldest.Empty → IsLog k → live_on held (freed k) ≡ live_on held k
 live_on-freed held k tells log =
     live_by-same (shown_on held k) (shown_on held (freed k)) k.entries
     (λ i d lt. shown_freed (pages_from k.shape.sets held) k (get_or k.entries i d) tells.0 (segments_freed k log tells.1 i d lt))
 
 -- and are spelled as they were
-pub spelled_freed : (bytes : ℕ) (held : ℕ → Option (List ℕ)) (k : LogState) → TellsOldest k oldest.Empty → IsLog k → IsSpelledOn bytes held k → IsSpelledOn bytes held (freed k)
+pub spelled_freed : (bytes : ℕ) (held : ℕ → Option (List ℕ)) (k : LogState) → TellsOldest [] k oldest.Empty → IsLog k → IsSpelledOn bytes held k → IsSpelledOn bytes held (freed k)
 spelled_freed bytes held k tells log h = record {
   live = λ i d lt.
       let same = segments_freed k log tells.1 i d lt in

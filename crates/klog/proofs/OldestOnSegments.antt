@@ -1,5 +1,5 @@
 -- What is told of the oldest segment, on the list of segments.
-use Rattle.std.proofs.Common.{◌≡◌, ℕ, zero, suc, ◌+◌, ◌<◌, Bool, true, false, cond, eqb, List, [], ◌∷◌, ◌++◌, length, get_or, filter, map, reverse, Option, Some, None, All, Contains, slice_get, refl, sym, ap, subst, ◌∙◌, inl, inr, arith}
+use Rattle.std.proofs.Common.{◌≡◌, ◌≢◌, ℕ, zero, suc, ◌+◌, ◌<◌, Bool, true, false, cond, eqb, List, [], ◌∷◌, ◌++◌, length, get_or, filter, map, reverse, Option, Some, None, All, Contains, slice_get, refl, sym, ap, subst, ◌∙◌, inl, inr, arith}
 use Rattle.std.specs.Prelude.{AllPairs, IsSomeAnd}
 use Rattle.std.specs.List.{flat_map, range_with_len}
 use Rattle.std.proofs.lemmas.Bool.{and_parts, and_from, and_left, eqb-true, eq-eqb, ne_eqb, false_from_ne_true}
@@ -8,7 +8,7 @@ use Rattle.std.proofs.lemmas.List.Elements.{All-head, All-tail, All-contains}
 use Rattle.std.proofs.lemmas.List.FromFn.{get_or-map-range_with_len}
 use Rattle.record_pages.specs.Recs.{Rec}
 use Rattle.klog_index.specs.declared.entry.Entry.{Entry}
-use Rattle.klog_index.specs.Entries.{is_on}
+use Rattle.klog_index.specs.Entries.{is_of_any, is_on, without}
 use Rattle.klog_index.specs.First.{NoneOfSegment, IsFirstOf}
 use Rattle.klog.specs.declared.oldest.Oldest.TheVariants as oldest
 use Rattle.klog.specs.Log.{LogState}
@@ -139,9 +139,17 @@ of_first k e its = ap (number_of k) its.of_segment ∙ number_again k k.first (o
 first_there : (held : ℕ → Option (List ℕ)) (k : LogState) → 0 < k.stored → slice_get (segments_of held k).stored 0 ≡ Some (stored_segment held k k.first)
 first_there held k some = first-stored (stored_segment held k) k.first k.stored some
 
+-- where no set is passed over, no entry is
+none_passed : (es : List Entry) → without (is_of_any []) es ≡ es
+none_passed [] = refl
+none_passed (e ∷ es) = ap (λ (xs : List Entry). e ∷ xs) (none_passed es)
+
 pub oldest_tells_first : OldestTellsFirst
 oldest_tells_first bytes held k oldest.NoSegment log spelled none = ap (λ (n : ℕ). map (stored_segment held k) (range_with_len k.first n)) none
 oldest_tells_first bytes held k oldest.Empty log spelled told = (stored_segment held k k.first, first_there held k told.0, none_live held k told.1)
+oldest_tells_first bytes held k oldest.Passed log spelled told =
+    All-contains (λ (e : Entry). e.place.segment ≢ oldest_name k) k.entries told.some.its (subst (NoneOfSegment (oldest_name k)) (none_passed k.entries) told.no_other) told.some.listed told.some.of_segment
 oldest_tells_first bytes held k (oldest.First e) log spelled told =
-    let known = known_one (shown_on held k e) (CanStandFor bytes k.shape e) (All-contains (IsLiveOn bytes held k) k.entries e spelled.live told.1.listed) in
-    (stored_segment held k k.first, known.0, first_there held k told.0, of_first k e told.1, known.1, first_in held k e known.0 log known.1 told.1)
+    let its : IsFirstOf (oldest_name k) k.entries e = subst (λ (es : List Entry). IsFirstOf (oldest_name k) es e) (none_passed k.entries) told.1 in
+    let known = known_one (shown_on held k e) (CanStandFor bytes k.shape e) (All-contains (IsLiveOn bytes held k) k.entries e spelled.live its.listed) in
+    (stored_segment held k k.first, known.0, first_there held k told.0, of_first k e its, known.1, first_in held k e known.0 log known.1 its)

@@ -75,17 +75,18 @@ pub record IsFirstIn (s : Segment) (page : ℕ) (x : LogRecord) : Type 0 where
 abbrev pub TellsFirst : (ℕ → Option (List ℕ)) → LogState → List Segment → Oldest → Type 0
 TellsFirst held k stored oldest.NoSegment = stored ≡ []
 TellsFirst held k stored oldest.Empty = (s : Segment) × (slice_get stored 0 ≡ Some s) × (live_in s ≡ [])
+TellsFirst held k stored oldest.Passed = ⊥
 TellsFirst held k stored (oldest.First e) =
     (s : Segment) × (r : Rec) × (slice_get stored 0 ≡ Some s) × (segment_of k e ≡ s.number) × (shown_on held k e ≡ Some r)
     × IsFirstIn s e.place.page (live_record (e, r))
 
--- what is told of the oldest segment is so of the first segment on the device
+-- what is told of the oldest segment, where no set is passed over, is so of the first segment on the device
 abbrev pub OldestTellsFirst : Type 0
 OldestTellsFirst =
     (bytes : ℕ) (held : ℕ → Option (List ℕ)) (k : LogState) (answer : Oldest)
     → IsLog k
     → IsSpelledOn bytes held k
-    → TellsOldest k answer
+    → TellsOldest [] k answer
     → TellsFirst held k (segments_of held k).stored answer
 
 -- ---- whether a record finds a place

@@ -5,7 +5,7 @@ use Rattle.std.specs.declared.alloc.AllocError.{AllocError}
 use Rattle.record_pages.specs.Recs.{Rec, rec}
 use Rattle.page_device.specs.Device.{faults_after}
 use Rattle.klog_index.specs.declared.entry.Entry.{Entry}
-use Rattle.klog_index.specs.Entries.{is_of, is_place, is_in, of_set, without}
+use Rattle.klog_index.specs.Entries.{is_of, is_of_any, is_place, is_in, of_set, without}
 use Rattle.klog_index.specs.First.{NoneOfSegment, IsFirstOf}
 use Rattle.klog.specs.declared.oldest.Oldest.{Oldest}
 use Rattle.klog.specs.declared.oldest.Oldest.TheVariants as oldest
@@ -22,11 +22,25 @@ use Rattle.klog.specs.Append.{entering, entry_for, taker, appended, is_full}
 use Rattle.klog.specs.Flush.{is_on_page, without_page}
 use Rattle.klog.specs.Look.{StaysAlive}
 
--- what is said of the oldest segment on the device: there is none; it has no live record; or which is its first, by page, then slot
-abbrev pub TellsOldest : LogState → Oldest → Type 0
-TellsOldest k oldest.NoSegment = k.stored ≡ 0
-TellsOldest k oldest.Empty = (0 < k.stored) × NoneOfSegment (name_of k k.first) k.entries
-TellsOldest k (oldest.First e) = (0 < k.stored) × IsFirstOf (name_of k k.first) k.entries e
+-- some entry is of the segment with this name
+pub record SomeOfSegment (segment : ℕ) (es : List Entry) : Type 0 where
+  pub its : Entry
+  pub listed : Contains es its
+  pub of_segment : its.place.segment ≡ segment
+
+-- the oldest segment on the device has live records, all of these sets
+pub record IsPassed (passed : List ℕ) (k : LogState) : Type 0 where
+  pub stored : 0 < k.stored
+  pub some : SomeOfSegment (name_of k k.first) k.entries
+  pub no_other : NoneOfSegment (name_of k k.first) (without (is_of_any passed) k.entries)
+
+-- What is said of the oldest segment on the device, where entries of these sets are passed over: there is none; it has no
+-- live record; it has some, all of these sets; or which is the first of the others, by page, then slot.
+abbrev pub TellsOldest : List ℕ → LogState → Oldest → Type 0
+TellsOldest passed k oldest.NoSegment = k.stored ≡ 0
+TellsOldest passed k oldest.Empty = (0 < k.stored) × NoneOfSegment (name_of k k.first) k.entries
+TellsOldest passed k oldest.Passed = IsPassed passed k
+TellsOldest passed k (oldest.First e) = (0 < k.stored) × IsFirstOf (name_of k k.first) (without (is_of_any passed) k.entries) e
 
 -- a live entry of the oldest segment on the device
 pub record IsOfOldest (k : LogState) (e : Entry) : Type 0 where
@@ -34,11 +48,18 @@ pub record IsOfOldest (k : LogState) (e : Entry) : Type 0 where
   pub listed : Contains k.entries e
   pub oldest : segment_of k e ≡ k.first
 
--- the entry that is told is a live one of that segment, and of a set of the lane
-abbrev pub IsFirstLive : LogState → Oldest → Type 0
-IsFirstLive k (oldest.First e) = IsOfOldest k e × (e.set < k.shape.sets)
-IsFirstLive k oldest.NoSegment = Unit {0}
-IsFirstLive k oldest.Empty = Unit {0}
+-- such an entry, of a set of the lane, and of none of these
+pub record IsNextToMove (passed : List ℕ) (k : LogState) (e : Entry) : Type 0 where
+  pub its : IsOfOldest k e
+  pub set : e.set < k.shape.sets
+  pub not_passed : is_of_any passed e ≡ false
+
+-- the entry that is told is a live one of that segment, of a set of the lane, and of none that is passed over
+abbrev pub IsFirstLive : List ℕ → LogState → Oldest → Type 0
+IsFirstLive passed k (oldest.First e) = IsNextToMove passed k e
+IsFirstLive passed k oldest.NoSegment = Unit {0}
+IsFirstLive passed k oldest.Empty = Unit {0}
+IsFirstLive passed k oldest.Passed = Unit {0}
 
 -- the oldest segment is no longer held
 abbrev pub freed : LogState → LogState

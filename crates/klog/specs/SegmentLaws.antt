@@ -1,5 +1,5 @@
 -- Laws of the log's calls, as plain steps of its list of segments.
-use Rattle.std.specs.Prelude.{◌≡◌, ℕ, ◌≤◌, List, map, reverse, Option, Some, Bool, false, ◌==◌, ◌&&◌, if◌then◌else◌}
+use Rattle.std.specs.Prelude.{◌≡◌, ℕ, ◌≤◌, List, [], map, reverse, Option, Some, Bool, false, ◌==◌, ◌&&◌, if◌then◌else◌}
 use Rattle.std.specs.List.{list_any}
 use Rattle.record_pages.specs.Sizes.{entering_prediction}
 use Rattle.record_pages.specs.Recs.{Rec}
@@ -110,5 +110,5 @@ abbrev pub FreeingTakesOldest : Type 0
 FreeingTakesOldest =
     (held : ℕ → Option (List ℕ)) (k : LogState)
     → IsLog k
-    → TellsOldest k oldest.Empty
+    → TellsOldest [] k oldest.Empty
     → segments_of held (freed k) ≡ without_oldest (segments_of held k)

@@ -8,6 +8,8 @@ pub enum Oldest {
     NoSegment,
     /// None of its records is live, so the segment may be freed.
     Empty,
-    /// Its live entry of least page, then slot.
+    /// Each of its live records is of a set that was to be passed over.
+    Passed,
+    /// Its live entry of least page, then slot, of those of other sets.
     First(Entry),
 }

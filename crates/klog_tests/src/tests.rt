@@ -8,6 +8,7 @@ mod failing;
 mod leaving;
 mod owner;
 mod pages;
+mod passing;
 mod retried;
 mod ring;
 mod rows;

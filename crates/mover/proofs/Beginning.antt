@@ -1,5 +1,5 @@
 -- How a move begins, tier by tier.
-use Rattle.std.proofs.Common.{◌≡◌, ◌≢◌, ◌+◌, ℕ, Bool, true, false, List, [], Option, Some, None, refl, sym, ap, subst, ◌∙◌}
+use Rattle.std.proofs.Common.{◌≡◌, ◌≢◌, ◌+◌, ℕ, Bool, true, false, List, [], Option, Some, refl, sym, ap, subst, ◌∙◌, ◌∷◌, ◌++◌, length}
 use Rattle.std.specs.Prelude.{Result, Ok, nat_lt}
 use Rattle.std.specs.FinSet as bits
 use Rattle.std.specs.declared.alloc.AllocError.{AllocError}
@@ -26,7 +26,7 @@ use Rattle.mover.specs.Store.{StoreState, most_moves}
 use Rattle.mover.specs.Lane.{LaneState, lane_of}
 use Rattle.mover.specs.Put.{IsStep}
 use Rattle.mover.specs.Begin.{LaneTakes, LaneReads, LaneReadmits, anew_step, readmit_step, began_by, judged_in}
-use Rattle.mover.specs.Leaving.{HasAll, HasLog, LosesSetPage, TakingLeaves, ReadingLeaves, Flies, EntryLeaves, OldestLeaves, NextLeaves, FlightLeaves, BeginLeaves}
+use Rattle.mover.specs.Leaving.{HasAll, HasLog, LosesSetPage, TakingLeaves, ReadingLeaves, Flies, EntryLeaves, OldestLeaves, NextLeaves, RoomLeaves, BeginLeaves}
 use Rattle.mover.specs.Oldest.{oldest_in, record_of}
 use Rattle.mover.specs.Job.{job_of}
 use Rattle.mover.specs.declared.moving.Moving.{Moving}
@@ -34,7 +34,7 @@ use Rattle.admission.specs.declared.judgement.Judgement.{Judgement}
 use Rattle.admission.specs.declared.judgement.Judgement.TheVariants as judgement
 use Rattle.klog.specs.declared.oldest.Oldest.{Oldest}
 use Rattle.klog.specs.declared.oldest.Oldest.TheVariants as oldest
-use Rattle.mover.specs.Flight.{Flight, just_begun}
+use Rattle.mover.specs.Flight.{just_begun, most_flights, sets_in_flight}
 use Rattle.mover.specs.declared.begin.Begin.TheVariants as begin
 use Rattle.policy_laws.specs.declared.job.Job.{Job}
 use Rattle.mover.proofs.Placing.{record_is}
@@ -48,7 +48,7 @@ module _ {D : Type 0} (held : D → ℕ → Option (List ℕ)) (s : StoreState D
     log = e i;
     live = f i;
     sets = s.sets;
-    flight = s.flight;
+    flights = s.flights;
     visible = visible_in (same i) s.sets;
     moves = s.moves;
   }
@@ -67,7 +67,7 @@ module _ {D : Type 0} (held : D → ℕ → Option (List ℕ)) (s : StoreState D
     log = s.log;
     live = live_on (same i) s.log;
     sets = e i;
-    flight = s.flight;
+    flights = s.flights;
     visible = f i;
     moves = s.moves;
   }
@@ -121,19 +121,19 @@ module _ {D : Type 0} (s : StoreState D) (d : D) where
   taking_leaves k set (taken.Records rs) leaves = (leaves.1, log_is s.log leaves.0)
     where
       log_is : (log : LogState) → k ≡ log → HasLog log s (record s { device = d; log = k })
-      log_is log is = λ i. record { layout = s.layout; device = d; memory = s.memory; log = is i; sets = s.sets; flight = s.flight; moves = s.moves }
+      log_is log is = λ i. record { layout = s.layout; device = d; memory = s.memory; log = is i; sets = s.sets; flights = s.flights; moves = s.moves }
   taking_leaves k set taken.PageLost leaves = record {
     entry = leaves.entry;
     listed = leaves.listed;
-    rest = λ i. record { layout = s.layout; device = d; memory = s.memory; log = leaves.left i; sets = s.sets; flight = s.flight; moves = s.moves };
+    rest = λ i. record { layout = s.layout; device = d; memory = s.memory; log = leaves.left i; sets = s.sets; flights = s.flights; moves = s.moves };
   }
 
   -- a reading of a set
   pub reading_leaves : (q : SetsState) (set : ℕ) (answer : SetRead) → SetReadLeaves s.sets set (Ok answer) q → ((notes_of s.sets set).filter ≡ bits.empty → answer ≢ read.PageLost) → ReadingLeaves set s answer (record s { device = d; sets = q })
-  reading_leaves q set (read.Records rs) leaves asked = (leaves.1, λ i. record { layout = s.layout; device = d; memory = s.memory; log = s.log; sets = leaves.0 i; flight = s.flight; moves = s.moves })
+  reading_leaves q set (read.Records rs) leaves asked = (leaves.1, λ i. record { layout = s.layout; device = d; memory = s.memory; log = s.log; sets = leaves.0 i; flights = s.flights; moves = s.moves })
   reading_leaves q set read.PageLost leaves asked = record {
     read = λ none. asked none refl;
-    rest = λ i. record { layout = s.layout; device = d; memory = s.memory; log = s.log; sets = leaves i; flight = s.flight; moves = s.moves };
+    rest = λ i. record { layout = s.layout; device = d; memory = s.memory; log = s.log; sets = leaves i; flights = s.flights; moves = s.moves };
   }
 
 module _ {D : Type 0} where
@@ -150,17 +150,17 @@ module _ {D : Type 0} where
 
   -- a move is in flight behind a call that leaves all
   pub flown_after : (size set : ℕ) (old mid new : StoreState D) (moving : Moving) (job : Job) → HasAll old mid → moving.set ≡ set → moving.number ≡ mid.moves + 1 → job ≡ job_of size moving →
-      new ≡ record mid { flight = Some (just_begun mid.log.shape moving); moves = mid.moves + 1 } → Flies size set old job new
+      new ≡ record mid { flights = mid.flights ++ just_begun mid.log.shape moving ∷ []; moves = mid.moves + 1 } → Flies size set old job new
   flown_after size set old mid new moving job first its number job_is flies = record {
     moving = moving;
     number_is = number ∙ ap (λ (x : StoreState D). x.moves + 1) first;
     set_is = its;
     job_is = job_is;
-    rest = flies ∙ ap (λ (x : StoreState D). record x { flight = Some (just_begun x.log.shape moving); moves = x.moves + 1 }) first
-        ∙ ap (λ (d : D). record old { device = d; flight = Some (just_begun old.log.shape moving); moves = old.moves + 1 }) (sym (ap (λ (x : StoreState D). x.device) flies));
+    rest = flies ∙ ap (λ (x : StoreState D). record x { flights = x.flights ++ just_begun x.log.shape moving ∷ []; moves = x.moves + 1 }) first
+        ∙ ap (λ (d : D). record old { device = d; flights = old.flights ++ just_begun old.log.shape moving ∷ []; moves = old.moves + 1 }) (sym (ap (λ (x : StoreState D). x.device) flies));
   }
 
-  -- a beginning with a job: no move was in flight, and one of some set is now
+  -- a beginning with a job: a move of some set is in flight now, behind the others
   module _ (size : ℕ) (old : StoreState D) (job : Job) (new : StoreState D) where
     by_entry : (e : Entry) (j : Judgement) → EntryLeaves size e j old (begin.Job job) new → (set : ℕ) × Flies size set old job new
     by_entry e judgement.Move leaves = (e.set, leaves)
@@ -176,18 +176,19 @@ module _ {D : Type 0} where
     by_oldest : (o : Oldest) → OldestLeaves size o old (begin.Job job) new → (set : ℕ) × Flies size set old job new
     by_oldest oldest.NoSegment leaves = let no = leaves.0 in absurd cc
     by_oldest oldest.Empty leaves = let no = leaves.0 in absurd cc
+    by_oldest oldest.Passed leaves = let no = leaves.0 in absurd cc
     by_oldest (oldest.First e) leaves = by_entry e (judged_in old.layout.threshold old.log e) leaves
 
-    by_room : (b : Bool) → NextLeaves size b old (begin.Job job) new → (set : ℕ) × Flies size set old job new
-    by_room true leaves = by_oldest (oldest_in old.log) leaves
+    by_moves : (b : Bool) → NextLeaves size b old (begin.Job job) new → (set : ℕ) × Flies size set old job new
+    by_moves true leaves = by_oldest (oldest_in (sets_in_flight old.flights) old.log) leaves
+    by_moves false leaves = let no = leaves.0 in absurd cc
+
+    by_room : (b : Bool) → RoomLeaves size b old (begin.Job job) new → (set : ℕ) × Flies size set old job new
+    by_room true leaves = by_moves (nat_lt old.moves most_moves) leaves
     by_room false leaves = let no = leaves.0 in absurd cc
 
-    by_flight : (o : Option Flight) → FlightLeaves size o old (begin.Job job) new → (o ≡ None) × ((set : ℕ) × Flies size set old job new)
-    by_flight None leaves = (refl, by_room (nat_lt old.moves most_moves) leaves)
-    by_flight (Some f) leaves = let no = leaves.0 in absurd cc
-
-    pub begun_job : BeginLeaves size old (begin.Job job) new → (old.flight ≡ None) × ((set : ℕ) × Flies size set old job new)
-    begun_job leaves = by_flight old.flight leaves
+    pub begun_job : BeginLeaves size old (begin.Job job) new → (set : ℕ) × Flies size set old job new
+    begun_job leaves = by_room (nat_lt (length old.flights) most_flights) leaves
 
   -- a store of which only the device is another, which holds the same, is the same lane
   pub same_lane_held : (held : D → ℕ → Option (List ℕ)) (old new : StoreState D) → HasAll old new → held new.device ≡ held old.device → lane_of held new ≡ lane_of held old
@@ -197,6 +198,6 @@ module _ {D : Type 0} where
     live = live_on (same i) old.log;
     sets = old.sets;
     visible = visible_in (same i) old.sets;
-    flight = old.flight;
+    flights = old.flights;
     moves = old.moves;
   })

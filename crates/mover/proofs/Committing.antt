@@ -37,7 +37,7 @@ lane_rewrote held s d q set rs answer is apart shown = step answer is shown
       log = s.log;
       live = live_framed (held s.device) (held d) s.log apart i;
       sets = e i;
-      flight = s.flight;
+      flights = s.flights;
       visible = f i;
       moves = s.moves;
     }

@@ -1,22 +1,23 @@
 -- Which entry is the first of the oldest segment.
-use Rattle.std.proofs.Common.{◌≡◌, ◌⊎◌, inl, inr, ⊎_elim, ℕ, suc, ◌<◌, Bool, true, false, ◌&&◌, ◌||◌, eqb, not, cond, List, [], ◌∷◌, length, get_or, Some, None, All, Contains, refl, sym, ap, ◌∙◌, arith}
+use Rattle.std.proofs.Common.{◌≡◌, ◌⊎◌, inl, inr, ⊎_elim, ℕ, suc, ◌<◌, Bool, true, false, ◌&&◌, ◌||◌, eqb, not, cond, List, [], ◌∷◌, length, get_or, Some, None, All, Contains, refl, sym, ap, ◌∙◌, arith, ◌≢◌}
 use Rattle.std.specs.Prelude.{find, nat_lt}
 use Rattle.std.specs.List.{list_any}
 use Rattle.std.proofs.lemmas.Bool.{and_from, and_parts, or_left, or_right, not_from_false, cases_lt, lt-ltb, ltb-true, eq-eqb, eqb-true, ne_eqb, false_from_ne_true, false≢true}
 use Rattle.std.proofs.lemmas.List.{get_or_default}
 use Rattle.std.proofs.lemmas.List.Elements.{All-contains}
 use Rattle.std.proofs.lemmas.List.Folds.{list_any_none, list_any_at}
+use Rattle.std.proofs.lemmas.List.Kept.{AllPairs-filter}
 use Rattle.klog_index.specs.declared.entry.Entry.{Entry}
 use Rattle.klog_index.specs.declared.place.Place.{Place}
-use Rattle.klog_index.specs.Entries.{AreApart}
-use Rattle.klog_index.specs.First.{IsBefore, IsFirstOf}
+use Rattle.klog_index.specs.Entries.{AreApart, is_of_any, is_of_segment, without}
+use Rattle.klog_index.specs.First.{IsBefore, NoneOfSegment, IsFirstOf}
 use Rattle.klog.specs.declared.oldest.Oldest.{Oldest}
 use Rattle.klog.specs.declared.oldest.Oldest.TheVariants as oldest
 use Rattle.klog.specs.Log.{LogState}
 use Rattle.klog.specs.Names.{name_of}
 use Rattle.klog.specs.Moves.{TellsOldest}
-use Rattle.mover.specs.Oldest.{is_before, is_first, first_in, told_first, oldest_in}
-use Rattle.mover.proofs.Listing.{split}
+use Rattle.mover.specs.Oldest.{is_before, is_first, first_in, told_first, live_in, oldest_in}
+use Rattle.mover.proofs.Listing.{split, in_filter}
 
 -- what alone passes a test is what is found
 pub find_only : {X : Type 0} (p : X → Bool) (xs : List X) (x : X) → Contains xs x → p x ≡ true → ((y : X) → Contains xs y → p y ≡ true → y ≡ x) → find p xs ≡ Some x
@@ -94,12 +95,32 @@ module _ (name : ℕ) (es : List Entry) (e : Entry) (is : IsFirstOf name es e) w
   found_first apart = find_only (is_first name es) es e is.listed passes (only apart)
 
 -- what is told of the oldest segment is what is in it
-pub oldest_is : (k : LogState) (answer : Oldest) → AreApart k.entries → TellsOldest k answer → oldest_in k ≡ answer
-oldest_is k oldest.NoSegment apart tells = rw (eq-eqb k.stored 0 tells) refl
-oldest_is k oldest.Empty apart tells =
-    let some = tells.0 in
-    rw (ne_eqb k.stored 0 (λ none. absurd (omega (arith, some, none))))
-    (ap told_first (find_none (is_first (name_of k k.first) k.entries) k.entries (λ i d lt. ap (λ b. b && not (list_any (λ (x : Entry). eqb x.place.segment (name_of k k.first) && is_before x.place (get_or k.entries i d).place) k.entries)) (ne_eqb _ _ (tells.1 i d lt)))))
-oldest_is k (oldest.First e) apart tells =
-    let some = tells.0 in
-    rw (ne_eqb k.stored 0 (λ none. absurd (omega (arith, some, none)))) (ap told_first (found_first (name_of k k.first) k.entries e tells.1 apart))
+pub oldest_is : (passed : List ℕ) (k : LogState) (answer : Oldest) → AreApart k.entries → TellsOldest passed k answer → oldest_in passed k ≡ answer
+oldest_is passed k answer apart = by_answer answer
+  where
+    name : ℕ
+    name = name_of k k.first
+
+    others : List Entry
+    others = without (is_of_any passed) k.entries
+
+    -- there is a segment, and this is told of it
+    stored : {o : Oldest} → 0 < k.stored → live_in name passed k.entries ≡ o → oldest_in passed k ≡ o
+    stored some is = rw (ne_eqb k.stored 0 (λ none. absurd (omega (arith, some, none)))) is
+
+    -- some entry of it is live
+    some_live : (e : Entry) → Contains k.entries e → e.place.segment ≡ name → list_any (is_of_segment name) k.entries ≡ true
+    some_live e listed at = list_any_at (is_of_segment name) k.entries listed.0 e listed.1 (ap (is_of_segment name) listed.2 ∙ eq-eqb e.place.segment name at)
+
+    none_first : NoneOfSegment name others → first_in name others ≡ None
+    none_first none = find_none (is_first name others) others (λ i d lt. ap (λ b. b && not (list_any (λ (x : Entry). eqb x.place.segment name && is_before x.place (get_or others i d).place) others)) (ne_eqb _ _ (none i d lt)))
+
+    by_answer : (answer : Oldest) → TellsOldest passed k answer → oldest_in passed k ≡ answer
+    by_answer oldest.NoSegment tells = rw (eq-eqb k.stored 0 tells) refl
+    by_answer oldest.Empty tells = stored tells.0 (rw (list_any_none (is_of_segment name) k.entries (λ i d lt. ne_eqb _ _ (tells.1 i d lt))) refl)
+    by_answer oldest.Passed tells =
+        stored tells.stored (rw (some_live tells.some.its tells.some.listed tells.some.of_segment) (ap told_first (none_first tells.no_other)))
+    by_answer (oldest.First e) tells =
+        let its : IsFirstOf name others e = tells.1 in
+        let listed : Contains k.entries e = (in_filter (λ (x : Entry). not (is_of_any passed x)) k.entries e its.listed).0 in
+        stored tells.0 (rw (some_live e listed its.of_segment) (ap told_first (found_first name others e its (AllPairs-filter (λ (a b : Entry). a.place ≢ b.place) (λ (x : Entry). not (is_of_any passed x)) k.entries apart))))

@@ -1,5 +1,5 @@
 -- The records of a move belong to its set.
-use Rattle.std.proofs.Common.{◌≡◌, ◌<◌, ◌≤◌, ◌+◌, Option, Some, ℕ, List, [], length, map, filter, take, get_or, All, Contains, not, sym, ap, subst, ◌∙◌, arith}
+use Rattle.std.proofs.Common.{◌≡◌, ◌<◌, ◌≤◌, ◌+◌, Option, Some, ℕ, List, [], length, map, filter, take, get_or, All, Contains, not, sym, ap, subst, ◌∙◌, arith, ◌∷◌, ◌++◌}
 use Rattle.std.proofs.lemmas.Bool.{eqb-true}
 use Rattle.std.proofs.lemmas.List.Elements.{All-contains, Contains-get_or}
 use Rattle.record_pages.specs.Recs.{Rec, rec}
@@ -93,15 +93,15 @@ gathered_few moving takes reads =
     let fresh = length-map moving.taken (λ (t : TakenRecord). t.stored) in
     omega (arith, both, old, fresh, takes, reads)
 
--- they are in flight, with their job
+-- they are in flight behind the others, with their job
 pub gathered : (size set : ℕ) (old mid new last : LaneState) (moving : Moving) (job : Job) → LaneTakes set old (taken.Records moving.taken) mid → LaneReads set mid (read.Records moving.visible) new → moving.set ≡ set → moving.number ≡ new.moves + 1 →
-    job ≡ job_of size moving → last ≡ record new { flight = Some (just_begun new.log.shape moving); moves = new.moves + 1 } → Gathers size set old (begin.Job job) last
+    job ≡ job_of size moving → last ≡ record new { flights = new.flights ++ just_begun new.log.shape moving ∷ []; moves = new.moves + 1 } → Gathers size set old (begin.Job job) last
 gathered size set old mid new last moving job takes reads its numbered job_is last_is =
     let same : new ≡ old = reads.1 ∙ takes.1 in
     let visible : moving.visible ≡ set_records old set = reads.0 ∙ ap (λ (l : LaneState). set_records l set) takes.1 in
     let number : moving.number ≡ old.moves + 1 = numbered ∙ ap (λ (l : LaneState). l.moves + 1) same in
     let is : moving ≡ moving_of old set = λ i. record { number = number i; set = its i; visible = visible i; taken = takes.0 i } in
-    (ap begin.Job (job_is ∙ ap (job_of size) is), last_is ∙ (λ i. record (same i) { flight = Some (just_begun (same i).log.shape (is i)); moves = (same i).moves + 1 }))
+    (ap begin.Job (job_is ∙ ap (job_of size) is), last_is ∙ (λ i. record (same i) { flights = (same i).flights ++ just_begun (same i).log.shape (is i) ∷ []; moves = (same i).moves + 1 }))
 
 -- and none of them is struck
 pub begins_flight : (size : ℕ) (shape : Shape) (moving : Moving) (job : Job) (o : Option Flight) → o ≡ Some (just_begun shape moving) → job ≡ job_of size moving → IsSomeAnd o (IsJustBegun size job)

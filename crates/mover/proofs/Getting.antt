@@ -58,7 +58,7 @@ module _ {D : Type 0} (held : D → ℕ → Option (List ℕ)) (s : StoreState D
         log = s.log;
         live = live_on (same i) s.log;
         sets = e i;
-        flight = s.flight;
+        flights = s.flights;
         visible = shown i;
         moves = s.moves;
       }
@@ -89,7 +89,7 @@ module _ {D : Type 0} (held : D → ℕ → Option (List ℕ)) (s : StoreState D
         live = f i;
         sets = s.sets;
         visible = visible_in (same i) s.sets;
-        flight = s.flight;
+        flights = s.flights;
         moves = s.moves;
       }
 
@@ -158,7 +158,7 @@ module _ {D : Type 0} (s : StoreState D) (d : D) where
   log_leaves k at looked leaves = step looked leaves
     where
       log_is : (log : LogState) → k ≡ log → HasLog log s (record s { device = d; log = k })
-      log_is log is = λ i. record { layout = s.layout; device = d; memory = s.memory; log = is i; sets = s.sets; flight = s.flight; moves = s.moves }
+      log_is log is = λ i. record { layout = s.layout; device = d; memory = s.memory; log = is i; sets = s.sets; flights = s.flights; moves = s.moves }
 
       step : (looked : LogLooked) → LogLookLeaves s.log at.set at.tag (Ok looked) k (d ≡ s.device) → LogLeaves at looked s (record s { device = d; log = k })
       step (log.Hit value) leaves = record { entry = leaves.entry; listed = leaves.listed; rest = log_is (lowered_in s.log at.set leaves.entry.place) leaves.lowered; unasked = leaves.uncalled }
@@ -170,7 +170,7 @@ module _ {D : Type 0} (s : StoreState D) (d : D) where
   set_leaves q n looked leaves = step looked leaves
     where
       sets_are : (sets : SetsState) → q ≡ sets → record s { device = d; sets = q } ≡ record s { device = d; sets = sets }
-      sets_are sets is = λ i. record { layout = s.layout; device = d; memory = s.memory; log = s.log; sets = is i; flight = s.flight; moves = s.moves }
+      sets_are sets is = λ i. record { layout = s.layout; device = d; memory = s.memory; log = s.log; sets = is i; flights = s.flights; moves = s.moves }
 
       step : (looked : SetLooked) → SetLookLeaves s.sets n (Ok looked) q → SetLeaves n (answer_of_set looked) s (record s { device = d; sets = q })
       step (set.Hit value) leaves = record { slot = leaves.slot; within = leaves.within; rest = sets_are (hit_in s.sets n leaves.slot) leaves.noted }
@@ -202,7 +202,7 @@ lowered_store s d k set e log device = λ i. record {
   memory = s.memory;
   log = log i;
   sets = s.sets;
-  flight = s.flight;
+  flights = s.flights;
   moves = s.moves;
 }
 
@@ -275,3 +275,8 @@ asks_below key old mid m is asks = subst (AsksNothing key) (sym is) (record { bu
 pub no_fault : (r : Result Answer AllocError) → IsErr r → is_fault r ≡ false
 no_fault (Ok x) is = absurd (false≢true is)
 no_fault (Err e) is = refl
+
+-- nor one of the log
+pub no_log_fault : (r : Result LogLooked AllocError) → IsErr r → is_log_fault r ≡ false
+no_log_fault (Ok x) is = absurd (false≢true is)
+no_log_fault (Err e) is = refl

@@ -1,6 +1,6 @@
 -- What keeps a store.
 use Rattle.std.proofs.Common.{◌≡◌, ◌≤◌, ◌+◌, ◌*◌, ℕ, List, [], Option, Some, None, Bool, not, refl, sym, ap, subst, ◌∙◌, arith}
-use Rattle.std.specs.Prelude.{IsTrue, All, IfSome}
+use Rattle.std.specs.Prelude.{IsTrue, All}
 use Rattle.page_device.specs.Frames.{pages_before, pages_from}
 use Rattle.std.specs.Str.{bytes_eq}
 use Rattle.std.proofs.lemmas.List.{length-replicate}
@@ -18,7 +18,7 @@ use Rattle.kset.specs.Pages.{AreSpelled, AreSpelledOn, records_on}
 use Rattle.kset.specs.Shown.{visible_in, visible_from}
 use Rattle.kset.specs.Laws.{AreOfTheirSets, IsKeyOf}
 use Rattle.record_pages.specs.Recs.{Rec}
-use Rattle.mover.specs.Flight.{Flight, IsFlightOf, AreOfSet}
+use Rattle.mover.specs.Flight.{Flight, IsFlightOf, AreFlights, AreOfSet}
 use Rattle.mover.specs.Store.{StoreState, IsStore, IsSmall, most_moves}
 
 -- the same first pages spell the same sets
@@ -52,9 +52,9 @@ module _ {D : Type 0} (size : ℕ) (pages : D → ℕ) (honest : D → Bool) (he
     room = subst (λ (h : Shape). h.sets + h.segments * h.segment_pages ≤ pages d) (sym shape)
         (subst (λ n. s.log.shape.sets + s.log.shape.segments * s.log.shape.segment_pages ≤ n) (sym same_pages) was.room);
     numbered = was.numbered;
-    flight = subst (λ (h : Shape). IfSome s.flight (IsFlightOf h s.moves)) (sym shape) was.flight;
-    flight_placed = λ is. let before : IsTrue (honest s.device) = sym same_honesty ∙ is in
-        subst (λ (h : Shape). IfSome s.flight (λ (f : Flight). AreOfSet h f.moving)) (sym shape) (was.flight_placed before);
+    flights = subst (λ (h : Shape). AreFlights h s.moves s.flights) (sym shape) was.flights;
+    flights_placed = λ is. let before : IsTrue (honest s.device) = sym same_honesty ∙ is in
+        subst (λ (h : Shape). All (λ (f : Flight). AreOfSet h f.moving) s.flights) (sym shape) (was.flights_placed before);
     log_spelled = λ is. let before : IsTrue (honest s.device) = sym same_honesty ∙ is in log before (was.log_spelled before);
     sets_spelled = λ is. let before : IsTrue (honest s.device) = sym same_honesty ∙ is in sets before (was.sets_spelled before);
     sets_placed = λ is. let before : IsTrue (honest s.device) = sym same_honesty ∙ is in
@@ -90,17 +90,17 @@ module _ {D : Type 0} (size : ℕ) (pages : D → ℕ) (honest : D → Bool) (he
     small = small;
     room = was.room;
     numbered = was.numbered;
-    flight = was.flight;
-    flight_placed = was.flight_placed;
+    flights = was.flights;
+    flights_placed = was.flights_placed;
     log_spelled = was.log_spelled;
     sets_spelled = was.sets_spelled;
     sets_placed = was.sets_placed;
   }
 
-  -- a call that changes the move in flight
-  pub kept_flight : (o : Option Flight) (n : ℕ) → n ≤ most_moves → IfSome o (IsFlightOf s.log.shape n) → (IsTrue (honest s.device) → IfSome o (λ f. AreOfSet s.log.shape f.moving)) →
-      IsStore size pages honest held (record s { flight = o; moves = n })
-  kept_flight o n few flight placed = record {
+  -- a call that changes the moves in flight
+  pub kept_flights : (fs : List Flight) (n : ℕ) → n ≤ most_moves → AreFlights s.log.shape n fs → (IsTrue (honest s.device) → All (λ (f : Flight). AreOfSet s.log.shape f.moving) fs) →
+      IsStore size pages honest held (record s { flights = fs; moves = n })
+  kept_flights fs n few flights placed = record {
     page_size = was.page_size;
     shape = was.shape;
     counted = was.counted;
@@ -109,8 +109,8 @@ module _ {D : Type 0} (size : ℕ) (pages : D → ℕ) (honest : D → Bool) (he
     small = was.small;
     room = was.room;
     numbered = few;
-    flight = flight;
-    flight_placed = placed;
+    flights = flights;
+    flights_placed = placed;
     log_spelled = was.log_spelled;
     sets_spelled = was.sets_spelled;
     sets_placed = was.sets_placed;
@@ -122,11 +122,11 @@ small_removed size old new key after small =
     subst (λ (m : MemoryList). All (IsSmall size) m.pairs) (sym after) (All-filter (λ p. not (bytes_eq key p.key)) (IsSmall size) old.pairs small)
 
 -- what a store is kept by at first: nothing is in its tiers
-pub opened : {D : Type 0} (size : ℕ) (pages : D → ℕ) (honest : D → Bool) (held : D → ℕ → Option (List ℕ)) (layout : Layout) (d : D) (m : MemoryList) (k : LogState) (q : SetsState) → IsPageSize size → 1 ≤ layout.memory →
-    m ≡ empty layout.memory → k ≡ opening_log (shape_of layout) → q ≡ opening_sets layout.sets → layout.sets + layout.segments * layout.segment_pages ≤ pages d →
+pub opened : {D : Type 0} (size : ℕ) (pages : D → ℕ) (honest : D → Bool) (held : D → ℕ → Option (List ℕ)) (layout : Layout) (d : D) (m : MemoryList) (k : LogState) (q : SetsState) (fs : List Flight) → IsPageSize size → 1 ≤ layout.memory →
+    m ≡ empty layout.memory → k ≡ opening_log (shape_of layout) → q ≡ opening_sets layout.sets → fs ≡ [] → layout.sets + layout.segments * layout.segment_pages ≤ pages d →
     ((on : ℕ → Option (List ℕ)) → IsSpelledOn size on k) → ((on : ℕ → Option (List ℕ)) → AreSpelledOn size on q) → ((on : ℕ → Option (List ℕ)) (set : ℕ) → visible_in on q set ≡ []) →
-    IsStore size pages honest held (record { layout = layout; device = d; memory = m; log = k; sets = q; flight = None; moves = 0 })
-opened size pages honest held layout d m k q page_size roomy memory log sets fits log_spelled sets_spelled shown = record {
+    IsStore size pages honest held (record { layout = layout; device = d; memory = m; log = k; sets = q; flights = fs; moves = 0 })
+opened size pages honest held layout d m k q fs page_size roomy memory log sets none fits log_spelled sets_spelled shown = record {
   page_size = page_size;
   shape = ap (λ (x : LogState). x.shape) log;
   counted = ap set_count sets ∙ length-replicate layout.sets no_notes;
@@ -139,8 +139,13 @@ opened size pages honest held layout d m k q page_size roomy memory log sets fit
   sets_placed = λ _ set.
       subst (λ (xs : List (ℕ × Rec)). All (λ (x : ℕ × Rec). IsKeyOf k.shape.lanes k.shape.sets set x.1.key) xs) (sym (shown (held d) set)) (All-nil (λ (x : ℕ × Rec). IsKeyOf k.shape.lanes k.shape.sets set x.1.key));
   numbered = omega arith;
-  flight = tt;
-  flight_placed = λ _. tt;
+  flights = subst (AreFlights k.shape 0) (sym none) (record {
+    few = omega arith;
+    each = All-nil (IsFlightOf k.shape 0);
+    rising = λ i j d less lt. absurd (omega (arith, lt));
+    apart = λ i j d less lt. absurd (omega (arith, lt));
+  });
+  flights_placed = λ _. subst (All (λ (f : Flight). AreOfSet k.shape f.moving)) (sym none) (All-nil (λ (f : Flight). AreOfSet k.shape f.moving));
 }
 
 -- what holds of each pair in memory holds of each still where one comes to the front

@@ -3,6 +3,7 @@ pub mod Listing
 pub mod Keeping
 pub mod Lanes
 pub mod Flying
+pub mod FlightLists
 pub mod Getting
 pub mod Putting
 pub mod Showing

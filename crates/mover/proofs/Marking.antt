@@ -1,6 +1,7 @@
--- The marks of a move in flight, under a strike.
+-- The marks of the moves in flight, under a strike.
+use Rattle.std.proofs.lemmas.List.Elements.{All-map, All-weaker, All-contains}
 use Rattle.std.proofs.Common.{◌≡◌, ◌≢◌, ℕ, Bool, true, false, ◌||◌, eqb, List, map, Option, Some, None, inl, inr, ⊎_elim, refl, sym, ap, subst, ◌∙◌}
-use Rattle.std.specs.Prelude.{IfSome, IsSomeAnd, slice_get}
+use Rattle.std.specs.Prelude.{slice_get, All, Contains}
 use Rattle.std.specs.Option.{option_map, option_map_or}
 use Rattle.std.proofs.lemmas.Bool.{eq-eqb, false≢true}
 use Rattle.std.proofs.lemmas.Option.{slice_get-map, none-some}
@@ -14,15 +15,17 @@ use Rattle.mover.specs.Flight.{Flight, records_of, mark_struck, flight_struck, i
 use Rattle.mover.specs.Lane.{LaneState}
 use Rattle.mover.specs.Put.{put_step}
 use Rattle.mover.specs.Strike.{removed}
-use Rattle.mover.specs.Visible.{pair_of, IsHeldInFlight, IsLogPlaced}
+use Rattle.mover.specs.Visible.{IsHeldInFlight, IsLogPlaced}
 use Rattle.mover.specs.Laws.{AreMarked}
+use Rattle.mover.proofs.Listing.{in_map}
 use Rattle.mover.proofs.Flying.{hashes_stay}
 use Rattle.mover.proofs.Showing.{ShowsOthers, ShowsIt, removed_sees, put_sees, put_flies}
 
--- the items of a move stay marked under a strike
-pub struck_marked : (hash : ℕ) (shape : Shape) (o : Option Flight) → IfSome o (AreMarked shape) → IfSome (option_map (flight_struck hash) o) (AreMarked shape)
-struck_marked hash shape None was = tt
-struck_marked hash shape (Some f) was = hashes_stay hash f.marks ∙ was
+-- the items of each move stay marked under a strike
+pub struck_marked : (hash : ℕ) (shape : Shape) (fs : List Flight) → All (AreMarked shape) fs → All (AreMarked shape) (map (flight_struck hash) fs)
+struck_marked hash shape fs was =
+    All-map (AreMarked shape) (flight_struck hash) fs
+    (All-weaker (AreMarked shape) (λ (f : Flight). AreMarked shape (flight_struck hash f)) (λ f marked. hashes_stay hash f.marks ∙ marked) fs was)
 
 -- the mark of a record
 mark_is : (shape : Shape) (f : Flight) → AreMarked shape f → (item : ℕ) (r : Rec) → slice_get (records_of f.moving) item ≡ Some r → option_map (λ (m : Mark). m.hash) (slice_get f.marks item) ≡ Some (fnv1a r.key)
@@ -49,26 +52,22 @@ clear_before hash shape f marked r is = let it = step (slice_get f.marks is.item
         (ap (λ (o : Option Mark). option_map_or (λ (x : Mark). x.struck) o false) at ∙ both.0, λ same. both.1 (hashed ∙ same))
 
 -- what is in flight after a strike was so before it, and has another key
-held_before : (key : List ℕ) (lane : LaneState) (p : Pair) → IfSome lane.flight (AreMarked lane.log.shape) → IsSomeAnd (option_map (flight_struck (fnv1a key)) lane.flight) (λ f. (r : Rec) × IsUnstruck f r × (pair_of r ≡ p)) →
-    IsHeldInFlight lane p × (p.key ≢ key)
-held_before key lane p = step lane.flight
-  where
-    step : (o : Option Flight) → IfSome o (AreMarked lane.log.shape) → IsSomeAnd (option_map (flight_struck (fnv1a key)) o) (λ f. (r : Rec) × IsUnstruck f r × (pair_of r ≡ p)) →
-        IsSomeAnd o (λ f. (r : Rec) × IsUnstruck f r × (pair_of r ≡ p)) × (p.key ≢ key)
-    step None marked held = absurd held
-    step (Some f) marked held =
-        let still = clear_before (fnv1a key) lane.log.shape f marked held.0 held.1 in
-        ((held.0, still.0, held.2), λ same. still.1 (ap fnv1a (ap (λ (q : Pair). q.key) held.2 ∙ same)))
+held_before : (key : List ℕ) (lane new : LaneState) (p : Pair) → All (AreMarked lane.log.shape) lane.flights → new.flights ≡ map (flight_struck (fnv1a key)) lane.flights → IsHeldInFlight new p → IsHeldInFlight lane p × (p.key ≢ key)
+held_before key lane new p marked struck held =
+    let was = in_map (flight_struck (fnv1a key)) lane.flights held.its (subst (λ (fs : List Flight). Contains fs held.its) struck held.flies) in
+    let f : Flight = was.0 in
+    let still = clear_before (fnv1a key) lane.log.shape f (All-contains (AreMarked lane.log.shape) lane.flights f marked was.1) held.item (subst (λ (g : Flight). IsUnstruck g held.item) (sym was.2) held.unstruck) in
+    (record { its = f; flies = was.1; item = held.item; unstruck = still.0; pair = held.pair }, λ same. still.1 (ap fnv1a (ap (λ (q : Pair). q.key) held.pair ∙ same)))
 
 -- a removal shows only other keys
-pub removal_others : (key : List ℕ) (lane : LaneState) → IsLogPlaced lane → IfSome lane.flight (AreMarked lane.log.shape) → ShowsOthers key lane (removed key lane)
+pub removal_others : (key : List ℕ) (lane : LaneState) → IsLogPlaced lane → All (AreMarked lane.log.shape) lane.flights → ShowsOthers key lane (removed key lane)
 removal_others key lane placed marked p (inl visible) = let kept = removed_sees key lane placed p visible in (inl kept.0, kept.1)
-removal_others key lane placed marked p (inr held) = let kept = held_before key lane p marked held in (inr kept.0, kept.1)
+removal_others key lane placed marked p (inr held) = let kept = held_before key lane (removed key lane) p marked refl held in (inr kept.0, kept.1)
 
 -- a put shows its pair, and else only other keys
-pub put_alone : (size admit word : ℕ) (put : Pair) (lane : LaneState) → IsLogPlaced lane → IfSome lane.flight (AreMarked lane.log.shape) → ShowsIt put lane (put_step size admit put word lane).lane
+pub put_alone : (size admit word : ℕ) (put : Pair) (lane : LaneState) → IsLogPlaced lane → All (AreMarked lane.log.shape) lane.flights → ShowsIt put lane (put_step size admit put word lane).lane
 put_alone size admit word put lane placed marked p (inl visible) =
     ⊎_elim (λ it. inl it) (λ kept. inr (inl kept.0, kept.1)) (put_sees size admit word put lane placed p visible)
 put_alone size admit word put lane placed marked p (inr held) =
-    let kept = held_before put.key lane p marked (subst (λ (o : Option Flight). IsSomeAnd o (λ f. (r : Rec) × IsUnstruck f r × (pair_of r ≡ p))) (put_flies size admit word put lane) held) in
+    let kept = held_before put.key lane (put_step size admit put word lane).lane p marked (put_flies size admit word put lane) held in
     inr (inr kept.0, kept.1)

@@ -1,7 +1,7 @@
 -- What a move keeps of a lane's order.
-use Rattle.std.proofs.Common.{◌≡◌, ℕ, Bool, true, false, not, List, [], Option, Some, None, cond, ⊎_elim, refl, sym, subst}
-use Rattle.std.specs.Prelude.{nat_lt, IfSome, filter}
-use Rattle.std.proofs.lemmas.List.Elements.{All-nil}
+use Rattle.std.proofs.Common.{◌≡◌, ℕ, Bool, true, false, not, List, [], Option, Some, None, cond, ⊎_elim, refl, sym, subst, Contains, eqb}
+use Rattle.std.specs.Prelude.{filter}
+use Rattle.std.proofs.lemmas.List.Elements.{All-nil, All-push, All-filter, All-contains}
 use Rattle.record_pages.specs.Recs.{Rec}
 use Rattle.policy_laws.specs.declared.choice.Choice.{Choice}
 use Rattle.admission.specs.declared.judgement.Judgement.{Judgement}
@@ -21,14 +21,13 @@ use Rattle.kset.specs.declared.rewritten.Rewritten.TheVariants as rewritten
 use Rattle.kset.specs.Laws.{IsKeyOf, AreOfTheirSets}
 use Rattle.kset.specs.After.{shown_after_rewriting}
 use Rattle.kset.proofs.MovingLaws.{rewritings_keep}
-use Rattle.mover.specs.Store.{most_moves}
-use Rattle.mover.specs.Flight.{Flight, unstruck, AreOfSet, records_of}
+use Rattle.mover.specs.Flight.{Flight, unstruck, AreOfSet, records_of, just_begun}
 use Rattle.mover.specs.Job.{job_of}
 use Rattle.mover.specs.Lane.{LaneState}
 use Rattle.mover.specs.Get.{Step}
 use Rattle.mover.specs.Put.{lane_appended}
-use Rattle.mover.specs.Oldest.{oldest_in, record_of}
-use Rattle.mover.specs.Begin.{lane_freed, lane_without_entry, lane_without_page, lane_forgotten, lane_begun, moving_of, anew_step, judged, entry_step, oldest_step, begin_step_by, begin_step, LosesPage, BeginGives}
+use Rattle.mover.specs.Oldest.{record_of}
+use Rattle.mover.specs.Begin.{lane_freed, lane_without_entry, lane_without_page, lane_forgotten, lane_begun, moving_of, anew_step, judged, entry_step, oldest_step, begin_step, LosesPage, BeginGives}
 use Rattle.mover.specs.Commit.{planned_of, committed, IsFitting, Commits, CommitGives, given_up, AbortGives}
 use Rattle.mover.specs.declared.begin.Begin.{Begin}
 use Rattle.mover.specs.declared.begin.Begin.TheVariants as begin
@@ -36,9 +35,11 @@ use Rattle.mover.specs.declared.committed.Committed.{Committed}
 use Rattle.mover.specs.declared.committed.Committed.TheVariants as answers
 use Rattle.mover.specs.declared.aborted.Aborted.{Aborted}
 use Rattle.mover.specs.declared.aborted.Aborted.TheVariants as aborted
-use Rattle.mover.specs.Laws.{IsInOrder}
+use Rattle.mover.specs.Laws.{AreMarked, IsInOrder}
+use Rattle.mover.proofs.FlightLists.{held_found}
 use Rattle.mover.proofs.Flying.{fresh_hashes}
 use Rattle.mover.proofs.Gathering.{moving_placed, planned_placed}
+use Rattle.mover.proofs.MovingShows.{begins_by}
 use Rattle.mover.proofs.OrderKept.{KeepsOrder, in_order, dying_kept, appended_kept}
 
 module _ (size least : ℕ) (lane : LaneState) (was : IsInOrder lane) where
@@ -59,7 +60,10 @@ module _ (size least : ℕ) (lane : LaneState) (was : IsInOrder lane) where
   -- what becomes of an entry keeps a lane in order
   entry_kept : (e : Entry) (j : Judgement) → KeepsOrder lane (entry_step size lane e j).lane
   entry_kept e judgement.Move =
-      in_order lane (lane_begun lane e.set) refl was.placed.log was.placed.sets (moving_placed lane e.set was.placed.log was.placed.sets) (fresh_hashes lane.log.shape (records_of (moving_of lane e.set)))
+      let begun : Flight = just_begun lane.log.shape (moving_of lane e.set) in
+      in_order lane (lane_begun lane e.set) refl was.placed.log was.placed.sets
+      (All-push (λ (f : Flight). AreOfSet lane.log.shape f.moving) lane.flights begun was.placed.flight (moving_placed lane e.set was.placed.log was.placed.sets))
+      (All-push (AreMarked lane.log.shape) lane.flights begun was.marked (fresh_hashes lane.log.shape (records_of (moving_of lane e.set))))
   entry_kept e judgement.Drop = gone_kept e
   entry_kept e judgement.Readmit = by_record (record_of e lane.live)
     where
@@ -79,19 +83,12 @@ module _ (size least : ℕ) (lane : LaneState) (was : IsInOrder lane) where
   oldest_kept : (o : Oldest) → KeepsOrder lane (oldest_step size least lane o).lane
   oldest_kept oldest.NoSegment = (refl, was)
   oldest_kept oldest.Empty = in_order lane (lane_freed lane) refl was.placed.log was.placed.sets was.placed.flight was.marked
+  oldest_kept oldest.Passed = (refl, was)
   oldest_kept (oldest.First e) = entry_kept e (judged least lane e)
 
   -- so does how a move begins
   pub begin_step_kept : KeepsOrder lane (begin_step size least lane).lane
-  begin_step_kept = by_flight lane.flight
-    where
-      by_room : (b : Bool) → KeepsOrder lane (cond {A = Step Begin} b (oldest_step size least lane (oldest_in lane.log)) (record { reply = begin.Nothing; lane = lane })).lane
-      by_room true = oldest_kept (oldest_in lane.log)
-      by_room false = (refl, was)
-
-      by_flight : (o : Option Flight) → KeepsOrder lane (begin_step_by size least lane o).lane
-      by_flight None = by_room (nat_lt lane.moves most_moves)
-      by_flight (Some f) = (refl, was)
+  begin_step_kept = begins_by size least lane (λ step. KeepsOrder lane step.lane) (refl, was) (refl, was) oldest_kept
 
   -- and a page that is lost as it begins
   lost_kept : (e : Entry) (new : LaneState) (j : Judgement) → LosesPage size e lane j new → KeepsOrder lane new
@@ -116,12 +113,19 @@ module _ (size least : ℕ) (lane : LaneState) (was : IsInOrder lane) where
       by_answer begin.Dropped gives = stepped gives.1
       by_answer (begin.Job job) gives = stepped gives.1
 
+-- where a move is no longer in flight a lane stays in order
+given_up_kept : (number : ℕ) (lane : LaneState) → IsInOrder lane → KeepsOrder lane (given_up number lane)
+given_up_kept number lane was =
+    let others : Flight → Bool = λ f. not (eqb f.moving.number number) in
+    in_order lane (given_up number lane) refl was.placed.log was.placed.sets (All-filter others (λ (f : Flight). AreOfSet lane.log.shape f.moving) lane.flights was.placed.flight)
+    (All-filter others (AreMarked lane.log.shape) lane.flights was.marked)
+
 -- a commit keeps a lane in order
-pub committed_kept : (size : ℕ) (f : Flight) (plan : List Choice) (answer : Rewritten) (lane : LaneState) → IsInOrder lane → lane.flight ≡ Some f → IsFitting (job_of size f.moving) plan → KeepsOrder lane (committed f plan answer lane)
+pub committed_kept : (size : ℕ) (f : Flight) (plan : List Choice) (answer : Rewritten) (lane : LaneState) → IsInOrder lane → Contains lane.flights f → IsFitting (job_of size f.moving) plan → KeepsOrder lane (committed f plan answer lane)
 committed_kept size f plan answer lane was flying fitting = by_answer answer
   where
     flown : AreOfSet lane.log.shape f.moving
-    flown = subst (λ (o : Option Flight). IfSome o (λ g. AreOfSet lane.log.shape g.moving)) flying was.placed.flight
+    flown = All-contains (λ (g : Flight). AreOfSet lane.log.shape g.moving) lane.flights f was.placed.flight flying
 
     rewritten_kept : (answer : Rewritten) → AreOfTheirSets lane.log.shape.lanes lane.log.shape.sets (shown_after_rewriting answer f.moving.set (planned_of f.moving (unstruck f plan)) lane.visible)
     rewritten_kept answer =
@@ -130,16 +134,19 @@ committed_kept size f plan answer lane was flying fitting = by_answer answer
     taken : KeepsOrder lane (record lane { log = dropped lane.log f.moving.set f.moving.taken; live = filter (λ (x : Entry × Rec). not (is_taken lane.log f.moving.set f.moving.taken x.0)) lane.live })
     taken = dying_kept lane was (dropped lane.log f.moving.set f.moving.taken).entries (λ (x : Entry × Rec). not (is_taken lane.log f.moving.set f.moving.taken x.0))
 
+    left : IsInOrder (given_up f.moving.number lane)
+    left = (given_up_kept f.moving.number lane was).1
+
     by_answer : (answer : Rewritten) → KeepsOrder lane (committed f plan answer lane)
-    by_answer rewritten.Written = in_order lane (committed f plan rewritten.Written lane) refl taken.1.placed.log (rewritten_kept rewritten.Written) tt tt
-    by_answer rewritten.Forgotten = in_order lane (committed f plan rewritten.Forgotten lane) refl taken.1.placed.log (rewritten_kept rewritten.Forgotten) tt tt
+    by_answer rewritten.Written = in_order lane (committed f plan rewritten.Written lane) refl taken.1.placed.log (rewritten_kept rewritten.Written) left.placed.flight left.marked
+    by_answer rewritten.Forgotten = in_order lane (committed f plan rewritten.Forgotten lane) refl taken.1.placed.log (rewritten_kept rewritten.Forgotten) left.placed.flight left.marked
 
 -- so does each answer of a commit
 pub commit_kept : (size : ℕ) (plan : List Choice) (number : ℕ) (old new : LaneState) (answer : Committed) → IsInOrder old → CommitGives size plan number old answer new → KeepsOrder old new
 commit_kept size plan number old new answer was = by_answer answer
   where
     so : (ended : Rewritten) → Commits size plan number ended old new → KeepsOrder old new
-    so ended is = subst (KeepsOrder old) (sym is.ended) (committed_kept size is.its plan ended old was is.flies is.fits)
+    so ended is = subst (KeepsOrder old) (sym is.ended) (committed_kept size is.its plan ended old was (held_found number old.flights is.its is.flies) is.fits)
 
     by_answer : (answer : Committed) → CommitGives size plan number old answer new → KeepsOrder old new
     by_answer answers.Written is = so rewritten.Written is
@@ -149,5 +156,5 @@ commit_kept size plan number old new answer was = by_answer answer
 
 -- and each of an abort
 pub abort_kept : (number : ℕ) (old new : LaneState) (answer : Aborted) → IsInOrder old → AbortGives number old answer new → KeepsOrder old new
-abort_kept number old new aborted.Aborted was is = subst (KeepsOrder old) (sym is.1) (in_order old (given_up old) refl was.placed.log was.placed.sets tt tt)
+abort_kept number old new aborted.Aborted was is = subst (KeepsOrder old) (sym is.1) (given_up_kept number old was)
 abort_kept number old new aborted.StalePlan was is = subst (KeepsOrder old) (sym is.1) (refl, was)

@@ -1,9 +1,8 @@
 -- Which pairs a move shows.
 use Rattle.std.proofs.Common.{◌≡◌, ◌<◌, ◌+◌, ℕ, Bool, true, false, eqb, not, List, [], ◌∷◌, length, filter, map, take, get_or, Option, Some, None, Contains, cond, inl, inr, ⊎_elim, refl, sym, ap, subst, ◌∙◌, arith}
-use Rattle.std.specs.Prelude.{find, nat_lt, IsSomeAnd}
+use Rattle.std.specs.Prelude.{find, nat_lt}
 use Rattle.std.specs.List.{enumerate_from}
 use Rattle.std.specs.Option.{option_map}
-use Rattle.std.proofs.lemmas.Bool.{eqb-true}
 use Rattle.std.proofs.lemmas.Option.{none-some, slice_get-get_or}
 use Rattle.std.proofs.lemmas.List.Elements.{All-contains, Contains-append_cases}
 use Rattle.record_pages.specs.Recs.{Rec, rec}
@@ -37,8 +36,8 @@ use Rattle.kset.specs.Laws.{IsKeyOf}
 use Rattle.mover.specs.Get.{Step}
 use Rattle.mover.specs.Put.{lane_appended}
 use Rattle.mover.specs.Oldest.{oldest_in, record_of}
-use Rattle.mover.specs.Begin.{lane_without_entry, lane_without_page, lane_forgotten, lane_begun, moving_of, set_records, anew_step, judged, entry_step, oldest_step, next_step, begin_step_by, begin_step, LosesPage, BeginGives}
-use Rattle.mover.specs.Flight.{Flight, records_of, unstruck, is_struck, IsUnstruck}
+use Rattle.mover.specs.Begin.{lane_freed, lane_without_entry, lane_without_page, lane_forgotten, lane_begun, moving_of, set_records, anew_step, judged, entry_step, oldest_step, next_step, begin_step, LosesPage, BeginGives}
+use Rattle.mover.specs.Flight.{Flight, records_of, unstruck, is_struck, IsUnstruck, most_flights, sets_in_flight, just_begun}
 use Rattle.mover.specs.Job.{job_of, items_of}
 use Rattle.mover.specs.Commit.{planned, planned_of, lane_rewritten, landed, committed, IsFitting, Commits, CommitGives, given_up, AbortGives}
 use Rattle.mover.specs.declared.begin.Begin.{Begin}
@@ -47,10 +46,28 @@ use Rattle.mover.specs.declared.committed.Committed.{Committed}
 use Rattle.mover.specs.declared.committed.Committed.TheVariants as answers
 use Rattle.mover.specs.declared.aborted.Aborted.{Aborted}
 use Rattle.mover.specs.declared.aborted.Aborted.TheVariants as aborted
-use Rattle.mover.proofs.Listing.{in_filter, in_map, in_take, mapped, found_in, got}
+use Rattle.mover.proofs.Listing.{in_filter, in_map, in_take, mapped, found_in, got, split}
 use Rattle.mover.proofs.Filling.{as_many}
-use Rattle.mover.proofs.Showing.{SeesNoMore, ShowsNoMore, sees_no_more, sees_none, appended_shows}
+use Rattle.mover.proofs.Showing.{SeesNoMore, ShowsNoMore, held_still, sees_no_more, sees_fewer, appended_shows}
+use Rattle.mover.proofs.FlightLists.{held_found}
 use Rattle.mover.proofs.Gathering.{moving_placed}
+
+-- what is so of a move that is busy, of one with nothing to do, and of one that looks at the oldest segment, is so of each that begins
+pub begins_by : (size least : ℕ) (lane : LaneState) (P : Step Begin → Type 0) → P (record { reply = begin.Busy; lane = lane }) → P (record { reply = begin.Nothing; lane = lane }) → ((o : Oldest) → P (oldest_step size least lane o)) →
+    P (begin_step size least lane)
+begins_by size least lane P busy nothing oldest = by_room (nat_lt (length lane.flights) most_flights)
+  where
+    by_moves : (b : Bool) → P (cond {A = Step Begin} b (oldest_step size least lane (oldest_in (sets_in_flight lane.flights) lane.log)) (record { reply = begin.Nothing; lane = lane }))
+    by_moves true = oldest (oldest_in (sets_in_flight lane.flights) lane.log)
+    by_moves false = nothing
+
+    by_room : (b : Bool) → P (cond {A = Step Begin} b (next_step size least lane) (record { reply = begin.Busy; lane = lane }))
+    by_room true = by_moves (nat_lt lane.moves most_moves)
+    by_room false = busy
+
+-- the moves that are left were in flight
+were_in_flight : (number : ℕ) (lane : LaneState) (f : Flight) → Contains (given_up number lane).flights f → Contains lane.flights f
+were_in_flight number lane f left = (in_filter (λ (g : Flight). not (eqb g.moving.number number)) lane.flights f left).0
 
 -- where records of the log die nothing else is shown
 without_shows : (es : List Entry) (q : Entry × Rec → Bool) (lane : LaneState) → SeesNoMore lane (record lane { log = with_list lane.log es; live = filter q lane.live })
@@ -60,23 +77,23 @@ without_shows es q lane p (inr (inl live)) =
     inr (inl (mapped (λ (x : Entry × Rec). pair_of x.1) lane.live found.0 p (in_filter q lane.live found.0 found.1).0 found.2))
 without_shows es q lane p (inr (inr visible)) = inr (inr visible)
 
--- where a set shows other records, each of which was visible, nothing else is shown
-set_shows : (lane : LaneState) (sets : SetsState) (set : ℕ) (shows : List (ℕ × Rec)) → ((p : Pair) → Contains (map (λ (x : ℕ × Rec). pair_of x.1) shows) p → (place_in lane.log.shape p.key).set ≡ set → IsVisible lane p) →
-    SeesNoMore lane (record lane { sets = sets; visible = with_set lane.visible set shows })
-set_shows lane sets set shows was p (inl memory) = inl memory
-set_shows lane sets set shows was p (inr (inl live)) = inr (inl live)
-set_shows lane sets set shows was p (inr (inr visible)) = step (eqb (place_in lane.log.shape p.key).set set) refl visible
+-- where a set shows other records, what is so of each of them and of what was visible is so of all that is visible
+set_shown : (P : Pair → Type 0) (lane : LaneState) (sets : SetsState) (set : ℕ) (shows : List (ℕ × Rec)) → ((p : Pair) → IsVisible lane p → P p) → ((p : Pair) → Contains (map (λ (x : ℕ × Rec). pair_of x.1) shows) p → P p) →
+    (p : Pair) → IsVisible (record lane { sets = sets; visible = with_set lane.visible set shows }) p → P p
+set_shown P lane sets set shows old fresh p (inl memory) = old p (inl memory)
+set_shown P lane sets set shows old fresh p (inr (inl live)) = old p (inr (inl live))
+set_shown P lane sets set shows old fresh p (inr (inr visible)) = step (eqb (place_in lane.log.shape p.key).set set) visible
   where
-    step : (b : Bool) → eqb (place_in lane.log.shape p.key).set set ≡ b → Contains (map (λ (x : ℕ × Rec). pair_of x.1) (cond b shows (lane.visible (place_in lane.log.shape p.key).set))) p → IsVisible lane p
-    step true same here = was p here (eqb-true _ _ same)
-    step false differs here = inr (inr here)
+    step : (b : Bool) → Contains (map (λ (x : ℕ × Rec). pair_of x.1) (cond b shows (lane.visible (place_in lane.log.shape p.key).set))) p → P p
+    step true here = fresh p here
+    step false here = old p (inr (inr here))
 
 -- nothing is in an empty list
 pub nothing : {X : Type 0} (f : X → Pair) (p : Pair) → Contains (map f []) p → ⊥
 nothing f p h = let lt = (in_map f [] p h).1.1 in omega (arith, lt)
 
 forgotten_shows : (lane : LaneState) (set : ℕ) (sets : SetsState) → SeesNoMore lane (record lane { sets = sets; visible = with_set lane.visible set [] })
-forgotten_shows lane set sets = set_shows lane sets set [] (λ p h its. absurd (nothing (λ (x : ℕ × Rec). pair_of x.1) p h))
+forgotten_shows lane set sets = set_shown (IsVisible lane) lane sets set [] (λ p here. here) (λ p h. absurd (nothing (λ (x : ℕ × Rec). pair_of x.1) p h))
 
 -- where a page of the log is lost nothing else is shown
 page_shows : (old : LaneState) (e : Entry) → SeesNoMore old (lane_without_page e old)
@@ -124,11 +141,20 @@ recorded e live r at = step (find (λ x. is_in e.set e.place x.0) live) refl at
 -- a move that begins shows what was visible
 pub lane_begun_shows : (lane : LaneState) (set : ℕ) → IsLogPlaced lane → AreSetsPlaced lane → ShowsNoMore lane (lane_begun lane set)
 lane_begun_shows lane set log sets p (inl visible) = inl visible
-lane_begun_shows lane set log sets p (inr held) =
-    let r = held.0 in
-    let listed : Contains (records_of (moving_of lane set)) r = got (records_of (moving_of lane set)) held.1.item r held.1.found in
-    let its = All-contains (λ (x : Rec). IsKeyOf lane.log.shape.lanes lane.log.shape.sets set x.key) (records_of (moving_of lane set)) r (moving_placed lane set log sets) listed in
-    inl (subst (IsVisible lane) held.2 (moving_visible lane set r listed its))
+lane_begun_shows lane set log sets p (inr held) = elim (Contains-append_cases lane.flights (just_begun lane.log.shape (moving_of lane set) ∷ []) held.its held.flies) [
+  | inl before ↦ inr (held_still lane (lane_begun lane set) p held before)
+  | inr last ↦
+      let begun : Flight = just_begun lane.log.shape (moving_of lane set) in
+      let is : begun ≡ held.its = one_is begun held.its last in
+      let r : Rec = held.item in
+      let unstruck : IsUnstruck begun r = subst (λ (f : Flight). IsUnstruck f r) (sym is) held.unstruck in
+      let listed : Contains (records_of (moving_of lane set)) r = got (records_of (moving_of lane set)) unstruck.item r unstruck.found in
+      let its = All-contains (λ (x : Rec). IsKeyOf lane.log.shape.lanes lane.log.shape.sets set x.key) (records_of (moving_of lane set)) r (moving_placed lane set log sets) listed in
+      inl (subst (IsVisible lane) held.pair (moving_visible lane set r listed its))
+]
+  where
+    one_is : (x y : Flight) → Contains (x ∷ []) y → x ≡ y
+    one_is x y there = elim (split y x [] there) [ inl is ↦ is | inr none ↦ absurd (let lt = none.1 in omega (arith, lt)) ]
 
 module _ (size least : ℕ) (lane : LaneState) (log : IsLogPlaced lane) (sets : AreSetsPlaced lane) where
   -- what becomes of an entry shows what was shown
@@ -155,23 +181,13 @@ module _ (size least : ℕ) (lane : LaneState) (log : IsLogPlaced lane) (sets : 
 
   oldest_shows : (o : Oldest) → ShowsNoMore lane (oldest_step size least lane o).lane
   oldest_shows oldest.NoSegment = λ p here. here
-  oldest_shows oldest.Empty = λ p here. here
+  oldest_shows oldest.Empty = sees_no_more lane (lane_freed lane) refl (λ p here. here)
+  oldest_shows oldest.Passed = λ p here. here
   oldest_shows (oldest.First e) = entry_shows e (judged least lane e)
-
-  next_shows : ShowsNoMore lane (next_step size least lane).lane
-  next_shows = by_room (nat_lt lane.moves most_moves)
-    where
-      by_room : (b : Bool) → ShowsNoMore lane (cond {A = Step Begin} b (oldest_step size least lane (oldest_in lane.log)) (record { reply = begin.Nothing; lane = lane })).lane
-      by_room true = oldest_shows (oldest_in lane.log)
-      by_room false = λ p here. here
 
   -- so does how a move begins
   pub begin_shows : ShowsNoMore lane (begin_step size least lane).lane
-  begin_shows = by_flight lane.flight
-    where
-      by_flight : (o : Option Flight) → ShowsNoMore lane (begin_step_by size least lane o).lane
-      by_flight None = next_shows
-      by_flight (Some f) = λ p here. here
+  begin_shows = begins_by size least lane (λ step. ShowsNoMore lane step.lane) (λ p here. here) (λ p here. here) oldest_shows
 
 -- a page that is lost as a move begins shows nothing more
 lost_shows : (size : ℕ) (e : Entry) (old new : LaneState) (j : Judgement) → LosesPage size e old j new → ShowsNoMore old new
@@ -216,20 +232,10 @@ kept_held size f plan q fitting h =
     let lt : b.0.item < length rs = omega (arith, as_many f.moving, within) in
     (get_or rs b.0.item (rec [] [] 0), record { item = b.0.item; found = slice_get-get_or rs b.0.item (rec [] [] 0) lt; not_struck = is_not (is_struck f b.0.item) listed.1 }, ap pair_of b.2 ∙ a.2)
 
--- where a set shows other records, each of which was shown, nothing else is shown
-set_shown : (lane : LaneState) (sets : SetsState) (set : ℕ) (shows : List (ℕ × Rec)) → ((p : Pair) → Contains (map (λ (x : ℕ × Rec). pair_of x.1) shows) p → IsShown lane p) →
-    (p : Pair) → IsVisible (record lane { sets = sets; visible = with_set lane.visible set shows }) p → IsShown lane p
-set_shown lane sets set shows was p (inl memory) = inl (inl memory)
-set_shown lane sets set shows was p (inr (inl live)) = inl (inr (inl live))
-set_shown lane sets set shows was p (inr (inr visible)) = step (eqb (place_in lane.log.shape p.key).set set) visible
-  where
-    step : (b : Bool) → Contains (map (λ (x : ℕ × Rec). pair_of x.1) (cond b shows (lane.visible (place_in lane.log.shape p.key).set))) p → IsShown lane p
-    step true here = was p here
-    step false here = inl (inr (inr here))
-
 -- a commit shows what was shown
-pub committed_shows : (size : ℕ) (f : Flight) (plan : List Choice) (answer : Rewritten) (lane : LaneState) → lane.flight ≡ Some f → IsFitting (job_of size f.moving) plan → ShowsNoMore lane (committed f plan answer lane)
-committed_shows size f plan answer lane flying fitting p (inr held) = absurd held
+pub committed_shows : (size : ℕ) (f : Flight) (plan : List Choice) (answer : Rewritten) (lane : LaneState) → Contains lane.flights f → IsFitting (job_of size f.moving) plan → ShowsNoMore lane (committed f plan answer lane)
+committed_shows size f plan answer lane flying fitting p (inr held) =
+    inr (held_still lane (committed f plan answer lane) p held (were_in_flight f.moving.number lane held.its held.flies))
 committed_shows size f plan answer lane flying fitting p (inl here) = by_answer answer here
   where
     rs : List Rec
@@ -239,14 +245,14 @@ committed_shows size f plan answer lane flying fitting p (inl here) = by_answer 
     gone x = not (is_taken lane.log f.moving.set f.moving.taken x.0)
 
     kept : (q : Pair) → Contains (map (λ (x : ℕ × Rec). pair_of x.1) (enumerate_from 0 rs)) q → IsShown lane q
-    kept q h = inr (subst (λ (o : Option Flight). IsSomeAnd o (λ g. (r : Rec) × IsUnstruck g r × (pair_of r ≡ q))) (sym flying) (kept_held size f plan q fitting h))
+    kept q h = let its = kept_held size f plan q fitting h in inr (record { its = f; flies = flying; item = its.0; unstruck = its.1; pair = its.2 })
 
     by_answer : (answer : Rewritten) → IsVisible (landed f plan answer lane) p → IsShown lane p
     by_answer rewritten.Written here =
-        set_shown lane (written lane.sets f.moving.set rs) f.moving.set (enumerate_from 0 rs) kept p
+        set_shown (IsShown lane) lane (written lane.sets f.moving.set rs) f.moving.set (enumerate_from 0 rs) (λ q there. inl there) kept p
         (without_shows (dropped lane.log f.moving.set f.moving.taken).entries gone (lane_rewritten f.moving.set rs rewritten.Written lane) p here)
     by_answer rewritten.Forgotten here =
-        set_shown lane (forgotten (tried lane.sets) f.moving.set) f.moving.set [] (λ q h. absurd (nothing (λ (x : ℕ × Rec). pair_of x.1) q h)) p
+        set_shown (IsShown lane) lane (forgotten (tried lane.sets) f.moving.set) f.moving.set [] (λ q there. inl there) (λ q h. absurd (nothing (λ (x : ℕ × Rec). pair_of x.1) q h)) p
         (without_shows (dropped lane.log f.moving.set f.moving.taken).entries gone (lane_rewritten f.moving.set rs rewritten.Forgotten lane) p here)
 
 -- so does each answer of a commit
@@ -254,7 +260,7 @@ pub commit_shows : (size : ℕ) (plan : List Choice) (number : ℕ) (old : LaneS
 commit_shows size plan number old answer new = by_answer answer
   where
     so : (ended : Rewritten) → Commits size plan number ended old new → ShowsNoMore old new
-    so ended is = subst (ShowsNoMore old) (sym is.ended) (committed_shows size is.its plan ended old is.flies is.fits)
+    so ended is = subst (ShowsNoMore old) (sym is.ended) (committed_shows size is.its plan ended old (held_found number old.flights is.its is.flies) is.fits)
 
     by_answer : (answer : Committed) → CommitGives size plan number old answer new → ShowsNoMore old new
     by_answer answers.Written is = so rewritten.Written is
@@ -264,5 +270,5 @@ commit_shows size plan number old answer new = by_answer answer
 
 -- and each of an abort
 pub abort_shows : (number : ℕ) (old : LaneState) (answer : Aborted) (new : LaneState) → AbortGives number old answer new → ShowsNoMore old new
-abort_shows number old aborted.Aborted new is = subst (ShowsNoMore old) (sym is.1) (sees_none old (given_up old) refl (λ p here. here))
+abort_shows number old aborted.Aborted new is = subst (ShowsNoMore old) (sym is.1) (sees_fewer old (given_up number old) (were_in_flight number old) (λ p here. here))
 abort_shows number old aborted.StalePlan new is = subst (ShowsNoMore old) (sym is.1) (λ p here. here)

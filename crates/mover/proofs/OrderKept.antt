@@ -1,8 +1,7 @@
 -- What keeps a lane in order.
-use Rattle.std.proofs.Common.{◌≡◌, ℕ, Bool, true, false, not, List, [], filter, get_or, Option, Some, None, All, Contains, cond, refl, sym, ap, subst, ◌∙◌}
-use Rattle.std.specs.Prelude.{IfSome, nat_lt, length, ◌+◌, ◌==◌}
-use Rattle.std.specs.Option.{option_map}
-use Rattle.std.proofs.lemmas.List.Elements.{All-filter, All-cons, All-contains, Contains-get_or}
+use Rattle.std.proofs.Common.{◌≡◌, ℕ, Bool, true, false, not, List, [], filter, Option, Some, None, All, Contains, cond, refl, sym, ap, subst, ◌∙◌}
+use Rattle.std.specs.Prelude.{nat_lt, length, ◌+◌, ◌==◌}
+use Rattle.std.proofs.lemmas.List.Elements.{All-filter, All-cons, All-weaker, All-contains, All-contains_itself}
 use Rattle.record_pages.specs.Recs.{Rec}
 use Rattle.record_pages.specs.declared.answer.Answer.{Answer}
 use Rattle.record_pages.specs.declared.answer.Answer.TheVariants.{Hit, Miss}
@@ -27,7 +26,7 @@ use Rattle.kset.specs.Sets.{notes_of}
 use Rattle.kset.specs.Shown.{first_visible}
 use Rattle.kset.specs.Laws.{AreOfTheirSets}
 use Rattle.kset.proofs.MovingLaws.{strikes_keep}
-use Rattle.mover.specs.Flight.{AreOfSet, flight_struck}
+use Rattle.mover.specs.Flight.{AreOfSet, Flight}
 use Rattle.mover.specs.Lane.{LaneState}
 use Rattle.mover.specs.Get.{Step, set_step, log_step, memory_step, get_step, GetGives}
 use Rattle.mover.specs.Strike.{struck, removed}
@@ -44,23 +43,19 @@ abbrev pub KeepsOrder : LaneState → LaneState → Type 0
 KeepsOrder old new = (new.log.shape ≡ old.log.shape) × IsInOrder new
 
 -- a lane is in order by its parts
-pub in_order : (old new : LaneState) → new.log.shape ≡ old.log.shape → ArePlaced old.log.shape new.live → AreOfTheirSets old.log.shape.lanes old.log.shape.sets new.visible → IfSome new.flight (λ f. AreOfSet old.log.shape f.moving) →
-    IfSome new.flight (AreMarked old.log.shape) → KeepsOrder old new
-in_order old new shape live sets flight marked = (
+pub in_order : (old new : LaneState) → new.log.shape ≡ old.log.shape → ArePlaced old.log.shape new.live → AreOfTheirSets old.log.shape.lanes old.log.shape.sets new.visible → All (λ (f : Flight). AreOfSet old.log.shape f.moving) new.flights →
+    All (AreMarked old.log.shape) new.flights → KeepsOrder old new
+in_order old new shape live sets flights marked = (
   shape,
   record {
     placed = record {
       log = subst (λ (h : Shape). ArePlaced h new.live) (sym shape) live;
       sets = subst (λ (h : Shape). AreOfTheirSets h.lanes h.sets new.visible) (sym shape) sets;
-      flight = subst (λ (h : Shape). IfSome new.flight (λ f. AreOfSet h f.moving)) (sym shape) flight;
+      flight = subst (λ (h : Shape). All (λ (f : Flight). AreOfSet h f.moving) new.flights) (sym shape) flights;
     };
-    marked = subst (λ (h : Shape). IfSome new.flight (AreMarked h)) (sym shape) marked;
+    marked = subst (λ (h : Shape). All (AreMarked h) new.flights) (sym shape) marked;
   },
 )
-
--- what is true of each element of a list is true of all
-each : {X : Type 0} (P : X → Type 0) (xs : List X) → ((x : X) → Contains xs x → P x) → All P xs
-each P xs h = λ i d lt. h (get_or xs i d) (Contains-get_or xs i d lt)
 
 -- a live record has its entry's set and tag
 abbrev pub IsRightly : Shape → Entry × Rec → Type 0
@@ -68,7 +63,8 @@ IsRightly shape x = ((place_in shape x.1.key).set ≡ x.0.set) × ((place_in sha
 
 -- where a prediction is lowered, the live records stay placed
 lowered_placed : (shape : Shape) (set : ℕ) (place : Place) (live : List (Entry × Rec)) → ArePlaced shape live → ArePlaced shape (live_lowered set place live)
-lowered_placed shape set place live all = each (IsRightly shape) (live_lowered set place live) one
+lowered_placed shape set place live all =
+    let now : List (Entry × Rec) = live_lowered set place live in All-weaker (Contains now) (IsRightly shape) one now (All-contains_itself now)
   where
     by_asked : (x : Entry × Rec) (b : Bool) → IsRightly shape x → IsRightly shape (cond b (lowered x.0) x.0, x.1)
     by_asked x true it = it
@@ -123,7 +119,7 @@ module _ (lane : LaneState) (was : IsInOrder lane) where
       let at = place_in lane.log.shape key in
       in_order lane (struck key lane) refl (All-filter (λ (x : Entry × Rec). not (has_tag at.set at.tag x.0)) (IsRightly lane.log.shape) lane.live was.placed.log)
       (strikes_keep lane.log.shape.lanes lane.log.shape.sets at.set at.hash (notes_of lane.sets at.set) lane.visible was.placed.sets)
-      (struck_placed at.hash lane.flight (option_map (flight_struck at.hash) lane.flight) lane.log.shape refl was.placed.flight) (struck_marked at.hash lane.log.shape lane.flight was.marked)
+      (struck_placed at.hash lane.log.shape lane.flights was.placed.flight) (struck_marked at.hash lane.log.shape lane.flights was.marked)
 
   -- and a record that is to enter the log
   pub entered_kept : (size : ℕ) (r : Rec) → KeepsOrder lane (append_step size r lane).lane

@@ -55,7 +55,7 @@ append_told {D} held size s k r answer gives shown = step answer gives shown
       log = e i;
       live = f i;
       sets = s.sets;
-      flight = s.flight;
+      flights = s.flights;
       visible = visible_in (held s.device) s.sets;
       moves = s.moves;
     }
@@ -96,7 +96,7 @@ lane_flushed held s d k flushed gives apart shown = (
     log = k;
     live = shown i;
     sets = s.sets;
-    flight = s.flight;
+    flights = s.flights;
     visible = λ set. visible_from (notes_of s.sets set) 0 (records_on (apart i set));
     moves = s.moves;
   },

@@ -1,14 +1,14 @@
 -- Which pairs a step shows.
 use Rattle.std.proofs.Common.{◌≡◌, ◌≢◌, ◌⊎◌, ℕ, Bool, true, false, eqb, not, List, [], filter, map, Option, Some, None, Contains, cond, inl, inr, ⊎_elim, refl, sym, ap, subst, ◌∙◌}
-use Rattle.std.specs.Prelude.{nat_lt, length, IfSome, IsSomeAnd}
+use Rattle.std.specs.Prelude.{nat_lt, length}
 use Rattle.std.proofs.Common.{arith}
 use Rattle.std.specs.Str.{bytes_eq}
 use Rattle.std.specs.Cmp.Lexicographic.{bytes_decides, same_text}
 use Rattle.std.specs.Option.{option_map}
-use Rattle.record_pages.specs.Looking.{has_key}
 use Rattle.std.proofs.lemmas.Bool.{and_from, eqb-true, eqb-false, eq-eqb, false≢true}
 use Rattle.std.proofs.lemmas.Option.{none-some}
 use Rattle.std.proofs.lemmas.List.Elements.{All-contains}
+use Rattle.record_pages.specs.Looking.{has_key}
 use Rattle.set_hash.specs.Fnv.{fnv1a}
 use Rattle.record_pages.specs.Recs.{Rec}
 use Rattle.memory_cache.specs.declared.pair.Pair.{Pair}
@@ -40,8 +40,7 @@ use Rattle.kset.specs.After.{after_strike, without_hash, is_one_too_many}
 use Rattle.mover.specs.Lane.{LaneState}
 use Rattle.mover.specs.Strike.{struck, removed}
 use Rattle.mover.specs.Visible.{pair_of, IsOnFlash, IsVisible, IsHeldInFlight, IsShown, IsLogPlaced, ShowsFrom, TellsVisible}
-use Rattle.mover.specs.Flight.{Flight, flight_struck, IsUnstruck, IsFlightOf}
-use Rattle.mover.proofs.Flying.{still_unstruck}
+use Rattle.mover.specs.Flight.{Flight, flight_struck}
 use Rattle.mover.proofs.Listing.{in_filter, in_map, in_take, mapped, split, got, found_in, found_passes}
 
 -- each pair that is visible now was visible before
@@ -56,7 +55,7 @@ SeesOthers key old new = (p : Pair) → IsVisible new p → IsVisible old p × (
 abbrev pub SeesIt : Pair → LaneState → LaneState → Type 0
 SeesIt put old new = (p : Pair) → IsVisible new p → (p ≡ put) ⊎ (IsVisible old p × (p.key ≢ put.key))
 
-some_same : {X : Type 0} {x y : X} → Some x ≡ Some y → x ≡ y
+pub some_same : {X : Type 0} {x y : X} → Some x ≡ Some y → x ≡ y
 some_same is = cc
 
 -- each pair that is shown now was shown before
@@ -86,27 +85,18 @@ it_alone put old new shows p here =
 pub then : (old mid new : LaneState) → ShowsFrom None None old mid → ShowsFrom None None mid new → ShowsFrom None None old new
 then old mid new first next p here = ⊎_elim (λ kept. first p kept.0) (λ none. absurd (none-some p none)) (next p here)
 
--- where the same move is in flight no more is shown where no more is visible
-pub sees_no_more : (old new : LaneState) → new.flight ≡ old.flight → SeesNoMore old new → ShowsNoMore old new
-sees_no_more old new same sees p (inl visible) = inl (sees p visible)
-sees_no_more old new same sees p (inr held) = inr (subst (λ (o : Option Flight). IsSomeAnd o (λ f. (r : Rec) × IsUnstruck f r × (pair_of r ≡ p))) same held)
+-- an item of a move that was in flight before was one before
+pub held_still : (old new : LaneState) (p : Pair) (held : IsHeldInFlight new p) → Contains old.flights held.its → IsHeldInFlight old p
+held_still old new p held flies = record { its = held.its; flies = flies; item = held.item; unstruck = held.unstruck; pair = held.pair }
 
--- where none is in flight too
-pub sees_none : (old new : LaneState) → new.flight ≡ None → SeesNoMore old new → ShowsNoMore old new
-sees_none old new same sees p (inl visible) = inl (sees p visible)
-sees_none old new same sees p (inr held) = absurd (subst (λ (o : Option Flight). IsSomeAnd o (λ f. (r : Rec) × IsUnstruck f r × (pair_of r ≡ p))) same held)
+-- where no other move is in flight no more is shown where no more is visible
+pub sees_fewer : (old new : LaneState) → ((f : Flight) → Contains new.flights f → Contains old.flights f) → SeesNoMore old new → ShowsNoMore old new
+sees_fewer old new fewer sees p (inl visible) = inl (sees p visible)
+sees_fewer old new fewer sees p (inr held) = inr (held_still old new p held (fewer held.its held.flies))
 
--- what is in flight after a strike was so before it, and has another key
-pub struck_flight : (key : List ℕ) (lane : LaneState) (p : Pair) → IfSome lane.flight (IsFlightOf lane.log.shape lane.moves) → IsSomeAnd (option_map (flight_struck (fnv1a key)) lane.flight) (λ f. (r : Rec) × IsUnstruck f r × (pair_of r ≡ p)) →
-    IsHeldInFlight lane p × (p.key ≢ key)
-struck_flight key lane p = step lane.flight
-  where
-    step : (o : Option Flight) → IfSome o (IsFlightOf lane.log.shape lane.moves) → IsSomeAnd (option_map (flight_struck (fnv1a key)) o) (λ f. (r : Rec) × IsUnstruck f r × (pair_of r ≡ p)) →
-        IsSomeAnd o (λ f. (r : Rec) × IsUnstruck f r × (pair_of r ≡ p)) × (p.key ≢ key)
-    step None was held = absurd held
-    step (Some f) was held =
-        let still = still_unstruck (fnv1a key) lane.log.shape lane.moves f was held.0 held.1 in
-        ((held.0, still.0, held.2), λ same. still.1 (ap fnv1a (ap (λ (q : Pair). q.key) held.2 ∙ same)))
+-- so where the same moves are
+pub sees_no_more : (old new : LaneState) → new.flights ≡ old.flights → SeesNoMore old new → ShowsNoMore old new
+sees_no_more old new same = sees_fewer old new (λ f flies. subst (λ (fs : List Flight). Contains fs f) same flies)
 
 not_true : (b : Bool) → not b ≡ true → b ≡ true → ⊥
 not_true b fails passes = false≢true (ap not (sym passes) ∙ fails)
@@ -161,10 +151,6 @@ pub removed_sees : (key : List ℕ) (lane : LaneState) → IsLogPlaced lane → 
 removed_sees key lane placed p (inl here) = let kept = without_key key lane.memory.pairs p here in (inl kept.0, kept.1)
 removed_sees key lane placed p (inr flash) = let kept = struck_shows key (record lane { memory = record { capacity = lane.memory.capacity; pairs = without key lane.memory.pairs } }) p placed flash in (inr kept.0, kept.1)
 
-pub removed_shows : (key : List ℕ) (lane : LaneState) → IsLogPlaced lane → IfSome lane.flight (IsFlightOf lane.log.shape lane.moves) → ShowsOthers key lane (removed key lane)
-removed_shows key lane placed flying p (inl visible) = let kept = removed_sees key lane placed p visible in (inl kept.0, kept.1)
-removed_shows key lane placed flying p (inr held) = let kept = struck_flight key lane p flying held in (inr kept.0, kept.1)
-
 -- where a pair of memory comes to the front, no other pair is there
 raised_shows : (key : List ℕ) (pairs : List Pair) (p : Pair) → (o : Option Pair) → pair_in key pairs ≡ o → Contains (to_front_by o pairs) p → Contains pairs p
 raised_shows key pairs p None is here = here
@@ -198,19 +184,19 @@ step_shows key lane = by_memory (value_in key lane.memory.pairs)
     by_memory (Some value) p (inl memory) = inl (raised_shows key lane.memory.pairs p (pair_in key lane.memory.pairs) refl memory)
     by_memory (Some value) p (inr flash) = inr flash
 
--- nor does it change the move in flight
-step_flies : (key : List ℕ) (lane : LaneState) → (get_step key lane).lane.flight ≡ lane.flight
+-- nor does it change the moves in flight
+step_flies : (key : List ℕ) (lane : LaneState) → (get_step key lane).lane.flights ≡ lane.flights
 step_flies key lane = by_memory (value_in key lane.memory.pairs)
   where
-    by_set : (n : ℕ) (o : Option (ℕ × Rec)) → (set_step n lane o).lane.flight ≡ lane.flight
+    by_set : (n : ℕ) (o : Option (ℕ × Rec)) → (set_step n lane o).lane.flights ≡ lane.flights
     by_set n None = refl
     by_set n (Some x) = refl
 
-    by_log : (o : Option (Entry × Rec)) → (log_step key lane o).lane.flight ≡ lane.flight
+    by_log : (o : Option (Entry × Rec)) → (log_step key lane o).lane.flights ≡ lane.flights
     by_log None = by_set (place_in lane.log.shape key).set (first_visible (lane.visible (place_in lane.log.shape key).set) key)
     by_log (Some x) = refl
 
-    by_memory : (o : Option (List ℕ)) → (memory_step key lane o).lane.flight ≡ lane.flight
+    by_memory : (o : Option (List ℕ)) → (memory_step key lane o).lane.flights ≡ lane.flights
     by_memory None = by_log (newest_with lane.live key)
     by_memory (Some value) = refl
 
@@ -286,31 +272,23 @@ put_sees size admit word put lane placed = by_pushed (pushed_out put lane.memory
     by_pushed None is = stored_shows put lane placed
     by_pushed (Some out) is = by_word out is (is_admitted admit word)
 
--- a put leaves of the move in flight what its strike does
-pub put_flies : (size admit word : ℕ) (put : Pair) (lane : LaneState) → (put_step size admit put word lane).lane.flight ≡ option_map (flight_struck (fnv1a put.key)) lane.flight
+-- a put leaves of the moves in flight what its strike does
+pub put_flies : (size admit word : ℕ) (put : Pair) (lane : LaneState) → (put_step size admit put word lane).lane.flights ≡ map (flight_struck (fnv1a put.key)) lane.flights
 put_flies size admit word put lane = by_pushed (pushed_out put lane.memory)
   where
-    entered_flies : (r : Rec) (a b : Bool) → (cond {A = Step Pushed} a (cond b (record { reply = Full; lane = stored put lane }) (record { reply = Logged; lane = lane_appended size (stored put lane) r })) (record { reply = IndexFull; lane = stored put lane })).lane.flight
-        ≡ option_map (flight_struck (fnv1a put.key)) lane.flight
+    entered_flies : (r : Rec) (a b : Bool) → (cond {A = Step Pushed} a (cond b (record { reply = Full; lane = stored put lane }) (record { reply = Logged; lane = lane_appended size (stored put lane) r })) (record { reply = IndexFull; lane = stored put lane })).lane.flights
+        ≡ map (flight_struck (fnv1a put.key)) lane.flights
     entered_flies r false b = refl
     entered_flies r true true = refl
     entered_flies r true false = refl
 
-    by_word : (out : Pair) (b : Bool) → (cond {A = Step Pushed} b (append_step size (entering out.key out.value) (stored put lane)) (record { reply = Declined; lane = stored put lane })).lane.flight ≡ option_map (flight_struck (fnv1a put.key)) lane.flight
+    by_word : (out : Pair) (b : Bool) → (cond {A = Step Pushed} b (append_step size (entering out.key out.value) (stored put lane)) (record { reply = Declined; lane = stored put lane })).lane.flights ≡ map (flight_struck (fnv1a put.key)) lane.flights
     by_word out true = entered_flies (entering out.key out.value) (nat_lt (length (stored put lane).log.entries) (stored put lane).log.shape.limit) (is_full size (stored put lane).log (entering out.key out.value))
     by_word out false = refl
 
-    by_pushed : (o : Option Pair) → (push_step size admit word o (stored put lane)).lane.flight ≡ option_map (flight_struck (fnv1a put.key)) lane.flight
+    by_pushed : (o : Option Pair) → (push_step size admit word o (stored put lane)).lane.flights ≡ map (flight_struck (fnv1a put.key)) lane.flights
     by_pushed None = refl
     by_pushed (Some out) = by_word out (is_admitted admit word)
-
--- a put shows its pair, and else only other keys
-pub put_shows : (size admit word : ℕ) (put : Pair) (lane : LaneState) → IsLogPlaced lane → IfSome lane.flight (IsFlightOf lane.log.shape lane.moves) → ShowsIt put lane (put_step size admit put word lane).lane
-put_shows size admit word put lane placed flying p (inl visible) =
-    ⊎_elim (λ it. inl it) (λ kept. inr (inl kept.0, kept.1)) (put_sees size admit word put lane placed p visible)
-put_shows size admit word put lane placed flying p (inr held) =
-    let kept = struck_flight put.key lane p flying (subst (λ (o : Option Flight). IsSomeAnd o (λ f. (r : Rec) × IsUnstruck f r × (pair_of r ≡ p))) (put_flies size admit word put lane) held) in
-    inr (inr kept.0, kept.1)
 
 -- ---- flush steps
 
@@ -331,7 +309,7 @@ flush_sees flushed old new shape gives p here = step (subst (λ (l : LaneState).
     step (inr (inr visible)) = inr (inr (subst (λ (h : Shape). Contains (map (λ (x : ℕ × Rec). pair_of x.1) (old.visible (place_in h p.key).set)) p) shape visible))
 
 pub flush_shows : (flushed : Flushed) (old new : LaneState) → new.log.shape ≡ old.log.shape → LaneFlushes old flushed new → ShowsNoMore old new
-flush_shows flushed old new shape gives = sees_no_more old new (ap (λ (l : LaneState). l.flight) gives.1) (flush_sees flushed old new shape gives)
+flush_shows flushed old new shape gives = sees_no_more old new (ap (λ (l : LaneState). l.flights) gives.1) (flush_sees flushed old new shape gives)
 
 -- a get answers the value of a visible pair of its key
 answer_visible : (key : List ℕ) (lane : LaneState) → TellsVisible key lane (get_step key lane).reply

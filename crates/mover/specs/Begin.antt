@@ -1,5 +1,5 @@
 -- How a move begins.
-use Rattle.std.specs.Prelude.{◌≡◌, ◌≢◌, ◌<◌, ◌+◌, ℕ, List, [], filter, not, count_by, Contains, Bool, true, false, Result, Ok, IsTrue, ◌⊎◌, Option, Some, None, nat_lt, if◌then◌else◌}
+use Rattle.std.specs.Prelude.{◌≡◌, ◌≢◌, ◌<◌, ◌+◌, ℕ, List, [], ◌∷◌, ◌++◌, length, filter, not, count_by, Contains, Bool, true, false, Result, Ok, IsTrue, ◌⊎◌, Option, Some, None, nat_lt, if◌then◌else◌}
 use Rattle.std.specs.FinSet as bits
 use Rattle.std.specs.declared.alloc.AllocError.{AllocError}
 use Rattle.record_pages.specs.Recs.{Rec}
@@ -34,7 +34,7 @@ use Rattle.mover.specs.Oldest.{oldest_in, record_of}
 use Rattle.mover.specs.declared.begin.Begin.{Begin}
 use Rattle.mover.specs.declared.begin.Begin.TheVariants as begin
 use Rattle.mover.specs.declared.moving.Moving.{Moving}
-use Rattle.mover.specs.Flight.{Flight, just_begun, is_struck}
+use Rattle.mover.specs.Flight.{Flight, most_flights, sets_in_flight, just_begun, is_struck}
 use Rattle.mover.specs.Job.{job_of}
 
 -- the oldest segment on the device is no longer held
@@ -77,9 +77,10 @@ moving_of lane set = record {
   taken = taken_of lane.log set lane.live;
 }
 
--- one move more began, of this set, and is in flight
+-- one move more began, of this set, and is in flight behind the others
 abbrev pub lane_begun : LaneState → ℕ → LaneState
-lane_begun lane set = record (lane_counted lane) { flight = Some (just_begun lane.log.shape (moving_of lane set)) }
+lane_begun lane set =
+    record (lane_counted lane) { flights = lane.flights ++ just_begun lane.log.shape (moving_of lane set) ∷ [] }
 
 -- the record of an entry enters the log anew, or finds no place and is lost
 abbrev pub anew_step : ℕ → LaneState → Entry → Option Rec → Step Readmitted
@@ -121,25 +122,24 @@ entry_step size lane e judgement.Readmit =
     record { reply = began_by (readmit_step size e lane).reply; lane = (readmit_step size e lane).lane }
 entry_step size lane e judgement.Drop = record { reply = begin.Dropped; lane = lane_without_entry e lane }
 
--- a move begins so with the oldest segment: there is none, or it is freed, or there is its first entry
+-- a move begins so with the oldest segment: there is none, or it is freed, or each of its live entries is of a set in flight,
+-- or there is the first of the others
 abbrev pub oldest_step : ℕ → ℕ → LaneState → Oldest → Step Begin
 oldest_step size least lane oldest.NoSegment = record { reply = begin.Nothing; lane = lane }
 oldest_step size least lane oldest.Empty = record { reply = begin.Freed; lane = lane_freed lane }
+oldest_step size least lane oldest.Passed = record { reply = begin.Busy; lane = lane }
 oldest_step size least lane (oldest.First e) = entry_step size lane e (judged least lane e)
 
--- how a move begins where none is in flight and no call of the device fails; there are only so many
+-- how a move begins where one more may be in flight and no call of the device fails; only so many ever begin
 abbrev pub next_step : ℕ → ℕ → LaneState → Step Begin
 next_step size least lane =
-    if nat_lt lane.moves most_moves then oldest_step size least lane (oldest_in lane.log)
+    if nat_lt lane.moves most_moves then oldest_step size least lane (oldest_in (sets_in_flight lane.flights) lane.log)
     else record { reply = begin.Nothing; lane = lane }
 
--- how a move begins where no call of the device fails
-abbrev pub begin_step_by : ℕ → ℕ → LaneState → Option Flight → Step Begin
-begin_step_by size least lane None = next_step size least lane
-begin_step_by size least lane (Some f) = record { reply = begin.Busy; lane = lane }
-
+-- how a move begins where no call of the device fails; only so many are in flight at a time
 abbrev pub begin_step : ℕ → ℕ → LaneState → Step Begin
-begin_step size least lane = begin_step_by size least lane lane.flight
+begin_step size least lane =
+    if nat_lt (length lane.flights) most_flights then next_step size least lane else record { reply = begin.Busy; lane = lane }
 
 -- a page on the device with a record of a set that was to be taken is lost
 pub record LosesTaken (set : ℕ) (old new : LaneState) : Type 0 where
@@ -175,15 +175,15 @@ abbrev pub EntryBegins : ℕ → ℕ → Entry → LaneState → Begin → LaneS
 EntryBegins size least e old begin.PageLost new = LosesPage size e old (judged least old e) new
 EntryBegins size least e old answer new = IsStep (entry_step size old e (judged least old e)) answer new
 
--- a page is lost as a move begins with the first entry of the oldest segment
+-- a page is lost as a move begins with the first entry of the oldest segment that is of no set in flight
 pub record LosesFirst (size least : ℕ) (old new : LaneState) : Type 0 where
-  pub free : old.flight ≡ None
+  pub free : length old.flights < most_flights
   pub few : old.moves < most_moves
   pub first : Entry
-  pub is_first : oldest_in old.log ≡ oldest.First first
+  pub is_first : oldest_in (sets_in_flight old.flights) old.log ≡ oldest.First first
   pub lost : LosesPage size first old (judged least old first) new
 
--- how a move begins: by its step; or a page is lost as it begins with the first entry of the oldest segment
+-- how a move begins: by its step; or a page is lost as it begins with the entry that the step begins with
 abbrev pub BeginGives : ℕ → ℕ → LaneState → Begin → LaneState → Type 0
 BeginGives size least old begin.PageLost new = LosesFirst size least old new
 BeginGives size least old answer new = IsStep (begin_step size least old) answer new

@@ -28,6 +28,7 @@ use Rattle.mover.specs.Asking.{AsksNothing, IfThen, GetLeaves}
 use Rattle.mover.specs.Put.{put_step, IsStep}
 use Rattle.mover.specs.Strike.{removed}
 use Rattle.mover.specs.Flush.{LaneFlushes}
+use Rattle.mover.specs.Flight.{without_flight}
 use Rattle.mover.specs.Begin.{WritesNothing, is_lost, begin_step, BeginGives, lane_counted}
 use Rattle.mover.specs.Laws.{IsPlannedFor}
 use Rattle.mover.specs.Leaving.{HasAll, BeginLeaves}
@@ -98,13 +99,13 @@ pub record StoreBegins {D : Type 0} (size : ℕ) (honest : D → Bool) (failures
 pub record StoreCommits {D : Type 0} (size : ℕ) (honest : D → Bool) (failures : D → ℕ) (held : D → ℕ → Option (List ℕ)) (plan : List Choice) (number : ℕ) (old : StoreState D) (answer : Committed) (new : StoreState D) : Type 0 where
   pub honesty : honest new.device ≡ honest old.device
   pub faults : failures new.device ≡ faults_after (failures old.device) (is_unwritten answer)
-  pub answers : CommitAnswers size plan number old.flight answer
-  pub leaves : CommitLeaves plan old answer new
+  pub answers : CommitAnswers size plan number old.flights answer
+  pub leaves : CommitLeaves plan number old answer new
   pub gives : IsTrue (honest old.device) → CommitGives size plan number (lane_of held old) answer (lane_of held new)
 
 -- The giving up of a move. It makes no call of the device, and is so whatever the device.
 pub record StoreAborts {D : Type 0} (held : D → ℕ → Option (List ℕ)) (number : ℕ) (old : StoreState D) (answer : Aborted) (new : StoreState D) : Type 0 where
-  pub leaves : new ≡ after_abort answer old
+  pub leaves : new ≡ after_abort number answer old
   pub gives : AbortGives number (lane_of held old) answer (lane_of held new)
 
 -- a whole move had a job, and ended by the policy's plan
@@ -112,14 +113,14 @@ pub record Ends {D : Type 0} (size : ℕ) (plan_of : Job → List Choice) (ended
   pub job : Job
   pub between : StoreState D
   pub begun : BeginLeaves size old (begin.Job job) between
-  pub landed : Lands (plan_of job) ended between new
+  pub landed : Lands (plan_of job) job.number ended between new
 
--- it had a job, and was given up, since the policy was refused memory
+-- it had a job, and was given up, since the policy was refused memory; the other moves stay in flight
 pub record GivesUp {D : Type 0} (size : ℕ) (old new : StoreState D) : Type 0 where
   pub job : Job
   pub between : StoreState D
   pub begun : BeginLeaves size old (begin.Job job) between
-  pub rest : new ≡ record between { flight = None }
+  pub rest : new ≡ record between { flights = without_flight job.number between.flights }
 
 -- what a whole move leaves of a store, on any device, by what it answers
 abbrev pub MovingLeaves : {D : Type 0} → ℕ → (Job → List Choice) → StoreState D → Moved → StoreState D → Type 0

@@ -1,5 +1,5 @@
 -- How a move ends.
-use Rattle.std.specs.Prelude.{◌≡◌, ◌≢◌, ◌<◌, ◌≤◌, ℕ, List, [], length, map, sum_by, slice_index_or, All, AllPairs, Option, Some, None, Bool, true, false}
+use Rattle.std.specs.Prelude.{◌≡◌, ◌≢◌, ◌<◌, ◌≤◌, ℕ, List, [], length, map, sum_by, slice_index_or, All, AllPairs, Some, Bool, true, false}
 use Rattle.std.specs.List.{enumerate_from}
 use Rattle.record_pages.specs.Recs.{Rec, rec}
 use Rattle.record_pages.specs.Sizes.{max_records}
@@ -15,7 +15,7 @@ use Rattle.mover.specs.Store.{StoreState}
 use Rattle.mover.specs.Lane.{LaneState}
 use Rattle.kset.specs.After.{with_set}
 use Rattle.mover.specs.Begin.{lane_without}
-use Rattle.mover.specs.Flight.{Flight, records_of, unstruck, IsInFlight}
+use Rattle.mover.specs.Flight.{Flight, flight_of, without_flight, records_of, unstruck, IsInFlight}
 use Rattle.mover.specs.Job.{job_of}
 use Rattle.mover.specs.declared.moving.Moving.{Moving}
 use Rattle.mover.specs.declared.committed.Committed.{Committed}
@@ -51,16 +51,21 @@ landed f plan rewritten lane =
 
 -- the lane after a move, which is no more in flight
 abbrev pub committed : Flight → List Choice → Rewritten → LaneState → LaneState
-committed f plan rewritten lane = record (landed f plan rewritten lane) { flight = None }
+committed f plan rewritten lane =
+    record (landed f plan rewritten lane) { flights = without_flight f.moving.number lane.flights }
 
--- the same in a store, with this device
+-- a move landed in a store, with this device
 abbrev pub landed_in : {D : Type 0} → Flight → List Choice → Rewritten → StoreState D → D → StoreState D
 landed_in f plan rewritten s device = record s {
   device = device;
   log = dropped s.log f.moving.set f.moving.taken;
   sets = after_rewrite s.sets f.moving.set (planned_of f.moving (unstruck f plan)) rewritten;
-  flight = None;
 }
+
+-- a store after a move, which is no more in flight
+abbrev pub committed_in : {D : Type 0} → Flight → List Choice → Rewritten → StoreState D → D → StoreState D
+committed_in f plan rewritten s device =
+    record (landed_in f plan rewritten s device) { flights = without_flight f.moving.number s.flights }
 
 -- a plan names items of its job, none twice, that fit on a page, struck ones included
 pub record IsFitting (job : Job) (plan : List Choice) : Type 0 where
@@ -70,38 +75,36 @@ pub record IsFitting (job : Job) (plan : List Choice) : Type 0 where
   pub few : length plan ≤ max_records
 
 -- a move with this number is in flight, and the plan fits
-pub record IsFittingIn (size : ℕ) (plan : List Choice) (number : ℕ) (flight : Option Flight) : Type 0 where
+pub record IsFittingIn (size : ℕ) (plan : List Choice) (number : ℕ) (flights : List Flight) : Type 0 where
   pub its : Flight
-  pub flies : flight ≡ Some its
-  pub numbered : its.moving.number ≡ number
+  pub flies : flight_of number flights ≡ Some its
   pub fits : IsFitting (job_of size its.moving) plan
 
 -- a move with this number is in flight, and the plan does not fit
-pub record IsBadIn (size : ℕ) (plan : List Choice) (number : ℕ) (flight : Option Flight) : Type 0 where
+pub record IsBadIn (size : ℕ) (plan : List Choice) (number : ℕ) (flights : List Flight) : Type 0 where
   pub its : Flight
-  pub flies : flight ≡ Some its
-  pub numbered : its.moving.number ≡ number
+  pub flies : flight_of number flights ≡ Some its
   pub misfits : ¬ IsFitting (job_of size its.moving) plan
 
 -- when each answer of a commit comes
-abbrev pub CommitAnswers : ℕ → List Choice → ℕ → Option Flight → Committed → Type 0
-CommitAnswers size plan number flight answers.Written = IsFittingIn size plan number flight
-CommitAnswers size plan number flight answers.Forgotten = IsFittingIn size plan number flight
-CommitAnswers size plan number flight answers.StalePlan = ¬ IsInFlight flight number
-CommitAnswers size plan number flight answers.BadPlan = IsBadIn size plan number flight
+abbrev pub CommitAnswers : ℕ → List Choice → ℕ → List Flight → Committed → Type 0
+CommitAnswers size plan number flights answers.Written = IsFittingIn size plan number flights
+CommitAnswers size plan number flights answers.Forgotten = IsFittingIn size plan number flights
+CommitAnswers size plan number flights answers.StalePlan = ¬ IsInFlight flights number
+CommitAnswers size plan number flights answers.BadPlan = IsBadIn size plan number flights
 
--- the move in flight landed in a store by a plan
-pub record Lands {D : Type 0} (plan : List Choice) (rewritten : Rewritten) (old new : StoreState D) : Type 0 where
+-- the move with this number landed in a store by a plan, and is no more in flight
+pub record Lands {D : Type 0} (plan : List Choice) (number : ℕ) (rewritten : Rewritten) (old new : StoreState D) : Type 0 where
   pub its : Flight
-  pub flies : old.flight ≡ Some its
-  pub left : new ≡ landed_in its plan rewritten old new.device
+  pub flies : flight_of number old.flights ≡ Some its
+  pub left : new ≡ committed_in its plan rewritten old new.device
 
 -- what a commit leaves: each refusal the same store
-abbrev pub CommitLeaves : {D : Type 0} → List Choice → StoreState D → Committed → StoreState D → Type 0
-CommitLeaves plan old answers.Written new = Lands plan rewritten.Written old new
-CommitLeaves plan old answers.Forgotten new = Lands plan rewritten.Forgotten old new
-CommitLeaves plan old answers.StalePlan new = new ≡ old
-CommitLeaves plan old answers.BadPlan new = new ≡ old
+abbrev pub CommitLeaves : {D : Type 0} → List Choice → ℕ → StoreState D → Committed → StoreState D → Type 0
+CommitLeaves plan number old answers.Written new = Lands plan number rewritten.Written old new
+CommitLeaves plan number old answers.Forgotten new = Lands plan number rewritten.Forgotten old new
+CommitLeaves plan number old answers.StalePlan new = new ≡ old
+CommitLeaves plan number old answers.BadPlan new = new ≡ old
 
 -- how a move ended by a rewriting
 abbrev pub committed_by : Rewritten → Committed
@@ -116,8 +119,7 @@ is_unwritten _ = false
 -- a move with this number is in flight, the plan fits, and the move ends by it
 pub record Commits (size : ℕ) (plan : List Choice) (number : ℕ) (rewritten : Rewritten) (old new : LaneState) : Type 0 where
   pub its : Flight
-  pub flies : old.flight ≡ Some its
-  pub numbered : its.moving.number ≡ number
+  pub flies : flight_of number old.flights ≡ Some its
   pub fits : IsFitting (job_of size its.moving) plan
   pub ended : new ≡ committed its plan rewritten old
 
@@ -125,19 +127,19 @@ pub record Commits (size : ℕ) (plan : List Choice) (number : ℕ) (rewritten :
 abbrev pub CommitGives : ℕ → List Choice → ℕ → LaneState → Committed → LaneState → Type 0
 CommitGives size plan number old answers.Written new = Commits size plan number rewritten.Written old new
 CommitGives size plan number old answers.Forgotten new = Commits size plan number rewritten.Forgotten old new
-CommitGives size plan number old answers.StalePlan new = (¬ IsInFlight old.flight number) × (new ≡ old)
-CommitGives size plan number old answers.BadPlan new = IsBadIn size plan number old.flight × (new ≡ old)
+CommitGives size plan number old answers.StalePlan new = (¬ IsInFlight old.flights number) × (new ≡ old)
+CommitGives size plan number old answers.BadPlan new = IsBadIn size plan number old.flights × (new ≡ old)
 
--- no move is in flight any more
-abbrev pub given_up : LaneState → LaneState
-given_up lane = record lane { flight = None }
+-- the move with this number is no more in flight
+abbrev pub given_up : ℕ → LaneState → LaneState
+given_up number lane = record lane { flights = without_flight number lane.flights }
 
 -- when each answer of an abort comes, and what it leaves
 abbrev pub AbortGives : ℕ → LaneState → Aborted → LaneState → Type 0
-AbortGives number old aborted.Aborted new = IsInFlight old.flight number × (new ≡ given_up old)
-AbortGives number old aborted.StalePlan new = (¬ IsInFlight old.flight number) × (new ≡ old)
+AbortGives number old aborted.Aborted new = IsInFlight old.flights number × (new ≡ given_up number old)
+AbortGives number old aborted.StalePlan new = (¬ IsInFlight old.flights number) × (new ≡ old)
 
--- a store after an abort: no move is in flight any more, or the same store
-abbrev pub after_abort : {D : Type 0} → Aborted → StoreState D → StoreState D
-after_abort aborted.Aborted s = record s { flight = None }
-after_abort aborted.StalePlan s = s
+-- a store after an abort: the move with this number is no more in flight, or the same store
+abbrev pub after_abort : {D : Type 0} → ℕ → Aborted → StoreState D → StoreState D
+after_abort number aborted.Aborted s = record s { flights = without_flight number s.flights }
+after_abort number aborted.StalePlan s = s

@@ -11,15 +11,15 @@ use Rattle.mover.specs.Flight.{Flight}
 use Rattle.mover.specs.Store.{StoreState}
 
 -- The pairs in memory; the log as memory sees it, and its live records, newest first; what is noted of the sets, and the
--- visible records of each in page order, each behind its slot; the move in flight; and how many moves
--- began.
+-- visible records of each in page order, each behind its slot; the moves in flight, as they began; and how many
+-- moves began.
 pub record LaneState : Type 0 where
   pub memory : MemoryList
   pub log : LogState
   pub live : List (Entry × Rec)
   pub sets : SetsState
   pub visible : ℕ → List (ℕ × Rec)
-  pub flight : Option Flight
+  pub flights : List Flight
   pub moves : ℕ
 
 -- the lane of a store, by what the device's pages are known to hold
@@ -30,6 +30,6 @@ lane_of held s = record {
   live = live_on (held s.device) s.log;
   sets = s.sets;
   visible = visible_in (held s.device) s.sets;
-  flight = s.flight;
+  flights = s.flights;
   moves = s.moves;
 }

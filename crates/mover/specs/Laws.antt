@@ -1,5 +1,5 @@
 -- Laws of a lane's steps: which pairs each shows, and that each record stays where it belongs.
-use Rattle.std.specs.Prelude.{◌≡◌, ℕ, List, map, Option, Some, None, IfSome}
+use Rattle.std.specs.Prelude.{◌≡◌, ◌≤◌, ℕ, List, map, Option, Some, None, All}
 use Rattle.record_pages.specs.Recs.{Rec}
 use Rattle.record_pages.specs.declared.answer.Answer.{Answer}
 use Rattle.record_pages.specs.declared.layout.Layout.{Layout}
@@ -19,7 +19,7 @@ use Rattle.mover.specs.declared.mark.Mark.{Mark}
 use Rattle.mover.specs.declared.moved.Moved.{Moved}
 use Rattle.mover.specs.declared.moved.Moved.TheVariants as moved
 use Rattle.mover.specs.Store.{opening}
-use Rattle.mover.specs.Flight.{Flight, IsFlightOf, records_of}
+use Rattle.mover.specs.Flight.{Flight, AreFlights, records_of}
 use Rattle.mover.specs.Lane.{LaneState, lane_of}
 use Rattle.mover.specs.Visible.{IsShown, ShowsFrom, IsPlaced, TellsVisible}
 use Rattle.mover.specs.Get.{GetGives}
@@ -37,7 +37,7 @@ AreMarked shape f = map (λ (m : Mark). m.hash) f.marks ≡ map (λ (r : Rec). (
 -- a lane is in order: each record lies where its key belongs, and each item in flight is marked by its key's hash
 pub record IsInOrder (lane : LaneState) : Type 0 where
   pub placed : IsPlaced lane
-  pub marked : IfSome lane.flight (AreMarked lane.log.shape)
+  pub marked : All (AreMarked lane.log.shape) lane.flights
 
 -- A step of a lane in order. It leaves the lane in order and its log's shape, and each pair that is shown after it was
 -- shown before it and was not struck, or is the pair that was put.
@@ -116,11 +116,16 @@ IsPlannedFor plan_of moved.Readmitted begun = Unit {0}
 IsPlannedFor plan_of moved.Dropped begun = Unit {0}
 IsPlannedFor plan_of moved.PageLost begun = Unit {0}
 
+-- the moves in flight have numbers that were given
+abbrev pub AreCounted : LaneState → Type 0
+AreCounted lane = All (λ (f : Flight). f.moving.number ≤ lane.moves) lane.flights
+
 -- nor a whole move by a lawful plan
 abbrev pub WholeMoveShows : Type 0
 WholeMoveShows =
     (size least : ℕ) (plan_of : Job → List Choice) (old new : LaneState) (answer : Moved)
     → IsInOrder old
+    → AreCounted old
     → IsPlannedFor plan_of answer (begin_step size least old).reply
     → MoveGives size least plan_of old answer new
     → StepsInOrder None None old new
@@ -131,6 +136,6 @@ OpeningShowsNothing =
     (pages : ℕ → Option (List ℕ)) (layout : Layout)
     → IsInOrder (opening_lane layout pages) × ((p : Pair) → ¬ IsShown (opening_lane layout pages) p)
 
--- a lane whose records lie where they belong, and whose move in flight is one of its own, is in order; so each store's is
+-- a lane whose records lie where they belong, and whose moves in flight are its own, is in order; so each store's is
 abbrev pub StoresAreInOrder : Type 0
-StoresAreInOrder = (lane : LaneState) → IsPlaced lane → IfSome lane.flight (IsFlightOf lane.log.shape lane.moves) → IsInOrder lane
+StoresAreInOrder = (lane : LaneState) → IsPlaced lane → AreFlights lane.log.shape lane.moves lane.flights → IsInOrder lane

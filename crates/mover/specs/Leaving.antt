@@ -1,5 +1,5 @@
 -- What the beginning of a move leaves of a store, on any device, by what it answers.
-use Rattle.std.specs.Prelude.{◌≡◌, ◌≢◌, ◌≤◌, ◌⊎◌, ◌+◌, ℕ, length, Option, Some, None, Bool, true, false, nat_lt, Contains}
+use Rattle.std.specs.Prelude.{◌≡◌, ◌≢◌, ◌≤◌, ◌⊎◌, ◌+◌, ℕ, [], ◌∷◌, ◌++◌, length, Bool, true, false, nat_lt, Contains}
 use Rattle.std.specs.FinSet as bits
 use Rattle.record_pages.specs.Sizes.{max_records}
 use Rattle.policy_laws.specs.declared.job.Job.{Job}
@@ -18,7 +18,7 @@ use Rattle.kset.specs.declared.set_read.SetRead.TheVariants as read
 use Rattle.kset.specs.Sets.{notes_of, forgotten}
 use Rattle.mover.specs.Store.{StoreState, most_moves}
 use Rattle.mover.specs.Oldest.{oldest_in}
-use Rattle.mover.specs.Flight.{Flight, just_begun}
+use Rattle.mover.specs.Flight.{most_flights, sets_in_flight, just_begun}
 use Rattle.mover.specs.Job.{job_of}
 use Rattle.mover.specs.Begin.{began_by, judged_in}
 use Rattle.mover.specs.declared.begin.Begin.{Begin}
@@ -54,13 +54,13 @@ abbrev pub ReadingLeaves : {D : Type 0} → ℕ → StoreState D → SetRead →
 ReadingLeaves set old (read.Records rs) new = (length rs ≤ max_records) × HasAll old new
 ReadingLeaves set old read.PageLost new = LosesSetPage set old new
 
--- a move of a set with the next number is in flight, and this is its job
+-- a move of a set with the next number is in flight, behind the others, and this is its job
 pub record Flies {D : Type 0} (size set : ℕ) (old : StoreState D) (job : Job) (new : StoreState D) : Type 0 where
   pub moving : Moving
   pub number_is : moving.number ≡ old.moves + 1
   pub set_is : moving.set ≡ set
   pub job_is : job ≡ job_of size moving
-  pub rest : new ≡ record old { device = new.device; flight = Some (just_begun old.log.shape moving); moves = old.moves + 1 }
+  pub rest : new ≡ record old { device = new.device; flights = old.flights ++ just_begun old.log.shape moving ∷ []; moves = old.moves + 1 }
 
 -- the records of a set are gathered: a move of it is in flight; or a page is lost
 abbrev pub GatheringLeaves : {D : Type 0} → ℕ → ℕ → StoreState D → Begin → StoreState D → Type 0
@@ -85,22 +85,24 @@ EntryLeaves size e judgement.Move old begun new = GatheringLeaves size e.set old
 EntryLeaves size e judgement.Readmit old begun new = Readmits size e old begun new
 EntryLeaves size e judgement.Drop old begun new = (begun ≡ begin.Dropped) × (new ≡ record old { log = without_entry old.log e })
 
--- a move begins with the oldest segment: there is none, or it is freed, or there is its first entry
+-- a move begins with the oldest segment: there is none, or it is freed, or each of its live entries is of a set in flight, or
+-- there is the first of the others
 abbrev pub OldestLeaves : {D : Type 0} → ℕ → Oldest → StoreState D → Begin → StoreState D → Type 0
 OldestLeaves size oldest.NoSegment old begun new = (begun ≡ begin.Nothing) × (new ≡ old)
 OldestLeaves size oldest.Empty old begun new = (begun ≡ begin.Freed) × (new ≡ record old { log = freed old.log })
+OldestLeaves size oldest.Passed old begun new = (begun ≡ begin.Busy) × (new ≡ old)
 OldestLeaves size (oldest.First e) old begun new = EntryLeaves size e (judged_in old.layout.threshold old.log e) old begun new
 
--- there are only so many moves
+-- only so many moves ever begin
 abbrev pub NextLeaves : {D : Type 0} → ℕ → Bool → StoreState D → Begin → StoreState D → Type 0
-NextLeaves size true old begun new = OldestLeaves size (oldest_in old.log) old begun new
+NextLeaves size true old begun new = OldestLeaves size (oldest_in (sets_in_flight old.flights) old.log) old begun new
 NextLeaves size false old begun new = (begun ≡ begin.Nothing) × (new ≡ old)
 
--- one move is in flight at a time
-abbrev pub FlightLeaves : {D : Type 0} → ℕ → Option Flight → StoreState D → Begin → StoreState D → Type 0
-FlightLeaves size None old begun new = NextLeaves size (nat_lt old.moves most_moves) old begun new
-FlightLeaves size (Some f) old begun new = (begun ≡ begin.Busy) × (new ≡ old)
+-- only so many moves are in flight at a time
+abbrev pub RoomLeaves : {D : Type 0} → ℕ → Bool → StoreState D → Begin → StoreState D → Type 0
+RoomLeaves size true old begun new = NextLeaves size (nat_lt old.moves most_moves) old begun new
+RoomLeaves size false old begun new = (begun ≡ begin.Busy) × (new ≡ old)
 
 -- a move begins
 abbrev pub BeginLeaves : {D : Type 0} → ℕ → StoreState D → Begin → StoreState D → Type 0
-BeginLeaves size old begun new = FlightLeaves size old.flight old begun new
+BeginLeaves size old begun new = RoomLeaves size (nat_lt (length old.flights) most_flights) old begun new

@@ -5,7 +5,7 @@ use Rattle.std.specs.Option.{option_map}
 use Rattle.record_pages.specs.Recs.{Rec}
 use Rattle.klog_index.specs.declared.entry.Entry.{Entry}
 use Rattle.klog_index.specs.declared.place.Place.{Place}
-use Rattle.klog_index.specs.Entries.{is_in}
+use Rattle.klog_index.specs.Entries.{is_in, is_of_any, is_of_segment, without}
 use Rattle.klog.specs.declared.oldest.Oldest.{Oldest}
 use Rattle.klog.specs.declared.oldest.Oldest.TheVariants as oldest
 use Rattle.klog.specs.Log.{LogState}
@@ -24,14 +24,20 @@ is_first segment es e =
 abbrev pub first_in : ℕ → List Entry → Option Entry
 first_in segment es = find (is_first segment es) es
 
--- a segment has this first entry, or none
+-- the first entry that is not passed over, or that all are
 abbrev pub told_first : Option Entry → Oldest
-told_first None = oldest.Empty
+told_first None = oldest.Passed
 told_first (Some e) = oldest.First e
 
--- what is live in the oldest segment on the device: there is none, it has no live entry, or which is its first
-abbrev pub oldest_in : LogState → Oldest
-oldest_in k = if k.stored == 0 then oldest.NoSegment else told_first (first_in (name_of k k.first) k.entries)
+-- what is live in the segment with this name, where entries of these sets are passed over: nothing, or those alone, or
+-- which is the first of the others
+abbrev pub live_in : ℕ → List ℕ → List Entry → Oldest
+live_in segment passed es =
+    if list_any (is_of_segment segment) es then told_first (first_in segment (without (is_of_any passed) es)) else oldest.Empty
+
+-- the same of the oldest segment on the device, where there is one
+abbrev pub oldest_in : List ℕ → LogState → Oldest
+oldest_in passed k = if k.stored == 0 then oldest.NoSegment else live_in (name_of k k.first) passed k.entries
 
 -- the record of an entry among live ones
 abbrev pub record_of : Entry → List (Entry × Rec) → Option Rec

@@ -1,5 +1,5 @@
 -- A store: a device, and the tiers of a lane that share it.
-use Rattle.std.specs.Prelude.{◌≡◌, ◌<◌, ◌≤◌, ◌+◌, ◌*◌, ◌^◌, ℕ, List, Option, None, IfSome, Bool, IsTrue, All}
+use Rattle.std.specs.Prelude.{◌≡◌, ◌<◌, ◌≤◌, ◌+◌, ◌*◌, ◌^◌, ℕ, List, [], Option, Bool, IsTrue, All}
 use Rattle.page_device.specs.Device.{faults_after}
 use Rattle.record_pages.specs.Sizes.{IsPageSize, object_size, room}
 use Rattle.record_pages.specs.declared.layout.Layout.{Layout}
@@ -13,16 +13,16 @@ use Rattle.kset.specs.Sets.{SetsState, set_count, opening_sets}
 use Rattle.kset.specs.Pages.{AreSpelledOn}
 use Rattle.kset.specs.Shown.{visible_in}
 use Rattle.kset.specs.Laws.{AreOfTheirSets}
-use Rattle.mover.specs.Flight.{Flight, IsFlightOf, AreOfSet}
+use Rattle.mover.specs.Flight.{Flight, AreFlights, AreOfSet}
 
--- a layout, a device, the three tiers as memory sees them, the move in flight, and how many moves began
+-- a layout, a device, the three tiers as memory sees them, the moves in flight, and how many moves began
 pub record StoreState (D : Type 0) : Type 0 where
   pub layout : Layout
   pub device : D
   pub memory : MemoryList
   pub log : LogState
   pub sets : SetsState
-  pub flight : Option Flight
+  pub flights : List Flight
   pub moves : ℕ
 
 -- the most moves that a store begins
@@ -34,8 +34,9 @@ abbrev pub IsSmall : ℕ → Pair → Type 0
 IsSmall size p = object_size p.key p.value ≤ room size
 
 -- What is true of every store. Its tiers have the layout's numbers and the device has their pages; memory has room for one
--- object at least, and each object there fits on a page; a move in flight is one of this store; and where the device is honest, each live and each visible record is on a known
--- page or in a buffer, and each visible record and each record in flight is in the set of its key.
+-- object at least, and each object there fits on a page; the moves in flight are this store's, of different sets; and where the
+-- device is honest, each live and each visible record is on a known page or in a buffer, and each visible record and each
+-- record in flight is in the set of its key.
 pub record IsStore {D : Type 0} (size : ℕ) (pages : D → ℕ) (honest : D → Bool) (held : D → ℕ → Option (List ℕ)) (s : StoreState D) : Type 0 where
   pub page_size : IsPageSize size
   pub shape : s.log.shape ≡ shape_of s.layout
@@ -45,11 +46,11 @@ pub record IsStore {D : Type 0} (size : ℕ) (pages : D → ℕ) (honest : D →
   pub small : All (IsSmall size) s.memory.pairs
   pub room : HasRoom (pages s.device) s.log
   pub numbered : s.moves ≤ most_moves
-  pub flight : IfSome s.flight (IsFlightOf s.log.shape s.moves)
+  pub flights : AreFlights s.log.shape s.moves s.flights
   pub log_spelled : IsTrue (honest s.device) → IsSpelledOn size (held s.device) s.log
   pub sets_spelled : IsTrue (honest s.device) → AreSpelledOn size (held s.device) s.sets
   pub sets_placed : IsTrue (honest s.device) → AreOfTheirSets s.log.shape.lanes s.log.shape.sets (visible_in (held s.device) s.sets)
-  pub flight_placed : IsTrue (honest s.device) → IfSome s.flight (λ f. AreOfSet s.log.shape f.moving)
+  pub flights_placed : IsTrue (honest s.device) → All (λ f. AreOfSet s.log.shape f.moving) s.flights
 
 -- the device has fewer pages than a configuration asks for
 abbrev pub IsTooSmall : Config → ℕ → Type 0
@@ -63,7 +64,7 @@ opening layout device = record {
   memory = empty layout.memory;
   log = opening_log (shape_of layout);
   sets = opening_sets layout.sets;
-  flight = None;
+  flights = [];
   moves = 0;
 }
 

@@ -1,12 +1,12 @@
 -- The visible pairs of a lane.
-use Rattle.std.specs.Prelude.{◌≡◌, ◌≢◌, ◌⊎◌, ℕ, List, Option, Some, IfSome, IsSomeAnd, map, Contains}
+use Rattle.std.specs.Prelude.{◌≡◌, ◌≢◌, ◌⊎◌, ℕ, List, Option, Some, All, map, Contains}
 use Rattle.record_pages.specs.Recs.{Rec}
 use Rattle.record_pages.specs.declared.answer.Answer.{Answer}
 use Rattle.record_pages.specs.declared.answer.Answer.TheVariants.{Hit, Miss}
 use Rattle.memory_cache.specs.declared.pair.Pair.{Pair}
 use Rattle.klog.specs.Shown.{place_in, ArePlaced}
 use Rattle.kset.specs.Laws.{AreOfTheirSets}
-use Rattle.mover.specs.Flight.{IsUnstruck, AreOfSet}
+use Rattle.mover.specs.Flight.{Flight, IsUnstruck, AreOfSet}
 use Rattle.mover.specs.Lane.{LaneState}
 
 -- a record's pair
@@ -23,11 +23,15 @@ IsOnFlash lane p =
 abbrev pub IsVisible : LaneState → Pair → Type 0
 IsVisible lane p = Contains lane.memory.pairs p ⊎ IsOnFlash lane p
 
--- a pair is that of an item of the move in flight that was not struck
-abbrev pub IsHeldInFlight : LaneState → Pair → Type 0
-IsHeldInFlight lane p = IsSomeAnd lane.flight (λ f. (r : Rec) × IsUnstruck f r × (pair_of r ≡ p))
+-- a pair is that of an item of a move in flight that was not struck
+pub record IsHeldInFlight (lane : LaneState) (p : Pair) : Type 0 where
+  pub its : Flight
+  pub flies : Contains lane.flights its
+  pub item : Rec
+  pub unstruck : IsUnstruck its item
+  pub pair : pair_of item ≡ p
 
--- a pair is visible, or it may become so by the move in flight
+-- a pair is visible, or it may become so by a move in flight
 abbrev pub IsShown : LaneState → Pair → Type 0
 IsShown lane p = IsVisible lane p ⊎ IsHeldInFlight lane p
 
@@ -45,9 +49,9 @@ IsLogPlaced lane = ArePlaced lane.log.shape lane.live
 abbrev pub AreSetsPlaced : LaneState → Type 0
 AreSetsPlaced lane = AreOfTheirSets lane.log.shape.lanes lane.log.shape.sets lane.visible
 
--- the key of each record in flight belongs to the move's set
+-- the key of each record in flight belongs to its move's set
 abbrev pub IsFlightPlaced : LaneState → Type 0
-IsFlightPlaced lane = IfSome lane.flight (λ f. AreOfSet lane.log.shape f.moving)
+IsFlightPlaced lane = All (λ f. AreOfSet lane.log.shape f.moving) lane.flights
 
 -- each record of a lane lies where its key belongs
 pub record IsPlaced (lane : LaneState) : Type 0 where

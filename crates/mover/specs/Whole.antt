@@ -9,7 +9,7 @@ use Rattle.mover.specs.Lane.{LaneState}
 use Rattle.mover.specs.Get.{Step}
 use Rattle.mover.specs.Put.{IsStep}
 use Rattle.mover.specs.Begin.{begin_step, BeginGives}
-use Rattle.mover.specs.Flight.{Flight}
+use Rattle.mover.specs.Flight.{Flight, flight_of}
 use Rattle.mover.specs.Store.{StoreState}
 use Rattle.mover.specs.Commit.{committed, Lands}
 use Rattle.mover.specs.declared.begin.Begin.{Begin}
@@ -22,14 +22,14 @@ abbrev pub moved_by : Rewritten → Moved
 moved_by rewritten.Written = moved.Written
 moved_by rewritten.Forgotten = moved.Forgotten
 
--- the move in flight ends by a plan
+-- the move with the job's number ends by a plan
 abbrev pub ended_by : List Choice → Rewritten → Option Flight → LaneState → LaneState
 ended_by plan ended None lane = lane
 ended_by plan ended (Some f) lane = committed f plan ended lane
 
 -- a move that began so ends by the policy's plan, where there is a job; else it is over
 abbrev pub end_step : (Job → List Choice) → Rewritten → Begin → LaneState → Step Moved
-end_step plan_of ended (begin.Job job) lane = record { reply = moved_by ended; lane = ended_by (plan_of job) ended lane.flight lane }
+end_step plan_of ended (begin.Job job) lane = record { reply = moved_by ended; lane = ended_by (plan_of job) ended (flight_of job.number lane.flights) lane }
 end_step plan_of ended begin.Nothing lane = record { reply = moved.Nothing; lane = lane }
 end_step plan_of ended begin.Busy lane = record { reply = moved.Busy; lane = lane }
 end_step plan_of ended begin.Freed lane = record { reply = moved.Freed; lane = lane }
@@ -53,17 +53,17 @@ MoveGives size least plan_of old moved.Forgotten new =
     IsStep (whole_step size least plan_of rewritten.Forgotten old) moved.Forgotten new
 MoveGives size least plan_of old answer new = IsStep (move_step size least plan_of old) answer new
 
--- the move in flight ends by a plan, and that is answered
-abbrev pub EndGives : List Choice → LaneState → Moved → LaneState → Type 0
-EndGives plan old moved.Written new = new ≡ ended_by plan rewritten.Written old.flight old
-EndGives plan old moved.Forgotten new = new ≡ ended_by plan rewritten.Forgotten old.flight old
-EndGives plan old _ new = ⊥
+-- the move with this number ends by a plan, and that is answered
+abbrev pub EndGives : ℕ → List Choice → LaneState → Moved → LaneState → Type 0
+EndGives number plan old moved.Written new = new ≡ ended_by plan rewritten.Written (flight_of number old.flights) old
+EndGives number plan old moved.Forgotten new = new ≡ ended_by plan rewritten.Forgotten (flight_of number old.flights) old
+EndGives number plan old _ new = ⊥
 
 -- the same of a store
-abbrev pub EndLeaves : {D : Type 0} → List Choice → StoreState D → Moved → StoreState D → Type 0
-EndLeaves plan old moved.Written new = Lands plan rewritten.Written old new
-EndLeaves plan old moved.Forgotten new = Lands plan rewritten.Forgotten old new
-EndLeaves plan old _ new = ⊥
+abbrev pub EndLeaves : {D : Type 0} → ℕ → List Choice → StoreState D → Moved → StoreState D → Type 0
+EndLeaves number plan old moved.Written new = Lands plan number rewritten.Written old new
+EndLeaves number plan old moved.Forgotten new = Lands plan number rewritten.Forgotten old new
+EndLeaves number plan old _ new = ⊥
 
 -- the device failed: a page was not read, or not written
 abbrev pub is_failed : Result Moved AllocError → Bool

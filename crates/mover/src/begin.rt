@@ -6,11 +6,11 @@ use policy_laws::Job;
 pub enum Begin {
     /// No segment is on the device, or as many moves began as a store begins.
     Nothing,
-    /// A move is in flight.
+    /// As many moves are in flight as may be, or each live record of the oldest segment is of a set in flight.
     Busy,
     /// The oldest segment had no live record, and is free.
     Freed,
-    /// The first live record of the oldest segment entered the log anew.
+    /// The first live record of the oldest segment that is of no set in flight entered the log anew.
     Readmitted,
     /// It was dropped.
     Dropped,

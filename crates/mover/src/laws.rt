@@ -56,7 +56,7 @@ pub fn opening_shows_nothing()
     ensures { OpeningShowsNothing }
 {}
 
-/// A lane whose records lie where they belong, and whose move in flight is one of its own, is in order.
+/// A lane whose records lie where they belong, and whose moves in flight are its own, is in order.
 pub fn stores_are_in_order()
     ensures { StoresAreInOrder }
 {}

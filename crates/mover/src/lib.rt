@@ -6,6 +6,7 @@ mod begin;
 mod committed;
 mod fitting;
 mod flight;
+mod flights;
 mod laws;
 mod mark;
 mod marks;

@@ -2,7 +2,7 @@
 ghost use Rattle.std.specs.Prelude.{◌≡◌, IfOk, OnOk, IfErr};
 ghost use Rattle.record_pages.specs.Asked.{HasNumbersOf};
 
-use crate::flight::Flight;
+use crate::flights::Flights;
 use crate::open_fault::OpenFault;
 use klog::KLog;
 use kset::KSet;
@@ -22,7 +22,8 @@ mod move_whole;
 mod put;
 mod remove;
 
-/// The store of a lane: the objects in memory, the log and the sets, over one device.
+/// The store of a lane: the objects in memory, the log and the sets, over one device. Up to 8 moves of different sets are in
+/// flight at once.
 #[derive(Drop)]
 pub struct Store<D: PageDevice<PAGE>, const PAGE: usize> {
     alloc: Global,
@@ -31,7 +32,7 @@ pub struct Store<D: PageDevice<PAGE>, const PAGE: usize> {
     memory: MemoryCache,
     log: KLog<PAGE>,
     sets: KSet<PAGE>,
-    flight: Option<Flight>,
+    flights: Flights,
     moves: u64,
 }
 
@@ -50,7 +51,7 @@ impl<D: PageDevice<PAGE>, const PAGE: usize> Model for Store<D, PAGE> {
       memory = s.memory;
       log = s.log;
       sets = s.sets;
-      flight = s.flight;
+      flights = s.flights;
       moves = s.moves;
     } };
 
@@ -60,7 +61,7 @@ impl<D: PageDevice<PAGE>, const PAGE: usize> Model for Store<D, PAGE> {
       memory = s.memory;
       log = s.log;
       sets = s.sets;
-      flight = s.flight;
+      flights = s.flights;
       moves = s.moves;
     }) };
 }
@@ -90,6 +91,7 @@ impl<D: PageDevice<PAGE>, const PAGE: usize> Store<D, PAGE> {
         let memory = MemoryCache::open(alloc, layout.memory)?;
         let log = KLog::open(alloc, &layout)?;
         let sets = KSet::open(alloc, &layout)?;
+        let flights = Flights::open(alloc)?;
         Ok(Store {
             alloc,
             layout,
@@ -97,7 +99,7 @@ impl<D: PageDevice<PAGE>, const PAGE: usize> Store<D, PAGE> {
             memory,
             log,
             sets,
-            flight: None,
+            flights,
             moves: 0,
         })
     }

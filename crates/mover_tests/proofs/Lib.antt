@@ -1,2 +1,3 @@
 pub mod PutRow
 pub mod Struck
+pub mod OthersRow

@@ -1,4 +1,5 @@
 -- What a put leaves in memory, and what a commit leaves of other sets.
+use Rattle.mover.specs.Flight.{flight_of}
 use Rattle.std.proofs.Common.{◌≡◌, ◌≢◌, ◌≤◌, ℕ, zero, suc, Bool, true, false, cond, List, ◌∷◌, take, Option, Some, None, refl, sym, ap, subst, ◌∙◌, arith}
 use Rattle.std.specs.Prelude.{nat_lt, length}
 use Rattle.std.specs.Str.{bytes_eq}
@@ -67,8 +68,8 @@ some_same : {X : Type 0} {x y : X} → Some x ≡ Some y → x ≡ y
 some_same is = cc
 
 -- a commit whose page was not written leaves what is noted of other sets
-pub others_stay : {D : Type 0} (plan : List Choice) (old new : StoreState D) (f : Flight) (set : ℕ) → old.flight ≡ Some f → set ≢ f.moving.set → CommitLeaves plan old committed.Forgotten new → notes_of new.sets set ≡ notes_of old.sets set
-others_stay plan old new f set flies other leaves =
+pub others_stay : {D : Type 0} (plan : List Choice) (number : ℕ) (old new : StoreState D) (f : Flight) (set : ℕ) → flight_of number old.flights ≡ Some f → set ≢ f.moving.set → CommitLeaves plan number old committed.Forgotten new → notes_of new.sets set ≡ notes_of old.sets set
+others_stay plan number old new f set flies other leaves =
     let its : leaves.its ≡ f = some_same (sym leaves.flies ∙ flies) in
     let apart : set ≢ leaves.its.moving.set = subst (λ (x : Flight). set ≢ x.moving.set) (sym its) other in
     ap (λ (s : StoreState _). notes_of s.sets set) leaves.left ∙ get_or-set_other old.sets.notes leaves.its.moving.set set no_notes no_notes apart

@@ -7,6 +7,7 @@ mod moving;
 mod opening;
 mod rows;
 mod run;
+mod several;
 mod splitting;
 mod striking;
 

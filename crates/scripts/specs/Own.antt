@@ -1,5 +1,5 @@
 -- A script's lane: what its commands go by, and the numbers, the history and the certificate of its calls.
-use Rattle.std.specs.Prelude.{◌≡◌, ℕ, ◌+◌, ◌*◌, ◌<◌, List, [], ◌∷◌, ◌++◌, length, map, Option, None, slice_get, slice_index_or}
+use Rattle.std.specs.Prelude.{◌≡◌, ℕ, ◌+◌, ◌*◌, ◌<◌, List, [], ◌∷◌, ◌++◌, length, map, Option, slice_get, slice_index_or}
 use Rattle.std.specs.List.{range_with_len}
 use Rattle.record_pages.specs.declared.config.Config.{Config}
 use Rattle.trace_file.specs.declared.act.Act.{Act}
@@ -53,7 +53,7 @@ empty_lane c = record {
   live = [];
   sets = opening_sets c.sets;
   visible = λ set. [];
-  flight = None;
+  flights = [];
   moves = 0;
 }
 

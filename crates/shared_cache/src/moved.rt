@@ -5,7 +5,7 @@
 pub enum Moved {
     /// No segment is on the device, or the lane has begun 2^62 moves.
     Nothing,
-    /// Another move of the lane is in flight.
+    /// 8 moves of the lane are in flight, or each live record of the oldest segment is of a set in flight.
     Busy,
     /// The first live record of the oldest segment entered the log anew.
     Readmitted,

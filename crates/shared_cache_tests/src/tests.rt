@@ -8,6 +8,8 @@ mod gate_device;
 mod gate_policy;
 mod gates;
 mod many;
+mod meeting;
+mod meeting_policy;
 mod numbered_device;
 mod opening;
 mod rounds;

@@ -43,7 +43,8 @@ impl<D: PageDevice<PAGE>, const PAGE: usize> RecordedLane<D, PAGE> {
         ensures moves { StoreMoves PAGE D.honest D.failures D.held (P.plan_of policy.now)
             self.old.store result self.new.store }
     {
-        // Nor does a whole move by a lawful plan.
+        // Nor does a whole move by a lawful plan, where no move in flight has the next number.
+        let _layout = self.store.layout();
         whole_move_shows();
         self.store.move_whole(policy)
     }

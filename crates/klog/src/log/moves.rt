@@ -29,10 +29,11 @@ use std::alloc::{AllocError, Global};
 pub const MAX_TAKEN: usize = 32;
 
 impl<const PAGE: usize> KLog<PAGE> {
-    /// What is live in the oldest segment on the device: its live entry of least page, then slot.
-    pub fn oldest(&self) -> Oldest
-        ensures tells { TellsOldest self.now result }
-        ensures first { IsFirstLive self.now result }
+    /// What is live in the oldest segment on the device: its live entry of least page, then slot, of those that are of
+    /// none of these sets. It goes over as many entries as it passes over, and one more; no call of the device is made.
+    pub fn oldest(&self, passed: &[u32]) -> Oldest
+        ensures tells { TellsOldest passed.now self.now result }
+        ensures first { IsFirstLive passed.now self.now result }
     {
         if self.stored == 0 {
             return Oldest::NoSegment;
@@ -40,15 +41,19 @@ impl<const PAGE: usize> KLog<PAGE> {
         let Some(entry) = self.index.oldest() else {
             return Oldest::Empty;
         };
-        if self.number_of(entry.place.segment) != self.first {
+        let segment = entry.place.segment;
+        if self.number_of(segment) != self.first {
             return Oldest::Empty;
         }
-        Oldest::First(entry)
+        match self.index.oldest_but(segment, passed) {
+            Some(first) => Oldest::First(first),
+            None => Oldest::Passed,
+        }
     }
 
     /// Frees the oldest segment on the device, none of whose records is live.
     pub fn free_oldest(&mut self)
-        requires { TellsOldest self.old Oldest.Empty }
+        requires { TellsOldest [] self.old Oldest.Empty }
         ensures shape { self.new.shape ≡ self.old.shape }
         ensures freed { self.new ≡ freed self.old }
         ensures spelled { (held : ℕ → Option (List ℕ)) → IsSpelledOn PAGE held self.old →

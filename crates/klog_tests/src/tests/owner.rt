@@ -84,7 +84,12 @@ impl<D: PageDevice<PAGE>, const PAGE: usize> Owner<D, PAGE> {
     }
 
     pub(super) fn oldest(&self) -> Oldest {
-        self.log.oldest()
+        self.log.oldest(&[])
+    }
+
+    /// What is told of the oldest segment where entries of these sets are passed over.
+    pub(super) fn oldest_but(&self, passed: &[u32]) -> Oldest {
+        self.log.oldest(passed)
     }
 
     pub(super) fn take(&mut self, alloc: Global, set: u32) -> Result<SetTaken, AllocError>
@@ -105,7 +110,7 @@ impl<D: PageDevice<PAGE>, const PAGE: usize> Owner<D, PAGE> {
     pub(super) fn readmit(&mut self) -> Option<Readmitted>
         requires { IsPageSize PAGE }
     {
-        let Oldest::First(entry) = self.log.oldest() else {
+        let Oldest::First(entry) = self.log.oldest(&[]) else {
             return None;
         };
         Some(self.log.readmit(&mut self.device, &entry))
@@ -113,7 +118,7 @@ impl<D: PageDevice<PAGE>, const PAGE: usize> Owner<D, PAGE> {
 
     /// Frees the oldest segment on the device where it has no live record, and says whether it had none.
     pub(super) fn free(&mut self) -> bool {
-        let Oldest::Empty = self.log.oldest() else {
+        let Oldest::Empty = self.log.oldest(&[]) else {
             return false;
         };
         self.log.free_oldest();

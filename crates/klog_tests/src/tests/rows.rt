@@ -211,7 +211,7 @@ pub fn drop_of_one_set<const PAGE: usize>(log: &mut KLog<PAGE>, set: u32, taken:
 pub fn free_where_empty<const PAGE: usize>(log: &mut KLog<PAGE>) -> bool
     ensures { log.new.entries ≡ log.old.entries }
 {
-    let Oldest::Empty = log.oldest() else {
+    let Oldest::Empty = log.oldest(&[]) else {
         return false;
     };
     log.free_oldest();

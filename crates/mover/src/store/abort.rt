@@ -1,6 +1,6 @@
 // Giving a move up.
-ghost use Rattle.std.specs.Prelude.{◌≡◌, None, Some, IfNone, IfSome};
-ghost use Rattle.mover.specs.Flight.{IsInFlight};
+ghost use Rattle.std.specs.Prelude.{◌≡◌, ◌<◌, Some, length, slice_get};
+ghost use Rattle.mover.specs.Flight.{flight_of, without_flight};
 ghost use Rattle.mover.specs.Calls.{StoreAborts};
 
 use super::Store;
@@ -9,32 +9,27 @@ use crate::flight::Flight;
 use page_device::PageDevice;
 
 impl<D: PageDevice<PAGE>, const PAGE: usize> Store<D, PAGE> {
-    /// Gives up the move with this number, if it is the one in flight; all else stays. No call of the device is made, and
-    /// no memory taken.
+    /// Gives up the move with this number, if it is in flight; all else stays, the other moves too. No call of the device is
+    /// made, and no memory taken.
     pub fn move_abort(&mut self, number: u64) -> Aborted
         ensures { StoreAborts D.held number self.old result self.new }
     {
-        match self.take_flight(number) {
-            Some(_) => Aborted::Aborted,
-            None => Aborted::StalePlan,
-        }
+        let Some(at) = self.flights.place_of(number) else {
+            return Aborted::StalePlan;
+        };
+        let _given_up = self.take_flight(at);
+        Aborted::Aborted
     }
 
-    // The move with this number, if it is the one in flight, which it is no more.
-    pub(super) fn take_flight(&mut self, number: u64) -> Option<Flight>
-        ensures its { IfSome result (λ flight. flight.moving.number ≡ number) }
-        ensures was { IfSome result (λ flight. self.old.flight ≡ Some flight) }
-        ensures taken { IfSome result (λ flight. self.new ≡ record self.old { flight = None }) }
-        ensures stale { IfNone result (IsInFlight self.old.flight number → ⊥) }
-        ensures stays { IfNone result (self.new ≡ self.old) }
+    // The move at this place among those in flight, which it is no more.
+    pub(super) fn take_flight(&mut self, at: usize) -> Flight
+        requires { at < length self.old.flights }
+        ensures was { slice_get self.old.flights at ≡ Some result }
+        ensures found { flight_of result.moving.number self.old.flights ≡ Some result }
+        ensures taken { self.new ≡ record self.old {
+          flights = without_flight result.moving.number self.old.flights;
+        } }
     {
-        let Some(flight) = self.flight.take() else {
-            return None;
-        };
-        if flight.moving.number == number {
-            return Some(flight);
-        }
-        self.flight = Some(flight);
-        None
+        self.flights.take(at)
     }
 }

@@ -1,10 +1,12 @@
 // How a move begins.
-ghost use Rattle.std.specs.Prelude.{◌≡◌, ◌<◌, None, IfOk, OnErr, IsTrue};
+ghost use Rattle.std.specs.Prelude.{◌≡◌, ◌<◌, [], false, length, IfOk, OnErr, IsTrue};
 ghost use Rattle.page_device.specs.Device.{faults_after};
 ghost use Rattle.klog.specs.declared.oldest.Oldest.{Oldest};
 ghost use Rattle.klog.specs.Moves.{TellsOldest, IsFirstLive, IsOfOldest, is_readmit_fault, freed, without_entry, ReadmitLeaves};
 ghost use Rattle.mover.specs.Store.{most_moves};
+ghost use Rattle.klog_index.specs.Entries.{is_of_any};
 ghost use Rattle.mover.specs.Lane.{lane_of};
+ghost use Rattle.mover.specs.Flight.{most_flights, sets_in_flight};
 ghost use Rattle.mover.specs.Oldest.{oldest_in};
 ghost use Rattle.mover.specs.Begin.{WritesNothing, BeginGives, EntryBegins, LaneReadmits, lane_freed, lane_without_entry, is_lost, began_by, judged_in};
 ghost use Rattle.mover.specs.Leaving.{HasAll, HasLog, EntryLeaves, BeginLeaves};
@@ -12,6 +14,7 @@ ghost use Rattle.mover.specs.Calls.{StoreBegins};
 
 use super::Store;
 use crate::begin::Begin;
+use crate::flights::MAX_FLIGHTS;
 use admission::{Judgement, Threshold};
 use klog::{Oldest, Readmitted};
 use klog_index::Entry;
@@ -22,20 +25,20 @@ use std::alloc::AllocError;
 const MAX_MOVES: u64 = 1 << 62;
 
 impl<D: PageDevice<PAGE>, const PAGE: usize> Store<D, PAGE> {
-    // What is live in the oldest segment on the device.
+    // What is live in the oldest segment on the device, but for sets in flight.
     fn oldest(&self) -> Oldest
-        ensures is { oldest_in self.now.log ≡ result }
-        ensures tells { TellsOldest self.now.log result }
-        ensures first { IsFirstLive self.now.log result }
+        ensures is { oldest_in (sets_in_flight self.now.flights) self.now.log ≡ result }
+        ensures tells { TellsOldest (sets_in_flight self.now.flights) self.now.log result }
+        ensures first { IsFirstLive (sets_in_flight self.now.flights) self.now.log result }
     {
         // That no two entries lie at one place is known from the length.
         let _live = self.log.len();
-        self.log.oldest()
+        self.log.oldest(self.flights.sets())
     }
 
     // Frees the oldest segment on the device, none of whose records is live.
     fn free_oldest(&mut self)
-        requires { TellsOldest self.old.log Oldest.Empty }
+        requires { TellsOldest [] self.old.log Oldest.Empty }
         ensures leaves { self.new ≡ record self.old { log = freed self.old.log } }
         ensures freed { lane_of D.held self.new ≡ lane_freed (lane_of D.held self.old) }
     {
@@ -71,23 +74,27 @@ impl<D: PageDevice<PAGE>, const PAGE: usize> Store<D, PAGE> {
 }
 
 impl<D: PageDevice<PAGE>, const PAGE: usize> Store<D, PAGE> {
-    /// Begins a move: by the first live entry of the oldest segment on the device. Where there is a job it is in flight
-    /// until it is committed or aborted with its number; numbers start at 1, rise with each job, and none is given again.
+    /// Begins a move: by the first live entry of the oldest segment on the device that is of no set in flight. Where there is
+    /// a job it is in flight until it is committed or aborted with its number; numbers start at 1, rise with each job, and
+    /// none is given again.
+    ///
+    /// `Busy`, which changes nothing, where 8 moves are in flight, or each live entry of the oldest segment is of a set in
+    /// flight: it passes when one of them ends.
     ///
     /// Where memory is refused the store stays as it was, and no number is spent.
     pub fn move_begin(&mut self) -> Result<Begin, AllocError>
         ensures { StoreBegins PAGE D.honest D.failures D.held self.old result self.new }
     {
-        if self.flight.is_some() {
+        if self.flights.len() == MAX_FLIGHTS {
             return Ok(Begin::Busy);
         }
         let begun = self.begin_oldest()?;
         Ok(begun)
     }
 
-    // Begins a move where none is in flight.
+    // Begins a move where one more may be in flight.
     fn begin_oldest(&mut self) -> Result<Begin, AllocError>
-        requires { self.old.flight ≡ None }
+        requires { length self.old.flights < most_flights }
         ensures writes { WritesNothing D.honest D.held self.old self.new }
         ensures leaves { IfOk result (λ begun. BeginLeaves PAGE self.old begun self.new) }
         ensures out_of_memory { OnErr result (HasAll self.old self.new) }
@@ -105,6 +112,7 @@ impl<D: PageDevice<PAGE>, const PAGE: usize> Store<D, PAGE> {
                 self.free_oldest();
                 Ok(Begin::Freed)
             }
+            Oldest::Passed => Ok(Begin::Busy),
             Oldest::First(entry) => {
                 let begun = self.begin_with(&entry)?;
                 Ok(begun)
@@ -114,7 +122,8 @@ impl<D: PageDevice<PAGE>, const PAGE: usize> Store<D, PAGE> {
 
     // Begins a move with an entry of the oldest segment on the device.
     fn begin_with(&mut self, entry: &Entry) -> Result<Begin, AllocError>
-        requires free { self.old.flight ≡ None }
+        requires free { length self.old.flights < most_flights }
+        requires apart { is_of_any (sets_in_flight self.old.flights) entry.now ≡ false }
         requires oldest { IsOfOldest self.old.log entry.now }
         requires set { entry.now.set < self.old.layout.sets }
         requires number { self.old.moves < most_moves }

@@ -1,5 +1,5 @@
 // How a move ends by a plan.
-ghost use Rattle.std.specs.Prelude.{◌≡◌, ◌<◌, [], None, All, IsTrue};
+ghost use Rattle.std.specs.Prelude.{◌≡◌, ◌<◌, [], All, IsTrue};
 ghost use Rattle.page_device.specs.Device.{faults_after};
 ghost use Rattle.record_pages.specs.Sizes.{IsPageSize};
 ghost use Rattle.klog.specs.Moves.{dropped};
@@ -53,30 +53,29 @@ impl<D: PageDevice<PAGE>, const PAGE: usize> Store<D, PAGE> {
 }
 
 impl<D: PageDevice<PAGE>, const PAGE: usize> Store<D, PAGE> {
-    /// Ends the move with this number by a plan, if it is the one in flight: its set is written anew with the plan's items
-    /// that were not struck since the move began, or forgotten where the device fails; and what was taken of the log
-    /// leaves it. Hits since the move began are not seen. No memory is taken.
+    /// Ends the move with this number by a plan, if it is in flight: its set is written anew with the plan's items that were
+    /// not struck since the move began, or forgotten where the device fails; and what was taken of the log leaves it. The
+    /// other moves stay in flight. Hits since the move began are not seen. No memory is taken.
     ///
     /// `StalePlan` and `BadPlan` change nothing and make no call of the device; after `BadPlan` the move stays in flight.
     pub fn move_commit(&mut self, plan: &Plan, number: u64) -> Committed
         ensures { StoreCommits PAGE D.honest D.failures D.held plan.now number self.old result
             self.new }
     {
-        // What is true of every store is true of its move in flight.
+        // What is true of every store is true of its moves in flight.
         let _layout = self.layout();
-        let Some(flight) = self.take_flight(number) else {
+        let Some(at) = self.flights.place_of(number) else {
             return Committed::StalePlan;
         };
-        if !is_fitting::<PAGE>(&flight.moving, plan) {
-            self.flight = Some(flight);
+        if !is_fitting::<PAGE>(&self.flights.at(at).moving, plan) {
             return Committed::BadPlan;
         }
+        let flight = self.take_flight(at);
         committed_by(self.land(&flight, plan))
     }
 
     // Writes what a plan keeps of a move, and drops what was taken of the log.
     fn land(&mut self, flight: &Flight, plan: &Plan) -> Rewritten
-        requires free { self.old.flight ≡ None }
         requires its { IsFlightOf self.old.log.shape self.old.moves flight.now }
         requires placed { IsTrue (D.honest self.old.device) →
             AreOfSet self.old.log.shape flight.now.moving }

@@ -1,12 +1,12 @@
 // Gathering the records of a move.
-ghost use Rattle.std.specs.Prelude.{◌≡◌, ◌<◌, ◌≤◌, ◌+◌, None, Some, length, IfOk, OnErr, IsTrue};
+ghost use Rattle.std.specs.Prelude.{◌≡◌, ◌<◌, ◌≤◌, ◌+◌, [], ◌∷◌, ◌++◌, false, length, IfOk, OnErr, IsTrue};
 ghost use Rattle.page_device.specs.Device.{faults_after};
 ghost use Rattle.record_pages.specs.Sizes.{max_records};
 ghost use Rattle.klog.specs.Moves.{is_taking_lost, most_taken};
 ghost use Rattle.kset.specs.ReadSet.{is_set_lost};
 ghost use Rattle.mover.specs.Store.{most_moves};
 ghost use Rattle.mover.specs.Lane.{lane_of};
-ghost use Rattle.mover.specs.Flight.{records_of, just_begun, AreOfSet};
+ghost use Rattle.mover.specs.Flight.{most_flights, is_any, sets_in_flight, records_of, just_begun, AreOfSet};
 ghost use Rattle.mover.specs.Job.{job_of};
 ghost use Rattle.mover.specs.Begin.{WritesNothing, LaneTakes, LaneReads, is_lost, Gathers};
 ghost use Rattle.mover.specs.Leaving.{HasAll, TakingLeaves, ReadingLeaves, GatheringLeaves};
@@ -56,7 +56,8 @@ impl<D: PageDevice<PAGE>, const PAGE: usize> Store<D, PAGE> {
 impl<D: PageDevice<PAGE>, const PAGE: usize> Store<D, PAGE> {
     // Gathers the records of a set that are to move, which are in flight from then on.
     pub(super) fn gather(&mut self, set: u32) -> Result<Begin, AllocError>
-        requires free { self.old.flight ≡ None }
+        requires free { length self.old.flights < most_flights }
+        requires apart { is_any set (sets_in_flight self.old.flights) ≡ false }
         requires set { set < self.old.layout.sets }
         requires number { self.old.moves < most_moves }
         ensures writes { WritesNothing D.honest D.held self.old self.new }
@@ -86,6 +87,8 @@ impl<D: PageDevice<PAGE>, const PAGE: usize> Store<D, PAGE> {
 
     // The next move is in flight from now on; its job.
     fn fly(&mut self, moving: Moving) -> Result<Job, AllocError>
+        requires free { length self.old.flights < most_flights }
+        requires apart { is_any moving.set (sets_in_flight self.old.flights) ≡ false }
         requires set { moving.set < self.old.layout.sets }
         requires number { moving.number ≡ self.old.moves + 1 }
         requires room { self.old.moves < most_moves }
@@ -94,14 +97,14 @@ impl<D: PageDevice<PAGE>, const PAGE: usize> Store<D, PAGE> {
             AreOfSet self.old.log.shape moving }
         ensures job { IfOk result (λ job. job ≡ job_of PAGE moving) }
         ensures flies { IfOk result (λ job. self.new ≡ record self.old {
-          flight = Some (just_begun self.old.log.shape moving);
+          flights = self.old.flights ++ just_begun self.old.log.shape moving ∷ [];
           moves = self.old.moves + 1;
         }) }
         ensures err { OnErr result (self.new ≡ self.old) }
     {
         let job = moving.job::<PAGE>(self.alloc)?;
         let marks = moving.marks(self.alloc)?;
-        self.flight = Some(Flight { moving, marks });
+        self.flights.push(Flight { moving, marks });
         self.moves += 1;
         Ok(job)
     }

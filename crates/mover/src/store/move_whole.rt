@@ -1,8 +1,9 @@
 // A whole move.
-ghost use Rattle.std.specs.Prelude.{◌≡◌, None, Ok, IfOk, OnOk, OnErr, IsTrue, IsSomeAnd};
+ghost use Rattle.std.specs.Prelude.{◌≡◌, Ok, IfOk, OnOk, OnErr, IsTrue, IsSomeAnd};
 ghost use Rattle.policy_laws.specs.Laws.{IsLawful};
 ghost use Rattle.page_device.specs.Device.{faults_after};
 ghost use Rattle.mover.specs.Lane.{lane_of};
+ghost use Rattle.mover.specs.Flight.{flight_of, without_flight};
 ghost use Rattle.mover.specs.Begin.{IsJustBegun};
 ghost use Rattle.mover.specs.Whole.{EndGives, EndLeaves, is_failed};
 ghost use Rattle.mover.specs.Calls.{StoreMoves};
@@ -25,6 +26,8 @@ impl<D: PageDevice<PAGE>, const PAGE: usize> Store<D, PAGE> {
         ensures { StoreMoves PAGE D.honest D.failures D.held (P.plan_of policy.now) self.old result
             self.new }
     {
+        // What is true of every store is true of its moves in flight.
+        let _layout = self.layout();
         match self.move_begin()? {
             Begin::Nothing => Ok(Moved::Nothing),
             Begin::Busy => Ok(Moved::Busy),
@@ -39,20 +42,22 @@ impl<D: PageDevice<PAGE>, const PAGE: usize> Store<D, PAGE> {
         }
     }
 
-    // Ends the move in flight by a policy's plan, or gives it up where the policy is refused memory.
+    // Ends the move of a job by a policy's plan, or gives it up where the policy is refused memory.
     fn end_by<P: EvictionPolicy>(&mut self, job: &Job, policy: &P) -> Result<Moved, AllocError>
-        requires { IsSomeAnd self.old.flight (IsJustBegun PAGE job.now) }
+        requires { IsSomeAnd (flight_of job.now.number self.old.flights) (IsJustBegun PAGE job.now) }
         ensures layout { self.new.layout ≡ self.old.layout }
         ensures honest { D.honest self.new.device ≡ D.honest self.old.device }
         ensures faults { IfOk result (λ moved. D.failures self.new.device
             ≡ faults_after (D.failures self.old.device) (is_failed (Ok moved))) }
-        ensures err { OnErr result (self.new ≡ record self.old { flight = None }) }
+        ensures err { OnErr result (self.new ≡ record self.old {
+          flights = without_flight job.now.number self.old.flights;
+        }) }
         ensures lawful { OnOk result
             (IsLawful job.now (P.plan_of policy.now job.now)) }
         ensures leaves { IfOk result (λ moved.
-            EndLeaves (P.plan_of policy.now job.now) self.old moved self.new) }
+            EndLeaves job.now.number (P.plan_of policy.now job.now) self.old moved self.new) }
         ensures gives { IsTrue (D.honest self.old.device) → IfOk result (λ moved.
-            EndGives (P.plan_of policy.now job.now) (lane_of D.held self.old) moved
+            EndGives job.now.number (P.plan_of policy.now job.now) (lane_of D.held self.old) moved
             (lane_of D.held self.new)) }
     {
         let Ok(plan) = policy.choose(self.alloc, job) else {

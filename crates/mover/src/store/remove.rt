@@ -7,7 +7,6 @@ ghost use Rattle.mover.specs.Strike.{struck_at};
 ghost use Rattle.mover.specs.Calls.{StoreRemoves};
 
 use super::Store;
-use crate::flight::Flight;
 use kset::strikes_keep_sets;
 use page_device::PageDevice;
 use record_pages::Key;
@@ -30,7 +29,7 @@ impl<D: PageDevice<PAGE>, const PAGE: usize> Store<D, PAGE> {
         self.remove(key);
     }
 
-    // Strikes the key of a place, in the log, in its set and in the move in flight.
+    // Strikes the key of a place, in the log, in its set and in each move in flight.
     pub(super) fn strike(&mut self, placed: &Placed)
         requires { IsPlaceIn self.old.sets placed.now }
         ensures layout { self.new.layout ≡ self.old.layout }
@@ -40,7 +39,7 @@ impl<D: PageDevice<PAGE>, const PAGE: usize> Store<D, PAGE> {
         strikes_keep_sets();
         self.log.strike(placed);
         self.sets.strike(placed);
-        strike_flight(&mut self.flight, placed.hash);
+        self.flights.strike(placed.hash);
     }
 
     // Where a key belongs.
@@ -49,17 +48,5 @@ impl<D: PageDevice<PAGE>, const PAGE: usize> Store<D, PAGE> {
         ensures its { IsPlaceIn self.now.sets result }
     {
         place(&self.layout, key.bytes())
-    }
-}
-
-ghost use Rattle.std.specs.Option.{option_map};
-ghost use Rattle.mover.specs.Flight.{flight_struck};
-
-// A key of this hash is struck in the move in flight, if there is one.
-fn strike_flight(flight: &mut Option<Flight>, hash: u64)
-    ensures { flight.new ≡ option_map (flight_struck hash) flight.old }
-{
-    if let Some(flying) = flight {
-        flying.strike(hash);
     }
 }

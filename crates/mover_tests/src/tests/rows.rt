@@ -1,7 +1,7 @@
 //! What users of a store rely on, of any store and any device.
 ghost use Rattle.mover.specs.Lane.{lane_of};
 ghost use Rattle.mover.specs.Visible.{IsShown};
-ghost use Rattle.std.specs.Prelude.{◌≡◌, ◌≢◌, ℕ, List, Some, Ok, IfOk, IsTrue};
+ghost use Rattle.std.specs.Prelude.{◌≡◌, ◌≢◌, ℕ, List, None, Some, Ok, IsOk, IfOk, IsTrue};
 ghost use Rattle.record_pages.specs.declared.answer.Answer.{Answer};
 ghost use Rattle.record_pages.specs.declared.answer.Answer.TheVariants.{Hit, Miss};
 ghost use Rattle.record_pages.specs.declared.miss_cause.MissCause.{MissCause};
@@ -10,19 +10,23 @@ ghost use Rattle.record_pages.specs.declared.tier.Tier.TheVariants.{Memory};
 ghost use Rattle.mover.specs.Leaving.{HasAll};
 ghost use Rattle.kset.specs.Sets.{notes_of};
 ghost use Rattle.mover.specs.declared.flight.Flight.{Flight};
-ghost use Rattle.mover.specs.Flight.{IsInFlight};
+ghost use Rattle.mover.specs.Flight.{IsInFlight, flight_of};
 ghost use Rattle.mover.specs.declared.committed.Committed.{Committed};
+ghost use Rattle.mover.specs.declared.begin.Begin.{Begin};
+ghost use Rattle.mover.specs.Flight.{flight_struck};
+ghost use Rattle.set_hash.specs.Fnv.{fnv1a};
+ghost use Rattle.std.specs.Option.{option_map};
 ghost use Rattle.mover.specs.declared.aborted.Aborted.{Aborted};
 ghost use Rattle.klog.specs.declared.flushed.Flushed.{Flushed};
 
 use klog::Flushed;
-use mover::{Aborted, Committed, Store, commit_shows, get_shows, put_shows, removal_shows};
+use mover::{Aborted, Begin, Committed, Store, commit_shows, get_shows, put_shows, removal_shows};
 use page_device::PageDevice;
 use policy_laws::Plan;
-use record_pages::{Answer, Key, Value};
+use record_pages::{Answer, Key, Pushed, PutFault, Value};
 use std::alloc::AllocError;
 
-/// A get that misses, for any cause, leaves memory, the log, the sets and the move in flight as they were, and how many
+/// A get that misses, for any cause, leaves memory, the log, the sets and the moves in flight as they were, and how many
 /// moves began.
 pub fn a_miss_keeps_all<D: PageDevice<PAGE>, const PAGE: usize>(
     store: &mut Store<D, PAGE>,
@@ -34,12 +38,16 @@ pub fn a_miss_keeps_all<D: PageDevice<PAGE>, const PAGE: usize>(
     Ok(answer)
 }
 
-/// An abort gives up the move with its number alone; where it finds none it leaves the store as it was, its device too.
+/// An abort gives up the move with its number, and no other; where it finds none it leaves the store as it was, its device
+/// too.
 pub fn an_abort_is_of_its_number<D: PageDevice<PAGE>, const PAGE: usize>(
     store: &mut Store<D, PAGE>,
     number: u64,
 ) -> Aborted
-    ensures its { result ≡ Aborted.Aborted → IsInFlight store.old.flight number }
+    ensures its { result ≡ Aborted.Aborted → IsInFlight store.old.flights number }
+    ensures over { result ≡ Aborted.Aborted → flight_of number store.new.flights ≡ None }
+    ensures others { (other : ℕ) → other ≢ number →
+        flight_of other store.new.flights ≡ flight_of other store.old.flights }
     ensures stale { result ≡ Aborted.StalePlan → store.new ≡ store.old }
 {
     store.move_abort(number)
@@ -150,8 +158,44 @@ pub fn a_forgotten_commit_keeps_other_sets<D: PageDevice<PAGE>, const PAGE: usiz
     plan: &Plan,
     number: u64,
 ) -> Committed
-    ensures { (f : Flight) → (set : ℕ) → store.old.flight ≡ Some f → set ≢ f.moving.set →
-        result ≡ Committed.Forgotten → notes_of store.new.sets set ≡ notes_of store.old.sets set }
+    ensures { (f : Flight) → (set : ℕ) → flight_of number store.old.flights ≡ Some f →
+        set ≢ f.moving.set → result ≡ Committed.Forgotten → notes_of store.new.sets set ≡ notes_of store.old.sets set }
 {
     store.move_commit(plan, number)
+}
+
+/// A commit leaves each other move in flight as it was, with its items and which of them were struck; and where it is not
+/// refused its own is over.
+pub fn a_commit_leaves_the_other_moves<D: PageDevice<PAGE>, const PAGE: usize>(
+    store: &mut Store<D, PAGE>,
+    plan: &Plan,
+    number: u64,
+) -> Committed
+    ensures others { (other : ℕ) → other ≢ number →
+        flight_of other store.new.flights ≡ flight_of other store.old.flights }
+    ensures over { result ≡ Committed.Written → flight_of number store.new.flights ≡ None }
+{
+    store.move_commit(plan, number)
+}
+
+/// A move that is to begin and finds too many in flight leaves the store as it was.
+pub fn a_busy_beginning_changes_nothing<D: PageDevice<PAGE>, const PAGE: usize>(
+    store: &mut Store<D, PAGE>,
+) -> Result<Begin, AllocError>
+    ensures { result ≡ Ok Begin.Busy → store.new ≡ store.old }
+{
+    store.move_begin()
+}
+
+/// A put of a key marks the items of each move in flight whose keys have its hash: that of no number is passed over.
+pub fn a_put_marks_each_move<D: PageDevice<PAGE>, const PAGE: usize>(
+    store: &mut Store<D, PAGE>,
+    key: Key,
+    value: Value,
+    word: u32,
+) -> Result<Pushed, PutFault>
+    ensures { (number : ℕ) → IsOk result → flight_of number store.new.flights
+        ≡ option_map (flight_struck (fnv1a key)) (flight_of number store.old.flights) }
+{
+    store.put(key, value, word)
 }

@@ -35,6 +35,8 @@ pub enum Began {
     PageLost,
     /// The number of the move, whose set is 0, and its items.
     Job(u64, &'static [Known]),
+    /// The number of the move, its set, and its items.
+    JobOf(u64, u32, &'static [Known]),
     /// The number of the move, and how many items it has.
     Items(u64, usize),
 }
@@ -190,6 +192,9 @@ fn is_begun(begun: Begin, wanted: &Began) -> bool {
     match (begun, wanted) {
         (Begin::Job(job), Began::Job(number, items)) => {
             job.number == *number && job.set == 0 && job.room == 238 && are_known(&job, items)
+        }
+        (Begin::Job(job), Began::JobOf(number, set, items)) => {
+            job.number == *number && job.set == *set && are_known(&job, items)
         }
         (Begin::Job(job), Began::Items(number, count)) => {
             job.number == *number && job.items.len() == *count

@@ -28,8 +28,9 @@ impl<D: PageDevice<PAGE>, P: EvictionPolicy + Drop, const PAGE: usize> SharedCac
     ///
     /// `Written` and `Forgotten` end a move by the plan: the set's page is written, or could not be and the set is
     /// forgotten. `Freed`, `Readmitted`, `Dropped` and `PageLost` are done in the first hold. `Nothing` and `Busy` do
-    /// nothing: no segment is on the device; the move in flight is another round's. `StalePlan` and `BadPlan` would change
-    /// nothing in the second hold; neither comes while each round ends its own move and the policy keeps its laws.
+    /// nothing: no segment is on the device; 8 moves of the lane are in flight, or all that is live in the oldest segment is
+    /// of sets that other rounds move. `StalePlan` and `BadPlan` would change nothing in the second hold; neither comes while
+    /// each round ends its own move and the policy keeps its laws.
     ///
     /// `AllocError` of the first hold leaves the lane as it was. Where it is the policy that is refused memory, the move
     /// is given up in a hold of its own: the lane's tiers are as the calls meanwhile left them, none of this round's is in

@@ -14,8 +14,8 @@ invariant_of-self g c =
     let old : Lane g.row.D.Denot = record { store = c.self.inside.store; lane = c.self.inside.lane; calls = c.self.inside.calls } in
     let ended = c.move_abort.ensures in
     recorded_step d.honest d.held old c.self.invariant None c.move_abort.new.self
-    (ap (λ (s : StoreState g.row.D.Denot). s.layout) ended.leaves ∙ abort_keeps_layout c.move_abort.result old.store)
-    (ap (λ (s : StoreState g.row.D.Denot). d.honest s.device) ended.leaves ∙ ap d.honest (abort_keeps_device c.move_abort.result old.store))
+    (ap (λ (s : StoreState g.row.D.Denot). s.layout) ended.leaves ∙ abort_keeps_layout c.args.number c.move_abort.result old.store)
+    (ap (λ (s : StoreState g.row.D.Denot). d.honest s.device) ended.leaves ∙ ap d.honest (abort_keeps_device c.args.number c.move_abort.result old.store))
     (λ is. c.abort_shows.ensures c.args.number (lane_of d.held old.store) (lane_of d.held c.move_abort.new.self) c.move_abort.result (c.self.invariant.order is) ended.gives)
 
 pub returns-clause-aborts : goal.returns-clause-aborts

@@ -12,7 +12,7 @@ invariant_of-self g c =
     let d = g.D.PageDevice in
     let old : Lane g.row.D.Denot = record { store = c.self.inside.store; lane = c.self.inside.lane; calls = c.self.inside.calls } in
     let ended = c.move_commit.ensures in
-    recorded_step d.honest d.held old c.self.invariant None c.move_commit.new.self (commit_keeps_layout c.args.plan.now old.store c.move_commit.result c.move_commit.new.self ended.leaves) ended.honesty
+    recorded_step d.honest d.held old c.self.invariant None c.move_commit.new.self (commit_keeps_layout c.args.plan.now c.args.number old.store c.move_commit.result c.move_commit.new.self ended.leaves) ended.honesty
     (λ is. c.commit_shows.ensures g.row.PAGE c.args.plan.now c.args.number (lane_of d.held old.store) (lane_of d.held c.move_commit.new.self) c.move_commit.result (c.self.invariant.order is) (ended.gives is))
 
 pub returns-clause-commits : goal.returns-clause-commits

@@ -3,6 +3,7 @@ use Rattle.std.proofs.Common.{None, subst}
 use Rattle.mover.specs.Lane.{lane_of}
 use Rattle.mover.specs.Calls.{StoreMoves}
 use Rattle.history_recorder.specs.Lane.{Lane}
+use Rattle.mover.proofs.FlightLists.{flights_counted}
 use Rattle.history_recorder.proofs.Sounding.{recorded_step, moved_in_order}
 use Rattle.history_recorder.proofs.lane.RecordedLane.move_whole.Goals as goal
 
@@ -13,7 +14,7 @@ invariant_of-self g c =
     let moves = c.move_whole.ensures in
     recorded_step d.honest d.held old c.self.invariant None c.move_whole.new.self moves.layout moves.honesty
     (λ is. moved_in_order c.whole_move_shows.ensures g.row.PAGE old.store.layout.threshold (g.P.EvictionPolicy.plan_of c.args.policy.now) (lane_of d.held old.store) (lane_of d.held c.move_whole.new.self) c.move_whole.result
-    (c.self.invariant.order is) (moves.planned is) (moves.gives is) (moves.lane_stays is))
+    (c.self.invariant.order is) (flights_counted old.store.log.shape old.store.moves old.store.flights c.layout-layout.ensures.kept.flights) (moves.planned is) (moves.gives is) (moves.lane_stays is))
 
 pub returns-clause-moves : goal.returns-clause-moves
 returns-clause-moves g c =

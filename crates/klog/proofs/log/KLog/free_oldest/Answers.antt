@@ -1,4 +1,4 @@
-use Rattle.std.proofs.Common.{sym, ap, subst, rules, ◌∙◌}
+use Rattle.std.proofs.Common.{[], sym, ap, subst, rules, ◌∙◌}
 use Rattle.klog.specs.Log.{LogState}
 use Rattle.klog.specs.Shown.{IsSpelledOn, live_on}
 use Rattle.klog.specs.Keeps.{IsLog}
@@ -10,7 +10,7 @@ use Rattle.klog.proofs.log.KLog.free_oldest.Goals as goal
 pub invariant_of-self : goal.invariant_of-self
 invariant_of-self g c =
     let h = c.self.invariant in
-    (log_freed _ (subst (λ (k : LogState). TellsOldest k oldest.Empty) (sym c.self.view_is) c.requires) h.0, h.1, h.2, h.3, h.4)
+    (log_freed _ (subst (λ (k : LogState). TellsOldest [] k oldest.Empty) (sym c.self.view_is) c.requires) h.0, h.1, h.2, h.3, h.4)
 
 pub returns-clause-freed : goal.returns-clause-freed
 returns-clause-freed g c = search rules

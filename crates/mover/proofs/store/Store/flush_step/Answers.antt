@@ -12,7 +12,7 @@ pub invariant_of-self : goal.invariant_of-self
 invariant_of-self g c =
     let s = c.self.inside in
     let d = g.D.PageDevice in
-    let old : StoreState g.row.D.Denot = record { layout = s.layout; device = s.device; memory = s.memory; log = s.log; sets = s.sets; flight = s.flight; moves = s.moves } in
+    let old : StoreState g.row.D.Denot = record { layout = s.layout; device = s.device; memory = s.memory; log = s.log; sets = s.sets; flights = s.flights; moves = s.moves } in
     let count = counted_alike g.row.PAGE d.page_count d.honest d.held old c.self.invariant in
     kept_flash g.row.PAGE d.page_count d.honest d.held old c.self.invariant
     c.flush_step.new.device c.flush_step.new.self s.sets c.flush_step.ensures.shape refl c.flush_step.ensures.writes.pages c.flush_step.ensures.writes.honest c.flush_step.ensures.spelled
@@ -23,8 +23,8 @@ pub returns : goal.returns
 returns g c =
     let s = c.self.inside in
     let d = g.D.PageDevice in
-    let old : StoreState g.row.D.Denot = record { layout = s.layout; device = s.device; memory = s.memory; log = s.log; sets = s.sets; flight = s.flight; moves = s.moves } in
-    let new : StoreState g.row.D.Denot = record { layout = s.layout; device = c.flush_step.new.device; memory = s.memory; log = c.flush_step.new.self; sets = s.sets; flight = s.flight; moves = s.moves } in
+    let old : StoreState g.row.D.Denot = record { layout = s.layout; device = s.device; memory = s.memory; log = s.log; sets = s.sets; flights = s.flights; moves = s.moves } in
+    let new : StoreState g.row.D.Denot = record { layout = s.layout; device = c.flush_step.new.device; memory = s.memory; log = c.flush_step.new.self; sets = s.sets; flights = s.flights; moves = s.moves } in
     let count = counted_alike g.row.PAGE d.page_count d.honest d.held old c.self.invariant in
     record {
       rest = search rules;

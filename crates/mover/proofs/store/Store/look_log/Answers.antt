@@ -1,14 +1,15 @@
-use Rattle.std.proofs.Common.{◌≡◌, sym, subst}
+use Rattle.std.proofs.Common.{◌≡◌, Ok, false, sym, ap, subst, ◌∙◌}
+use Rattle.page_device.specs.Device.{faults_after}
 use Rattle.std.specs.Prelude.{IsTrue}
 use Rattle.klog_index.specs.Entries.{of_tag}
 use Rattle.klog.specs.Known.{AreBuffered}
 use Rattle.mover.specs.Store.{StoreState}
 use Rattle.mover.specs.Lane.{lane_of}
 use Rattle.mover.specs.Get.{LogTells}
-use Rattle.mover.proofs.Getting.{log_told, log_leaves, lowered_store}
+use Rattle.mover.proofs.Getting.{log_told, log_leaves, lowered_store, no_log_fault}
 use Rattle.mover.specs.Asking.{LogLeaves}
 use Rattle.mover.specs.Calls.{IsLowered}
-use Rattle.klog.specs.Look.{IsInBuffers}
+use Rattle.klog.specs.Look.{IsInBuffers, is_log_fault}
 use Rattle.klog.specs.declared.looked.Looked.TheVariants as log
 use Rattle.mover.proofs.Keeping.{kept_log_read}
 use Rattle.mover.proofs.store.Store.look_log.Goals as goal
@@ -17,14 +18,14 @@ pub invariant_of-self : goal.invariant_of-self
 invariant_of-self g c =
     let s = c.self.inside in
     let d = g.D.PageDevice in
-    kept_log_read g.row.PAGE d.page_count d.honest d.held (record { layout = s.layout; device = s.device; memory = s.memory; log = s.log; sets = s.sets; flight = s.flight; moves = s.moves }) c.self.invariant
+    kept_log_read g.row.PAGE d.page_count d.honest d.held (record { layout = s.layout; device = s.device; memory = s.memory; log = s.log; sets = s.sets; flights = s.flights; moves = s.moves }) c.self.invariant
     c.look.new.device c.look.new.self c.look.ensures.shape c.look.ensures.reads.pages c.look.ensures.reads.honest c.look.ensures.reads.same c.look.ensures.spelled
 
 pub invariant_of-self-2 : goal.invariant_of-self-2
 invariant_of-self-2 g c =
     let s = c.self.inside in
     let d = g.D.PageDevice in
-    kept_log_read g.row.PAGE d.page_count d.honest d.held (record { layout = s.layout; device = s.device; memory = s.memory; log = s.log; sets = s.sets; flight = s.flight; moves = s.moves }) c.self.invariant
+    kept_log_read g.row.PAGE d.page_count d.honest d.held (record { layout = s.layout; device = s.device; memory = s.memory; log = s.log; sets = s.sets; flights = s.flights; moves = s.moves }) c.self.invariant
     c.look.new.device c.look.new.self c.look.ensures.shape c.look.ensures.reads.pages c.look.ensures.reads.honest c.look.ensures.reads.same c.look.ensures.spelled
 
 pub returns-clause-unasked : goal.returns-clause-unasked
@@ -41,8 +42,8 @@ pub returns-clause-tells : goal.returns-clause-tells
 returns-clause-tells g c = λ is.
     let s = c.self.inside in
     let d = g.D.PageDevice in
-    let old : StoreState g.row.D.Denot = record { layout = s.layout; device = s.device; memory = s.memory; log = s.log; sets = s.sets; flight = s.flight; moves = s.moves } in
-    let new : StoreState g.row.D.Denot = record { layout = s.layout; device = c.look.new.device; memory = s.memory; log = c.look.new.self; sets = s.sets; flight = s.flight; moves = s.moves } in
+    let old : StoreState g.row.D.Denot = record { layout = s.layout; device = s.device; memory = s.memory; log = s.log; sets = s.sets; flights = s.flights; moves = s.moves } in
+    let new : StoreState g.row.D.Denot = record { layout = s.layout; device = c.look.new.device; memory = s.memory; log = c.look.new.self; sets = s.sets; flights = s.flights; moves = s.moves } in
     let on = subst (λ (x : StoreState g.row.D.Denot). IsTrue (d.honest x.device)) (sym c.self.view_is) is in
     subst (λ (x : StoreState g.row.D.Denot). LogTells c.args.key.now (lane_of d.held x) c.in_ok-looked.looked (lane_of d.held new)) c.self.view_is
     (log_told d.held old c.look.new.device c.args.key.now (c.look.ensures.reads.same on) c.look.new.self c.in_ok-looked.looked (c.in_ok-looked.ensures.gives on (c.self.invariant.log_spelled on)))
@@ -50,15 +51,36 @@ returns-clause-tells g c = λ is.
 pub returns-clause-in_buffers : goal.returns-clause-in_buffers
 returns-clause-in_buffers g c = λ e r.
     let s = c.self.inside in
-    let old : StoreState g.row.D.Denot = record { layout = s.layout; device = s.device; memory = s.memory; log = s.log; sets = s.sets; flight = s.flight; moves = s.moves } in
-    let new : StoreState g.row.D.Denot = record { layout = s.layout; device = c.look.new.device; memory = s.memory; log = c.look.new.self; sets = s.sets; flight = s.flight; moves = s.moves } in
+    let old : StoreState g.row.D.Denot = record { layout = s.layout; device = s.device; memory = s.memory; log = s.log; sets = s.sets; flights = s.flights; moves = s.moves } in
+    let new : StoreState g.row.D.Denot = record { layout = s.layout; device = c.look.new.device; memory = s.memory; log = c.look.new.self; sets = s.sets; flights = s.flights; moves = s.moves } in
     subst (λ (x : StoreState g.row.D.Denot). IsInBuffers g.row.PAGE x.log c.args.placed.now.set c.args.placed.now.tag c.args.key.now e r → (c.in_ok-looked.looked ≡ log.Hit r.value) × IsLowered c.args.placed.now.set e x new) c.self.view_is
     (λ here. let it = c.in_ok-looked.ensures.in_buffers e r here in (it.hit, lowered_store old c.look.new.device c.look.new.self c.args.placed.now.set e it.lowered it.uncalled))
 
 pub returns-clause-leaves : goal.returns-clause-leaves
 returns-clause-leaves g c =
     let s = c.self.inside in
-    let old : StoreState g.row.D.Denot = record { layout = s.layout; device = s.device; memory = s.memory; log = s.log; sets = s.sets; flight = s.flight; moves = s.moves } in
-    let new : StoreState g.row.D.Denot = record { layout = s.layout; device = c.look.new.device; memory = s.memory; log = c.look.new.self; sets = s.sets; flight = s.flight; moves = s.moves } in
+    let old : StoreState g.row.D.Denot = record { layout = s.layout; device = s.device; memory = s.memory; log = s.log; sets = s.sets; flights = s.flights; moves = s.moves } in
+    let new : StoreState g.row.D.Denot = record { layout = s.layout; device = c.look.new.device; memory = s.memory; log = c.look.new.self; sets = s.sets; flights = s.flights; moves = s.moves } in
     subst (λ (x : StoreState g.row.D.Denot). LogLeaves c.args.placed.now c.in_ok-looked.looked x new) c.self.view_is
     (log_leaves old c.look.new.device c.look.new.self c.args.placed.now c.in_ok-looked.looked c.in_ok-looked.ensures.leaves)
+
+pub returns-clause-reads : goal.returns-clause-reads
+returns-clause-reads g c =
+    let d = g.D.PageDevice in
+    record {
+      layout = ap (λ (x : StoreState g.row.D.Denot). x.layout) c.self.view_is;
+      honesty = c.look.ensures.reads.honest ∙ ap (λ (x : StoreState g.row.D.Denot). d.honest x.device) c.self.view_is;
+      failed_once = c.in_ok-looked.ensures.reads.faults ∙ ap (λ (x : StoreState g.row.D.Denot). faults_after (d.failures x.device) (is_log_fault (Ok c.in_ok-looked.looked))) c.self.view_is;
+      same = λ is. c.look.ensures.reads.same (subst (λ (x : StoreState g.row.D.Denot). IsTrue (d.honest x.device)) (sym c.self.view_is) is) ∙ ap (λ (x : StoreState g.row.D.Denot). d.held x.device) c.self.view_is;
+    }
+
+pub returns-in_err-looked-clause-reads : goal.returns-in_err-looked-clause-reads
+returns-in_err-looked-clause-reads g c =
+    let d = g.D.PageDevice in
+    let calm : is_log_fault c.from_residual.result ≡ false = no_log_fault c.from_residual.result c.from_residual.ensures.0 in
+    record {
+      layout = ap (λ (x : StoreState g.row.D.Denot). x.layout) c.self.view_is;
+      honesty = c.look.ensures.reads.honest ∙ ap (λ (x : StoreState g.row.D.Denot). d.honest x.device) c.self.view_is;
+      failed_once = c.in_err-looked.ensures.reads.faults ∙ ap (λ (x : StoreState g.row.D.Denot). d.failures x.device) c.self.view_is ∙ ap (faults_after (d.failures c.args.self.now.device)) (sym calm);
+      same = λ is. c.look.ensures.reads.same (subst (λ (x : StoreState g.row.D.Denot). IsTrue (d.honest x.device)) (sym c.self.view_is) is) ∙ ap (λ (x : StoreState g.row.D.Denot). d.held x.device) c.self.view_is;
+    }

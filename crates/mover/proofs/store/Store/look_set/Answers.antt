@@ -20,7 +20,7 @@ pub invariant_of-self : goal.invariant_of-self
 invariant_of-self g c =
     let s = c.self.inside in
     let d = g.D.PageDevice in
-    kept_set_read g.row.PAGE d.page_count d.honest d.held (record { layout = s.layout; device = s.device; memory = s.memory; log = s.log; sets = s.sets; flight = s.flight; moves = s.moves }) c.self.invariant
+    kept_set_read g.row.PAGE d.page_count d.honest d.held (record { layout = s.layout; device = s.device; memory = s.memory; log = s.log; sets = s.sets; flights = s.flights; moves = s.moves }) c.self.invariant
     c.look.new.device c.look.new.self c.look.ensures.keeps.sizes c.look.ensures.reads.pages c.look.ensures.reads.honest c.look.ensures.reads.same c.look.ensures.keeps.spelled
     (λ is placed. subst (AreOfTheirSets s.log.shape.lanes s.log.shape.sets) (sym (c.look.ensures.shown is)) placed)
 
@@ -28,7 +28,7 @@ pub invariant_of-self-2 : goal.invariant_of-self-2
 invariant_of-self-2 g c =
     let s = c.self.inside in
     let d = g.D.PageDevice in
-    kept_set_read g.row.PAGE d.page_count d.honest d.held (record { layout = s.layout; device = s.device; memory = s.memory; log = s.log; sets = s.sets; flight = s.flight; moves = s.moves }) c.self.invariant
+    kept_set_read g.row.PAGE d.page_count d.honest d.held (record { layout = s.layout; device = s.device; memory = s.memory; log = s.log; sets = s.sets; flights = s.flights; moves = s.moves }) c.self.invariant
     c.look.new.device c.look.new.self c.look.ensures.keeps.sizes c.look.ensures.reads.pages c.look.ensures.reads.honest c.look.ensures.reads.same c.look.ensures.keeps.spelled
     (λ is placed. subst (AreOfTheirSets s.log.shape.lanes s.log.shape.sets) (sym (c.look.ensures.shown is)) placed)
 
@@ -36,8 +36,8 @@ pub returns-clause-gives : goal.returns-clause-gives
 returns-clause-gives g c = λ is.
     let s = c.self.inside in
     let d = g.D.PageDevice in
-    let old : StoreState g.row.D.Denot = record { layout = s.layout; device = s.device; memory = s.memory; log = s.log; sets = s.sets; flight = s.flight; moves = s.moves } in
-    let new : StoreState g.row.D.Denot = record { layout = s.layout; device = c.look.new.device; memory = s.memory; log = s.log; sets = c.look.new.self; flight = s.flight; moves = s.moves } in
+    let old : StoreState g.row.D.Denot = record { layout = s.layout; device = s.device; memory = s.memory; log = s.log; sets = s.sets; flights = s.flights; moves = s.moves } in
+    let new : StoreState g.row.D.Denot = record { layout = s.layout; device = c.look.new.device; memory = s.memory; log = s.log; sets = c.look.new.self; flights = s.flights; moves = s.moves } in
     let on = subst (λ (x : StoreState g.row.D.Denot). IsTrue (d.honest x.device)) (sym c.self.view_is) is in
     let key = c.args.key.now in
     let at = c.requires.at ∙ ap (λ (x : StoreState g.row.D.Denot). place_in x.log.shape key) (sym c.self.view_is) in
@@ -72,7 +72,7 @@ returns-clause-reads g c =
 pub returns-clause-leaves : goal.returns-clause-leaves
 returns-clause-leaves g c =
     let s = c.self.inside in
-    let old : StoreState g.row.D.Denot = record { layout = s.layout; device = s.device; memory = s.memory; log = s.log; sets = s.sets; flight = s.flight; moves = s.moves } in
-    let new : StoreState g.row.D.Denot = record { layout = s.layout; device = c.look.new.device; memory = s.memory; log = s.log; sets = c.look.new.self; flight = s.flight; moves = s.moves } in
+    let old : StoreState g.row.D.Denot = record { layout = s.layout; device = s.device; memory = s.memory; log = s.log; sets = s.sets; flights = s.flights; moves = s.moves } in
+    let new : StoreState g.row.D.Denot = record { layout = s.layout; device = c.look.new.device; memory = s.memory; log = s.log; sets = c.look.new.self; flights = s.flights; moves = s.moves } in
     rw c.answer_of_set.ensures (subst (λ (x : StoreState g.row.D.Denot). SetLeaves c.args.placed.now.set (answer_of_set c.in_ok-looked.looked) x new) c.self.view_is
     (set_leaves old c.look.new.device c.look.new.self c.args.placed.now.set c.in_ok-looked.looked c.in_ok-looked.ensures.leaves))

@@ -2,13 +2,14 @@ use Rattle.std.proofs.Common.{rules, subst, inr}
 use Rattle.mover.specs.Lane.{lane_of}
 use Rattle.mover.specs.Begin.{BeginGives}
 use Rattle.mover.specs.Leaving.{BeginLeaves}
+use Rattle.mover.proofs.FlightLists.{flights_counted}
 use Rattle.mover.proofs.Ending.{on_err, after_job, ends_leaves, job_flies, counted_lane, planned_job}
 use Rattle.mover.proofs.store.Store.move_whole.Goals as goal
 
 pub end_by-requires : goal.end_by-requires
 end_by-requires g c =
     let leaves = subst (λ b. BeginLeaves g.row.PAGE c.args.self.now b c.move_begin.new.self) c.in-Job.is c.in_ok-move_begin.ensures.leaves in
-    (search rules, job_flies g.row.PAGE (g.P.EvictionPolicy.plan_of c.args.policy.now) c.args.self.now c.move_begin.new.self c.move_begin.new.self c.in-Job.job leaves)
+    (search rules, job_flies g.row.PAGE (g.P.EvictionPolicy.plan_of c.args.policy.now) c.args.self.now c.move_begin.new.self c.move_begin.new.self c.in-Job.job leaves (flights_counted c.args.self.now.log.shape c.args.self.now.moves c.args.self.now.flights c.layout-layout.ensures.kept.flights))
 
 pub returns-in_err-moved-in-Job : goal.returns-in_err-moved-in-Job
 returns-in_err-moved-in-Job g c =
@@ -23,7 +24,7 @@ returns-in_err-moved-in-Job g c =
       out_of_memory = on_err c.from_residual-in_err-moved-in-Job.result (inr (record { job = c.in-Job.job; between = c.move_begin.new.self; begun = leaves; rest = c.in_err-moved-in-Job.ensures.err }));
       faults = λ is. search rules;
       gives = λ is. search rules;
-      lane_stays = λ is. on_err c.from_residual-in_err-moved-in-Job.result (inr (counted_lane g.row.PAGE plan_of c.args.self.now c.move_begin.new.self c.end_by.new.self c.in-Job.job leaves held (begins.writes.same is) c.in_err-moved-in-Job.ensures.err));
+      lane_stays = λ is. on_err c.from_residual-in_err-moved-in-Job.result (inr (counted_lane g.row.PAGE plan_of c.args.self.now c.move_begin.new.self c.end_by.new.self c.in-Job.job leaves (flights_counted c.args.self.now.log.shape c.args.self.now.moves c.args.self.now.flights c.layout-layout.ensures.kept.flights) held (begins.writes.same is) c.in_err-moved-in-Job.ensures.err));
       planned = λ is. search rules;
     }
 

@@ -16,7 +16,7 @@ pub invariant_of-self : goal.invariant_of-self
 invariant_of-self g c =
     let s = c.self.inside in
     let d = g.D.PageDevice in
-    kept_set_read g.row.PAGE d.page_count d.honest d.held (record { layout = s.layout; device = s.device; memory = s.memory; log = s.log; sets = s.sets; flight = s.flight; moves = s.moves }) c.self.invariant
+    kept_set_read g.row.PAGE d.page_count d.honest d.held (record { layout = s.layout; device = s.device; memory = s.memory; log = s.log; sets = s.sets; flights = s.flights; moves = s.moves }) c.self.invariant
     c.read_set.new.device c.read_set.new.self c.read_set.ensures.keeps.sizes c.read_set.ensures.reads.pages c.read_set.ensures.reads.honest c.read_set.ensures.reads.same c.read_set.ensures.keeps.spelled
     (λ is placed. subst (AreOfTheirSets s.log.shape.lanes s.log.shape.sets) (sym (c.read_set.ensures.shown is))
     (c.readings_keep_sets.ensures s.log.shape.lanes s.log.shape.sets c.args.set c.read_set.result (visible_in (d.held s.device) s.sets) placed))
@@ -25,7 +25,7 @@ pub invariant_of-self-2 : goal.invariant_of-self-2
 invariant_of-self-2 g c =
     let s = c.self.inside in
     let d = g.D.PageDevice in
-    kept_set_read g.row.PAGE d.page_count d.honest d.held (record { layout = s.layout; device = s.device; memory = s.memory; log = s.log; sets = s.sets; flight = s.flight; moves = s.moves }) c.self.invariant
+    kept_set_read g.row.PAGE d.page_count d.honest d.held (record { layout = s.layout; device = s.device; memory = s.memory; log = s.log; sets = s.sets; flights = s.flights; moves = s.moves }) c.self.invariant
     c.read_set.new.device c.read_set.new.self c.read_set.ensures.keeps.sizes c.read_set.ensures.reads.pages c.read_set.ensures.reads.honest c.read_set.ensures.reads.same c.read_set.ensures.keeps.spelled
     (λ is placed. subst (AreOfTheirSets s.log.shape.lanes s.log.shape.sets) (sym (c.read_set.ensures.shown is))
     (c.readings_keep_sets.ensures s.log.shape.lanes s.log.shape.sets c.args.set c.read_set.result (visible_in (d.held s.device) s.sets) placed))
@@ -42,8 +42,8 @@ pub returns-clause-gives : goal.returns-clause-gives
 returns-clause-gives g c = λ is.
     let s = c.self.inside in
     let d = g.D.PageDevice in
-    let old : StoreState g.row.D.Denot = record { layout = s.layout; device = s.device; memory = s.memory; log = s.log; sets = s.sets; flight = s.flight; moves = s.moves } in
-    let new : StoreState g.row.D.Denot = record { layout = s.layout; device = c.read_set.new.device; memory = s.memory; log = s.log; sets = c.read_set.new.self; flight = s.flight; moves = s.moves } in
+    let old : StoreState g.row.D.Denot = record { layout = s.layout; device = s.device; memory = s.memory; log = s.log; sets = s.sets; flights = s.flights; moves = s.moves } in
+    let new : StoreState g.row.D.Denot = record { layout = s.layout; device = c.read_set.new.device; memory = s.memory; log = s.log; sets = c.read_set.new.self; flights = s.flights; moves = s.moves } in
     let on = subst (λ (x : StoreState g.row.D.Denot). IsTrue (d.honest x.device)) (sym c.self.view_is) is in
     subst (λ (x : StoreState g.row.D.Denot). LaneReads c.args.set (lane_of d.held x) c.in_ok-read.read (lane_of d.held new)) c.self.view_is
     (lane_read d.held old c.read_set.new.device (c.read_set.ensures.reads.same on) c.read_set.new.self c.args.set c.in_ok-read.read (d.failures s.device) (d.failures c.read_set.new.device) c.in_ok-read.ensures.leaves (c.in_ok-read.ensures.gives on (c.self.invariant.sets_spelled on))
@@ -61,8 +61,8 @@ returns-clause-writes g c =
 pub returns-clause-leaves : goal.returns-clause-leaves
 returns-clause-leaves g c =
     let s = c.self.inside in
-    let old : StoreState g.row.D.Denot = record { layout = s.layout; device = s.device; memory = s.memory; log = s.log; sets = s.sets; flight = s.flight; moves = s.moves } in
-    let new : StoreState g.row.D.Denot = record { layout = s.layout; device = c.read_set.new.device; memory = s.memory; log = s.log; sets = c.read_set.new.self; flight = s.flight; moves = s.moves } in
+    let old : StoreState g.row.D.Denot = record { layout = s.layout; device = s.device; memory = s.memory; log = s.log; sets = s.sets; flights = s.flights; moves = s.moves } in
+    let new : StoreState g.row.D.Denot = record { layout = s.layout; device = c.read_set.new.device; memory = s.memory; log = s.log; sets = c.read_set.new.self; flights = s.flights; moves = s.moves } in
     subst (λ (x : StoreState g.row.D.Denot). ReadingLeaves c.args.set x c.in_ok-read.read new) c.self.view_is
     (reading_leaves old c.read_set.new.device c.read_set.new.self c.args.set c.in_ok-read.read c.in_ok-read.ensures.leaves
     (λ none. not_lost c.in_ok-read.read (Ok c.in_ok-read.read) (c.in_ok-read.ensures.unread none).0 refl))

@@ -8,6 +8,6 @@ pub invariant_of-self : goal.invariant_of-self
 invariant_of-self g c =
     let s = c.self.inside in
     let d = g.D.PageDevice in
-    kept_memory g.row.PAGE d.page_count d.honest d.held (record { layout = s.layout; device = s.device; memory = s.memory; log = s.log; sets = s.sets; flight = s.flight; moves = s.moves }) c.self.invariant
+    kept_memory g.row.PAGE d.page_count d.honest d.held (record { layout = s.layout; device = s.device; memory = s.memory; log = s.log; sets = s.sets; flights = s.flights; moves = s.moves }) c.self.invariant
     c.get-raised.follows.lender-at-none (ap (λ (m : MemoryList). m.capacity) c.get-raised.follows.holds-at-none)
     (all_fronted (IsSmall g.row.PAGE) s.memory c.get-raised.follows.lender-at-none c.args.key.now c.get-raised.follows.holds-at-none c.self.invariant.small)

@@ -9,7 +9,7 @@ pub invariant_of-self-2 : goal.invariant_of-self-2
 invariant_of-self-2 g c =
     let s = c.self.inside in
     let d = g.D.PageDevice in
-    kept_memory g.row.PAGE d.page_count d.honest d.held (record { layout = s.layout; device = s.device; memory = s.memory; log = s.log; sets = s.sets; flight = s.flight; moves = s.moves }) c.self.invariant
+    kept_memory g.row.PAGE d.page_count d.honest d.held (record { layout = s.layout; device = s.device; memory = s.memory; log = s.log; sets = s.sets; flights = s.flights; moves = s.moves }) c.self.invariant
     c.put.new.self (ap (λ (m : MemoryList). m.capacity) c.in-Ok.ensures.after)
     (all_put (IsSmall g.row.PAGE) s.memory c.put.new.self (record { key = c.args.key; value = c.args.value }) c.in-Ok.ensures.after c.requires c.self.invariant.small)
 

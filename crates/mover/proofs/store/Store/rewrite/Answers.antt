@@ -15,7 +15,7 @@ pub invariant_of-self : goal.invariant_of-self
 invariant_of-self g c =
     let s = c.self.inside in
     let d = g.D.PageDevice in
-    let old : StoreState g.row.D.Denot = record { layout = s.layout; device = s.device; memory = s.memory; log = s.log; sets = s.sets; flight = s.flight; moves = s.moves } in
+    let old : StoreState g.row.D.Denot = record { layout = s.layout; device = s.device; memory = s.memory; log = s.log; sets = s.sets; flights = s.flights; moves = s.moves } in
     let count = counted_alike g.row.PAGE d.page_count d.honest d.held old c.self.invariant in
     kept_flash g.row.PAGE d.page_count d.honest d.held old c.self.invariant
     c.rewrite.new.device s.log c.rewrite.new.self refl c.rewrite.ensures.keeps.sizes c.rewrite.ensures.writes.pages c.rewrite.ensures.writes.honest
@@ -28,7 +28,7 @@ pub returns-clause-gives : goal.returns-clause-gives
 returns-clause-gives g c = λ is.
     let s = c.self.inside in
     let d = g.D.PageDevice in
-    let old : StoreState g.row.D.Denot = record { layout = s.layout; device = s.device; memory = s.memory; log = s.log; sets = s.sets; flight = s.flight; moves = s.moves } in
+    let old : StoreState g.row.D.Denot = record { layout = s.layout; device = s.device; memory = s.memory; log = s.log; sets = s.sets; flights = s.flights; moves = s.moves } in
     let on = subst (λ (x : StoreState g.row.D.Denot). IsTrue (d.honest x.device)) (sym c.self.view_is) is in
     let count = counted_alike g.row.PAGE d.page_count d.honest d.held old c.self.invariant in
     lane_rewrote d.held old c.rewrite.new.device c.rewrite.new.self c.args.set c.args.writer.now c.rewrite.result c.rewrite.ensures.leaves (rw (sym count) (c.rewrite.ensures.apart on))

@@ -12,22 +12,22 @@ pub invariant_of-self : goal.invariant_of-self
 invariant_of-self g c =
     let s = c.self.inside in
     let d = g.D.PageDevice in
-    kept_log_read g.row.PAGE d.page_count d.honest d.held (record { layout = s.layout; device = s.device; memory = s.memory; log = s.log; sets = s.sets; flight = s.flight; moves = s.moves }) c.self.invariant
+    kept_log_read g.row.PAGE d.page_count d.honest d.held (record { layout = s.layout; device = s.device; memory = s.memory; log = s.log; sets = s.sets; flights = s.flights; moves = s.moves }) c.self.invariant
     c.take_set.new.device c.take_set.new.self c.take_set.ensures.shape c.take_set.ensures.reads.pages c.take_set.ensures.reads.honest c.take_set.ensures.reads.same c.take_set.ensures.spelled
 
 pub invariant_of-self-2 : goal.invariant_of-self-2
 invariant_of-self-2 g c =
     let s = c.self.inside in
     let d = g.D.PageDevice in
-    kept_log_read g.row.PAGE d.page_count d.honest d.held (record { layout = s.layout; device = s.device; memory = s.memory; log = s.log; sets = s.sets; flight = s.flight; moves = s.moves }) c.self.invariant
+    kept_log_read g.row.PAGE d.page_count d.honest d.held (record { layout = s.layout; device = s.device; memory = s.memory; log = s.log; sets = s.sets; flights = s.flights; moves = s.moves }) c.self.invariant
     c.take_set.new.device c.take_set.new.self c.take_set.ensures.shape c.take_set.ensures.reads.pages c.take_set.ensures.reads.honest c.take_set.ensures.reads.same c.take_set.ensures.spelled
 
 pub returns-clause-gives : goal.returns-clause-gives
 returns-clause-gives g c = λ is.
     let s = c.self.inside in
     let d = g.D.PageDevice in
-    let old : StoreState g.row.D.Denot = record { layout = s.layout; device = s.device; memory = s.memory; log = s.log; sets = s.sets; flight = s.flight; moves = s.moves } in
-    let new : StoreState g.row.D.Denot = record { layout = s.layout; device = c.take_set.new.device; memory = s.memory; log = c.take_set.new.self; sets = s.sets; flight = s.flight; moves = s.moves } in
+    let old : StoreState g.row.D.Denot = record { layout = s.layout; device = s.device; memory = s.memory; log = s.log; sets = s.sets; flights = s.flights; moves = s.moves } in
+    let new : StoreState g.row.D.Denot = record { layout = s.layout; device = c.take_set.new.device; memory = s.memory; log = c.take_set.new.self; sets = s.sets; flights = s.flights; moves = s.moves } in
     let on = subst (λ (x : StoreState g.row.D.Denot). IsTrue (d.honest x.device)) (sym c.self.view_is) is in
     subst (λ (x : StoreState g.row.D.Denot). LaneTakes c.args.set (lane_of d.held x) c.in_ok-taken.taken (lane_of d.held new)) c.self.view_is
     (lane_taken d.held old c.take_set.new.device (c.take_set.ensures.reads.same on) c.take_set.new.self c.args.set c.in_ok-taken.taken (c.in_ok-taken.ensures.gives on (c.self.invariant.log_spelled on)))
@@ -35,7 +35,7 @@ returns-clause-gives g c = λ is.
 pub returns-clause-leaves : goal.returns-clause-leaves
 returns-clause-leaves g c =
     let s = c.self.inside in
-    let old : StoreState g.row.D.Denot = record { layout = s.layout; device = s.device; memory = s.memory; log = s.log; sets = s.sets; flight = s.flight; moves = s.moves } in
-    let new : StoreState g.row.D.Denot = record { layout = s.layout; device = c.take_set.new.device; memory = s.memory; log = c.take_set.new.self; sets = s.sets; flight = s.flight; moves = s.moves } in
+    let old : StoreState g.row.D.Denot = record { layout = s.layout; device = s.device; memory = s.memory; log = s.log; sets = s.sets; flights = s.flights; moves = s.moves } in
+    let new : StoreState g.row.D.Denot = record { layout = s.layout; device = c.take_set.new.device; memory = s.memory; log = c.take_set.new.self; sets = s.sets; flights = s.flights; moves = s.moves } in
     subst (λ (x : StoreState g.row.D.Denot). TakingLeaves c.args.set x c.in_ok-taken.taken new) c.self.view_is
     (taking_leaves old c.take_set.new.device c.take_set.new.self c.args.set c.in_ok-taken.taken c.in_ok-taken.ensures.leaves)

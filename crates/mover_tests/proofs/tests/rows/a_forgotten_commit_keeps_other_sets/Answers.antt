@@ -6,4 +6,4 @@ use Rattle.mover_tests.proofs.tests.rows.a_forgotten_commit_keeps_other_sets.Goa
 
 pub returns : goal.returns
 returns g c f set flies other is =
-    others_stay c.args.plan.now c.args.store.now c.move_commit.new.self f set flies other (subst (λ answer. CommitLeaves c.args.plan.now c.args.store.now answer c.move_commit.new.self) is c.move_commit.ensures.leaves)
+    others_stay c.args.plan.now c.args.number c.args.store.now c.move_commit.new.self f set flies other (subst (λ answer. CommitLeaves c.args.plan.now c.args.number c.args.store.now answer c.move_commit.new.self) is c.move_commit.ensures.leaves)
