@@ -71,14 +71,15 @@ all_some [] = refl
 all_some (n ∷ numbers) = all_some numbers
 
 -- the load with the numbers that were found is the one that the rows ask for
-pub asks : (rows : List Row) (load : Load) (numbers : List ℕ) (trace : Text) → map (number_found rows) settings ≡ map Some numbers → HasNumbers load numbers → load.device ≡ None → load.trace ≡ trace → Some trace ≡ first_of (codes "trace") rows → load_wanted rows ≡ Some (wanted_of (Run load))
-asks rows load numbers trace e has no_device is_trace found =
+pub asks : (rows : List Row) (load : Load) (numbers : List ℕ) (folder : Option Text) (trace : Text) → map (number_found rows) settings ≡ map Some numbers → HasNumbers load numbers → load.device ≡ folder → folder ≡ first_of (codes "device") rows → load.trace ≡ trace → Some trace ≡ first_of (codes "trace") rows → load_wanted rows ≡ Some (wanted_of (Run load))
+asks rows load numbers folder trace e has is_device found_device is_trace found =
     let given : has_numbers rows ≡ true = ap (list_all is_some) e ∙ all_some numbers in
     let each : (setting : Setting) → unwrap_or (number_found rows setting) 0 ≡ number_of load setting =
     λ setting. ap (λ o. unwrap_or o 0) (each_found (number_found rows) numbers e setting) ∙ sym (each_number load numbers has setting) in
-    let loaded : Loaded (λ setting. unwrap_or (number_found rows setting) 0) None trace ≡ wanted_of (Run load) =
-    (λ i. Loaded (λ setting. each setting i) (sym no_device i) (sym is_trace i)) in
-    rw given (ap (option_map (Loaded (λ setting. unwrap_or (number_found rows setting) 0) None)) (sym found) ∙ ap Some loaded)
+    let device : first_of (codes "device") rows ≡ load.device = sym (is_device ∙ found_device) in
+    let loaded : Loaded (λ setting. unwrap_or (number_found rows setting) 0) (first_of (codes "device") rows) trace ≡ wanted_of (Run load) =
+    (λ i. Loaded (λ setting. each setting i) (device i) (sym is_trace i)) in
+    rw given (ap (option_map (Loaded (λ setting. unwrap_or (number_found rows setting) 0) (first_of (codes "device") rows))) (sym found) ∙ ap Some loaded)
 
 all_at : {X : Type 0} (p : X → Bool) (xs : List X) (i : ℕ) (d : X) → i < length xs → list_all p xs ≡ true → p (get_or xs i d) ≡ true
 all_at {X} p [] i d less h = absurd (omega arith)

@@ -23,6 +23,10 @@ file_rule = record (new_rule (codes "FILE")) { required = true }
 abbrev pub option_rule : Setting → Rule
 option_rule setting = record (new_rule (row_of setting).name) { long = Some (row_of setting).name; value_names = 1; defaults = (row_of setting).default ∷ [] }
 
+-- the folder of the lanes' files
+abbrev pub device_rule : Rule
+device_rule = record (new_rule (codes "device")) { long = Some (codes "device"); value_names = 1 }
+
 -- the file that the trace of a run is written to
 abbrev pub trace_rule : Rule
 trace_rule = record (new_rule (codes "trace")) { long = Some (codes "trace"); value_names = 1; required = true }
@@ -39,9 +43,9 @@ check_command = with_rule (new_app (codes "check")) file_rule
 abbrev pub with_option : App → Setting → App
 with_option command setting = with_rule command (option_rule setting)
 
--- run, with an option for each setting and one for the file of the trace
+-- run, with an option for each setting, one for the folder of the lanes' files and one for the file of the trace
 abbrev pub run_command : App
-run_command = with_rule (fold with_option (new_app (codes "run")) settings) trace_rule
+run_command = with_rule (with_rule (fold with_option (new_app (codes "run")) settings) device_rule) trace_rule
 
 -- the program, of which one subcommand has to be named
 abbrev pub program_top : App
@@ -53,8 +57,8 @@ program = with_subcommand (with_subcommand (with_subcommand program_top script_c
 
 -- ---- what its words ask for
 
--- that a script is answered, that the trace in a file of this name is judged, or that a load with these numbers is run over the
--- files of these names
+-- that a script is answered, that the trace in a file of this name is judged, or that a load with these numbers is run, over files
+-- of this folder or in memory where there is none, and its trace written to a file of this name
 pub data Wanted : Type 0 where
   Replies : Wanted
   Judgement : Text → Wanted
@@ -74,11 +78,11 @@ number_found rows setting = option_and_then (number_in setting) (first_of (row_o
 abbrev pub has_numbers : List Row → Bool
 has_numbers rows = list_all (λ setting. is_some (number_found rows setting)) settings
 
--- the load that was found, whose devices are in memory, where each setting has a number
+-- the load that was found, where each setting has a number
 abbrev pub load_wanted : List Row → Option Wanted
 load_wanted rows =
     if has_numbers rows
-    then option_map (Loaded (λ setting. unwrap_or (number_found rows setting) 0) None) (first_of (codes "trace") rows)
+    then option_map (Loaded (λ setting. unwrap_or (number_found rows setting) 0) (first_of (codes "device") rows)) (first_of (codes "trace") rows)
     else None
 
 -- what a subcommand asks for, by its name and what was found for its arguments

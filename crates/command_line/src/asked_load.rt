@@ -53,6 +53,19 @@ fn numbers_of<'a>(found: &ArgMatches<'a>) -> Result<[u32; 16], Setting>
     Ok(numbers)
 }
 
+/// The folder that was found; none where none is given.
+fn folder_of<'a>(alloc: Global, found: &ArgMatches<'a>) -> Result<Option<FileName>, AllocError>
+    ensures { IfOk result (λ folder. folder ≡ first_of (codes "device") (rows_of (found_of found.now))) }
+{
+    match found.get_str("device") {
+        Some(folder) => {
+            let name = FileName::new(alloc, folder)?;
+            Ok(Some(name))
+        }
+        None => Ok(None),
+    }
+}
+
 /// What `run` asks for.
 pub fn run_line<'a>(alloc: Global, found: &ArgMatches<'a>) -> Result<Line, LineFault>
     ensures named { IfOk result (λ line. load_wanted (rows_of (found_of found.now)) ≡ Some (wanted_of line)) }
@@ -64,7 +77,11 @@ pub fn run_line<'a>(alloc: Global, found: &ArgMatches<'a>) -> Result<Line, LineF
         return Err(usage(alloc, "no trace\n"));
     };
     match numbers_of(found) {
-        Ok(numbers) => Ok(Line::Run(load_with(&numbers, FileName::new(alloc, trace)?))),
+        Ok(numbers) => {
+            let folder = folder_of(alloc, found)?;
+            let file = FileName::new(alloc, trace)?;
+            Ok(Line::Run(load_with(&numbers, folder, file)))
+        }
         Err(setting) => Err(no_number(alloc, setting)),
     }
 }

@@ -1,7 +1,7 @@
 // The program's command line, as `clap` reads it.
 ghost use Rattle.std.specs.Prelude.{◌≡◌, IfOk, false};
 ghost use Rattle.clap.specs.Words.{app_of, rule_of};
-ghost use Rattle.command_line.specs.CommandLine.{check_command, file_rule, option_rule, program, run_command, script_command, trace_rule};
+ghost use Rattle.command_line.specs.CommandLine.{check_command, device_rule, file_rule, option_rule, program, run_command, script_command, trace_rule};
 
 use clap::{Arg, Command};
 use load::{SETTINGS, Setting};
@@ -62,7 +62,8 @@ pub fn run<'a>(alloc: Global) -> Result<Command<'a>, AllocError>
     for setting in &SETTINGS {
         run = run.arg(option(alloc, *setting))?;
     }
-    run.arg(trace(alloc))
+    let over_files = run.arg(device(alloc))?;
+    over_files.arg(trace(alloc))
 }
 
 /// The option of a setting.
@@ -78,6 +79,19 @@ fn option<'a>(alloc: Global, setting: Setting) -> Arg<'a>
         .value_name("NUMBER")
         .default_value(word)
         .help(meaning)
+}
+
+/// The folder of the lanes' files.
+fn device<'a>(alloc: Global) -> Arg<'a>
+    ensures rule { rule_of result ≡ device_rule }
+    ensures local { result.global ≡ false }
+{
+    Arg::new(alloc, "device")
+        .long("device")
+        .value_name("FOLDER")
+        .help(
+            "The folder of the lanes' files, lane-0.dev and so on; without it the lanes are in memory",
+        )
 }
 
 /// The file that the trace of a run is written to.

@@ -42,7 +42,7 @@ pub(crate) struct Row {
     pub(crate) certificate: &'static [u32],
 }
 
-fn config(row: &Row) -> Config {
+pub(crate) fn config(row: &Row) -> Config {
     Config {
         lanes: row.lanes,
         sets: row.sets,
@@ -72,7 +72,7 @@ fn world(alloc: Global, row: &Row) -> Result<World<MemoryDevice<256>, 256>, Fail
     Ok(World::open(alloc, &config(row), devices, 3)?)
 }
 
-fn event(alloc: Global, happens: &Happens) -> Result<Event, Fail> {
+pub(crate) fn event(alloc: Global, happens: &Happens) -> Result<Event, Fail> {
     match happens {
         Happens::Get(caller, name) => Ok(Event::Begin(*caller, Operation::Get(key(alloc, name)?))),
         Happens::Put(caller, name, bytes) => {
@@ -100,7 +100,7 @@ fn plan(alloc: Global, item: usize) -> Result<Plan, Fail> {
     Ok(plan)
 }
 
-fn events(alloc: Global, row: &Row) -> Result<Vec<Event>, Fail> {
+pub(crate) fn events(alloc: Global, row: &Row) -> Result<Vec<Event>, Fail> {
     let mut events = Vec::new(alloc);
     for happens in row.events {
         events.push(event(alloc, &happens.0)?)?;
@@ -311,7 +311,7 @@ fn calls_of_two_lanes_are_listed_as_they_were_done(rt: HostRuntime) -> Result<()
 }
 
 // A key is removed while its object is in flight, and the move does not bring it back.
-const REMOVED_IN_FLIGHT: Row = Row {
+pub(crate) const REMOVED_IN_FLIGHT: Row = Row {
     lanes: 1,
     sets: 1,
     memory: 1,
@@ -444,7 +444,7 @@ fn moves_of_two_lanes_are_in_flight_at_once(rt: HostRuntime) -> Result<(), Fail>
 }
 
 // Two moves of one lane are in flight, and end in the other order.
-const TWO_OF_A_LANE: Row = Row {
+pub(crate) const TWO_OF_A_LANE: Row = Row {
     lanes: 1,
     sets: 2,
     memory: 1,
@@ -484,7 +484,7 @@ const TWO_OF_A_LANE: Row = Row {
 };
 
 // While a move is in flight four segments are freed, and one with the name of the first is filled.
-const OVER_A_NAME: Row = Row {
+pub(crate) const OVER_A_NAME: Row = Row {
     lanes: 1,
     sets: 1,
     memory: 1,
@@ -561,7 +561,7 @@ fn moves_of_one_lane_are_in_flight_at_once(rt: HostRuntime) -> Result<(), Fail> 
 }
 
 // A world of one lane.
-const ONE_LANE: Config = Config {
+pub(crate) const ONE_LANE: Config = Config {
     lanes: 1,
     sets: 1,
     memory: 4,

@@ -27,8 +27,7 @@ pub struct Load {
     pub workers: u32,
     /// The seed of the callers' random words.
     pub seed: u32,
-    /// The folder of the lanes' files; none for devices in memory, and always none today: the command
-    /// line has no such option.
+    /// The folder of the lanes' files; none for devices in memory.
     pub device: Option<FileName>,
     /// The file that the trace is written to.
     pub trace: FileName,

@@ -1,5 +1,5 @@
 // The load with a number for each setting.
-ghost use Rattle.std.specs.Prelude.{◌≡◌, None};
+ghost use Rattle.std.specs.Prelude.{◌≡◌};
 ghost use Rattle.load.specs.Settings.{AreAdmitted};
 ghost use Rattle.load.specs.Asked.{HasNumbers, IsLayoutOf};
 
@@ -24,12 +24,12 @@ fn layout_with(numbers: &[u32; 16]) -> Layout
     }
 }
 
-/// The load with these numbers, one for each of `SETTINGS` in their order, which writes its trace to
-/// this file and has its devices in memory.
-pub fn load_with(numbers: &[u32; 16], trace: FileName) -> Load
+/// The load with these numbers, one for each of `SETTINGS` in their order, whose devices are files of this
+/// folder, or in memory where there is none, and which writes its trace to this file.
+pub fn load_with(numbers: &[u32; 16], device: Option<FileName>, trace: FileName) -> Load
     requires { AreAdmitted numbers.now }
     ensures numbers { HasNumbers result numbers.now }
-    ensures devices { result.device ≡ None }
+    ensures device { result.device ≡ device }
     ensures trace { result.trace ≡ trace }
 {
     Load {
@@ -42,7 +42,7 @@ pub fn load_with(numbers: &[u32; 16], trace: FileName) -> Load
         removes: numbers[13],
         workers: numbers[14],
         seed: numbers[15],
-        device: None,
+        device,
         trace,
     }
 }

@@ -45,6 +45,10 @@ message_of ends.FinishFault = Some (codes "finish fault")
 abbrev pub line_of : RunEnd → List ℕ
 line_of end = option_map_or (λ message. message ++ codes "\n") (message_of end) []
 
+-- a file was not opened, or memory was refused
+abbrev pub IsUnopened : RunEnd → Type 0
+IsUnopened end = (end ≡ ends.OutOfMemory) ⊎ (end ≡ ends.FileFault)
+
 -- a cache was not opened or not finished
 abbrev pub IsRefusal : RunEnd → Type 0
 IsRefusal end = (end ≡ ends.OutOfMemory) ⊎ (end ≡ ends.FinishFault)

@@ -1,5 +1,6 @@
-pub mod Ends
-pub mod Summaries
 pub mod Calls
-pub mod Wholes
+pub mod Ends
+pub mod Files
 pub mod Runs
+pub mod Summaries
+pub mod Wholes

@@ -1,5 +1,5 @@
 -- What a run wrote, by how it ended.
-use Rattle.std.specs.Prelude.{◌≡◌, ◌≢◌, ◌↔◌, ◌⊎◌, ◌<◌, ◌+◌, ℕ, List, Option, count_by, length}
+use Rattle.std.specs.Prelude.{◌≡◌, ◌≢◌, ◌↔◌, ◌⊎◌, ◌<◌, ◌+◌, ℕ, List, None, Option, count_by, length}
 use Rattle.std.specs.Io.KnownBytes.{Appends, Keeps}
 use Rattle.trace_file.specs.declared.call.Call.{Call}
 use Rattle.certificate_checker.specs.Acceptance.{IsAccepted}
@@ -53,4 +53,4 @@ pub record IsRunOf (load : Load) (old new : Option (List ℕ)) (status : ℕ) : 
   pub status_is : status ≡ status_of end
   pub shares : (end ≡ ends.SharesExceed) ↔ (100 < load.gets + load.removes)
   pub wrote : WroteLines load old new end
-  pub accepted : end ≢ ends.Rejected
+  pub accepted : load.device ≡ None → end ≢ ends.Rejected

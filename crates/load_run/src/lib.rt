@@ -6,6 +6,7 @@ mod cause;
 mod crew;
 mod ended;
 mod hits;
+mod in_files;
 mod made;
 mod run;
 mod run_end;

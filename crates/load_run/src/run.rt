@@ -1,5 +1,5 @@
 // A run, from its load to its status.
-ghost use Rattle.std.specs.Prelude.{◌≡◌, ◌≢◌, ◌↔◌, ◌⊎◌, ◌<◌, ◌+◌, IfOk, IfErr, length};
+ghost use Rattle.std.specs.Prelude.{◌≡◌, ◌≢◌, ◌↔◌, ◌⊎◌, ◌<◌, ◌+◌, All, IfOk, IfErr, IsTrue, None, length};
 ghost use Rattle.certificate_checker.specs.Acceptance.{IsAccepted};
 ghost use Rattle.load_run.specs.Ends.{IsRefusal, status_of};
 ghost use Rattle.load_run.specs.Runs.{IsRunOf, IsSaid, IsSummaryOf, WroteLines};
@@ -8,16 +8,18 @@ ghost use Rattle.load_run.specs.Wholes.{IsWhole};
 use crate::cause::Cause;
 use crate::ended::Ended;
 use crate::hits::hits_of;
+use crate::in_files::in_files;
 use crate::made::{Made, make_history};
 use crate::run_end::RunEnd;
-use crate::shared::{Device, open};
+use crate::shared::{PAGE, in_memory, open};
 use crate::summary::Summary;
 use crate::watching::tell_step;
 use certificate_checker::check_with_hasher;
 use key_hash::RandomSeed;
 use load::{FileName, Load};
+use page_device::PageDevice;
 use std::alloc::{AllocError, Global};
-use std::fs::OpenOptions;
+use std::fs::{File, OpenOptions};
 use std::io::{BufWriter, IsTerminal, Write};
 use std::random::RandomSource;
 use std::rt::Files;
@@ -30,22 +32,36 @@ use trace_file::{Certificate, History, write_trace};
 /// Runs a load, and answers the status that the program ends with.
 ///
 /// The file of the trace is opened first, and emptied only when there is a trace to write: a file that can't be opened costs
-/// no run, and a run that fails before it has a trace loses no older one. Each caller has a thread, its pass and a generator of its own, and stops
-/// at its first refusal; the workers flush and move beside them. Then the history is judged, by a table with a seed that is
-/// drawn for it, the trace is written to its file, and the four lines are written to `out`. What went wrong else is told to
-/// `err`, in a line, and where a file failed in a second one, which names it with the system's cause. Where `err` is a
-/// terminal it is told too how many calls were made, at most twice a second while they are, and of a long run what is done
-/// with them behind that.
+/// no run, and a run that fails before it has a trace loses no older one. Then each lane has a device: in memory, or in a file
+/// of the load's folder, `lane-0.dev` and so on, which is made where it is absent and stays when the run is over. A page of a
+/// file that can't be read or written is a page of the cache that failed, and ends nothing.
+///
+/// Each caller has a thread, its pass and a generator of its own, and stops at its first refusal; the workers flush and move
+/// beside them. Then the history is judged, by a table with a seed that is drawn for it, the trace is written to its file, and
+/// the four lines are written to `out`. What went wrong else is told to `err`, in a line, and where a file failed in a second
+/// one, which names it with the system's cause. Where `err` is a terminal it is told too how many calls were made, at most
+/// twice a second while they are, and of a long run what is done with them behind that.
 pub fn run_load<
-    R: Threads + Wait + Sync + AllocGlobal + Files + Clock + RandomSource,
+    R: Threads + Wait + Sync + AllocGlobal + Files<File = File> + Clock + RandomSource,
     O: Write,
     E: Write + IsTerminal,
 >(rt: &R, load: &Load, out: &mut O, err: &mut E) -> u8
     ensures { IsRunOf load.now (O.contents out.old) (O.contents out.new) result }
 {
+    let _places = taken_places(rt);
     let ended = run_to_end(rt, load, out, err);
     tell(err, load, &ended);
     ended.end.status()
+}
+
+/// Opens what holds nothing as often as there are standard streams. Where one of these is closed, the next file that is opened
+/// takes its place, and what is written to the stream would go to the trace or to a lane's file; now it goes nowhere.
+fn taken_places<R: Files>(rt: &R) -> [io::Result<R::File>; 3] {
+    [
+        fs::open(rt, "/dev/null"),
+        fs::open(rt, "/dev/null"),
+        fs::open(rt, "/dev/null"),
+    ]
 }
 
 /// Writes the line of an end, where it has one, and what failed. What `err` refuses is not told.
@@ -59,13 +75,13 @@ fn tell<E: Write>(err: &mut E, load: &Load, ended: &Ended) {
 
 /// Runs a load, and answers how it ended.
 fn run_to_end<
-    R: Threads + Wait + Sync + AllocGlobal + Files + Clock + RandomSource,
+    R: Threads + Wait + Sync + AllocGlobal + Files<File = File> + Clock + RandomSource,
     O: Write,
     E: Write + IsTerminal,
 >(rt: &R, load: &Load, out: &mut O, err: &mut E) -> Ended
     ensures shares { (result.end ≡ RunEnd.SharesExceed) ↔ (100 < load.now.gets + load.now.removes) }
     ensures wrote { WroteLines load.now (O.contents out.old) (O.contents out.new) result.end }
-    ensures accepted { result.end ≢ RunEnd.Rejected }
+    ensures accepted { load.now.device ≡ None → result.end ≢ RunEnd.Rejected }
 {
     if load.gets + load.removes > 100 {
         return Ended::plain(RunEnd::SharesExceed);
@@ -74,11 +90,34 @@ fn run_to_end<
         Ok(file) => file,
         Err(error) => return Ended::failed(Cause::Opening(error)),
     };
+    match &load.device {
+        Some(folder) => match in_files(rt, rt.alloc(), &load.layout, folder) {
+            Ok(devices) => run_over(rt, load, devices, out, err),
+            Err(ended) => ended,
+        },
+        None => match in_memory(rt.alloc(), &load.layout) {
+            Ok(devices) => run_over(rt, load, devices, out, err),
+            Err(_) => Ended::plain(RunEnd::OutOfMemory),
+        },
+    }
+}
+
+/// Runs a load over its devices, and answers how it ended.
+fn run_over<
+    D: PageDevice<PAGE> + Send,
+    R: Threads + Wait + Sync + AllocGlobal + Files + Clock + RandomSource,
+    O: Write,
+    E: Write + IsTerminal,
+>(rt: &R, load: &Load, devices: Vec<D>, out: &mut O, err: &mut E) -> Ended
+    ensures shares { result.end ≢ RunEnd.SharesExceed }
+    ensures wrote { WroteLines load.now (O.contents out.old) (O.contents out.new) result.end }
+    ensures accepted { ((d : D) → IsTrue (D.honest d)) → result.end ≢ RunEnd.Rejected }
+{
     let seed = match RandomSeed::draw(rt) {
         Ok(seed) => seed,
         Err(error) => return Ended::failed(Cause::Random(error)),
     };
-    let made = match run_cache(rt, rt.alloc(), load, err) {
+    let made = match run_cache(rt, rt.alloc(), load, devices, err) {
         Ok(made) => made,
         Err(end) => return Ended::plain(end),
     };
@@ -98,20 +137,22 @@ fn run_to_end<
     write_lines(rt.alloc(), &summary, out)
 }
 
-/// Runs the threads of a load over a new cache, whose devices are in memory.
-fn run_cache<R: Threads + Wait + Sync + Clock, E: Write + IsTerminal>(
+/// Runs the threads of a load over a new cache.
+fn run_cache<D: PageDevice<PAGE> + Send, R: Threads + Wait + Sync + Clock, E: Write + IsTerminal>(
     rt: &R,
     alloc: Global,
     load: &Load,
+    devices: Vec<D>,
     err: &mut E,
-) -> Result<Made<Device>, RunEnd>
+) -> Result<Made<D>, RunEnd>
     ensures accepted { IfOk result (λ made.
-        IsAccepted made.finished.history made.finished.certificate) }
+        All (λ d. IsTrue (D.honest d)) made.finished.devices.items
+        → IsAccepted made.finished.history made.finished.certificate) }
     ensures whole { IfOk result (λ made.
         IsWhole load.now (length made.finished.history) made.stopped) }
     ensures refused { IfErr result (λ end. IsRefusal end) }
 {
-    let Ok((cache, passes)) = open(alloc, load) else {
+    let Ok((cache, passes)) = open(alloc, load, devices) else {
         return Err(RunEnd::OutOfMemory);
     };
     match make_history(rt, alloc, load, cache, passes, err) {
@@ -129,7 +170,7 @@ fn open_trace<R: Files>(rt: &R, name: &FileName) -> io::Result<R::File> {
 }
 
 /// What is told of a history that was made.
-fn summary_of(alloc: Global, seed: RandomSeed, made: &Made<Device>) -> Result<Summary, AllocError>
+fn summary_of<D>(alloc: Global, seed: RandomSeed, made: &Made<D>) -> Result<Summary, AllocError>
     ensures is { IfOk result (λ summary. IsSummaryOf summary made.now.finished.history made.now.finished.certificate) }
     ensures stopped { IfOk result (λ summary. summary.stopped ≡ made.now.stopped) }
 {

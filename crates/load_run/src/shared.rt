@@ -2,7 +2,7 @@
 ghost use Rattle.std.specs.Prelude.{◌≡◌, ◌*◌, ◌+◌, All, IfOk, length};
 
 use load::Load;
-use page_device::MemoryDevice;
+use page_device::{MemoryDevice, PageDevice};
 use record_pages::{Config, Layout};
 use rriparoo::Rriparoo;
 use shared_cache::{Pass, SharedCache};
@@ -11,19 +11,19 @@ use std::alloc::{AllocError, Global};
 /// The page size of a run, in bytes.
 pub const PAGE: usize = 4096;
 
-/// A device of a run.
-pub type Device = MemoryDevice<PAGE>;
+/// The cache of a run over such devices.
+pub type Cache<D> = SharedCache<D, Rriparoo, PAGE>;
 
-/// The cache of a run.
-pub type Cache = SharedCache<Device, Rriparoo, PAGE>;
-
-/// A cache for a load over devices in memory, with a pass for each caller.
-pub fn open(alloc: Global, load: &Load) -> Result<(Cache, Vec<Pass>), AllocError>
+/// A cache for a load over its devices, with a pass for each caller.
+pub fn open<D: PageDevice<PAGE>>(
+    alloc: Global,
+    load: &Load,
+    devices: Vec<D>,
+) -> Result<(Cache<D>, Vec<Pass>), AllocError>
     ensures layout { IfOk result (λ opened. opened.0.layout ≡ load.now.layout) }
     ensures ties { IfOk result (λ opened. All (λ p. p.sight.clock ≡ opened.0.clock) opened.1.items) }
     ensures passes { IfOk result (λ opened. length opened.1.items ≡ load.now.callers) }
 {
-    let devices = devices_of(alloc, &load.layout)?;
     match SharedCache::open(
         alloc,
         &config_of(&load.layout),
@@ -38,9 +38,18 @@ pub fn open(alloc: Global, load: &Load) -> Result<(Cache, Vec<Pass>), AllocError
     }
 }
 
-/// A device for each lane.
-fn devices_of(alloc: Global, layout: &Layout) -> Result<Vec<Device>, AllocError> {
-    let pages = layout.sets + layout.segments * layout.segment_pages;
+/// The pages of each lane's device.
+pub fn pages_of(layout: &Layout) -> u32
+    ensures { result ≡ layout.now.sets + layout.now.segments * layout.now.segment_pages }
+{
+    layout.sets + layout.segments * layout.segment_pages
+}
+
+/// A device in memory for each lane.
+pub fn in_memory(alloc: Global, layout: &Layout) -> Result<Vec<MemoryDevice<PAGE>>, AllocError>
+    ensures { IfOk result (λ devices. length devices.items ≡ layout.now.lanes) }
+{
+    let pages = pages_of(layout);
     let mut devices = Vec::with_capacity(alloc, layout.lanes as usize)?;
     for _ in 0..layout.lanes {
         devices.push(MemoryDevice::new(alloc, pages)?)?;

@@ -1,6 +1,7 @@
 mod counting_device;
 mod counting_policy;
 mod counts;
+mod devices;
 mod ends;
 mod operations;
 mod options;

@@ -2,6 +2,7 @@
 mod calls;
 mod failing;
 mod filling;
+mod going_back;
 mod losing;
 mod moving;
 mod opening;
@@ -10,6 +11,8 @@ mod run;
 mod several;
 mod splitting;
 mod striking;
+mod untrue;
+mod untrue_device;
 
 use self::losing::LosingDevice;
 use self::run::{Found, Step, run};

@@ -7,6 +7,7 @@ mod gate;
 mod gate_device;
 mod gate_policy;
 mod gates;
+mod going_back;
 mod many;
 mod meeting;
 mod meeting_policy;

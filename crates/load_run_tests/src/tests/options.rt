@@ -110,6 +110,43 @@ fn a_setting_that_is_not_given_is_its_default(rt: HostRuntime) {
     }
 }
 
+/// Whether words give a load over the files of this folder, or in memory where it is none.
+fn gives_folder<'a>(alloc: Global, words: &'a [&'a str], folder: Option<&str>) -> bool {
+    match parse_line(alloc, words) {
+        Ok(Line::Run(load)) => is_folder(&load, folder),
+        _ => false,
+    }
+}
+
+/// Whether this is the folder of a load.
+fn is_folder(load: &Load, folder: Option<&str>) -> bool {
+    match (&load.device, folder) {
+        (Some(name), Some(folder)) => name.as_str() == folder,
+        (None, None) => true,
+        _ => false,
+    }
+}
+
+#[test]
+fn a_folder_is_that_of_its_option(rt: HostRuntime) {
+    let alloc = rt.alloc();
+    assert!(rt; gives_folder(alloc, &["k", "run", "--trace", "t"], None));
+    assert!(rt;
+        gives_folder(
+            alloc,
+            &["k", "run", "--trace", "t", "--device", "a folder"],
+            Some("a folder")
+        )
+    );
+    assert!(rt;
+        gives_folder(
+            alloc,
+            &["k", "run", "--device=d", "--lanes", "2", "--trace", "t"],
+            Some("d")
+        )
+    );
+}
+
 /// Whether these words are told a usage that has this text.
 fn tells<'a>(alloc: Global, words: &'a [&'a str], text: &str) -> bool {
     let line = parse_line(alloc, words);
@@ -149,11 +186,12 @@ fn what_is_no_run_gets_a_usage(rt: HostRuntime) {
             "--lanes"
         )
     );
+    assert!(rt; tells(alloc, &["k", "run", "--trace", "t", "--device"], "--device"));
     assert!(rt;
         tells(
             alloc,
-            &["k", "run", "--trace", "t", "--device", "d"],
-            "--device"
+            &["k", "run", "--trace", "t", "--devices", "d"],
+            "--devices"
         )
     );
     assert!(rt; tells(alloc, &["k", "run", "--trace", "t", "more"], "more"));

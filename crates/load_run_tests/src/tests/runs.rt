@@ -15,18 +15,16 @@ use std::time::Clock;
 
 /// What a run ended with and wrote.
 #[derive(Drop)]
-struct Ran {
-    status: u8,
-    out: Vec<u8>,
-    err: Vec<u8>,
+pub struct Ran {
+    pub status: u8,
+    pub out: Vec<u8>,
+    pub err: Vec<u8>,
 }
 
 /// Runs a load, with a second output that is a terminal or is none.
-fn run_before<R: Threads + Wait + Sync + AllocGlobal + Files + Clock + RandomSource>(
-    rt: &R,
-    load: &Load,
-    is_terminal: bool,
-) -> Ran {
+fn run_before<
+    R: Threads + Wait + Sync + AllocGlobal + Files<File = fs::File> + Clock + RandomSource,
+>(rt: &R, load: &Load, is_terminal: bool) -> Ran {
     let mut out: Vec<u8> = Vec::new(rt.alloc());
     let mut screen = Screen {
         bytes: Vec::new(rt.alloc()),
@@ -41,10 +39,9 @@ fn run_before<R: Threads + Wait + Sync + AllocGlobal + Files + Clock + RandomSou
 }
 
 /// Runs a load before no terminal.
-fn run_of<R: Threads + Wait + Sync + AllocGlobal + Files + Clock + RandomSource>(
-    rt: &R,
-    load: &Load,
-) -> Ran {
+pub fn run_of<
+    R: Threads + Wait + Sync + AllocGlobal + Files<File = fs::File> + Clock + RandomSource,
+>(rt: &R, load: &Load) -> Ran {
     run_before(rt, load, false)
 }
 
@@ -57,7 +54,7 @@ pub fn load_of<'a>(alloc: Global, words: &'a [&'a str]) -> Option<Load> {
 }
 
 /// Whether a run was accepted with so many calls: its four lines say so, and nothing went to the other output.
-fn is_accepted(ran: &Ran, calls: &[u8], verdict: &[u8]) -> bool {
+pub fn is_accepted(ran: &Ran, calls: &[u8], verdict: &[u8]) -> bool {
     ran.status == 0
         && ran.err.is_empty()
         && ran.out.as_slice().starts_with(calls)
@@ -65,7 +62,7 @@ fn is_accepted(ran: &Ran, calls: &[u8], verdict: &[u8]) -> bool {
 }
 
 /// Whether a run wrote no lines, and ended so with this line on the other output.
-fn is_refused(ran: &Ran, status: u8, line: &[u8]) -> bool {
+pub fn is_refused(ran: &Ran, status: u8, line: &[u8]) -> bool {
     ran.status == status && ran.out.is_empty() && ran.err.as_slice() == line
 }
 

@@ -8,9 +8,9 @@ use Rattle.command_line.proofs.asked_load.run_line.Goals as goal
 pub load_with-requires : goal.load_with-requires
 load_with-requires c = admitted (rows_of (found_of c.args.found.now)) c.in-Ok.numbers c.in-Ok.ensures.numbers
 
-pub returns-in_ok-new-in-Ok-clause-named : goal.returns-in_ok-new-in-Ok-clause-named
-returns-in_ok-new-in-Ok-clause-named c =
-    asks (rows_of (found_of c.args.found.now)) c.load_with.result c.in-Ok.numbers c.in-Some.trace.now c.in-Ok.ensures.numbers c.load_with.ensures.numbers c.load_with.ensures.devices (c.load_with.ensures.trace ∙ c.in_ok-new-in-Ok.ensures) (found_text (found_of c.args.found.now) (codes "trace") (codes "trace") (Some c.in-Some.trace.now) refl c.in-Some.ensures)
+pub returns-in_ok-file-in-Ok-clause-named : goal.returns-in_ok-file-in-Ok-clause-named
+returns-in_ok-file-in-Ok-clause-named c =
+    asks (rows_of (found_of c.args.found.now)) c.load_with.result c.in-Ok.numbers c.in_ok-folder-in-Ok.folder c.in-Some.trace.now c.in-Ok.ensures.numbers c.load_with.ensures.numbers c.load_with.ensures.device c.in_ok-folder-in-Ok.ensures (c.load_with.ensures.trace ∙ c.in_ok-file-in-Ok.ensures) (found_text (found_of c.args.found.now) (codes "trace") (codes "trace") (Some c.in-Some.trace.now) refl c.in-Some.ensures)
 
 pub returns-in_default-clause-taken : goal.returns-in_default-clause-taken
 returns-in_default-clause-taken c = λ some.

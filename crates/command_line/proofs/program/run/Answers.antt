@@ -1,4 +1,4 @@
--- One option more for one setting more, and the option of the trace behind them.
+-- One option more for one setting more, and the options of the folder and of the trace behind them.
 use Rattle.std.proofs.Common.{◌≡◌, ◌∙◌, ap, ap₂, codes, fold, sym, take}
 use Rattle.std.proofs.lemmas.List.{take_all}
 use Rattle.std.proofs.lemmas.List.Sums.{fold_more}
@@ -6,7 +6,7 @@ use Rattle.std.proofs.lemmas.Result.{IfOk-weaker}
 use Rattle.clap.specs.Words.{app_of, new_app, with_rule}
 use Rattle.load.specs.declared.setting.Setting.TheVariants.{Lanes}
 use Rattle.load.specs.Settings.{settings}
-use Rattle.command_line.specs.CommandLine.{with_option}
+use Rattle.command_line.specs.CommandLine.{device_rule, with_option}
 use Rattle.command_line.proofs.program.run.Goals as goal
 
 pub loop-setting-init : goal.loop-setting-init
@@ -23,4 +23,6 @@ returns c =
     let all : take c.loop-setting.setting-index settings ≡ settings = take_all c.loop-setting.setting-index settings c.loop-setting-test.false in
     let options : app_of c.loop-setting.run ≡ fold with_option (new_app (codes "run")) settings =
     c.loop-setting.invariant ∙ ap (fold with_option (new_app (codes "run"))) all in
-    IfOk-weaker c.arg-2.result _ _ (λ r h. h.shape c.trace.ensures.local ∙ ap₂ with_rule options c.trace.ensures.rule) c.arg-2.ensures
+    let folder : app_of c.in_ok-over_files.over_files ≡ with_rule (fold with_option (new_app (codes "run")) settings) device_rule =
+    c.in_ok-over_files.ensures.shape c.device.ensures.local ∙ ap₂ with_rule options c.device.ensures.rule in
+    IfOk-weaker c.arg-3.result _ _ (λ r h. h.shape c.trace.ensures.local ∙ ap₂ with_rule folder c.trace.ensures.rule) c.arg-3.ensures
