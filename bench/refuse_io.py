@@ -27,6 +27,7 @@ HERE = os.path.dirname(os.path.abspath(__file__))
 HOWS = {"EIO": errno.EIO, "EINTR": errno.EINTR, "ENOSPC": errno.ENOSPC, "cut short": 0}
 CALLS = {"r": "read", "w": "write", "p": "pread", "q": "pwrite"}
 LOAD = "--callers 2 --operations 250 --lanes 2 --sets 3 --memory 1 --entries 64 --segments 4 --segment-pages 2 --keys 30 --value-bytes 1000 --gets 50".split()
+FAULTS = (b"file fault\nthe input was not read whole\n", b"file fault\nthe output was not written whole\n")
 LINES = re.compile(rb"calls 500\nhits \d+\nstopped 0\n(accepted 500 calls\n)\Z")
 
 
@@ -70,7 +71,7 @@ class Sweep:
         def answer(ended):
             if (ended.returncode, ended.stdout, ended.stderr) == (0, usual, b""):
                 return "as usual"
-            if ended.returncode == 3 and ended.stderr == b"file fault\n" and usual.startswith(ended.stdout):
+            if ended.returncode == 3 and ended.stderr in FAULTS and usual.startswith(ended.stdout):
                 return "file fault"
             return None
 
@@ -84,7 +85,7 @@ class Sweep:
                 return "as usual"
             if ended.returncode == 2 and not ended.stderr and re.fullmatch(rb"bad trace ReadFault at \d+\n", ended.stdout):
                 return "ReadFault"
-            if ended.returncode == 3 and ended.stderr == b"file fault\n" and usual.startswith(ended.stdout):
+            if ended.returncode == 3 and ended.stderr in FAULTS and usual.startswith(ended.stdout):
                 return "file fault"
             return None
 

@@ -16,7 +16,7 @@ const PAGE: usize = 4096;
 fn main(rt: HostRuntime) -> ExitCode {
     let mut output = io::writer(&rt);
     let ended = match asked(&rt) {
-        Ok(Line::Script) => Ended::plain(script(&rt)),
+        Ok(Line::Script) => script(&rt),
         Ok(Line::Check(file)) => check_file(&rt, file, &mut output),
         Ok(Line::Run(load)) => {
             return ExitCode::from(run_load(&rt, &load, &mut output, &mut rt.stderr()));
@@ -34,12 +34,18 @@ fn main(rt: HostRuntime) -> ExitCode {
 
 /// Answers the script of standard input on standard output, through a buffer. The tables of its verdicts have a seed of
 /// their own.
-fn script(rt: &(impl Input + Print + RandomSource + AllocGlobal)) -> Ending {
-    let Ok(hash_builder) = RandomSeed::draw(rt) else {
-        return Ending::FileFault;
+fn script(rt: &(impl Input + Print + RandomSource + AllocGlobal)) -> Ended {
+    let hash_builder = match RandomSeed::draw(rt) {
+        Ok(hash_builder) => hash_builder,
+        Err(error) => return Ended::without_random(error),
     };
     let Ok(mut writer) = BufWriter::new(rt.alloc(), io::writer(rt)) else {
-        return Ending::OutOfMemory;
+        return Ended::plain(Ending::OutOfMemory);
     };
-    answer_script::<PAGE, _, _, _>(rt.alloc(), hash_builder, &mut rt.reader(), &mut writer)
+    Ended::plain(answer_script::<PAGE, _, _, _>(
+        rt.alloc(),
+        hash_builder,
+        &mut rt.reader(),
+        &mut writer,
+    ))
 }

@@ -60,14 +60,15 @@ pub fn answer_check<S: BuildHasher + Drop, R: Read, W: Write>(
 }
 
 /// Judges the trace in a file by a hasher with a seed of its own, and says how the program ended. A file
-/// that is not opened is a `FileFault`, of which the cause is told, and so is a system that gives no random numbers.
+/// that is not opened is a `FileFault`, and so is a system that gives no random numbers; of both the cause is told.
 pub fn check_file<W: Write>(
     rt: &(impl Files + RandomSource + AllocGlobal),
     file: FileName,
     writer: &mut W,
 ) -> Ended {
-    let Ok(hash_builder) = RandomSeed::draw(rt) else {
-        return Ended::plain(Ending::FileFault);
+    let hash_builder = match RandomSeed::draw(rt) {
+        Ok(hash_builder) => hash_builder,
+        Err(error) => return Ended::without_random(error),
     };
     match fs::open(rt, file.as_str()) {
         Ok(mut reader) => {

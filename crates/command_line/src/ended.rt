@@ -9,18 +9,20 @@ use std::io;
 use std::io::Write;
 use std::process::ExitCode;
 
-/// A file that the system would not open, and why.
+/// What the system refused, and why.
 #[derive(Debug, Drop)]
-struct Unopened {
-    name: FileName,
-    error: io::Error,
+enum Refused {
+    /// This file was not opened.
+    Opening(FileName, io::Error),
+    /// No random numbers were given.
+    Random(io::Error),
 }
 
-/// How the program ended, and the file that was not opened, where that is why.
+/// How the program ended, and what the system refused, where that is why.
 #[derive(Debug, Drop)]
 pub struct Ended {
     pub ending: Ending,
-    unopened: Option<Unopened>,
+    refused: Option<Refused>,
 }
 
 impl Ended {
@@ -30,7 +32,7 @@ impl Ended {
     {
         Ended {
             ending,
-            unopened: None,
+            refused: None,
         }
     }
 
@@ -40,22 +42,41 @@ impl Ended {
     {
         Ended {
             ending: Ending::FileFault,
-            unopened: Some(Unopened { name, error }),
+            refused: Some(Refused::Opening(name, error)),
         }
     }
 
-    /// Writes the line of its ending, where that has one, and behind it a line that names the file that was not opened,
-    /// with the system's cause. What `err` refuses is not told.
+    /// The program ended since the system gave no random numbers.
+    pub fn without_random(error: io::Error) -> Ended
+        ensures { result.ending ≡ Ending.FileFault }
+    {
+        Ended {
+            ending: Ending::FileFault,
+            refused: Some(Refused::Random(error)),
+        }
+    }
+
+    /// Writes the line of its ending, where that has one, and behind `file fault` a line that says what failed: the file that
+    /// was not opened, or the random numbers, with the system's cause, or the input or the output. What `err` refuses is not
+    /// told.
     pub fn tell<E: Write>(&self, err: &mut E) {
         if let Some(message) = self.ending.message() {
             let _ = write!(err, "{message}\n");
         }
-        if let Some(unopened) = &self.unopened {
-            let name = unopened.name.as_str();
-            let error = &unopened.error;
-            let _ = write!(err, "{name}: {error}\n");
+        match &self.refused {
+            Some(refused) => refused.tell(err),
+            None => self.tell_stream(err),
         }
         let _ = err.flush();
+    }
+
+    /// Writes the line of the stream that failed, where one did.
+    fn tell_stream<E: Write>(&self, err: &mut E) {
+        let _ = match self.ending {
+            Ending::ReadFault => write!(err, "the input was not read whole\n"),
+            Ending::FileFault => write!(err, "the output was not written whole\n"),
+            _ => Ok(()),
+        };
     }
 
     /// The status that `main` returns.
@@ -63,5 +84,15 @@ impl Ended {
         ensures { exit_status result ≡ status_of self.now.ending }
     {
         self.ending.code()
+    }
+}
+
+impl Refused {
+    /// Writes the line that says what was refused, with the system's cause.
+    fn tell<E: Write>(&self, err: &mut E) {
+        let _ = match self {
+            Refused::Opening(name, error) => write!(err, "{}: {error}\n", name.as_str()),
+            Refused::Random(error) => write!(err, "no random numbers: {error}\n"),
+        };
     }
 }

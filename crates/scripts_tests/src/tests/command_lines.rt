@@ -1,6 +1,6 @@
 // What the words of a command line ask for, and files that are no trace.
 use certificate_checker::Judged;
-use command_line::{Ending, FileName, Line, LineFault, check_file, no_text, parse_line};
+use command_line::{Ended, Ending, FileName, Line, LineFault, check_file, no_text, parse_line};
 use std::alloc::Global;
 use std::test::Fail;
 
@@ -98,6 +98,34 @@ fn what_is_no_file_is_no_trace(rt: HostRuntime) -> Result<(), Fail> {
     let folder = FileName::new(rt.alloc(), ".")?;
     assert_eq!(rt; check_file(&rt, folder, &mut out).ending, Ending::BadInput);
     Ok(())
+}
+
+/// Whether a program that ended so tells these lines, and no others.
+fn tells(alloc: Global, ending: Ending, lines: &[u8]) -> bool {
+    let mut told: Vec<u8> = Vec::new(alloc);
+    Ended::plain(ending).tell(&mut told);
+    told.as_slice() == lines
+}
+
+#[test]
+fn each_ending_tells_what_failed(rt: HostRuntime) {
+    let alloc = rt.alloc();
+    assert!(rt;
+        tells(
+            alloc,
+            Ending::ReadFault,
+            b"file fault\nthe input was not read whole\n"
+        )
+    );
+    assert!(rt;
+        tells(
+            alloc,
+            Ending::FileFault,
+            b"file fault\nthe output was not written whole\n"
+        )
+    );
+    assert!(rt; tells(alloc, Ending::OutOfMemory, b"out of memory\n"));
+    assert!(rt; tells(alloc, Ending::BadInput, b"") && tells(alloc, Ending::Done, b""));
 }
 
 #[test]
