@@ -1,9 +1,9 @@
 -- The done calls of a lane, by its calls and their ends.
-use Rattle.std.proofs.Common.{◌≡◌, ℕ, ◌+◌, ◌<◌, zero, suc, List, [], ◌∷◌, ◌++◌, length, take, get_or, Some, refl, sym, ap, ◌∙◌, arith}
+use Rattle.std.proofs.Common.{◌≡◌, ℕ, ◌<◌, zero, suc, List, [], ◌∷◌, ◌++◌, length, get_or, Some, refl, sym, ap, ◌∙◌, arith}
 use Rattle.std.specs.Prelude.{slice_get, option_map}
-use Rattle.std.proofs.lemmas.Option.{same_Some, slice_get-map, slice_get_read, slice_get-get_or, slice_get_within, get_or_from_slice_get}
-use Rattle.std.proofs.lemmas.List.{take_more, append_assoc}
+use Rattle.std.proofs.lemmas.Option.{same_Some, slice_get_read, slice_get-get_or}
 use Rattle.trace_file.specs.declared.call.Call.{Call}
+use Rattle.trace_file.specs.Ending.{ending_at, each_ending}
 use Rattle.certificate_checker.specs.declared.done.Done.{Done}
 use Rattle.certificate_checker.specs.Lanes.{calls_of}
 use Rattle.history_recorder.specs.Done.{done_with, dones_in}
@@ -42,13 +42,8 @@ module _ (calls : List Call) (ends : List ℕ) (dones : List Done) (is : dones_i
   pub point_there : option_map (λ (d : Done). d.point) (slice_get dones i) ≡ Some call.end
   point_there = ap (option_map (λ (d : Done). d.point)) (there (get_or ends i 0) (slice_get-get_or ends i 0 within))
 
--- one call more of a lane was laid out
-pub call_more : (old history new : List Call) (lane : List Done) (i : ℕ) (call : Call) → history ≡ old ++ take i (calls_of lane) → option_map (λ (d : Done). d.call) (slice_get lane i) ≡ Some call → new ≡ history ++ call ∷ [] → new ≡ old ++ take (i + 1) (calls_of lane)
-call_more old history new lane i call before found more =
-    let here : slice_get (calls_of lane) i ≡ Some call = slice_get-map (λ (d : Done). d.call) lane i ∙ found in
-    let read = get_or_from_slice_get (calls_of lane) i call call here in
-    let next = take_more (calls_of lane) i call (slice_get_within (calls_of lane) i call here) in
-    more
-    ∙ ap (λ (cs : List Call). cs ++ call ∷ []) before
-    ∙ append_assoc old (take i (calls_of lane)) (call ∷ [])
-    ∙ ap (λ (cs : List Call). old ++ cs) (ap (λ (c : Call). take i (calls_of lane) ++ c ∷ []) (sym read) ∙ sym next)
+-- the calls, each with its end in place of its point
+pub calls_ended : (calls : List Call) (ends : List ℕ) → each_ending calls ends ≡ calls_of (dones_in calls ends)
+calls_ended [] ends = refl
+calls_ended (call ∷ calls) [] = refl
+calls_ended (call ∷ calls) (end ∷ ends) = ap (λ (cs : List Call). ending_at call end ∷ cs) (calls_ended calls ends)

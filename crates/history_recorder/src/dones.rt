@@ -3,6 +3,7 @@ ghost use Rattle.std.specs.Prelude.{◌≡◌, ◌<◌, [], ◌∷◌, ◌++◌,
 ghost use Rattle.std.specs.Option.{option_map};
 ghost use Rattle.trace_file.specs.Calls.{IsCall};
 ghost use Rattle.trace_file.specs.Lent.{call_shown};
+ghost use Rattle.certificate_checker.specs.Lanes.{calls_of};
 ghost use Rattle.history_recorder.specs.Done.{dones_in};
 
 use certificate_checker::Done;
@@ -90,6 +91,19 @@ impl Dones {
             call.key,
             call.act,
         )
+    }
+
+    /// Puts the calls behind those of a history, or leaves the history as it was where memory is refused. Behind none no
+    /// byte is copied, and no memory taken.
+    pub(crate) fn put_behind(self, history: &mut History) -> Result<(), AllocError>
+        ensures { OnOk result (history.new ≡ history.old ++ calls_of self) }
+    {
+        let Dones { calls, ends } = self;
+        if history.is_empty() {
+            *history = calls.ending(ends.as_slice());
+            return Ok(());
+        }
+        history.extend_ending(&calls, ends.as_slice())
     }
 
     /// The stamp at which the call with this number was done.

@@ -1,5 +1,5 @@
 // Lanes of recorded calls, laid out as one history.
-ghost use Rattle.std.specs.Prelude.{◌≡◌, ◌≤◌, ◌^◌, ◌++◌, All, AllPairs, IfOk, OnOk, length};
+ghost use Rattle.std.specs.Prelude.{◌≡◌, ◌≤◌, ◌^◌, All, AllPairs, IfOk, length};
 ghost use Rattle.std.specs.List.{flat_map};
 ghost use Rattle.certificate_checker.specs.Acceptance.{IsAccepted};
 ghost use Rattle.certificate_checker.specs.Lanes.{calls_of, PointsRise, IsLane, AreApart, IsLaidOut};
@@ -14,7 +14,8 @@ use trace_file::{Certificate, History};
 ///
 /// The certificate spells an order that the checker accepts where each lane is well recorded and no two have a key in
 /// common. The time is linear in the calls times the lanes, since the lists are merged as they are; no call is copied
-/// but into the history. `AllocError` comes where memory was refused.
+/// but into the history, the bytes of a lane at once, and those of the first lane not at all. `AllocError` comes where
+/// memory was refused.
 pub fn lay_out(alloc: Global, lanes: Vec<Dones>) -> Result<(History, Certificate), AllocError>
     requires rise { All PointsRise lanes.items }
     requires few { length (flat_map calls_of lanes.items) ≤ 2 ^ 28 }
@@ -33,17 +34,7 @@ fn history_of(alloc: Global, lanes: Vec<Dones>) -> Result<History, AllocError>
 {
     let mut history = History::new(alloc);
     for lane in lanes {
-        push_calls(&mut history, &lane)?;
+        lane.put_behind(&mut history)?;
     }
     Ok(history)
-}
-
-/// Puts the calls of a lane behind the others.
-fn push_calls(history: &mut History, lane: &Dones) -> Result<(), AllocError>
-    ensures { OnOk result (history.new ≡ history.old ++ calls_of lane.now) }
-{
-    for number in 0..lane.len() {
-        history.push_ref(&lane.at(number))?;
-    }
-    Ok(())
 }

@@ -77,7 +77,7 @@ pub fn make_history<
         return Err(RunEnd::OutOfMemory);
     };
     tell_step(err, load, "laying the calls out");
-    match cache.finish(left.passes) {
+    match cache.finish(rt, left.passes) {
         Ok(finished) => Ok(Made {
             finished,
             stopped: left.stopped,

@@ -48,18 +48,3 @@ weigh_set h (x ∷ ss) (suc i) d at =
 -- and so do the claims
 pub weigh_claimed : (c new : Claims) (l : Listed) → new ≡ record c { slots = set c.slots l.position (Some (done_of l)) } → slice_get c.slots l.position ≡ Some None → (h : Done → ℕ) → weigh_slots h new.slots ≡ weigh_slots h c.slots + h (done_of l)
 weigh_claimed c new l is free h = ap (λ (x : Claims). weigh_slots h x.slots) is ∙ weigh_set h c.slots l.position (done_of l) free
-
--- the call at the next place is the first of those that are left
-pub next_left : (done left : List Listed) (l : Listed) → slice_get (done ++ left) (length done) ≡ Some l → (rest : List Listed) × (left ≡ l ∷ rest)
-next_left [] [] l at = absurd cc
-next_left [] (x ∷ xs) l at = (xs, ap (λ (y : Listed). y ∷ xs) (same_Some x l at))
-next_left (d ∷ done) left l at = next_left done left l at
-
--- a call that a pass lists ends at its point or later
-pub ended_at : (seen : ℕ) (calls : List Listed) (place : ℕ) (l : Listed) → All (IsTimely seen) calls → slice_get calls place ≡ Some l → l.call.point ≤ l.end
-ended_at seen calls place l timely at = let is = at_so (IsTimely seen) calls place l timely at in is.ended
-
--- and none is left at the end
-pub none_left : (done left calls : List Listed) → done ++ left ≡ calls → length calls ≤ length done → left ≡ []
-none_left done [] calls split past = refl
-none_left done (l ∷ left) calls split past = let a = ap length split in let b = length-append done (l ∷ left) in absurd (omega (arith, a, b, past))

@@ -127,15 +127,6 @@ fits_so cs es l c at none same = record {
 pub unfit_else : (cs : List Call) (es : List (Option ℕ)) (l : Listed) (c : Call) → slice_get cs l.position ≡ Some c → l.call ≢ noted_in c → ¬ Fits (record { calls = map noted_in cs; slots = slots_in cs es }) l
 unfit_else cs es l c at other fits = other (same_Some l.call (noted_in c) (sym fits.stands ∙ noted_at cs l.position c at))
 
--- none,
-pub unfit_past : (cs : List Call) (es : List (Option ℕ)) (l : Listed) → length cs ≤ l.position → ¬ Fits (record { calls = map noted_in cs; slots = slots_in cs es }) l
-unfit_past cs es l past fits = gone cs l.position l.call past fits.stands
-  where
-    gone : (ds : List Call) (i : ℕ) (n : Noted) → length ds ≤ i → slice_get (map noted_in ds) i ≢ Some n
-    gone [] i n past is = absurd cc
-    gone (d ∷ ds) zero n past is = absurd (omega (arith, past))
-    gone (d ∷ ds) (suc i) n past is = gone ds i n (omega (arith, past)) is
-
 -- or one that has an end
 pub unfit_ended : (cs : List Call) (es : List (Option ℕ)) (l : Listed) (e : Option ℕ) → slice_get es l.position ≡ Some e → e ≢ None → ¬ Fits (record { calls = map noted_in cs; slots = slots_in cs es }) l
 unfit_ended cs es l e there some fits = closed cs es l.position e there some fits.free

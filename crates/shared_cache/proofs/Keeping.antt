@@ -3,7 +3,7 @@ use Rattle.std.proofs.Common.{◌≡◌, ℕ, suc, ◌-◌, ◌<◌, ◌≤◌, 
 use Rattle.std.specs.Option.{option_map}
 use Rattle.std.proofs.lemmas.List.{length-map, map_push}
 use Rattle.std.proofs.lemmas.List.Elements.{All-append, All-cons, All-head, All-nil, All-tail, All-weaker}
-use Rattle.std.proofs.lemmas.Option.{same_Some, slice_get-map, slice_get_read}
+use Rattle.std.proofs.lemmas.Option.{same_Some, slice_get-get_or, slice_get-map}
 use Rattle.trace_file.specs.declared.call.Call.{Call}
 use Rattle.trace_file.specs.Stored.{LiesIn, call_in}
 use Rattle.trace_file.proofs.StoreLaws.{calls_in-more}
@@ -96,11 +96,15 @@ kept_ended seen end bytes es places kept same = record {
 pub kept_within : (bytes : List ℕ) (es : List ListedEntry) (place : ℕ) → place < length (calls_listed bytes es) → place < length es
 kept_within bytes es place low = let many = length-map es (listed_in bytes) in omega (arith, low, many)
 
-pub kept_lies : (bytes : List ℕ) (es : List ListedEntry) (place : ℕ) (e : ListedEntry) → All (Lies (length bytes)) es → place < length es → e ≡ get_or es place e → Lies (length bytes) e
-kept_lies bytes es place e lie low at = subst (Lies (length bytes)) (sym at) (lie place e low)
+pub kept_shown : (bytes : List ℕ) (es : List ListedEntry) (place : ℕ) (d : ListedEntry) (c : Call) → place < length es → c ≡ call_in bytes (get_or es place d).entry
+    → slice_get (calls_listed bytes es) place ≡ Some (record { lane = (get_or es place d).lane; position = (get_or es place d).position; call = noted_in c; end = (get_or es place d).end })
+kept_shown bytes es place d c low is =
+    slice_get-map (listed_in bytes) es place
+    ∙ ap (option_map (listed_in bytes)) (slice_get-get_or es place d low)
+    ∙ ap (λ (x : Call). Some (record { lane = (get_or es place d).lane; position = (get_or es place d).position; call = noted_in x; end = (get_or es place d).end })) (sym is)
 
-pub kept_at : (bytes : List ℕ) (es : List ListedEntry) (place : ℕ) (e : ListedEntry) → place < length es → e ≡ get_or es place e → slice_get (calls_listed bytes es) place ≡ Some (listed_in bytes e)
-kept_at bytes es place e low at = slice_get-map (listed_in bytes) es place ∙ ap (option_map (listed_in bytes)) (slice_get_read es (length es) place e refl low at)
+pub kept_lane : (bytes : List ℕ) (es : List ListedEntry) (place : ℕ) (d : ListedEntry) → place < length es → option_map (λ (l : Listed). l.lane) (slice_get (calls_listed bytes es) place) ≡ Some (get_or es place d).lane
+kept_lane bytes es place d low = ap (option_map (λ (l : Listed). l.lane)) (slice_get-map (listed_in bytes) es place ∙ ap (option_map (listed_in bytes)) (slice_get-get_or es place d low))
 
 -- the call that a lane recorded last is the one that was made
 pub last_is : (calls after : List Noted) (n shown : Noted) (position : ℕ) → after ≡ calls ++ n ∷ [] → position ≡ length calls → slice_get after position ≡ Some shown → shown ≡ n

@@ -18,7 +18,9 @@ use Rattle.history_recorder.specs.declared.noted.Noted.{Noted}
 use Rattle.history_recorder.specs.Lane.{Lane, IsRecorded, deed_noted, max_calls}
 use Rattle.history_recorder.specs.Operations.{lane_of_key}
 use Rattle.history_recorder.specs.Points.{at_point, noted_in}
-use Rattle.shared_cache.specs.Claimed.{Claims, noted_of, recorded_in, recorded_of, IsEnded}
+use Rattle.shared_cache.specs.declared.lane_left.LaneLeft.{LaneLeft}
+use Rattle.shared_cache.specs.Claimed.{noted_of, recorded_of, IsEnded}
+use Rattle.shared_cache.specs.Settled.{AreNumbered, recorded_in}
 use Rattle.shared_cache.specs.Over.{lane_by, IsOver, AreOver}
 
 -- one lane more is over
@@ -120,16 +122,20 @@ over_by honest layout config number lane calls device has is over =
     (subst (λ (s : ℕ). IsOver honest (λ key. (placed_of layout.lanes s (fnv1a key)).lane) number calls device) has.sets over))
 
 -- one lane more is taken apart
-pub over_claimed : {D : Type 0} (honest : D → Bool) (lane_of : List ℕ → ℕ) (cs : List Claims) (ds : List D) (c : Claims) (d : D) (k : ℕ) (calls : List Noted)
-    → k ≡ length cs → c.calls ≡ calls → AreOver honest lane_of 0 (recorded_in cs) ds → IsOver honest lane_of k calls d → AreOver honest lane_of 0 (recorded_in (cs ++ c ∷ [])) (ds ++ d ∷ [])
-over_claimed honest lane_of cs ds c d k calls at is all h =
-    let m : k ≡ 0 + length (recorded_in cs) = let l = length-map cs (λ (x : Claims). x.calls) in omega arith in
-    subst (λ ls. AreOver honest lane_of 0 ls (ds ++ d ∷ [])) (sym (map-append (λ (x : Claims). x.calls) cs (c ∷ [])))
-    (over_more honest lane_of 0 k (recorded_in cs) ds c.calls d m all (subst (λ n. IsOver honest lane_of k n d) (sym is) h))
+pub over_taken : {D : Type 0} (honest : D → Bool) (lane_of : List ℕ → ℕ) (ls : List LaneLeft) (ds : List D) (l : LaneLeft) (d : D) (k : ℕ)
+    → k ≡ length ls → AreOver honest lane_of 0 (recorded_in ls) ds → IsOver honest lane_of k (map noted_in l.recorded) d → AreOver honest lane_of 0 (recorded_in (ls ++ l ∷ [])) (ds ++ d ∷ [])
+over_taken honest lane_of ls ds l d k at all h =
+    let m : k ≡ 0 + length (recorded_in ls) = let many = length-map ls (λ (x : LaneLeft). map noted_in x.recorded) in omega arith in
+    subst (λ cs. AreOver honest lane_of 0 cs (ds ++ d ∷ [])) (sym (map-append (λ (x : LaneLeft). map noted_in x.recorded) ls (l ∷ [])))
+    (over_more honest lane_of 0 k (recorded_in ls) ds (map noted_in l.recorded) d m all h)
+
+pub numbered_more : (number k : ℕ) (ls : List LaneLeft) (l : LaneLeft) → l.lane ≡ k → k ≡ number + length ls → AreNumbered number ls → AreNumbered number (ls ++ l ∷ [])
+numbered_more number k [] l is at all = (let e : l.lane ≡ number = omega arith in e, tt)
+numbered_more number k (x ∷ ls) l is at all = (all.0, numbered_more (suc number) k ls l is (omega arith) all.1)
 
 -- a lane for each that was taken apart
-pub lanes_as_claims : (ls : List (List Done)) (cs : List Claims) → recorded_of ls ≡ recorded_in cs → length ls ≡ length cs
-lanes_as_claims ls cs same = sym (length-map ls (λ (l : List Done). map noted_of l)) ∙ ap length same ∙ length-map cs (λ (x : Claims). x.calls)
+pub lanes_as_left : (lanes : List (List Done)) (ls : List LaneLeft) → recorded_of lanes ≡ recorded_in ls → length lanes ≡ length ls
+lanes_as_left lanes ls same = sym (length-map lanes (λ (l : List Done). map noted_of l)) ∙ ap length same ∙ length-map ls (λ (x : LaneLeft). map noted_in x.recorded)
 
 -- the lanes of a cache have few calls
 pub few_in : {D : Type 0} (honest : D → Bool) (lane_of : List ℕ → ℕ) (ls : List (List Done)) (ds : List D) → AreOver honest lane_of 0 (recorded_of ls) ds → length ls ≤ 16 → length (flat_map calls_of ls) ≤ 2 ^ 28

@@ -1,4 +1,4 @@
--- The lanes' calls, while the calls that passes list claim them. No contract of a public call cites this: it is how
+-- A lane's calls, while the calls that passes list claim them. No contract of a public call cites this: it is how
 -- `finish` goes its way.
 use Rattle.std.specs.Prelude.{◌≡◌, ◌≢◌, ◌↔◌, ◌⊎◌, ℕ, suc, ◌+◌, ◌<◌, ◌≤◌, List, [], ◌∷◌, Option, Some, None, length, map, replicate, slice_get, sum_by}
 use Rattle.std.specs.List.Sorted.{IsPermutation, IsNonDecreasingBy}
@@ -56,15 +56,6 @@ pub record IsClaims (calls : List Call) (ends : List (Option ℕ)) : Type 0 wher
 abbrev pub weigh_slots : (Done → ℕ) → List (Option Done) → ℕ
 weigh_slots h slots = sum_by (λ s. option_map_or h s 0) slots
 
--- the claimed calls of lanes, each weighed with its lane's number, where the first lane has this number
-abbrev pub weigh_lanes : (Stamped → ℕ) → ℕ → List Claims → ℕ
-weigh_lanes h number [] = 0
-weigh_lanes h number (c ∷ cs) = weigh_slots (λ d. h (stamp number d)) c.slots + weigh_lanes h (suc number) cs
-
--- the calls that each lane recorded
-abbrev pub recorded_in : List Claims → List (List Noted)
-recorded_in claims = map (λ c. c.calls) claims
-
 -- the calls of lanes, as each lane recorded them
 abbrev pub recorded_of : List (List Done) → List (List Noted)
 recorded_of lanes = map (λ lane. map noted_of lane) lanes
@@ -88,15 +79,6 @@ pub record IsBy (claims : Claims) (lane : ℕ) (calls : List Listed) : Type 0 wh
   pub many : length claims.slots ≡ length claims.calls
   pub free : (position : ℕ) → position < length claims.calls → ((slice_get claims.slots position ≡ Some None) ↔ IsFree calls lane position)
 
--- the same of each lane
-abbrev pub AreBy : List Claims → List Listed → Type 0
-AreBy lanes calls = (lane : ℕ) (claims : Claims) → slice_get lanes lane ≡ Some claims → IsBy claims lane calls
-
--- these listed calls, all of them their lanes' own, are just what is claimed
-pub record AreMade (lanes : List Claims) (calls : List Listed) : Type 0 where
-  pub by : AreBy lanes calls
-  pub own : AreOwn (recorded_in lanes) calls
-
 -- each position of a lane is claimed
 abbrev pub IsTaken : Claims → Type 0
 IsTaken claims = (position : ℕ) → slice_get claims.slots position ≢ Some None
@@ -106,32 +88,8 @@ abbrev pub IsUnready : List (Option Done) → Unready → Type 0
 IsUnready slots unready.OutOfMemory = Unit {0}
 IsUnready slots (unready.Unclaimed position) = IsFirstFree slots position
 
--- why a lane is not closed
-abbrev pub LeavesOne : ℕ → List (Option Done) → FinishFault → Type 0
-LeavesOne lane slots OutOfMemory = Unit {0}
-LeavesOne lane slots (Unlisted number position) = (number ≡ lane) × IsFirstFree slots position
-LeavesOne lane slots _ = ⊥
-
--- why what passes list is not claimed
-abbrev pub IsNoClaim : List (List Noted) → List Ticket → FinishFault → Type 0
-IsNoClaim recorded passes (Strange caller call) = IsStrange recorded passes caller call
-IsNoClaim recorded passes _ = ⊥
-
--- why the lanes' calls are not those that are listed
-abbrev pub IsNoClose : List (List Noted) → List Listed → FinishFault → Type 0
-IsNoClose recorded calls OutOfMemory = Unit {0}
-IsNoClose recorded calls (Unlisted lane position) = IsUnlisted recorded calls lane position
-IsNoClose recorded calls _ = ⊥
-
 -- why lanes, so many of them, are not taken apart
 abbrev pub IsNoBook : ℕ → FinishFault → Type 0
 IsNoBook count OutOfMemory = Unit {0}
 IsNoBook count (LaneLost lane) = lane < count
 IsNoBook count _ = ⊥
-
--- why lanes are not ended by passes, which go by their callers
-pub record IsNoEnd (recorded : List (List Noted)) (passes : List Ticket) (fault : FinishFault) : Type 0 where
-  pub order : List Ticket
-  pub same : IsPermutation passes order
-  pub sorted : IsNonDecreasingBy (λ p. p.caller) order
-  pub why : IsNoClaim recorded order fault ⊎ IsNoClose recorded (calls_in order) fault

@@ -5,6 +5,7 @@ pub mod Passes
 pub mod Finished
 pub mod Blames
 pub mod Claimed
+pub mod Settled
 pub mod Over
 pub mod Acts
 pub mod Caches

@@ -74,3 +74,12 @@ pub record IsPass (seen : ℕ) (calls : List Listed) (places : List (Option ℕ)
 pub record KeepsCalls (seen : ℕ) (bytes : List ℕ) (entries : List ListedEntry) (places : List (Option ℕ)) : Type 0 where
   pub pass : IsPass seen (calls_listed bytes entries) places
   pub lie : All (λ e. LiesIn (length bytes) e.entry) entries
+
+-- a listed call ends at its point or later
+abbrev pub IsInOrder : Listed → Type 0
+IsInOrder l = l.call.point ≤ l.end
+
+-- what is true of listed calls of which these entries are kept, whose bytes lie in this store
+pub record KeepsListed (bytes : List ℕ) (entries : List ListedEntry) : Type 0 where
+  pub lie : All (λ e. LiesIn (length bytes) e.entry) entries
+  pub ended : All IsInOrder (calls_listed bytes entries)

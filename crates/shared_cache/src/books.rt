@@ -26,6 +26,7 @@ use crate::clock::{Clock, ClockSeat};
 use crate::clock_full::ClockFull;
 use crate::comparing::is_recorded_as;
 use crate::copying::copy_of;
+use crate::listed_calls::ListedCalls;
 use crate::listed_entry::ListedEntry;
 use crate::listed_ref::ListedRef;
 use crate::performing::perform;
@@ -163,25 +164,11 @@ impl Pass {
         Ok(())
     }
 
-    /// The call that it lists at a place, counted from 0, lent.
-    pub(crate) fn at(&self, place: usize) -> ListedRef<'_>
-        requires { place < length self.now.calls }
-        ensures { slice_get self.now.calls place ≡ Some (listed_shown result) }
+    /// The calls that it lists, lent.
+    pub(crate) fn listed(&self) -> ListedCalls<'_>
+        ensures { result ≡ self.now.calls }
     {
-        let kept = self.calls[place];
-        let call = kept.entry.lent(self.bytes.as_slice());
-        ListedRef {
-            lane: kept.lane,
-            position: kept.position,
-            call: NotedRef {
-                caller: call.caller,
-                start: call.start,
-                point: call.end,
-                key: call.key,
-                act: call.act,
-            },
-            end: kept.end,
-        }
+        ListedCalls::new(self.calls.as_slice(), self.bytes.as_slice())
     }
 
     /// Draws a stamp, or takes the last one where the clock is full.
@@ -218,7 +205,7 @@ impl Pass {
         ensures { option_map listed_shown result ≡ former lane self.now.calls }
     {
         match self.former[lane as usize] {
-            Some(place) => Some(self.at(place)),
+            Some(place) => Some(self.listed().at(place)),
             None => None,
         }
     }

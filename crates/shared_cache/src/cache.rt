@@ -33,6 +33,7 @@ use set_hash::place;
 use std::alloc::{AllocError, Global};
 use std::marker::Model;
 use std::sync::{Mutex, Wait};
+use std::thread::Threads;
 
 mod rounds;
 
@@ -210,8 +211,13 @@ impl<D: PageDevice<PAGE>, P: EvictionPolicy + Drop, const PAGE: usize> SharedCac
     /// Ends the cache: lays its lanes' calls out as one history, with the ends that the passes list and the certificate
     /// that lists the calls by point and lane, and hands the devices back.
     ///
-    /// Where the devices are honest the checker accepts the pair. The refusals are those of `FinishFault`, in its order.
-    pub fn finish(self, passes: Vec<Pass>) -> Result<Finished<D>, FinishFault>
+    /// The lanes are gone through side by side, in a thread each where one can be made. Where the devices are honest the
+    /// checker accepts the pair. The refusals are those of `FinishFault`, in its order.
+    pub fn finish<R: Threads + Sync>(
+        self,
+        rt: &R,
+        passes: Vec<Pass>,
+    ) -> Result<Finished<D>, FinishFault>
         ensures missing { (caller : ℕ) → (result ≡ Err (FinishFault.MissingPass caller))
             ↔ IsLeastMissing self.callers passes.items caller }
         ensures finished { IfOk result (λ finished.
@@ -233,8 +239,8 @@ impl<D: PageDevice<PAGE>, P: EvictionPolicy + Drop, const PAGE: usize> SharedCac
         if let Some(caller) = missing(callers, passes.as_slice()) {
             return Err(FinishFault::MissingPass { caller });
         }
-        let (claims, devices) = take_apart(alloc, &config, books)?;
-        let lanes = ended_lanes(alloc, claims, passes)?;
+        let (left, devices) = take_apart(alloc, &config, books)?;
+        let lanes = ended_lanes(rt, alloc, left, passes)?;
         let Ok((history, certificate)) = lay_out(alloc, lanes) else {
             return Err(FinishFault::OutOfMemory);
         };

@@ -1,54 +1,60 @@
 // The lanes of a cache that is over.
-ghost use Rattle.std.specs.Prelude.{◌≡◌, ◌≤◌, ℕ, All, IfOk, IfErr, length, map, sum_by};
+ghost use Rattle.std.specs.Prelude.{◌≡◌, ◌≢◌, ◌≤◌, ℕ, All, IfOk, IfErr, Ok, length, map, sum_by};
 ghost use Rattle.history_recorder.specs.Points.{noted_in};
 ghost use Rattle.certificate_checker.specs.Lanes.{Stamped, stamped};
 ghost use Rattle.shared_cache.specs.Passes.{most_lanes};
+ghost use Rattle.shared_cache.specs.declared.place.Place.{Place};
 ghost use Rattle.shared_cache.specs.Finished.{weigh_passes};
-ghost use Rattle.shared_cache.specs.Claimed.{IsEnded, IsFresh, IsNoBook, IsNoEnd, recorded_in, recorded_of};
+ghost use Rattle.shared_cache.specs.Claimed.{IsEnded, IsNoBook, recorded_of};
+ghost use Rattle.shared_cache.specs.Settled.{AreNumbered, AreSettled, IsFaultOf, IsNoEnd, IsNoneStrange, LeavesOpen, Settles, recorded_in};
 ghost use Rattle.shared_cache.specs.Over.{AreOver, IsOver, lane_by};
 
 use crate::books::{LaneBook, Pass};
-use crate::claims::{claim_passes, close_claims};
+use crate::claims::{first_place, is_refused, place_outside};
 use crate::finish_fault::FinishFault;
-use crate::lane_claims::LaneClaims;
+use crate::lane_fault::LaneFault;
+use crate::lane_left::LaneLeft;
+use crate::listed_calls::ListedCalls;
+use crate::settling::settle;
 use crossbeam_utils::CachePadded;
 use history_recorder::{Dones, RecordedParts};
 use page_device::PageDevice;
 use record_pages::Config;
-use std::alloc::Global;
+use std::alloc::{AllocError, Global};
 use std::collections::VecDeque;
 use std::sync::Mutex;
+use std::thread;
+use std::thread::Threads;
 
-/// The calls of the lanes, none of them claimed, and the devices, both in the order of the lanes.
+/// The numbers and the calls of the lanes, and the devices, both in the order of the lanes.
 pub(crate) fn take_apart<D: PageDevice<PAGE>, const PAGE: usize>(
     alloc: Global,
     config: &Config,
     books: Vec<Mutex<CachePadded<LaneBook<D, PAGE>>>>,
-) -> Result<(Vec<LaneClaims>, Vec<D>), FinishFault>
+) -> Result<(Vec<LaneLeft>, Vec<D>), FinishFault>
     requires { length books.items ≤ most_lanes }
     ensures over { IfOk result (λ taken.
         AreOver D.honest (lane_by config.now) 0 (recorded_in taken.0.items) taken.1.items) }
     ensures count { IfOk result (λ taken. length taken.0.items ≡ length books.items) }
     ensures devices { IfOk result (λ taken. length taken.1.items ≡ length books.items) }
-    ensures fresh { IfOk result (λ taken. All IsFresh taken.0.items) }
+    ensures numbered { IfOk result (λ taken. AreNumbered 0 taken.0.items) }
     ensures lost { IfErr result (IsNoBook (length books.items)) }
 {
-    let mut claims = Vec::new(alloc);
+    let mut lanes = Vec::new(alloc);
     let mut devices = Vec::new(alloc);
     let mut left = VecDeque::from(books);
     while let Some(lock) = left.pop_front() {
-        let parts = parts_of(lock, claims.len() as u32, config)?;
-        let Ok(of_lane) = LaneClaims::new(alloc, parts.calls) else {
-            return Err(FinishFault::OutOfMemory);
-        };
-        let Ok(()) = claims.push(of_lane) else {
+        let lane = lanes.len() as u32;
+        let parts = parts_of(lock, lane, config)?;
+        let recorded = parts.calls;
+        let Ok(()) = lanes.push(LaneLeft { lane, recorded }) else {
             return Err(FinishFault::OutOfMemory);
         };
         let Ok(()) = devices.push(parts.device) else {
             return Err(FinishFault::OutOfMemory);
         };
     }
-    Ok((claims, devices))
+    Ok((lanes, devices))
 }
 
 /// The calls and the device of the lane with this number, if its book stands there.
@@ -69,26 +75,102 @@ fn parts_of<D: PageDevice<PAGE>, const PAGE: usize>(
 }
 
 /// The lanes' calls with the ends that the passes list, if each is listed once and as it was recorded. The passes go by their
-/// callers.
-pub(crate) fn ended_lanes(
+/// callers, and the lanes are gone through side by side.
+pub(crate) fn ended_lanes<R: Threads + Sync>(
+    rt: &R,
     alloc: Global,
-    claims: Vec<LaneClaims>,
+    left: Vec<LaneLeft>,
     passes: Vec<Pass>,
 ) -> Result<Vec<Dones>, FinishFault>
-    requires few { length claims.items ≤ most_lanes }
-    requires fresh { All IsFresh claims.items }
+    requires few { length left.items ≤ most_lanes }
+    requires numbered { AreNumbered 0 left.items }
     ensures listed { IfOk result (λ lanes. (h : Stamped → ℕ) →
         sum_by h (stamped lanes.items) ≡ weigh_passes h passes.items) }
-    ensures calls { IfOk result (λ lanes. recorded_of lanes.items ≡ recorded_in claims.items) }
+    ensures calls { IfOk result (λ lanes. recorded_of lanes.items ≡ recorded_in left.items) }
     ensures ended { IfOk result (λ lanes. All (All IsEnded) lanes.items) }
-    ensures refused { IfErr result (IsNoEnd (recorded_in claims.items) passes.items) }
+    ensures refused { IfErr result (IsNoEnd (recorded_in left.items) passes.items) }
 {
-    let mut claims = claims;
     let mut passes = passes;
     passes.sort_unstable_by_key(|pass| pass.caller());
-    claim_passes(&mut claims, passes)?;
-    match close_claims(alloc, claims) {
+    let lanes = left.len();
+    let lists = lists_of(alloc, passes.as_slice())?;
+    let settled = settle_all(rt, alloc, left, lists.as_slice())?;
+    if is_refused(settled.as_slice()) {
+        return Err(FinishFault::OutOfMemory);
+    }
+    let outside = place_outside(lanes, lists.as_slice());
+    if let Some(place) = first_place(settled.as_slice(), outside) {
+        return Err(FinishFault::Strange {
+            caller: passes[place.pass].caller(),
+            call: place.call,
+        });
+    }
+    match all_settled(alloc, settled) {
         Ok(lanes) => Ok(lanes),
         Err(fault) => Err(fault),
+    }
+}
+
+/// The calls that each pass lists, lent.
+fn lists_of(alloc: Global, passes: &[Pass]) -> Result<Vec<ListedCalls<'_>>, AllocError>
+    ensures { IfOk result (λ lists. lists.items ≡ map (λ p. p.calls) passes.now) }
+{
+    let mut lists = Vec::with_capacity(alloc, passes.len())?;
+    for pass in passes {
+        lists.push(pass.listed())?;
+    }
+    Ok(lists)
+}
+
+/// What comes of each lane, by the calls that are listed.
+fn settle_all<R: Threads + Sync>(
+    rt: &R,
+    alloc: Global,
+    left: Vec<LaneLeft>,
+    lists: &[ListedCalls<'_>],
+) -> Result<Vec<Result<Dones, LaneFault>>, AllocError>
+    requires { AreNumbered 0 left.items }
+    ensures { IfOk result (λ settled.
+        AreSettled 0 lists.now (recorded_in left.items) settled.items) }
+{
+    let settled = |of_lane: LaneLeft| -> Result<Dones, LaneFault>
+        ensures { Settles of_lane.lane (map noted_in of_lane.recorded) lists.entry.now result }
+    { settle(alloc, of_lane, lists) };
+    thread::map_vec(rt, left, &settled)
+}
+
+/// The calls of the lanes with their ends, if each lane was settled.
+fn all_settled(
+    alloc: Global,
+    settled: Vec<Result<Dones, LaneFault>>,
+) -> Result<Vec<Dones>, FinishFault>
+    requires none { IsNoneStrange settled.items }
+    requires few { length settled.items ≤ most_lanes }
+    ensures all { IfOk result (λ lanes. settled.items ≡ map Ok lanes.items) }
+    ensures refused { IfErr result (LeavesOpen settled.items) }
+{
+    let mut lanes = Vec::new(alloc);
+    let mut left = VecDeque::from(settled);
+    while let Some(of_lane) = left.pop_front() {
+        let dones = match of_lane {
+            Ok(dones) => dones,
+            Err(fault) => return Err(fault_of(lanes.len() as u32, fault)),
+        };
+        let Ok(()) = lanes.push(dones) else {
+            return Err(FinishFault::OutOfMemory);
+        };
+    }
+    Ok(lanes)
+}
+
+/// Why a lane was not settled, where it is not that a call is strange.
+fn fault_of(lane: u32, fault: LaneFault) -> FinishFault
+    requires { (place : Place) → fault ≢ LaneFault.Strange place }
+    ensures { IsFaultOf lane fault result }
+{
+    match fault {
+        LaneFault::OutOfMemory => FinishFault::OutOfMemory,
+        LaneFault::Unlisted { position } => FinishFault::Unlisted { lane, position },
+        LaneFault::Strange { place: _ } => unreachable!(),
     }
 }

@@ -19,6 +19,9 @@ mod ending;
 mod finish_fault;
 mod finished;
 mod lane_claims;
+mod lane_fault;
+mod lane_left;
+mod listed_calls;
 mod listed_entry;
 mod listed_ref;
 mod moved;
@@ -26,6 +29,8 @@ mod open_cache_fault;
 mod opening;
 mod outcome;
 mod performing;
+mod place;
+mod settling;
 
 pub use act_fault::ActFault;
 pub use acted::Acted;

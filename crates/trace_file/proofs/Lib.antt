@@ -1,5 +1,6 @@
 pub mod Countings
 pub mod DropLaws
+pub mod Extending
 pub mod Formats
 pub mod ItemFormats
 pub mod Meetings

@@ -1,4 +1,5 @@
 pub mod Calls
+pub mod Ending
 pub mod FaultText
 pub mod Given
 pub mod Lent

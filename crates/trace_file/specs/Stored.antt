@@ -1,5 +1,5 @@
 -- How the calls of a history lie in one store of bytes.
-use Rattle.std.specs.Prelude.{ℕ, ◌+◌, ◌<◌, ◌≤◌, ◌^◌, List, take, drop, map, All, AllPairs}
+use Rattle.std.specs.Prelude.{ℕ, ◌+◌, ◌<◌, ◌≤◌, ◌^◌, List, [], ◌∷◌, take, drop, map, All, AllPairs}
 use Rattle.trace_file.specs.declared.act.Act.{Act}
 use Rattle.trace_file.specs.declared.act.Act.TheVariants as acts
 use Rattle.trace_file.specs.declared.call.Call.{Call}
@@ -31,6 +31,28 @@ call_in store e = record {
 -- the calls that entries stand for, in their order
 abbrev pub calls_in : List ℕ → List Entry → List Call
 calls_in store entries = map (call_in store) entries
+
+-- entries, the first of them each with an end of its own
+abbrev pub each_ended : List Entry → List ℕ → List Entry
+each_ended (e ∷ es) (end ∷ ends) = record e { end = end } ∷ each_ended es ends
+each_ended es ends = es
+
+-- an entry that lies so many bytes farther, with another end
+abbrev pub moved_by : ℕ → Entry → ℕ → Entry
+moved_by bytes e end = record {
+  start = e.start;
+  end = end;
+  offset = e.offset + bytes;
+  caller = e.caller;
+  value_len = e.value_len;
+  key_len = e.key_len;
+  kind = e.kind;
+}
+
+-- entries that lie so many bytes farther, each with an end of its own
+abbrev pub each_moved : ℕ → List Entry → List ℕ → List Entry
+each_moved bytes (e ∷ es) (end ∷ ends) = moved_by bytes e end ∷ each_moved bytes es ends
+each_moved bytes es ends = []
 
 -- an entry of a store of so many bytes: its parts lie in it, with lawful lengths
 pub record LiesIn (size : ℕ) (e : Entry) : Type 0 where

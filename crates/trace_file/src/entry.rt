@@ -2,7 +2,7 @@
 ghost use Rattle.std.specs.Prelude.{◌≡◌, ◌+◌, ◌<◌, ◌^◌, ◌++◌, List, ℕ, length};
 ghost use Rattle.trace_file.specs.Calls.{IsCall, value_of};
 ghost use Rattle.trace_file.specs.Lent.{act_shown, call_shown};
-ghost use Rattle.trace_file.specs.Stored.{LiesIn, act_of, call_in};
+ghost use Rattle.trace_file.specs.Stored.{LiesIn, act_of, call_in, moved_by};
 
 use crate::act_ref::ActRef;
 use crate::call_ref::CallRef;
@@ -58,6 +58,20 @@ impl Entry {
             end: self.end,
             key: &store[self.offset..key_end],
             act: lent(self.kind, &store[key_end..value_end]),
+        }
+    }
+}
+
+impl Entry {
+    /// The entry of a call that lies so many bytes farther, and has this end.
+    pub(crate) fn moved(self, bytes: usize, end: u64) -> Entry
+        requires { self.offset + bytes < 2 ^ 64 }
+        ensures { result ≡ moved_by bytes self end }
+    {
+        Entry {
+            end,
+            offset: self.offset + bytes,
+            ..self
         }
     }
 }

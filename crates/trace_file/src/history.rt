@@ -1,5 +1,7 @@
 // Recorded calls in the order in which they were recorded.
 ghost use Rattle.std.specs.Prelude.{◌≡◌, ◌+◌, ◌-◌, ◌^◌, ◌<◌, ◌≤◌, [], ◌∷◌, ◌++◌, ◌↔◌, All, IsTrue, List, ℕ, Some, length, OnOk, OnErr, slice_get, take, drop};
+ghost use Rattle.std.specs.Vec.{vec_capacity};
+ghost use Rattle.trace_file.specs.Stored.{each_ended, each_moved};
 
 use crate::call::Call;
 use crate::call_ref::CallRef;
@@ -32,6 +34,7 @@ impl Model for History {
 impl History {
     ghost use Rattle.trace_file.specs.Calls.{IsCall};
     ghost use Rattle.trace_file.specs.Lent.{call_shown};
+    ghost use Rattle.trace_file.specs.Ending.{each_ending};
 
     /// The history with no calls. It takes no memory.
     pub fn new(alloc: Global) -> History
@@ -78,6 +81,33 @@ impl History {
         Ok(())
     }
 
+    /// Records the calls of another history after the others, each with an end of its own in place of that which it has
+    /// there, or leaves the history as it was where memory is refused. The bytes are copied at once.
+    pub fn extend_ending(&mut self, calls: &History, ends: &[u64]) -> Result<(), AllocError>
+        requires { length ends.now ≡ length calls.now }
+        ensures ok { OnOk result (self.new ≡ self.old ++ each_ending calls.now ends.now) }
+        ensures err { OnErr result (self.new ≡ self.old) }
+    {
+        let offset = self.store.len();
+        self.entries.reserve(ends.len())?;
+        self.store.reserve(calls.store.len())?;
+        self.store
+            .extend_from_slice(calls.store.as_slice())
+            .unwrap();
+        push_moved(&mut self.entries, calls.entries.as_slice(), ends, offset);
+        Ok(())
+    }
+
+    /// The same calls, each with an end of its own in place of that which it has. It takes no memory.
+    pub fn ending(self, ends: &[u64]) -> History
+        requires { length ends.now ≡ length self }
+        ensures { result ≡ each_ending self ends.now }
+    {
+        let History { mut entries, store } = self;
+        set_ends(&mut entries, ends);
+        History { entries, store }
+    }
+
     /// Takes the last call off, if there is one, with its bytes.
     pub fn drop_last(&mut self)
         ensures { self.new ≡ take (length self.old - 1) self.old }
@@ -119,4 +149,28 @@ fn put_behind(
     store.extend_from_slice(value).unwrap();
     entries.push(entry).unwrap();
     Ok(())
+}
+
+/// Puts other entries, for which there is room, behind the entries, each so many bytes farther and with an end of its own.
+fn push_moved(entries: &mut Vec<Entry>, others: &[Entry], ends: &[u64], bytes: usize)
+    requires many { length ends.now ≡ length others.now }
+    requires room { length entries.old.items + length others.now ≤ vec_capacity entries.old }
+    requires low { All (λ e. e.offset + bytes < 2 ^ 64) others.now }
+    ensures { entries.new.items ≡ entries.old.items ++ each_moved bytes others.now ends.now }
+{
+    for place in 0..others.len() {
+        let entry = others[place].moved(bytes, ends[place]);
+        entries.push_reserved(entry);
+    }
+}
+
+/// Gives each entry an end of its own.
+fn set_ends(entries: &mut Vec<Entry>, ends: &[u64])
+    requires { length ends.now ≡ length entries.old.items }
+    ensures { entries.new.items ≡ each_ended entries.old.items ends.now }
+{
+    for place in 0..entries.len() {
+        let entry = &mut entries[place];
+        entry.end = ends[place];
+    }
 }

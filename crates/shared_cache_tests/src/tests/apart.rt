@@ -5,6 +5,7 @@ use super::numbered_device::NumberedDevice;
 use super::run::{key, value};
 use super::*;
 use std::sync::Wait;
+use std::thread::Threads;
 
 type Apart = SharedCache<NumberedDevice, Rriparoo, 256>;
 
@@ -111,13 +112,13 @@ fn is_own(device: &NumberedDevice, number: u32, lane: u32) -> bool {
 }
 
 // Whether the rounds of a row reach the device of their lane alone.
-fn holds<R: Wait>(rt: &R, alloc: Global, row: &Row) -> Result<bool, Fail> {
+fn holds<R: Threads + Wait + Sync>(rt: &R, alloc: Global, row: &Row) -> Result<bool, Fail> {
     let (cache, passes) = Apart::open(alloc, &TWO_LANES, numbered(alloc)?, Rriparoo, 1)?;
     let mut pass = only(&cache, passes)?;
     if row.lane >= 2 || !are_put(rt, alloc, &cache, &mut pass, row) || !are_done(rt, &cache, row) {
         return Ok(false);
     }
-    let finished = cache.finish(listed(alloc, pass)?)?;
+    let finished = cache.finish(rt, listed(alloc, pass)?)?;
     Ok(are_apart(finished.devices.as_slice(), row.lane))
 }
 

@@ -1,15 +1,20 @@
 //! When a cache is not finished: a pass is missing, or the passes do not list just the calls that were recorded.
 use super::*;
 use std::sync::Wait;
+use std::thread::Threads;
 
 // Why a cache of two callers is not finished without the pass at one place.
-fn without(alloc: Global, place: usize) -> Result<Option<FinishFault>, Fail> {
+fn without<R: Threads + Sync>(
+    rt: &R,
+    alloc: Global,
+    place: usize,
+) -> Result<Option<FinishFault>, Fail> {
     let (cache, passes) = opened(alloc, &ONE_SET, 2)?;
     let mut passes = passes;
     if place < passes.len() {
         passes.swap_remove(place);
     }
-    fault_of(cache.finish(passes))
+    fault_of(cache.finish(rt, passes))
 }
 
 #[test]
@@ -17,9 +22,9 @@ fn each_caller_gives_its_pass_back(rt: HostRuntime) -> Result<(), Fail> {
     let alloc = rt.alloc();
     let first = Some(FinishFault::MissingPass { caller: 0 });
     let second = Some(FinishFault::MissingPass { caller: 1 });
-    assert_eq!(rt; without(alloc, 0)?, first);
-    assert_eq!(rt; without(alloc, 1)?, second);
-    assert_eq!(rt; without(alloc, 2)?, None);
+    assert_eq!(rt; without(&rt, alloc, 0)?, first);
+    assert_eq!(rt; without(&rt, alloc, 1)?, second);
+    assert_eq!(rt; without(&rt, alloc, 2)?, None);
     Ok(())
 }
 
@@ -58,7 +63,22 @@ const PUT_TWO: [Step; 2] = [
     Step::Put(b"bx", b"2", Pushed::Nobody),
 ];
 
-const ROWS: [Row; 8] = [
+const PUT_OTHER: [Step; 1] = [Step::Put(b"bx", b"2", Pushed::Nobody)];
+
+const PUT_OTHER_ELSE: [Step; 1] = [Step::Put(b"bx", b"9", Pushed::Nobody)];
+
+const PUT_TWO_ELSE: [Step; 2] = [
+    Step::Put(b"bx", b"9", Pushed::Nobody),
+    Step::Put(b"ax", b"9", Pushed::Nobody),
+];
+
+// The key of the other lane is of the last of four.
+const FOUR_LANES: Config = Config {
+    lanes: 4,
+    ..ONE_SET
+};
+
+const ROWS: [Row; 10] = [
     Row {
         own: &PUT_TWO,
         other: &NO_CALL,
@@ -85,6 +105,20 @@ const ROWS: [Row; 8] = [
         other: &PUT_AND_GET,
         given: Given::Others,
         fault: Some(FinishFault::Strange { caller: 0, call: 1 }),
+    },
+    // A call of each lane: the first by its place, not by its lane.
+    Row {
+        own: &PUT_TWO,
+        other: &PUT_TWO_ELSE,
+        given: Given::Others,
+        fault: Some(FinishFault::Strange { caller: 0, call: 0 }),
+    },
+    // In the lane before it a call is not listed, which is told later.
+    Row {
+        own: &PUT_TWO,
+        other: &PUT_OTHER_ELSE,
+        given: Given::Others,
+        fault: Some(FinishFault::Strange { caller: 0, call: 0 }),
     },
     // A call that is listed twice.
     Row {
@@ -134,22 +168,31 @@ fn at_once(ran: Ran, calls: usize) -> Result<Pass, Fail> {
 }
 
 // A cache of one caller, after these calls, and its pass.
-fn called<R: Wait>(rt: &R, alloc: Global, steps: &[Step]) -> Result<(Cache, Pass), Fail> {
-    let (cache, passes) = opened(alloc, &TWO_LANES, 1)?;
+fn called<R: Wait>(
+    rt: &R,
+    alloc: Global,
+    config: &Config,
+    steps: &[Step],
+) -> Result<(Cache, Pass), Fail> {
+    let (cache, passes) = opened(alloc, config, 1)?;
     let ran = run(rt, alloc, &cache, only(&cache, passes)?, steps);
     Ok((cache, at_once(ran, steps.len())?))
 }
 
 // Why the cache of a row is not finished.
-fn fault<R: Wait>(rt: &R, alloc: Global, row: &Row) -> Result<Option<FinishFault>, Fail> {
-    let (cache, own) = called(rt, alloc, row.own)?;
-    let (_, other) = called(rt, alloc, row.other)?;
+fn fault<R: Threads + Wait + Sync>(
+    rt: &R,
+    alloc: Global,
+    row: &Row,
+) -> Result<Option<FinishFault>, Fail> {
+    let (cache, own) = called(rt, alloc, &TWO_LANES, row.own)?;
+    let (_, other) = called(rt, alloc, &TWO_LANES, row.other)?;
     let given = match row.given {
         Given::Own => listed(alloc, own)?,
         Given::Others => listed(alloc, other)?,
         Given::Both => both(alloc, own, other)?,
     };
-    fault_of(cache.finish(given))
+    fault_of(cache.finish(rt, given))
 }
 
 #[test]
@@ -158,6 +201,16 @@ fn the_passes_list_just_the_recorded_calls(rt: HostRuntime) -> Result<(), Fail> 
         let row = &ROWS[number];
         assert_eq!(rt; fault(&rt, rt.alloc(), row)?, row.fault, "row {number}");
     }
+    Ok(())
+}
+
+#[test]
+fn a_call_of_no_lane_is_strange(rt: HostRuntime) -> Result<(), Fail> {
+    let alloc = rt.alloc();
+    let (cache, _) = called(&rt, alloc, &TWO_LANES, &PUT_OTHER)?;
+    let (_, wider) = called(&rt, alloc, &FOUR_LANES, &PUT_OTHER)?;
+    let fault = fault_of(cache.finish(&rt, listed(alloc, wider)?))?;
+    assert_eq!(rt; fault, Some(FinishFault::Strange { caller: 0, call: 0 }));
     Ok(())
 }
 

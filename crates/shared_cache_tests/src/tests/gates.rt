@@ -131,7 +131,7 @@ fn meeting<R: Threads + Wait + Sync>(
     let (first, second) = two_of(&cache, passes)?;
     let first = as_written(run(rt, alloc, &cache, first, &TO_THE_DEVICE))?;
     let (one, two) = at_the_gate(rt, alloc, &cache, &gate, first, at_gate, second, beside);
-    let ended = cache.finish(both(alloc, as_written(one)?, as_written(two)?)?);
+    let ended = cache.finish(rt, both(alloc, as_written(one)?, as_written(two)?)?);
     accepted(alloc, ended)
 }
 

@@ -39,7 +39,7 @@ fn a_hit_of_a_replaced_value_is_rejected(rt: HostRuntime) -> Result<(), Fail> {
     let (cache, passes) = going_back(alloc)?;
     let ran = run(&rt, alloc, &cache, only(&cache, passes)?, &REPLACED);
     assert_eq!(rt; ran.strayed, None);
-    let finished = cache.finish(listed(alloc, ran.pass)?)?;
+    let finished = cache.finish(&rt, listed(alloc, ran.pass)?)?;
     assert_eq!(rt;
         check(alloc, &finished.history, &finished.certificate)?,
         Verdict::Rejected(Fault::WrongHit { place: 4 })

@@ -321,7 +321,7 @@ fn many_threads_find_values_in_all_tiers(rt: HostRuntime) -> Result<(), Fail> {
     let (passes, tally) = gathered(alloc, beside_workers(&rt, alloc, &cache, passes)?)?;
     assert_eq!(rt; tally.refused, 0);
     assert!(rt; tally.memory > 0 && tally.log > 0 && tally.set > 0);
-    let ended = cache.finish(passes);
+    let ended = cache.finish(&rt, passes);
     assert_eq!(rt; accepted(alloc, ended)?, Some(800_000));
     Ok(())
 }

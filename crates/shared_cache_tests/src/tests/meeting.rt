@@ -60,7 +60,7 @@ fn two_plans_of_a_lane_are_made_at_once(rt: HostRuntime) -> Result<(), Fail> {
     let (first, second) = two_of(&cache, passes)?;
     let first = as_written(run(&rt, alloc, &cache, first, &TO_THE_DEVICE))?;
     let (one, two) = side_by_side(&rt, alloc, &cache, first, second);
-    let ended = cache.finish(both(alloc, as_written(one)?, as_written(two)?)?);
+    let ended = cache.finish(&rt, both(alloc, as_written(one)?, as_written(two)?)?);
     assert_eq!(rt; accepted(alloc, ended)?, Some(3));
     Ok(())
 }

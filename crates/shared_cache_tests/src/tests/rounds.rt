@@ -23,7 +23,7 @@ fn the_rounds_bring_a_value_to_its_page(rt: HostRuntime) -> Result<(), Fail> {
     let (cache, passes) = opened(alloc, &ONE_SET, 1)?;
     let ran = run(&rt, alloc, &cache, only(&cache, passes)?, &TWICE_WRITTEN);
     assert_eq!(rt; ran.strayed, None);
-    let ended = cache.finish(listed(alloc, ran.pass)?);
+    let ended = cache.finish(&rt, listed(alloc, ran.pass)?);
     assert_eq!(rt; accepted(alloc, ended)?, Some(5));
     Ok(())
 }
@@ -53,7 +53,7 @@ fn the_word_of_a_put_decides_of_what_leaves_memory(rt: HostRuntime) -> Result<()
     let (cache, passes) = opened(alloc, &HALF, 1)?;
     let ran = run(&rt, alloc, &cache, only(&cache, passes)?, &BY_WORD);
     assert_eq!(rt; ran.strayed, None);
-    let ended = cache.finish(listed(alloc, ran.pass)?);
+    let ended = cache.finish(&rt, listed(alloc, ran.pass)?);
     assert_eq!(rt; accepted(alloc, ended)?, Some(9));
     Ok(())
 }

@@ -55,7 +55,7 @@ fn two_threads_each_find_their_own(rt: HostRuntime) -> Result<(), Fail> {
     let (first, second) = two_of(&cache, passes)?;
     let (one, two) = in_threads(&rt, alloc, &cache, first, second);
     let passes = both(alloc, as_written(one)?, as_written(two)?)?;
-    let ended = cache.finish(passes);
+    let ended = cache.finish(&rt, passes);
     assert_eq!(rt; accepted(alloc, ended)?, Some(8));
     Ok(())
 }
@@ -104,7 +104,7 @@ fn a_later_thread_starts_above_the_ends_of_a_joined_one(rt: HostRuntime) -> Resu
     let (first, second) = two_of(&cache, passes)?;
     let one = in_a_thread(&rt, alloc, &cache, first, &FIRST);
     let two = in_a_thread(&rt, alloc, &cache, second, &SECOND);
-    let finished = cache.finish(both(alloc, as_written(one)?, as_written(two)?)?)?;
+    let finished = cache.finish(&rt, both(alloc, as_written(one)?, as_written(two)?)?)?;
     assert_eq!(rt; finished.history.len(), 8);
     assert!(rt; is_after(&finished.history));
     Ok(())
@@ -125,7 +125,7 @@ fn a_full_clock_refuses_calls_and_records_none(rt: HostRuntime) -> Result<(), Fa
     let alloc = rt.alloc();
     let (cache, passes) = opened(alloc, &MANY, 1)?;
     let ran = run(&rt, alloc, &cache, only(&cache, passes)?, &UNTIL_FULL);
-    let ended = cache.finish(listed(alloc, as_written(ran)?)?);
+    let ended = cache.finish(&rt, listed(alloc, as_written(ran)?)?);
     assert_eq!(rt; accepted(alloc, ended)?, Some(1));
     Ok(())
 }

@@ -1,14 +1,14 @@
-use Rattle.std.proofs.Common.{◌≡◌, ◌+◌, All, length}
-use Rattle.shared_cache.specs.Claimed.{IsFresh, recorded_in}
+use Rattle.std.proofs.Common.{◌≡◌, ◌+◌, length}
+use Rattle.shared_cache.specs.Settled.{AreNumbered, recorded_in}
 use Rattle.shared_cache.specs.Over.{AreOver, lane_by}
 use Rattle.shared_cache.proofs.ending.take_apart.Given as goal
 
 abbrev pub invariant-loop-lock : goal.invariant-loop-lock
 invariant-loop-lock g l = record {
-  over : AreOver g.D.PageDevice.honest (lane_by l.config) 0 (recorded_in l.claims.items) l.devices.items;
-  fresh : All IsFresh l.claims.items;
-  devices : length l.devices.items ≡ length l.claims.items;
-  left : length l.claims.items + length l.left.items ≡ length l.fn.books.items;
+  over : AreOver g.D.PageDevice.honest (lane_by l.config) 0 (recorded_in l.lanes.items) l.devices.items;
+  numbered : AreNumbered 0 l.lanes.items;
+  devices : length l.devices.items ≡ length l.lanes.items;
+  left : length l.lanes.items + length l.left.items ≡ length l.fn.books.items;
 }
 
 abbrev pub decreases-loop-lock : goal.decreases-loop-lock

@@ -1,0 +1,13 @@
+// Why a lane was not settled.
+use crate::place::Place;
+
+/// Why a lane's calls did not get their ends.
+#[derive(Clone, Copy, Debug, Drop)]
+pub(crate) enum LaneFault {
+    /// Memory was refused.
+    OutOfMemory,
+    /// The call that is listed here is of the lane, and not the one at its position, or that was listed before.
+    Strange { place: Place },
+    /// No pass lists the call at this position.
+    Unlisted { position: usize },
+}
