@@ -2,6 +2,8 @@
 use certificate_checker::Judged;
 use command_line::{Ended, Ending, FileName, Line, LineFault, check_file, no_text, parse_line};
 use std::alloc::Global;
+use std::io;
+use std::io::ErrorKind;
 use std::test::Fail;
 
 /// What words ask for.
@@ -126,6 +128,18 @@ fn each_ending_tells_what_failed(rt: HostRuntime) {
     );
     assert!(rt; tells(alloc, Ending::OutOfMemory, b"out of memory\n"));
     assert!(rt; tells(alloc, Ending::BadInput, b"") && tells(alloc, Ending::Done, b""));
+}
+
+#[test]
+fn a_system_without_random_numbers_is_told(rt: HostRuntime) {
+    let mut told: Vec<u8> = Vec::new(rt.alloc());
+    let ended = Ended::without_random(io::Error::from(ErrorKind::PermissionDenied));
+    assert_eq!(rt; ended.ending, Ending::FileFault);
+    ended.tell(&mut told);
+    assert_eq!(rt;
+        told.as_slice(),
+        b"file fault\nno random numbers: permission denied\n".as_slice()
+    );
 }
 
 #[test]
