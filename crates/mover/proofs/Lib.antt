@@ -5,6 +5,7 @@ pub mod Lanes
 pub mod Flying
 pub mod FlightLists
 pub mod Getting
+pub mod Telling
 pub mod Putting
 pub mod Showing
 pub mod Firsts

@@ -1,22 +1,21 @@
 -- Which positions of a lane are free, and what passes tell of them.
-use Rattle.std.proofs.Common.{◌≡◌, ◌≢◌, ◌⊎◌, ◌∙◌, ℕ, zero, suc, ◌+◌, ◌<◌, ◌≤◌, List, [], ◌∷◌, ◌++◌, length, map, take, set, get_or, replicate, Option, Some, None, slice_get, All, sym, refl, ap, subst, inl, inr, arith, append_assoc, append-nil, length-append, length-set}
+use Rattle.std.proofs.Common.{◌≡◌, ◌≢◌, ◌∙◌, ℕ, zero, suc, ◌+◌, ◌<◌, ◌≤◌, List, [], ◌∷◌, ◌++◌, length, map, set, replicate, Option, Some, None, slice_get, All, sym, refl, ap, subst, inl, inr, arith, append-nil, length-append, length-set}
 use Rattle.std.specs.List.{Contains}
 use Rattle.std.specs.List.Sorted.{IsPermutation}
-use Rattle.std.proofs.Math.Seq.{take-append_seam}
 use Rattle.std.proofs.lemmas.Bool.{cases_eq}
-use Rattle.std.proofs.lemmas.List.{get_or_append_left, get_or-append-add, length-map, take-append-le}
+use Rattle.std.proofs.lemmas.List.{get_or_append_left, get_or-append-add, length-map}
 use Rattle.std.proofs.lemmas.List.Elements.{All-append, All-cons, All-head, All-nil, All-tail}
 use Rattle.std.proofs.lemmas.List.Sorted.{All-permutation, Contains-permutation, IsPermutation-sym}
-use Rattle.std.proofs.lemmas.Option.{slice_get-get_or, slice_get_within, same_Some}
+use Rattle.std.proofs.lemmas.Option.{slice_get_within, same_Some}
 use Rattle.history_recorder.specs.declared.noted.Noted.{Noted}
-use Rattle.history_recorder.proofs.Indexing.{set_here as is_set, set_elsewhere, at_so}
-use Rattle.history_recorder.proofs.Stamps.{found_before, found_left, found_right, set_here, set_there}
+use Rattle.history_recorder.proofs.Indexing.{at_so}
+use Rattle.history_recorder.proofs.Stamps.{found_right, set_here, set_there}
 use Rattle.certificate_checker.specs.declared.done.Done.{Done}
 use Rattle.shared_cache.specs.declared.finish_fault.FinishFault.{FinishFault}
 use Rattle.shared_cache.specs.declared.finish_fault.FinishFault.TheVariants.{MissingPass, Strange, OutOfMemory, LaneLost, Unlisted}
 use Rattle.shared_cache.specs.Listed.{Listed}
 use Rattle.shared_cache.specs.Passes.{Ticket}
-use Rattle.shared_cache.specs.Blames.{AreOwn, Blames, IsFirstStrange, IsFree, IsOfPlace, IsOwn, IsStrange, IsUnlisted, calls_in, recorded_at}
+use Rattle.shared_cache.specs.Blames.{Blames, IsFree, IsOfPlace, calls_in, recorded_at}
 use Rattle.shared_cache.specs.Claimed.{Claims, IsBy, IsFirstFree, IsTaken}
 use Rattle.shared_cache.specs.Settled.{IsNotOwn}
 

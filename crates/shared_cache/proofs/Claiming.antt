@@ -1,14 +1,11 @@
 -- Calls that are claimed one by one.
-use Rattle.std.proofs.Common.{◌≡◌, ℕ, zero, suc, ◌+◌, ◌≤◌, List, [], ◌∷◌, ◌++◌, length, Option, Some, None, slice_get, All, refl, ap, ◌∙◌, arith, set, replicate, length-append}
+use Rattle.std.proofs.Common.{◌≡◌, ℕ, zero, suc, ◌+◌, List, [], ◌∷◌, length, Option, Some, None, slice_get, refl, ap, ◌∙◌, arith, set, replicate}
 use Rattle.std.proofs.lemmas.List.Sums.{sum_by-cons}
-use Rattle.std.proofs.lemmas.Option.{same_Some}
 use Rattle.std.specs.Option.{option_map_or}
 use Rattle.history_recorder.specs.declared.noted.Noted.{Noted}
 use Rattle.certificate_checker.specs.declared.done.Done.{Done}
 use Rattle.shared_cache.specs.Listed.{Listed}
 use Rattle.shared_cache.specs.Finished.{done_of}
-use Rattle.shared_cache.specs.Passes.{IsTimely}
-use Rattle.history_recorder.proofs.Indexing.{at_so}
 use Rattle.shared_cache.specs.Claimed.{Claims, noted_of, IsEnded, AreClaimed, weigh_slots}
 
 -- no call is claimed

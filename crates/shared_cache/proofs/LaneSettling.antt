@@ -7,11 +7,10 @@ use Rattle.std.proofs.lemmas.List.Elements.{All-append, All-nil}
 use Rattle.std.proofs.lemmas.Option.{get_or_from_slice_get, same_Some, slice_get_within}
 use Rattle.history_recorder.specs.declared.noted.Noted.{Noted}
 use Rattle.history_recorder.proofs.Stamps.{found_before, found_left, found_right}
-use Rattle.certificate_checker.specs.declared.done.Done.{Done}
 use Rattle.shared_cache.specs.Listed.{Listed}
 use Rattle.shared_cache.specs.Finished.{done_of}
 use Rattle.shared_cache.specs.Blames.{IsFree, IsOfPlace}
-use Rattle.shared_cache.specs.Claimed.{Claims, Fits, IsBy, IsFirstFree, IsFresh, IsTaken, weigh_slots}
+use Rattle.shared_cache.specs.Claimed.{Claims, Fits, IsFirstFree, IsFresh, IsTaken, weigh_slots}
 use Rattle.shared_cache.specs.declared.place.Place.{Place}
 use Rattle.shared_cache.specs.Settled.{AreOwnOf, IsMade, IsOwnOf, IsStrangeAt, IsOutAt, IsOutIn, IsStrangeIn, IsUnlistedIn, all_in, index_of}
 use Rattle.shared_cache.proofs.Blaming.{by_claimed, by_more, lane_call, many_none, none_there}

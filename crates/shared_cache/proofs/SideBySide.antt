@@ -1,7 +1,6 @@
 -- What came of lanes that were gone through side by side, put together.
-use Rattle.std.proofs.Common.{◌≡◌, ◌≢◌, ◌⊎◌, ◌∙◌, ℕ, zero, suc, ◌+◌, ◌<◌, ◌≤◌, List, [], ◌∷◌, ◌++◌, length, map, take, drop, get_or, Option, Some, None, Result, Ok, Err, slice_get, All, sym, refl, ap, subst, inl, inr, arith, sum_by, append_assoc, length-append}
-use Rattle.std.specs.Prelude.{Any, IfNone, IfOk, IfSome}
-use Rattle.std.specs.List.{flat_map}
+use Rattle.std.proofs.Common.{◌≡◌, ◌≢◌, ◌∙◌, ℕ, zero, suc, ◌+◌, ◌<◌, ◌≤◌, List, [], ◌∷◌, ◌++◌, length, map, take, drop, get_or, Option, Some, None, Result, Ok, Err, slice_get, All, sym, refl, ap, subst, inl, inr, arith, sum_by, append_assoc, length-append}
+use Rattle.std.specs.Prelude.{IfNone, IfOk, IfSome, IsSomeAnd}
 use Rattle.std.proofs.lemmas.List.{length-map, take-take, take_more}
 use Rattle.std.proofs.lemmas.List.Elements.{All-cons, All-nil}
 use Rattle.std.proofs.lemmas.List.Sums.{sum_by-append}
@@ -21,9 +20,9 @@ use Rattle.shared_cache.specs.declared.lane_fault.LaneFault.TheVariants.{OutOfMe
 use Rattle.shared_cache.specs.declared.place.Place.{Place}
 use Rattle.shared_cache.specs.Listed.{Listed}
 use Rattle.shared_cache.specs.Passes.{Ticket}
-use Rattle.shared_cache.specs.Blames.{AreOwn, IsFirstStrange, IsFree, IsOwn, IsStrange, IsUnlisted, calls_in, recorded_at}
+use Rattle.shared_cache.specs.Blames.{AreOwn, IsFirstStrange, IsOwn, IsStrange, IsUnlisted, calls_in, recorded_at}
 use Rattle.shared_cache.specs.Claimed.{IsEnded, noted_of, recorded_of}
-use Rattle.shared_cache.specs.Settled.{AreNumbered, AreOwnOf, AreSettled, FindsFirst, IsEarlier, IsFaultOf, IsFirstOpen, IsFirstPlace, IsNoneStrange, IsNotBehind, IsNotOwn, IsOutAt, IsOwnOf, IsPlace, IsRefused, LeavesOpen, Settles, all_in, index_of, place_in, recorded_in, weigh_of}
+use Rattle.shared_cache.specs.Settled.{AreNumbered, AreOwnOf, AreSettled, FindsFirst, IsEarlier, IsFaultOf, IsFirstOpen, IsFirstPlace, IsNoneStrange, IsNotBehind, IsNotOwn, IsOutAt, IsOwnOf, IsPlace, IsRefused, LeavesOpen, Settles, all_in, index_of, place_in, recorded_in}
 use Rattle.shared_cache.proofs.Blaming.{recorded_past}
 use Rattle.shared_cache.specs.Finished.{weigh_calls, weigh_passes}
 use Rattle.shared_cache.proofs.Weighing.{all_past, lane_and_past, none_past, sum_by-map, weigh_in, weigh_past}
@@ -314,11 +313,15 @@ place_within passes place is = let low = slice_get_within (lists_of passes) plac
 abbrev pub AreIn : ℕ → List (List Listed) → Type 0
 AreIn lanes lists = All (λ l. l.lane < lanes) (all_in lists)
 
-pub strange_end : (order : List Ticket) (recorded : List (List Noted)) (settled : List Came) (other : Option Place) (p : Place) (pass : Ticket) → AreSettled 0 (lists_of order) recorded settled → ¬ IsRefused settled
-    → IfNone other (AreIn (length recorded) (lists_of order)) → IfSome other (IsOutAt (length recorded) (lists_of order)) → IsFirstPlace other settled p → slice_get order p.pass ≡ Some pass → IsStrange recorded order pass.caller p.call
-strange_end order recorded settled other p pass all told none some first at =
-    let is = strange_first (lists_of order) recorded settled all told other p none some first in
-    strange_pass recorded order p pass is.0 is.1 at
+pub strange_end : (order : List Ticket) (recorded : List (List Noted)) (settled : List Came) (other : Option Place) (p : Place) (caller : ℕ) → AreSettled 0 (lists_of order) recorded settled → ¬ IsRefused settled
+    → IfNone other (AreIn (length recorded) (lists_of order)) → IfSome other (IsOutAt (length recorded) (lists_of order)) → IsFirstPlace other settled p → IsSomeAnd (slice_get order p.pass) (λ q. q.caller ≡ caller) → IsStrange recorded order caller p.call
+strange_end order recorded settled other p caller all told none some first has = by_pass (slice_get order p.pass) refl has
+  where
+    by_pass : (o : Option Ticket) → slice_get order p.pass ≡ o → IsSomeAnd o (λ q. q.caller ≡ caller) → IsStrange recorded order caller p.call
+    by_pass (Some pass) at same =
+        let is = strange_first (lists_of order) recorded settled all told other p none some first in
+        subst (λ n. IsStrange recorded order n p.call) same (strange_pass recorded order p pass is.0 is.1 at)
+    by_pass None at same = absurd same
 
 pub strange_within : (order : List Ticket) (recorded : List (List Noted)) (settled : List Came) (other : Option Place) (p : Place) → AreSettled 0 (lists_of order) recorded settled → ¬ IsRefused settled
     → IfNone other (AreIn (length recorded) (lists_of order)) → IfSome other (IsOutAt (length recorded) (lists_of order)) → IsFirstPlace other settled p → p.pass < length order

@@ -1,21 +1,18 @@
 -- A lane's calls, while the calls that passes list claim them. No contract of a public call cites this: it is how
 -- `finish` goes its way.
-use Rattle.std.specs.Prelude.{◌≡◌, ◌≢◌, ◌↔◌, ◌⊎◌, ℕ, suc, ◌+◌, ◌<◌, ◌≤◌, List, [], ◌∷◌, Option, Some, None, length, map, replicate, slice_get, sum_by}
-use Rattle.std.specs.List.Sorted.{IsPermutation, IsNonDecreasingBy}
+use Rattle.std.specs.Prelude.{◌≡◌, ◌≢◌, ◌↔◌, ℕ, ◌<◌, ◌≤◌, List, [], ◌∷◌, Option, Some, None, length, map, replicate, slice_get, sum_by}
 use Rattle.std.specs.Option.{option_map, option_map_or}
 use Rattle.trace_file.specs.declared.call.Call.{Call}
 use Rattle.history_recorder.specs.declared.noted.Noted.{Noted}
 use Rattle.history_recorder.specs.Done.{done_with}
 use Rattle.history_recorder.specs.Points.{noted_in}
 use Rattle.certificate_checker.specs.declared.done.Done.{Done}
-use Rattle.certificate_checker.specs.Lanes.{Stamped, stamp}
 use Rattle.shared_cache.specs.declared.finish_fault.FinishFault.{FinishFault}
-use Rattle.shared_cache.specs.declared.finish_fault.FinishFault.TheVariants.{OutOfMemory, LaneLost, Strange, Unlisted}
+use Rattle.shared_cache.specs.declared.finish_fault.FinishFault.TheVariants.{OutOfMemory, LaneLost}
 use Rattle.shared_cache.specs.declared.lane_claims.Unready.{Unready}
 use Rattle.shared_cache.specs.declared.lane_claims.Unready.TheVariants as unready
 use Rattle.shared_cache.specs.Listed.{Listed}
-use Rattle.shared_cache.specs.Passes.{Ticket}
-use Rattle.shared_cache.specs.Blames.{AreOwn, IsFree, IsStrange, IsUnlisted, calls_in}
+use Rattle.shared_cache.specs.Blames.{IsFree}
 
 -- a done call as its lane recorded it
 abbrev pub noted_of : Done → Noted

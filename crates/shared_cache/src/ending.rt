@@ -1,12 +1,13 @@
 // The lanes of a cache that is over.
-ghost use Rattle.std.specs.Prelude.{◌≡◌, ◌≢◌, ◌≤◌, ℕ, All, IfOk, IfErr, Ok, length, map, sum_by};
+ghost use Rattle.std.specs.Prelude.{◌≡◌, ◌≢◌, ◌<◌, ◌≤◌, ℕ, All, IfOk, IfErr, IsSomeAnd, Ok, length, map, slice_get, sum_by};
+ghost use Rattle.std.specs.List.Sorted.{IsNonDecreasingBy, IsPermutation};
 ghost use Rattle.history_recorder.specs.Points.{noted_in};
 ghost use Rattle.certificate_checker.specs.Lanes.{Stamped, stamped};
 ghost use Rattle.shared_cache.specs.Passes.{most_lanes};
 ghost use Rattle.shared_cache.specs.declared.place.Place.{Place};
 ghost use Rattle.shared_cache.specs.Finished.{weigh_passes};
 ghost use Rattle.shared_cache.specs.Claimed.{IsEnded, IsNoBook, recorded_of};
-ghost use Rattle.shared_cache.specs.Settled.{AreNumbered, AreSettled, IsFaultOf, IsNoEnd, IsNoneStrange, LeavesOpen, Settles, recorded_in};
+ghost use Rattle.shared_cache.specs.Settled.{AreNumbered, AreSettled, IsFaultOf, IsNoEnd, IsNoneStrange, IsNotOwn, LeavesOpen, Settles, recorded_in};
 ghost use Rattle.shared_cache.specs.Over.{AreOver, IsOver, lane_by};
 
 use crate::books::{LaneBook, Pass};
@@ -90,10 +91,40 @@ pub(crate) fn ended_lanes<R: Threads + Sync>(
     ensures ended { IfOk result (λ lanes. All (All IsEnded) lanes.items) }
     ensures refused { IfErr result (IsNoEnd (recorded_in left.items) passes.items) }
 {
+    let ordered = by_caller(passes);
+    match ended_by(rt, alloc, left, ordered.as_slice()) {
+        Ok(lanes) => Ok(lanes),
+        Err(fault) => Err(fault),
+    }
+}
+
+/// The passes by their callers.
+fn by_caller(passes: Vec<Pass>) -> Vec<Pass>
+    ensures same { IsPermutation passes.items result.items }
+    ensures sorted { IsNonDecreasingBy (λ p. p.caller) result.items }
+{
     let mut passes = passes;
     passes.sort_unstable_by_key(|pass| pass.caller());
+    passes
+}
+
+/// The lanes' calls with the ends that passes list, which go by their callers.
+fn ended_by<R: Threads + Sync>(
+    rt: &R,
+    alloc: Global,
+    left: Vec<LaneLeft>,
+    passes: &[Pass],
+) -> Result<Vec<Dones>, FinishFault>
+    requires few { length left.items ≤ most_lanes }
+    requires numbered { AreNumbered 0 left.items }
+    ensures listed { IfOk result (λ lanes. (h : Stamped → ℕ) →
+        sum_by h (stamped lanes.items) ≡ weigh_passes h passes.now) }
+    ensures calls { IfOk result (λ lanes. recorded_of lanes.items ≡ recorded_in left.items) }
+    ensures ended { IfOk result (λ lanes. All (All IsEnded) lanes.items) }
+    ensures refused { IfErr result (IsNotOwn (recorded_in left.items) passes.now) }
+{
     let lanes = left.len();
-    let lists = lists_of(alloc, passes.as_slice())?;
+    let lists = lists_of(alloc, passes)?;
     let settled = settle_all(rt, alloc, left, lists.as_slice())?;
     if is_refused(settled.as_slice()) {
         return Err(FinishFault::OutOfMemory);
@@ -101,13 +132,24 @@ pub(crate) fn ended_lanes<R: Threads + Sync>(
     let outside = place_outside(lanes, lists.as_slice());
     if let Some(place) = first_place(settled.as_slice(), outside) {
         return Err(FinishFault::Strange {
-            caller: passes[place.pass].caller(),
+            caller: caller_of(passes, place.pass),
             call: place.call,
         });
     }
     match all_settled(alloc, settled) {
         Ok(lanes) => Ok(lanes),
         Err(fault) => Err(fault),
+    }
+}
+
+/// The caller of the pass at a place.
+fn caller_of(passes: &[Pass], place: usize) -> u16
+    requires { place < length passes.now }
+    ensures { IsSomeAnd (slice_get passes.now place) (λ p. p.caller ≡ result) }
+{
+    match passes.get(place) {
+        Some(pass) => pass.caller(),
+        None => unreachable!(),
     }
 }
 

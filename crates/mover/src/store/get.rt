@@ -13,7 +13,7 @@ ghost use Rattle.memory_cache.specs.MemoryList.{value_in, after_get};
 ghost use Rattle.mover.specs.Asking.{AsksNothing, IfThen, LogLeaves, SetLeaves, GetLeaves};
 ghost use Rattle.mover.specs.Store.{OnlyReads};
 ghost use Rattle.mover.specs.Lane.{lane_of};
-ghost use Rattle.mover.specs.Get.{ask_log, ask_set, NeedsSetPage, NeedsFlashPage, StepGives, LogTells, is_fault, answer_of_set};
+ghost use Rattle.mover.specs.Get.{ask_log, ask_set, NeedsSetPage, NeedsFlashPage, StepGives, LogTells, is_fault, answer_of_log, answer_of_set};
 ghost use Rattle.mover.specs.Leaving.{HasAll};
 ghost use Rattle.mover.specs.Calls.{StoreGets, AnswersFromBuffers, IsLowered};
 
@@ -68,11 +68,10 @@ impl<D: PageDevice<PAGE>, const PAGE: usize> Store<D, PAGE> {
             (lane_of D.held self.new)) }
     {
         let placed = self.place(key);
-        match self.look_log(&placed, key)? {
-            klog::Looked::Hit(value) => Ok(Answer::Hit(value, Tier::Log)),
-            klog::Looked::Fault => Ok(Answer::Miss(MissCause::Fault)),
-            klog::Looked::Damaged => Ok(Answer::Miss(MissCause::Damaged)),
-            klog::Looked::Absent => {
+        let looked = self.look_log(&placed, key)?;
+        match answer_of_log(looked) {
+            Some(answer) => Ok(answer),
+            None => {
                 let answer = self.look_set(&placed, key)?;
                 Ok(answer)
             }
@@ -117,6 +116,18 @@ impl<D: PageDevice<PAGE>, const PAGE: usize> Store<D, PAGE> {
     {
         let looked = self.sets.look(self.alloc, &mut self.device, placed, key)?;
         Ok(answer_of_set(looked))
+    }
+}
+
+// The answer by what the log says, and none where it has no record of the key: then alone the key's set is asked.
+fn answer_of_log(looked: klog::Looked) -> Option<Answer>
+    ensures { result ≡ answer_of_log looked }
+{
+    match looked {
+        klog::Looked::Hit(value) => Some(Answer::Hit(value, Tier::Log)),
+        klog::Looked::Absent => None,
+        klog::Looked::Fault => Some(Answer::Miss(MissCause::Fault)),
+        klog::Looked::Damaged => Some(Answer::Miss(MissCause::Damaged)),
     }
 }
 

@@ -1,147 +1,20 @@
--- The lanes' calls, each listed once, or why they are not.
-use Rattle.std.proofs.Common.{rules, List, ◌≡◌, ◌∙◌, Err, Some, slice_get, ap, sym, subst, refl, length, map, arith}
-use Rattle.std.specs.Prelude.{IfNone, IfSome}
-use Rattle.std.proofs.lemmas.List.{length-map}
-use Rattle.std.proofs.lemmas.List.Sorted.{IsNonDecreasingBy-from_sort_by_key}
-use Rattle.std.proofs.lemmas.Option.{slice_get_read}
-use Rattle.history_recorder.specs.Points.{noted_in}
-use Rattle.shared_cache.specs.declared.finish_fault.FinishFault.TheVariants.{OutOfMemory}
-use Rattle.shared_cache.specs.declared.lane_left.LaneLeft.{LaneLeft}
-use Rattle.shared_cache.specs.Blames.{IsStrange}
+use Rattle.std.proofs.Common.{subst, ◌∙◌, List, ap}
 use Rattle.shared_cache.specs.Passes.{Ticket}
-use Rattle.shared_cache.specs.Settled.{AreSettled, IsFirstPlace, IsOutAt, IsRefused, recorded_in}
-use Rattle.shared_cache.proofs.SideBySide.{AreIn, all_ended, as_many_settled, as_recorded, lists_of, listed_all, none_outside, not_ended, strange_end, strange_within}
+use Rattle.shared_cache.specs.Finished.{weigh_passes}
+use Rattle.shared_cache.specs.Settled.{IsNotOwn, recorded_in}
 use Rattle.shared_cache.proofs.Weighing.{weigh_reordered}
 use Rattle.shared_cache.proofs.ending.ended_lanes.Goals as goal
 
-pub returns-in_err-lists-clause-refused : goal.returns-in_err-lists-clause-refused
-returns-in_err-lists-clause-refused g c =
-    let is : c.from_residual.result ≡ Err OutOfMemory = search rules in
-    rw is (record {
-      order = c.sort_unstable_by_key.new.self.items;
-      same = c.sort_unstable_by_key.ensures.permutation;
-      sorted = IsNonDecreasingBy-from_sort_by_key (λ (p : Ticket). p.caller) _ c.sort_unstable_by_key.ensures.sorted (λ a r q k. search rules);
-      why = tt;
-    })
-
-pub returns-in_err-settled-clause-refused : goal.returns-in_err-settled-clause-refused
-returns-in_err-settled-clause-refused g c =
-    let is : c.from_residual-in_err-settled.result ≡ Err OutOfMemory = search rules in
-    rw is (record {
-      order = c.sort_unstable_by_key.new.self.items;
-      same = c.sort_unstable_by_key.ensures.permutation;
-      sorted = IsNonDecreasingBy-from_sort_by_key (λ (p : Ticket). p.caller) _ c.sort_unstable_by_key.ensures.sorted (λ a r q k. search rules);
-      why = tt;
-    })
-
-pub returns-then-is_refused-clause-refused : goal.returns-then-is_refused-clause-refused
-returns-then-is_refused-clause-refused g c = record {
-  order = c.sort_unstable_by_key.new.self.items;
-  same = c.sort_unstable_by_key.ensures.permutation;
-  sorted = IsNonDecreasingBy-from_sort_by_key (λ (p : Ticket). p.caller) _ c.sort_unstable_by_key.ensures.sorted (λ a r q k. search rules);
-  why = tt;
-}
-
-pub index-requires : goal.index-requires
-index-requires g c =
-    let order = c.sort_unstable_by_key.new.self.items in
-    let lists : c.as_slice-2.result.now ≡ lists_of order = c.as_slice-2.ensures.value ∙ c.in_ok-lists.ensures ∙ ap (λ (ps : List Ticket). lists_of ps) c.as_slice.ensures.value in
-    let settled = c.in_ok-settled.settled.items in
-    let recorded = recorded_in c.args.left.items in
-    let all : AreSettled 0 (lists_of order) recorded settled = subst (λ ls. AreSettled 0 ls recorded settled) lists c.in_ok-settled.ensures in
-    let told : ¬ IsRefused settled = λ refused. let never = c.if-is_refused.ensures.1 (rw c.as_slice-3.ensures.value refused) in absurd cc in
-    let len : c.len-lanes.result ≡ length c.args.left.items = search rules in
-    let many : c.len-lanes.result ≡ length recorded = len ∙ sym (length-map c.args.left.items (λ (l : LaneLeft). map noted_in l.recorded)) in
-    let same : c.as_slice-4.result.now ≡ lists_of order = c.as_slice-4.ensures.value ∙ c.in_ok-lists.ensures ∙ ap (λ (ps : List Ticket). lists_of ps) c.as_slice.ensures.value in
-    let outside = c.place_outside-outside.result in
-    let none : IfNone outside (AreIn (length recorded) (lists_of order)) = rw (← many, ← same) c.place_outside-outside.ensures.none in
-    let some : IfSome outside (IsOutAt (length recorded) (lists_of order)) = rw (← many, ← same) c.place_outside-outside.ensures.some in
-    let low = strange_within order recorded settled outside c.in-Some.place all told none some (subst (λ rs. IsFirstPlace outside rs c.in-Some.place) c.as_slice-5.ensures.value c.in-Some.ensures) in
-    search rules
-
-pub returns-in-Some-clause-refused : goal.returns-in-Some-clause-refused
-returns-in-Some-clause-refused g c =
-    let order = c.sort_unstable_by_key.new.self.items in
-    let lists : c.as_slice-2.result.now ≡ lists_of order = c.as_slice-2.ensures.value ∙ c.in_ok-lists.ensures ∙ ap (λ (ps : List Ticket). lists_of ps) c.as_slice.ensures.value in
-    let settled = c.in_ok-settled.settled.items in
-    let recorded = recorded_in c.args.left.items in
-    let all : AreSettled 0 (lists_of order) recorded settled = subst (λ ls. AreSettled 0 ls recorded settled) lists c.in_ok-settled.ensures in
-    let told : ¬ IsRefused settled = λ refused. let never = c.if-is_refused.ensures.1 (rw c.as_slice-3.ensures.value refused) in absurd cc in
-    let len : c.len-lanes.result ≡ length c.args.left.items = search rules in
-    let many : c.len-lanes.result ≡ length recorded = len ∙ sym (length-map c.args.left.items (λ (l : LaneLeft). map noted_in l.recorded)) in
-    let same : c.as_slice-4.result.now ≡ lists_of order = c.as_slice-4.ensures.value ∙ c.in_ok-lists.ensures ∙ ap (λ (ps : List Ticket). lists_of ps) c.as_slice.ensures.value in
-    let outside = c.place_outside-outside.result in
-    let none : IfNone outside (AreIn (length recorded) (lists_of order)) = rw (← many, ← same) c.place_outside-outside.ensures.none in
-    let some : IfSome outside (IsOutAt (length recorded) (lists_of order)) = rw (← many, ← same) c.place_outside-outside.ensures.some in
-    let first = subst (λ rs. IsFirstPlace outside rs c.in-Some.place) c.as_slice-5.ensures.value c.in-Some.ensures in
-    let low = strange_within order recorded settled outside c.in-Some.place all told none some first in
-    let pass = c.index.result.now in
-    let at : slice_get order c.in-Some.place.pass ≡ Some pass = slice_get_read order (length order) c.in-Some.place.pass pass refl low (search rules) in
-    let strange = strange_end order recorded settled outside c.in-Some.place pass all told none some first at in
-    record {
-      order = c.sort_unstable_by_key.new.self.items;
-      same = c.sort_unstable_by_key.ensures.permutation;
-      sorted = IsNonDecreasingBy-from_sort_by_key (λ (p : Ticket). p.caller) _ c.sort_unstable_by_key.ensures.sorted (λ a r q k. search rules);
-      why = subst (λ n. IsStrange recorded order n c.in-Some.place.call) (sym c.caller.ensures) strange;
-    }
-
-pub all_settled-requires-clause-few : goal.all_settled-requires-clause-few
-all_settled-requires-clause-few g c =
-    let order = c.sort_unstable_by_key.new.self.items in
-    let lists : c.as_slice-2.result.now ≡ lists_of order = c.as_slice-2.ensures.value ∙ c.in_ok-lists.ensures ∙ ap (λ (ps : List Ticket). lists_of ps) c.as_slice.ensures.value in
-    let settled = c.in_ok-settled.settled.items in
-    let recorded = recorded_in c.args.left.items in
-    let all : AreSettled 0 (lists_of order) recorded settled = subst (λ ls. AreSettled 0 ls recorded settled) lists c.in_ok-settled.ensures in
-    let few = as_many_settled 0 (lists_of order) recorded settled all in
-    let many = length-map c.args.left.items (λ (l : LaneLeft). map noted_in l.recorded) in
-    omega (arith, few, many, c.requires.few)
-
 pub returns-in-Ok-clause-listed : goal.returns-in-Ok-clause-listed
 returns-in-Ok-clause-listed g c = λ h.
-    let order = c.sort_unstable_by_key.new.self.items in
-    let lists : c.as_slice-2.result.now ≡ lists_of order = c.as_slice-2.ensures.value ∙ c.in_ok-lists.ensures ∙ ap (λ (ps : List Ticket). lists_of ps) c.as_slice.ensures.value in
-    let settled = c.in_ok-settled.settled.items in
-    let recorded = recorded_in c.args.left.items in
-    let all : AreSettled 0 (lists_of order) recorded settled = subst (λ ls. AreSettled 0 ls recorded settled) lists c.in_ok-settled.ensures in
-    let told : ¬ IsRefused settled = λ refused. let never = c.if-is_refused.ensures.1 (rw c.as_slice-3.ensures.value refused) in absurd cc in
-    let len : c.len-lanes.result ≡ length c.args.left.items = search rules in
-    let many : c.len-lanes.result ≡ length recorded = len ∙ sym (length-map c.args.left.items (λ (l : LaneLeft). map noted_in l.recorded)) in
-    let same : c.as_slice-4.result.now ≡ lists_of order = c.as_slice-4.ensures.value ∙ c.in_ok-lists.ensures ∙ ap (λ (ps : List Ticket). lists_of ps) c.as_slice.ensures.value in
-    let outside = c.place_outside-outside.result in
-    let none : IfNone outside (AreIn (length recorded) (lists_of order)) = rw (← many, ← same) c.place_outside-outside.ensures.none in
-    let some : IfSome outside (IsOutAt (length recorded) (lists_of order)) = rw (← many, ← same) c.place_outside-outside.ensures.some in
-    let within = none_outside (AreIn (length recorded) (lists_of order)) outside c.in_default.ensures.0 none in
-    listed_all h order recorded c.in-Ok.lanes.items (subst (λ rs. AreSettled 0 (lists_of order) recorded rs) c.in-Ok.ensures.all all) within
-    ∙ weigh_reordered h c.args.passes.items order c.sort_unstable_by_key.ensures.permutation
-
-pub returns-in-Ok-clause-calls : goal.returns-in-Ok-clause-calls
-returns-in-Ok-clause-calls g c =
-    let order = c.sort_unstable_by_key.new.self.items in
-    let lists : c.as_slice-2.result.now ≡ lists_of order = c.as_slice-2.ensures.value ∙ c.in_ok-lists.ensures ∙ ap (λ (ps : List Ticket). lists_of ps) c.as_slice.ensures.value in
-    let settled = c.in_ok-settled.settled.items in
-    let recorded = recorded_in c.args.left.items in
-    let all : AreSettled 0 (lists_of order) recorded settled = subst (λ ls. AreSettled 0 ls recorded settled) lists c.in_ok-settled.ensures in
-    as_recorded 0 (lists_of order) recorded c.in-Ok.lanes.items (subst (λ rs. AreSettled 0 (lists_of order) recorded rs) c.in-Ok.ensures.all all)
-
-pub returns-in-Ok-clause-ended : goal.returns-in-Ok-clause-ended
-returns-in-Ok-clause-ended g c =
-    let order = c.sort_unstable_by_key.new.self.items in
-    let lists : c.as_slice-2.result.now ≡ lists_of order = c.as_slice-2.ensures.value ∙ c.in_ok-lists.ensures ∙ ap (λ (ps : List Ticket). lists_of ps) c.as_slice.ensures.value in
-    let settled = c.in_ok-settled.settled.items in
-    let recorded = recorded_in c.args.left.items in
-    let all : AreSettled 0 (lists_of order) recorded settled = subst (λ ls. AreSettled 0 ls recorded settled) lists c.in_ok-settled.ensures in
-    all_ended 0 (lists_of order) recorded c.in-Ok.lanes.items (subst (λ rs. AreSettled 0 (lists_of order) recorded rs) c.in-Ok.ensures.all all)
+    c.in-Ok.ensures.listed h
+    ∙ ap (λ (ps : List Ticket). weigh_passes h ps) c.as_slice.ensures.value
+    ∙ weigh_reordered h c.args.passes.items c.by_caller-ordered.result.items c.by_caller-ordered.ensures.same
 
 pub returns-clause-refused : goal.returns-clause-refused
-returns-clause-refused g c =
-    let order = c.sort_unstable_by_key.new.self.items in
-    let lists : c.as_slice-2.result.now ≡ lists_of order = c.as_slice-2.ensures.value ∙ c.in_ok-lists.ensures ∙ ap (λ (ps : List Ticket). lists_of ps) c.as_slice.ensures.value in
-    let settled = c.in_ok-settled.settled.items in
-    let recorded = recorded_in c.args.left.items in
-    let all : AreSettled 0 (lists_of order) recorded settled = subst (λ ls. AreSettled 0 ls recorded settled) lists c.in_ok-settled.ensures in
-    record {
-      order = c.sort_unstable_by_key.new.self.items;
-      same = c.sort_unstable_by_key.ensures.permutation;
-      sorted = IsNonDecreasingBy-from_sort_by_key (λ (p : Ticket). p.caller) _ c.sort_unstable_by_key.ensures.sorted (λ a r q k. search rules);
-      why = not_ended order recorded settled c.in-Err.fault all c.in-Err.ensures.refused;
-    }
+returns-clause-refused g c = record {
+  order = c.by_caller-ordered.result.items;
+  same = c.by_caller-ordered.ensures.same;
+  sorted = c.by_caller-ordered.ensures.sorted;
+  why = subst (λ (ps : List Ticket). IsNotOwn (recorded_in c.args.left.items) ps c.in-Err.fault) c.as_slice.ensures.value c.in-Err.ensures.refused;
+}

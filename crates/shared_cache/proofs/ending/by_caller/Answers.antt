@@ -1,0 +1,7 @@
+use Rattle.std.proofs.Common.{rules}
+use Rattle.std.proofs.lemmas.List.Sorted.{IsNonDecreasingBy-from_sort_by_key}
+use Rattle.shared_cache.specs.Passes.{Ticket}
+use Rattle.shared_cache.proofs.ending.by_caller.Goals as goal
+
+pub returns-clause-sorted : goal.returns-clause-sorted
+returns-clause-sorted c = IsNonDecreasingBy-from_sort_by_key (λ (p : Ticket). p.caller) _ c.sort_unstable_by_key.ensures.sorted (λ a r q k. search rules)
