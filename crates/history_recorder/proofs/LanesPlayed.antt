@@ -2,6 +2,7 @@
 use Rattle.std.proofs.Common.{◌≡◌, ◌<◌, ◌≤◌, ◌⊎◌, ◌↔◌, ℕ, Bool, List, [], ◌∷◌, ◌++◌, length, Option, Some, None, sym, ap, ◌∙◌, refl, arith, inl, inr}
 use Rattle.std.specs.Prelude.{IsTrue, Result, Ok, Err, IfOk, OnErr}
 use Rattle.std.proofs.lemmas.Bool.{cases_lt}
+use Rattle.record_pages.specs.Expiry.{lasting}
 use Rattle.record_pages.specs.Sizes.{object_size, room}
 use Rattle.record_pages.specs.declared.answer.Answer.{Answer}
 use Rattle.record_pages.specs.declared.layout.Layout.{Layout}
@@ -89,7 +90,7 @@ module _ {D : Type 0} (honest : D → Bool) (failures : D → ℕ) (held : D →
     abbrev called : Act → Noted
     called act = record { caller = caller; start = start; point = point; key = key; act = act }
 
-    pub got_ok : (result : Result Answer RecordFault) (answer : Answer) (n : Noted) → result ≡ Ok answer → n ≡ called (act_of answer) → new ≡ record old { store = new.store; calls = old.calls ++ called (act_of answer) ∷ [] } → StoreGets size honest failures held key old.store (Ok answer) new.store → ((result ≡ Err faults.HistoryFull) ↔ (max_calls ≤ length old.calls)) → LaneActs honest held size caller start point (operations.Get key) old (record { reply = replies.Got (Ok answer); noted = Some n }) new
+    pub got_ok : (result : Result Answer RecordFault) (answer : Answer) (n : Noted) → result ≡ Ok answer → n ≡ called (act_of answer) → new ≡ record old { store = new.store; calls = old.calls ++ called (act_of answer) ∷ [] } → StoreGets size honest failures held key 0 old.store (Ok answer) new.store → ((result ≡ Err faults.HistoryFull) ↔ (max_calls ≤ length old.calls)) → LaneActs honest held size caller start point (operations.Get key) old (record { reply = replies.Got (Ok answer); noted = Some n }) new
     got_ok result answer n is noted recorded gets full = record {
       layout = gets.reads.layout;
       lane = ap (λ (l : Lane D). l.lane) recorded;
@@ -103,11 +104,11 @@ module _ {D : Type 0} (honest : D → Bool) (failures : D → ℕ) (held : D →
     }
 
     -- what is given of a lane by an answer, or where memory was refused
-    given_lane : (given : Result Answer AllocError) → StoreGets size honest failures held key old.store given new.store → IsTrue (honest old.store.device) → (lane_of held new.store ≡ lane_of held old.store) ⊎ ((answer : Answer) × GetGives key (lane_of held old.store) answer (lane_of held new.store))
+    given_lane : (given : Result Answer AllocError) → StoreGets size honest failures held key 0 old.store given new.store → IsTrue (honest old.store.device) → (lane_of held new.store ≡ lane_of held old.store) ⊎ ((answer : Answer) × GetGives key 0 (lane_of held old.store) answer (lane_of held new.store))
     given_lane (Ok answer) gets h = inr (answer, gets.gives h)
     given_lane (Err e) gets h = inl (same_lane_held held old.store new.store gets.out_of_memory (gets.reads.same h))
 
-    same_lane : MayHaveGot size honest failures held key old.store new.store → IsTrue (honest old.store.device) → (lane_of held new.store ≡ lane_of held old.store) ⊎ ((answer : Answer) × GetGives key (lane_of held old.store) answer (lane_of held new.store))
+    same_lane : MayHaveGot size honest failures held key old.store new.store → IsTrue (honest old.store.device) → (lane_of held new.store ≡ lane_of held old.store) ⊎ ((answer : Answer) × GetGives key 0 (lane_of held old.store) answer (lane_of held new.store))
     same_lane (inl same) h = inl (ap (lane_of held) same)
     same_lane (inr got) h = given_lane got.0 got.1 h
 
@@ -163,7 +164,7 @@ module _ {D : Type 0} (honest : D → Bool) (failures : D → ℕ) (held : D →
     }
 
     module _ (value : List ℕ) (word : ℕ) where
-      pub stored_ok : (result : Result Pushed RecordPutFault) (pushed : Pushed) (n : Noted) → result ≡ Ok pushed → n ≡ called (acts.Put value) → new ≡ record old { store = new.store; calls = old.calls ++ called (acts.Put value) ∷ [] } → StorePuts size held (record { key = key; value = value }) word old.store (Ok pushed) new.store → ((result ≡ Err put_faults.TooLarge) ↔ (room size < object_size key value)) → ((result ≡ Err put_faults.HistoryFull) ↔ ((object_size key value ≤ room size) × (max_calls ≤ length old.calls))) → LaneActs honest held size caller start point (operations.Put key value word) old (record { reply = replies.Stored (Ok pushed); noted = Some n }) new
+      pub stored_ok : (result : Result Pushed RecordPutFault) (pushed : Pushed) (n : Noted) → result ≡ Ok pushed → n ≡ called (acts.Put value) → new ≡ record old { store = new.store; calls = old.calls ++ called (acts.Put value) ∷ [] } → StorePuts size held (record { key = key; value = lasting value }) word old.store (Ok pushed) new.store → ((result ≡ Err put_faults.TooLarge) ↔ (room size < object_size key value)) → ((result ≡ Err put_faults.HistoryFull) ↔ ((object_size key value ≤ room size) × (max_calls ≤ length old.calls))) → LaneActs honest held size caller start point (operations.Put key value word) old (record { reply = replies.Stored (Ok pushed); noted = Some n }) new
       stored_ok result pushed n is noted recorded puts large full =
           let fits = fits_alone size (length old.calls) key value result large full (no_put_fault result pushed put_faults.TooLarge is) in
           record {

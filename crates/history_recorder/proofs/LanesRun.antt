@@ -4,6 +4,7 @@ use Rattle.std.specs.Prelude.{All, Ok, Err}
 use Rattle.std.proofs.lemmas.List.{map-append, length-append}
 use Rattle.std.proofs.lemmas.List.Elements.{All-push}
 use Rattle.std.proofs.lemmas.List.Quantifiers.{all_pairs_push}
+use Rattle.record_pages.specs.Expiry.{lasting}
 use Rattle.record_pages.specs.declared.answer.Answer.{Answer}
 use Rattle.record_pages.specs.declared.layout.Layout.{Layout}
 use Rattle.memory_cache.specs.declared.pair.Pair.{Pair}
@@ -81,10 +82,10 @@ module _ (layout : Layout) (lane : ℕ) (calls : List Noted) (old new : LaneStat
       )
 
   module _ (size caller start point : ℕ) (began : start < point) (rises : All (λ (m : Noted). m.point < point) calls) where
-    got_kept : (key : List ℕ) (answer : Answer) → IsOfLane layout lane key → HasRoomFor (length calls) → GetGives key old answer new → IsKeptLane layout lane (calls ++ record { caller = caller; start = start; point = point; key = key; act = act_of answer } ∷ []) new
+    got_kept : (key : List ℕ) (answer : Answer) → IsOfLane layout lane key → HasRoomFor (length calls) → GetGives key 0 old answer new → IsKeptLane layout lane (calls ++ record { caller = caller; start = start; point = point; key = key; act = act_of answer } ∷ []) new
     got_kept key answer own room step =
         let n : Noted = record { caller = caller; start = start; point = point; key = key; act = act_of answer } in
-        let law = get_law key old new answer kept.1 step in
+        let law = get_law key 0 old new answer kept.1 step in
         let sound = well.sound refl in
         with_call n began rises own room (sound_read (deeds_of calls) (deed_noted n) answer old new refl sound law.0.shows) (λ value hit. hit_is (deeds_of calls) key value old answer sound law.1 hit) law.0.order
 
@@ -93,12 +94,12 @@ module _ (layout : Layout) (lane : ℕ) (calls : List Noted) (old new : LaneStat
     acted_kept (operations.Get key) (replies.Got (Ok answer)) own room step = got_kept key answer own room step
     acted_kept (operations.Get key) (replies.Got (Err faults.HistoryFull)) own full step = same step
     acted_kept (operations.Get key) (replies.Got (Err faults.OutOfMemory)) own room (inl is) = same is
-    acted_kept (operations.Get key) (replies.Got (Err faults.OutOfMemory)) own room (inr found) = still (get_law key old new found.0 kept.1 found.1).0
+    acted_kept (operations.Get key) (replies.Got (Err faults.OutOfMemory)) own room (inr found) = still (get_law key 0 old new found.0 kept.1 found.1).0
     acted_kept (operations.Put key value word) (replies.Stored (Ok pushed)) own fits step =
         let n : Noted = record { caller = caller; start = start; point = point; key = key; act = acts.Put value } in
-        let pair : Pair = record { key = key; value = value } in
+        let pair : Pair = record { key = key; value = lasting value } in
         let law = put_law size layout.admit word pair old new pushed kept.1 step in
-        with_call n began rises own fits.1 (sound_put (deeds_of calls) (deed_noted n) pair old new refl refl (well.sound refl) law.shows) (λ v hit. let both : acts.Put value ≡ acts.Hit v = hit in absurd cc) law.order
+        with_call n began rises own fits.1 (sound_put (deeds_of calls) (deed_noted n) key value old new refl refl (well.sound refl) law.shows) (λ v hit. let both : acts.Put value ≡ acts.Hit v = hit in absurd cc) law.order
     acted_kept (operations.Put key value word) (replies.Stored (Err fault)) own fits step = same step
     acted_kept (operations.Remove key) (replies.Removed (Ok done)) own room step =
         let n : Noted = record { caller = caller; start = start; point = point; key = key; act = acts.Remove } in

@@ -6,7 +6,10 @@ use Rattle.std.specs.Cmp.Lexicographic.{bytes_decides}
 use Rattle.std.proofs.lemmas.List.{map-append, length-append}
 use Rattle.std.proofs.lemmas.List.Elements.{All-push}
 use Rattle.std.proofs.lemmas.List.Quantifiers.{all_pairs_push}
+use Rattle.std.specs.Option.{option_map}
+use Rattle.record_pages.specs.Expiry.{lasting, timed}
 use Rattle.record_pages.specs.declared.answer.Answer.{Answer}
+use Rattle.record_pages.specs.declared.timed_value.TimedValue.{TimedValue}
 use Rattle.record_pages.specs.declared.answer.Answer.TheVariants as answers
 use Rattle.record_pages.specs.declared.layout.Layout.{Layout}
 use Rattle.memory_cache.specs.declared.pair.Pair.{Pair}
@@ -29,15 +32,15 @@ use Rattle.mover.specs.Lane.{LaneState, lane_of}
 use Rattle.mover.specs.Visible.{ShowsFrom, TellsVisible}
 use Rattle.mover.proofs.Showing.{no_more, sees_no_more}
 use Rattle.history_recorder.specs.declared.noted.Noted.{Noted}
-use Rattle.history_recorder.specs.Lane.{Lane, deed_noted, deeds_of, act_of, IsOfLane, IsSound, IsRecorded, max_calls}
+use Rattle.history_recorder.specs.Lane.{Lane, deed_noted, deeds_of, act_of, IsOfLane, IsSound, IsRecorded, kept_of, max_calls}
 
 -- ---- what a lane shows is what its keys have
 
 -- The law of every step. What a step shows was shown and not struck, or is what it put: where deeds give a key what was
 -- put, and leave what was not struck, the lane is sound after them.
-pub sound_by : (struck : Option (List ℕ)) (put : Option Pair) (before after : List Deed) (old new : LaneState) → ((p : Pair) → put ≡ Some p → current after p.key ≡ Some p.value) → ((p : Pair) → (struck ≢ Some p.key) → current after p.key ≡ current before p.key) → IsSound old before → ShowsFrom struck put old new → IsSound new after
+pub sound_by : (struck : Option (List ℕ)) (put : Option Pair) (before after : List Deed) (old new : LaneState) → ((p : Pair) → put ≡ Some p → kept_of after p.key ≡ Some p.value) → ((p : Pair) → (struck ≢ Some p.key) → current after p.key ≡ current before p.key) → IsSound old before → ShowsFrom struck put old new → IsSound new after
 sound_by struck put before after old new puts stays sound shows = λ p shown. elim (shows p shown) [
-  | inl was ↦ stays p was.1 ∙ sound p was.0
+  | inl was ↦ ap (option_map lasting) (stays p was.1) ∙ sound p was.0
   | inr is ↦ puts p is
 ]
 
@@ -46,10 +49,11 @@ deed_leaves : (deeds : List Deed) (d : Deed) (key : List ℕ) → ((d.key ≡ ke
 deed_leaves deeds d key other = current-push key deeds d ∙ deed_kept key (current deeds key) d (λ w. other w.0 w.1)
 
 -- a put gives its key its value
-put_gives : (deeds : List Deed) (d : Deed) (p : Pair) → d.key ≡ p.key → d.act ≡ Put p.value → current (deeds ++ d ∷ []) p.key ≡ Some p.value
-put_gives deeds d p at put =
-    let same : bytes_eq d.key p.key ≡ true = (bytes_decides d.key p.key).1 at in
-    current-push p.key deeds d ∙ rw (same, put) refl
+put_gives : (deeds : List Deed) (d : Deed) (key value : List ℕ) → d.key ≡ key → d.act ≡ Put value → kept_of (deeds ++ d ∷ []) key ≡ Some (lasting value)
+put_gives deeds d key value at put =
+    let same : bytes_eq d.key key ≡ true = (bytes_decides d.key key).1 at in
+    let its : current (deeds ++ d ∷ []) key ≡ Some value = current-push key deeds d ∙ rw (same, put) refl in
+    ap (option_map lasting) its
 
 -- an answer writes nothing
 reads : (answer : Answer) → IsWrite (act_of answer) → ⊥
@@ -67,19 +71,25 @@ pub sound_read : (deeds : List Deed) (d : Deed) (answer : Answer) (old new : Lan
 sound_read deeds d answer old new act = sound_by None None deeds (deeds ++ d ∷ []) old new (λ p no. absurd (none_some no)) (λ p other. deed_leaves deeds d p.key (λ same w. reads answer (subst IsWrite act w)))
 
 -- after a put
-pub sound_put : (deeds : List Deed) (d : Deed) (put : Pair) (old new : LaneState) → d.key ≡ put.key → d.act ≡ Put put.value → IsSound old deeds → ShowsFrom (Some put.key) (Some put) old new → IsSound new (deeds ++ d ∷ [])
-sound_put deeds d put old new at act = sound_by (Some put.key) (Some put) deeds (deeds ++ d ∷ []) old new (λ p is. subst (λ (x : Pair). current (deeds ++ d ∷ []) x.key ≡ Some x.value) (some_same is) (put_gives deeds d put at act)) (λ p other. deed_leaves deeds d p.key (λ same w. other (ap Some (sym at ∙ same))))
+pub sound_put : (deeds : List Deed) (d : Deed) (key value : List ℕ) (old new : LaneState) → d.key ≡ key → d.act ≡ Put value → IsSound old deeds → ShowsFrom (Some key) (Some (record { key = key; value = lasting value })) old new → IsSound new (deeds ++ d ∷ [])
+sound_put deeds d key value old new at act =
+    sound_by (Some key) (Some (record { key = key; value = lasting value })) deeds (deeds ++ d ∷ []) old new (λ p is. subst (λ (x : Pair). kept_of (deeds ++ d ∷ []) x.key ≡ Some x.value) (some_same is) (put_gives deeds d key value at act))
+    (λ p other. deed_leaves deeds d p.key (λ same w. other (ap Some (sym at ∙ same))))
 
 -- after a removal
 pub sound_remove : (deeds : List Deed) (d : Deed) (key : List ℕ) (old new : LaneState) → d.key ≡ key → IsSound old deeds → ShowsFrom (Some key) None old new → IsSound new (deeds ++ d ∷ [])
 sound_remove deeds d key old new at = sound_by (Some key) None deeds (deeds ++ d ∷ []) old new (λ p no. absurd (none_some no)) (λ p other. deed_leaves deeds d p.key (λ same w. other (ap Some (sym at ∙ same))))
 
 -- a hit that tells a visible pair is its key's value
-pub hit_is : (deeds : List Deed) (key value : List ℕ) (lane : LaneState) (answer : Answer) → IsSound lane deeds → TellsVisible key lane answer → act_of answer ≡ Hit value → current deeds key ≡ Some value
+pub hit_is : (deeds : List Deed) (key value : List ℕ) (lane : LaneState) (answer : Answer) → IsSound lane deeds → TellsVisible key 0 lane answer → act_of answer ≡ Hit value → current deeds key ≡ Some value
 hit_is deeds key value lane (answers.Hit found tier) sound tells hit =
     let both : Hit found ≡ Hit value = hit in
     let same : found ≡ value = cc in
-    sound (record { key = key; value = found }) (inl tells) ∙ ap Some same
+    its (current deeds key) (sound (record { key = key; value = timed found tells.expires }) (inl tells.visible)) ∙ ap Some same
+  where
+    its : (o : Option (List ℕ)) → option_map lasting o ≡ Some (timed found tells.expires) → o ≡ Some found
+    its (Some v) is = ap (λ (t : TimedValue). Some t.value) (some_same is)
+    its None is = absurd (none_some is)
 hit_is deeds key value lane (answers.Miss cause) sound tells hit = let no : Miss ≡ Hit value = hit in absurd (cc)
 
 -- ---- lanes that stay
@@ -154,15 +164,15 @@ module _ {D : Type 0} (honest : D → Bool) (held : D → ℕ → Option (List �
           subst IsLawful (sym deeds_are) (lawful-push (deeds_of lane.calls) (deed_noted n) (recorded.lawful was) (here was));
     })
 
-    pub recorded_get : (key : List ℕ) (answer : Answer) → n.key ≡ key → n.act ≡ act_of answer → (IsTrue (honest lane.store.device) → TellsVisible key (lane_of held lane.store) answer) → (IsTrue (honest lane.store.device) → StepsInOrder None None (lane_of held lane.store) (lane_of held new)) → IsRecorded honest held (record { store = new; lane = lane.lane; calls = calls })
+    pub recorded_get : (key : List ℕ) (answer : Answer) → n.key ≡ key → n.act ≡ act_of answer → (IsTrue (honest lane.store.device) → TellsVisible key 0 (lane_of held lane.store) answer) → (IsTrue (honest lane.store.device) → StepsInOrder None None (lane_of held lane.store) (lane_of held new)) → IsRecorded honest held (record { store = new; lane = lane.lane; calls = calls })
     recorded_get key answer at act tells steps = recorded_with (λ is. (steps is).order)
         (λ is. sound_read (deeds_of lane.calls) (deed_noted n) answer (lane_of held lane.store) (lane_of held new) act (recorded.sound is) (steps is).shows)
         (λ is value hit. subst (λ k. current (deeds_of lane.calls) k ≡ Some value) (sym at) (hit_is (deeds_of lane.calls) key value (lane_of held lane.store) answer (recorded.sound is) (tells is) (sym act ∙ hit)))
 
-    pub recorded_put : (put : Pair) → n.key ≡ put.key → n.act ≡ Put put.value → (IsTrue (honest lane.store.device) → StepsInOrder (Some put.key) (Some put) (lane_of held lane.store) (lane_of held new)) → IsRecorded honest held (record { store = new; lane = lane.lane; calls = calls })
-    recorded_put put at act steps = recorded_with (λ is. (steps is).order)
-        (λ is. sound_put (deeds_of lane.calls) (deed_noted n) put (lane_of held lane.store) (lane_of held new) at act (recorded.sound is) (steps is).shows)
-        (λ is value hit. let both : Put put.value ≡ Hit value = sym act ∙ hit in absurd (cc))
+    pub recorded_put : (key value : List ℕ) → n.key ≡ key → n.act ≡ Put value → (IsTrue (honest lane.store.device) → StepsInOrder (Some key) (Some (record { key = key; value = lasting value })) (lane_of held lane.store) (lane_of held new)) → IsRecorded honest held (record { store = new; lane = lane.lane; calls = calls })
+    recorded_put key value at act steps = recorded_with (λ is. (steps is).order)
+        (λ is. sound_put (deeds_of lane.calls) (deed_noted n) key value (lane_of held lane.store) (lane_of held new) at act (recorded.sound is) (steps is).shows)
+        (λ is other hit. let both : Put value ≡ Hit other = sym act ∙ hit in absurd (cc))
 
     pub recorded_remove : (key : List ℕ) → n.key ≡ key → n.act ≡ Remove → (IsTrue (honest lane.store.device) → StepsInOrder (Some key) None (lane_of held lane.store) (lane_of held new)) → IsRecorded honest held (record { store = new; lane = lane.lane; calls = calls })
     recorded_remove key at act steps = recorded_with (λ is. (steps is).order)

@@ -8,4 +8,4 @@ use Rattle.mover.specs.Calls.{StoreGets}
 -- A get was refused: before the store was asked, or where memory was refused behind what the store gave.
 abbrev pub MayHaveGot : {D : Type 0} → ℕ → (D → Bool) → (D → ℕ) → (D → ℕ → Option (List ℕ)) → List ℕ → StoreState D → StoreState D → Type 0
 MayHaveGot size honest failures held key old new =
-    (new ≡ old) ⊎ ((given : Result Answer AllocError) × StoreGets size honest failures held key old given new)
+    (new ≡ old) ⊎ ((given : Result Answer AllocError) × StoreGets size honest failures held key 0 old given new)

@@ -1,6 +1,8 @@
 -- A lane with its record, and what is true of every lane.
 use Rattle.std.specs.Prelude.{◌≡◌, ℕ, ◌-◌, ◌<◌, ◌≤◌, ◌^◌, List, Option, Bool, IsTrue, All, AllPairs, map, length, slice_get, Some}
-use Rattle.std.specs.Option.{option_map_or}
+use Rattle.std.specs.Option.{option_map, option_map_or}
+use Rattle.record_pages.specs.Expiry.{lasting}
+use Rattle.record_pages.specs.declared.timed_value.TimedValue.{TimedValue}
 use Rattle.record_pages.specs.declared.answer.Answer.{Answer}
 use Rattle.record_pages.specs.declared.answer.Answer.TheVariants as answers
 use Rattle.record_pages.specs.declared.layout.Layout.{Layout}
@@ -41,9 +43,13 @@ act_of (answers.Miss cause) = Miss
 abbrev pub IsOfLane : Layout → ℕ → List ℕ → Type 0
 IsOfLane layout number key = (placed_of layout.lanes layout.sets (fnv1a key)).lane ≡ number
 
+-- what a key has after deeds, as a lane keeps it: it never expires
+abbrev pub kept_of : List Deed → List ℕ → Option TimedValue
+kept_of deeds key = option_map lasting (current deeds key)
+
 -- a lane is sound after these deeds: each visible pair, and each of an item in flight that was not struck, is what its key has after them
 abbrev pub IsSound : LaneState → List Deed → Type 0
-IsSound lane deeds = (p : Pair) → IsShown lane p → current deeds p.key ≡ Some p.value
+IsSound lane deeds = (p : Pair) → IsShown lane p → kept_of deeds p.key ≡ Some p.value
 
 -- how many calls a lane records
 abbrev pub max_calls : ℕ

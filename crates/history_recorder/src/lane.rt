@@ -1,6 +1,7 @@
 // A lane whose calls are recorded.
 ghost use Rattle.std.specs.Prelude.{◌≡◌, ◌↔◌, ◌<◌, ◌≤◌, ◌++◌, ◌∷◌, [], All, length, map, IfOk, OnOk, OnErr, IsErrOf, IfErr, IsTrue, slice_get, Ok, Some};
 ghost use Rattle.std.specs.List.{range_with_len};
+ghost use Rattle.record_pages.specs.Expiry.{lasting};
 ghost use Rattle.record_pages.specs.Asked.{HasNumbersOf};
 ghost use Rattle.record_pages.specs.Bounded.{IsKey, IsValue};
 ghost use Rattle.record_pages.specs.Sizes.{object_size, room};
@@ -20,7 +21,7 @@ use crate::record_put_fault::RecordPutFault;
 use crate::recorded_parts::RecordedParts;
 use mover::{OpenFault, Store, get_shows, opening_shows_nothing, put_shows, removal_shows};
 use page_device::PageDevice;
-use record_pages::{Answer, Config, Key, Layout, Pushed, Value, is_too_large};
+use record_pages::{Answer, Config, Key, Layout, NEVER, Pushed, Value, is_too_large};
 use std::alloc::{AllocError, Global};
 use std::marker::Model;
 use trace_file::{Act, ActRef};
@@ -193,7 +194,7 @@ impl<D: PageDevice<PAGE>, const PAGE: usize> RecordedLane<D, PAGE> {
 
         // The store's answer, and what it leaves.
         ensures gets { IfOk result (λ answer. StoreGets PAGE D.honest D.failures D.held key.now
-            self.old.store (Ok answer) self.new.store) }
+            0 self.old.store (Ok answer) self.new.store) }
 
         // When it is refused, and what that leaves.
         ensures full { IsErrOf result RecordFault.HistoryFull
@@ -207,7 +208,7 @@ impl<D: PageDevice<PAGE>, const PAGE: usize> RecordedLane<D, PAGE> {
         if self.calls.len() >= MAX_CALLS {
             return Err(RecordFault::HistoryFull);
         }
-        let answer = self.store.get(key)?;
+        let answer = self.store.get(key, 0)?;
         self.calls
             .push(caller, start, point, key, act_lent(&answer))?;
         Ok(answer)
@@ -243,7 +244,7 @@ impl<D: PageDevice<PAGE>, const PAGE: usize> RecordedLane<D, PAGE> {
 
         // What becomes of the store.
         ensures puts { IfOk result (λ pushed. StorePuts PAGE D.held
-            (record { key = key; value = value }) word self.old.store (Ok pushed)
+            (record { key = key; value = lasting value }) word self.old.store (Ok pushed)
             self.new.store) }
 
         // When it is refused, and what that leaves.
@@ -366,13 +367,14 @@ fn put_noted<D: PageDevice<PAGE>, const PAGE: usize>(
       act = Act.Put value;
     }) ∷ []) }
     ensures puts { IfOk result (λ pushed. StorePuts PAGE D.held
-        (record { key = key; value = value }) word store.old (Ok pushed) store.new) }
+        (record { key = key; value = lasting value }) word store.old (Ok pushed)
+        store.new) }
     ensures calls_kept { OnErr result (calls.new ≡ calls.old) }
     ensures store_kept { OnErr result (store.new ≡ store.old) }
 {
     let act = ActRef::Put(value.bytes());
     calls.push(caller, start, point, &key, act)?;
-    let Ok(pushed) = store.put(key, value, word) else {
+    let Ok(pushed) = store.put(key, value, word, NEVER) else {
         calls.drop_last();
         return Err(AllocError);
     };

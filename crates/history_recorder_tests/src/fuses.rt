@@ -79,6 +79,7 @@ fn answered_as(answer: &Answer) -> u8 {
         Answer::Miss(MissCause::Absent) => b'm',
         Answer::Miss(MissCause::Fault) => b'u',
         Answer::Miss(MissCause::Damaged) => b'd',
+        Answer::Miss(MissCause::Expired) => b'e',
     }
 }
 

@@ -105,9 +105,9 @@ fn a_lane_is_opened_with_no_call(rt: HostRuntime) -> Result<(), Fail> {
 
 const REFUSED: [Step; 4] = [
     Step::Put(b"ax", b"1", 0, Pushed::Nobody),
-    Step::TooLarge(b"ax", &[7; 233]),
+    Step::TooLarge(b"ax", &[7; 225]),
     Step::Get(b"ax", Found::Memory(b"1")),
-    Step::Put(b"bx", &[7; 232], 0, Pushed::Logged),
+    Step::Put(b"bx", &[7; 224], 0, Pushed::Logged),
 ];
 
 #[test]

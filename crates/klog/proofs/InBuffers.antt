@@ -1,9 +1,10 @@
 -- What the buffers tell of a key is what a look-up answers.
-use Rattle.std.proofs.Common.{◌≡◌, ℕ, ◌+◌, ◌<◌, true, false, List, Option, Some, None, take, slice_get, ⊎_elim, sym, ap, subst, ◌∙◌, arith}
+use Rattle.std.proofs.Common.{refl, ◌≡◌, ℕ, ◌+◌, ◌<◌, true, false, List, Option, Some, None, take, slice_get, ⊎_elim, sym, ap, subst, ◌∙◌, arith}
 use Rattle.std.specs.Prelude.{IsSomeAnd, IfOk, IsTrue, Result, Ok, Err}
 use Rattle.std.specs.declared.alloc.AllocError.{AllocError}
 use Rattle.std.proofs.lemmas.Bool.{OnFalse_from, cases_order, false≢true}
 use Rattle.std.proofs.lemmas.List.Elements.{All-contains}
+use Rattle.record_pages.specs.Expiry.{value_at}
 use Rattle.record_pages.specs.Recs.{Rec}
 use Rattle.record_pages.specs.Looking.{has_key}
 use Rattle.klog_index.specs.declared.entry.Entry.{Entry}
@@ -13,10 +14,10 @@ use Rattle.klog.specs.declared.looked.Looked.TheVariants as looked
 use Rattle.klog.specs.Log.{LogState}
 use Rattle.klog.specs.Shown.{shown_on, CanStandFor, IsLiveOn}
 use Rattle.klog.specs.Known.{no_pages, is_buffered, IsPageKnown, IsHad, ShowsIfHad}
-use Rattle.klog.specs.Look.{ShowsOther, IsReached, LooksAt, lowered_in, IsInBuffers, GivesBuffered}
+use Rattle.klog.specs.Look.{ShowsOther, IsReached, LooksAt, lowered_in, IsInBuffers, GivesAt, GivesBuffered}
 use Rattle.klog.proofs.LookLaws.{got, got_early, reached_listed}
 
-module _ (bytes : ℕ) (k : LogState) (set tag : ℕ) (key : List ℕ) (e : Entry) (r : Rec) (here : IsInBuffers bytes k set tag key e r) where
+module _ (bytes : ℕ) (k : LogState) (set tag : ℕ) (key : List ℕ) (moment : ℕ) (e : Entry) (r : Rec) (here : IsInBuffers bytes k set tag key e r) where
   abbrev es : List Entry
   es = of_tag set tag k.entries
 
@@ -65,24 +66,42 @@ module _ (bytes : ℕ) (k : LogState) (set tag : ℕ) (key : List ℕ) (e : Entr
   both (Some x) C D one other = false≢true (sym one.1 ∙ other.1.0)
   both None C D one other = one
 
-  -- a hit is its record
-  hit : (new : LogState) (value : List ℕ) (nc : Type 0) → LooksAt bytes no_pages k set tag key (Ok (looked.Hit value)) new nc → GivesBuffered k set e r new nc (looked.Hit value)
-  hit new value nc at =
-      ⊎_elim (λ same. found (same_entry at.entry at.reached same))
+  -- an entry that was come to and shows the key is this one, and what it shows is its record
+  its_own : (D : Rec → Type 0) (x : Entry) (h : IsReached bytes no_pages k set tag key x) → ShowsIfHad bytes no_pages k x (λ y. (has_key key y ≡ true) × D y) → (x ≡ e) × D r
+  its_own D x h shows =
+      ⊎_elim (λ same. found (same_entry x h same))
       (⊎_elim
-      (λ lt. absurd (both (shown_on no_pages k at.entry) (CanStandFor bytes k.shape at.entry) (λ x. x.value ≡ value) (other_before at.entry at.reached lt (before_had at.entry at.reached lt)) (at.shows (before_had at.entry at.reached lt))))
-      (λ gt. absurd (not_past at.entry at.reached gt)))
-      (cases_order at.reached.behind behind)
+      (λ lt. absurd (both (shown_on no_pages k x) (CanStandFor bytes k.shape x) D (other_before x h lt (before_had x h lt)) (shows (before_had x h lt))))
+      (λ gt. absurd (not_past x h gt)))
+      (cases_order h.behind behind)
     where
-      found : at.entry ≡ e → GivesBuffered k set e r new nc (looked.Hit value)
+      found : x ≡ e → (x ≡ e) × D r
       found is =
-          let shows : ShowsIfHad bytes no_pages k e (λ x. (has_key key x ≡ true) × (x.value ≡ value)) = subst (λ (x : Entry). ShowsIfHad bytes no_pages k x (λ x. (has_key key x ≡ true) × (x.value ≡ value))) is at.shows in
-          let its = subst (λ (o : Option Rec). IsSomeAnd o (λ x. CanStandFor bytes k.shape e x × ((has_key key x ≡ true) × (x.value ≡ value)))) here.shows (shows here_had) in
-          record {
-            hit = ap looked.Hit (sym its.1.1);
-            lowered = at.lowered ∙ ap (λ (x : Entry). lowered_in k set x.place) is;
-            uncalled = at.uncalled (subst (λ (x : Entry). IsTrue (is_buffered k x)) (sym is) (early e behind (omega arith) here.reached.at));
-          }
+          let its = subst (λ (y : Entry). ShowsIfHad bytes no_pages k y (λ z. (has_key key z ≡ true) × D z)) is shows in
+          (is, (subst (λ (o : Option Rec). IsSomeAnd o (λ z. CanStandFor bytes k.shape e z × ((has_key key z ≡ true) × D z))) here.shows (its here_had)).1.1)
+
+  buffered_as : (x : Entry) → x ≡ e → IsTrue (is_buffered k x)
+  buffered_as x is = subst (λ (y : Entry). IsTrue (is_buffered k y)) (sym is) (early e behind (omega arith) here.reached.at)
+
+  -- a hit is its record
+  hit : (new : LogState) (value : List ℕ) (nc : Type 0) → LooksAt bytes no_pages k set tag key moment (Ok (looked.Hit value)) new nc → GivesBuffered moment k set e r new nc (looked.Hit value)
+  hit new value nc at =
+      let own = its_own (λ y. value_at moment y.value ≡ Some value) at.entry at.reached at.shows in
+      subst (λ (o : Option (List ℕ)). GivesAt o k set e new nc (looked.Hit value)) (sym own.1) (record {
+        hit = refl;
+        lowered = at.lowered ∙ ap (λ (x : Entry). lowered_in k set x.place) own.0;
+        uncalled = at.uncalled (buffered_as at.entry own.0);
+      })
+
+  -- and what has expired is its record
+  expired : (new : LogState) (nc : Type 0) → LooksAt bytes no_pages k set tag key moment (Ok looked.Expired) new nc → GivesBuffered moment k set e r new nc looked.Expired
+  expired new nc at =
+      let own = its_own (λ y. value_at moment y.value ≡ None) at.entry at.reached at.shows in
+      subst (λ (o : Option (List ℕ)). GivesAt o k set e new nc looked.Expired) (sym own.1) (record {
+        expired = refl;
+        stays = at.stays;
+        uncalled = at.uncalled (buffered_as at.entry own.0);
+      })
 
   -- no fault is met
   not_unbuffered : (x : Entry) (h : IsReached bytes no_pages k set tag key x) → is_buffered k x ≡ false → ⊥
@@ -106,15 +125,16 @@ module _ (bytes : ℕ) (k : LogState) (set tag : ℕ) (key : List ℕ) (e : Entr
       (⊎_elim (λ lt. dead (weaker x (other_before x h lt) (before_had x h lt))) (λ gt. not_past x h gt))
       (cases_order h.behind behind)
 
-  by_result : (new : LogState) (nc : Type 0) (result : Result Looked AllocError) → LooksAt bytes no_pages k set tag key result new nc
-      → IfOk result (GivesBuffered k set e r new nc)
+  by_result : (new : LogState) (nc : Type 0) (result : Result Looked AllocError) → LooksAt bytes no_pages k set tag key moment result new nc
+      → IfOk result (GivesBuffered moment k set e r new nc)
   by_result new nc (Ok (looked.Hit value)) at = hit new value nc at
+  by_result new nc (Ok looked.Expired) at = expired new nc at
   by_result new nc (Ok looked.Absent) at = absurd (not_other (All-contains (ShowsOther bytes no_pages k key) es e at (reached_listed bytes no_pages k set tag key e here.reached)))
   by_result new nc (Ok looked.Fault) at = absurd (not_unbuffered at.entry at.reached at.stored)
   by_result new nc (Ok looked.Damaged) at = absurd (not_damaged at.entry at.reached at.dead)
   by_result new nc (Err x) at = tt
 
-pub told_by_buffers : (bytes : ℕ) (k new : LogState) (set tag : ℕ) (key : List ℕ) (e : Entry) (r : Rec) (result : Result Looked AllocError) (nc : Type 0)
-    → LooksAt bytes no_pages k set tag key result new nc → IsInBuffers bytes k set tag key e r
-    → IfOk result (GivesBuffered k set e r new nc)
-told_by_buffers bytes k new set tag key e r result nc at here = by_result bytes k set tag key e r here new nc result at
+pub told_by_buffers : (bytes : ℕ) (k new : LogState) (set tag : ℕ) (key : List ℕ) (moment : ℕ) (e : Entry) (r : Rec) (result : Result Looked AllocError) (nc : Type 0)
+    → LooksAt bytes no_pages k set tag key moment result new nc → IsInBuffers bytes k set tag key e r
+    → IfOk result (GivesBuffered moment k set e r new nc)
+told_by_buffers bytes k new set tag key moment e r result nc at here = by_result bytes k set tag key moment e r here new nc result at

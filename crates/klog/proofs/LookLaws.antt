@@ -9,6 +9,7 @@ use Rattle.std.proofs.lemmas.Bool.{and_from, and_parts, eq-eqb, eqb-true, false�
 use Rattle.std.proofs.lemmas.List.{take_all, take-append-drop}
 use Rattle.std.proofs.lemmas.List.Elements.{All-filter, All-cons, All-nil, All-head, All-tail, All-more, All-contains, All-contains_itself, All-take, filter_passes}
 use Rattle.std.proofs.lemmas.Option.{slice_get_within, get_or_from_slice_get}
+use Rattle.record_pages.specs.Expiry.{value_at}
 use Rattle.record_pages.specs.Recs.{Rec}
 use Rattle.record_pages.specs.Looking.{has_key}
 use Rattle.klog_index.specs.declared.entry.Entry.{Entry}
@@ -195,8 +196,8 @@ pub turn_first : (P : Entry → Type 0) (k : LogState) (set tag behind : ℕ) (e
 turn_first P k set tag behind e at all = first_ones P (of_tag set tag k.entries) behind e at all
 
 -- what is told of it, as another word has it
-pub turn_tells : (bytes : ℕ) (known : ℕ → Option (List ℕ)) (k : LogState) (key : List ℕ) (e : Entry) (t t' : Result Told AllocError) → t ≡ t' → TellsKey bytes known k e key t → TellsKey bytes known k e key t'
-turn_tells bytes known k key e t t' is tells = subst (TellsKey bytes known k e key) is tells
+pub turn_tells : (bytes : ℕ) (known : ℕ → Option (List ℕ)) (k : LogState) (key : List ℕ) (moment : ℕ) (e : Entry) (t t' : Result Told AllocError) → t ≡ t' → TellsKey bytes known k e key moment t → TellsKey bytes known k e key moment t'
+turn_tells bytes known k key moment e t t' is tells = subst (TellsKey bytes known k e key moment) is tells
 
 -- the search came to it
 pub turn_reached : (bytes : ℕ) (held : ℕ → Option (List ℕ)) (k : LogState) (set tag : ℕ) (key : List ℕ) (behind : ℕ) (e : Entry) → AtTurn k set tag behind e
@@ -241,16 +242,16 @@ newest_in bytes held k key placed is spelled =
     ap (λ (p : Placed). newest_with (live_by (shown_on held k) (of_tag p.set p.tag k.entries)) key) is ∙ newest_of_tag bytes held k key spelled
 
 -- a hit is the newest live record of the key
-hit_newest : (bytes : ℕ) (held : ℕ → Option (List ℕ)) (k : LogState) (key : List ℕ) (placed : Placed) (e : Entry) (value : List ℕ) → placed ≡ place_in k.shape key → IsSpelledOn bytes held k
-    → IsReached bytes held k placed.set placed.tag key e → ShowsIfHad bytes held k e (λ r. (has_key key r ≡ true) × (r.value ≡ value)) → Finds k (live_on held k) key (found.Hit e value)
-hit_newest bytes held k key placed e value is spelled reached shows =
+hit_newest : (bytes : ℕ) (held : ℕ → Option (List ℕ)) (k : LogState) (key : List ℕ) (moment : ℕ) (placed : Placed) (e : Entry) (value : Option (List ℕ)) → placed ≡ place_in k.shape key → IsSpelledOn bytes held k
+    → IsReached bytes held k placed.set placed.tag key e → ShowsIfHad bytes held k e (λ r. (has_key key r ≡ true) × (value_at moment r.value ≡ value)) → Finds k (live_on held k) key moment (found.Hit e value)
+hit_newest bytes held k key moment placed e value is spelled reached shows =
     let es = of_tag placed.set placed.tag k.entries in
     let behind = reached.behind in
     let live = spelled_live bytes held k placed.set placed.tag spelled in
     let newer : All (OtherBy (shown_on held k) key) (take behind es) = spelled_other bytes held k key (take behind es) (All-take (IsLiveOn bytes held k) behind es live) reached.newer in
     let here : IsLiveOn bytes held k e = All-contains (IsLiveOn bytes held k) es e live (reached_listed bytes held k placed.set placed.tag key e reached) in
-    let hit : (r : Rec) × (shown_on held k e ≡ Some r) × (has_key key r ≡ true) × (r.value ≡ value) =
-    known (shown_on held k e) refl (shows_live bytes held k e (λ r. (has_key key r ≡ true) × (r.value ≡ value)) here shows) in (
+    let hit : (r : Rec) × (shown_on held k e ≡ Some r) × (has_key key r ≡ true) × (value_at moment r.value ≡ value) =
+    known (shown_on held k e) refl (shows_live bytes held k e (λ r. (has_key key r ≡ true) × (value_at moment r.value ≡ value)) here shows) in (
       hit.0,
       sym (newest_in bytes held k key placed is spelled)
           ∙ ap (λ (xs : List Entry). newest_with (live_by (shown_on held k) xs) key) (split_at es behind e reached.at)
@@ -258,7 +259,7 @@ hit_newest bytes held k key placed e value is spelled reached shows =
       hit.3,
     )
   where
-    known : (o : Option Rec) → shown_on held k e ≡ o → IsSomeAnd o (λ r. (has_key key r ≡ true) × (r.value ≡ value)) → (r : Rec) × (shown_on held k e ≡ Some r) × (has_key key r ≡ true) × (r.value ≡ value)
+    known : (o : Option Rec) → shown_on held k e ≡ o → IsSomeAnd o (λ r. (has_key key r ≡ true) × (value_at moment r.value ≡ value)) → (r : Rec) × (shown_on held k e ≡ Some r) × (has_key key r ≡ true) × (value_at moment r.value ≡ value)
     known (Some r) at h = (r, at, h.0, h.1)
     known None at h = absurd h
 
@@ -308,12 +309,12 @@ comes_to_page bytes held k key placed e is spelled reached stored =
     known None at h = absurd h
 
 -- so what lies behind an answer gives what is found
-pub finds_of : (bytes : ℕ) (held : ℕ → Option (List ℕ)) (k : LogState) (key : List ℕ) (placed : Placed) (f : Found) → placed ≡ place_in k.shape key
-    → FindsAt bytes held k placed.set placed.tag key (Ok f) → IsSpelledOn bytes held k → Finds k (live_on held k) key f
-finds_of bytes held k key placed (found.Hit e value) is at spelled = hit_newest bytes held k key placed e value is spelled at.0 at.1
-finds_of bytes held k key placed found.Absent is at spelled = absent_none bytes held k key placed is spelled at
-finds_of bytes held k key placed found.Fault is at spelled = comes_to_page bytes held k key placed at.entry is spelled at.reached at.stored
-finds_of bytes held k key placed found.Damaged is at spelled =
+pub finds_of : (bytes : ℕ) (held : ℕ → Option (List ℕ)) (k : LogState) (key : List ℕ) (moment : ℕ) (placed : Placed) (f : Found) → placed ≡ place_in k.shape key
+    → FindsAt bytes held k placed.set placed.tag key moment (Ok f) → IsSpelledOn bytes held k → Finds k (live_on held k) key moment f
+finds_of bytes held k key moment placed (found.Hit e value) is at spelled = hit_newest bytes held k key moment placed e value is spelled at.0 at.1
+finds_of bytes held k key moment placed found.Absent is at spelled = absent_none bytes held k key placed is spelled at
+finds_of bytes held k key moment placed found.Fault is at spelled = comes_to_page bytes held k key placed at.entry is spelled at.reached at.stored
+finds_of bytes held k key moment placed found.Damaged is at spelled =
     at.dead (All-contains (IsLiveOn bytes held k) (of_tag placed.set placed.tag k.entries) at.entry (spelled_live bytes held k placed.set placed.tag spelled)
     (reached_listed bytes held k placed.set placed.tag key at.entry at.reached))
 

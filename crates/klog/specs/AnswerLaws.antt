@@ -93,7 +93,7 @@ OldestTellsFirst =
 
 -- how many bytes a record takes on its page
 abbrev pub bytes_of : LogRecord → ℕ
-bytes_of x = object_size x.key x.value
+bytes_of x = object_size x.key x.value.value
 
 -- a page of so many bytes, with these records, live or dead, takes this one too: its bytes fit, and there are not too many
 pub record TakesOneMore (bytes : ℕ) (r : Rec) (records : List LogRecord) : Type 0 where

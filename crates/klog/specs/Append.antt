@@ -2,6 +2,7 @@
 use Rattle.std.specs.Prelude.{◌≡◌, ℕ, ◌<◌, ◌^◌, List, ◌∷◌, [], length, Bool, true, false, ◌||◌, nat_lt, nat_le, if◌then◌else◌}
 use Rattle.record_pages.specs.Sizes.{entering_prediction}
 use Rattle.record_pages.specs.Recs.{Rec, rec}
+use Rattle.record_pages.specs.declared.timed_value.TimedValue.{TimedValue}
 use Rattle.klog_index.specs.declared.entry.Entry.{Entry}
 use Rattle.klog.specs.declared.appended.Appended.{Appended}
 use Rattle.klog.specs.declared.appended.Appended.TheVariants as answers
@@ -11,7 +12,7 @@ use Rattle.klog.specs.Names.{name_of, filled_number}
 use Rattle.klog.specs.Shown.{place_in}
 
 -- the record of a key and value that enters a log
-abbrev pub entering : List ℕ → List ℕ → Rec
+abbrev pub entering : List ℕ → TimedValue → Rec
 entering key value = rec key value entering_prediction
 
 -- the filled segment becomes the flushed one, and an empty one is filled

@@ -1,6 +1,7 @@
 -- What the entries of a set with a tag say of a key.
 use Rattle.std.specs.Prelude.{◌≡◌, ℕ, ◌==◌, filter, List, Option, Some, None, All, Contains, Bool, true, false, IsTrue, Result, Ok, Err}
 use Rattle.std.specs.declared.alloc.AllocError.{AllocError}
+use Rattle.record_pages.specs.Expiry.{value_at}
 use Rattle.record_pages.specs.Recs.{Rec}
 use Rattle.record_pages.specs.Looking.{has_key}
 use Rattle.klog_index.specs.declared.entry.Entry.{Entry}
@@ -23,14 +24,14 @@ abbrev pub is_told_fault : Result Told AllocError → Bool
 is_told_fault (Ok told.Fault) = true
 is_told_fault _ = false
 
--- What is told of what an entry shows, where that is known: it has the key, and this value; or it has another key. Where
--- one is damaged no record lies there that may stand for the entry; and memory is wanted only for a value.
-abbrev pub TellsKey : ℕ → (ℕ → Option (List ℕ)) → LogState → Entry → List ℕ → Result Told AllocError → Type 0
-TellsKey bytes held k e key (Ok (told.Hit value)) = ShowsIfHad bytes held k e (λ r. (has_key key r ≡ true) × (r.value ≡ value))
-TellsKey bytes held k e key (Ok told.Other) = ShowsOther bytes held k key e
-TellsKey bytes held k e key (Ok told.Fault) = Unit {0}
-TellsKey bytes held k e key (Ok told.Damaged) = IsLiveOn bytes held k e → ⊥
-TellsKey bytes held k e key (Err x) = ShowsIfHad bytes held k e (λ r. has_key key r ≡ true)
+-- What is told of what an entry shows at a moment, where that is known: it has the key, and this value, or is not live; or it
+-- has another key. Where one is damaged no record lies there that may stand for the entry; and memory is wanted only for a value.
+abbrev pub TellsKey : ℕ → (ℕ → Option (List ℕ)) → LogState → Entry → List ℕ → ℕ → Result Told AllocError → Type 0
+TellsKey bytes held k e key moment (Ok (told.Hit value)) = ShowsIfHad bytes held k e (λ r. (has_key key r ≡ true) × (value_at moment r.value ≡ value))
+TellsKey bytes held k e key moment (Ok told.Other) = ShowsOther bytes held k key e
+TellsKey bytes held k e key moment (Ok told.Fault) = Unit {0}
+TellsKey bytes held k e key moment (Ok told.Damaged) = IsLiveOn bytes held k e → ⊥
+TellsKey bytes held k e key moment (Err x) = ShowsIfHad bytes held k e (λ r. has_key key r ≡ true)
 
 -- the device failed when a key was searched for
 abbrev pub is_found_fault : Result Found AllocError → Bool
@@ -46,17 +47,17 @@ IsOfTag k set tag not_called found.Damaged = Unit {0}
 
 -- the newest live record of the key is found, with its entry; absent is a key that none has; a fault comes only where the
 -- search comes to a page; no page is damaged
-abbrev pub Finds : LogState → List (Entry × Rec) → List ℕ → Found → Type 0
-Finds k live key (found.Hit e value) = (r : Rec) × (newest_with live key ≡ Some (e, r)) × (r.value ≡ value)
-Finds k live key found.Absent = newest_with live key ≡ None
-Finds k live key found.Fault = ComesToPage k key live
-Finds k live key found.Damaged = ⊥
+abbrev pub Finds : LogState → List (Entry × Rec) → List ℕ → ℕ → Found → Type 0
+Finds k live key moment (found.Hit e value) = (r : Rec) × (newest_with live key ≡ Some (e, r)) × (value_at moment r.value ≡ value)
+Finds k live key moment found.Absent = newest_with live key ≡ None
+Finds k live key moment found.Fault = ComesToPage k key live
+Finds k live key moment found.Damaged = ⊥
 
 -- what lies behind each answer of a search: behind a hit, the entry that is found
-abbrev pub FindsAt : ℕ → (ℕ → Option (List ℕ)) → LogState → ℕ → ℕ → List ℕ → Result Found AllocError → Type 0
-FindsAt bytes held k set tag key (Ok (found.Hit e value)) =
-    IsReached bytes held k set tag key e × ShowsIfHad bytes held k e (λ r. (has_key key r ≡ true) × (r.value ≡ value))
-FindsAt bytes held k set tag key (Ok found.Absent) = All (ShowsOther bytes held k key) (of_tag set tag k.entries)
-FindsAt bytes held k set tag key (Ok found.Fault) = FailsAt bytes held k set tag key
-FindsAt bytes held k set tag key (Ok found.Damaged) = DamagedAt bytes held k set tag key
-FindsAt bytes held k set tag key (Err x) = WantsAt bytes held k set tag key
+abbrev pub FindsAt : ℕ → (ℕ → Option (List ℕ)) → LogState → ℕ → ℕ → List ℕ → ℕ → Result Found AllocError → Type 0
+FindsAt bytes held k set tag key moment (Ok (found.Hit e value)) =
+    IsReached bytes held k set tag key e × ShowsIfHad bytes held k e (λ r. (has_key key r ≡ true) × (value_at moment r.value ≡ value))
+FindsAt bytes held k set tag key moment (Ok found.Absent) = All (ShowsOther bytes held k key) (of_tag set tag k.entries)
+FindsAt bytes held k set tag key moment (Ok found.Fault) = FailsAt bytes held k set tag key
+FindsAt bytes held k set tag key moment (Ok found.Damaged) = DamagedAt bytes held k set tag key
+FindsAt bytes held k set tag key moment (Err x) = WantsAt bytes held k set tag key

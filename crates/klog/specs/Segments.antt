@@ -9,12 +9,13 @@ use Rattle.klog_index.specs.Entries.{is_at, is_on}
 use Rattle.klog.specs.Log.{LogState}
 use Rattle.klog.specs.Names.{name_of, flushed_number, filled_number}
 use Rattle.klog.specs.Shown.{live_on}
+use Rattle.record_pages.specs.declared.timed_value.TimedValue.{TimedValue}
 
 -- a record of the log: its slot on its page, its key and value, and its prediction while it is live; a dead one has none
 pub record LogRecord : Type 0 where
   pub slot : ℕ
   pub key : List ℕ
-  pub value : List ℕ
+  pub value : TimedValue
   pub prediction : Option ℕ
 
 -- a segment: its number, and its pages, each with its records in the order in which they entered

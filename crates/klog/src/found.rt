@@ -5,8 +5,9 @@ use record_pages::Value;
 /// What the entries of a key's set and tag say of it.
 #[derive(Debug, Drop)]
 pub(crate) enum Found {
-    /// The record of this entry is the newest live one with the key, and has this value.
-    Hit(Entry, Value),
+    /// The record of this entry is the newest live one with the key, and has this value, if
+    /// it has not expired at the moment.
+    Hit(Entry, Option<Value>),
     /// No live record has the key.
     Absent,
     /// The device failed.

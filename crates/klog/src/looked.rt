@@ -4,8 +4,10 @@ use record_pages::Value;
 /// What a look-up in the log answers.
 #[derive(Debug, Drop)]
 pub enum Looked {
-    /// The value of the newest live record with the key.
+    /// The value of the newest live record with the key, which has not expired.
     Hit(Value),
+    /// The newest live record with the key has expired.
+    Expired,
     /// No live record has the key.
     Absent,
     /// The device failed.

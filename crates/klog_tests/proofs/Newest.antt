@@ -1,5 +1,5 @@
 -- A record that was just appended lies in the buffer that is filled.
-use Rattle.std.proofs.Common.{◌≡◌, ℕ, ◌≤◌, Bool, true, false, cond, ◌||◌, ◌&&◌, ◌==◌, List, [], ◌∷◌, length, get_or, take, Option, Some, None, All, slice_get, refl, sym, ap, subst, ◌∙◌, arith}
+use Rattle.std.proofs.Common.{◌≡◌, ℕ, ◌<◌, ◌≤◌, ◌^◌, Bool, true, false, cond, ◌||◌, ◌&&◌, ◌==◌, List, [], ◌∷◌, length, get_or, take, Option, Some, None, All, slice_get, refl, sym, ap, subst, ◌∙◌, arith}
 use Rattle.std.specs.Prelude.{IsTrue}
 use Rattle.std.specs.List.{filter_map, cons_option}
 use Rattle.std.specs.Option.{option_map}
@@ -9,6 +9,7 @@ use Rattle.std.proofs.lemmas.List.Elements.{All-cons, All-nil}
 use Rattle.record_pages.specs.Bounded.{IsKey, IsValue}
 use Rattle.record_pages.specs.Sizes.{object_size, room}
 use Rattle.record_pages.specs.Recs.{Rec}
+use Rattle.record_pages.specs.declared.timed_value.TimedValue.{TimedValue}
 use Rattle.set_hash.specs.declared.placed.Placed.{Placed}
 use Rattle.klog_index.specs.declared.entry.Entry.{Entry}
 use Rattle.klog_index.specs.Entries.{has_tag, of_tag}
@@ -55,7 +56,7 @@ taker_shape bytes k r = step (can_add bytes (filling_buffer k) r)
     step true = refl
     step false = refl
 
-module _ (bytes : ℕ) (t : LogState) (key value : List ℕ) where
+module _ (bytes : ℕ) (t : LogState) (key : List ℕ) (value : TimedValue) where
   abbrev r : Rec
   r = entering key value
 
@@ -72,22 +73,22 @@ module _ (bytes : ℕ) (t : LogState) (key value : List ℕ) where
   first = rw its_tag refl
 
   -- a record that was put on the filled segment, and which its entry shows, is what the buffers tell of its key
-  told_by_filled : object_size key value ≤ room bytes → IsKey key → IsValue value → shown_on no_pages k e ≡ Some r → IsInBuffers bytes k (place_in t.shape key).set (place_in t.shape key).tag key e r
-  told_by_filled small is_key is_value shows = record {
+  told_by_filled : object_size key value.value ≤ room bytes → IsKey key → IsValue value.value → value.expires < 2 ^ 64 → shown_on no_pages k e ≡ Some r → IsInBuffers bytes k (place_in t.shape key).set (place_in t.shape key).tag key e r
+  told_by_filled small is_key is_value fits shows = record {
     reached = record { behind = 0; at = ap (λ (xs : List Entry). slice_get xs 0) first; newer = All-nil (ShowsOther bytes no_pages k key) };
     buffered = subst (λ (xs : List Entry). All (λ x. IsTrue (is_buffered k x)) (take 1 xs)) (sym first) (All-cons (λ x. IsTrue (is_buffered k x)) e [] (in_a_buffer k e r shows) (All-nil (λ x. IsTrue (is_buffered k x))));
     shows = shows;
-    its = record { set_is = refl; tag_is = refl; small = small; lawful = record { key = is_key; value = is_value; pred = omega arith } };
+    its = record { set_is = refl; tag_is = refl; small = small; lawful = record { key = is_key; value = is_value; expires = fits; pred = omega arith } };
     has = nat_list_eq_equiv.refl key;
   }
 
 -- an append that added its record makes it what the buffers tell of its key
-pub told_after_append : (bytes : ℕ) (old new : LogState) (key value : List ℕ) (placed : Placed) → object_size key value ≤ room bytes → IsKey key → IsValue value
+pub told_after_append : (bytes : ℕ) (old new : LogState) (key : List ℕ) (value : TimedValue) (placed : Placed) → object_size key value.value ≤ room bytes → IsKey key → IsValue value.value → value.expires < 2 ^ 64
     → placed ≡ place_in old.shape key
     → AppendGives bytes old (entering key value) answers.Appended new
     → live_on no_pages new ≡ live_appended bytes old (entering key value) answers.Appended (live_on no_pages old)
     → IsInBuffers bytes new placed.set placed.tag key (entry_for bytes (taker bytes old (entering key value)) (entering key value)) (entering key value)
-told_after_append bytes old new key value placed small is_key is_value place gives live =
+told_after_append bytes old new key value placed small is_key is_value fits place gives live =
     let r : Rec = entering key value in
     let t : LogState = taker bytes old r in
     let e : Entry = entry_for bytes t r in
@@ -95,4 +96,4 @@ told_after_append bytes old new key value placed small is_key is_value place giv
     subst (λ (k : LogState). shown_on no_pages k e ≡ Some r) gives.added (first_shown (shown_on no_pages new) new.entries e r (live_on no_pages old) live) in
     let same : place_in t.shape key ≡ placed = ap (λ (s : Shape). place_in s key) (taker_shape bytes old r) ∙ sym place in
     subst (λ (k : LogState). IsInBuffers bytes k placed.set placed.tag key e r) (sym gives.added)
-    (subst (λ (p : Placed). IsInBuffers bytes (put_on bytes t r) p.set p.tag key e r) same (told_by_filled bytes t key value small is_key is_value shows))
+    (subst (λ (p : Placed). IsInBuffers bytes (put_on bytes t r) p.set p.tag key e r) same (told_by_filled bytes t key value small is_key is_value fits shows))

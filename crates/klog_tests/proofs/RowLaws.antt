@@ -7,6 +7,7 @@ use Rattle.std.proofs.lemmas.List.Elements.{All-cons, All-nil, All-weaker, All-c
 use Rattle.std.proofs.lemmas.Option.{slice_get_within}
 use Rattle.klog_index.specs.declared.entry.Entry.{Entry}
 use Rattle.klog_index.specs.Entries.{is_on, is_in, has_tag, of_tag, without}
+use Rattle.record_pages.specs.Expiry.{value_at}
 use Rattle.record_pages.specs.Recs.{Rec}
 use Rattle.klog.specs.declared.looked.Looked.{Looked}
 use Rattle.klog.specs.declared.looked.Looked.TheVariants as looked
@@ -21,7 +22,8 @@ use Rattle.klog.specs.Keeps.{IsHeld}
 use Rattle.klog.specs.Laws.{NamesTellNumbers}
 use Rattle.klog.specs.Known.{no_pages, is_buffered, AreBuffered}
 use Rattle.klog.specs.Append.{entering, entry_for, sealed, taker}
-use Rattle.klog.specs.Look.{LooksAt, LogLookGives, GivesRecord}
+use Rattle.klog.specs.Look.{LooksAt, LogLookGives, GivesAt, GivesRecord}
+use Rattle.klog_tests.specs.Telling.{looked_by}
 use Rattle.klog.specs.Moves.{TakeLeaves, ReadmitLeaves, without_entry, is_taken, dropped}
 use Rattle.klog.specs.declared.taken_record.TakenRecord.{TakenRecord}
 use Rattle.klog.specs.declared.flushed.Flushed.{Flushed}
@@ -143,13 +145,14 @@ no_slot : (es : List Entry) (i : ℕ) (e : Entry) → es ≡ [] → slice_get es
 no_slot es i e none at = let within = slice_get_within es i e at in let empty : length es ≡ 0 = ap length none in omega (arith, within, empty)
 
 -- where no entry has the tag a look answers Absent
-pub absent_where_none : (bytes : ℕ) (k new : LogState) (set tag : ℕ) (key : List ℕ) (result : Result Looked AllocError) (nc : Type 0) → of_tag set tag k.entries ≡ []
-    → LooksAt bytes no_pages k set tag key result new nc → result ≡ Ok looked.Absent
-absent_where_none bytes k new set tag key (Ok (looked.Hit value)) nc none at = absurd (no_slot (of_tag set tag k.entries) at.reached.behind at.entry none at.reached.at)
-absent_where_none bytes k new set tag key (Ok looked.Absent) nc none at = refl
-absent_where_none bytes k new set tag key (Ok looked.Fault) nc none at = absurd (no_slot (of_tag set tag k.entries) at.reached.behind at.entry none at.reached.at)
-absent_where_none bytes k new set tag key (Ok looked.Damaged) nc none at = absurd (no_slot (of_tag set tag k.entries) at.reached.behind at.entry none at.reached.at)
-absent_where_none bytes k new set tag key (Err x) nc none at = absurd (no_slot (of_tag set tag k.entries) at.reached.behind at.entry none at.reached.at)
+pub absent_where_none : (bytes : ℕ) (k new : LogState) (set tag : ℕ) (key : List ℕ) (moment : ℕ) (result : Result Looked AllocError) (nc : Type 0) → of_tag set tag k.entries ≡ []
+    → LooksAt bytes no_pages k set tag key moment result new nc → result ≡ Ok looked.Absent
+absent_where_none bytes k new set tag key moment (Ok (looked.Hit value)) nc none at = absurd (no_slot (of_tag set tag k.entries) at.reached.behind at.entry none at.reached.at)
+absent_where_none bytes k new set tag key moment (Ok looked.Absent) nc none at = refl
+absent_where_none bytes k new set tag key moment (Ok looked.Expired) nc none at = absurd (no_slot (of_tag set tag k.entries) at.reached.behind at.entry none at.reached.at)
+absent_where_none bytes k new set tag key moment (Ok looked.Fault) nc none at = absurd (no_slot (of_tag set tag k.entries) at.reached.behind at.entry none at.reached.at)
+absent_where_none bytes k new set tag key moment (Ok looked.Damaged) nc none at = absurd (no_slot (of_tag set tag k.entries) at.reached.behind at.entry none at.reached.at)
+absent_where_none bytes k new set tag key moment (Err x) nc none at = absurd (no_slot (of_tag set tag k.entries) at.reached.behind at.entry none at.reached.at)
 
 -- entries of other sets stay where taken records are dropped
 pub off_set : (k : LogState) (set : ℕ) (ts : List TakenRecord) (other : Entry) → Contains k.entries other → other.set ≢ set → Contains (dropped k set ts).entries other
@@ -180,19 +183,26 @@ newest_still old a live seen key x is at apart = subst (λ (xs : List (Entry × 
     step false = at
 
 -- so a look behind it does not answer that it is absent
-pub not_absent : (live : List (Entry × Rec)) (key : List ℕ) (x : Entry × Rec) (old : LogState) (a : Looked) (new : LogState) (after : List (Entry × Rec)) → newest_with live key ≡ Some x
-    → LogLookGives live key old a new after → ◌≡◌ {A = Result Looked AllocError} (Ok a) (Ok looked.Absent) → ⊥
-not_absent live key x old looked.Absent new after there h is = let none : None ≡ Some x = sym h.0 ∙ there in grind (arith, none)
-not_absent live key x old (looked.Hit value) new after there h is = grind (arith, is)
-not_absent live key x old looked.Fault new after there h is = grind (arith, is)
-not_absent live key x old looked.Damaged new after there h is = absurd h
+pub not_absent : (live : List (Entry × Rec)) (key : List ℕ) (moment : ℕ) (x : Entry × Rec) (old : LogState) (a : Looked) (new : LogState) (after : List (Entry × Rec)) → newest_with live key ≡ Some x
+    → LogLookGives live key moment old a new after → ◌≡◌ {A = Result Looked AllocError} (Ok a) (Ok looked.Absent) → ⊥
+not_absent live key moment x old looked.Absent new after there h is = let none : None ≡ Some x = sym h.0 ∙ there in grind (arith, none)
+not_absent live key moment x old (looked.Hit value) new after there h is = grind (arith, is)
+not_absent live key moment x old looked.Expired new after there h is = grind (arith, is)
+not_absent live key moment x old looked.Fault new after there h is = grind (arith, is)
+not_absent live key moment x old looked.Damaged new after there h is = absurd h
 
 -- and a hit is its value
-pub is_its_hit : (live : List (Entry × Rec)) (key : List ℕ) (x : Entry × Rec) (old : LogState) (a : Looked) (new : LogState) (after : List (Entry × Rec)) → newest_with live key ≡ Some x
-    → LogLookGives live key old a new after → (value : List ℕ) → ◌≡◌ {A = Result Looked AllocError} (Ok a) (Ok (looked.Hit value)) → value ≡ x.1.value
-is_its_hit live key x old (looked.Hit value) new after there h wanted is =
-    let its = subst (λ (o : Option (Entry × Rec)). IsSomeAnd o (GivesRecord live value old new after)) there h in
-    let same : value ≡ wanted = grind (arith, is) in sym same ∙ sym its.its
-is_its_hit live key x old looked.Absent new after there h wanted is = grind (arith, is)
-is_its_hit live key x old looked.Fault new after there h wanted is = grind (arith, is)
-is_its_hit live key x old looked.Damaged new after there h wanted is = absurd h
+pub is_its_hit : (live : List (Entry × Rec)) (key : List ℕ) (moment : ℕ) (x : Entry × Rec) (old : LogState) (a : Looked) (new : LogState) (after : List (Entry × Rec)) → newest_with live key ≡ Some x
+    → LogLookGives live key moment old a new after → (value : List ℕ) → ◌≡◌ {A = Result Looked AllocError} (Ok a) (Ok (looked.Hit value)) → value_at moment x.1.value ≡ Some value
+is_its_hit live key moment x old (looked.Hit value) new after there h wanted is =
+    let its = subst (λ (o : Option (Entry × Rec)). IsSomeAnd o (GivesRecord live moment value old new after)) there h in
+    let same : value ≡ wanted = grind (arith, is) in its.its ∙ ap Some same
+is_its_hit live key moment x old looked.Expired new after there h wanted is = grind (arith, is)
+is_its_hit live key moment x old looked.Absent new after there h wanted is = grind (arith, is)
+is_its_hit live key moment x old looked.Fault new after there h wanted is = grind (arith, is)
+is_its_hit live key moment x old looked.Damaged new after there h wanted is = absurd h
+
+-- what a look answers of a record that the buffers tell of
+pub answer_by : (o : Option (List ℕ)) (old : LogState) (set : ℕ) (e : Entry) (new : LogState) (nc : Type 0) (a : Looked) → GivesAt o old set e new nc a → (a ≡ looked_by o) × nc
+answer_by (Some value) old set e new nc a gives = (gives.hit, gives.uncalled)
+answer_by None old set e new nc a gives = (gives.expired, gives.uncalled)

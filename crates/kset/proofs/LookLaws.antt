@@ -7,6 +7,7 @@ use Rattle.std.specs.FinSet.{empty}
 use Rattle.std.specs.Cmp.Lexicographic.{same_text}
 use Rattle.page_device.specs.Device.{IsKnown}
 use Rattle.page_device.specs.Frames.{pages_before}
+use Rattle.record_pages.specs.Expiry.{value_at}
 use Rattle.record_pages.specs.Recs.{Rec}
 use Rattle.record_pages.specs.PageText.{SetPageParts, SpellsSetPage}
 use Rattle.record_pages.specs.Reading.{set_page_at}
@@ -93,45 +94,53 @@ reads_page size count set held bytes within p known =
     }
 
 -- what a page says of a key, told of the visible records
-abbrev pub Says : List (ℕ × Rec) → List ℕ → Told → Type 0
-Says visible key Damaged = ⊥
-Says visible key Absent = first_visible visible key ≡ None
-Says visible key (Found slot value) = IsSomeAnd (first_visible visible key) (λ x. (x.0 ≡ slot) × (x.1.value ≡ value))
+abbrev pub Says : List (ℕ × Rec) → List ℕ → ℕ → Told → Type 0
+Says visible key moment Damaged = ⊥
+Says visible key moment Absent = first_visible visible key ≡ None
+Says visible key moment (Found slot value) = IsSomeAnd (first_visible visible key) (λ x. (x.0 ≡ slot) × (value_at moment x.1.value ≡ value))
 
-says_of : (visible : List (ℕ × Rec)) (key : List ℕ) (rs : List Rec) (p : SetPageParts) (told : Told) → first_visible visible key ≡ first_with key p.records → SetPageTells key (Some p) told → Says visible key told
-says_of visible key rs p Damaged first t = t
-says_of visible key rs p Absent first t = first ∙ t
-says_of visible key rs p (Found slot value) first t =
-    let P : Option (ℕ × Rec) → Type 0 = λ o. IsSomeAnd o (λ x. (x.0 ≡ slot) × (x.1.value ≡ value)) in
+says_of : (visible : List (ℕ × Rec)) (key : List ℕ) (moment : ℕ) (rs : List Rec) (p : SetPageParts) (told : Told) → first_visible visible key ≡ first_with key p.records → SetPageTells key moment (Some p) told → Says visible key moment told
+says_of visible key moment rs p Damaged first t = t
+says_of visible key moment rs p Absent first t = first ∙ t
+says_of visible key moment rs p (Found slot value) first t =
+    let P : Option (ℕ × Rec) → Type 0 = λ o. IsSomeAnd o (λ x. (x.0 ≡ slot) × (value_at moment x.1.value ≡ value)) in
     subst P (sym first) t.1
 
-pub says : (size set : ℕ) (seen : Option (List ℕ)) (bytes key : List ℕ) (notes : Notes) (told : Told) →
-    lets_show notes (fnv1a key) ≡ true → ReadsPage size set seen bytes → SetPageTells key (page_if_of set (set_page_at bytes)) told →
-    Says (visible_from notes 0 (records_on seen)) key told
-says size set seen bytes key notes told shows r t =
+pub says : (size set : ℕ) (seen : Option (List ℕ)) (bytes key : List ℕ) (moment : ℕ) (notes : Notes) (told : Told) →
+    lets_show notes (fnv1a key) ≡ true → ReadsPage size set seen bytes → SetPageTells key moment (page_if_of set (set_page_at bytes)) told →
+    Says (visible_from notes 0 (records_on seen)) key moment told
+says size set seen bytes key moment notes told shows r t =
     let first : first_visible (visible_from notes 0 (records_on seen)) key ≡ first_with key r.page.records =
     first_visible-shown notes key shows 0 (records_on seen) ∙ ap (λ (rs : List Rec). first_with key rs) r.seen_records in
-    let at : SetPageTells key (Some r.page) told = subst (λ (o : Option SetPageParts). SetPageTells key o told) r.read t in
-    says_of (visible_from notes 0 (records_on seen)) key (records_on seen) r.page told first at
+    let at : SetPageTells key moment (Some r.page) told = subst (λ (o : Option SetPageParts). SetPageTells key moment o told) r.read t in
+    says_of (visible_from notes 0 (records_on seen)) key moment (records_on seen) r.page told first at
 
 -- a hit at the slot of the first visible record
-pub hit_gives : (visible : List (ℕ × Rec)) (key value : List ℕ) (slot set : ℕ) (old new : SetsState) →
-    Says visible key (Found slot value) → new ≡ hit_in old set slot →
-    IsSomeAnd (first_visible visible key) (λ x. (x.1.value ≡ value) × (new ≡ hit_in old set x.0))
-hit_gives visible key value slot set old new s e = noted (first_visible visible key) s
+pub hit_gives : (visible : List (ℕ × Rec)) (key value : List ℕ) (moment slot set : ℕ) (old new : SetsState) →
+    Says visible key moment (Found slot (Some value)) → new ≡ hit_in old set slot →
+    IsSomeAnd (first_visible visible key) (λ x. (value_at moment x.1.value ≡ Some value) × (new ≡ hit_in old set x.0))
+hit_gives visible key value moment slot set old new s e = noted (first_visible visible key) s
   where
-    noted : (o : Option (ℕ × Rec)) → IsSomeAnd o (λ x. (x.0 ≡ slot) × (x.1.value ≡ value)) → IsSomeAnd o (λ x. (x.1.value ≡ value) × (new ≡ hit_in old set x.0))
+    noted : (o : Option (ℕ × Rec)) → IsSomeAnd o (λ x. (x.0 ≡ slot) × (value_at moment x.1.value ≡ Some value)) → IsSomeAnd o (λ x. (value_at moment x.1.value ≡ Some value) × (new ≡ hit_in old set x.0))
     noted None h = h
     noted (Some x) h = (h.1, e ∙ ap (hit_in old set) (sym h.0))
 
+-- the first visible record is not live
+pub expired_gives : (visible : List (ℕ × Rec)) (key : List ℕ) (moment slot : ℕ) → Says visible key moment (Found slot None) → IsSomeAnd (first_visible visible key) (λ x. value_at moment x.1.value ≡ None)
+expired_gives visible key moment slot s = passed (first_visible visible key) s
+  where
+    passed : (o : Option (ℕ × Rec)) → IsSomeAnd o (λ x. (x.0 ≡ slot) × (value_at moment x.1.value ≡ None)) → IsSomeAnd o (λ x. value_at moment x.1.value ≡ None)
+    passed None h = h
+    passed (Some x) h = h.1
+
 -- what was read of a set that can show a key says of the key what the visible records say
-pub told_of : (size count set : ℕ) (held : ℕ → Option (List ℕ)) (bytes key : List ℕ) (hash : ℕ) (notes : Notes) (told : Told) → hash ≡ fnv1a key → true ≡ lets_show notes hash →
-    set < count → (notes.filter ≢ empty → IsPageOf size set (pages_before count held set)) → IsKnown (held set) bytes → SetPageTells key (page_if_of set (set_page_at bytes)) told →
-    Says (visible_from notes 0 (records_on (pages_before count held set))) key told
-told_of size count set held bytes key hash notes told hashed shows within paged known t =
+pub told_of : (size count set : ℕ) (held : ℕ → Option (List ℕ)) (bytes key : List ℕ) (moment hash : ℕ) (notes : Notes) (told : Told) → hash ≡ fnv1a key → true ≡ lets_show notes hash →
+    set < count → (notes.filter ≢ empty → IsPageOf size set (pages_before count held set)) → IsKnown (held set) bytes → SetPageTells key moment (page_if_of set (set_page_at bytes)) told →
+    Says (visible_from notes 0 (records_on (pages_before count held set))) key moment told
+told_of size count set held bytes key moment hash notes told hashed shows within paged known t =
     let has_bit = some_bit notes.filter hash (and_parts _ _ (sym shows)).0 in
     let r = reads_page size count set held bytes within (paged has_bit) known in
-    says size set (pages_before count held set) bytes key notes told (sym (shows ∙ ap (lets_show notes) hashed)) r t
+    says size set (pages_before count held set) bytes key moment notes told (sym (shows ∙ ap (lets_show notes) hashed)) r t
 
 -- no record is visible where the filter has no bit
 pub visible_from-empty : (notes : Notes) → notes.filter ≡ empty → (slot : ℕ) (rs : List Rec) → visible_from notes slot rs ≡ []

@@ -17,6 +17,7 @@ use Rattle.kset.specs.Pages.{AreSpelled, records_on}
 use Rattle.kset.specs.Shown.{visible_from}
 use Rattle.kset.specs.After.{with_set, is_one_too_many, without_hash, after_strike}
 use Rattle.kset.specs.Laws.{StrikesKeepSets, ReadingsKeepSets, RewritingsKeepSets, IsCurrent, StrikesKeepCurrent, ReadingsKeepCurrent, RewritingsKeepCurrent, FramesKeepSets}
+use Rattle.record_pages.specs.declared.timed_value.TimedValue.{TimedValue}
 
 -- what holds of what one set shows now, and of what each other shows, holds of what all show
 all_with : {X : Type 0} (P : ℕ → X → Type 0) (visible : ℕ → List X) (set : ℕ) (shows : List X) → ((other : ℕ) → other ≢ set → All (P other) (visible other)) → All (P set) shows →
@@ -55,7 +56,7 @@ rewritings_keep lanes sets set rs Written visible its all =
 rewritings_keep lanes sets set rs Forgotten visible its all = all_with (λ s (x : ℕ × Rec). (placed_of lanes sets (fnv1a x.1.key)).set ≡ s) visible set [] (λ other _. all other) (All-nil _)
 
 -- a current record with another key is current where the current value of one key alone changed
-other_key : (lanes sets : ℕ) (was is : List ℕ → Option (List ℕ)) (key : List ℕ) → ((k : List ℕ) → k ≢ key → is k ≡ was k) →
+other_key : (lanes sets : ℕ) (was is : List ℕ → Option TimedValue) (key : List ℕ) → ((k : List ℕ) → k ≢ key → is k ≡ was k) →
     (set : ℕ) (r : Rec) → IsCurrent lanes sets was set r → r.key ≢ key → IsCurrent lanes sets is set r
 other_key lanes sets was is key same set r current differs = record { now = same r.key differs ∙ current.now; its = current.its }
 

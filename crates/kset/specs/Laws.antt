@@ -12,6 +12,7 @@ use Rattle.kset.specs.Sets.{SetsState, set_count, forgotten}
 use Rattle.kset.specs.Pages.{AreSpelledOn}
 use Rattle.kset.specs.Shown.{visible_in}
 use Rattle.kset.specs.After.{with_set, after_strike, shown_after_reading, shown_after_rewriting}
+use Rattle.record_pages.specs.declared.timed_value.TimedValue.{TimedValue}
 
 -- a key belongs into this set, of so many lanes of so many sets
 abbrev pub IsKeyOf : ℕ → ℕ → ℕ → List ℕ → Type 0
@@ -44,18 +45,18 @@ RewritingsKeepSets =
     → AreOfTheirSets lanes sets (shown_after_rewriting result set rs visible)
 
 -- a record has its key's current value, and is of this set
-pub record IsCurrent (lanes sets : ℕ) (current : List ℕ → Option (List ℕ)) (set : ℕ) (r : Rec) : Type 0 where
+pub record IsCurrent (lanes sets : ℕ) (current : List ℕ → Option TimedValue) (set : ℕ) (r : Rec) : Type 0 where
   pub now : current r.key ≡ Some r.value
   pub its : IsKeyOf lanes sets set r.key
 
 -- each record that a set shows has its key's current value, and is of that set
-abbrev pub AreCurrent : ℕ → ℕ → (List ℕ → Option (List ℕ)) → (ℕ → List (ℕ × Rec)) → Type 0
+abbrev pub AreCurrent : ℕ → ℕ → (List ℕ → Option TimedValue) → (ℕ → List (ℕ × Rec)) → Type 0
 AreCurrent lanes sets current visible = (set : ℕ) → All (λ x. IsCurrent lanes sets current set x.1) (visible set)
 
 -- a strike of a key in its set keeps them current, whatever the key's current value becomes
 abbrev pub StrikesKeepCurrent : Type 0
 StrikesKeepCurrent =
-    (lanes sets : ℕ) (was is : List ℕ → Option (List ℕ)) (key : List ℕ) (set : ℕ) (notes : Notes) (visible : ℕ → List (ℕ × Rec))
+    (lanes sets : ℕ) (was is : List ℕ → Option TimedValue) (key : List ℕ) (set : ℕ) (notes : Notes) (visible : ℕ → List (ℕ × Rec))
     → IsKeyOf lanes sets set key
     → ((other : List ℕ) → other ≢ key → is other ≡ was other)
     → AreCurrent lanes sets was visible
@@ -64,14 +65,14 @@ StrikesKeepCurrent =
 -- so does a reading of a set
 abbrev pub ReadingsKeepCurrent : Type 0
 ReadingsKeepCurrent =
-    (lanes sets : ℕ) (current : List ℕ → Option (List ℕ)) (set : ℕ) (result : Result SetRead AllocError) (visible : ℕ → List (ℕ × Rec))
+    (lanes sets : ℕ) (current : List ℕ → Option TimedValue) (set : ℕ) (result : Result SetRead AllocError) (visible : ℕ → List (ℕ × Rec))
     → AreCurrent lanes sets current visible
     → AreCurrent lanes sets current (shown_after_reading result set visible)
 
 -- and a rewriting with current records of the set
 abbrev pub RewritingsKeepCurrent : Type 0
 RewritingsKeepCurrent =
-    (lanes sets : ℕ) (current : List ℕ → Option (List ℕ)) (set : ℕ) (rs : List Rec) (result : Rewritten) (visible : ℕ → List (ℕ × Rec))
+    (lanes sets : ℕ) (current : List ℕ → Option TimedValue) (set : ℕ) (rs : List Rec) (result : Rewritten) (visible : ℕ → List (ℕ × Rec))
     → All (IsCurrent lanes sets current set) rs
     → AreCurrent lanes sets current visible
     → AreCurrent lanes sets current (shown_after_rewriting result set rs visible)

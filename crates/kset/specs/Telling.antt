@@ -1,5 +1,6 @@
 -- What a page says of a key.
 use Rattle.std.specs.Prelude.{◌≡◌, ◌<◌, ◌==◌, ℕ, List, Option, Some, None, option_and_then, IsSome, IsSomeAnd, if◌then◌else◌}
+use Rattle.record_pages.specs.Expiry.{value_at}
 use Rattle.record_pages.specs.PageText.{SetPageParts}
 use Rattle.record_pages.specs.Looking.{first_with}
 use Rattle.record_pages.specs.Sizes.{max_records}
@@ -10,15 +11,15 @@ use Rattle.kset.specs.declared.page.Told.TheVariants as told
 abbrev pub page_if_of : ℕ → Option SetPageParts → Option SetPageParts
 page_if_of set read = option_and_then (λ p. if p.set == set then Some p else None) read
 
--- what a page, where there is one, says of a key
-abbrev pub SetPageTells : List ℕ → Option SetPageParts → Told → Type 0
-SetPageTells key None told.Damaged = Unit {0}
-SetPageTells key None told.Absent = ⊥
-SetPageTells key None (told.Found slot value) = ⊥
-SetPageTells key (Some p) told.Damaged = ⊥
-SetPageTells key (Some p) told.Absent = first_with key p.records ≡ None
-SetPageTells key (Some p) (told.Found slot value) =
-    (slot < max_records) × IsSomeAnd (first_with key p.records) (λ x. (x.0 ≡ slot) × (x.1.value ≡ value))
+-- what a page, where there is one, says of a key at a moment
+abbrev pub SetPageTells : List ℕ → ℕ → Option SetPageParts → Told → Type 0
+SetPageTells key moment None told.Damaged = Unit {0}
+SetPageTells key moment None told.Absent = ⊥
+SetPageTells key moment None (told.Found slot value) = ⊥
+SetPageTells key moment (Some p) told.Damaged = ⊥
+SetPageTells key moment (Some p) told.Absent = first_with key p.records ≡ None
+SetPageTells key moment (Some p) (told.Found slot value) =
+    (slot < max_records) × IsSomeAnd (first_with key p.records) (λ x. (x.0 ≡ slot) × (value_at moment x.1.value ≡ value))
 
 -- there is a page, and a record of it has the key
 abbrev pub HasKey : List ℕ → Option SetPageParts → Type 0

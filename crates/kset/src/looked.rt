@@ -4,8 +4,10 @@ use record_pages::Value;
 /// What a look-up in a set answers.
 #[derive(Debug, Drop)]
 pub enum Looked {
-    /// The value of the first visible record with the key.
+    /// The value of the first visible record with the key, which is live.
     Hit(Value),
+    /// The first visible record with the key is not live any more.
+    Expired,
     /// No visible record has the key.
     Absent,
     /// The device failed.

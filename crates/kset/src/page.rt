@@ -14,8 +14,8 @@ pub(crate) enum Told {
     Damaged,
     /// No record has the key.
     Absent,
-    /// The slot and the value of the first record with the key.
-    Found(usize, Value),
+    /// The slot of the first record with the key, and its value, if it is live at the moment.
+    Found(usize, Option<Value>),
 }
 
 /// The page that these bytes spell, where it is the page of this set.
@@ -30,15 +30,16 @@ pub(crate) fn page_of<const PAGE: usize>(bytes: &[u8; PAGE], set: u32) -> Option
     Some(page)
 }
 
-/// What these bytes say of a key, as the page of this set. Memory is asked for only where a record
+/// What these bytes say of a key at a moment, as the page of this set. Memory is asked for only where a record
 /// has the key.
 pub(crate) fn tell<const PAGE: usize>(
     alloc: Global,
     bytes: &[u8; PAGE],
     set: u32,
     key: &Key,
+    moment: u64,
 ) -> Result<Told, AllocError>
-    ensures tells { IfOk result (SetPageTells key.now (page_if_of set (set_page_at bytes.now))) }
+    ensures tells { IfOk result (SetPageTells key.now moment (page_if_of set (set_page_at bytes.now))) }
     ensures refused { OnErr result (HasKey key.now (page_if_of set (set_page_at bytes.now))) }
 {
     let Some(page) = page_of(bytes, set) else {
@@ -47,8 +48,6 @@ pub(crate) fn tell<const PAGE: usize>(
     let Some(found) = page.records().find_key(key.bytes()) else {
         return Ok(Told::Absent);
     };
-    let Ok(value) = Value::new(alloc, found.lent.value) else {
-        return Err(AllocError);
-    };
+    let value = found.lent.value_at(alloc, moment)?;
     Ok(Told::Found(found.slot, value))
 }

@@ -74,8 +74,8 @@ impl<const PAGE: usize> KSet<PAGE> {
         })
     }
 
-    /// The value of the first visible record of a key, whose slot is noted as hit. A key that the filter denies or
-    /// that is struck is absent without a call of the device. `AllocError` comes only where there is a value to copy;
+    /// The value of the first visible record of a key, if it is live at the moment: its slot is noted as hit. A key
+    /// that the filter denies or that is struck is absent without a call of the device. `AllocError` comes only where there is a value to copy;
     /// it and all other answers change nothing.
     pub fn look<D: PageDevice<PAGE>>(
         &mut self,
@@ -83,6 +83,7 @@ impl<const PAGE: usize> KSet<PAGE> {
         device: &mut D,
         placed: &Placed,
         key: &Key,
+        moment: u64,
     ) -> Result<Looked, AllocError>
         requires page_size { IsPageSize PAGE }
         requires room { set_count self.old ≤ D.page_count device.old }
@@ -102,7 +103,7 @@ impl<const PAGE: usize> KSet<PAGE> {
         ensures gives { IsTrue (D.honest device.old) →
             AreSpelledOn PAGE (D.held device.old) self.old →
             IfOk result (λ r. SetLookGives (visible_in (D.held device.old) self.old placed.now.set)
-            key.now self.old placed.now.set r self.new) }
+            key.now moment self.old placed.now.set r self.new) }
         ensures foreign { IsTrue (D.honest device.old) →
             IsForeign placed.now.set (D.held device.old placed.now.set) →
             OnTrue (lets_show (notes_of self.old placed.now.set) placed.now.hash)
@@ -121,10 +122,13 @@ impl<const PAGE: usize> KSet<PAGE> {
         let Ok(()) = device.read(placed.set, &mut bytes) else {
             return Ok(Looked::Fault);
         };
-        match tell(alloc, &bytes, placed.set, key)? {
+        match tell(alloc, &bytes, placed.set, key, moment)? {
             Told::Damaged => Ok(Looked::Damaged),
             Told::Absent => Ok(Looked::Absent),
             Told::Found(slot, value) => {
+                let Some(value) = value else {
+                    return Ok(Looked::Expired);
+                };
                 self.hit(placed.set, slot);
                 Ok(Looked::Hit(value))
             }

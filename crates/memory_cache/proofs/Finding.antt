@@ -13,10 +13,11 @@ use Rattle.std.proofs.lemmas.Map.Made.{AllPairs-from_IsDistinct}
 use Rattle.memory_cache.specs.declared.pair.Pair.{Pair}
 use Rattle.memory_cache.specs.MemoryList.{without, pair_in, value_in}
 use Rattle.memory_cache.specs.Entries.{pair_of}
+use Rattle.record_pages.specs.declared.timed_value.TimedValue.{TimedValue}
 
 -- an entry of the map
 abbrev pub Entry : Type 0
-Entry = List ℕ × List ℕ
+Entry = List ℕ × TimedValue
 
 -- no key is this one
 abbrev pub IsAbsent : List ℕ → List Entry → Type 0

@@ -10,6 +10,7 @@ use Rattle.std.proofs.lemmas.List.Elements.{All-cons, All-contains, All-contains
 use Rattle.std.proofs.lemmas.List.Kept.{AllPairs-cons, AllPairs-filter}
 use Rattle.memory_cache.specs.declared.pair.Pair.{Pair}
 use Rattle.memory_cache.specs.MemoryList.{MemoryList, IsBounded, without, pair_in, value_in, entered, to_front_by, to_front, after_put, pushed_out, after_get, after_remove}
+use Rattle.record_pages.specs.declared.timed_value.TimedValue.{TimedValue}
 
 -- another key than this
 abbrev Other : List ℕ → Pair → Type 0
@@ -131,7 +132,7 @@ bounded_remove key list b =
 
 -- ---- what is found, and what is pushed out
 
-pub found_is : (key value : List ℕ) (pairs : List Pair) → value_in key pairs ≡ Some value → Contains pairs (record { key = key; value = value })
+pub found_is : (key : List ℕ) (value : TimedValue) (pairs : List Pair) → value_in key pairs ≡ Some value → Contains pairs (record { key = key; value = value })
 found_is key value pairs found = by (pair_in key pairs) refl found
   where
     by : (o : Option Pair) → pair_in key pairs ≡ o → option_map (λ (p : Pair). p.value) o ≡ Some value → Contains pairs (record { key = key; value = value })

@@ -13,6 +13,7 @@ use Rattle.memory_cache.specs.declared.pair.Pair.{Pair}
 use Rattle.memory_cache.specs.MemoryList.{holding, without, entered, to_front, to_front_by, after_get, after_put, pushed_out}
 use Rattle.memory_cache.specs.Entries.{pair_of, memory_of, is_first}
 use Rattle.memory_cache.proofs.Finding.{Entry, absent, found_key, one_fewer, other_at, pair_found, removed, value_of_entry, without_absent}
+use Rattle.record_pages.specs.declared.timed_value.TimedValue.{TimedValue}
 
 -- ---- a get
 
@@ -26,12 +27,12 @@ fronted key es distinct =
     fronted_by key es (lookup_entry (bytes_eq key) es) distinct refl
     ∙ ap (λ found. to_front_by found (map pair_of es)) (pair_found key es)
 
-pub get_after : (key : List ℕ) (c : LruCache (List ℕ) (List ℕ)) → IsDistinct bytes_eq (keys_of c.entries) → memory_of (lru_cache (promoted (bytes_eq key) c.entries) c.cap) ≡ after_get key (memory_of c)
+pub get_after : (key : List ℕ) (c : LruCache (List ℕ) TimedValue) → IsDistinct bytes_eq (keys_of c.entries) → memory_of (lru_cache (promoted (bytes_eq key) c.entries) c.cap) ≡ after_get key (memory_of c)
 get_after key c distinct = ap (holding (memory_of c)) (fronted key c.entries distinct)
 
 -- ---- a put
 
-module _ (c : LruCache (List ℕ) (List ℕ)) (k v : List ℕ) (distinct : IsDistinct bytes_eq (keys_of c.entries)) (within : length c.entries ≤ c.cap) (roomy : 0 < c.cap) where
+module _ (c : LruCache (List ℕ) TimedValue) (k : List ℕ) (v : TimedValue) (distinct : IsDistinct bytes_eq (keys_of c.entries)) (within : length c.entries ≤ c.cap) (roomy : 0 < c.cap) where
   abbrev pairs : List Pair
   pairs = map pair_of c.entries
 

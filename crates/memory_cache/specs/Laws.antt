@@ -2,6 +2,7 @@
 use Rattle.std.specs.Prelude.{◌≡◌, ◌≢◌, ◌≤◌, ℕ, List, Bool, IsTrue, Some, All, Contains}
 use Rattle.memory_cache.specs.declared.pair.Pair.{Pair}
 use Rattle.memory_cache.specs.MemoryList.{MemoryList, IsBounded, value_in, after_put, pushed_out, after_get, after_remove}
+use Rattle.record_pages.specs.declared.timed_value.TimedValue.{TimedValue}
 
 -- each pair in memory passes a test
 abbrev pub AllPass : (Pair → Bool) → MemoryList → Type 0
@@ -33,7 +34,7 @@ RemoveKeepsBounds = (key : List ℕ) (list : MemoryList) → IsBounded list → 
 
 -- the value that a key has is held under it
 abbrev pub FoundIsHeld : Type 0
-FoundIsHeld = (key value : List ℕ) (list : MemoryList) → value_in key list.pairs ≡ Some value → Contains list.pairs (record { key = key; value = value })
+FoundIsHeld = (key : List ℕ) (value : TimedValue) (list : MemoryList) → value_in key list.pairs ≡ Some value → Contains list.pairs (record { key = key; value = value })
 
 -- a pair that a put pushes out was held, under another key than that of the pair that was put
 abbrev pub PushedOutWasHeld : Type 0

@@ -2,6 +2,7 @@
 use Rattle.std.specs.Prelude.{◌≢◌, ℕ, ◌≤◌, List, [], ◌∷◌, length, take, filter, find, not, slice_get, AllPairs, Option, option_map, Some, None}
 use Rattle.std.specs.Str.{bytes_eq}
 use Rattle.memory_cache.specs.declared.pair.Pair.{Pair}
+use Rattle.record_pages.specs.declared.timed_value.TimedValue.{TimedValue}
 
 -- the pairs, the most recent first, and how many there may be
 pub record MemoryList : Type 0 where
@@ -30,7 +31,7 @@ abbrev pub pair_in : List ℕ → List Pair → Option Pair
 pair_in key pairs = find (λ p. bytes_eq key p.key) pairs
 
 -- the key's value, if there is one
-abbrev pub value_in : List ℕ → List Pair → Option (List ℕ)
+abbrev pub value_in : List ℕ → List Pair → Option TimedValue
 value_in key pairs = option_map (λ p. p.value) (pair_in key pairs)
 
 -- the pair goes first, and an older one of its key goes

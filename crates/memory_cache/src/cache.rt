@@ -5,7 +5,7 @@ ghost use Rattle.memory_cache.specs.MemoryList.{IsBounded, value_in, empty, afte
 
 use crate::pair::Pair;
 use lru::LruCache;
-use record_pages::{Key, Value};
+use record_pages::{Key, TimedValue};
 use std::alloc::{AllocError, AllocFailed, Global};
 use std::marker::Model;
 use std::num::NonZeroUsize;
@@ -15,7 +15,7 @@ use std::num::NonZeroUsize;
 /// Its memory grows with the objects that it holds, and not with its capacity.
 #[derive(Drop)]
 pub struct MemoryCache {
-    objects: LruCache<Key, Value>,
+    objects: LruCache<Key, TimedValue>,
 }
 
 impl Model for MemoryCache {
@@ -63,14 +63,14 @@ impl MemoryCache {
     }
 
     /// The value of a key, whose pair stays in its place.
-    pub fn peek(&self, key: &Key) -> Option<&Value>
+    pub fn peek(&self, key: &Key) -> Option<&TimedValue>
         ensures { option_copied result ≡ value_in key.now self.now.pairs }
     {
         self.objects.peek(key)
     }
 
     /// The value of a key, whose pair comes to the front.
-    pub fn get(&mut self, key: &Key) -> Option<&Value>
+    pub fn get(&mut self, key: &Key) -> Option<&TimedValue>
         ensures* raised { sem 𝓛 (EndsAs self.entry (after_get key.now self.old)) }
         ensures value { option_copied result ≡ value_in key.now self.old.pairs }
     {
@@ -83,7 +83,7 @@ impl MemoryCache {
     ///
     /// Where memory was refused the pair comes back and nothing has changed: an older value of the key
     /// stays. That cannot be where the key has a value.
-    pub fn put(&mut self, key: Key, value: Value) -> Result<Option<Pair>, Pair>
+    pub fn put(&mut self, key: Key, value: TimedValue) -> Result<Option<Pair>, Pair>
         ensures out { IfOk result (λ out.
             out ≡ pushed_out (record { key = key; value = value }) self.old) }
         ensures after { OnOk result
@@ -105,7 +105,7 @@ impl MemoryCache {
     }
 
     /// Takes the key's pair out and gives its value.
-    pub fn remove(&mut self, key: &Key) -> Option<Value>
+    pub fn remove(&mut self, key: &Key) -> Option<TimedValue>
         ensures value { result ≡ value_in key.now self.old.pairs }
         ensures after { self.new ≡ after_remove key.now self.old }
     {
@@ -120,14 +120,14 @@ ghost use Rattle.lru.specs.LruCache.{IsValid};
 ghost use Rattle.memory_cache.specs.Entries.{is_first};
 
 /// That no key stands twice, which is true of every such map. Its model hides that, and its length tells it.
-fn recall(objects: &LruCache<Key, Value>)
+fn recall(objects: &LruCache<Key, TimedValue>)
     ensures { IsValid (pointwise nat_eq) objects.now }
 {
     let _held = objects.len();
 }
 
 /// The pair that left, unless it is the older one of the key that is first now.
-fn unless_first(objects: &LruCache<Key, Value>, left: Pair) -> Option<Pair>
+fn unless_first(objects: &LruCache<Key, TimedValue>, left: Pair) -> Option<Pair>
     ensures { result ≡ (if is_first left.key objects.now.entries then None else Some left) }
 {
     match objects.peek_mru() {

@@ -1,9 +1,9 @@
 // An object in memory.
-use record_pages::{Key, Value};
+use record_pages::{Key, TimedValue};
 
-/// A key and its value.
+/// A key and its value with when that expires.
 #[derive(Debug, Drop)]
 pub struct Pair {
     pub key: Key,
-    pub value: Value,
+    pub value: TimedValue,
 }

@@ -9,6 +9,7 @@ use Rattle.std.proofs.lemmas.List.Filters.{sum_by-filter_both, length-filter_bot
 use Rattle.std.proofs.lemmas.List.Elements.{All-head, All-tail}
 use Rattle.std.proofs.lemmas.List.Sums.{sum_by-take-le}
 use Rattle.std.proofs.lemmas.Option.{get_or_from_slice_get, slice_get_within, slice_get-get_or, slice_get-map, none-some}
+use Rattle.record_pages.specs.Expiry.{lasting}
 use Rattle.record_pages.specs.Sizes.{room}
 use Rattle.record_pages.specs.Recs.{Rec, rec, size, sizes, fit}
 use Rattle.policy_laws.specs.declared.item.Item.{Item}
@@ -52,7 +53,7 @@ size_of moving c lt =
     let within : c.item < length rs = omega (arith, as_many moving, lt) in
     let both : option_map (λ (i : Item). i.size) (slice_get (items_of moving) c.item) ≡ option_map size (slice_get rs c.item) =
     sym (slice_get-map (λ (i : Item). i.size) (items_of moving) c.item) ∙ ap (λ ns. slice_get ns c.item) (sized moving) ∙ slice_get-map size rs c.item in
-    one (slice_get (items_of moving) c.item) (size (planned rs c)) (both ∙ ap (option_map size) (slice_get-get_or rs c.item (rec [] [] 0) within))
+    one (slice_get (items_of moving) c.item) (size (planned rs c)) (both ∙ ap (option_map size) (slice_get-get_or rs c.item (rec [] (lasting []) 0) within))
   where
     one : (o : Option Item) (n : ℕ) → option_map (λ (i : Item). i.size) o ≡ Some n → option_map_or (λ (i : Item). i.size) o 0 ≡ n
     one (Some i) n e = cc
@@ -119,7 +120,7 @@ next_fits page moving plan p n c r old is at passes so_far this =
 -- the record of a choice, with its prediction, is what the choice plans
 pub planned_as : (moving : Moving) (c : Choice) (x r : Rec) → slice_get (records_of moving) c.item ≡ Some x → r ≡ rec x.key x.value c.prediction → r ≡ planned (records_of moving) c
 planned_as moving c x r at is =
-    let same : get_or (records_of moving) c.item (rec [] [] 0) ≡ x = get_or_from_slice_get (records_of moving) c.item x (rec [] [] 0) at in
+    let same : get_or (records_of moving) c.item (rec [] (lasting []) 0) ≡ x = get_or_from_slice_get (records_of moving) c.item x (rec [] (lasting []) 0) at in
     is ∙ (λ i. rec (sym same i).key (sym same i).value c.prediction)
 
 -- one choice more is kept

@@ -2,6 +2,7 @@
 use Rattle.std.proofs.Common.{◌≡◌, ◌<◌, ◌≤◌, ◌+◌, Option, Some, ℕ, List, [], length, map, filter, take, get_or, All, Contains, not, sym, ap, subst, ◌∙◌, arith, ◌∷◌, ◌++◌}
 use Rattle.std.proofs.lemmas.Bool.{eqb-true}
 use Rattle.std.proofs.lemmas.List.Elements.{All-contains, Contains-get_or}
+use Rattle.record_pages.specs.Expiry.{lasting}
 use Rattle.record_pages.specs.Recs.{Rec, rec}
 use Rattle.policy_laws.specs.declared.choice.Choice.{Choice}
 use Rattle.klog_index.specs.declared.entry.Entry.{Entry}
@@ -74,7 +75,7 @@ planned_placed page shape f plan fitting placed = each (λ (r : Rec). IsKeyOf sh
         let listed = in_filter (λ (c : Choice). not (is_struck f c.item)) plan b.0 b.1 in
         let within = All-contains (λ (c : Choice). c.item < length (items_of f.moving)) plan b.0 fitting.in_range listed.0 in
         let lt : b.0.item < length rs = omega (arith, as_many f.moving, within) in
-        subst (λ (k : List ℕ). IsKeyOf shape.lanes shape.sets f.moving.set k) (ap (λ (q : Rec). q.key) b.2) (placed b.0.item (rec [] [] 0) lt)
+        subst (λ (k : List ℕ). IsKeyOf shape.lanes shape.sets f.moving.set k) (ap (λ (q : Rec). q.key) b.2) (placed b.0.item (rec [] (lasting []) 0) lt)
 
 -- the records that were taken and read belong to their set
 pub gathered_placed : (lane mid new : LaneState) (set : ℕ) (moving : Moving) → LaneTakes set lane (taken.Records moving.taken) mid → LaneReads set mid (read.Records moving.visible) new → moving.set ≡ set → IsLogPlaced lane → AreSetsPlaced lane →

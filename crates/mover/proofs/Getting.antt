@@ -7,25 +7,26 @@ use Rattle.std.specs.declared.alloc.AllocError.{AllocError}
 use Rattle.set_hash.specs.declared.placed.Placed.{Placed}
 use Rattle.klog_index.specs.Entries.{of_tag}
 use Rattle.klog.specs.Known.{AreBuffered}
-use Rattle.klog.specs.Look.{LogLookGives, LogLookLeaves, is_log_fault, lowered_in, IsInBuffers, GivesRecord}
-use Rattle.mover.specs.Calls.{IsLowered, AnswersFromBuffers}
+use Rattle.klog.specs.Look.{LogLookGives, LogLookLeaves, is_log_fault, lowered_in, GivesAt, GivesRecord}
+use Rattle.mover.specs.Calls.{IsLowered, StoreGets, TellsRecord}
+use Rattle.mover.proofs.Expiring.{found_expired, found_hit, is_live_at}
 use Rattle.klog.specs.Log.{LogState}
 use Rattle.klog_index.specs.declared.entry.Entry.{Entry}
 use Rattle.klog.specs.declared.looked.Looked.TheVariants as log
 use Rattle.klog.specs.declared.looked.Looked.{Looked as LogLooked}
 use Rattle.kset.specs.Notes.{lets_show}
 use Rattle.page_device.specs.Device.{faults_after}
-use Rattle.mover.specs.Asking.{AsksNothing, NotesHit, LogLeaves, SetLeaves, GetLeaves}
+use Rattle.mover.specs.Asking.{AsksNothing, MemoryTells, NotesHit, RecallsBy, LogLeaves, SetLeaves, GetLeaves}
 use Rattle.mover.specs.Leaving.{HasAll, HasLog}
 use Rattle.mover.proofs.Beginning.{all_again}
+use Rattle.record_pages.specs.Expiry.{value_at}
 use Rattle.record_pages.specs.Recs.{Rec}
 use Rattle.record_pages.specs.declared.answer.Answer.{Answer}
 use Rattle.record_pages.specs.declared.answer.Answer.TheVariants.{Hit, Miss}
-use Rattle.record_pages.specs.declared.miss_cause.MissCause.TheVariants.{Absent, Fault, Damaged}
+use Rattle.record_pages.specs.declared.miss_cause.MissCause.TheVariants.{Absent, Expired, Fault, Damaged}
 use Rattle.record_pages.specs.declared.tier.Tier.TheVariants.{Memory, Log, Set}
-use Rattle.memory_cache.specs.MemoryList.{MemoryList, value_in, after_get, pair_in, to_front_by, holding}
-use Rattle.memory_cache.specs.declared.pair.Pair.{Pair}
-use Rattle.std.specs.Option.{option_map}
+use Rattle.memory_cache.specs.MemoryList.{value_in, after_get}
+use Rattle.record_pages.specs.declared.timed_value.TimedValue.{TimedValue}
 use Rattle.std.proofs.lemmas.Option.{none-some}
 use Rattle.std.proofs.lemmas.Bool.{false≢true}
 use Rattle.klog.specs.Shown.{place_in, live_on, newest_with}
@@ -36,21 +37,21 @@ use Rattle.kset.specs.Shown.{visible_in, first_visible}
 use Rattle.kset.specs.Look.{SetLookGives, SetLookLeaves, is_set_fault}
 use Rattle.mover.specs.Store.{StoreState, OnlyReads}
 use Rattle.mover.specs.Lane.{LaneState, lane_of}
-use Rattle.mover.specs.Get.{Step, LogTells, NeedsSetPage, NeedsFlashPage, NeedsPage, lane_lowered, is_fault, log_step, set_step, ask_set, ask_log, memory_step, StepGives, GetGives, answer_of_set}
+use Rattle.mover.specs.Get.{Step, LogTells, NeedsSetPage, NeedsFlashPage, NeedsPage, lane_lowered, is_fault, log_step, set_step, ask_set, ask_log, memory_step, StepGives, GetGives, answer_by, answer_of_set}
 
 -- what is said of what an option holds, more loosely
 weaker : {X : Type 0} (P Q : X → Type 0) (o : Option X) → ((x : X) → P x → Q x) → IsSomeAnd o P → IsSomeAnd o Q
 weaker P Q None to has = has
 weaker P Q (Some x) to has = to x has
 
-module _ {D : Type 0} (held : D → ℕ → Option (List ℕ)) (s : StoreState D) (d : D) (key : List ℕ) (same : held d ≡ held s.device) where
+module _ {D : Type 0} (held : D → ℕ → Option (List ℕ)) (s : StoreState D) (d : D) (key : List ℕ) (moment : ℕ) (same : held d ≡ held s.device) where
   -- what a set gives, of the lane
-  pub set_told : (q : SetsState) (n : ℕ) (looked : SetLooked) → n ≡ (place_in s.log.shape key).set → SetLookGives (visible_in (held s.device) s.sets n) key s.sets n looked q →
+  pub set_told : (q : SetsState) (n : ℕ) (looked : SetLooked) → n ≡ (place_in s.log.shape key).set → SetLookGives (visible_in (held s.device) s.sets n) key moment s.sets n looked q →
       visible_in (held d) q ≡ visible_in (held s.device) s.sets →
       (looked ≡ set.Fault → NeedsSetPage key (lane_of held s)) →
-      StepGives (ask_set key (lane_of held s)) (NeedsSetPage key (lane_of held s)) (lane_of held s) (answer_of_set looked) (lane_of held (record s { device = d; sets = q }))
+      StepGives (ask_set key moment (lane_of held s)) (NeedsSetPage key (lane_of held s)) (lane_of held s) (answer_of_set looked) (lane_of held (record s { device = d; sets = q }))
   set_told q n looked at gives shown needs =
-      subst (λ m. StepGives (set_step m (lane_of held s) (first_visible (visible_in (held s.device) s.sets m) key)) (NeedsSetPage key (lane_of held s)) (lane_of held s) (answer_of_set looked) (lane_of held (record s { device = d; sets = q }))) at (step looked gives needs)
+      subst (λ m. StepGives (set_step m moment (lane_of held s) (first_visible (visible_in (held s.device) s.sets m) key)) (NeedsSetPage key (lane_of held s)) (lane_of held s) (answer_of_set looked) (lane_of held (record s { device = d; sets = q }))) at (step looked gives needs)
     where
       lane_as : (sets : SetsState) → q ≡ sets → lane_of held (record s { device = d; sets = q }) ≡ record (lane_of held s) { sets = sets }
       lane_as sets e = λ i. record {
@@ -63,23 +64,33 @@ module _ {D : Type 0} (held : D → ℕ → Option (List ℕ)) (s : StoreState D
         moves = s.moves;
       }
 
-      hit : (value : List ℕ) (o : Option (ℕ × Rec)) → IsSomeAnd o (λ x. (x.1.value ≡ value) × (q ≡ hit_in s.sets n x.0)) →
-          StepGives (set_step n (lane_of held s) o) (NeedsSetPage key (lane_of held s)) (lane_of held s) (Hit value Set) (lane_of held (record s { device = d; sets = q }))
+      hit : (value : List ℕ) (o : Option (ℕ × Rec)) → IsSomeAnd o (λ x. (value_at moment x.1.value ≡ Some value) × (q ≡ hit_in s.sets n x.0)) →
+          StepGives (set_step n moment (lane_of held s) o) (NeedsSetPage key (lane_of held s)) (lane_of held s) (Hit value Set) (lane_of held (record s { device = d; sets = q }))
       hit value None has = absurd has
-      hit value (Some x) has = (ap (λ v. Hit v Set) (sym has.0), lane_as (hit_in s.sets n x.0) has.1)
+      hit value (Some x) has =
+          found_hit (value_at moment x.1.value) value Set (NeedsSetPage key (lane_of held s)) (lane_of held s) (lane_of held (record s { device = d; sets = q })) (lane_of held s) (record (lane_of held s) { sets = hit_in s.sets n x.0 })
+          has.0 (lane_as (hit_in s.sets n x.0) has.1)
 
-      step : (looked : SetLooked) → SetLookGives (visible_in (held s.device) s.sets n) key s.sets n looked q → (looked ≡ set.Fault → NeedsSetPage key (lane_of held s)) →
-          StepGives (set_step n (lane_of held s) (first_visible (visible_in (held s.device) s.sets n) key)) (NeedsSetPage key (lane_of held s)) (lane_of held s) (answer_of_set looked) (lane_of held (record s { device = d; sets = q }))
+      expired : (o : Option (ℕ × Rec)) → IsSomeAnd o (λ x. value_at moment x.1.value ≡ None) → q ≡ s.sets →
+          StepGives (set_step n moment (lane_of held s) o) (NeedsSetPage key (lane_of held s)) (lane_of held s) (Miss Expired) (lane_of held (record s { device = d; sets = q }))
+      expired None has left = absurd has
+      expired (Some x) has left =
+          found_expired (value_at moment x.1.value) Set (NeedsSetPage key (lane_of held s)) (lane_of held s) (lane_of held (record s { device = d; sets = q })) (lane_of held s) (record (lane_of held s) { sets = hit_in s.sets n x.0 })
+          has (lane_as s.sets left)
+
+      step : (looked : SetLooked) → SetLookGives (visible_in (held s.device) s.sets n) key moment s.sets n looked q → (looked ≡ set.Fault → NeedsSetPage key (lane_of held s)) →
+          StepGives (set_step n moment (lane_of held s) (first_visible (visible_in (held s.device) s.sets n) key)) (NeedsSetPage key (lane_of held s)) (lane_of held s) (answer_of_set looked) (lane_of held (record s { device = d; sets = q }))
       step (set.Hit value) gives needs = hit value (first_visible (visible_in (held s.device) s.sets n) key) gives
+      step set.Expired gives needs = expired (first_visible (visible_in (held s.device) s.sets n) key) gives.0 gives.1
       step set.Absent gives needs =
-          subst (λ o. StepGives (set_step n (lane_of held s) o) (NeedsSetPage key (lane_of held s)) (lane_of held s) (Miss Absent) (lane_of held (record s { device = d; sets = q }))) (sym gives.0) (refl, lane_as s.sets gives.1)
+          subst (λ o. StepGives (set_step n moment (lane_of held s) o) (NeedsSetPage key (lane_of held s)) (lane_of held s) (Miss Absent) (lane_of held (record s { device = d; sets = q }))) (sym gives.0) (refl, lane_as s.sets gives.1)
       step set.Fault gives needs = (needs refl, lane_as s.sets gives)
       step set.Damaged gives needs = gives
 
-module _ {D : Type 0} (held : D → ℕ → Option (List ℕ)) (s : StoreState D) (d : D) (key : List ℕ) (same : held d ≡ held s.device) where
+module _ {D : Type 0} (held : D → ℕ → Option (List ℕ)) (s : StoreState D) (d : D) (key : List ℕ) (moment : ℕ) (same : held d ≡ held s.device) where
   -- what the log gives, of the lane
-  pub log_told : (k : LogState) (looked : LogLooked) → LogLookGives (live_on (held s.device) s.log) key s.log looked k (live_on (held d) k) →
-      LogTells key (lane_of held s) looked (lane_of held (record s { device = d; log = k }))
+  pub log_told : (k : LogState) (looked : LogLooked) → LogLookGives (live_on (held s.device) s.log) key moment s.log looked k (live_on (held d) k) →
+      LogTells key moment (lane_of held s) looked (lane_of held (record s { device = d; log = k }))
   log_told k looked gives = step looked gives
     where
       lane_as : (log : LogState) (live : List (Entry × Rec)) → k ≡ log → live_on (held d) k ≡ live → lane_of held (record s { device = d; log = k }) ≡ record (lane_of held s) { log = log; live = live }
@@ -93,50 +104,80 @@ module _ {D : Type 0} (held : D → ℕ → Option (List ℕ)) (s : StoreState D
         moves = s.moves;
       }
 
-      hit : (value : List ℕ) (o : Option (Entry × Rec)) → IsSomeAnd o (GivesRecord (live_on (held s.device) s.log) value s.log k (live_on (held d) k)) →
-          IsSomeAnd o (λ x. (x.1.value ≡ value) × (lane_of held (record s { device = d; log = k }) ≡ lane_lowered (lane_of held s) x.0))
+      hit : (value : List ℕ) (o : Option (Entry × Rec)) → IsSomeAnd o (GivesRecord (live_on (held s.device) s.log) moment value s.log k (live_on (held d) k)) →
+          IsSomeAnd o (λ x. (value_at moment x.1.value ≡ Some value) × (lane_of held (record s { device = d; log = k }) ≡ lane_lowered (lane_of held s) x.0))
       hit value None has = absurd has
       hit value (Some x) has = (has.its, lane_as _ _ has.lowered has.left)
 
-      step : (looked : LogLooked) → LogLookGives (live_on (held s.device) s.log) key s.log looked k (live_on (held d) k) → LogTells key (lane_of held s) looked (lane_of held (record s { device = d; log = k }))
+      step : (looked : LogLooked) → LogLookGives (live_on (held s.device) s.log) key moment s.log looked k (live_on (held d) k) → LogTells key moment (lane_of held s) looked (lane_of held (record s { device = d; log = k }))
       step (log.Hit value) gives = hit value (newest_with (live_on (held s.device) s.log) key) gives
+      step log.Expired gives = (gives.0, lane_as s.log (live_on (held s.device) s.log) gives.1.log gives.1.left)
       step log.Absent gives = (gives.0, lane_as s.log (live_on (held s.device) s.log) gives.1.log gives.1.left)
       step log.Fault gives = (gives.0, lane_as s.log (live_on (held s.device) s.log) gives.1.log gives.1.left)
       step log.Damaged gives = gives
 
--- a hit in memory is the answer
-pub get_hit : (key value : List ℕ) (old new : LaneState) → Some value ≡ value_in key old.memory.pairs → new ≡ record old { memory = after_get key old.memory } →
-    GetGives key old (Hit value Memory) new
-get_hit key value old new found raised = subst (λ o. StepGives (memory_step key old o) (NeedsPage key old) old (Hit value Memory) new) found (refl, raised)
+-- what memory answers is answered at once
+module _ {D : Type 0} (size : ℕ) (honest : D → Bool) (failures : D → ℕ) (held : D → ℕ → Option (List ℕ)) (key : List ℕ) (moment : ℕ) (old : StoreState D) where
+  abbrev raised : StoreState D
+  raised = record old { memory = after_get key old.memory }
 
--- what memory has is one value
-pub recalled : (value other : List ℕ) → Some value ≡ Some other → Hit value Memory ≡ Hit other Memory
-recalled value other is = let same : value ≡ other = cc in ap (λ v. Hit v Memory) same
+  -- the one value of memory
+  one : (o : Option TimedValue) (v w : TimedValue) → o ≡ Some v → o ≡ Some w → w ≡ v
+  one o v w is other = some_one w v (sym other ∙ is)
+    where
+      some_one : (a b : TimedValue) → Some a ≡ Some b → a ≡ b
+      some_one a b is = cc
 
--- a get that memory does not answer changes nothing in memory
-pub not_raised : (key : List ℕ) (m : MemoryList) → None ≡ value_in key m.pairs → after_get key m ≡ m
-not_raised key m absent = step (pair_in key m.pairs) absent
-  where
-    step : (o : Option Pair) → None ≡ option_map (λ (p : Pair). p.value) o → holding m (to_front_by o m.pairs) ≡ m
-    step None e = refl
-    step (Some p) e = absurd (none-some p.value e)
+  told_hit : (v : TimedValue) (value : List ℕ) → value_in key old.memory.pairs ≡ Some v → value_at moment v ≡ Some value → StoreGets size honest failures held key moment old (Ok (Hit value Memory)) raised
+  told_hit v value at live = record {
+    reads = record { layout = refl; honesty = refl; failed_once = refl; same = λ on. refl };
+    leaves = record { expires = v.expires; its = at ∙ ap Some (is_live_at moment v value live).0; rest = refl };
+    out_of_memory = tt;
+    in_memory = λ w is. sym (ap (λ (z : TimedValue). answer_by (value_at moment z) Memory) (one (value_in key old.memory.pairs) v w at is) ∙ ap (λ (o : Option (List ℕ)). answer_by o Memory) live);
+    unread = λ some. refl;
+    in_buffers = λ e r none here. absurd (none-some v (sym none ∙ at));
+    unasked = record { asks_not = λ asks. refl };
+    gives = λ on. subst (λ (o : Option TimedValue). StepGives (memory_step key moment (lane_of held old) o) (NeedsPage key (lane_of held old)) (lane_of held old) (Hit value Memory) (lane_of held raised)) (sym at)
+        (found_hit (value_at moment v) value Memory (NeedsPage key (lane_of held old)) (lane_of held old) (lane_of held raised) (lane_of held old) (lane_of held raised) live refl);
+  }
+
+  told_expired : (v : TimedValue) → value_in key old.memory.pairs ≡ Some v → value_at moment v ≡ None → StoreGets size honest failures held key moment old (Ok (Miss Expired)) old
+  told_expired v at gone = record {
+    reads = record { layout = refl; honesty = refl; failed_once = refl; same = λ on. refl };
+    leaves = refl;
+    out_of_memory = tt;
+    in_memory = λ w is. sym (ap (λ (z : TimedValue). answer_by (value_at moment z) Memory) (one (value_in key old.memory.pairs) v w at is) ∙ ap (λ (o : Option (List ℕ)). answer_by o Memory) gone);
+    unread = λ some. refl;
+    in_buffers = λ e r none here. absurd (none-some v (sym none ∙ at));
+    unasked = record { asks_not = λ asks. refl };
+    gives = λ on. subst (λ (o : Option TimedValue). StepGives (memory_step key moment (lane_of held old) o) (NeedsPage key (lane_of held old)) (lane_of held old) (Miss Expired) (lane_of held old)) (sym at)
+        (found_expired (value_at moment v) Memory (NeedsPage key (lane_of held old)) (lane_of held old) (lane_of held old) (lane_of held old) (lane_of held raised) gone refl);
+  }
+
+  pub told_by_memory : (answer : Answer) (new : StoreState D) → MemoryTells key moment old (Some answer) new → StoreGets size honest failures held key moment old (Ok answer) new
+  told_by_memory answer new tells = by_pair (value_in key old.memory.pairs) refl tells
+    where
+      by_live : (v : TimedValue) (o : Option (List ℕ)) → value_in key old.memory.pairs ≡ Some v → value_at moment v ≡ o → RecallsBy o key old answer new → StoreGets size honest failures held key moment old (Ok answer) new
+      by_live v (Some value) at live told = rw (told.0, told.1) (told_hit v value at live)
+      by_live v None at gone told = rw (told.0, told.1) (told_expired v at gone)
+
+      by_pair : (o : Option TimedValue) → value_in key old.memory.pairs ≡ o → IsSomeAnd o (λ v. RecallsBy (value_at moment v) key old answer new) → StoreGets size honest failures held key moment old (Ok answer) new
+      by_pair None at has = absurd has
+      by_pair (Some v) at has = by_live v (value_at moment v) at refl has
 
 -- a page that is needed for one thing is needed for another
 needs_too : (step : Step Answer) (needs also : Type 0) (old : LaneState) (answer : Answer) (new : LaneState) → (needs → also) → StepGives step needs old answer new → StepGives step also old answer new
 needs_too step needs also old (Hit value tier) new to gives = gives
 needs_too step needs also old (Miss Absent) new to gives = gives
+needs_too step needs also old (Miss Expired) new to gives = gives
 needs_too step needs also old (Miss Fault) new to gives = (to gives.0, gives.1)
 needs_too step needs also old (Miss Damaged) new to gives = gives
 
 -- where memory has no pair of the key the answer is that of the tiers below
-pub get_below : {D : Type 0} (held : D → ℕ → Option (List ℕ)) (key : List ℕ) (answer : Answer) (s between : StoreState D) (new : LaneState) → None ≡ value_in key s.memory.pairs →
-    between ≡ record s { memory = after_get key s.memory } → StepGives (ask_log key (lane_of held between)) (NeedsFlashPage key (lane_of held between)) (lane_of held between) answer new →
-    GetGives key (lane_of held s) answer new
-get_below held key answer s between new absent raised gives =
-    let same : between ≡ s = raised ∙ ap (λ m. record s { memory = m }) (not_raised key s.memory absent) in
-    subst (λ o. StepGives (memory_step key (lane_of held s) o) (NeedsPage key (lane_of held s)) (lane_of held s) answer new) absent
-    (needs_too (ask_log key (lane_of held s)) (NeedsFlashPage key (lane_of held s)) (NeedsPage key (lane_of held s)) (lane_of held s) answer new (λ here. record { not_in_memory = sym absent; on_flash = here })
-    (subst (λ x. StepGives (ask_log key (lane_of held x)) (NeedsFlashPage key (lane_of held x)) (lane_of held x) answer new) same gives))
+pub get_below : (key : List ℕ) (moment : ℕ) (answer : Answer) (old new : LaneState) → value_in key old.memory.pairs ≡ None → StepGives (ask_log key moment old) (NeedsFlashPage key old) old answer new → GetGives key moment old answer new
+get_below key moment answer old new absent gives =
+    subst (λ o. StepGives (memory_step key moment old o) (NeedsPage key old) old answer new) (sym absent)
+    (needs_too (ask_log key moment old) (NeedsFlashPage key old) (NeedsPage key old) old answer new (λ here. record { not_in_memory = absent; on_flash = here }) gives)
 
 -- a get that asks nothing asks nothing of the log
 pub asks_log : {D : Type 0} (key : List ℕ) (s : StoreState D) (at : Placed) → at ≡ place_in s.log.shape key → AsksNothing key s → AreBuffered s.log (of_tag at.set at.tag s.log.entries)
@@ -162,6 +203,7 @@ module _ {D : Type 0} (s : StoreState D) (d : D) where
 
       step : (looked : LogLooked) → LogLookLeaves s.log at.set at.tag (Ok looked) k (d ≡ s.device) → LogLeaves at looked s (record s { device = d; log = k })
       step (log.Hit value) leaves = record { entry = leaves.entry; listed = leaves.listed; rest = log_is (lowered_in s.log at.set leaves.entry.place) leaves.lowered; unasked = leaves.uncalled }
+      step log.Expired leaves = log_is s.log leaves
       step log.Absent leaves = log_is s.log leaves
       step log.Fault leaves = log_is s.log leaves
       step log.Damaged leaves = log_is s.log leaves
@@ -174,6 +216,7 @@ module _ {D : Type 0} (s : StoreState D) (d : D) where
 
       step : (looked : SetLooked) → SetLookLeaves s.sets n (Ok looked) q → SetLeaves n (answer_of_set looked) s (record s { device = d; sets = q })
       step (set.Hit value) leaves = record { slot = leaves.slot; within = leaves.within; rest = sets_are (hit_in s.sets n leaves.slot) leaves.noted }
+      step set.Expired leaves = sets_are s.sets leaves
       step set.Absent leaves = sets_are s.sets leaves
       step set.Fault leaves = sets_are s.sets leaves
       step set.Damaged leaves = sets_are s.sets leaves
@@ -206,43 +249,51 @@ lowered_store s d k set e log device = λ i. record {
   moves = s.moves;
 }
 
--- what the buffers tell of a key is answered
-module _ {D : Type 0} (size : ℕ) (key : List ℕ) (old mid : StoreState D) (at : Placed) (placed : at ≡ place_in old.log.shape key) (looked : LogLooked)
-    (tells : (e : Entry) (r : Rec) → IsInBuffers size old.log at.set at.tag key e r → (looked ≡ log.Hit r.value) × IsLowered at.set e old mid) where
-  pub answers_from_buffers : (value : List ℕ) → looked ≡ log.Hit value → (e : Entry) (r : Rec) → IsInBuffers size old.log (place_in old.log.shape key).set (place_in old.log.shape key).tag key e r → AnswersFromBuffers key e r old (Hit value Log) mid
-  answers_from_buffers value is e r here =
-      let it = tells e r (subst (λ (p : Placed). IsInBuffers size old.log p.set p.tag key e r) (sym placed) here) in (
-        hit_same value r.value (sym is ∙ it.0),
-        subst (λ (p : Placed). IsLowered p.set e old mid) placed it.1,
-      )
-    where
-      hit_same : (value other : List ℕ) → log.Hit value ≡ log.Hit other → Hit value Log ≡ Hit other Log
-      hit_same value other same = let is : value ≡ other = cc in ap (λ v. Hit v Log) is
+-- where nothing changed, that is so of the store
+pub same_store : {D : Type 0} (s : StoreState D) (d : D) (k : LogState) → k ≡ s.log → d ≡ s.device → record s { device = d; log = k } ≡ s
+same_store s d k log device = λ i. record {
+  layout = s.layout;
+  device = device i;
+  memory = s.memory;
+  log = log i;
+  sets = s.sets;
+  flights = s.flights;
+  moves = s.moves;
+}
 
-  pub nothing_else : (answer : Answer) (new : StoreState D) → ((value : List ℕ) → looked ≡ log.Hit value → ⊥) → (e : Entry) (r : Rec) → IsInBuffers size old.log (place_in old.log.shape key).set (place_in old.log.shape key).tag key e r →
-      AnswersFromBuffers key e r old answer new
-  nothing_else answer new other e r here = absurd (other r.value (tells e r (subst (λ (p : Placed). IsInBuffers size old.log p.set p.tag key e r) (sym placed) here)).0)
+-- what the log tells of a record that its buffers tell of
+pub record_told : {D : Type 0} (o : Option (List ℕ)) (s : StoreState D) (d : D) (k : LogState) (set : ℕ) (e : Entry) (looked : LogLooked) → GivesAt o s.log set e k (d ≡ s.device) looked → TellsRecord o set e s looked (record s { device = d; log = k })
+record_told (Some value) s d k set e looked gives = (gives.hit, lowered_store s d k set e gives.lowered gives.uncalled)
+record_told None s d k set e looked gives = (gives.expired, same_store s d k gives.stays gives.uncalled)
 
 -- where the log has the key, that is the answer of the tiers below memory
-pub log_hit_gives : (key value : List ℕ) (old new : LaneState) (looked : LogLooked) → looked ≡ log.Hit value → LogTells key old looked new → StepGives (ask_log key old) (NeedsFlashPage key old) old (Hit value Log) new
-log_hit_gives key value old new looked is tells = step (newest_with old.live key) (subst (λ l. LogTells key old l new) is tells)
+pub log_hit_gives : (key : List ℕ) (moment : ℕ) (value : List ℕ) (old new : LaneState) → LogTells key moment old (log.Hit value) new → StepGives (ask_log key moment old) (NeedsFlashPage key old) old (Hit value Log) new
+log_hit_gives key moment value old new tells = step (newest_with old.live key) tells
   where
-    step : (o : Option (Entry × Rec)) → IsSomeAnd o (λ x. (x.1.value ≡ value) × (new ≡ lane_lowered old x.0)) → StepGives (log_step key old o) (NeedsFlashPage key old) old (Hit value Log) new
+    step : (o : Option (Entry × Rec)) → IsSomeAnd o (λ x. (value_at moment x.1.value ≡ Some value) × (new ≡ lane_lowered old x.0)) → StepGives (log_step key moment old o) (NeedsFlashPage key old) old (Hit value Log) new
     step None has = absurd has
-    step (Some x) has = (ap (λ v. Hit v Log) (sym has.0), has.1)
+    step (Some x) has = found_hit (value_at moment x.1.value) value Log (NeedsFlashPage key old) old new old (lane_lowered old x.0) has.0 has.1
+
+-- so it is where what it has has expired
+pub log_expired_gives : (key : List ℕ) (moment : ℕ) (old new : LaneState) → LogTells key moment old log.Expired new → StepGives (ask_log key moment old) (NeedsFlashPage key old) old (Miss Expired) new
+log_expired_gives key moment old new tells = step (newest_with old.live key) tells.0
+  where
+    step : (o : Option (Entry × Rec)) → IsSomeAnd o (λ x. value_at moment x.1.value ≡ None) → StepGives (log_step key moment old o) (NeedsFlashPage key old) old (Miss Expired) new
+    step None has = absurd has
+    step (Some x) has = found_expired (value_at moment x.1.value) Log (NeedsFlashPage key old) old new old (lane_lowered old x.0) has tells.1
 
 -- where the device fails in the log a page of it was needed, and nothing changes
-pub log_fault_gives : (key : List ℕ) (old new : LaneState) (looked : LogLooked) → looked ≡ log.Fault → LogTells key old looked new → StepGives (ask_log key old) (NeedsFlashPage key old) old (Miss Fault) new
-log_fault_gives key old new looked is tells = let failed = subst (λ l. LogTells key old l new) is tells in (inl failed.0, failed.1)
+pub log_fault_gives : (key : List ℕ) (moment : ℕ) (old new : LaneState) → LogTells key moment old log.Fault new → StepGives (ask_log key moment old) (NeedsFlashPage key old) old (Miss Fault) new
+log_fault_gives key moment old new tells = (inl tells.0, tells.1)
 
 -- where the log lacks the key, its set's answer is that of the tiers below memory
-pub log_absent_gives : (key : List ℕ) (old mid new : LaneState) (looked : LogLooked) (answer : Answer) → looked ≡ log.Absent → LogTells key old looked mid →
-    StepGives (ask_set key mid) (NeedsSetPage key mid) mid answer new → StepGives (ask_log key old) (NeedsFlashPage key old) old answer new
-log_absent_gives key old mid new looked answer is tells gives =
-    let absent = subst (λ l. LogTells key old l mid) is tells in
-    subst (λ o. StepGives (log_step key old o) (NeedsFlashPage key old) old answer new) (sym absent.0)
-    (needs_too (ask_set key old) (NeedsSetPage key old) (NeedsFlashPage key old) old answer new (λ here. inr (record { not_in_log = absent.0; set_page = here }))
-    (subst (λ (l : LaneState). StepGives (ask_set key l) (NeedsSetPage key l) l answer new) absent.1 gives))
+pub log_absent_gives : (key : List ℕ) (moment : ℕ) (old mid new : LaneState) (looked : LogLooked) (answer : Answer) → looked ≡ log.Absent → LogTells key moment old looked mid →
+    StepGives (ask_set key moment mid) (NeedsSetPage key mid) mid answer new → StepGives (ask_log key moment old) (NeedsFlashPage key old) old answer new
+log_absent_gives key moment old mid new looked answer is tells gives =
+    let absent = subst (λ l. LogTells key moment old l mid) is tells in
+    subst (λ o. StepGives (log_step key moment old o) (NeedsFlashPage key old) old answer new) (sym absent.0)
+    (needs_too (ask_set key moment old) (NeedsSetPage key old) (NeedsFlashPage key old) old answer new (λ here. inr (record { not_in_log = absent.0; set_page = here }))
+    (subst (λ (l : LaneState). StepGives (ask_set key moment l) (NeedsSetPage key l) l answer new) absent.1 gives))
 
 -- a look into the log that failed not, and then one into a set
 pub reads_after : {D : Type 0} (honest : D → Bool) (failures : D → ℕ) (held : D → ℕ → Option (List ℕ)) (old mid new : StoreState D) (looked : LogLooked) (failed : Bool) → looked ≡ log.Absent → OnlyReads honest failures held old (is_log_fault (Ok looked)) mid →
@@ -263,13 +314,10 @@ none_leaves old mid at looked other is leaves = subst (λ l. LogLeaves at l old 
 -- a set's fault is the answer's
 pub set_faulty : (looked : SetLooked) → is_fault (Ok (answer_of_set looked)) ≡ is_set_fault (Ok looked)
 set_faulty (set.Hit value) = refl
+set_faulty set.Expired = refl
 set_faulty set.Absent = refl
 set_faulty set.Fault = refl
 set_faulty set.Damaged = refl
-
--- what a get asks of the tiers below does not hang on memory
-pub asks_below : {D : Type 0} (key : List ℕ) (old mid : StoreState D) (m : MemoryList) → mid ≡ record old { memory = m } → AsksNothing key old → AsksNothing key mid
-asks_below key old mid m is asks = subst (AsksNothing key) (sym is) (record { buffered = asks.buffered; denied = asks.denied })
 
 -- want of memory is no fault
 pub no_fault : (r : Result Answer AllocError) → IsErr r → is_fault r ≡ false

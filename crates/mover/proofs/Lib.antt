@@ -4,6 +4,7 @@ pub mod Keeping
 pub mod Lanes
 pub mod Flying
 pub mod FlightLists
+pub mod Expiring
 pub mod Getting
 pub mod Telling
 pub mod Putting

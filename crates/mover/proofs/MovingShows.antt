@@ -5,6 +5,7 @@ use Rattle.std.specs.List.{enumerate_from}
 use Rattle.std.specs.Option.{option_map}
 use Rattle.std.proofs.lemmas.Option.{none-some, slice_get-get_or}
 use Rattle.std.proofs.lemmas.List.Elements.{All-contains, Contains-append_cases}
+use Rattle.record_pages.specs.Expiry.{lasting}
 use Rattle.record_pages.specs.Recs.{Rec, rec}
 use Rattle.memory_cache.specs.declared.pair.Pair.{Pair}
 use Rattle.policy_laws.specs.declared.choice.Choice.{Choice}
@@ -230,7 +231,7 @@ kept_held size f plan q fitting h =
     let listed = in_filter (λ (c : Choice). not (is_struck f c.item)) plan b.0 b.1 in
     let within = All-contains (λ (c : Choice). c.item < length (items_of f.moving)) plan b.0 fitting.in_range listed.0 in
     let lt : b.0.item < length rs = omega (arith, as_many f.moving, within) in
-    (get_or rs b.0.item (rec [] [] 0), record { item = b.0.item; found = slice_get-get_or rs b.0.item (rec [] [] 0) lt; not_struck = is_not (is_struck f b.0.item) listed.1 }, ap pair_of b.2 ∙ a.2)
+    (get_or rs b.0.item (rec [] (lasting []) 0), record { item = b.0.item; found = slice_get-get_or rs b.0.item (rec [] (lasting []) 0) lt; not_struck = is_not (is_struck f b.0.item) listed.1 }, ap pair_of b.2 ∙ a.2)
 
 -- a commit shows what was shown
 pub committed_shows : (size : ℕ) (f : Flight) (plan : List Choice) (answer : Rewritten) (lane : LaneState) → Contains lane.flights f → IsFitting (job_of size f.moving) plan → ShowsNoMore lane (committed f plan answer lane)

@@ -2,15 +2,18 @@
 use Rattle.std.proofs.Common.{◌≡◌, ℕ, Bool, true, false, not, List, [], filter, Option, Some, None, All, Contains, cond, refl, sym, ap, subst, ◌∙◌}
 use Rattle.std.specs.Prelude.{nat_lt, length, ◌+◌, ◌==◌}
 use Rattle.std.proofs.lemmas.List.Elements.{All-filter, All-cons, All-weaker, All-contains, All-contains_itself}
+use Rattle.record_pages.specs.Expiry.{value_at}
 use Rattle.record_pages.specs.Recs.{Rec}
 use Rattle.record_pages.specs.declared.answer.Answer.{Answer}
 use Rattle.record_pages.specs.declared.answer.Answer.TheVariants.{Hit, Miss}
-use Rattle.record_pages.specs.declared.miss_cause.MissCause.TheVariants.{Absent, Fault, Damaged}
+use Rattle.record_pages.specs.declared.miss_cause.MissCause.TheVariants.{Absent, Expired, Fault, Damaged}
+use Rattle.record_pages.specs.declared.tier.Tier.TheVariants.{Memory, Log, Set}
+use Rattle.record_pages.specs.declared.timed_value.TimedValue.{TimedValue}
 use Rattle.record_pages.specs.declared.pushed.Pushed.{Pushed}
 use Rattle.record_pages.specs.declared.pushed.Pushed.TheVariants.{Declined, Logged, Full, IndexFull}
 use Rattle.admission.specs.Chance.{is_admitted}
 use Rattle.memory_cache.specs.declared.pair.Pair.{Pair}
-use Rattle.memory_cache.specs.MemoryList.{MemoryList, value_in, after_put, after_remove, pushed_out}
+use Rattle.memory_cache.specs.MemoryList.{MemoryList, value_in, after_get, after_put, after_remove, pushed_out}
 use Rattle.klog_index.specs.declared.entry.Entry.{Entry}
 use Rattle.klog_index.specs.declared.place.Place.{Place}
 use Rattle.klog_index.specs.Entries.{has_tag, is_in, lowered}
@@ -22,13 +25,14 @@ use Rattle.klog.specs.Append.{entering, entry_for, taker, is_full}
 use Rattle.klog.specs.Look.{live_lowered}
 use Rattle.klog.specs.Names.{flushed_number}
 use Rattle.klog.specs.Flush.{FlushGives, live_flushed, is_page_lost, is_on_page, without_next}
-use Rattle.kset.specs.Sets.{notes_of}
+use Rattle.kset.specs.Sets.{hit_in, notes_of}
 use Rattle.kset.specs.Shown.{first_visible}
 use Rattle.kset.specs.Laws.{AreOfTheirSets}
 use Rattle.kset.proofs.MovingLaws.{strikes_keep}
 use Rattle.mover.specs.Flight.{AreOfSet, Flight}
 use Rattle.mover.specs.Lane.{LaneState}
-use Rattle.mover.specs.Get.{Step, set_step, log_step, memory_step, get_step, GetGives}
+use Rattle.mover.proofs.Expiring.{found_lane}
+use Rattle.mover.specs.Get.{Step, lane_lowered, set_step, log_step, memory_step, get_step, GetGives}
 use Rattle.mover.specs.Strike.{struck, removed}
 use Rattle.mover.specs.Put.{lane_appended, append_step, push_step, stored, put_step}
 use Rattle.mover.specs.Flush.{LaneFlushes}
@@ -94,24 +98,29 @@ module _ (lane : LaneState) (was : IsInOrder lane) where
       was.placed.sets was.placed.flight was.marked
 
   -- a get keeps a lane in order
-  pub got_kept : (key : List ℕ) → KeepsOrder lane (get_step key lane).lane
-  got_kept key = by_memory (value_in key lane.memory.pairs)
+  pub got_kept : (key : List ℕ) (moment : ℕ) → KeepsOrder lane (get_step key moment lane).lane
+  got_kept key moment = by_memory (value_in key lane.memory.pairs)
     where
       same : KeepsOrder lane lane
       same = (refl, was)
 
-      by_set : (n : ℕ) (o : Option (ℕ × Rec)) → KeepsOrder lane (set_step n lane o).lane
+      by_set : (n : ℕ) (o : Option (ℕ × Rec)) → KeepsOrder lane (set_step n moment lane o).lane
       by_set n None = same
-      by_set n (Some x) = in_order lane (set_step n lane (Some x)).lane refl was.placed.log was.placed.sets was.placed.flight was.marked
+      by_set n (Some x) =
+          let after : LaneState = record lane { sets = hit_in lane.sets n x.0 } in
+          found_lane (KeepsOrder lane) (value_at moment x.1.value) Set lane after same (in_order lane after refl was.placed.log was.placed.sets was.placed.flight was.marked)
 
-      by_log : (o : Option (Entry × Rec)) → KeepsOrder lane (log_step key lane o).lane
+      by_log : (o : Option (Entry × Rec)) → KeepsOrder lane (log_step key moment lane o).lane
       by_log None = by_set (place_in lane.log.shape key).set (first_visible (lane.visible (place_in lane.log.shape key).set) key)
       by_log (Some x) =
-          in_order lane (log_step key lane (Some x)).lane refl (lowered_placed lane.log.shape x.0.set x.0.place lane.live was.placed.log) was.placed.sets was.placed.flight was.marked
+          found_lane (KeepsOrder lane) (value_at moment x.1.value) Log lane (lane_lowered lane x.0) same
+          (in_order lane (lane_lowered lane x.0) refl (lowered_placed lane.log.shape x.0.set x.0.place lane.live was.placed.log) was.placed.sets was.placed.flight was.marked)
 
-      by_memory : (o : Option (List ℕ)) → KeepsOrder lane (memory_step key lane o).lane
+      by_memory : (o : Option TimedValue) → KeepsOrder lane (memory_step key moment lane o).lane
       by_memory None = by_log (newest_with lane.live key)
-      by_memory (Some value) = in_order lane (memory_step key lane (Some value)).lane refl was.placed.log was.placed.sets was.placed.flight was.marked
+      by_memory (Some v) =
+          let after : LaneState = record lane { memory = after_get key lane.memory } in
+          found_lane (KeepsOrder lane) (value_at moment v) Memory lane after same (in_order lane after refl was.placed.log was.placed.sets was.placed.flight was.marked)
 
   -- so does a strike
   pub struck_kept_order : (key : List ℕ) → KeepsOrder lane (struck key lane)
@@ -178,14 +187,15 @@ flushed_kept old new flushed was gives =
     left false = was.placed.log
 
 -- and what a get gives
-pub get_kept : (key : List ℕ) (old new : LaneState) (answer : Answer) → IsInOrder old → GetGives key old answer new → KeepsOrder old new
-get_kept key old new answer was = by_answer answer
+pub get_kept : (key : List ℕ) (moment : ℕ) (old new : LaneState) (answer : Answer) → IsInOrder old → GetGives key moment old answer new → KeepsOrder old new
+get_kept key moment old new answer was = by_answer answer
   where
-    stepped : new ≡ (get_step key old).lane → KeepsOrder old new
-    stepped is = subst (KeepsOrder old) (sym is) (got_kept old was key)
+    stepped : new ≡ (get_step key moment old).lane → KeepsOrder old new
+    stepped is = subst (KeepsOrder old) (sym is) (got_kept old was key moment)
 
-    by_answer : (answer : Answer) → GetGives key old answer new → KeepsOrder old new
+    by_answer : (answer : Answer) → GetGives key moment old answer new → KeepsOrder old new
     by_answer (Hit value tier) gives = stepped gives.1
     by_answer (Miss Absent) gives = stepped gives.1
+    by_answer (Miss Expired) gives = stepped gives.1
     by_answer (Miss Fault) failed = subst (KeepsOrder old) (sym failed.1) (refl, was)
     by_answer (Miss Damaged) gives = absurd gives

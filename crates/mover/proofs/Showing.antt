@@ -10,15 +10,18 @@ use Rattle.std.proofs.lemmas.Option.{none-some}
 use Rattle.std.proofs.lemmas.List.Elements.{All-contains}
 use Rattle.record_pages.specs.Looking.{has_key}
 use Rattle.set_hash.specs.Fnv.{fnv1a}
+use Rattle.record_pages.specs.Expiry.{value_at}
 use Rattle.record_pages.specs.Recs.{Rec}
 use Rattle.memory_cache.specs.declared.pair.Pair.{Pair}
-use Rattle.memory_cache.specs.MemoryList.{without, entered, pushed_out, after_put, value_in, pair_in, to_front_by}
+use Rattle.memory_cache.specs.MemoryList.{without, entered, pushed_out, after_get, after_put, value_in, pair_in, to_front_by}
 use Rattle.klog_index.specs.declared.entry.Entry.{Entry}
 use Rattle.klog_index.specs.declared.place.Place.{Place}
 use Rattle.klog_index.specs.Entries.{has_tag, is_in, lowered}
 use Rattle.record_pages.specs.declared.answer.Answer.{Answer}
 use Rattle.record_pages.specs.declared.answer.Answer.TheVariants.{Hit, Miss}
-use Rattle.record_pages.specs.declared.miss_cause.MissCause.TheVariants.{Absent, Fault, Damaged}
+use Rattle.record_pages.specs.declared.miss_cause.MissCause.TheVariants.{Absent, Expired, Fault, Damaged}
+use Rattle.record_pages.specs.declared.tier.Tier.TheVariants.{Memory, Log, Set}
+use Rattle.record_pages.specs.declared.timed_value.TimedValue.{TimedValue}
 use Rattle.record_pages.specs.declared.pushed.Pushed.TheVariants.{Declined, Logged, Full, IndexFull}
 use Rattle.admission.specs.Chance.{is_admitted}
 use Rattle.klog.specs.Log.{LogState, Shape, filling_buffer}
@@ -30,16 +33,17 @@ use Rattle.klog.specs.declared.flushed.Flushed.{Flushed}
 use Rattle.klog.specs.Flush.{is_page_lost, is_on_page, live_flushed}
 use Rattle.kset.specs.Shown.{first_visible}
 use Rattle.record_pages.specs.declared.pushed.Pushed.{Pushed}
-use Rattle.mover.specs.Get.{Step, set_step, log_step, memory_step, get_step, GetGives}
+use Rattle.mover.specs.Get.{Step, lane_lowered, set_step, log_step, memory_step, get_step, GetGives}
 use Rattle.mover.specs.Put.{lane_appended, append_step, push_step, stored, put_step}
 use Rattle.mover.specs.Flush.{LaneFlushes}
 use Rattle.klog.specs.Shown.{place_in, newest_with}
 use Rattle.kset.specs.Notes.{Notes}
-use Rattle.kset.specs.Sets.{notes_of}
+use Rattle.kset.specs.Sets.{hit_in, notes_of}
 use Rattle.kset.specs.After.{after_strike, without_hash, is_one_too_many}
 use Rattle.mover.specs.Lane.{LaneState}
 use Rattle.mover.specs.Strike.{struck, removed}
-use Rattle.mover.specs.Visible.{pair_of, IsOnFlash, IsVisible, IsHeldInFlight, IsShown, IsLogPlaced, ShowsFrom, TellsVisible}
+use Rattle.mover.specs.Visible.{pair_of, IsOnFlash, IsVisible, IsHeldInFlight, IsShown, IsLogPlaced, ShowsFrom, ShowsLive, TellsVisible}
+use Rattle.mover.proofs.Expiring.{found_lane, found_reply, is_live_at}
 use Rattle.mover.specs.Flight.{Flight, flight_struck}
 use Rattle.mover.proofs.Listing.{in_filter, in_map, in_take, mapped, split, got, found_in, found_passes}
 
@@ -166,50 +170,60 @@ lowered_shows set place live p here =
     mapped (λ (x : Entry × Rec). pair_of x.1) live inner.0 p inner.1 (ap (λ (x : Entry × Rec). pair_of x.1) inner.2 ∙ outer.2)
 
 -- a get shows nothing that was not visible
-step_shows : (key : List ℕ) (lane : LaneState) → SeesNoMore lane (get_step key lane).lane
-step_shows key lane = by_memory (value_in key lane.memory.pairs)
+step_shows : (key : List ℕ) (moment : ℕ) (lane : LaneState) → SeesNoMore lane (get_step key moment lane).lane
+step_shows key moment lane = by_memory (value_in key lane.memory.pairs)
   where
-    by_set : (n : ℕ) (o : Option (ℕ × Rec)) → SeesNoMore lane (set_step n lane o).lane
-    by_set n None p here = here
-    by_set n (Some x) p here = here
+    same : SeesNoMore lane lane
+    same p here = here
 
-    by_log : (o : Option (Entry × Rec)) → SeesNoMore lane (log_step key lane o).lane
-    by_log None p here = by_set (place_in lane.log.shape key).set (first_visible (lane.visible (place_in lane.log.shape key).set) key) p here
-    by_log (Some x) p (inl memory) = inl memory
-    by_log (Some x) p (inr (inl live)) = inr (inl (lowered_shows x.0.set x.0.place lane.live p live))
-    by_log (Some x) p (inr (inr visible)) = inr (inr visible)
+    by_set : (n : ℕ) (o : Option (ℕ × Rec)) → SeesNoMore lane (set_step n moment lane o).lane
+    by_set n None = same
+    by_set n (Some x) = found_lane (SeesNoMore lane) (value_at moment x.1.value) Set lane (record lane { sets = hit_in lane.sets n x.0 }) same (λ p here. here)
 
-    by_memory : (o : Option (List ℕ)) → SeesNoMore lane (memory_step key lane o).lane
-    by_memory None p here = by_log (newest_with lane.live key) p here
-    by_memory (Some value) p (inl memory) = inl (raised_shows key lane.memory.pairs p (pair_in key lane.memory.pairs) refl memory)
-    by_memory (Some value) p (inr flash) = inr flash
+    lowered : (e : Entry) → SeesNoMore lane (lane_lowered lane e)
+    lowered e p (inl memory) = inl memory
+    lowered e p (inr (inl live)) = inr (inl (lowered_shows e.set e.place lane.live p live))
+    lowered e p (inr (inr visible)) = inr (inr visible)
+
+    by_log : (o : Option (Entry × Rec)) → SeesNoMore lane (log_step key moment lane o).lane
+    by_log None = by_set (place_in lane.log.shape key).set (first_visible (lane.visible (place_in lane.log.shape key).set) key)
+    by_log (Some x) = found_lane (SeesNoMore lane) (value_at moment x.1.value) Log lane (lane_lowered lane x.0) same (lowered x.0)
+
+    raised : SeesNoMore lane (record lane { memory = after_get key lane.memory })
+    raised p (inl memory) = inl (raised_shows key lane.memory.pairs p (pair_in key lane.memory.pairs) refl memory)
+    raised p (inr flash) = inr flash
+
+    by_memory : (o : Option TimedValue) → SeesNoMore lane (memory_step key moment lane o).lane
+    by_memory None = by_log (newest_with lane.live key)
+    by_memory (Some v) = found_lane (SeesNoMore lane) (value_at moment v) Memory lane (record lane { memory = after_get key lane.memory }) same raised
 
 -- nor does it change the moves in flight
-step_flies : (key : List ℕ) (lane : LaneState) → (get_step key lane).lane.flights ≡ lane.flights
-step_flies key lane = by_memory (value_in key lane.memory.pairs)
+step_flies : (key : List ℕ) (moment : ℕ) (lane : LaneState) → (get_step key moment lane).lane.flights ≡ lane.flights
+step_flies key moment lane = by_memory (value_in key lane.memory.pairs)
   where
-    by_set : (n : ℕ) (o : Option (ℕ × Rec)) → (set_step n lane o).lane.flights ≡ lane.flights
+    by_set : (n : ℕ) (o : Option (ℕ × Rec)) → (set_step n moment lane o).lane.flights ≡ lane.flights
     by_set n None = refl
-    by_set n (Some x) = refl
+    by_set n (Some x) = found_lane (λ l. l.flights ≡ lane.flights) (value_at moment x.1.value) Set lane (record lane { sets = hit_in lane.sets n x.0 }) refl refl
 
-    by_log : (o : Option (Entry × Rec)) → (log_step key lane o).lane.flights ≡ lane.flights
+    by_log : (o : Option (Entry × Rec)) → (log_step key moment lane o).lane.flights ≡ lane.flights
     by_log None = by_set (place_in lane.log.shape key).set (first_visible (lane.visible (place_in lane.log.shape key).set) key)
-    by_log (Some x) = refl
+    by_log (Some x) = found_lane (λ l. l.flights ≡ lane.flights) (value_at moment x.1.value) Log lane (lane_lowered lane x.0) refl refl
 
-    by_memory : (o : Option (List ℕ)) → (memory_step key lane o).lane.flights ≡ lane.flights
+    by_memory : (o : Option TimedValue) → (memory_step key moment lane o).lane.flights ≡ lane.flights
     by_memory None = by_log (newest_with lane.live key)
-    by_memory (Some value) = refl
+    by_memory (Some v) = found_lane (λ l. l.flights ≡ lane.flights) (value_at moment v) Memory lane (record lane { memory = after_get key lane.memory }) refl refl
 
 -- nor does what a get leaves
-pub get_shows : (key : List ℕ) (old new : LaneState) (answer : Answer) → GetGives key old answer new → ShowsNoMore old new
-get_shows key old new answer gives = by_answer answer gives
+pub get_shows : (key : List ℕ) (moment : ℕ) (old new : LaneState) (answer : Answer) → GetGives key moment old answer new → ShowsNoMore old new
+get_shows key moment old new answer gives = by_answer answer gives
   where
-    stepped : new ≡ (get_step key old).lane → ShowsNoMore old new
-    stepped is = subst (ShowsNoMore old) (sym is) (sees_no_more old (get_step key old).lane (step_flies key old) (step_shows key old))
+    stepped : new ≡ (get_step key moment old).lane → ShowsNoMore old new
+    stepped is = subst (ShowsNoMore old) (sym is) (sees_no_more old (get_step key moment old).lane (step_flies key moment old) (step_shows key moment old))
 
-    by_answer : (answer : Answer) → GetGives key old answer new → ShowsNoMore old new
+    by_answer : (answer : Answer) → GetGives key moment old answer new → ShowsNoMore old new
     by_answer (Hit value tier) gives = stepped gives.1
     by_answer (Miss Absent) gives = stepped gives.1
+    by_answer (Miss Expired) gives = stepped gives.1
     by_answer (Miss Fault) failed = subst (ShowsNoMore old) (sym failed.1) (λ p here. here)
     by_answer (Miss Damaged) gives = absurd gives
 
@@ -311,32 +325,35 @@ flush_sees flushed old new shape gives p here = step (subst (λ (l : LaneState).
 pub flush_shows : (flushed : Flushed) (old new : LaneState) → new.log.shape ≡ old.log.shape → LaneFlushes old flushed new → ShowsNoMore old new
 flush_shows flushed old new shape gives = sees_no_more old new (ap (λ (l : LaneState). l.flights) gives.1) (flush_sees flushed old new shape gives)
 
--- a get answers the value of a visible pair of its key
-answer_visible : (key : List ℕ) (lane : LaneState) → TellsVisible key lane (get_step key lane).reply
-answer_visible key lane = by_memory (pair_in key lane.memory.pairs) refl
+-- a get answers the value of a visible pair of its key that is live
+shown_live : (key : List ℕ) (moment : ℕ) (lane : LaneState) (v : TimedValue) → IsVisible lane (record { key = key; value = v }) → (value : List ℕ) → value_at moment v ≡ Some value → ShowsLive key moment lane value
+shown_live key moment lane v visible value is =
+    let live = is_live_at moment v value is in
+    record { expires = v.expires; visible = subst (λ (w : TimedValue). IsVisible lane (record { key = key; value = w })) live.0 visible; live = live.1 }
+
+answer_visible : (key : List ℕ) (moment : ℕ) (lane : LaneState) → TellsVisible key moment lane (get_step key moment lane).reply
+answer_visible key moment lane = by_memory (pair_in key lane.memory.pairs) refl
   where
-    its : (set : ℕ) → (place_in lane.log.shape key).set ≡ set → (o : Option (ℕ × Rec)) → first_visible (lane.visible set) key ≡ o → TellsVisible key lane (set_step set lane o).reply
+    its : (set : ℕ) → (place_in lane.log.shape key).set ≡ set → (o : Option (ℕ × Rec)) → first_visible (lane.visible set) key ≡ o → TellsVisible key moment lane (set_step set moment lane o).reply
     its set at None is = tt
-    its set at (Some x) is =
-        inr (inr (subst (λ n. Contains (map (λ (y : ℕ × Rec). pair_of y.1) (lane.visible n)) (record { key = key; value = x.1.value })) (sym at)
+    its set at (Some x) is = found_reply (TellsVisible key moment lane) (value_at moment x.1.value) Set lane (record lane { sets = hit_in lane.sets set x.0 }) tt (shown_live key moment lane x.1.value
+        (inr (inr (subst (λ n. Contains (map (λ (y : ℕ × Rec). pair_of y.1) (lane.visible n)) (record { key = key; value = x.1.value })) (sym at)
         (mapped (λ (y : ℕ × Rec). pair_of y.1) (lane.visible set) x (record { key = key; value = x.1.value }) (found_in (λ (y : ℕ × Rec). has_key key y.1) (lane.visible set) x is)
-        (λ i. record { key = same_text x.1.key key (sym (found_passes (λ (y : ℕ × Rec). has_key key y.1) (lane.visible set) x is)) i; value = x.1.value }))))
+        (λ i. record { key = same_text x.1.key key (sym (found_passes (λ (y : ℕ × Rec). has_key key y.1) (lane.visible set) x is)) i; value = x.1.value }))))))
 
-    by_log : (o : Option (Entry × Rec)) → newest_with lane.live key ≡ o → TellsVisible key lane (log_step key lane o).reply
+    by_log : (o : Option (Entry × Rec)) → newest_with lane.live key ≡ o → TellsVisible key moment lane (log_step key moment lane o).reply
     by_log None is = its (place_in lane.log.shape key).set refl (first_visible (lane.visible (place_in lane.log.shape key).set) key) refl
-    by_log (Some x) is =
-        inr (inl (mapped (λ (y : Entry × Rec). pair_of y.1) lane.live x (record { key = key; value = x.1.value }) (found_in (λ (y : Entry × Rec). has_key key y.1) lane.live x is)
-        (λ i. record { key = same_text x.1.key key (sym (found_passes (λ (y : Entry × Rec). has_key key y.1) lane.live x is)) i; value = x.1.value })))
+    by_log (Some x) is = found_reply (TellsVisible key moment lane) (value_at moment x.1.value) Log lane (lane_lowered lane x.0) tt (shown_live key moment lane x.1.value
+        (inr (inl (mapped (λ (y : Entry × Rec). pair_of y.1) lane.live x (record { key = key; value = x.1.value }) (found_in (λ (y : Entry × Rec). has_key key y.1) lane.live x is)
+        (λ i. record { key = same_text x.1.key key (sym (found_passes (λ (y : Entry × Rec). has_key key y.1) lane.live x is)) i; value = x.1.value })))))
 
-    by_memory : (o : Option Pair) → pair_in key lane.memory.pairs ≡ o → TellsVisible key lane (memory_step key lane (option_map (λ (p : Pair). p.value) o)).reply
+    by_memory : (o : Option Pair) → pair_in key lane.memory.pairs ≡ o → TellsVisible key moment lane (memory_step key moment lane (option_map (λ (p : Pair). p.value) o)).reply
     by_memory None is = by_log (newest_with lane.live key) refl
-    by_memory (Some p) is =
-        inl (subst (Contains lane.memory.pairs) (λ i. record { key = sym ((bytes_decides key p.key).0 (found_passes (λ (y : Pair). bytes_eq key y.key) lane.memory.pairs p is)) i; value = p.value })
-        (found_in (λ (y : Pair). bytes_eq key y.key) lane.memory.pairs p is))
+    by_memory (Some p) is = found_reply (TellsVisible key moment lane) (value_at moment p.value) Memory lane (record lane { memory = after_get key lane.memory }) tt (shown_live key moment lane p.value
+        (inl (subst (Contains lane.memory.pairs) (λ i. record { key = sym ((bytes_decides key p.key).0 (found_passes (λ (y : Pair). bytes_eq key y.key) lane.memory.pairs p is)) i; value = p.value })
+        (found_in (λ (y : Pair). bytes_eq key y.key) lane.memory.pairs p is))))
 
 -- so does what a get answers
-pub get_tells : (key : List ℕ) (old new : LaneState) (answer : Answer) → GetGives key old answer new → TellsVisible key old answer
-get_tells key old new (Hit value tier) gives = subst (TellsVisible key old) (sym gives.0) (answer_visible key old)
-get_tells key old new (Miss Absent) gives = tt
-get_tells key old new (Miss Fault) gives = tt
-get_tells key old new (Miss Damaged) gives = tt
+pub get_tells : (key : List ℕ) (moment : ℕ) (old new : LaneState) (answer : Answer) → GetGives key moment old answer new → TellsVisible key moment old answer
+get_tells key moment old new (Hit value tier) gives = subst (TellsVisible key moment old) (sym gives.0) (answer_visible key moment old)
+get_tells key moment old new (Miss cause) gives = tt

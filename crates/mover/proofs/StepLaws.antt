@@ -17,8 +17,8 @@ pub both : (struck : Option (List ℕ)) (put : Option Pair) (old new : LaneState
 both struck put old new shows keeps = record { shows = shows; order = keeps.1; shape = keeps.0 }
 
 pub get_law : GetShows
-get_law key old new answer was gives =
-    (both None None old new (no_more old new (get_shows key old new answer gives)) (get_kept key old new answer was gives), get_tells key old new answer gives)
+get_law key moment old new answer was gives =
+    (both None None old new (no_more old new (get_shows key moment old new answer gives)) (get_kept key moment old new answer was gives), get_tells key moment old new answer gives)
 
 pub put_law : PutShows
 put_law size admit word p old new pushed was gives =

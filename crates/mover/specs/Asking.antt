@@ -1,9 +1,11 @@
 -- When a get makes no call of the device, and what it leaves of a store on any device.
-use Rattle.std.specs.Prelude.{◌≡◌, ◌<◌, ℕ, List, Some, Contains, IsTrue, false}
+use Rattle.std.specs.Prelude.{◌≡◌, ◌<◌, ℕ, List, Option, Some, None, IsSomeAnd, Contains, IsTrue, false}
 use Rattle.set_hash.specs.declared.placed.Placed.{Placed}
+use Rattle.record_pages.specs.Expiry.{timed, value_at}
 use Rattle.record_pages.specs.Sizes.{max_records}
 use Rattle.record_pages.specs.declared.answer.Answer.{Answer}
 use Rattle.record_pages.specs.declared.answer.Answer.TheVariants.{Hit, Miss}
+use Rattle.record_pages.specs.declared.miss_cause.MissCause.TheVariants.{Expired}
 use Rattle.record_pages.specs.declared.tier.Tier.TheVariants.{Memory, Log, Set}
 use Rattle.memory_cache.specs.MemoryList.{value_in, after_get}
 use Rattle.klog_index.specs.declared.entry.Entry.{Entry}
@@ -30,7 +32,8 @@ pub record IfThen (P not_called : Type 0) : Type 0 where
 
 -- a hit in memory: it has this value of the key, whose pair comes to the front; nothing else changes, the device neither
 pub record Recalls {D : Type 0} (key value : List ℕ) (old new : StoreState D) : Type 0 where
-  pub its : value_in key old.memory.pairs ≡ Some value
+  pub expires : ℕ
+  pub its : value_in key old.memory.pairs ≡ Some (timed value expires)
   pub rest : new ≡ record old { memory = after_get key old.memory }
 
 -- a hit in the log: one entry of this set and tag is asked for once more, and nothing else changes but the device; that
@@ -47,9 +50,22 @@ pub record NotesHit {D : Type 0} (set : ℕ) (old new : StoreState D) : Type 0 w
   pub within : slot < max_records
   pub rest : new ≡ record old { device = new.device; sets = hit_in old.sets set slot }
 
+-- what memory tells by what its pair of a key gives: its value, and the pair comes to the front; or that it has expired, and all
+-- stays
+abbrev pub RecallsBy : {D : Type 0} → Option (List ℕ) → List ℕ → StoreState D → Answer → StoreState D → Type 0
+RecallsBy (Some value) key old answer new = (answer ≡ Hit value Memory) × (new ≡ record old { memory = after_get key old.memory })
+RecallsBy None key old answer new = (answer ≡ Miss Expired) × (new ≡ old)
+
+-- what memory tells of a key at a moment; where it has no pair of the key all stays
+abbrev pub MemoryTells : {D : Type 0} → List ℕ → ℕ → StoreState D → Option Answer → StoreState D → Type 0
+MemoryTells key moment old None new = (value_in key old.memory.pairs ≡ None) × (new ≡ old)
+MemoryTells key moment old (Some answer) new =
+    IsSomeAnd (value_in key old.memory.pairs) (λ v. RecallsBy (value_at moment v) key old answer new)
+
 -- what a look into the log for a key of this place leaves, by what it tells
 abbrev pub LogLeaves : {D : Type 0} → Placed → LogLooked → StoreState D → StoreState D → Type 0
 LogLeaves at (log.Hit value) old new = LowersOne at old new
+LogLeaves at log.Expired old new = HasAll old new
 LogLeaves at log.Absent old new = HasAll old new
 LogLeaves at log.Fault old new = HasAll old new
 LogLeaves at log.Damaged old new = HasAll old new

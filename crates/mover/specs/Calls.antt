@@ -2,10 +2,13 @@
 use Rattle.std.specs.Prelude.{◌≡◌, ◌<◌, ◌↔◌, ◌⊎◌, ℕ, List, Option, Some, None, Bool, Result, IsErrOf, IfOk, OnErr, IsSome, IsTrue}
 use Rattle.std.specs.declared.alloc.AllocError.{AllocError}
 use Rattle.page_device.specs.Device.{faults_after}
+use Rattle.record_pages.specs.Expiry.{value_at}
 use Rattle.record_pages.specs.Recs.{Rec}
 use Rattle.record_pages.specs.Sizes.{object_size, room}
 use Rattle.record_pages.specs.declared.answer.Answer.{Answer}
-use Rattle.record_pages.specs.declared.answer.Answer.TheVariants.{Hit}
+use Rattle.record_pages.specs.declared.answer.Answer.TheVariants.{Hit, Miss}
+use Rattle.record_pages.specs.declared.miss_cause.MissCause.TheVariants.{Expired}
+use Rattle.record_pages.specs.declared.timed_value.TimedValue.{TimedValue}
 use Rattle.record_pages.specs.declared.tier.Tier.TheVariants.{Memory, Log}
 use Rattle.record_pages.specs.declared.pushed.Pushed.{Pushed}
 use Rattle.record_pages.specs.declared.put_fault.PutFault.{PutFault}
@@ -20,10 +23,12 @@ use Rattle.klog_index.specs.declared.entry.Entry.{Entry}
 use Rattle.klog.specs.declared.flushed.Flushed.{Flushed}
 use Rattle.klog.specs.Flush.{is_page_lost, FlushGives}
 use Rattle.klog.specs.Look.{lowered_in, IsInBuffers}
+use Rattle.klog.specs.declared.looked.Looked.TheVariants as log
+use Rattle.klog.specs.declared.looked.Looked.{Looked as LogLooked}
 use Rattle.klog.specs.Shown.{place_in}
 use Rattle.mover.specs.Store.{StoreState, OnlyReads}
 use Rattle.mover.specs.Lane.{lane_of}
-use Rattle.mover.specs.Get.{GetGives, is_fault}
+use Rattle.mover.specs.Get.{GetGives, answer_by, is_fault}
 use Rattle.mover.specs.Asking.{AsksNothing, IfThen, GetLeaves}
 use Rattle.mover.specs.Put.{put_step, IsStep}
 use Rattle.mover.specs.Strike.{removed}
@@ -45,29 +50,40 @@ use Rattle.mover.specs.declared.moved.Moved.TheVariants as moved
 abbrev pub IsLowered : {D : Type 0} → ℕ → Entry → StoreState D → StoreState D → Type 0
 IsLowered set e old new = new ≡ record old { log = lowered_in old.log set e.place }
 
--- a get of a key of which the log's buffers tell a record answers that, and its entry is lowered
-abbrev pub AnswersFromBuffers : {D : Type 0} → List ℕ → Entry → Rec → StoreState D → Answer → StoreState D → Type 0
-AnswersFromBuffers key e r old answer new = (answer ≡ Hit r.value Log) × IsLowered (place_in old.log.shape key).set e old new
+-- what the log tells by what a record that its buffers tell of gives: its value, and its entry is lowered; or that it has
+-- expired, and all stays
+abbrev pub TellsRecord : {D : Type 0} → Option (List ℕ) → ℕ → Entry → StoreState D → LogLooked → StoreState D → Type 0
+TellsRecord (Some value) set e old looked new = (looked ≡ log.Hit value) × IsLowered set e old new
+TellsRecord None set e old looked new = (looked ≡ log.Expired) × (new ≡ old)
+
+-- the same of an answer
+abbrev pub AnswersRecord : {D : Type 0} → Option (List ℕ) → ℕ → Entry → StoreState D → Answer → StoreState D → Type 0
+AnswersRecord (Some value) set e old answer new = (answer ≡ Hit value Log) × IsLowered set e old new
+AnswersRecord None set e old answer new = (answer ≡ Miss Expired) × (new ≡ old)
+
+-- a get of a key of which the log's buffers tell a record answers by that
+abbrev pub AnswersFromBuffers : {D : Type 0} → List ℕ → ℕ → Entry → Rec → StoreState D → Answer → StoreState D → Type 0
+AnswersFromBuffers key moment e r old answer new = AnswersRecord (value_at moment r.value) (place_in old.log.shape key).set e old answer new
 
 -- A get. On any device no page is written, the device has failed exactly where a fault is answered, and the answer says
 -- what is left; what memory has is answered at once, and else what the log's buffers tell of the key. Where the device is
 -- honest, answer and lane are those of a get's step, and a fault comes only where a page is needed.
-pub record StoreGets {D : Type 0} (size : ℕ) (honest : D → Bool) (failures : D → ℕ) (held : D → ℕ → Option (List ℕ)) (key : List ℕ) (old : StoreState D) (result : Result Answer AllocError) (new : StoreState D) : Type 0 where
+pub record StoreGets {D : Type 0} (size : ℕ) (honest : D → Bool) (failures : D → ℕ) (held : D → ℕ → Option (List ℕ)) (key : List ℕ) (moment : ℕ) (old : StoreState D) (result : Result Answer AllocError) (new : StoreState D) : Type 0 where
   pub reads : OnlyReads honest failures held old (is_fault result) new
   pub leaves : IfOk result (λ answer. GetLeaves key answer old new)
   pub out_of_memory : OnErr result (HasAll old new)
-  pub in_memory : (value : List ℕ) → value_in key old.memory.pairs ≡ Some value → IfOk result (λ answer. answer ≡ Hit value Memory)
+  pub in_memory : (v : TimedValue) → value_in key old.memory.pairs ≡ Some v → IfOk result (λ answer. answer ≡ answer_by (value_at moment v) Memory)
   pub unread : IsSome (value_in key old.memory.pairs) → new.device ≡ old.device
   pub in_buffers : (e : Entry) (r : Rec) → value_in key old.memory.pairs ≡ None → IsInBuffers size old.log (place_in old.log.shape key).set (place_in old.log.shape key).tag key e r →
-      IfOk result (λ answer. AnswersFromBuffers key e r old answer new)
+      IfOk result (λ answer. AnswersFromBuffers key moment e r old answer new)
   pub unasked : IfThen (AsksNothing key old) (new.device ≡ old.device)
-  pub gives : IsTrue (honest old.device) → IfOk result (λ answer. GetGives key (lane_of held old) answer (lane_of held new))
+  pub gives : IsTrue (honest old.device) → IfOk result (λ answer. GetGives key moment (lane_of held old) answer (lane_of held new))
 
 -- A put. It makes no call of the device, and is a put's step whatever the device.
 pub record StorePuts {D : Type 0} (size : ℕ) (held : D → ℕ → Option (List ℕ)) (p : Pair) (word : ℕ) (old : StoreState D) (result : Result Pushed PutFault) (new : StoreState D) : Type 0 where
   pub layout : new.layout ≡ old.layout
   pub device : new.device ≡ old.device
-  pub too_large : IsErrOf result TooLarge ↔ (room size < object_size p.key p.value)
+  pub too_large : IsErrOf result TooLarge ↔ (room size < object_size p.key p.value.value)
   pub err : OnErr result (new ≡ old)
   pub gives : IfOk result (λ pushed. IsStep (put_step size old.layout.admit p word (lane_of held old)) pushed (lane_of held new))
 

@@ -1,6 +1,7 @@
 -- How a move ends.
 use Rattle.std.specs.Prelude.{◌≡◌, ◌≢◌, ◌<◌, ◌≤◌, ℕ, List, [], length, map, sum_by, slice_index_or, All, AllPairs, Some, Bool, true, false}
 use Rattle.std.specs.List.{enumerate_from}
+use Rattle.record_pages.specs.Expiry.{lasting}
 use Rattle.record_pages.specs.Recs.{Rec, rec}
 use Rattle.record_pages.specs.Sizes.{max_records}
 use Rattle.policy_laws.specs.declared.choice.Choice.{Choice}
@@ -25,7 +26,7 @@ use Rattle.mover.specs.declared.aborted.Aborted.TheVariants as aborted
 
 -- the record of a choice, with the prediction that the plan gives it
 abbrev pub planned : List Rec → Choice → Rec
-planned rs choice = rec (slice_index_or rs choice.item (rec [] [] 0)).key (slice_index_or rs choice.item (rec [] [] 0)).value choice.prediction
+planned rs choice = rec (slice_index_or rs choice.item (rec [] (lasting []) 0)).key (slice_index_or rs choice.item (rec [] (lasting []) 0)).value choice.prediction
 
 -- the records of a plan, in its order
 abbrev pub planned_of : Moving → List Choice → List Rec

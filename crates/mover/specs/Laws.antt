@@ -50,13 +50,13 @@ pub record StepsInOrder (struck : Option (List ℕ)) (put : Option Pair) (old ne
 abbrev pub opening_lane : Layout → (ℕ → Option (List ℕ)) → LaneState
 opening_lane layout pages = lane_of (λ (held : ℕ → Option (List ℕ)). held) (opening layout pages)
 
--- a get shows nothing that was not shown, and a hit is the value of a visible pair
+-- a get shows nothing that was not shown, and a hit is the value of a visible pair that is live at its moment
 abbrev pub GetShows : Type 0
 GetShows =
-    (key : List ℕ) (old new : LaneState) (answer : Answer)
+    (key : List ℕ) (moment : ℕ) (old new : LaneState) (answer : Answer)
     → IsInOrder old
-    → GetGives key old answer new
-    → StepsInOrder None None old new × TellsVisible key old answer
+    → GetGives key moment old answer new
+    → StepsInOrder None None old new × TellsVisible key moment old answer
 
 -- a put shows its pair, and nothing else that was not shown
 abbrev pub PutShows : Type 0

@@ -31,7 +31,7 @@ most_moves = 2 ^ 62
 
 -- an object fits on a page of this many bytes
 abbrev pub IsSmall : ℕ → Pair → Type 0
-IsSmall size p = object_size p.key p.value ≤ room size
+IsSmall size p = object_size p.key p.value.value ≤ room size
 
 -- What is true of every store. Its tiers have the layout's numbers and the device has their pages; memory has room for one
 -- object at least, and each object there fits on a page; the moves in flight are this store's, of different sets; and where the

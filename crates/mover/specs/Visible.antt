@@ -1,5 +1,6 @@
 -- The visible pairs of a lane.
-use Rattle.std.specs.Prelude.{◌≡◌, ◌≢◌, ◌⊎◌, ℕ, List, Option, Some, All, map, Contains}
+use Rattle.std.specs.Prelude.{◌≡◌, ◌≢◌, ◌⊎◌, ℕ, List, Option, Some, All, IsTrue, map, Contains}
+use Rattle.record_pages.specs.Expiry.{is_live, timed}
 use Rattle.record_pages.specs.Recs.{Rec}
 use Rattle.record_pages.specs.declared.answer.Answer.{Answer}
 use Rattle.record_pages.specs.declared.answer.Answer.TheVariants.{Hit, Miss}
@@ -59,7 +60,13 @@ pub record IsPlaced (lane : LaneState) : Type 0 where
   pub sets : AreSetsPlaced lane
   pub flight : IsFlightPlaced lane
 
--- a hit is the value of a visible pair of the key
-abbrev pub TellsVisible : List ℕ → LaneState → Answer → Type 0
-TellsVisible key lane (Hit value tier) = IsVisible lane (record { key = key; value = value })
-TellsVisible key lane (Miss cause) = Unit {0}
+-- a visible pair of the key has this value, and is live at the moment
+pub record ShowsLive (key : List ℕ) (moment : ℕ) (lane : LaneState) (value : List ℕ) : Type 0 where
+  pub expires : ℕ
+  pub visible : IsVisible lane (record { key = key; value = timed value expires })
+  pub live : IsTrue (is_live expires moment)
+
+-- a hit is the value of a visible pair of the key that is live at the moment
+abbrev pub TellsVisible : List ℕ → ℕ → LaneState → Answer → Type 0
+TellsVisible key moment lane (Hit value tier) = ShowsLive key moment lane value
+TellsVisible key moment lane (Miss cause) = Unit {0}

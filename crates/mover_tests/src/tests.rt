@@ -1,5 +1,6 @@
 //! A store from end to end: what was put is found in each tier in turn, until it is struck, moved, dropped or lost.
 mod calls;
+mod expiring;
 mod failing;
 mod filling;
 mod going_back;

@@ -3,10 +3,11 @@ use Rattle.std.specs.Prelude.{◌≡◌, ℕ, ◌<◌, List, IsTrue, length, tak
 use Rattle.record_pages.specs.Recs.{Rec, IsRecord, sizes, fit}
 use Rattle.record_pages.specs.PageText.{records_text}
 use Rattle.record_pages.specs.Reading.{records_of}
+use Rattle.record_pages.specs.declared.form.Form.TheVariants.{Timed}
 
 -- the bytes begin with the texts of these records, which fit on a page
 pub record HoldsRecords (page : ℕ) (bytes : List ℕ) (used count : ℕ) (rs : List Rec) : Type 0 where
-  pub text : take used bytes ≡ records_text rs
+  pub text : take used bytes ≡ records_text Timed rs
   pub used_is : used ≡ sizes rs
   pub count_is : count ≡ length rs
   pub each : All IsRecord rs
@@ -14,7 +15,7 @@ pub record HoldsRecords (page : ℕ) (bytes : List ℕ) (used count : ℕ) (rs :
 
 -- the bytes and the counts of a page in the making agree
 abbrev pub IsInTheMaking : ℕ → List ℕ → ℕ → ℕ → Type 0
-IsInTheMaking page bytes used count = HoldsRecords page bytes used count (records_of count bytes)
+IsInTheMaking page bytes used count = HoldsRecords page bytes used count (records_of Timed count bytes)
 
 -- it is noted of each record how many bytes stand before it
 abbrev pub AreStarts : List Rec → List ℕ → Type 0

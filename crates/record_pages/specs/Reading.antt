@@ -3,9 +3,12 @@ use Rattle.std.specs.Prelude.{ℕ, zero, suc, List, [], ◌∷◌, length, take,
 use Rattle.std.specs.List.{list_all}
 use Rattle.std.specs.Option.{option_map_or}
 use Rattle.std.specs.Int.{Width, w16, w32, w64, byte_len, from_be_bytes}
+use Rattle.record_pages.specs.Expiry.{never, timed}
 use Rattle.record_pages.specs.Recs.{Rec, rec}
 use Rattle.record_pages.specs.Sizes.{max_records}
-use Rattle.record_pages.specs.PageText.{SetPageParts, LogPageParts}
+use Rattle.record_pages.specs.PageText.{SetPageParts, LogPageParts, set_magic, log_magic}
+use Rattle.record_pages.specs.declared.form.Form.{Form}
+use Rattle.record_pages.specs.declared.form.Form.TheVariants.{Timed, Lasting}
 
 infixl 10 ◌>>=◌
 abbrev pub ◌>>=◌ : {A B : Type 0} → Option A → (A → Option B) → Option B
@@ -26,55 +29,66 @@ byte_at (b ∷ rest) = Some (b, rest)
 abbrev pub is_bad : ℕ → ℕ → ℕ → List ℕ → Bool
 is_bad k v p rest = k == 0 || nat_lt 2048 v || nat_lt 7 p || nat_lt (length rest) (k + v)
 
+-- the expiry at the front, and the bytes behind it: a page of the older form has none, and its records never expire
+abbrev pub expiry_at : Form → List ℕ → Option (ℕ × List ℕ)
+expiry_at Timed bytes = number_at w64 bytes
+expiry_at Lasting bytes = Some (never, bytes)
+
 -- the record at the front, and the bytes behind it
-unfoldable pub record_at : List ℕ → Option (Rec × List ℕ)
-record_at bytes = do
+unfoldable pub record_at : Form → List ℕ → Option (Rec × List ℕ)
+record_at form bytes = do
   k ← byte_at bytes
   v ← number_at w16 k.1
   p ← byte_at v.1
-  if is_bad k.0 v.0 p.0 p.1 then None
-      else Some (rec (take k.0 p.1) (take v.0 (drop k.0 p.1)) p.0, drop v.0 (drop k.0 p.1))
+  e ← expiry_at form p.1
+  if is_bad k.0 v.0 p.0 e.1 then None
+      else Some (rec (take k.0 e.1) (timed (take v.0 (drop k.0 e.1)) e.0) p.0, drop v.0 (drop k.0 e.1))
 
 -- so many records at the front, and the bytes behind them
-unfoldable pub records_at : ℕ → List ℕ → Option (List Rec × List ℕ)
-records_at zero bytes = Some ([], bytes)
-records_at (suc n) bytes = do
-  first ← record_at bytes
-  others ← records_at n first.1
+unfoldable pub records_at : Form → ℕ → List ℕ → Option (List Rec × List ℕ)
+records_at form zero bytes = Some ([], bytes)
+records_at form (suc n) bytes = do
+  first ← record_at form bytes
+  others ← records_at form n first.1
   Some (first.0 ∷ others.0, others.1)
 
 -- so many records at the front, where they are there
-abbrev pub records_of : ℕ → List ℕ → List Rec
-records_of n bytes = option_map_or (λ x. x.0) (records_at n bytes) []
+abbrev pub records_of : Form → ℕ → List ℕ → List Rec
+records_of form n bytes = option_map_or (λ x. x.0) (records_at form n bytes) []
 
 -- only zeros
 abbrev pub all_zero : List ℕ → Bool
 all_zero bytes = list_all (λ b. b == 0) bytes
 
 -- the records of a page whose head was read: a count that a page may have, so many records, zeros to the end
-unfoldable pub body_at : List ℕ → Option (List Rec)
-body_at bytes = do
+unfoldable pub body_at : Form → List ℕ → Option (List Rec)
+body_at form bytes = do
   count ← number_at w16 bytes
   if nat_lt max_records count.0 then None else do
-    records ← records_at count.0 count.1
+    records ← records_at form count.0 count.1
     if all_zero records.1 then Some records.0 else None
+
+-- the form of a page whose first four bytes are this number, where those of each form are these
+abbrev pub form_of : (Form → ℕ) → ℕ → Option Form
+form_of magic_of magic =
+    if magic == magic_of Timed then Some Timed else if magic == magic_of Lasting then Some Lasting else None
 
 -- what these bytes say as a set page
 unfoldable pub set_page_at : List ℕ → Option SetPageParts
 set_page_at bytes = do
   magic ← number_at w32 bytes
+  form ← form_of set_magic magic.0
   set ← number_at w32 magic.1
   write ← number_at w64 set.1
-  records ← body_at write.1
-  if magic.0 == 0x4b53_4554 then Some (record { set = set.0; write = write.0; records = records })
-      else None
+  records ← body_at form write.1
+  Some (record { set = set.0; write = write.0; records = records })
 
 -- what these bytes say as a log page
 unfoldable pub log_page_at : List ℕ → Option LogPageParts
 log_page_at bytes = do
   magic ← number_at w32 bytes
+  form ← form_of log_magic magic.0
   segment ← number_at w64 magic.1
   page ← number_at w16 segment.1
-  records ← body_at page.1
-  if magic.0 == 0x4b4c_4f47 then Some (record { segment = segment.0; page = page.0; records = records })
-      else None
+  records ← body_at form page.1
+  Some (record { segment = segment.0; page = page.0; records = records })

@@ -9,9 +9,9 @@ IsPageSize page = (256 ≤ page) × (page ≤ 4096)
 abbrev pub room : ℕ → ℕ
 room page = page - 18
 
--- how many bytes an object takes on a page: two lengths, a prediction, the key and the value
+-- how many bytes an object takes on a page: two lengths, a prediction, an expiry, the key and the value
 abbrev pub object_size : List ℕ → List ℕ → ℕ
-object_size key value = 4 + length key + length value
+object_size key value = 12 + length key + length value
 
 -- how many records a page may have
 abbrev pub max_records : ℕ

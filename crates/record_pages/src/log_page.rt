@@ -1,14 +1,18 @@
 // A log page that was read.
 ghost use Rattle.std.specs.Prelude.{◌≡◌, IfSome, Some, length};
-ghost use Rattle.record_pages.specs.PageText.{LogPageParts, SpellsLogPage, LogPageTextsDiffer};
-ghost use Rattle.record_pages.specs.Reading.{log_page_at};
+ghost use Rattle.record_pages.specs.PageText.{LogPageParts, log_magic, SpellsLogPage, LogPageTextsDiffer};
+ghost use Rattle.record_pages.specs.Reading.{form_of, log_page_at};
 
+use crate::form::Form;
 use crate::front::{u16_at, u32_at, u64_at};
 use crate::records::{Records, body_at};
 use std::marker::Model;
 
-/// The first four bytes of a log page: `KLOG`.
-pub(crate) const LOG_MAGIC: u32 = 0x4b4c_4f47;
+/// The first four bytes of a log page: `KLO1`.
+pub(crate) const LOG_MAGIC: u32 = 0x4b4c_4f31;
+
+// The first four bytes of a log page whose records have no expiry: `KLOG`.
+const LASTING_LOG_MAGIC: u32 = 0x4b4c_4f47;
 
 /// A log page that was read: its header, and its records, which lie in the bytes that were read.
 #[derive(Debug, Drop)]
@@ -64,15 +68,24 @@ fn log_page_at(bytes: &[u8]) -> Option<LogPage<'_>>
     ensures found { IfSome result (SpellsLogPage (length bytes.now) bytes.now) }
 {
     let (magic, rest) = u32_at(bytes)?;
+    let form = form_of(magic)?;
     let (segment, rest) = u64_at(rest)?;
     let (page, rest) = u16_at(rest)?;
-    let records = body_at(rest)?;
-    if magic != LOG_MAGIC {
-        return None;
-    }
+    let records = body_at(form, rest)?;
     Some(LogPage {
         segment,
         page,
         records,
     })
+}
+
+// The form of a log page that begins so.
+fn form_of(magic: u32) -> Option<Form>
+    ensures { result ≡ form_of log_magic magic }
+{
+    match magic {
+        LOG_MAGIC => Some(Form::Timed),
+        LASTING_LOG_MAGIC => Some(Form::Lasting),
+        _ => None,
+    }
 }

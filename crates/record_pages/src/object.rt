@@ -6,7 +6,7 @@ use crate::key::Key;
 use crate::value::Value;
 
 /// How many bytes a record takes beside its key and value.
-pub const RECORD_OVERHEAD: usize = 4;
+pub const RECORD_OVERHEAD: usize = 12;
 
 /// How many bytes of a page no record may take.
 pub const PAGE_OVERHEAD: usize = 18;

@@ -5,7 +5,9 @@ ghost use Rattle.record_pages.specs.Lent.{record_shown};
 ghost use Rattle.record_pages.specs.PageText.{records_text};
 ghost use Rattle.record_pages.specs.Reading.{records_of};
 ghost use Rattle.record_pages.specs.Making.{IsInTheMaking};
+ghost use Rattle.record_pages.specs.declared.form.Form.TheVariants.{Timed};
 
+use crate::form::Form;
 use crate::object::{MAX_RECORDS, PAGE_OVERHEAD};
 use crate::put::put_record;
 use crate::record_ref::RecordRef;
@@ -23,7 +25,7 @@ pub(crate) struct PageBody<const PAGE: usize> {
 impl<const PAGE: usize> Model for PageBody<PAGE> {
     ghost Value = { List Rec };
 
-    ghost view = { λ b. records_of b.count b.bytes };
+    ghost view = { λ b. records_of Timed b.count b.bytes };
 
     ghost invariant = { λ b. IsInTheMaking PAGE b.bytes b.used b.count };
 }
@@ -78,7 +80,7 @@ impl<const PAGE: usize> PageBody<PAGE> {
 
     // The text of the records.
     pub(crate) fn text(&self) -> &[u8]
-        ensures text { result.now ≡ records_text self.now }
+        ensures text { result.now ≡ records_text Timed self.now }
         ensures size { length result.now ≡ sizes self.now }
     {
         &self.bytes[..self.used]
@@ -92,7 +94,7 @@ impl<const PAGE: usize> PageBody<PAGE> {
         ensures lawful { IsRecord (record_shown result) }
     {
         let bytes = &self.bytes[..];
-        let (record, _) = record_there(&bytes[start..]);
+        let (record, _) = record_there(Form::Timed, &bytes[start..]);
         record
     }
 
@@ -100,6 +102,6 @@ impl<const PAGE: usize> PageBody<PAGE> {
     pub(crate) fn records(&self) -> Records<'_>
         ensures { result ≡ self.now }
     {
-        records_in(self.count, &self.bytes)
+        records_in(Form::Timed, self.count, &self.bytes)
     }
 }

@@ -4,6 +4,7 @@ ghost use Rattle.std.specs.Int.{w16, to_be_bytes};
 ghost use Rattle.record_pages.specs.Recs.{IsRecord, size, sizes};
 ghost use Rattle.record_pages.specs.Lent.{record_shown};
 ghost use Rattle.record_pages.specs.PageText.{record_text, records_text, set_head, log_head};
+ghost use Rattle.record_pages.specs.declared.form.Form.TheVariants.{Timed};
 
 use crate::log_page::LOG_MAGIC;
 use crate::record::Record;
@@ -26,7 +27,7 @@ pub(crate) fn put_record(into: &mut [u8], at: usize, lent: RecordRef<'_>) -> usi
     requires lawful { IsRecord (record_shown lent) }
     requires room { at + size (record_shown lent) ≤ length into.old }
     ensures text { take result into.new
-        ≡ take at into.old ++ record_text (record_shown lent.entry) }
+        ≡ take at into.old ++ record_text Timed (record_shown lent.entry) }
     ensures end { result ≡ at + size (record_shown lent.entry) }
 {
     let key = lent.key;
@@ -34,6 +35,7 @@ pub(crate) fn put_record(into: &mut [u8], at: usize, lent: RecordRef<'_>) -> usi
     let value_len = (value.len() as u16).to_be_bytes();
     let lengths = [key.len() as u8, value_len[0], value_len[1], lent.prediction];
     let at = put(into, at, &lengths);
+    let at = put(into, at, &lent.expires.to_be_bytes());
     let at = put(into, at, key);
     put(into, at, value)
 }
@@ -41,7 +43,7 @@ pub(crate) fn put_record(into: &mut [u8], at: usize, lent: RecordRef<'_>) -> usi
 // Writes records at a place, one after the other, and answers the place behind them.
 pub(crate) fn put_records(into: &mut [u8], at: usize, records: &[Record]) -> usize
     requires { at + sizes records.now ≤ length into.old }
-    ensures text { take result into.new ≡ take at into.old ++ records_text records.now }
+    ensures text { take result into.new ≡ take at into.old ++ records_text Timed records.now }
     ensures end { result ≡ at + sizes records.now }
     ensures each { All IsRecord records.now }
 {
@@ -55,7 +57,7 @@ pub(crate) fn put_records(into: &mut [u8], at: usize, records: &[Record]) -> usi
 // Writes the header of a set page, and answers the place behind it.
 pub(crate) fn put_set_header(into: &mut [u8], set: u32, write: u64, count: u16) -> usize
     requires { 18 ≤ length into.old }
-    ensures text { take result into.new ≡ set_head set write ++ to_be_bytes w16 count }
+    ensures text { take result into.new ≡ set_head Timed set write ++ to_be_bytes w16 count }
     ensures end { result ≡ 18 }
 {
     let at = put(into, 0, &SET_MAGIC.to_be_bytes());
@@ -67,7 +69,7 @@ pub(crate) fn put_set_header(into: &mut [u8], set: u32, write: u64, count: u16) 
 // Writes the header of a log page, and answers the place behind it.
 pub(crate) fn put_log_header(into: &mut [u8], segment: u64, page: u16, count: u16) -> usize
     requires { 16 ≤ length into.old }
-    ensures text { take result into.new ≡ log_head segment page ++ to_be_bytes w16 count }
+    ensures text { take result into.new ≡ log_head Timed segment page ++ to_be_bytes w16 count }
     ensures end { result ≡ 16 }
 {
     let at = put(into, 0, &LOG_MAGIC.to_be_bytes());

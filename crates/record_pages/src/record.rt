@@ -5,15 +5,15 @@ use crate::key::Key;
 use crate::object::RECORD_OVERHEAD;
 use crate::prediction::Prediction;
 use crate::record_ref::RecordRef;
-use crate::value::Value;
+use crate::timed_value::TimedValue;
 
 /// An object of a page with its prediction: what a page keeps of it.
 #[derive(Debug, Drop, PartialEq, Eq)]
 pub struct Record {
     /// The key of the object.
     pub key: Key,
-    /// The value of the object.
-    pub value: Value,
+    /// The value of the object, and when it expires.
+    pub value: TimedValue,
     /// How soon it is predicted to be asked for again.
     pub pred: Prediction,
 }
@@ -26,7 +26,7 @@ impl Record {
     pub fn size(&self) -> usize
         ensures { result ≡ size self.now }
     {
-        RECORD_OVERHEAD + self.key.bytes().len() + self.value.bytes().len()
+        RECORD_OVERHEAD + self.key.bytes().len() + self.value.value.bytes().len()
     }
 
     /// The record, lent.

@@ -4,22 +4,25 @@ ghost use Rattle.std.specs.Option.{option_map};
 ghost use Rattle.std.specs.Iterator.{item_count};
 ghost use Rattle.record_pages.specs.Recs.{Rec, IsRecord};
 ghost use Rattle.record_pages.specs.Lent.{record_shown};
-ghost use Rattle.record_pages.specs.Reading.{record_at, records_at, records_of, body_at};
+ghost use Rattle.record_pages.specs.Reading.{expiry_at, record_at, records_at, records_of, body_at};
 ghost use Rattle.record_pages.specs.Walking.{StepsOverRecord};
 ghost use Rattle.record_pages.specs.Looking.{first_with, found_shown};
 
+use crate::form::Form;
 use crate::found::Found;
-use crate::front::{byte_at, is_zero, u16_at};
+use crate::front::{byte_at, is_zero, u16_at, u64_at};
 use crate::key::Key;
 use crate::object::MAX_RECORDS;
 use crate::prediction::Prediction;
 use crate::record_ref::RecordRef;
+use crate::timed_value::NEVER;
 use crate::value::Value;
 use std::marker::Model;
 
 /// A walk over the records of a page, in order, which lends their bytes.
 #[derive(Debug, Drop)]
 pub struct Records<'a> {
+    form: Form,
     left: u16,
     rest: &'a [u8],
 }
@@ -27,9 +30,9 @@ pub struct Records<'a> {
 impl<'a> Model for Records<'a> {
     ghost Value = { List Rec };
 
-    ghost view = { λ s. records_of s.left s.rest.now };
+    ghost view = { λ s. records_of s.form s.left s.rest.now };
 
-    ghost invariant = { λ s. is_some (records_at s.left s.rest.now) ≡ true };
+    ghost invariant = { λ s. is_some (records_at s.form s.left s.rest.now) ≡ true };
 }
 
 impl<'a> Records<'a> {
@@ -79,6 +82,7 @@ impl<'a> Records<'a> {
         ensures { result ≡ self.now }
     {
         Records {
+            form: self.form,
             left: self.left,
             rest: self.rest,
         }
@@ -97,7 +101,7 @@ impl<'a> Iterator for Records<'a> {
         if self.left == 0 {
             return None;
         }
-        let (record, rest) = record_there(self.rest);
+        let (record, rest) = record_there(self.form, self.rest);
         self.left -= 1;
         self.rest = rest;
         Some(record)
@@ -105,38 +109,38 @@ impl<'a> Iterator for Records<'a> {
 }
 
 // The walk over so many records, which are there.
-pub(crate) fn records_in(left: u16, rest: &[u8]) -> Records<'_>
-    requires { is_some (records_at left rest.now) ≡ true }
-    ensures { result ≡ records_of left rest.now }
+pub(crate) fn records_in(form: Form, left: u16, rest: &[u8]) -> Records<'_>
+    requires { is_some (records_at form left rest.now) ≡ true }
+    ensures { result ≡ records_of form left rest.now }
 {
-    Records { left, rest }
+    Records { form, left, rest }
 }
 
 // The records of a page whose head was read.
 #[tactic(auto, unfolding(crate::specs::Reading::body_at))]
-pub(crate) fn body_at(bytes: &[u8]) -> Option<Records<'_>>
-    ensures { result ≡ body_at bytes.now }
+pub(crate) fn body_at(form: Form, bytes: &[u8]) -> Option<Records<'_>>
+    ensures { result ≡ body_at form bytes.now }
 {
     let (count, body) = u16_at(bytes)?;
     if count as usize > MAX_RECORDS {
         return None;
     }
-    let tail = after_records(count, body)?;
+    let tail = after_records(form, count, body)?;
     if !is_zero(tail) {
         return None;
     }
-    Some(records_in(count, body))
+    Some(records_in(form, count, body))
 }
 
 // The bytes behind so many records.
 #[tactic(auto, unfolding(crate::specs::Reading::records_at))]
-fn after_records(count: u16, bytes: &[u8]) -> Option<&[u8]>
+fn after_records(form: Form, count: u16, bytes: &[u8]) -> Option<&[u8]>
     ensures { option_map (λ x. x.now) result
-        ≡ option_map (λ x. x.1) (records_at count bytes.now) }
+        ≡ option_map (λ x. x.1) (records_at form count bytes.now) }
 {
     let mut rest = bytes;
     for _ in 0..count {
-        let Some((_, after)) = record_at(rest) else {
+        let Some((_, after)) = record_at(form, rest) else {
             return None;
         };
         rest = after;
@@ -146,13 +150,14 @@ fn after_records(count: u16, bytes: &[u8]) -> Option<&[u8]>
 
 // The record at the front, and the bytes behind it.
 #[tactic(auto, unfolding(crate::specs::Reading::record_at))]
-fn record_at(bytes: &[u8]) -> Option<(RecordRef<'_>, &[u8])>
-    ensures value { option_map (λ x. (record_shown x.0, x.1.now)) result ≡ record_at bytes.now }
+fn record_at(form: Form, bytes: &[u8]) -> Option<(RecordRef<'_>, &[u8])>
+    ensures value { option_map (λ x. (record_shown x.0, x.1.now)) result ≡ record_at form bytes.now }
     ensures lawful { IfSome result (λ x. IsRecord (record_shown x.0)) }
 {
     let (key_len, rest) = byte_at(bytes)?;
     let (value_len, rest) = u16_at(rest)?;
     let (prediction, rest) = byte_at(rest)?;
+    let (expires, rest) = expiry_at(form, rest)?;
     let key_len = key_len as usize;
     let value_len = value_len as usize;
     if key_len == 0 || value_len > Value::MAX_LEN || prediction > Prediction::MAX {
@@ -166,24 +171,39 @@ fn record_at(bytes: &[u8]) -> Option<(RecordRef<'_>, &[u8])>
     let record = RecordRef {
         key,
         value,
+        expires,
         prediction,
     };
     Some((record, rest))
 }
 
+// When the record at the front expires, and the bytes behind that.
+fn expiry_at(form: Form, bytes: &[u8]) -> Option<(u64, &[u8])>
+    ensures { option_map (λ x. (x.0, x.1.now)) result ≡ expiry_at form bytes.now }
+{
+    match form {
+        Form::Timed => u64_at(bytes),
+        Form::Lasting => Some((NEVER, bytes)),
+    }
+}
+
 // The record at the front, which is there, and the bytes behind it. Nothing is tested again.
-pub(crate) fn record_there(bytes: &[u8]) -> (RecordRef<'_>, &[u8])
-    requires { is_some (record_at bytes.now) ≡ true }
-    ensures value { record_at bytes.now ≡ Some (record_shown result.0, result.1.now) }
+pub(crate) fn record_there(form: Form, bytes: &[u8]) -> (RecordRef<'_>, &[u8])
+    requires { is_some (record_at form bytes.now) ≡ true }
+    ensures value { record_at form bytes.now ≡ Some (record_shown result.0, result.1.now) }
     ensures lawful { IsRecord (record_shown result.0) }
 {
     let (front, rest) = bytes.split_at(4);
+    let Some((expires, rest)) = expiry_at(form, rest) else {
+        unreachable!();
+    };
     let value_len = u16::from_be_bytes([front[1], front[2]]);
     let (key, rest) = rest.split_at(front[0] as usize);
     let (value, rest) = rest.split_at(value_len as usize);
     let record = RecordRef {
         key,
         value,
+        expires,
         prediction: front[3],
     };
     (record, rest)

@@ -1,14 +1,18 @@
 // A set page that was read.
 ghost use Rattle.std.specs.Prelude.{◌≡◌, IfSome, Some, length};
-ghost use Rattle.record_pages.specs.PageText.{SetPageParts, SpellsSetPage, SetPageTextsDiffer};
-ghost use Rattle.record_pages.specs.Reading.{set_page_at};
+ghost use Rattle.record_pages.specs.PageText.{SetPageParts, set_magic, SpellsSetPage, SetPageTextsDiffer};
+ghost use Rattle.record_pages.specs.Reading.{form_of, set_page_at};
 
+use crate::form::Form;
 use crate::front::{u32_at, u64_at};
 use crate::records::{Records, body_at};
 use std::marker::Model;
 
-/// The first four bytes of a set page: `KSET`.
-pub(crate) const SET_MAGIC: u32 = 0x4b53_4554;
+/// The first four bytes of a set page: `KSE1`.
+pub(crate) const SET_MAGIC: u32 = 0x4b53_4531;
+
+// The first four bytes of a set page whose records have no expiry: `KSET`.
+const LASTING_SET_MAGIC: u32 = 0x4b53_4554;
 
 /// A set page that was read: its header, and its records, which lie in the bytes that were read.
 #[derive(Debug, Drop)]
@@ -64,15 +68,24 @@ fn set_page_at(bytes: &[u8]) -> Option<SetPage<'_>>
     ensures found { IfSome result (SpellsSetPage (length bytes.now) bytes.now) }
 {
     let (magic, rest) = u32_at(bytes)?;
+    let form = form_of(magic)?;
     let (set, rest) = u32_at(rest)?;
     let (write, rest) = u64_at(rest)?;
-    let records = body_at(rest)?;
-    if magic != SET_MAGIC {
-        return None;
-    }
+    let records = body_at(form, rest)?;
     Some(SetPage {
         set,
         write,
         records,
     })
+}
+
+// The form of a set page that begins so.
+fn form_of(magic: u32) -> Option<Form>
+    ensures { result ≡ form_of set_magic magic }
+{
+    match magic {
+        SET_MAGIC => Some(Form::Timed),
+        LASTING_SET_MAGIC => Some(Form::Lasting),
+        _ => None,
+    }
 }

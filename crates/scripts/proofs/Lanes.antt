@@ -4,7 +4,7 @@ use Rattle.std.proofs.lemmas.Bool.{cases_Bool, eqb-true, eq-eqb}
 use Rattle.page_device.specs.Device.{faults_after}
 use Rattle.record_pages.specs.declared.answer.Answer.{Answer}
 use Rattle.record_pages.specs.declared.answer.Answer.TheVariants.{Hit, Miss}
-use Rattle.record_pages.specs.declared.miss_cause.MissCause.TheVariants.{Absent, Fault, Damaged}
+use Rattle.record_pages.specs.declared.miss_cause.MissCause.TheVariants.{Absent, Expired, Fault, Damaged}
 use Rattle.klog.specs.Log.{Shape}
 use Rattle.klog.specs.Shown.{place_in}
 use Rattle.mover.specs.Lane.{LaneState}
@@ -31,6 +31,7 @@ none_failed true same = absurd (omega (arith, same))
 pub get_is_step : (step : Step Answer) (needs : Type 0) (old new : LaneState) (answer : Answer) → is_fault (Ok answer) ≡ false → StepGives step needs old answer new → IsStep step answer new
 get_is_step step needs old new (Hit value tier) unfailed gives = gives
 get_is_step step needs old new (Miss Absent) unfailed gives = gives
+get_is_step step needs old new (Miss Expired) unfailed gives = gives
 get_is_step step needs old new (Miss Fault) unfailed gives = cc
 get_is_step step needs old new (Miss Damaged) unfailed gives = absurd gives
 

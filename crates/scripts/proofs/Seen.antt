@@ -56,13 +56,13 @@ uncalled old new lane whole layout holds = seen_by new old.store.layout lane old
 -- a get answers and leaves what its step does
 pub got : (size : ℕ) (old new : Lane Pages) (key : List ℕ) (answer : Answer) →
     new ≡ record old { store = new.store; calls = old.calls ++ noted (length old.calls) key (act_of answer) ∷ [] } →
-    StoreGets size honest failures held_by key old.store (Ok answer) new.store →
-    (answer ≡ (get_step key (seen_of old).lane).reply)
-    × (seen_of new ≡ after_call (seen_of old) (get_step key (seen_of old).lane).lane key (act_of answer))
+    StoreGets size honest failures held_by key 0 old.store (Ok answer) new.store →
+    (answer ≡ (get_step key 0 (seen_of old).lane).reply)
+    × (seen_of new ≡ after_call (seen_of old) (get_step key 0 (seen_of old).lane).lane key (act_of answer))
 got size old new key answer whole told =
     let unfailed = none_failed (is_fault (Ok answer)) told.reads.failed_once in
-    let step = get_is_step (get_step key (lane_of held_by old.store)) (NeedsPage key (lane_of held_by old.store)) (lane_of held_by old.store) (lane_of held_by new.store) answer unfailed (told.gives refl) in
-    (step.0, called old new key (act_of answer) (get_step key (lane_of held_by old.store)).lane whole told.reads.layout step.1)
+    let step = get_is_step (get_step key 0 (lane_of held_by old.store)) (NeedsPage key (lane_of held_by old.store)) (lane_of held_by old.store) (lane_of held_by new.store) answer unfailed (told.gives refl) in
+    (step.0, called old new key (act_of answer) (get_step key 0 (lane_of held_by old.store)).lane whole told.reads.layout step.1)
 
 -- a flush step answers and leaves what its function does
 pub flushed : (old new : Lane Pages) (answer : Flushed) → new ≡ record old { store = new.store } → StoreFlushes honest failures held_by old.store answer new.store →

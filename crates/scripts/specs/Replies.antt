@@ -1,9 +1,10 @@
 -- What a script's commands reply, and its lane after them.
 use Rattle.std.specs.Prelude.{ℕ, List, ◌++◌, length, nat_lt, ◌==◌, if◌then◌else◌, codes}
+use Rattle.record_pages.specs.Expiry.{lasting}
 use Rattle.record_pages.specs.declared.answer.Answer.{Answer}
 use Rattle.record_pages.specs.declared.answer.Answer.TheVariants.{Hit, Miss}
 use Rattle.record_pages.specs.declared.miss_cause.MissCause.{MissCause}
-use Rattle.record_pages.specs.declared.miss_cause.MissCause.TheVariants.{Absent, Fault, Damaged}
+use Rattle.record_pages.specs.declared.miss_cause.MissCause.TheVariants.{Absent, Expired, Fault, Damaged}
 use Rattle.record_pages.specs.declared.tier.Tier.{Tier}
 use Rattle.record_pages.specs.declared.tier.Tier.TheVariants.{Memory, Log, Set}
 use Rattle.record_pages.specs.Sizes.{object_size, room}
@@ -40,6 +41,7 @@ tier_text Set = codes "set"
 -- how a reply names the cause of a miss
 abbrev pub cause_text : MissCause → List ℕ
 cause_text Absent = codes "absent"
+cause_text Expired = codes "expired"
 cause_text Fault = codes "fault"
 cause_text Damaged = codes "damaged"
 
@@ -98,8 +100,8 @@ abbrev pub reply_to : ℕ → Opened → Command → Reply
 reply_to page o (Put key value word) =
     if nat_lt (room page) (object_size key value) then reply (codes "too large") o
     else unless_full o (reply (codes "stored") (after_call o
-    (put_step page o.admit (record { key = key; value = value }) word o.lane).lane key (acts.Put value)))
-reply_to page o (Get key) = unless_full o (reply_to_get o key (get_step key o.lane))
+    (put_step page o.admit (record { key = key; value = lasting value }) word o.lane).lane key (acts.Put value)))
+reply_to page o (Get key) = unless_full o (reply_to_get o key (get_step key 0 o.lane))
 reply_to page o (Remove key) = unless_full o (reply (codes "removed") (after_call o (removed key o.lane) key acts.Remove))
 reply_to page o (Forget key) = reply (codes "forgotten") (with_lane o (removed key o.lane))
 reply_to page o Flush = reply_to_flush o (flush_step o.lane)

@@ -37,6 +37,7 @@ fn cause_name(cause: MissCause) -> &'static str
 {
     match cause {
         MissCause::Absent => "absent",
+        MissCause::Expired => "expired",
         MissCause::Fault => "fault",
         MissCause::Damaged => "damaged",
     }

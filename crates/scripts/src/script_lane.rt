@@ -5,6 +5,7 @@ ghost use Rattle.record_pages.specs.Sizes.{IsPageSize, object_size, room};
 ghost use Rattle.rriparoo.specs.Rriparoo.{rriparoo_plan};
 ghost use Rattle.trace_file.specs.Text.{IsTrace};
 ghost use Rattle.certificate_checker.specs.Acceptance.{IsAccepted};
+ghost use Rattle.record_pages.specs.Expiry.{lasting};
 ghost use Rattle.mover.specs.Get.{get_step};
 ghost use Rattle.mover.specs.Put.{put_step};
 ghost use Rattle.mover.specs.Strike.{removed};
@@ -79,9 +80,9 @@ impl<const PAGE: usize> ScriptLane<PAGE> {
     /// Answers a get as the script's next call. A refused call takes no number.
     pub fn get(&mut self, key: &Key) -> Result<Answer, RecordFault>
         ensures answer { IfOk result (λ answer.
-            answer ≡ (get_step key.now (seen_of self.old).lane).reply) }
+            answer ≡ (get_step key.now 0 (seen_of self.old).lane).reply) }
         ensures after { IfOk result (λ answer. seen_of self.new ≡ after_call (seen_of self.old)
-            (get_step key.now (seen_of self.old).lane).lane key.now (act_of answer)) }
+            (get_step key.now 0 (seen_of self.old).lane).lane key.now (act_of answer)) }
         ensures full { IsErrOf result RecordFault.HistoryFull ↔ (max_calls ≤ length self.old.calls) }
         ensures full_keeps { IsErrOf result RecordFault.HistoryFull → self.new ≡ self.old }
         ensures no_call { OnErr result (self.new.calls ≡ self.old.calls) }
@@ -94,7 +95,7 @@ impl<const PAGE: usize> ScriptLane<PAGE> {
     /// Puts a value as the script's next call. A refused call takes no number, and leaves the lane as it was.
     pub fn put(&mut self, key: Key, value: Value, word: u32) -> Result<Pushed, RecordPutFault>
         ensures after { OnOk result (seen_of self.new ≡ after_call (seen_of self.old)
-            (put_step PAGE self.old.store.layout.admit (record { key = key; value = value }) word
+            (put_step PAGE self.old.store.layout.admit (record { key = key; value = lasting value }) word
             (seen_of self.old).lane).lane key (Act.Put value)) }
         ensures large { IsErrOf result RecordPutFault.TooLarge ↔ (room PAGE < object_size key value) }
         ensures full { IsErrOf result RecordPutFault.HistoryFull

@@ -1,5 +1,6 @@
 -- What a call does to the book of its lane, and when it is refused.
 use Rattle.std.specs.Prelude.{◌≡◌, ◌≢◌, ℕ, ◌+◌, ◌<◌, ◌≤◌, ◌^◌, ◌⊎◌, List, ◌++◌, ◌∷◌, [], length, Option, Some, Ok, Bool, All, slice_get}
+use Rattle.record_pages.specs.Expiry.{lasting}
 use Rattle.record_pages.specs.Sizes.{object_size, room}
 use Rattle.mover.specs.Store.{StoreState}
 use Rattle.mover.specs.Calls.{StoreGets, StorePuts, StoreRemoves}
@@ -56,9 +57,9 @@ IsFitting size (asked.Remove key) = Unit {0}
 module _ {D : Type 0} (honest : D → Bool) (failures : D → ℕ) (held : D → ℕ → Option (List ℕ)) (size : ℕ) where
   -- What an operation gives and does to the store of its lane: what that call of a store does. It gives nothing else.
   abbrev pub ActGives : Operation → StoreState D → Outcome → StoreState D → Type 0
-  ActGives (asked.Get key) old (outcomes.Got answer) new = StoreGets size honest failures held key old (Ok answer) new
+  ActGives (asked.Get key) old (outcomes.Got answer) new = StoreGets size honest failures held key 0 old (Ok answer) new
   ActGives (asked.Put key value word) old (outcomes.Stored pushed) new =
-      StorePuts size held (record { key = key; value = value }) word old (Ok pushed) new
+      StorePuts size held (record { key = key; value = lasting value }) word old (Ok pushed) new
   ActGives (asked.Remove key) old outcomes.Removed new = StoreRemoves held key old new
   ActGives _ old _ new = ⊥
 

@@ -14,7 +14,7 @@ ghost use Rattle.klog.specs.Append.{entering, sealed, put_on, is_full, entry_for
 use super::KLog;
 use crate::appended::Appended;
 use klog_index::Place;
-use record_pages::{Key, Prediction, RecordRef, Value};
+use record_pages::{Key, Prediction, RecordRef, TimedValue};
 use set_hash::{Placed, place};
 use std::mem;
 
@@ -22,11 +22,11 @@ use std::mem;
 const MAX_SEGMENT: u64 = 1 << 62;
 
 impl<const PAGE: usize> KLog<PAGE> {
-    /// Adds a record of this key and value, with the entering prediction, as the newest live one. Both refusals change nothing. No
+    /// Adds a record of this key and value with when that expires, with the entering prediction, as the newest live one. Both refusals change nothing. No
     /// call of the device is made, and no memory taken.
-    pub fn append(&mut self, key: &Key, value: &Value) -> Appended
+    pub fn append(&mut self, key: &Key, value: &TimedValue) -> Appended
         requires page_size { IsPageSize PAGE }
-        requires small { object_size key.now value.now ≤ room PAGE }
+        requires small { object_size key.now value.now.value ≤ room PAGE }
         ensures shape { self.new.shape ≡ self.old.shape }
         ensures gives { AppendGives PAGE self.old (entering key.now value.now) result self.new }
         ensures spelled { (held : ℕ → Option (List ℕ)) → IsSpelledOn PAGE held self.old →

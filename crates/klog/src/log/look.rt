@@ -21,19 +21,20 @@ use crate::looked::Looked;
 use crate::told::Told;
 use klog_index::{EntriesOf, Entry, Place};
 use page_device::PageDevice;
-use record_pages::{Key, Value};
+use record_pages::Key;
 use set_hash::Placed;
 use std::alloc::{AllocError, Global};
 
 impl<const PAGE: usize> KLog<PAGE> {
-    /// The value of the newest live record of a key, whose prediction is then one less, and not below 0. All other
-    /// answers, and `AllocError`, change nothing. A record that lies in memory is given without a call of the device.
+    /// The value of the newest live record of a key, if it has not expired at the moment: its prediction is then one less,
+    /// and not below 0. All other answers, and `AllocError`, change nothing. A record that lies in memory is given without a call of the device.
     pub fn look<D: PageDevice<PAGE>>(
         &mut self,
         alloc: Global,
         device: &mut D,
         placed: &Placed,
         key: &Key,
+        moment: u64,
     ) -> Result<Looked, AllocError>
         requires page_size { IsPageSize PAGE }
         requires room { HasRoom (D.page_count device.old) self.old }
@@ -51,28 +52,31 @@ impl<const PAGE: usize> KLog<PAGE> {
 
         ensures in_buffers { (e : Entry) → (r : Rec) →
             IsInBuffers PAGE self.old placed.now.set placed.now.tag key.now e r →
-            IfOk result (GivesBuffered self.old placed.now.set e r self.new
+            IfOk result (GivesBuffered moment self.old placed.now.set e r self.new
             (device.new ≡ device.old)) }
 
         // Whatever is known of its pages.
         ensures looks_at { (known : ℕ → Option (List ℕ)) → AreHeldBy D.honest D.held device.old known →
-            LooksAt PAGE known self.old placed.now.set placed.now.tag key.now result self.new
+            LooksAt PAGE known self.old placed.now.set placed.now.tag key.now moment result self.new
             (device.new ≡ device.old) }
 
         // Where it is honest.
         ensures gives { IsTrue (D.honest device.old) →
             IsSpelledOn PAGE (D.held device.old) self.old →
-            IfOk result (λ r. LogLookGives (live_on (D.held device.old) self.old) key.now self.old r
+            IfOk result (λ r. LogLookGives (live_on (D.held device.old) self.old) key.now moment self.old r
             self.new (live_on (D.held device.new) self.new)) }
         ensures spelled { IsTrue (D.honest device.old) →
             IsSpelledOn PAGE (D.held device.old) self.old →
             IsSpelledOn PAGE (D.held device.new) self.new }
     {
-        match self.find(alloc, device, placed, key)? {
+        match self.find(alloc, device, placed, key, moment)? {
             Found::Absent => Ok(Looked::Absent),
             Found::Fault => Ok(Looked::Fault),
             Found::Damaged => Ok(Looked::Damaged),
             Found::Hit(entry, value) => {
+                let Some(value) = value else {
+                    return Ok(Looked::Expired);
+                };
                 self.lower(entry.set, entry.place);
                 Ok(Looked::Hit(value))
             }
@@ -86,6 +90,7 @@ impl<const PAGE: usize> KLog<PAGE> {
         device: &mut D,
         placed: &Placed,
         key: &Key,
+        moment: u64,
     ) -> Result<Found, AllocError>
         requires page_size { IsPageSize PAGE }
         requires room { HasRoom (D.page_count device.old) self.now }
@@ -98,10 +103,10 @@ impl<const PAGE: usize> KLog<PAGE> {
             (of_tag placed.now.set placed.now.tag self.now.entries) →
             device.new ≡ device.old }
         ensures finds_at { (known : ℕ → Option (List ℕ)) → AreHeldBy D.honest D.held device.old known →
-            FindsAt PAGE known self.now placed.now.set placed.now.tag key.now result }
+            FindsAt PAGE known self.now placed.now.set placed.now.tag key.now moment result }
         ensures finds { IsTrue (D.honest device.old) →
             IsSpelledOn PAGE (D.held device.old) self.now →
-            IfOk result (Finds self.now (live_on (D.held device.old) self.now) key.now) }
+            IfOk result (Finds self.now (live_on (D.held device.old) self.now) key.now moment) }
     {
         let mut bytes = None;
         let mut entries = self.index.entries_of(placed.set);
@@ -109,7 +114,7 @@ impl<const PAGE: usize> KLog<PAGE> {
             let Some(entry) = next_with_tag(&mut entries, placed.tag) else {
                 return Ok(Found::Absent);
             };
-            match self.ask(alloc, device, &entry, key, &mut bytes)? {
+            match self.ask(alloc, device, &entry, key, moment, &mut bytes)? {
                 Told::Other => {}
                 Told::Fault => return Ok(Found::Fault),
                 Told::Damaged => return Ok(Found::Damaged),
@@ -126,6 +131,7 @@ impl<const PAGE: usize> KLog<PAGE> {
         device: &mut D,
         entry: &Entry,
         key: &Key,
+        moment: u64,
         bytes: &mut Option<[u8; PAGE]>,
     ) -> Result<Told, AllocError>
         requires page_size { IsPageSize PAGE }
@@ -136,7 +142,7 @@ impl<const PAGE: usize> KLog<PAGE> {
             device.new }
         ensures buffered { IsTrue (is_buffered self.now entry.now) → device.new ≡ device.old }
         ensures tells { (known : ℕ → Option (List ℕ)) → AreHeldBy D.honest D.held device.old known →
-            TellsKey PAGE known self.now entry.now key.now result }
+            TellsKey PAGE known self.now entry.now key.now moment result }
     {
         match self.fetch(device, entry, bytes, Some(key)) {
             Fetched::Fault => Ok(Told::Fault),
@@ -145,9 +151,7 @@ impl<const PAGE: usize> KLog<PAGE> {
                 if found.key != key.bytes() {
                     return Ok(Told::Other);
                 }
-                let Ok(value) = Value::new(alloc, found.value) else {
-                    return Err(AllocError);
-                };
+                let value = found.value_at(alloc, moment)?;
                 Ok(Told::Hit(value))
             }
         }

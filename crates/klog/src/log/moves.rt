@@ -243,6 +243,7 @@ impl<const PAGE: usize> KLog<PAGE> {
         let current = RecordRef {
             key: found.key,
             value: found.value,
+            expires: found.expires,
             prediction: entry.prediction.get(),
         };
         let stored = current.to_record(alloc)?;
@@ -272,6 +273,7 @@ impl<const PAGE: usize> KLog<PAGE> {
         let anew = RecordRef {
             key: found.key,
             value: found.value,
+            expires: found.expires,
             prediction: Prediction::ENTERING,
         };
         if self.enter(entry.set, entry.tag, anew) {

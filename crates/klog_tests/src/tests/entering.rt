@@ -4,14 +4,17 @@ use super::*;
 // The tag of the key "ax", the high 16 bits of its hash.
 const TAG_OF_AX: u16 = 0x089c;
 
-const FOUND_UNTIL_STRUCK: [Step; 14] = [
+const FOUND_UNTIL_STRUCK: [Step; 16] = [
     Step::Append(b"ax", b"1", ADDED),
     Step::NoSegment,
     Step::Look(b"ax", Seen::Value(b"1")),
+    // What has expired is no hit, and keeps its prediction.
+    Step::LookLate(b"ax"),
     Step::Flush(Flushed::Sealed),
     Step::Flush(Flushed::Wrote),
     Step::Flush(Flushed::Nothing),
     Step::Look(b"ax", Seen::Value(b"1")),
+    Step::LookLate(b"ax"),
     Step::First(TAG_OF_AX, FIRST, 4),
     Step::Free(false),
     Step::Strike(b"ax"),
@@ -61,12 +64,12 @@ fn a_record_past_the_last_entry_is_refused(rt: HostRuntime) -> Result<(), Fail> 
 }
 
 const JUST_A_PAGES_ROOM: [Step; 6] = [
-    Step::Append(b"ax", &[7; 233], None),
-    Step::Append(b"ax", &[7; 232], ADDED),
+    Step::Append(b"ax", &[7; 225], None),
+    Step::Append(b"ax", &[7; 224], ADDED),
     Step::Flush(Flushed::Sealed),
-    Step::Look(b"ax", Seen::Value(&[7; 232])),
+    Step::Look(b"ax", Seen::Value(&[7; 224])),
     Step::Flush(Flushed::Wrote),
-    Step::Look(b"ax", Seen::Value(&[7; 232])),
+    Step::Look(b"ax", Seen::Value(&[7; 224])),
 ];
 
 #[test]

@@ -4,7 +4,7 @@ ghost use Rattle.record_pages.specs.Sizes.{IsPageSize};
 ghost use Rattle.klog_tests.specs.Owner.{OwnerState, IsOwner};
 
 use super::*;
-use record_pages::is_too_large;
+use record_pages::{TimedValue, is_too_large};
 use set_hash::place;
 use std::marker::Model;
 
@@ -55,21 +55,26 @@ impl<D: PageDevice<PAGE>, const PAGE: usize> Owner<D, PAGE> {
     }
 
     /// What became of the record, or nothing where the object is too large for a page.
-    pub(super) fn append(&mut self, key: &Key, value: &Value) -> Option<Appended>
+    pub(super) fn append(&mut self, key: &Key, value: &TimedValue) -> Option<Appended>
         requires { IsPageSize PAGE }
     {
-        if is_too_large::<PAGE>(key, value) {
+        if is_too_large::<PAGE>(key, &value.value) {
             return None;
         }
         Some(self.log.append(key, value))
     }
 
-    /// The newest record of the key, or that there is none, or that the device failed.
-    pub(super) fn look(&mut self, alloc: Global, key: &Key) -> Result<Looked, AllocError>
+    /// The newest record of the key at a moment, or that there is none, or that the device failed.
+    pub(super) fn look(
+        &mut self,
+        alloc: Global,
+        key: &Key,
+        moment: u64,
+    ) -> Result<Looked, AllocError>
         requires { IsPageSize PAGE }
     {
         let placed = place(&self.layout, key.bytes());
-        self.log.look(alloc, &mut self.device, &placed, key)
+        self.log.look(alloc, &mut self.device, &placed, key, moment)
     }
 
     pub(super) fn strike(&mut self, key: &Key) {

@@ -2,6 +2,10 @@
 ghost use Rattle.record_pages.specs.Sizes.{IsPageSize};
 
 use super::*;
+use record_pages::TimedValue;
+
+/// When each record of these tests expires; look-ups are made a moment before.
+pub const EXPIRES: u64 = 10;
 
 pub fn append<D: PageDevice<PAGE>, const PAGE: usize>(
     alloc: Global,
@@ -13,7 +17,8 @@ pub fn append<D: PageDevice<PAGE>, const PAGE: usize>(
 {
     let key = key(alloc, bytes)?;
     let value = value(alloc, stored)?;
-    Ok(owner.append(&key, &value))
+    let expires = EXPIRES;
+    Ok(owner.append(&key, &TimedValue { value, expires }))
 }
 
 pub fn strike<D: PageDevice<PAGE>, const PAGE: usize>(
@@ -32,10 +37,22 @@ pub fn look<D: PageDevice<PAGE>, const PAGE: usize>(
 ) -> Result<Looked, Fail>
     requires { IsPageSize PAGE }
 {
+    look_at(alloc, owner, bytes, EXPIRES - 1)
+}
+
+/// Looks a key up at a moment.
+pub fn look_at<D: PageDevice<PAGE>, const PAGE: usize>(
+    alloc: Global,
+    owner: &mut Owner<D, PAGE>,
+    bytes: &[u8],
+    moment: u64,
+) -> Result<Looked, Fail>
+    requires { IsPageSize PAGE }
+{
     let key = key(alloc, bytes)?;
-    match owner.look(alloc, &key) {
+    match owner.look(alloc, &key, moment) {
         Ok(looked) => Ok(looked),
-        Err(_) => Ok(owner.look(alloc, &key)?),
+        Err(_) => Ok(owner.look(alloc, &key, moment)?),
     }
 }
 

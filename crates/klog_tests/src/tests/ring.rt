@@ -39,7 +39,7 @@ fn number_in(looked: Looked) -> Option<u8> {
     match looked {
         Looked::Hit(value) => value.bytes().first().copied(),
         Looked::Absent => Some(NONE),
-        Looked::Fault | Looked::Damaged => None,
+        Looked::Expired | Looked::Fault | Looked::Damaged => None,
     }
 }
 

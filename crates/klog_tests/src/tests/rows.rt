@@ -3,6 +3,7 @@
 ghost use Rattle.std.specs.Prelude.{false, ◌≡◌, ◌≢◌, ◌≤◌, ℕ, List, Some, None, Ok, IfOk, IfSome, IsSomeAnd, IsTrue, Contains, slice_get};
 ghost use Rattle.std.specs.Option.{option_map};
 ghost use Rattle.record_pages.specs.Sizes.{IsPageSize, object_size, room, entering_prediction};
+ghost use Rattle.record_pages.specs.Expiry.{value_at};
 ghost use Rattle.record_pages.specs.Recs.{Rec};
 ghost use Rattle.klog_index.specs.declared.entry.Entry.{Entry};
 ghost use Rattle.klog.specs.declared.looked.Looked.{Looked};
@@ -11,33 +12,37 @@ ghost use Rattle.klog.specs.Names.{HasRoom, flushed_number, device_page};
 ghost use Rattle.klog.specs.Shown.{IsSpelledOn, live_on, newest_with, place_in};
 ghost use Rattle.klog.specs.Flush.{is_on_page};
 ghost use Rattle.klog.specs.Moves.{IsOfOldest};
+ghost use Rattle.klog_tests.specs.Telling.{looked_by};
 
 use super::*;
 use klog::names_tell_numbers;
+use record_pages::TimedValue;
 use set_hash::Placed;
 
-/// A record that was just appended is found, over any device, and the device is not called.
+/// A record that was just appended is found, or has expired at the moment, over any device, and the device is not called.
 pub fn look_after_append<D: PageDevice<PAGE>, const PAGE: usize>(
     alloc: Global,
     log: &mut KLog<PAGE>,
     device: &mut D,
     placed: &Placed,
     key: &Key,
-    value: &Value,
+    value: &TimedValue,
+    moment: u64,
 ) -> Result<Option<Looked>, AllocError>
     requires page_size { IsPageSize PAGE }
-    requires small { object_size key.now value.now ≤ room PAGE }
+    requires small { object_size key.now value.now.value ≤ room PAGE }
     requires pages { HasRoom (D.page_count device.old) log.old }
     requires place { placed.now ≡ place_in log.old.shape key.now }
-    ensures { IfOk result (λ found. IfSome found (λ l. l ≡ Looked.Hit value.now)
+    ensures { IfOk result (λ found. IfSome found (λ l. l ≡ looked_by (value_at moment value.now))
         × (device.new ≡ device.old)) }
 {
     let _key = key.bytes();
-    let _value = value.bytes();
+    let _value = value.value.bytes();
+    let _expires = value.expires();
     let Appended::Appended = log.append(key, value) else {
         return Ok(None);
     };
-    match log.look(alloc, device, placed, key) {
+    match log.look(alloc, device, placed, key, moment) {
         Ok(looked) => Ok(Some(looked)),
         Err(error) => Err(error),
     }
@@ -50,6 +55,7 @@ pub fn look_after_strike<D: PageDevice<PAGE>, const PAGE: usize>(
     device: &mut D,
     placed: &Placed,
     key: &Key,
+    moment: u64,
 ) -> Result<Looked, AllocError>
     requires page_size { IsPageSize PAGE }
     requires pages { HasRoom (D.page_count device.old) log.old }
@@ -58,7 +64,7 @@ pub fn look_after_strike<D: PageDevice<PAGE>, const PAGE: usize>(
     ensures idle { device.new ≡ device.old }
 {
     log.strike(placed);
-    match log.look(alloc, device, placed, key) {
+    match log.look(alloc, device, placed, key, moment) {
         Ok(looked) => Ok(looked),
         Err(error) => Err(error),
     }
@@ -71,6 +77,7 @@ pub fn look_after_write<D: PageDevice<PAGE>, const PAGE: usize>(
     device: &mut D,
     placed: &Placed,
     key: &Key,
+    moment: u64,
 ) -> Result<Option<Looked>, AllocError>
     requires page_size { IsPageSize PAGE }
     requires pages { HasRoom (D.page_count device.old) log.old }
@@ -78,8 +85,11 @@ pub fn look_after_write<D: PageDevice<PAGE>, const PAGE: usize>(
     requires honest { IsTrue (D.honest device.old) }
     requires spelled { IsSpelledOn PAGE (D.held device.old) log.old }
     ensures hit { (value : List ℕ) → result ≡ Ok (Some (Looked.Hit value)) →
-        option_map (λ x. x.1.value) (newest_with (live_on (D.held device.old) log.old) key.now)
-        ≡ Some value }
+        option_map (λ x. value_at moment x.1.value)
+        (newest_with (live_on (D.held device.old) log.old) key.now) ≡ Some (Some value) }
+    ensures expired { result ≡ Ok (Some Looked.Expired) →
+        option_map (λ x. value_at moment x.1.value)
+        (newest_with (live_on (D.held device.old) log.old) key.now) ≡ Some None }
     ensures absent { result ≡ Ok (Some Looked.Absent) →
         newest_with (live_on (D.held device.old) log.old) key.now ≡ None }
     ensures whole { result ≢ Ok (Some Looked.Damaged) }
@@ -90,19 +100,20 @@ pub fn look_after_write<D: PageDevice<PAGE>, const PAGE: usize>(
     let Flushed::Wrote = log.flush_step(device) else {
         return Ok(None);
     };
-    match log.look(alloc, device, placed, key) {
+    match log.look(alloc, device, placed, key, moment) {
         Ok(looked) => Ok(Some(looked)),
         Err(error) => Err(error),
     }
 }
 
-/// Behind any step, an honest device gives the newest value of a key, unless that was on the page that the step may lose.
+/// Behind any step, an honest device gives the newest value of a key, if it is live at the moment, unless that was on the page that the step may lose.
 pub fn look_after_step<D: PageDevice<PAGE>, const PAGE: usize>(
     alloc: Global,
     log: &mut KLog<PAGE>,
     device: &mut D,
     placed: &Placed,
     key: &Key,
+    moment: u64,
 ) -> Result<Looked, AllocError>
     requires page_size { IsPageSize PAGE }
     requires pages { HasRoom (D.page_count device.old) log.old }
@@ -116,10 +127,11 @@ pub fn look_after_step<D: PageDevice<PAGE>, const PAGE: usize>(
     ensures hit { (newest : Entry × Rec) →
         newest_with (live_on (D.held device.old) log.old) key.now ≡ Some newest →
         is_on_page log.old (flushed_number log.old) log.old.done newest.0 ≡ false →
-        (value : List ℕ) → result ≡ Ok (Looked.Hit value) → value ≡ newest.1.value }
+        (value : List ℕ) → result ≡ Ok (Looked.Hit value) →
+        value_at moment newest.1.value ≡ Some value }
 {
     log.flush_step(device);
-    match log.look(alloc, device, placed, key) {
+    match log.look(alloc, device, placed, key, moment) {
         Ok(looked) => Ok(looked),
         Err(error) => Err(error),
     }
@@ -132,13 +144,14 @@ pub fn look_without_hit<D: PageDevice<PAGE>, const PAGE: usize>(
     device: &mut D,
     placed: &Placed,
     key: &Key,
+    moment: u64,
 ) -> Result<Looked, AllocError>
     requires page_size { IsPageSize PAGE }
     requires pages { HasRoom (D.page_count device.old) log.old }
     requires place { placed.now ≡ place_in log.old.shape key.now }
     ensures { ((value : List ℕ) → result ≢ Ok (Looked.Hit value)) → log.new ≡ log.old }
 {
-    match log.look(alloc, device, placed, key) {
+    match log.look(alloc, device, placed, key, moment) {
         Ok(looked) => Ok(looked),
         Err(error) => Err(error),
     }

@@ -1,7 +1,7 @@
 //! Calls of a log, each with what it gives.
 ghost use Rattle.record_pages.specs.Sizes.{IsPageSize};
 
-use super::retried::{append, look, strike, take};
+use super::retried::{EXPIRES, append, look, look_at, strike, take};
 use super::*;
 
 /// A record that a taking gives.
@@ -21,6 +21,8 @@ pub enum Step {
     Append(&'static [u8], &'static [u8], Option<Appended>),
     /// A key, and what is seen of it.
     Look(&'static [u8], Seen),
+    /// A key whose record has expired at the moment when it expires, and at none before.
+    LookLate(&'static [u8]),
     /// A key.
     Strike(&'static [u8]),
     Flush(Flushed),
@@ -67,6 +69,7 @@ fn gives<D: PageDevice<PAGE>, const PAGE: usize>(
     match step {
         Step::Append(key, value, wanted) => Ok(append(alloc, owner, key, value)? == *wanted),
         Step::Look(key, wanted) => Ok(is_seen(look(alloc, owner, key)?, wanted)),
+        Step::LookLate(key) => Ok(is_expired(look_at(alloc, owner, key, EXPIRES)?)),
         Step::Strike(key) => {
             strike(alloc, owner, key)?;
             Ok(true)
@@ -99,6 +102,13 @@ fn is_seen(looked: Looked, wanted: &Seen) -> bool {
         (Looked::Absent, Seen::Absent) => true,
         (Looked::Fault, Seen::Fault) => true,
         (Looked::Damaged, Seen::Damaged) => true,
+        _ => false,
+    }
+}
+
+fn is_expired(looked: Looked) -> bool {
+    match looked {
+        Looked::Expired => true,
         _ => false,
     }
 }
@@ -137,7 +147,8 @@ fn are_taken(taken: SetTaken, wanted: &[Kept]) -> bool {
 
 fn is_kept(record: &TakenRecord, wanted: &Kept) -> bool {
     record.stored.key.bytes() == wanted.key
-        && record.stored.value.bytes() == wanted.value
+        && record.stored.value.value.bytes() == wanted.value
+        && record.stored.value.expires == EXPIRES
         && record.stored.pred.get() == wanted.prediction
         && record.place == wanted.place
         && record.segment == wanted.segment

@@ -2,9 +2,11 @@
 use super::retried::{read, rewrite};
 use super::*;
 
-const FOUND_UNTIL_STRUCK: [Step; 10] = [
+const FOUND_UNTIL_STRUCK: [Step; 11] = [
     WRITES,
     FINDS_A,
+    // What has expired is no hit.
+    Step::LookLate(b"bx"),
     Step::Read(&[AX_HIT, BX]),
     Step::Strike(b"bx"),
     Step::Look(b"bx", Seen::Absent),
@@ -12,7 +14,7 @@ const FOUND_UNTIL_STRUCK: [Step; 10] = [
     Step::Forget,
     MISSES_A,
     Step::Read(&[]),
-    // The fifth call of the device.
+    // The sixth call of the device.
     FORGETS,
 ];
 
@@ -21,7 +23,7 @@ fn written_records_are_found_until_they_are_struck_or_forgotten(
     rt: HostRuntime,
 ) -> Result<(), Fail> {
     let alloc = rt.alloc();
-    let mut owner: Owner<Fused, 256> = sets(alloc, FuseDevice::one(device(alloc)?, 5))?;
+    let mut owner: Owner<Fused, 256> = sets(alloc, FuseDevice::one(device(alloc)?, 6))?;
     run(&rt, alloc, &mut owner, &FOUND_UNTIL_STRUCK)
 }
 

@@ -56,11 +56,17 @@ impl<D: PageDevice<PAGE>, const PAGE: usize> Owner<D, PAGE> {
         })
     }
 
-    pub(super) fn look(&mut self, alloc: Global, key: &Key) -> Result<Looked, AllocError>
+    pub(super) fn look(
+        &mut self,
+        alloc: Global,
+        key: &Key,
+        moment: u64,
+    ) -> Result<Looked, AllocError>
         requires { IsPageSize PAGE }
     {
         let placed = place(&self.layout, key.bytes());
-        self.sets.look(alloc, &mut self.device, &placed, key)
+        self.sets
+            .look(alloc, &mut self.device, &placed, key, moment)
     }
 
     pub(super) fn read(&mut self, alloc: Global, key: &Key) -> Result<SetRead, AllocError>

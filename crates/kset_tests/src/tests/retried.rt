@@ -2,6 +2,10 @@
 ghost use Rattle.record_pages.specs.Sizes.{IsPageSize};
 
 use super::*;
+use record_pages::TimedValue;
+
+/// When each record of these tests expires; look-ups are made a moment before.
+pub(super) const EXPIRES: u64 = 10;
 
 /// A page with these pairs, each as it enters the log.
 pub(super) fn page<const PAGE: usize>(
@@ -19,7 +23,10 @@ pub(super) fn page<const PAGE: usize>(
 fn record(alloc: Global, pair: &Pair) -> Result<Record, Fail> {
     let pred = Prediction::new(Prediction::ENTERING).unwrap();
     let key = key(alloc, pair.0)?;
-    let value = value(alloc, pair.1)?;
+    let value = TimedValue {
+        value: value(alloc, pair.1)?,
+        expires: EXPIRES,
+    };
     Ok(Record { key, value, pred })
 }
 
@@ -49,10 +56,22 @@ pub(super) fn look<D: PageDevice<PAGE>, const PAGE: usize>(
 ) -> Result<Looked, Fail>
     requires { IsPageSize PAGE }
 {
+    look_at(alloc, owner, bytes, EXPIRES - 1)
+}
+
+/// Looks a key up at a moment.
+pub(super) fn look_at<D: PageDevice<PAGE>, const PAGE: usize>(
+    alloc: Global,
+    owner: &mut Owner<D, PAGE>,
+    bytes: &[u8],
+    moment: u64,
+) -> Result<Looked, Fail>
+    requires { IsPageSize PAGE }
+{
     let key = key(alloc, bytes)?;
-    match owner.look(alloc, &key) {
+    match owner.look(alloc, &key, moment) {
         Ok(looked) => Ok(looked),
-        Err(_) => Ok(owner.look(alloc, &key)?),
+        Err(_) => Ok(owner.look(alloc, &key, moment)?),
     }
 }
 

@@ -1,7 +1,7 @@
 //! Calls of the sets, each with what it gives.
 ghost use Rattle.record_pages.specs.Sizes.{IsPageSize};
 
-use super::retried::{forget, look, read, rewrite, strike};
+use super::retried::{EXPIRES, forget, look, look_at, read, rewrite, strike};
 use super::*;
 
 /// A record that a reading lists, with the prediction that it entered with.
@@ -19,6 +19,8 @@ pub enum Step {
     Rewrite(&'static [Pair], Rewritten),
     /// A key, and what is seen of it.
     Look(&'static [u8], Seen),
+    /// A key whose record has expired at the moment when it expires, and at none before.
+    LookLate(&'static [u8]),
     /// The records that are listed.
     Read(&'static [Listed]),
     /// A reading that meets a lost page.
@@ -54,6 +56,7 @@ fn gives<D: PageDevice<PAGE>, const PAGE: usize>(
     match step {
         Step::Rewrite(pairs, wanted) => Ok(rewrite(alloc, owner, pairs)? == *wanted),
         Step::Look(key, wanted) => Ok(is_seen(look(alloc, owner, key)?, wanted)),
+        Step::LookLate(key) => Ok(is_expired(look_at(alloc, owner, key, EXPIRES)?)),
         Step::Read(wanted) => Ok(are_listed(read(alloc, owner)?, wanted)),
         Step::ReadLost => Ok(is_lost(read(alloc, owner)?)),
         Step::Strike(key) => {
@@ -73,6 +76,13 @@ fn is_seen(looked: Looked, wanted: &Seen) -> bool {
         (Looked::Absent, Seen::Absent) => true,
         (Looked::Fault, Seen::Fault) => true,
         (Looked::Damaged, Seen::Damaged) => true,
+        _ => false,
+    }
+}
+
+fn is_expired(looked: Looked) -> bool {
+    match looked {
+        Looked::Expired => true,
         _ => false,
     }
 }
@@ -101,7 +111,8 @@ fn are_listed(read: SetRead, wanted: &[Listed]) -> bool {
 
 fn is_listed(record: &SetRecord, wanted: &Listed) -> bool {
     record.stored.key.bytes() == wanted.key
-        && record.stored.value.bytes() == wanted.value
+        && record.stored.value.value.bytes() == wanted.value
+        && record.stored.value.expires == EXPIRES
         && record.stored.pred.get() == Prediction::ENTERING
         && record.hit == wanted.hit
 }

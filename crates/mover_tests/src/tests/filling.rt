@@ -71,9 +71,9 @@ fn what_finds_no_place_in_the_log_is_lost(rt: HostRuntime) -> Result<(), Fail> {
     run_rows(&rt, rt.alloc(), &NO_PLACE)
 }
 
-const LARGEST: [u8; 233] = [b'v'; 233];
+const LARGEST: [u8; 225] = [b'v'; 225];
 
-const TOO_LARGE: [u8; 234] = [b'w'; 234];
+const TOO_LARGE: [u8; 226] = [b'w'; 226];
 
 // A refused put leaves the older value.
 const BY_SIZE: [Step; 3] = [

@@ -2,11 +2,14 @@
 ghost use Rattle.mover.specs.Lane.{lane_of};
 ghost use Rattle.mover.specs.Visible.{IsShown};
 ghost use Rattle.std.specs.Prelude.{◌≡◌, ◌≢◌, ℕ, List, None, Some, Ok, IsOk, IfOk, IsTrue};
+ghost use Rattle.record_pages.specs.Expiry.{is_live, timed, value_at};
 ghost use Rattle.record_pages.specs.declared.answer.Answer.{Answer};
 ghost use Rattle.record_pages.specs.declared.answer.Answer.TheVariants.{Hit, Miss};
 ghost use Rattle.record_pages.specs.declared.miss_cause.MissCause.{MissCause};
+ghost use Rattle.record_pages.specs.declared.timed_value.TimedValue.{TimedValue};
 ghost use Rattle.record_pages.specs.declared.tier.Tier.{Tier};
 ghost use Rattle.record_pages.specs.declared.tier.Tier.TheVariants.{Memory};
+ghost use Rattle.mover.specs.Get.{answer_by};
 ghost use Rattle.mover.specs.Leaving.{HasAll};
 ghost use Rattle.kset.specs.Sets.{notes_of};
 ghost use Rattle.mover.specs.declared.flight.Flight.{Flight};
@@ -31,10 +34,11 @@ use std::alloc::AllocError;
 pub fn a_miss_keeps_all<D: PageDevice<PAGE>, const PAGE: usize>(
     store: &mut Store<D, PAGE>,
     key: &Key,
+    moment: u64,
 ) -> Result<Answer, AllocError>
     ensures { (cause : MissCause) → result ≡ Ok (Miss cause) → HasAll store.old store.new }
 {
-    let answer = store.get(key)?;
+    let answer = store.get(key, moment)?;
     Ok(answer)
 }
 
@@ -78,6 +82,7 @@ pub fn a_lost_page_keeps_memory_and_sets<D: PageDevice<PAGE>, const PAGE: usize>
 pub fn a_removed_key_is_no_hit<D: PageDevice<PAGE>, const PAGE: usize>(
     store: &mut Store<D, PAGE>,
     key: &Key,
+    moment: u64,
 ) -> Result<Answer, AllocError>
     requires honest { IsTrue (D.honest store.old.device) }
     ensures { IfOk result (λ answer. (value : List ℕ) → (tier : Tier) → answer ≢ Hit value tier) }
@@ -86,7 +91,7 @@ pub fn a_removed_key_is_no_hit<D: PageDevice<PAGE>, const PAGE: usize>(
     get_shows();
     let _layout = store.layout();
     store.remove(key);
-    let answer = store.get(key)?;
+    let answer = store.get(key, moment)?;
     Ok(answer)
 }
 
@@ -98,7 +103,7 @@ pub fn a_commit_brings_nothing_back<D: PageDevice<PAGE>, const PAGE: usize>(
     number: u64,
 ) -> Committed
     requires honest { IsTrue (D.honest store.old.device) }
-    ensures { (value : List ℕ) →
+    ensures { (value : TimedValue) →
         IsShown (lane_of D.held store.new) (record { key = key.now; value = value }) → ⊥ }
 {
     removal_shows();
@@ -108,47 +113,52 @@ pub fn a_commit_brings_nothing_back<D: PageDevice<PAGE>, const PAGE: usize>(
     store.move_commit(plan, number)
 }
 
-/// A hit of a key that was just put is the value that was put, over an honest device.
+/// A hit of a key that was just put is the value that was put, which is live at the get's moment, over an honest device.
 pub fn a_hit_is_what_was_put<D: PageDevice<PAGE>, const PAGE: usize>(
     store: &mut Store<D, PAGE>,
     key: Key,
     value: Value,
     word: u32,
+    expires: u64,
     again: &Key,
+    moment: u64,
 ) -> Result<Answer, AllocError>
     requires honest { IsTrue (D.honest store.old.device) }
     requires same { again.now ≡ key }
     ensures { IfOk result (λ answer. (told : List ℕ) → (tier : Tier) →
-        answer ≡ Hit told tier → told ≡ value) }
+        answer ≡ Hit told tier → (told ≡ value) × IsTrue (is_live expires moment)) }
 {
     put_shows();
     get_shows();
     let _layout = store.layout();
-    let Ok(_) = store.put(key, value, word) else {
+    let Ok(_) = store.put(key, value, word, expires) else {
         return Err(AllocError);
     };
-    let answer = store.get(again)?;
+    let answer = store.get(again, moment)?;
     Ok(answer)
 }
 
-/// A get of a key that was just put is answered from memory with the value that was put, and makes no call of the device,
-/// whatever the device.
+/// A get of a key that was just put is answered from memory, with the value that was put or that it has expired, and makes no
+/// call of the device, whatever the device.
 pub fn a_put_is_answered_from_memory<D: PageDevice<PAGE>, const PAGE: usize>(
     store: &mut Store<D, PAGE>,
     key: Key,
     value: Value,
     word: u32,
+    expires: u64,
     again: &Key,
+    moment: u64,
 ) -> Result<Answer, AllocError>
     requires same { again.now ≡ key }
-    ensures answered { IfOk result (λ answer. answer ≡ Hit value Memory) }
+    ensures answered { IfOk result (λ answer.
+        answer ≡ answer_by (value_at moment (timed value expires)) Memory) }
     ensures unread { store.new.device ≡ store.old.device }
 {
     let _layout = store.layout();
-    let Ok(_) = store.put(key, value, word) else {
+    let Ok(_) = store.put(key, value, word, expires) else {
         return Err(AllocError);
     };
-    let answer = store.get(again)?;
+    let answer = store.get(again, moment)?;
     Ok(answer)
 }
 
@@ -193,9 +203,10 @@ pub fn a_put_marks_each_move<D: PageDevice<PAGE>, const PAGE: usize>(
     key: Key,
     value: Value,
     word: u32,
+    expires: u64,
 ) -> Result<Pushed, PutFault>
     ensures { (number : ℕ) → IsOk result → flight_of number store.new.flights
         ≡ option_map (flight_struck (fnv1a key)) (flight_of number store.old.flights) }
 {
-    store.put(key, value, word)
+    store.put(key, value, word, expires)
 }

@@ -4,6 +4,9 @@ use mover::{Aborted, Begin, Committed};
 use policy_laws::{Choice, Item, Job, Plan};
 use record_pages::{Answer, Key, MissCause, Prediction, PutFault, Tier, Value};
 
+/// When each value that is put expires.
+const EXPIRES: u64 = 10;
+
 /// What a get is to find.
 #[derive(Clone, Copy)]
 pub enum Found {
@@ -13,6 +16,7 @@ pub enum Found {
     Absent,
     Fault,
     Damaged,
+    Expired,
 }
 
 /// What is to be known of an item.
@@ -48,8 +52,10 @@ pub enum Step {
     Put(&'static [u8], &'static [u8], u32, Pushed),
     /// A key and a value that are too large together.
     TooLarge(&'static [u8], &'static [u8]),
-    /// A key, and what is found of it.
+    /// A key, and what is found of it, a moment before it expires.
     Get(&'static [u8], Found),
+    /// A key, and what is found of it when it expires.
+    GetLate(&'static [u8], Found),
     /// A key.
     Remove(&'static [u8]),
     /// A key.
@@ -87,7 +93,8 @@ fn gives<D: PageDevice<PAGE>, const PAGE: usize>(
             Ok(is_put(put(alloc, store, name, bytes, *word)?, *wanted))
         }
         Step::TooLarge(name, bytes) => Ok(is_too_large(put(alloc, store, name, bytes, 0)?)),
-        Step::Get(name, wanted) => Ok(is_found(get(alloc, store, name)?, wanted)),
+        Step::Get(name, wanted) => Ok(is_found(get(alloc, store, name, EXPIRES - 1)?, wanted)),
+        Step::GetLate(name, wanted) => Ok(is_found(get(alloc, store, name, EXPIRES)?, wanted)),
         Step::Remove(name) => {
             store.remove(&key(alloc, name)?);
             Ok(true)
@@ -129,9 +136,9 @@ fn put<D: PageDevice<PAGE>, const PAGE: usize>(
     bytes: &[u8],
     word: u32,
 ) -> Result<Result<Pushed, PutFault>, Fail> {
-    match store.put(key(alloc, name)?, value(alloc, bytes)?, word) {
+    match store.put(key(alloc, name)?, value(alloc, bytes)?, word, EXPIRES) {
         Err(PutFault::OutOfMemory) => {
-            Ok(store.put(key(alloc, name)?, value(alloc, bytes)?, word))
+            Ok(store.put(key(alloc, name)?, value(alloc, bytes)?, word, EXPIRES))
         }
         Ok(pushed) => Ok(Ok(pushed)),
         Err(fault) => Ok(Err(fault)),
@@ -142,11 +149,12 @@ fn get<D: PageDevice<PAGE>, const PAGE: usize>(
     alloc: Global,
     store: &mut Store<D, PAGE>,
     name: &[u8],
+    moment: u64,
 ) -> Result<Answer, Fail> {
     let key = key(alloc, name)?;
-    match store.get(&key) {
+    match store.get(&key, moment) {
         Ok(answer) => Ok(answer),
-        Err(_) => Ok(store.get(&key)?),
+        Err(_) => Ok(store.get(&key, moment)?),
     }
 }
 
@@ -251,6 +259,7 @@ fn is_found(answer: Answer, wanted: &Found) -> bool {
         (Answer::Miss(MissCause::Absent), Found::Absent) => true,
         (Answer::Miss(MissCause::Fault), Found::Fault) => true,
         (Answer::Miss(MissCause::Damaged), Found::Damaged) => true,
+        (Answer::Miss(MissCause::Expired), Found::Expired) => true,
         _ => false,
     }
 }

@@ -5,7 +5,7 @@ use mover::{Aborted, Committed};
 
 // A small object that comes from the log.
 const FRESH: Known = Known {
-    size: 7,
+    size: 15,
     prediction: 6,
     hit: false,
     fresh: true,
@@ -66,7 +66,7 @@ const OVER_A_NAME: [Step; 29] = [
     Step::Put(b"bx", b"2", 0, Pushed::Logged),
     Step::Flush(Flushed::Sealed),
     Step::Flush(Flushed::Wrote),
-    Step::Begin(Began::Job(1, &[Known { size: 6, ..FRESH }])),
+    Step::Begin(Began::Job(1, &[Known { size: 14, ..FRESH }])),
     Step::Put(b"c", b"3", 0, Pushed::Logged),
     Step::Begin(Began::Freed),
     Step::Flush(Flushed::Sealed),

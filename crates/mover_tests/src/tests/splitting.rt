@@ -6,7 +6,7 @@ use mover::{Aborted, Committed};
 
 // A small object that comes from the log.
 const FRESH: Known = Known {
-    size: 7,
+    size: 15,
     prediction: 6,
     hit: false,
     fresh: true,
@@ -93,7 +93,7 @@ const NEIGHBOUR: [Step; 11] = [
     Step::Put(b"bx", b"3", 0, Pushed::Logged),
     Step::Flush(Flushed::Sealed),
     Step::Flush(Flushed::Wrote),
-    Step::Begin(Began::Job(1, &[Known { size: 6, ..FRESH }, FRESH])),
+    Step::Begin(Began::Job(1, &[Known { size: 14, ..FRESH }, FRESH])),
     Step::Put(b"b", b"4", 0, Pushed::Logged),
     Step::Get(b"a", Found::Absent),
     Step::Commit(&[0, 1], 1, Committed::Written),
@@ -107,7 +107,7 @@ const OTHER_SET: [Step; 9] = [
     Step::Put(b"ax", b"2", 0, Pushed::Logged),
     Step::Flush(Flushed::Sealed),
     Step::Flush(Flushed::Wrote),
-    Step::Begin(Began::Job(1, &[Known { size: 6, ..FRESH }])),
+    Step::Begin(Began::Job(1, &[Known { size: 14, ..FRESH }])),
     Step::Put(b"b", b"3", 0, Pushed::Logged),
     Step::Get(b"a", Found::Log(b"1")),
     Step::Commit(&[0], 1, Committed::Written),
@@ -286,7 +286,7 @@ fn a_number_is_good_once(rt: HostRuntime) -> Result<(), Fail> {
 
 const HALF: [u8; 100] = [b'v'; 100];
 
-const LARGE_ITEM: Known = Known { size: 106, ..FRESH };
+const LARGE_ITEM: Known = Known { size: 114, ..FRESH };
 
 // Two of these objects fit on a page; an item that was struck counts.
 const TOO_LARGE_TOGETHER: [Step; 13] = [

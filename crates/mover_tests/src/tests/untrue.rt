@@ -4,7 +4,7 @@ use super::untrue_device::UntrueDevice;
 use super::*;
 use rand_core::utils::NextWord;
 use rand_pcg::Lcg64Xsh32;
-use record_pages::{Answer, Key, MissCause, Tier, Value};
+use record_pages::{Answer, Key, MissCause, NEVER, Tier, Value};
 use std::sync::atomic::{AtomicU32, Ordering};
 
 type Untrue<'a> = Store<UntrueDevice<'a>, 256>;
@@ -19,7 +19,7 @@ const SMALL: Config = Config {
 
 // Whether a get finds just this value, in memory.
 fn is_in_memory(store: &mut Untrue<'_>, key: &Key, bytes: &[u8]) -> Result<bool, Fail> {
-    match store.get(key)? {
+    match store.get(key, 0)? {
         Answer::Hit(value, Tier::Memory) => Ok(value.bytes() == bytes),
         _ => Ok(false),
     }
@@ -34,7 +34,7 @@ fn puts(
     word: u32,
 ) -> Result<bool, Fail> {
     let bytes = number.to_be_bytes();
-    store.put(key(alloc, name)?, value(alloc, &bytes)?, word)?;
+    store.put(key(alloc, name)?, value(alloc, &bytes)?, word, NEVER)?;
     is_in_memory(store, &key(alloc, name)?, &bytes)
 }
 
@@ -42,7 +42,7 @@ fn puts(
 fn removes(alloc: Global, store: &mut Untrue<'_>, name: &[u8]) -> Result<bool, Fail> {
     let key = key(alloc, name)?;
     store.remove(&key);
-    Ok(matches!(store.get(&key)?, Answer::Miss(MissCause::Absent)))
+    Ok(matches!(store.get(&key, 0)?, Answer::Miss(MissCause::Absent)))
 }
 
 // How many gets found a value on flash, and how many ended at a page that is not the expected one.
@@ -89,7 +89,7 @@ fn calls(
             true
         }
         _ => {
-            let answer = store.get(&key(alloc, &name)?)?;
+            let answer = store.get(&key(alloc, &name)?, 0)?;
             return Ok(Some(seen_with(seen, answer)));
         }
     };

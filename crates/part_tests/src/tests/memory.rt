@@ -2,7 +2,7 @@
 ghost use Rattle.std.specs.Prelude.{◌<◌};
 
 use memory_cache::{MemoryCache, Pair};
-use record_pages::{Key, Value};
+use record_pages::{Key, TimedValue, Value};
 use std::alloc::Global;
 use std::process::Abort;
 use std::test::Fail;
@@ -18,8 +18,15 @@ enum Step {
     Len(usize),
 }
 
+/// When each value of these tests expires. A memory keeps it, and does not look at it.
+const EXPIRES: u64 = 7;
+
 fn is_pair(pair: &Pair, key: &[u8], value: &[u8]) -> bool {
-    pair.key.bytes() == key && pair.value.bytes() == value
+    pair.key.bytes() == key && is_timed(&pair.value, value)
+}
+
+fn is_timed(value: &TimedValue, bytes: &[u8]) -> bool {
+    value.value.bytes() == bytes && value.expires == EXPIRES
 }
 
 fn is_out(out: Option<Pair>, wanted: Option<(&[u8], &[u8])>) -> bool {
@@ -30,15 +37,15 @@ fn is_out(out: Option<Pair>, wanted: Option<(&[u8], &[u8])>) -> bool {
     }
 }
 
-fn is_value(value: Option<&Value>, wanted: Option<&[u8]>) -> bool {
+fn is_value(value: Option<&TimedValue>, wanted: Option<&[u8]>) -> bool {
     match (value, wanted) {
-        (Some(value), Some(bytes)) => value.bytes() == bytes,
+        (Some(value), Some(bytes)) => is_timed(value, bytes),
         (None, None) => true,
         _ => false,
     }
 }
 
-fn is_taken(value: Option<Value>, wanted: Option<&[u8]>) -> bool {
+fn is_taken(value: Option<TimedValue>, wanted: Option<&[u8]>) -> bool {
     is_value(value.as_ref(), wanted)
 }
 
@@ -46,7 +53,10 @@ fn is_taken(value: Option<Value>, wanted: Option<&[u8]>) -> bool {
 fn pair(alloc: Global, key: &[u8], value: &[u8]) -> Result<Pair, Fail> {
     Ok(Pair {
         key: Key::new(alloc, key)?,
-        value: Value::new(alloc, value)?,
+        value: TimedValue {
+            value: Value::new(alloc, value)?,
+            expires: EXPIRES,
+        },
     })
 }
 

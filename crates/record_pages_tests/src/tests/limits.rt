@@ -1,6 +1,9 @@
 //! The limits of keys, values and objects, and copies of them.
 use super::rows::{ROW, record};
-use record_pages::{Key, KeyFault, Prediction, Record, Value, ValueFault, fits, is_too_large};
+use record_pages::{
+    Key, KeyFault, NEVER, Prediction, Record, TimedValue, Value, ValueFault, fits, is_live,
+    is_too_large,
+};
 use std::alloc::Global;
 use std::test::Fail;
 
@@ -38,15 +41,15 @@ fn is_large(alloc: Global, value: &[u8]) -> Result<bool, Fail> {
 
 #[test]
 fn objects_have_their_limit(rt: HostRuntime) -> Result<(), Fail> {
-    assert!(rt; !is_large(rt.alloc(), &[0x78; 233])?);
-    assert!(rt; is_large(rt.alloc(), &[0x78; 234])?);
+    assert!(rt; !is_large(rt.alloc(), &[0x78; 225])?);
+    assert!(rt; is_large(rt.alloc(), &[0x78; 226])?);
     Ok(())
 }
 
 /// Whether a record of key `a` and a value of so many bytes fits alone on a page of 256 bytes.
 fn fits_alone(alloc: Global, value: &[u8]) -> Result<bool, Fail> {
     let key = Key::new(alloc, b"a")?;
-    let value = Value::new(alloc, value)?;
+    let value = TimedValue::lasting(Value::new(alloc, value)?);
     let Some(pred) = Prediction::new(6) else {
         return Ok(false);
     };
@@ -55,8 +58,8 @@ fn fits_alone(alloc: Global, value: &[u8]) -> Result<bool, Fail> {
 
 #[test]
 fn a_record_may_fill_its_page(rt: HostRuntime) -> Result<(), Fail> {
-    assert!(rt; fits_alone(rt.alloc(), &[0x78; 233])?);
-    assert!(rt; !fits_alone(rt.alloc(), &[0x78; 234])?);
+    assert!(rt; fits_alone(rt.alloc(), &[0x78; 225])?);
+    assert!(rt; !fits_alone(rt.alloc(), &[0x78; 226])?);
     Ok(())
 }
 
@@ -66,6 +69,14 @@ fn copies_are_alike(rt: HostRuntime) -> Result<(), Fail> {
     assert!(rt; made.key.try_clone()? == made.key);
     assert!(rt; made.value.try_clone()? == made.value);
     assert!(rt; made.lent().to_record(rt.alloc())? == made);
-    assert_eq!(rt; (made.size(), made.lent().size()), (7, 7));
+    assert_eq!(rt; (made.size(), made.lent().size()), (15, 15));
     Ok(())
+}
+
+#[test]
+fn a_value_lives_before_its_moment(rt: HostRuntime) {
+    assert!(rt; is_live(10, 9) && !is_live(10, 10) && !is_live(10, 11));
+    assert!(rt; !is_live(0, 0));
+    assert!(rt; !is_live(NEVER - 1, NEVER - 1) && !is_live(NEVER - 1, NEVER));
+    assert!(rt; is_live(NEVER, 0) && is_live(NEVER, NEVER));
 }

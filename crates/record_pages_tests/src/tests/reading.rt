@@ -1,43 +1,57 @@
 //! Pages that are read, and each reason for which one is refused.
 ghost use Rattle.record_pages.specs.Sizes.{IsPageSize};
 
-use super::rows::{LOG_ROW, SET_ROW, page_of};
-use record_pages::{LogPage, Records, SetPage};
+use super::rows::{EXPIRES, LASTING_LOG_ROW, LASTING_SET_ROW, LOG_ROW, SET_ROW, page_of};
+use record_pages::{LogPage, NEVER, Records, SetPage};
 
-/// Whether these are one record: key `a`, a value of this length, prediction 6.
-fn is_one(records: Records<'_>, value_len: usize) -> bool {
+/// Whether these are one record: key `a`, a value of this length that expires then, prediction 6.
+fn is_one(records: Records<'_>, value_len: usize, expires: u64) -> bool {
     if records.len() != 1 {
         return false;
     }
     let Some(first) = records.at(0) else {
         return false;
     };
-    first.key == b"a".as_slice() && first.value.len() == value_len && first.prediction == 6
+    first.key == b"a".as_slice()
+        && first.value.len() == value_len
+        && first.expires == expires
+        && first.prediction == 6
 }
 
 /// Whether this is set page 3, of write 1, with one record, and no log page.
-fn is_the_set_page(page: &[u8; 256], value_len: usize) -> bool {
+fn is_the_set_page(page: &[u8; 256], value_len: usize, expires: u64) -> bool {
     let Some(read) = SetPage::read(page) else {
         return false;
     };
-    read.set() == 3 && read.write() == 1 && is_one(read.records(), value_len)
+    read.set() == 3 && read.write() == 1 && is_one(read.records(), value_len, expires)
 }
 
 /// Whether this is page 0 of segment 0, with one record.
-fn is_the_log_page(page: &[u8; 256], value_len: usize) -> bool {
+fn is_the_log_page(page: &[u8; 256], value_len: usize, expires: u64) -> bool {
     let Some(read) = LogPage::read(page) else {
         return false;
     };
-    read.segment() == 0 && read.page() == 0 && is_one(read.records(), value_len)
+    read.segment() == 0 && read.page() == 0 && is_one(read.records(), value_len, expires)
 }
 
 #[test]
 fn pages_of_one_record_are_read(rt: HostRuntime) {
     let page = page_of::<256>(&SET_ROW);
-    assert!(rt; is_the_set_page(&page, 2));
+    assert!(rt; is_the_set_page(&page, 2, EXPIRES));
     assert!(rt; LogPage::read(&page).is_none());
     let page = page_of::<256>(&LOG_ROW);
-    assert!(rt; is_the_log_page(&page, 2));
+    assert!(rt; is_the_log_page(&page, 2, EXPIRES));
+    assert!(rt; SetPage::read(&page).is_none());
+}
+
+// Records of a page of the older form never expire.
+#[test]
+fn pages_of_the_older_form_are_read(rt: HostRuntime) {
+    let page = page_of::<256>(&LASTING_SET_ROW);
+    assert!(rt; is_the_set_page(&page, 2, NEVER));
+    assert!(rt; LogPage::read(&page).is_none());
+    let page = page_of::<256>(&LASTING_LOG_ROW);
+    assert!(rt; is_the_log_page(&page, 2, NEVER));
     assert!(rt; SetPage::read(&page).is_none());
 }
 
@@ -54,19 +68,20 @@ fn is_refused<const PAGE: usize>(front: &[u8], at: usize, byte: u8) -> bool
 
 /// Whether a page of a row is read as it is and with other bytes that may stand there, and each byte that may not is
 /// refused: the magic, 65 records, no key, a value of 2,050 bytes, prediction 8, a byte behind the record and the last
-/// one. The row's header ends before `body`.
-fn are_refused<const PAGE: usize>(front: &[u8], body: usize) -> bool
+/// one. The row's header ends before `body`, and its record, of 7 or 15 bytes, at `end`.
+fn are_refused<const PAGE: usize>(front: &[u8], body: usize, end: usize) -> bool
     requires small { (0 < body) × (body < 64) }
     requires page_size { IsPageSize PAGE }
 {
     !is_refused::<PAGE>(front, 0, 0x4b)
         && !is_refused::<PAGE>(front, body + 3, 7)
         && is_refused::<PAGE>(front, 0, 0x4c)
+        && is_refused::<PAGE>(front, 3, 0x32)
         && is_refused::<PAGE>(front, body - 1, 65)
         && is_refused::<PAGE>(front, body, 0)
         && is_refused::<PAGE>(front, body + 1, 8)
         && is_refused::<PAGE>(front, body + 3, 8)
-        && is_refused::<PAGE>(front, body + 7, 1)
+        && is_refused::<PAGE>(front, end, 1)
         && is_refused::<PAGE>(front, PAGE - 1, 1)
 }
 
@@ -74,10 +89,12 @@ ghost use Rattle.std.specs.Prelude.{◌<◌};
 
 #[test]
 fn pages_that_are_no_text_are_refused(rt: HostRuntime) {
-    assert!(rt; are_refused::<256>(&SET_ROW, 18));
-    assert!(rt; are_refused::<4096>(&SET_ROW, 18));
-    assert!(rt; are_refused::<256>(&LOG_ROW, 16));
-    assert!(rt; are_refused::<4096>(&LOG_ROW, 16));
+    assert!(rt; are_refused::<256>(&SET_ROW, 18, 33));
+    assert!(rt; are_refused::<4096>(&SET_ROW, 18, 33));
+    assert!(rt; are_refused::<256>(&LOG_ROW, 16, 31));
+    assert!(rt; are_refused::<4096>(&LOG_ROW, 16, 31));
+    assert!(rt; are_refused::<256>(&LASTING_SET_ROW, 18, 25));
+    assert!(rt; are_refused::<256>(&LASTING_LOG_ROW, 16, 23));
 }
 
 /// Whether a set page with a value of this many bytes, all zero, is read.
@@ -92,7 +109,14 @@ fn reads_a_value_of(high: u8, low: u8) -> bool {
 fn reads_up_to(len: u8) -> bool {
     let mut front = LOG_ROW;
     front[18] = len;
-    is_the_log_page(&page_of::<256>(&front), len as usize)
+    is_the_log_page(&page_of::<256>(&front), len as usize, EXPIRES)
+}
+
+/// The same of a page of the older form.
+fn reads_a_lasting_value_of(len: u8) -> bool {
+    let mut front = LASTING_LOG_ROW;
+    front[18] = len;
+    is_the_log_page(&page_of::<256>(&front), len as usize, NEVER)
 }
 
 // A value of 2,048 bytes is read and one of 2,049 is refused; a value may end at the page's last byte, and none passes
@@ -101,6 +125,8 @@ fn reads_up_to(len: u8) -> bool {
 fn values_have_their_greatest_length(rt: HostRuntime) {
     assert!(rt; reads_a_value_of(0x08, 0x00));
     assert!(rt; !reads_a_value_of(0x08, 0x01));
-    assert!(rt; reads_up_to(235));
-    assert!(rt; !reads_up_to(236));
+    assert!(rt; reads_up_to(227));
+    assert!(rt; !reads_up_to(228));
+    assert!(rt; reads_a_lasting_value_of(235));
+    assert!(rt; !reads_a_lasting_value_of(236));
 }

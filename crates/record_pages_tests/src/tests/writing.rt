@@ -81,9 +81,9 @@ fn one_record_is_written_by_a_writer(rt: HostRuntime) -> Result<(), Fail> {
     Ok(())
 }
 
-const FULL: Row = (b"a", &[0x78; 233], 0);
+const FULL: Row = (b"a", &[0x78; 225], 0);
 
-const ABOVE: Row = (b"a", &[0x78; 234], 0);
+const ABOVE: Row = (b"a", &[0x78; 226], 0);
 
 /// Whether a page of 256 bytes is full with this record: it ends with the record's last byte.
 fn fills_a_page(record: &Record) -> bool {
@@ -102,9 +102,9 @@ fn a_small_page_has_its_room(rt: HostRuntime) -> Result<(), Fail> {
     Ok(())
 }
 
-const HALF: Row = (b"a", &[0x78; 2034], 6);
+const HALF: Row = (b"a", &[0x78; 2026], 6);
 
-const MORE_THAN_HALF: Row = (b"b", &[0x79; 2035], 6);
+const MORE_THAN_HALF: Row = (b"b", &[0x79; 2027], 6);
 
 /// Whether two records are all of a log page of 4,096 bytes, and its last two bytes are zeros.
 fn fill_a_large_page(first: &Record, second: &Record) -> bool {
@@ -133,7 +133,7 @@ fn pushed(tries: u8, record: &Record) -> usize {
     writer.len()
 }
 
-/// So many records of five bytes.
+/// So many records of 13 bytes.
 fn small(alloc: Global, count: u8) -> Result<Vec<Record>, Fail> {
     let mut records = Vec::new(alloc);
     for _ in 0..count {
@@ -142,7 +142,7 @@ fn small(alloc: Global, count: u8) -> Result<Vec<Record>, Fail> {
     Ok(records)
 }
 
-// Records of 5 bytes leave room on a page of 4,096 bytes when 64 of them lie there.
+// Records of 13 bytes leave room on a page of 4,096 bytes when 64 of them lie there.
 #[test]
 fn a_page_has_at_most_64_records(rt: HostRuntime) -> Result<(), Fail> {
     assert_eq!(rt; pushed(100, &record(rt.alloc(), (b"a", b"", 0))?), 64);

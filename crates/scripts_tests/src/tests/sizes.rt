@@ -33,8 +33,8 @@ fn replies<const PAGE: usize>(
 
 #[test]
 fn objects_have_the_room_of_a_page(rt: HostRuntime) -> Result<(), Fail> {
-    assert!(rt; replies::<256>(rt.alloc(), 1, 233, b"\nstored\n")?);
-    assert!(rt; replies::<256>(rt.alloc(), 1, 234, b"\ntoo large\n")?);
+    assert!(rt; replies::<256>(rt.alloc(), 1, 225, b"\nstored\n")?);
+    assert!(rt; replies::<256>(rt.alloc(), 1, 226, b"\ntoo large\n")?);
     Ok(())
 }
 

@@ -1,13 +1,14 @@
-use Rattle.std.proofs.Common.{arith, ◌∙◌}
-use Rattle.record_pages.specs.PageText.{log_head}
+use Rattle.std.proofs.Common.{inl, arith, ◌∙◌}
+use Rattle.record_pages.specs.PageText.{log_head, SpellsLogForm}
+use Rattle.record_pages.specs.declared.form.Form.TheVariants.{Timed}
 use Rattle.record_pages.proofs.MakingLaws.{Written, log_page_written}
 use Rattle.record_pages.proofs.encode.encode_log_page.Goals as goal
 
-pub returns-clause-spelled : goal.returns-clause-spelled
-returns-clause-spelled g c =
+spells : (g : _) (c : goal.After-page-3-1 g) → SpellsLogForm Timed g.row.PAGE c.zero_from.new.into (record { segment = c.args.segment; page = c.args.page_number; records = c.args.records.now })
+spells g c =
     let header = c.put_log_header-at in
     let behind = c.put_records-at in
-    let written : Written g.row.PAGE (log_head c.args.segment c.args.page_number) c.zero_from.new.into c.args.records.now header.result behind.result header.new.into behind.new.into =
+    let written : Written g.row.PAGE (log_head Timed c.args.segment c.args.page_number) c.zero_from.new.into c.args.records.now header.result behind.result header.new.into behind.new.into =
     record {
       first_is = header.ensures.text;
       at_is = header.ensures.end;
@@ -20,5 +21,8 @@ returns-clause-spelled g c =
     } in
     log_page_written g.row.PAGE c.args.segment c.args.page_number c.zero_from.new.into c.args.records.now header.result behind.result header.new.into behind.new.into (omega (arith, c.requires.page_size)) (omega (arith, c.ranges.segment)) (omega (arith, c.ranges.page_number)) written
 
+pub returns-clause-spelled : goal.returns-clause-spelled
+returns-clause-spelled g c = inl (spells g c)
+
 pub returns-clause-text : goal.returns-clause-text
-returns-clause-text g c = (returns-clause-spelled g c).text
+returns-clause-text g c = (spells g c).text

@@ -5,9 +5,9 @@ use Rattle.record_pages.proofs.records.after_records.Goals as goal
 
 pub loop-preserved : goal.loop-preserved
 loop-preserved c =
-    sym (behind_one c.args.count c.loop.counter c.loop.rest.now (record_shown c.in-Some.field-0-0) c.in-Some.after.now c.loop-test.true (sym c.in-Some.ensures.value))
+    sym (behind_one c.args.form c.args.count c.loop.counter c.loop.rest.now (record_shown c.in-Some.field-0-0) c.in-Some.after.now c.loop-test.true (sym c.in-Some.ensures.value))
     ∙ c.loop.invariant
 
 pub returns-in_default : goal.returns-in_default
 returns-in_default c =
-    sym (behind_none c.args.count c.loop.counter c.loop.rest.now c.loop-test.true (sym c.in_default.ensures.value)) ∙ c.loop.invariant
+    sym (behind_none c.args.form c.args.count c.loop.counter c.loop.rest.now c.loop-test.true (sym c.in_default.ensures.value)) ∙ c.loop.invariant

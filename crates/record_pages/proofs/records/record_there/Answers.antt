@@ -1,34 +1,41 @@
-use Rattle.std.proofs.Common.{drop, arith}
-use Rattle.std.proofs.lemmas.List.{length-drop}
-use Rattle.record_pages.proofs.RecordLaws.{key_len_of, lies, Cut, cut_value, cut_lawful}
+use Rattle.std.proofs.Common.{sym, arith}
+use Rattle.record_pages.proofs.RecordLaws.{lies, Cut, cut_good, cut_value, cut_lawful, expiry_there}
 use Rattle.record_pages.proofs.records.record_there.Goals as goal
 
 pub split_at-requires : goal.split_at-requires
-split_at-requires c = (lies c.args.bytes.now c.requires).long
+split_at-requires c = (lies c.args.form c.args.bytes.now c.requires).long
+
+pub unreachable-requires : goal.unreachable-requires
+unreachable-requires c = expiry_there c.args.form c.args.bytes.now c.split_at.result.1.now c.requires c.split_at.ensures.back (sym c.in_default.ensures)
 
 pub split_at-requires-2 : goal.split_at-requires-2
 split_at-requires-2 c =
-    rw (c.split_at.ensures.front, c.split_at.ensures.back) (omega (arith, (lies c.args.bytes.now c.requires).good.whole))
+    let good = cut_good c.args.form c.args.bytes.now c.split_at.result.0.now c.split_at.result.1.now c.in-Some.rest.now c.in-Some.expires c.from_be_bytes-value_len.result c.requires c.split_at.ensures.front c.split_at.ensures.back (sym c.in-Some.ensures) c.from_be_bytes-value_len.ensures in
+    omega (arith, good.whole)
 
 pub split_at-requires-3 : goal.split_at-requires-3
 split_at-requires-3 c =
-    let bytes = c.args.bytes.now in
-    rw (c.from_be_bytes-value_len.ensures, c.split_at-2.ensures.back, c.split_at.ensures.front, c.split_at.ensures.back) (omega (arith, (lies bytes c.requires).good.whole, length-drop (key_len_of bytes) (drop 4 bytes)))
+    let good = cut_good c.args.form c.args.bytes.now c.split_at.result.0.now c.split_at.result.1.now c.in-Some.rest.now c.in-Some.expires c.from_be_bytes-value_len.result c.requires c.split_at.ensures.front c.split_at.ensures.back (sym c.in-Some.ensures) c.from_be_bytes-value_len.ensures in
+    omega (arith, good.whole, c.split_at-2.ensures.back_len)
 
 pub returns : goal.returns
 returns c =
+    let form = c.args.form in
     let bytes = c.args.bytes.now in
     let front = c.split_at.result.0.now in
-    let back = c.split_at.result.1.now in
+    let mid = c.split_at.result.1.now in
+    let back = c.in-Some.rest.now in
     let key = c.split_at-2.result.0.now in
     let after = c.split_at-2.result.1.now in
     let value = c.split_at-3.result.0.now in
     let rest = c.split_at-3.result.1.now in
+    let e = c.in-Some.expires in
     let v = c.from_be_bytes-value_len.result in
-    let cut : Cut bytes front back key after value rest v =
+    let cut : Cut form bytes front mid back key after value rest e v =
     record {
       front_is = c.split_at.ensures.front;
-      back_is = c.split_at.ensures.back;
+      mid_is = c.split_at.ensures.back;
+      expiry = sym c.in-Some.ensures;
       v_is = c.from_be_bytes-value_len.ensures;
       key_is = c.split_at-2.ensures.front;
       after_is = c.split_at-2.ensures.back;
@@ -36,6 +43,6 @@ returns c =
       rest_is = c.split_at-3.ensures.back;
     } in
     record {
-      value = cut_value bytes front back key after value rest v c.requires cut;
-      lawful = cut_lawful bytes front back key after value rest v (λ i. omega (arith, c.type_inv.bytes i)) c.requires cut;
+      value = cut_value form bytes front mid back key after value rest e v c.requires cut;
+      lawful = cut_lawful form bytes front mid back key after value rest e v (λ i. omega (arith, c.type_inv.bytes i)) c.requires cut;
     }

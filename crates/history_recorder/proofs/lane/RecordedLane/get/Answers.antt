@@ -26,7 +26,7 @@ invariant_of-self-in_err-push g c =
     let old : Lane g.row.D.Denot = record { store = c.self.inside.store; lane = c.self.inside.lane; calls = c.self.inside.calls } in
     let gets = c.in_ok-answer.ensures in
     recorded_still d.honest d.held old c.self.invariant c.get.new.self c.push.new.self c.in_err-push.ensures.err gets.reads.layout gets.reads.honesty
-    (λ is. (c.get_shows.ensures c.args.key.now (lane_of d.held old.store) (lane_of d.held c.get.new.self) c.in_ok-answer.answer (c.self.invariant.order is) (gets.gives is)).0)
+    (λ is. (c.get_shows.ensures c.args.key.now 0 (lane_of d.held old.store) (lane_of d.held c.get.new.self) c.in_ok-answer.answer (c.self.invariant.order is) (gets.gives is)).0)
 
 pub returns-in_err-push-clause-out_of_memory : goal.returns-in_err-push-clause-out_of_memory
 returns-in_err-push-clause-out_of_memory g c =
@@ -44,10 +44,10 @@ invariant_of-self-2 g c =
     let rises = subst (λ (l : Lane g.row.D.Denot). All (λ (m : Noted). m.point < a.point) l.calls) (sym c.self.view_is) c.requires.rises in
     let own = subst (λ (l : Lane g.row.D.Denot). IsOfLane l.store.layout l.lane a.key.now) (sym c.self.view_is) c.requires.own in
     recorded_get d.honest d.held old c.self.invariant n c.get.new.self c.push.new.self more gets.reads.layout gets.reads.honesty c.requires.start rises own (omega arith) a.key.now c.in_ok-answer.answer refl refl
-    (λ is. (c.get_shows.ensures a.key.now (lane_of d.held old.store) (lane_of d.held c.get.new.self) c.in_ok-answer.answer (c.self.invariant.order is) (gets.gives is)).1)
-    (λ is. (c.get_shows.ensures a.key.now (lane_of d.held old.store) (lane_of d.held c.get.new.self) c.in_ok-answer.answer (c.self.invariant.order is) (gets.gives is)).0)
+    (λ is. (c.get_shows.ensures a.key.now 0 (lane_of d.held old.store) (lane_of d.held c.get.new.self) c.in_ok-answer.answer (c.self.invariant.order is) (gets.gives is)).1)
+    (λ is. (c.get_shows.ensures a.key.now 0 (lane_of d.held old.store) (lane_of d.held c.get.new.self) c.in_ok-answer.answer (c.self.invariant.order is) (gets.gives is)).0)
 
 pub returns-clause-gets : goal.returns-clause-gets
 returns-clause-gets g c =
     let d = g.D.PageDevice in
-    subst (λ (l : Lane g.row.D.Denot). StoreGets g.row.PAGE d.honest d.failures d.held c.args.key.now l.store (Ok c.in_ok-answer.answer) c.get.new.self) c.self.view_is c.in_ok-answer.ensures
+    subst (λ (l : Lane g.row.D.Denot). StoreGets g.row.PAGE d.honest d.failures d.held c.args.key.now 0 l.store (Ok c.in_ok-answer.answer) c.get.new.self) c.self.view_is c.in_ok-answer.ensures

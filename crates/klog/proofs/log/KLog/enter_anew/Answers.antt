@@ -1,4 +1,5 @@
 use Rattle.std.proofs.Common.{Bool, true, List, ap, ◌∙◌}
+use Rattle.record_pages.specs.Expiry.{timed}
 use Rattle.record_pages.specs.Recs.{Rec}
 use Rattle.klog_index.specs.declared.entry.Entry.{Entry}
 use Rattle.klog.specs.Log.{LogState}
@@ -13,7 +14,7 @@ returns-then-enter-clause-spelled g c = λ held h. c.enter.ensures.spelled held 
 pub returns-then-enter-clause-shown : goal.returns-then-enter-clause-shown
 returns-then-enter-clause-shown g c = λ held.
     let k = c.drop_entry.new.self in
-    let r = entering c.args.found.key.now c.args.found.value.now in
+    let r = entering c.args.found.key.now (timed c.args.found.value.now c.args.found.expires) in
     c.enter.ensures.shown held
     ∙ ap (λ (b : Bool). live_entered g.row.PAGE k r b (live_on held k)) c.if-enter.true
     ∙ ap (λ (live : List (Entry × Rec)). live_entered g.row.PAGE k r true live) (c.drop_entry.ensures.shown held)

@@ -31,7 +31,7 @@ pub returns-in_default-clause-finds : goal.returns-in_default-clause-finds
 returns-in_default-clause-finds g c = λ honest spelled.
     let held = g.D.PageDevice.held c.args.device.now in
     let knows = all_held g.D.PageDevice.honest g.D.PageDevice.held c.args.device.now honest in
-    finds_of g.row.PAGE held c.args.self.now c.args.key.now c.args.placed.now found.Absent c.requires.place (returns-in_default-clause-finds_at g c held knows) spelled
+    finds_of g.row.PAGE held c.args.self.now c.args.key.now c.args.moment c.args.placed.now found.Absent c.requires.place (returns-in_default-clause-finds_at g c held knows) spelled
 
 pub ask-requires : goal.ask-requires
 ask-requires g c =
@@ -52,12 +52,12 @@ returns-in_err-ask-clause-finds_at g c = λ known knows.
     let at = turn_at k c.args.placed.now.set c.args.placed.now.tag c.loop.counter c.in-Some.entry _ _ c.loop.invariant.rest c.in-Some.ensures in
     let on = held_still g.D.PageDevice.honest g.D.PageDevice.held c.args.device.now c.loop.device known c.loop.invariant.honest c.loop.invariant.same knows in
     let failed = err_from_is_err_and c.from_residual.result c.from_residual.ensures.1 in
-    let finds : FindsAt g.row.PAGE known k c.args.placed.now.set c.args.placed.now.tag c.args.key.now (Err failed.0) = record {
+    let finds : FindsAt g.row.PAGE known k c.args.placed.now.set c.args.placed.now.tag c.args.key.now c.args.moment (Err failed.0) = record {
       entry = c.in-Some.entry;
       reached = turn_reached g.row.PAGE known k c.args.placed.now.set c.args.placed.now.tag c.args.key.now c.loop.counter c.in-Some.entry at (c.loop.invariant.newer known knows);
-      shows = turn_tells g.row.PAGE known k c.args.key.now c.in-Some.entry (Err failed.0) (Err failed.0) refl (c.in_err-ask.ensures.tells known on);
+      shows = turn_tells g.row.PAGE known k c.args.key.now c.args.moment c.in-Some.entry (Err failed.0) (Err failed.0) refl (c.in_err-ask.ensures.tells known on);
     } in
-    subst (FindsAt g.row.PAGE known k c.args.placed.now.set c.args.placed.now.tag c.args.key.now) (sym failed.1) finds
+    subst (FindsAt g.row.PAGE known k c.args.placed.now.set c.args.placed.now.tag c.args.key.now c.args.moment) (sym failed.1) finds
 
 pub returns-in-Fault-clause-buffered : goal.returns-in-Fault-clause-buffered
 returns-in-Fault-clause-buffered g c = λ all.
@@ -80,7 +80,7 @@ pub returns-in-Fault-clause-finds : goal.returns-in-Fault-clause-finds
 returns-in-Fault-clause-finds g c = λ honest spelled.
     let held = g.D.PageDevice.held c.args.device.now in
     let knows = all_held g.D.PageDevice.honest g.D.PageDevice.held c.args.device.now honest in
-    finds_of g.row.PAGE held c.args.self.now c.args.key.now c.args.placed.now found.Fault c.requires.place (returns-in-Fault-clause-finds_at g c held knows) spelled
+    finds_of g.row.PAGE held c.args.self.now c.args.key.now c.args.moment c.args.placed.now found.Fault c.requires.place (returns-in-Fault-clause-finds_at g c held knows) spelled
 
 pub returns-in-Damaged-clause-buffered : goal.returns-in-Damaged-clause-buffered
 returns-in-Damaged-clause-buffered g c = λ all.
@@ -96,14 +96,14 @@ returns-in-Damaged-clause-finds_at g c = λ known knows.
     record {
       entry = c.in-Some.entry;
       reached = turn_reached g.row.PAGE known k c.args.placed.now.set c.args.placed.now.tag c.args.key.now c.loop.counter c.in-Some.entry at (c.loop.invariant.newer known knows);
-      dead = turn_tells g.row.PAGE known k c.args.key.now c.in-Some.entry (Ok c.in_ok-ask.field-0) (Ok told.Damaged) (ap Ok c.in-Damaged.is) (c.in_ok-ask.ensures.tells known on);
+      dead = turn_tells g.row.PAGE known k c.args.key.now c.args.moment c.in-Some.entry (Ok c.in_ok-ask.field-0) (Ok told.Damaged) (ap Ok c.in-Damaged.is) (c.in_ok-ask.ensures.tells known on);
     }
 
 pub returns-in-Damaged-clause-finds : goal.returns-in-Damaged-clause-finds
 returns-in-Damaged-clause-finds g c = λ honest spelled.
     let held = g.D.PageDevice.held c.args.device.now in
     let knows = all_held g.D.PageDevice.honest g.D.PageDevice.held c.args.device.now honest in
-    finds_of g.row.PAGE held c.args.self.now c.args.key.now c.args.placed.now found.Damaged c.requires.place (returns-in-Damaged-clause-finds_at g c held knows) spelled
+    finds_of g.row.PAGE held c.args.self.now c.args.key.now c.args.moment c.args.placed.now found.Damaged c.requires.place (returns-in-Damaged-clause-finds_at g c held knows) spelled
 
 pub returns-in-Hit-clause-its : goal.returns-in-Hit-clause-its
 returns-in-Hit-clause-its g c =
@@ -126,14 +126,14 @@ returns-in-Hit-clause-finds_at g c = λ known knows.
     let at = turn_at k c.args.placed.now.set c.args.placed.now.tag c.loop.counter c.in-Some.entry _ _ c.loop.invariant.rest c.in-Some.ensures in
     let on = held_still g.D.PageDevice.honest g.D.PageDevice.held c.args.device.now c.loop.device known c.loop.invariant.honest c.loop.invariant.same knows in (
       turn_reached g.row.PAGE known k c.args.placed.now.set c.args.placed.now.tag c.args.key.now c.loop.counter c.in-Some.entry at (c.loop.invariant.newer known knows),
-      turn_tells g.row.PAGE known k c.args.key.now c.in-Some.entry (Ok c.in_ok-ask.field-0) (Ok (told.Hit c.in-Hit.value)) (ap Ok c.in-Hit.is) (c.in_ok-ask.ensures.tells known on),
+      turn_tells g.row.PAGE known k c.args.key.now c.args.moment c.in-Some.entry (Ok c.in_ok-ask.field-0) (Ok (told.Hit c.in-Hit.value)) (ap Ok c.in-Hit.is) (c.in_ok-ask.ensures.tells known on),
     )
 
 pub returns-in-Hit-clause-finds : goal.returns-in-Hit-clause-finds
 returns-in-Hit-clause-finds g c = λ honest spelled.
     let held = g.D.PageDevice.held c.args.device.now in
     let knows = all_held g.D.PageDevice.honest g.D.PageDevice.held c.args.device.now honest in
-    finds_of g.row.PAGE held c.args.self.now c.args.key.now c.args.placed.now (found.Hit c.in-Some.entry c.in-Hit.value) c.requires.place (returns-in-Hit-clause-finds_at g c held knows) spelled
+    finds_of g.row.PAGE held c.args.self.now c.args.key.now c.args.moment c.args.placed.now (found.Hit c.in-Some.entry c.in-Hit.value) c.requires.place (returns-in-Hit-clause-finds_at g c held knows) spelled
 
 pub loop-preserved : goal.loop-preserved
 loop-preserved g c =
@@ -151,7 +151,7 @@ loop-preserved g c =
       newer = λ known knows.
           let on = held_still g.D.PageDevice.honest g.D.PageDevice.held c.args.device.now c.loop.device known c.loop.invariant.honest c.loop.invariant.same knows in
           turn_other g.row.PAGE known k c.args.placed.now.set c.args.placed.now.tag c.args.key.now c.loop.counter c.in-Some.entry at (c.loop.invariant.newer known knows)
-          (turn_tells g.row.PAGE known k c.args.key.now c.in-Some.entry (Ok c.in_ok-ask.field-0) (Ok told.Other) (ap Ok c.in-Other.is) (c.in_ok-ask.ensures.tells known on));
+          (turn_tells g.row.PAGE known k c.args.key.now c.args.moment c.in-Some.entry (Ok c.in_ok-ask.field-0) (Ok told.Other) (ap Ok c.in-Other.is) (c.in_ok-ask.ensures.tells known on));
     }
 
 pub returns-clause-finds_at : goal.returns-clause-finds_at
@@ -168,7 +168,7 @@ pub returns-clause-finds : goal.returns-clause-finds
 returns-clause-finds g c = λ honest spelled.
     let held = g.D.PageDevice.held c.args.device.now in
     let knows = all_held g.D.PageDevice.honest g.D.PageDevice.held c.args.device.now honest in
-    finds_of g.row.PAGE held c.args.self.now c.args.key.now c.args.placed.now found.Absent c.requires.place (returns-clause-finds_at g c held knows) spelled
+    finds_of g.row.PAGE held c.args.self.now c.args.key.now c.args.moment c.args.placed.now found.Absent c.requires.place (returns-clause-finds_at g c held knows) spelled
 
 pub loop-init : goal.loop-init
 loop-init g c =

@@ -12,7 +12,7 @@ returns-in-Ok-clause-there g c = λ newest live apart.
     let honest : IsTrue (d.honest step.new.device) = search rules in
     let seen = live_on (d.held step.new.device) step.new.self in
     let still = newest_still was step.result (live_on (d.held c.args.device.now) was) seen c.args.key.now newest (step.ensures.shown c.requires.honest c.requires.spelled) live apart in
-    not_absent seen c.args.key.now newest step.new.self c.in-Ok.looked c.look.new.self (live_on (d.held c.look.new.device) c.look.new.self) still
+    not_absent seen c.args.key.now c.args.moment newest step.new.self c.in-Ok.looked c.look.new.self (live_on (d.held c.look.new.device) c.look.new.self) still
     (c.in-Ok.ensures.gives honest (step.ensures.spelled c.requires.honest c.requires.spelled))
 
 pub returns-in-Ok-clause-hit : goal.returns-in-Ok-clause-hit
@@ -23,5 +23,5 @@ returns-in-Ok-clause-hit g c = λ newest live apart.
     let honest : IsTrue (d.honest step.new.device) = search rules in
     let seen = live_on (d.held step.new.device) step.new.self in
     let still = newest_still was step.result (live_on (d.held c.args.device.now) was) seen c.args.key.now newest (step.ensures.shown c.requires.honest c.requires.spelled) live apart in
-    is_its_hit seen c.args.key.now newest step.new.self c.in-Ok.looked c.look.new.self (live_on (d.held c.look.new.device) c.look.new.self) still
+    is_its_hit seen c.args.key.now c.args.moment newest step.new.self c.in-Ok.looked c.look.new.self (live_on (d.held c.look.new.device) c.look.new.self) still
     (c.in-Ok.ensures.gives honest (step.ensures.spelled c.requires.honest c.requires.spelled))

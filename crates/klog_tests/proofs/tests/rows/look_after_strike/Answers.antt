@@ -9,7 +9,7 @@ returns-in-Ok-clause-absent g c =
     let k = c.strike.new.self in
     let p = c.args.placed.now in
     sym c.in-Ok.is
-    ∙ absent_where_none g.row.PAGE k c.look.new.self p.set p.tag c.args.key.now c.look.result (c.look.new.device ≡ c.args.device.now) (none_left c.args.log.now k p.set p.tag c.strike.ensures.struck)
+    ∙ absent_where_none g.row.PAGE k c.look.new.self p.set p.tag c.args.key.now c.args.moment c.look.result (c.look.new.device ≡ c.args.device.now) (none_left c.args.log.now k p.set p.tag c.strike.ensures.struck)
     (c.look.ensures.looks_at no_pages (λ page. tt))
 
 pub returns-in-Ok-clause-idle : goal.returns-in-Ok-clause-idle
@@ -23,7 +23,7 @@ returns-in-Err-clause-absent g c =
     let k = c.strike.new.self in
     let p = c.args.placed.now in
     sym c.in-Err.is
-    ∙ absent_where_none g.row.PAGE k c.look.new.self p.set p.tag c.args.key.now c.look.result (c.look.new.device ≡ c.args.device.now) (none_left c.args.log.now k p.set p.tag c.strike.ensures.struck)
+    ∙ absent_where_none g.row.PAGE k c.look.new.self p.set p.tag c.args.key.now c.args.moment c.look.result (c.look.new.device ≡ c.args.device.now) (none_left c.args.log.now k p.set p.tag c.strike.ensures.struck)
     (c.look.ensures.looks_at no_pages (λ page. tt))
 
 pub returns-in-Err-clause-idle : goal.returns-in-Err-clause-idle

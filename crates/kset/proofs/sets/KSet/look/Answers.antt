@@ -1,11 +1,12 @@
 use Rattle.std.proofs.Common.{◌≡◌, false, Result, Ok, Err, sym, ap, subst, refl, ◌∙◌}
 use Rattle.std.specs.Prelude.{OnErr}
 use Rattle.kset.specs.declared.page.Told.{Told}
+use Rattle.kset.specs.declared.page.Told.TheVariants.{Found}
 use Rattle.kset.specs.Notes.{Notes, lets_show}
 use Rattle.kset.specs.Sets.{notes_of, set_count}
 use Rattle.kset.specs.Pages.{page_records}
 use Rattle.kset.specs.Shown.{visible_in}
-use Rattle.kset.proofs.LookLaws.{Says, told_of, hit_gives, first_visible-hidden, visible_has}
+use Rattle.kset.proofs.LookLaws.{Says, told_of, expired_gives, hit_gives, first_visible-hidden, visible_has}
 use Rattle.kset.proofs.ShownLaws.{shown-hit_on, not_foreign}
 use Rattle.kset.proofs.sets.KSet.look.Goals as goal
 
@@ -23,8 +24,8 @@ returns-in-Damaged-clause-gives g c =
     let held = g.D.PageDevice.held c.args.device.now in
     let shows = c.if-not-lets_show.ensures ∙ ap (λ (n : Notes). lets_show n at.hash) c.notes.ensures in
     λ honest spelled.
-    subst (λ (t : Told). Says (visible_in held c.args.self.now at.set) c.args.key.now t) c.in-Damaged.is
-    (told_of g.row.PAGE (set_count c.args.self.now) at.set held c.read.new.into c.args.key.now at.hash (notes_of c.args.self.now at.set) c.in_ok-tell.field-0
+    subst (λ (t : Told). Says (visible_in held c.args.self.now at.set) c.args.key.now c.args.moment t) c.in-Damaged.is
+    (told_of g.row.PAGE (set_count c.args.self.now) at.set held c.read.new.into c.args.key.now c.args.moment at.hash (notes_of c.args.self.now at.set) c.in_ok-tell.field-0
     c.requires.hash shows c.requires.place.set (spelled at.set) (c.in-Ok.ensures.known honest) c.in_ok-tell.ensures.tells)
 
 pub returns-in-Absent-clause-gives : goal.returns-in-Absent-clause-gives
@@ -33,20 +34,33 @@ returns-in-Absent-clause-gives g c =
     let held = g.D.PageDevice.held c.args.device.now in
     let shows = c.if-not-lets_show.ensures ∙ ap (λ (n : Notes). lets_show n at.hash) c.notes.ensures in
     λ honest spelled. (
-      subst (λ (t : Told). Says (visible_in held c.args.self.now at.set) c.args.key.now t) c.in-Absent.is
-          (told_of g.row.PAGE (set_count c.args.self.now) at.set held c.read.new.into c.args.key.now at.hash (notes_of c.args.self.now at.set) c.in_ok-tell.field-0
+      subst (λ (t : Told). Says (visible_in held c.args.self.now at.set) c.args.key.now c.args.moment t) c.in-Absent.is
+          (told_of g.row.PAGE (set_count c.args.self.now) at.set held c.read.new.into c.args.key.now c.args.moment at.hash (notes_of c.args.self.now at.set) c.in_ok-tell.field-0
           c.requires.hash shows c.requires.place.set (spelled at.set) (c.in-Ok.ensures.known honest) c.in_ok-tell.ensures.tells),
       refl,
     )
 
-pub returns-in-Found-clause-gives : goal.returns-in-Found-clause-gives
-returns-in-Found-clause-gives g c =
+pub returns-in_default-value-clause-gives : goal.returns-in_default-value-clause-gives
+returns-in_default-value-clause-gives g c =
     let at = c.args.placed.now in
     let held = g.D.PageDevice.held c.args.device.now in
     let shows = c.if-not-lets_show.ensures ∙ ap (λ (n : Notes). lets_show n at.hash) c.notes.ensures in
-    λ honest spelled. hit_gives (visible_in held c.args.self.now at.set) c.args.key.now c.in-Found.value c.in-Found.slot at.set c.args.self.now _
-    (subst (λ (t : Told). Says (visible_in held c.args.self.now at.set) c.args.key.now t) c.in-Found.is
-    (told_of g.row.PAGE (set_count c.args.self.now) at.set held c.read.new.into c.args.key.now at.hash (notes_of c.args.self.now at.set) c.in_ok-tell.field-0
+    λ honest spelled. (
+      expired_gives (visible_in held c.args.self.now at.set) c.args.key.now c.args.moment c.in-Found.slot
+          (subst (λ (t : Told). Says (visible_in held c.args.self.now at.set) c.args.key.now c.args.moment t) (c.in-Found.is ∙ ap (Found c.in-Found.slot) c.in_default-value.is)
+          (told_of g.row.PAGE (set_count c.args.self.now) at.set held c.read.new.into c.args.key.now c.args.moment at.hash (notes_of c.args.self.now at.set) c.in_ok-tell.field-0
+          c.requires.hash shows c.requires.place.set (spelled at.set) (c.in-Ok.ensures.known honest) c.in_ok-tell.ensures.tells)),
+      refl,
+    )
+
+pub returns-in-Some-clause-gives : goal.returns-in-Some-clause-gives
+returns-in-Some-clause-gives g c =
+    let at = c.args.placed.now in
+    let held = g.D.PageDevice.held c.args.device.now in
+    let shows = c.if-not-lets_show.ensures ∙ ap (λ (n : Notes). lets_show n at.hash) c.notes.ensures in
+    λ honest spelled. hit_gives (visible_in held c.args.self.now at.set) c.args.key.now c.in-Some.value c.args.moment c.in-Found.slot at.set c.args.self.now _
+    (subst (λ (t : Told). Says (visible_in held c.args.self.now at.set) c.args.key.now c.args.moment t) (c.in-Found.is ∙ ap (Found c.in-Found.slot) c.in-Some.is)
+    (told_of g.row.PAGE (set_count c.args.self.now) at.set held c.read.new.into c.args.key.now c.args.moment at.hash (notes_of c.args.self.now at.set) c.in_ok-tell.field-0
     c.requires.hash shows c.requires.place.set (spelled at.set) (c.in-Ok.ensures.known honest) c.in_ok-tell.ensures.tells))
     c.hit.ensures
 
@@ -70,7 +84,7 @@ returns-in_err-tell-clause-short g c =
     (visible_has g.row.PAGE (set_count c.args.self.now) at.set held c.read.new.into c.args.key.now at.hash (notes_of c.args.self.now at.set)
     c.requires.hash shows c.requires.place.set (spelled at.set) (c.in-Ok.ensures.known honest) c.in_err-tell.ensures.refused)
 
-pub returns-in-Found-clause-shown : goal.returns-in-Found-clause-shown
-returns-in-Found-clause-shown g c =
+pub returns-in-Some-clause-shown : goal.returns-in-Some-clause-shown
+returns-in-Some-clause-shown g c =
     λ honest. shown-hit_on (g.D.PageDevice.held c.args.device.now) (g.D.PageDevice.held c.read.new.self) c.args.self.now c.hit.new.self c.args.placed.now.set c.in-Found.slot
     c.requires.place.set (c.read.ensures.same honest) c.hit.ensures

@@ -9,6 +9,7 @@ use Rattle.memory_cache.proofs.Finding.{value_found}
 use Rattle.memory_cache.proofs.Ordering.{put_after, displaced_out, nothing_out}
 use Rattle.memory_cache.proofs.cache.MemoryCache.put.Goals as goal
 use Rattle.memory_cache.proofs.cache.MemoryCache.put.Goals.{in-Ok-Some, in-Ok-None, in-Err}
+use Rattle.record_pages.specs.declared.timed_value.TimedValue.{TimedValue}
 
 pub returns-clause-out : goal.returns-clause-out
 returns-clause-out c =
@@ -20,7 +21,7 @@ returns-clause-out c =
           let left : Pair = record { key = w.in-Ok-Some.key; value = w.in-Ok-Some.value } in
           let ensured = w.in-Ok-Some.ensures in
           rw w.result-is (w.unless_first.ensures
-          ∙ ap (λ (l : LruCache (List ℕ) (List ℕ)). if is_first left.key l.entries then None else Some left) ensured.entries
+          ∙ ap (λ (l : LruCache (List ℕ) TimedValue). if is_first left.key l.entries then None else Some left) ensured.entries
           ∙ displaced_out objects c.args.key c.args.value valid.0 valid.1 valid.2 (left.key, left.value) (sym w.in-Ok-Some.field-0-is ∙ ensured.old)
           ∙ ap (pushed_out pair) c.self.view_is)
       | in-Ok-None w ↦

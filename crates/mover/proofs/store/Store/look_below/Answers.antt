@@ -1,10 +1,9 @@
 use Rattle.std.proofs.Common.{rules, ◌≡◌, false, sym, subst, ◌∙◌}
-use Rattle.klog.specs.declared.looked.Looked.TheVariants as log
 use Rattle.mover.specs.Lane.{lane_of}
 use Rattle.mover.specs.Store.{OnlyReads}
 use Rattle.mover.specs.Get.{is_fault}
-use Rattle.mover.proofs.Getting.{asks_log, asks_set, leaves_after, log_absent_gives, reads_after, no_fault, nothing_else}
-use Rattle.mover.proofs.Telling.{is_absent, absent_leaves, log_faulty, ended_leaves, ended_gives, ended_in_buffers}
+use Rattle.mover.proofs.Getting.{asks_log, asks_set, leaves_after, log_absent_gives, reads_after, no_fault}
+use Rattle.mover.proofs.Telling.{is_absent, absent_leaves, log_faulty, ended_leaves, ended_gives, ended_in_buffers, not_in_buffers}
 use Rattle.mover.proofs.Beginning.{all_again}
 use Rattle.mover.proofs.Ending.{on_err}
 use Rattle.mover.proofs.store.Store.look_below.Goals as goal
@@ -28,12 +27,12 @@ pub returns-in-Some-clause-leaves : goal.returns-in-Some-clause-leaves
 returns-in-Some-clause-leaves g c = ended_leaves c.args.key.now c.args.self.now c.look_log.new.self c.place-placed.result c.place-placed.ensures.at c.in_ok-looked.looked c.in-Some.answer (sym c.answer_of_log.ensures ∙ c.in-Some.is) c.in_ok-looked.ensures.leaves
 
 pub returns-in-Some-clause-in_buffers : goal.returns-in-Some-clause-in_buffers
-returns-in-Some-clause-in_buffers g c = ended_in_buffers g.row.PAGE c.args.key.now c.args.self.now c.look_log.new.self c.place-placed.result c.place-placed.ensures.at c.in_ok-looked.looked c.in_ok-looked.ensures.in_buffers c.in-Some.answer (sym c.answer_of_log.ensures ∙ c.in-Some.is)
+returns-in-Some-clause-in_buffers g c = ended_in_buffers g.row.PAGE c.args.key.now c.args.moment c.args.self.now c.look_log.new.self c.place-placed.result c.place-placed.ensures.at c.in_ok-looked.looked c.in_ok-looked.ensures.in_buffers c.in-Some.answer (sym c.answer_of_log.ensures ∙ c.in-Some.is)
 
 pub returns-in-Some-clause-gives : goal.returns-in-Some-clause-gives
 returns-in-Some-clause-gives g c = λ is.
     let held = g.D.PageDevice.held in
-    ended_gives c.args.key.now (lane_of held c.args.self.now) (lane_of held c.look_log.new.self) c.in_ok-looked.looked c.in-Some.answer (sym c.answer_of_log.ensures ∙ c.in-Some.is) (c.in_ok-looked.ensures.tells is)
+    ended_gives c.args.key.now c.args.moment (lane_of held c.args.self.now) (lane_of held c.look_log.new.self) c.in_ok-looked.looked c.in-Some.answer (sym c.answer_of_log.ensures ∙ c.in-Some.is) (c.in_ok-looked.ensures.tells is)
 
 pub returns-in_err-answer-in-None-clause-unasked : goal.returns-in_err-answer-in-None-clause-unasked
 returns-in_err-answer-in-None-clause-unasked g c = record {
@@ -63,7 +62,7 @@ returns-in_err-answer-in-None-clause-out_of_memory g c =
 pub returns-in_ok-answer-in-None-clause-gives : goal.returns-in_ok-answer-in-None-clause-gives
 returns-in_ok-answer-in-None-clause-gives g c = λ is.
     let held = g.D.PageDevice.held in
-    log_absent_gives c.args.key.now (lane_of held c.args.self.now) (lane_of held c.look_log.new.self) (lane_of held c.look_set.new.self) c.in_ok-looked.looked c.in_ok-answer-in-None.answer (is_absent c.in_ok-looked.looked (sym c.answer_of_log.ensures ∙ c.in-None.is)) (c.in_ok-looked.ensures.tells is)
+    log_absent_gives c.args.key.now c.args.moment (lane_of held c.args.self.now) (lane_of held c.look_log.new.self) (lane_of held c.look_set.new.self) c.in_ok-looked.looked c.in_ok-answer-in-None.answer (is_absent c.in_ok-looked.looked (sym c.answer_of_log.ensures ∙ c.in-None.is)) (c.in_ok-looked.ensures.tells is)
     (c.in_ok-answer-in-None.ensures.gives (c.look_log.ensures.reads.honesty ∙ is))
 
 pub returns-in_ok-answer-in-None-clause-reads : goal.returns-in_ok-answer-in-None-clause-reads
@@ -80,4 +79,5 @@ returns-in_err-answer-in-None-clause-reads g c =
 
 pub returns-in_ok-answer-in-None-clause-in_buffers : goal.returns-in_ok-answer-in-None-clause-in_buffers
 returns-in_ok-answer-in-None-clause-in_buffers g c =
-    nothing_else g.row.PAGE c.args.key.now c.args.self.now c.look_log.new.self c.place-placed.result c.place-placed.ensures.at c.in_ok-looked.looked c.in_ok-looked.ensures.in_buffers c.in_ok-answer-in-None.answer c.look_set.new.self (λ value is. let no : log.Absent ≡ log.Hit value = sym (is_absent c.in_ok-looked.looked (sym c.answer_of_log.ensures ∙ c.in-None.is)) ∙ is in absurd cc)
+    not_in_buffers g.row.PAGE c.args.key.now c.args.moment c.args.self.now c.look_log.new.self c.place-placed.result c.place-placed.ensures.at c.in_ok-looked.looked c.in_ok-looked.ensures.in_buffers
+    (sym c.answer_of_log.ensures ∙ c.in-None.is) c.in_ok-answer-in-None.answer c.look_set.new.self

@@ -6,11 +6,11 @@ use Rattle.klog.specs.Known.{AreBuffered}
 use Rattle.mover.specs.Store.{StoreState}
 use Rattle.mover.specs.Lane.{lane_of}
 use Rattle.mover.specs.Get.{LogTells}
-use Rattle.mover.proofs.Getting.{log_told, log_leaves, lowered_store, no_log_fault}
+use Rattle.mover.proofs.Getting.{log_told, log_leaves, no_log_fault, record_told}
 use Rattle.mover.specs.Asking.{LogLeaves}
-use Rattle.mover.specs.Calls.{IsLowered}
+use Rattle.mover.specs.Calls.{TellsRecord}
 use Rattle.klog.specs.Look.{IsInBuffers, is_log_fault}
-use Rattle.klog.specs.declared.looked.Looked.TheVariants as log
+use Rattle.record_pages.specs.Expiry.{value_at}
 use Rattle.mover.proofs.Keeping.{kept_log_read}
 use Rattle.mover.proofs.store.Store.look_log.Goals as goal
 
@@ -45,16 +45,16 @@ returns-clause-tells g c = λ is.
     let old : StoreState g.row.D.Denot = record { layout = s.layout; device = s.device; memory = s.memory; log = s.log; sets = s.sets; flights = s.flights; moves = s.moves } in
     let new : StoreState g.row.D.Denot = record { layout = s.layout; device = c.look.new.device; memory = s.memory; log = c.look.new.self; sets = s.sets; flights = s.flights; moves = s.moves } in
     let on = subst (λ (x : StoreState g.row.D.Denot). IsTrue (d.honest x.device)) (sym c.self.view_is) is in
-    subst (λ (x : StoreState g.row.D.Denot). LogTells c.args.key.now (lane_of d.held x) c.in_ok-looked.looked (lane_of d.held new)) c.self.view_is
-    (log_told d.held old c.look.new.device c.args.key.now (c.look.ensures.reads.same on) c.look.new.self c.in_ok-looked.looked (c.in_ok-looked.ensures.gives on (c.self.invariant.log_spelled on)))
+    subst (λ (x : StoreState g.row.D.Denot). LogTells c.args.key.now c.args.moment (lane_of d.held x) c.in_ok-looked.looked (lane_of d.held new)) c.self.view_is
+    (log_told d.held old c.look.new.device c.args.key.now c.args.moment (c.look.ensures.reads.same on) c.look.new.self c.in_ok-looked.looked (c.in_ok-looked.ensures.gives on (c.self.invariant.log_spelled on)))
 
 pub returns-clause-in_buffers : goal.returns-clause-in_buffers
 returns-clause-in_buffers g c = λ e r.
     let s = c.self.inside in
     let old : StoreState g.row.D.Denot = record { layout = s.layout; device = s.device; memory = s.memory; log = s.log; sets = s.sets; flights = s.flights; moves = s.moves } in
     let new : StoreState g.row.D.Denot = record { layout = s.layout; device = c.look.new.device; memory = s.memory; log = c.look.new.self; sets = s.sets; flights = s.flights; moves = s.moves } in
-    subst (λ (x : StoreState g.row.D.Denot). IsInBuffers g.row.PAGE x.log c.args.placed.now.set c.args.placed.now.tag c.args.key.now e r → (c.in_ok-looked.looked ≡ log.Hit r.value) × IsLowered c.args.placed.now.set e x new) c.self.view_is
-    (λ here. let it = c.in_ok-looked.ensures.in_buffers e r here in (it.hit, lowered_store old c.look.new.device c.look.new.self c.args.placed.now.set e it.lowered it.uncalled))
+    subst (λ (x : StoreState g.row.D.Denot). IsInBuffers g.row.PAGE x.log c.args.placed.now.set c.args.placed.now.tag c.args.key.now e r → TellsRecord (value_at c.args.moment r.value) c.args.placed.now.set e x c.in_ok-looked.looked new) c.self.view_is
+    (λ here. record_told (value_at c.args.moment r.value) old c.look.new.device c.look.new.self c.args.placed.now.set e c.in_ok-looked.looked (c.in_ok-looked.ensures.in_buffers e r here))
 
 pub returns-clause-leaves : goal.returns-clause-leaves
 returns-clause-leaves g c =

@@ -43,9 +43,9 @@ returns-clause-gives g c = λ is.
     let at = c.requires.at ∙ ap (λ (x : StoreState g.row.D.Denot). place_in x.log.shape key) (sym c.self.view_is) in
     let needs : c.in_ok-looked.looked ≡ set.Fault → NeedsSetPage key (lane_of d.held old) = λ failed.
     subst (λ (p : Placed). lets_show (notes_of s.sets p.set) p.hash ≡ true) at (asked_page _ (Ok c.in_ok-looked.looked) _ c.in_ok-looked.ensures.denied (ap Ok failed)) in
-    let told = set_told d.held old c.look.new.device key (c.look.ensures.reads.same on) c.look.new.self c.args.placed.now.set c.in_ok-looked.looked (ap (λ (p : Placed). p.set) at)
+    let told = set_told d.held old c.look.new.device key c.args.moment (c.look.ensures.reads.same on) c.look.new.self c.args.placed.now.set c.in_ok-looked.looked (ap (λ (p : Placed). p.set) at)
     (c.in_ok-looked.ensures.gives on (c.self.invariant.sets_spelled on)) (c.look.ensures.shown on) needs in
-    rw c.answer_of_set.ensures (subst (λ (x : StoreState g.row.D.Denot). StepGives (ask_set key (lane_of d.held x)) (NeedsSetPage key (lane_of d.held x)) (lane_of d.held x) (answer_of_set c.in_ok-looked.looked) (lane_of d.held new)) c.self.view_is told)
+    rw c.answer_of_set.ensures (subst (λ (x : StoreState g.row.D.Denot). StepGives (ask_set key c.args.moment (lane_of d.held x)) (NeedsSetPage key (lane_of d.held x)) (lane_of d.held x) (answer_of_set c.in_ok-looked.looked) (lane_of d.held new)) c.self.view_is told)
 
 pub returns-in_err-looked-clause-reads : goal.returns-in_err-looked-clause-reads
 returns-in_err-looked-clause-reads g c =

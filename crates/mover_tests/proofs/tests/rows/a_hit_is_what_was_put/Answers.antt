@@ -10,6 +10,6 @@ pub returns : goal.returns
 returns g c told tier hit =
     let d = g.D.PageDevice in
     let gives = c.in_ok-answer.ensures.gives (subst (λ (x : g.row.D.Denot). IsTrue (d.honest x)) (sym c.put.ensures.device) c.requires.honest) in
-    put_is_hit g.row.PAGE c.args.store.now.layout.admit c.args.word c.args.key c.args.value told tier c.in-Ok.field-0 c.in_ok-answer.answer (lane_of d.held c.args.store.now) (lane_of d.held c.put.new.self) (lane_of d.held c.get.new.self)
+    put_is_hit g.row.PAGE c.args.store.now.layout.admit c.args.word c.args.key c.args.value c.args.expires c.args.moment told tier c.in-Ok.field-0 c.in_ok-answer.answer (lane_of d.held c.args.store.now) (lane_of d.held c.put.new.self) (lane_of d.held c.get.new.self)
     c.put_shows.ensures c.get_shows.ensures (c.layout-layout.ensures.order c.requires.honest) c.in-Ok.ensures.gives
-    (subst (λ (k : List ℕ). GetGives k (lane_of d.held c.put.new.self) c.in_ok-answer.answer (lane_of d.held c.get.new.self)) c.requires.same gives) hit
+    (subst (λ (k : List ℕ). GetGives k c.args.moment (lane_of d.held c.put.new.self) c.in_ok-answer.answer (lane_of d.held c.get.new.self)) c.requires.same gives) hit

@@ -5,4 +5,4 @@ use Rattle.record_pages.proofs.records.Records.len.Goals as goal
 pub returns : goal.returns
 returns c =
     let w = c.self.inside in
-    sym (records_of-length w.left w.rest.now c.self.invariant) ∙ ap length c.self.view_is
+    sym (records_of-length w.form w.left w.rest.now c.self.invariant) ∙ ap length c.self.view_is
