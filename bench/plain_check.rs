@@ -20,6 +20,8 @@ enum Kind {
 struct Entry {
     start: u64,
     end: u64,
+    /// When a put expires, or a hit's moment.
+    time: u64,
     offset: usize,
     value_len: u16,
     key_len: u8,
@@ -60,7 +62,7 @@ fn store(store: &mut Vec<u8>, reader: &mut impl Read, count: usize) -> Result<()
     reader.read_exact(&mut store[len..])
 }
 
-fn read_call(reader: &mut impl Read, trace: &mut Trace) -> Result<()> {
+fn read_call(timed: bool, reader: &mut impl Read, trace: &mut Trace) -> Result<()> {
     let [kind] = bytes(reader)?;
     let kind = match kind {
         1 => Kind::Put,
@@ -79,28 +81,34 @@ fn read_call(reader: &mut impl Read, trace: &mut Trace) -> Result<()> {
     let offset = trace.store.len();
     store(&mut trace.store, reader, key_len as usize)?;
     let mut value_len = 0;
+    let mut time = if kind == Kind::Put { u64::MAX } else { 0 };
     if kind == Kind::Put || kind == Kind::Hit {
         value_len = u16::from_be_bytes(bytes(reader)?);
         if value_len > 2048 {
             return Err(bad("BadValue"));
         }
         store(&mut trace.store, reader, value_len as usize)?;
+        if timed {
+            time = u64::from_be_bytes(bytes(reader)?);
+        }
     }
-    trace.entries.push(Entry { start, end, offset, value_len, key_len, kind });
+    trace.entries.push(Entry { start, end, time, offset, value_len, key_len, kind });
     Ok(())
 }
 
 fn read_trace(reader: &mut impl Read) -> Result<Trace> {
-    if &bytes::<8>(reader)? != b"KGTRACE1" {
-        return Err(bad("BadMagic"));
-    }
+    let timed = match &bytes::<8>(reader)? {
+        b"KGTRACE2" => true,
+        b"KGTRACE1" => false,
+        _ => return Err(bad("BadMagic")),
+    };
     let count = u32::from_be_bytes(bytes(reader)?);
     if count > 1 << 28 {
         return Err(bad("TooMany"));
     }
     let mut trace = Trace::default();
     for _ in 0..count {
-        read_call(reader, &mut trace)?;
+        read_call(timed, reader, &mut trace)?;
     }
     for _ in 0..count {
         trace.positions.push(u32::from_be_bytes(bytes(reader)?));
@@ -117,7 +125,7 @@ fn check(trace: &Trace) -> std::result::Result<(), &'static str> {
     }
     let mut seen = vec![false; trace.entries.len()];
     let mut greatest_start = 0;
-    let mut values: HashMap<&[u8], &[u8]> = HashMap::new();
+    let mut values: HashMap<&[u8], (&[u8], u64)> = HashMap::new();
     for &position in &trace.positions {
         let position = position as usize;
         let entry = trace.entries.get(position).ok_or("NotAPlace")?;
@@ -130,15 +138,17 @@ fn check(trace: &Trace) -> std::result::Result<(), &'static str> {
         greatest_start = greatest_start.max(entry.start);
         match entry.kind {
             Kind::Put => {
-                values.insert(trace.key(entry), trace.value(entry));
+                values.insert(trace.key(entry), (trace.value(entry), entry.time));
             }
             Kind::Remove => {
                 values.remove(trace.key(entry));
             }
-            Kind::Hit if values.get(trace.key(entry)) != Some(&trace.value(entry)) => {
-                return Err("WrongHit");
-            }
-            Kind::Hit | Kind::Miss => {}
+            Kind::Hit => match values.get(trace.key(entry)) {
+                Some(&(value, expires))
+                    if value == trace.value(entry) && (entry.time < expires || expires == u64::MAX) => {}
+                _ => return Err("WrongHit"),
+            },
+            Kind::Miss => {}
         }
     }
     Ok(())

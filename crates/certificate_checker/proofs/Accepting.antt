@@ -15,13 +15,13 @@ use Rattle.trace_file.specs.declared.call.Call.{Call}
 use Rattle.certificate_checker.specs.declared.fault.Fault.{Fault}
 use Rattle.certificate_checker.specs.declared.fault.Fault.TheVariants.{BadInterval, WrongCount, NotAPlace, Repeated, OutOfOrder, WrongHit}
 use Rattle.certificate_checker.specs.Orders.{Precedes, in_order, Agrees}
-use Rattle.certificate_checker.specs.Latest.{IsLatest, IsLawful}
+use Rattle.certificate_checker.specs.Latest.{IsLive, IsLawful}
 use Rattle.certificate_checker.specs.Acceptance.{IsAccepted}
 use Rattle.certificate_checker.specs.Faults.{HasFault, earlier_calls, call_at}
 use Rattle.certificate_checker.proofs.Lookups.{some_and, and_some, contains_from_any, any_from_contains}
-use Rattle.certificate_checker.proofs.LatestLemmas.{latest_found, latest_is}
+use Rattle.certificate_checker.proofs.LatestLemmas.{live_found, live_is}
 use Rattle.certificate_checker.specs.Deeds.{Deed, deed_of}
-use Rattle.certificate_checker.specs.Current.{current}
+use Rattle.certificate_checker.specs.Current.{current, given_at}
 
 -- ---- lists
 
@@ -101,15 +101,15 @@ order_take history (p ∷ ps) have zero = refl
 order_take history (p ∷ ps) have (suc place) =
     let call = found_at history p have.0 in rw call.1 (ap (λ calls. call.0 ∷ calls) (order_take history ps have.1 place))
 
--- ---- whether a value is the latest can be told
+-- ---- whether a value is the latest, live at a moment, can be told
 
-pub told : (key value : List ℕ) (deeds : List Deed) (computed : Option (List ℕ)) → current deeds key ≡ computed → IsLatest deeds key value ⊎ ¬ IsLatest deeds key value
-told key value deeds None e = inr (λ l. let is = latest_found key value deeds l in cc)
-told key value deeds (Some v) e = elim (cases_Bool (pointwise nat_eq v value)) [
-  | inl same ↦ inl (latest_is key value deeds (e ∙ ap Some ((bytes_decides v value).0 same)))
+pub told : (key value : List ℕ) (moment : ℕ) (deeds : List Deed) (computed : Option (List ℕ)) → given_at moment (current deeds key) ≡ computed → IsLive deeds key value moment ⊎ ¬ IsLive deeds key value moment
+told key value moment deeds None e = inr (λ l. let is = live_found key value moment deeds l in cc)
+told key value moment deeds (Some v) e = elim (cases_Bool (pointwise nat_eq v value)) [
+  | inl same ↦ inl (live_is key value moment deeds (e ∙ ap Some ((bytes_decides v value).0 same)))
   | inr other ↦
       inr (λ l.
-      let is = latest_found key value deeds l in
+      let is = live_found key value moment deeds l in
       let both : v ≡ value = cc in
       let same = (bytes_decides v value).1 both in
       cc)
@@ -164,22 +164,22 @@ module _ (history : List Call) (certificate : List ℕ) (none : (fault : Fault) 
       let earlier = any_before (λ (e : Call). Precedes later e) (in_order history certificate) i j d less within precedes in
       none (OutOfOrder j) (and_some _ _ later at (subst (Any (λ (e : Call). Precedes later e)) (order_take history certificate have j) earlier))
 
-  -- each hit of a call has its key's latest value
-  hits : (before after : List Call) (call : Call) (value : List ℕ) → in_order history certificate ≡ before ++ call ∷ after → call.act ≡ Hit value → IsLatest (map deed_of before) call.key value
-  hits before after call value split hit = elim (told call.key value (map deed_of before) (current (map deed_of before) call.key) refl) [
-    | inl latest ↦ latest
+  -- each hit of a call has its key's latest value, live at its moment
+  hits : (before after : List Call) (call : Call) (value : List ℕ) (moment : ℕ) → in_order history certificate ≡ before ++ call ∷ after → call.act ≡ Hit value moment → IsLive (map deed_of before) call.key value moment
+  hits before after call value moment split hit = elim (told call.key value moment (map deed_of before) (given_at moment (current (map deed_of before) call.key)) refl) [
+    | inl live ↦ live
     | inr stale ↦
         let n = length before in
         let at : call_at history certificate n ≡ Some call = sym (order_at history certificate have n) ∙ ap (λ calls. slice_get calls n) split ∙ look_up_between before after call in
         let so_far : before ≡ earlier_calls history certificate n = sym (sym (order_take history certificate have n) ∙ ap (take n) split ∙ take_at before (call ∷ after) n refl) in
-        absurd (none (WrongHit n) (and_some _ _ call at (value, hit, subst (λ calls. ¬ IsLatest (map deed_of calls) call.key value) so_far stale)))
+        absurd (none (WrongHit n) (and_some _ _ call at (value, moment, hit, subst (λ calls. ¬ IsLive (map deed_of calls) call.key value moment) so_far stale)))
   ]
 
   lawful : IsLawful (map deed_of (in_order history certificate))
-  lawful = λ before after deed value split hit.
+  lawful = λ before after deed value moment split hit.
       let s = split_map deed_of (in_order history certificate) before deed after split in
-      let here = hits s.0 s.2 s.1 value s.3 (ap (λ (d : Deed). d.act) s.5 ∙ hit) in
-      subst (λ key. IsLatest before key value) (ap (λ (d : Deed). d.key) s.5) (subst (λ deeds. IsLatest deeds s.1.key value) s.4 here)
+      let here = hits s.0 s.2 s.1 value moment s.3 (ap (λ (d : Deed). d.act) s.5 ∙ hit) in
+      subst (λ key. IsLive before key value moment) (ap (λ (d : Deed). d.key) s.5) (subst (λ deeds. IsLive deeds s.1.key value moment) s.4 here)
 
   pub accepted : IsAccepted history certificate
   accepted = record {
@@ -240,5 +240,5 @@ module _ (history : List Call) (certificate : List ℕ) (a : IsAccepted history 
       let call = found.0 in
       let at : slice_get order place ≡ Some call = order_at history certificate have_calls place ∙ found.1 in
       let split = ap (map deed_of) (split_at order place call at) ∙ map-append deed_of (take place order) (call ∷ drop (suc place) order) in
-      let latest = a.lawful (map deed_of (take place order)) (map deed_of (drop (suc place) order)) (deed_of call) found.2.0 split found.2.1 in
-      found.2.2 (subst (λ calls. IsLatest (map deed_of calls) call.key found.2.0) (order_take history certificate have_calls place) latest)
+      let live = a.lawful (map deed_of (take place order)) (map deed_of (drop (suc place) order)) (deed_of call) found.2.0 found.2.1 split found.2.2 in
+      found.2.3 (subst (λ calls. IsLive (map deed_of calls) call.key found.2.0 found.2.1) (order_take history certificate have_calls place) live)

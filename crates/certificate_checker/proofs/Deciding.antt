@@ -13,8 +13,8 @@ use Rattle.certificate_checker.specs.declared.fault.Fault.{Fault}
 use Rattle.certificate_checker.specs.declared.fault.Fault.TheVariants.{BadInterval, WrongCount, NotAPlace, Repeated, OutOfOrder, WrongHit}
 use Rattle.certificate_checker.specs.Deeds.{Deed, deed_of}
 use Rattle.certificate_checker.specs.Orders.{Precedes}
-use Rattle.certificate_checker.specs.Latest.{IsLatest}
-use Rattle.certificate_checker.specs.Current.{current}
+use Rattle.certificate_checker.specs.Latest.{IsLive}
+use Rattle.certificate_checker.specs.Current.{current, given_at}
 use Rattle.certificate_checker.specs.Acceptance.{IsAccepted}
 use Rattle.certificate_checker.specs.Faults.{HasFault, IsFirstFault, IsRight, IsBefore, IsFirstOfPlaces, tested_at, moment, earlier_calls, call_at, Moment}
 use Rattle.certificate_checker.proofs.Lookups.{contains_from_any, any_from_contains}
@@ -28,14 +28,19 @@ some_or_not : {X : Type 0} (o : Option X) (P : X → Type 0) → ((x : X) → P 
 some_or_not None P d = inr (λ h. h)
 some_or_not (Some x) P d = d x
 
-wrong_or_not : (deeds : List Deed) (key : List ℕ) (act : Act) → ((value : List ℕ) × (act ≡ Hit value) × ¬ IsLatest deeds key value) ⊎ ¬ ((value : List ℕ) × (act ≡ Hit value) × ¬ IsLatest deeds key value)
-wrong_or_not deeds key (Put new) = inr (λ w. let e = w.1 in cc)
-wrong_or_not deeds key Remove = inr (λ w. let e = w.1 in cc)
-wrong_or_not deeds key (Hit hit) = elim (told key hit deeds (current deeds key) refl) [
-  | inl latest ↦ inr (λ w. let e = w.1 in let same : hit ≡ w.0 = cc in w.2 (subst (IsLatest deeds key) same latest))
-  | inr stale ↦ inl (hit, refl, stale)
+wrong_or_not : (deeds : List Deed) (key : List ℕ) (act : Act) → ((value : List ℕ) × (asked : ℕ) × (act ≡ Hit value asked) × ¬ IsLive deeds key value asked) ⊎ ¬ ((value : List ℕ) × (asked : ℕ) × (act ≡ Hit value asked) × ¬ IsLive deeds key value asked)
+wrong_or_not deeds key (Put new expires) = inr (λ w. let e = w.2 in cc)
+wrong_or_not deeds key Remove = inr (λ w. let e = w.2 in cc)
+wrong_or_not deeds key (Hit hit asked) = elim (told key hit asked deeds (given_at asked (current deeds key)) refl) [
+  | inl live ↦
+      inr (λ w.
+      let e = w.2 in
+      let same : hit ≡ w.0 = cc in
+      let then_asked : asked ≡ w.1 = cc in
+      w.3 (subst (λ value. IsLive deeds key value w.1) same (subst (IsLive deeds key hit) then_asked live)))
+  | inr stale ↦ inl (hit, asked, refl, stale)
 ]
-wrong_or_not deeds key Miss = inr (λ w. let e = w.1 in cc)
+wrong_or_not deeds key Miss = inr (λ w. let e = w.2 in cc)
 
 pub fault_or_not : (history : List Call) (certificate : List ℕ) (fault : Fault) → HasFault history certificate fault ⊎ ¬ HasFault history certificate fault
 fault_or_not h c (BadInterval position) =
@@ -54,7 +59,7 @@ fault_or_not h c (OutOfOrder place) =
       | inr fails ↦ inr (λ any. let yes = list_any-from_Any (λ (e : Call). ltb call.end e.start) (earlier_calls h c place) (any.0, any.1, any.2, any.3, lt-ltb _ _ any.4) in cc)
     ])
 fault_or_not h c (WrongHit place) =
-    some_or_not (call_at h c place) (λ call. (value : List ℕ) × (call.act ≡ Hit value) × ¬ IsLatest (map deed_of (earlier_calls h c place)) call.key value) (λ call. wrong_or_not (map deed_of (earlier_calls h c place)) call.key call.act)
+    some_or_not (call_at h c place) (λ call. (value : List ℕ) × (asked : ℕ) × (call.act ≡ Hit value asked) × ¬ IsLive (map deed_of (earlier_calls h c place)) call.key value asked) (λ call. wrong_or_not (map deed_of (earlier_calls h c place)) call.key call.act)
 
 -- ---- the least number of which something holds
 

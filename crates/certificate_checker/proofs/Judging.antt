@@ -5,8 +5,10 @@ use Rattle.std.specs.Io.KnownBytes.{IsAtEnd}
 use Rattle.trace_file.specs.declared.trace.Trace.{Trace}
 use Rattle.trace_file.specs.declared.trace_fault.TraceFault.{TraceFault}
 use Rattle.trace_file.specs.declared.trace_fault.TraceFault.TheVariants.{BadMagic, TooMany, BadKind, BadKey, BadValue, Truncated, TrailingBytes, ReadFault, OutOfMemory}
+use Rattle.trace_file.specs.declared.version.Version.{Version}
+use Rattle.trace_file.specs.declared.version.Version.TheVariants.{Timed, Timeless}
 use Rattle.trace_file.specs.Reading.{outcome_of, at_end, trace_at, place}
-use Rattle.trace_file.specs.Text.{IsTrace}
+use Rattle.trace_file.specs.Text.{IsTraceOf, IsTrace}
 use Rattle.trace_file.proofs.TraceLaws.{trace_again}
 use Rattle.trace_file.specs.Outcome.{IsFaultOf, Leaves}
 use Rattle.certificate_checker.specs.declared.judged.Judged.{Judged}
@@ -18,11 +20,16 @@ use Rattle.certificate_checker.specs.Judgements.{kind_of, IsVerdict, IsTold, IsJ
 use Rattle.certificate_checker.proofs.Accepting.{no_fault}
 use Rattle.certificate_checker.proofs.Deciding.{accepted_or_first, one_first_fault}
 
+-- the bytes of a trace of a form are read as its pair
+outcome_in : (version : Version) (bytes : List ℕ) (t : Trace) → IsTraceOf version bytes t.history t.certificate → outcome_of bytes ≡ Ok t
+unfolding outcome_of
+outcome_in version bytes t is =
+    ap (λ bs. at_end (length bytes) (trace_at (place 0 bs))) is.text ∙ ap (at_end (length bytes)) (trace_again version t.history t.certificate is.pair)
+
 -- the bytes of a trace are read as its pair
 trace_outcome : (bytes : List ℕ) (t : Trace) → IsTrace bytes t.history t.certificate → outcome_of bytes ≡ Ok t
-unfolding outcome_of
-trace_outcome bytes t is =
-    ap (λ bs. at_end (length bytes) (trace_at (place 0 bs))) is.text ∙ ap (at_end (length bytes)) (trace_again t.history t.certificate is.pair)
+trace_outcome bytes t (inl is) = outcome_in Timed bytes t is
+trace_outcome bytes t (inr is) = outcome_in Timeless bytes t is
 
 pub line_on_trace : (known left : Option (List ℕ)) (t : Trace) (judged : Judged) (line : List ℕ) → IfSome known (λ bytes. IsTrace bytes t.history t.certificate) → IsAtEnd left → IsTold t judged line → IsLineOn known left judged line
 line_on_trace None left t judged line is end told = record { read = Ok t; is = told; left_is = end; of_reader = tt }

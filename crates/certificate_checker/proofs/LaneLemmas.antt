@@ -88,7 +88,7 @@ nothing_splits [] after x e = cc
 nothing_splits (y ∷ before) after x e = cc
 
 lawful_nil : IsLawful []
-lawful_nil = λ before after deed value split hit. absurd (nothing_splits before after deed split)
+lawful_nil = λ before after deed value moment split hit. absurd (nothing_splits before after deed split)
 
 -- the calls of a lane's number are that lane's, and its deeds are lawful
 pub lawful_stamped : (number : ℕ) (lanes : List (List Done)) (lane : ℕ) → All IsLane lanes → IsLawful (map deed_in (filter (of_lane lane) (stamped_from number lanes)))

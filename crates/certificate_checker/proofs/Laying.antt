@@ -7,15 +7,16 @@ use Rattle.std.proofs.lemmas.List.{map-append}
 use Rattle.std.proofs.lemmas.List.Elements.{filter-append}
 use Rattle.std.proofs.lemmas.Option.{slice_get-map}
 use borrow.Author.Tests.{eqb-true, eq-eqb}
+use Rattle.record_pages.specs.declared.timed_value.TimedValue.{TimedValue}
 use Rattle.trace_file.specs.declared.act.Act.TheVariants.{Hit}
 use Rattle.trace_file.specs.declared.call.Call.{Call}
 use Rattle.certificate_checker.specs.Deeds.{Deed, deed_of}
-use Rattle.certificate_checker.specs.Latest.{IsLatest, IsLawful}
-use Rattle.certificate_checker.specs.Current.{after_deed}
+use Rattle.certificate_checker.specs.Latest.{IsLive, IsLawful}
+use Rattle.certificate_checker.specs.Current.{after_deed, given_at}
 use Rattle.certificate_checker.specs.Orders.{Precedes, IsOrder, in_order, Agrees}
 use Rattle.certificate_checker.specs.Acceptance.{IsAccepted}
 use Rattle.certificate_checker.specs.Lanes.{Stamped, ComesFirst}
-use Rattle.certificate_checker.proofs.LatestLemmas.{latest_found, latest_is, deed_kept}
+use Rattle.certificate_checker.proofs.LatestLemmas.{live_found, live_is, deed_kept}
 use Rattle.certificate_checker.proofs.Accepting.{split_map}
 use Rattle.certificate_checker.proofs.Listing.{Member, Pairs, member_filter, filter_member, member_picked, picked_member, member_at, place_of, member_contained, member_map, member_left, member_right, member_all, pairs_to, pairs_weaker, pairs_both, pairs_map, pairs_filter, pairs_picked, pairs_at, same_in_order}
 
@@ -47,7 +48,7 @@ picked-map {X} {Y} f xs (p ∷ ps) =
     ] refl
 
 -- deeds at other keys do not change a key's value
-pub other_keys : (lane : ℕ) (key : List ℕ) (value : Option (List ℕ)) (marks : List Stamped) → ((s : Stamped) → Member s marks → key_in s ≡ key → lane ≡ s.lane) → fold (after_deed key) value (map deed_in marks) ≡ fold (after_deed key) value (map deed_in (filter (of_lane lane) marks))
+pub other_keys : (lane : ℕ) (key : List ℕ) (value : Option TimedValue) (marks : List Stamped) → ((s : Stamped) → Member s marks → key_in s ≡ key → lane ≡ s.lane) → fold (after_deed key) value (map deed_in marks) ≡ fold (after_deed key) value (map deed_in (filter (of_lane lane) marks))
 other_keys lane key value [] home = refl
 other_keys lane key value (s ∷ marks) home =
     elim (of_lane lane s) as (λ b. of_lane lane s ≡ b → fold (after_deed key) value (map deed_in (s ∷ marks)) ≡ fold (after_deed key) value (map deed_in (cond b (s ∷ filter (of_lane lane) marks) (filter (of_lane lane) marks)))) [
@@ -117,24 +118,24 @@ module _ (marks : List Stamped) (positions : List ℕ) (r : AreRecorded marks) (
       let up : (xs : List Stamped) → Pairs (λ a b. a.lane ≡ b.lane → a.done.point < b.done.point) xs → Pairs (λ a b. a.done.point < b.done.point) (filter (of_lane lane) xs) = λ xs pairs. pairs_weaker (λ a b. a.lane ≡ b.lane → a.done.point < b.done.point) (λ a b. a.done.point < b.done.point) (filter (of_lane lane) xs) (λ a b l m less. less (sym (eqb-true lane a.lane (member_filter (of_lane lane) xs a l).1) ∙ eqb-true lane b.lane (member_filter (of_lane lane) xs b m).1)) (pairs_filter (of_lane lane) _ xs pairs) in
       same_in_order (λ a b. a.done.point < b.done.point) (λ a b less more. omega (arith, less, more)) (filter (of_lane lane) (picked marks positions)) (filter (of_lane lane) marks) (up (picked marks positions) rises) (up marks r.rise) (λ s m. let found = member_filter (of_lane lane) (picked marks positions) s m in filter_member (of_lane lane) marks s (picked_is marks positions s found.0) found.1) (λ s m. let found = member_filter (of_lane lane) marks s m in filter_member (of_lane lane) (picked marks positions) s (all_picked marks positions each s found.0) found.1)
 
-  -- each hit of the order has its key's latest value
-  hits : (before after : List Stamped) (s : Stamped) (value : List ℕ) → picked marks positions ≡ before ++ s ∷ after → s.done.call.act ≡ Hit value → IsLatest (map deed_in before) (key_in s) value
-  hits before after s value split hit =
+  -- each hit of the order has its key's latest value, live at its moment
+  hits : (before after : List Stamped) (s : Stamped) (value : List ℕ) (moment : ℕ) → picked marks positions ≡ before ++ s ∷ after → s.done.call.act ≡ Hit value moment → IsLive (map deed_in before) (key_in s) value moment
+  hits before after s value moment split hit =
       let mine = of_lane s.lane in
       let here : Member s (picked marks positions) = subst (Member s) (sym split) (member_right before (s ∷ after) s (inl refl)) in
       let earlier : (m : Stamped) → Member m before → Member m marks = λ m k. picked_is marks positions m (subst (Member m) (sym split) (member_left before (s ∷ after) m k)) in
       let yes : mine s ≡ true = eq-eqb s.lane s.lane refl in
       let lane_split : filter mine marks ≡ filter mine before ++ s ∷ filter mine after = sym (lane_order s.lane) ∙ ap (filter mine) split ∙ filter-append mine before (s ∷ after) ∙ rw yes refl in
       let deeds : map deed_in (filter mine marks) ≡ map deed_in (filter mine before) ++ deed_in s ∷ map deed_in (filter mine after) = ap (map deed_in) lane_split ∙ map-append deed_in (filter mine before) (s ∷ filter mine after) in
-      let latest = r.lawful s.lane (map deed_in (filter mine before)) (map deed_in (filter mine after)) (deed_in s) value deeds hit in
+      let live = r.lawful s.lane (map deed_in (filter mine before)) (map deed_in (filter mine after)) (deed_in s) value moment deeds hit in
       let same = other_keys s.lane (key_in s) None before (λ m k is. sym (r.home m s (earlier m k) (picked_is marks positions s here) is)) in
-      latest_is (key_in s) value (map deed_in before) (same ∙ latest_found (key_in s) value (map deed_in (filter mine before)) latest)
+      live_is (key_in s) value moment (map deed_in before) (ap (given_at moment) same ∙ live_found (key_in s) value moment (map deed_in (filter mine before)) live)
 
   pub laid_lawful : IsLawful (map deed_in (picked marks positions))
-  laid_lawful = λ before after deed value split hit.
+  laid_lawful = λ before after deed value moment split hit.
       let s = split_map deed_in (picked marks positions) before deed after split in
-      let here = hits s.0 s.2 s.1 value s.3 (ap (λ (d : Deed). d.act) s.5 ∙ hit) in
-      subst (λ key. IsLatest before key value) (ap (λ (d : Deed). d.key) s.5) (subst (λ deeds. IsLatest deeds (key_in s.1) value) s.4 here)
+      let here = hits s.0 s.2 s.1 value moment s.3 (ap (λ (d : Deed). d.act) s.5 ∙ hit) in
+      subst (λ key. IsLive before key value moment) (ap (λ (d : Deed). d.key) s.5) (subst (λ deeds. IsLive deeds (key_in s.1) value moment) s.4 here)
 
   pub laid_agrees : Pairs (λ a b. ¬ Precedes (call_in b) (call_in a)) (picked marks positions)
   laid_agrees = pairs_weaker (λ a b. ¬ ComesFirst b a) (λ a b. ¬ Precedes (call_in b) (call_in a)) (picked marks positions) (λ a b l m not precedes.

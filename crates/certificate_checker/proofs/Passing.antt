@@ -8,6 +8,7 @@ use Rattle.std.proofs.lemmas.List.{get_or-set_same, get_or-set_other, length-set
 use Rattle.std.proofs.lemmas.List.Folds.{list_any-append, Any-from_list_any, list_any-from_Any}
 use Rattle.std.proofs.lemmas.Option.{slice_get_within, slice_get_past}
 use borrow.Author.Tests.{eq-eqb, ltb-true, lt-ltb, le-ltb}
+use Rattle.record_pages.specs.declared.timed_value.TimedValue.{TimedValue}
 use Rattle.trace_file.specs.declared.act.Act.{Act}
 use Rattle.trace_file.specs.declared.act.Act.TheVariants.{Put, Remove, Hit, Miss}
 use Rattle.trace_file.specs.declared.call.Call.{Call}
@@ -15,13 +16,13 @@ use Rattle.certificate_checker.specs.declared.fault.Fault.{Fault}
 use Rattle.certificate_checker.specs.declared.fault.Fault.TheVariants.{BadInterval, WrongCount, NotAPlace, Repeated, OutOfOrder, WrongHit}
 use Rattle.certificate_checker.specs.Orders.{in_order}
 use Rattle.certificate_checker.specs.Values.{IsAllowed}
-use Rattle.certificate_checker.specs.Current.{after_deed}
+use Rattle.certificate_checker.specs.Current.{after_deed, given_at}
 use Rattle.certificate_checker.specs.Deeds.{deed_of}
 use Rattle.certificate_checker.specs.Faults.{HasFault, IsRight, IsBefore, IsFirstOfPlaces, tested_at, moment, call_at}
 use Rattle.certificate_checker.proofs.Lookups.{some_and, and_some, take_next, in_order_next, contains_from_any, any_from_contains, call_at_is}
-use Rattle.certificate_checker.proofs.LatestLemmas.{latest_of, latest_of-push, latest_found, latest_is}
+use Rattle.certificate_checker.proofs.LatestLemmas.{latest_of, latest_of-push, live_found, live_is}
 
-pub record Passed (history : List Call) (certificate : List ℕ) (place : ℕ) (seen : List Bool) (greatest : ℕ) (value_at : List ℕ → Option (List ℕ)) : Type 0 where
+pub record Passed (history : List Call) (certificate : List ℕ) (place : ℕ) (seen : List Bool) (greatest : ℕ) (value_at : List ℕ → Option TimedValue) : Type 0 where
   -- the places so far are right
   pub right : (q : ℕ) → q < place → IsRight history certificate q
   pub seen_len : length seen ≡ length history
@@ -84,7 +85,7 @@ no_place h c place position p past = and_some _ _ position p past
 pub a_place : (history : List Call) (certificate : List ℕ) (place position : ℕ) → slice_get certificate place ≡ Some position → position < length history → ¬ HasFault history certificate (NotAPlace place)
 a_place h c place position p within = not_at _ _ position p (λ past. omega arith)
 
-module _ {history : List Call} {certificate : List ℕ} {place : ℕ} {seen : List Bool} {greatest : ℕ} {value_at : List ℕ → Option (List ℕ)} (passed : Passed history certificate place seen greatest value_at) where
+module _ {history : List Call} {certificate : List ℕ} {place : ℕ} {seen : List Bool} {greatest : ℕ} {value_at : List ℕ → Option TimedValue} (passed : Passed history certificate place seen greatest value_at) where
   pub repeated : (position : ℕ) → slice_get certificate place ≡ Some position → position < length history → get_or seen position false ≡ true → HasFault history certificate (Repeated place)
   repeated position p within flag =
       and_some _ _ position p (contains_from_any _ position (sym (passed.seen_is position within) ∙ flag))
@@ -109,29 +110,30 @@ module _ {history : List Call} {certificate : List ℕ} {place : ℕ} {seen : Li
   pub lawful : (position : ℕ) (call : Call) → slice_get certificate place ≡ Some position → slice_get history position ≡ Some call → IsAllowed (value_at call.key) call.act → ¬ HasFault history certificate (WrongHit place)
   lawful position call p c allowed =
       not_at _ _ call (call_at_is history certificate place position call p c) (λ wrong.
-      let has : value_at call.key ≡ Some wrong.0 = rw wrong.1 at allowed in
-      wrong.2 (latest_is call.key wrong.0 _ (sym (passed.values_is call.key) ∙ has)))
+      let has : given_at wrong.1 (value_at call.key) ≡ Some wrong.0 = rw wrong.2 at allowed in
+      wrong.3 (live_is call.key wrong.0 wrong.1 _ (ap (given_at wrong.1) (sym (passed.values_is call.key)) ∙ has)))
 
-not_allowed : (value : Option (List ℕ)) (act : Act) → ¬ IsAllowed value act → (hit : List ℕ) × (act ≡ Hit hit) × ¬ (value ≡ Some hit)
-not_allowed value (Put new) refused = absurd (refused tt)
+not_allowed : (value : Option TimedValue) (act : Act) → ¬ IsAllowed value act → (hit : List ℕ) × (asked : ℕ) × (act ≡ Hit hit asked) × ¬ (given_at asked value ≡ Some hit)
+not_allowed value (Put new expires) refused = absurd (refused tt)
 not_allowed value Remove refused = absurd (refused tt)
-not_allowed value (Hit hit) refused = (hit, refl, refused)
+not_allowed value (Hit hit asked) refused = (hit, asked, refl, refused)
 not_allowed value Miss refused = absurd (refused tt)
 
-module _ {history : List Call} {certificate : List ℕ} {place : ℕ} {seen : List Bool} {greatest : ℕ} {value_at : List ℕ → Option (List ℕ)} (passed : Passed history certificate place seen greatest value_at) where
+module _ {history : List Call} {certificate : List ℕ} {place : ℕ} {seen : List Bool} {greatest : ℕ} {value_at : List ℕ → Option TimedValue} (passed : Passed history certificate place seen greatest value_at) where
   pub wrong_hit : (position : ℕ) (call : Call) → slice_get certificate place ≡ Some position → slice_get history position ≡ Some call → ¬ IsAllowed (value_at call.key) call.act → HasFault history certificate (WrongHit place)
   wrong_hit position call p c refused =
       let hit = not_allowed _ call.act refused in
       and_some _ _ call (call_at_is history certificate place position call p c) (
         hit.0,
         hit.1,
-        λ latest.
-            hit.2 (passed.values_is call.key ∙ latest_found call.key hit.0 _ latest),
+        hit.2,
+        λ live.
+            hit.3 (ap (given_at hit.1) (passed.values_is call.key) ∙ live_found call.key hit.0 hit.1 _ live),
       )
 
 -- ---- the pass begins, and goes on
 
-pub starts : (history : List Call) (certificate : List ℕ) (seen : List Bool) (value_at : List ℕ → Option (List ℕ)) → length seen ≡ length history → ((p : ℕ) → get_or seen p false ≡ false) → ((key : List ℕ) → value_at key ≡ None) → Passed history certificate 0 seen 0 value_at
+pub starts : (history : List Call) (certificate : List ℕ) (seen : List Bool) (value_at : List ℕ → Option TimedValue) → length seen ≡ length history → ((p : ℕ) → get_or seen p false ≡ false) → ((key : List ℕ) → value_at key ≡ None) → Passed history certificate 0 seen 0 value_at
 starts history certificate seen value_at len none empty = record {
   right = λ q less. absurd (omega arith);
   seen_len = len;
@@ -152,7 +154,7 @@ or_true : (b : Bool) → (b || true) ≡ true
 or_true true = refl
 or_true false = refl
 
-pub goes_on : (history : List Call) (certificate : List ℕ) (place position : ℕ) (call : Call) (seen : List Bool) (greatest : ℕ) (value_at after : List ℕ → Option (List ℕ)) → Passed history certificate place seen greatest value_at → slice_get certificate place ≡ Some position → slice_get history position ≡ Some call → get_or seen position false ≡ false → greatest ≤ call.end → IsAllowed (value_at call.key) call.act → ((key : List ℕ) → after key ≡ after_deed key (value_at key) (deed_of call)) → Passed history certificate (place + 1) (set seen position true) (max greatest call.start) after
+pub goes_on : (history : List Call) (certificate : List ℕ) (place position : ℕ) (call : Call) (seen : List Bool) (greatest : ℕ) (value_at after : List ℕ → Option TimedValue) → Passed history certificate place seen greatest value_at → slice_get certificate place ≡ Some position → slice_get history position ≡ Some call → get_or seen position false ≡ false → greatest ≤ call.end → IsAllowed (value_at call.key) call.act → ((key : List ℕ) → after key ≡ after_deed key (value_at key) (deed_of call)) → Passed history certificate (place + 1) (set seen position true) (max greatest call.start) after
 goes_on history certificate place position call seen greatest value_at after passed p c unseen enough allowed noted =
     let within : position < length history = slice_get_within history position call c in
     let next = in_order_next history certificate place position call p c in
@@ -188,7 +190,7 @@ goes_on history certificate place position call seen greatest value_at after pas
 
 -- ---- the pass ends
 
-module _ {history : List Call} {certificate : List ℕ} {place : ℕ} {seen : List Bool} {greatest : ℕ} {value_at : List ℕ → Option (List ℕ)} (passed : Passed history certificate place seen greatest value_at) where
+module _ {history : List Call} {certificate : List ℕ} {place : ℕ} {seen : List Bool} {greatest : ℕ} {value_at : List ℕ → Option TimedValue} (passed : Passed history certificate place seen greatest value_at) where
   pub ends_no_place : (position : ℕ) → slice_get certificate place ≡ Some position → length history ≤ position → IsFirstOfPlaces history certificate (Some (NotAPlace place))
   ends_no_place position p past = (
     no_place history certificate place position p past,

@@ -6,7 +6,7 @@ use Rattle.certificate_checker.specs.declared.fault.Fault.{Fault}
 use Rattle.certificate_checker.specs.declared.fault.Fault.TheVariants.{BadInterval, WrongCount, NotAPlace, Repeated, OutOfOrder, WrongHit}
 use Rattle.certificate_checker.specs.Deeds.{deed_of}
 use Rattle.certificate_checker.specs.Orders.{Precedes, in_order}
-use Rattle.certificate_checker.specs.Latest.{IsLatest}
+use Rattle.certificate_checker.specs.Latest.{IsLive}
 
 -- the calls at earlier places
 abbrev pub earlier_calls : List Call → List ℕ → ℕ → List Call
@@ -33,10 +33,10 @@ HasFault history certificate (Repeated place) =
 HasFault history certificate (OutOfOrder place) =
     IsSomeAnd (call_at history certificate place) (λ call.
     Any (λ earlier. Precedes call earlier) (earlier_calls history certificate place))
--- the call at this place hits a value that is not the latest of its key
+-- the call at this place hits a value that is not the latest of its key, live at its moment
 HasFault history certificate (WrongHit place) =
     IsSomeAnd (call_at history certificate place) (λ call.
-    (value : List ℕ) × (call.act ≡ Hit value) × ¬ IsLatest (map deed_of (earlier_calls history certificate place)) call.key value)
+    (value : List ℕ) × (asked : ℕ) × (call.act ≡ Hit value asked) × ¬ IsLive (map deed_of (earlier_calls history certificate place)) call.key value asked)
 
 -- when a fault is tested: intervals over all calls, then the count, then the places in order, four tests at each
 pub record Moment : Type 0 where

@@ -1,6 +1,7 @@
 -- Laws of the definitions alone.
 use Rattle.std.specs.Prelude.{◌≡◌, ◌↔◌, ◌⊎◌, ℕ, ◌≤◌, List, [], ◌∷◌, ◌++◌, Some, All, AllPairs}
 use Rattle.std.specs.List.{flat_map}
+use Rattle.record_pages.specs.declared.timed_value.TimedValue.{TimedValue}
 use Rattle.trace_file.specs.declared.act.Act.TheVariants.{Hit}
 use Rattle.trace_file.specs.declared.call.Call.{Call}
 use Rattle.certificate_checker.specs.declared.fault.Fault.{Fault}
@@ -11,18 +12,18 @@ use Rattle.certificate_checker.specs.declared.judged.Judged.{Judged}
 use Rattle.certificate_checker.specs.Judgements.{IsVerdictLineOf}
 use Rattle.certificate_checker.specs.Lanes.{Done, calls_of, PointsRise, IsLane, DifferInEnds, ArePlaced, AreApart, IsLaidOut}
 use Rattle.certificate_checker.specs.Latest.{IsLatest, IsLawful}
-use Rattle.certificate_checker.specs.Current.{current}
+use Rattle.certificate_checker.specs.Current.{current, given_at}
 
--- a value is a key's latest exactly where the lossy map has it
+-- a value is a key's latest, with its expiry, exactly where the lossy map has it
 abbrev pub LatestIsCurrent : Type 0
-LatestIsCurrent = (deeds : List Deed) (key value : List ℕ) → IsLatest deeds key value ↔ (current deeds key ≡ Some value)
+LatestIsCurrent = (deeds : List Deed) (key : List ℕ) (latest : TimedValue) → IsLatest deeds key latest ↔ (current deeds key ≡ Some latest)
 
--- one more deed keeps lawful deeds lawful, if it is no hit, or a hit of what its key currently has
+-- one more deed keeps lawful deeds lawful, if it is no hit, or a hit of what its key currently has, live at its moment
 abbrev pub LawfulGrows : Type 0
 LawfulGrows =
     (deeds : List Deed) (deed : Deed)
     → IsLawful deeds
-    → ((value : List ℕ) → deed.act ≡ Hit value → current deeds deed.key ≡ Some value)
+    → ((value : List ℕ) (moment : ℕ) → deed.act ≡ Hit value moment → given_at moment (current deeds deed.key) ≡ Some value)
     → IsLawful (deeds ++ deed ∷ [])
 
 -- keys that are placed in different lanes part the lanes

@@ -19,7 +19,7 @@ pub enum Fault {
     Repeated { place: usize },
     /// The call at this place ends before a call at an earlier one starts.
     OutOfOrder { place: usize },
-    /// The call at this place hits a value that is not its key's latest.
+    /// The call at this place hits a value that is not its key's latest, or has expired at its moment.
     WrongHit { place: usize },
 }
 

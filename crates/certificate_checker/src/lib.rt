@@ -2,7 +2,7 @@
 //!
 //! A history is linearized (Herlihy and Wing 1990) by an order of its calls that agrees with their
 //! recorded times. Such an order is lawful for a cache, which may forget but never invent, where each
-//! hit reads its key's latest put that was not since removed.
+//! hit reads its key's latest put that was not since removed and has not expired at the hit's moment.
 #![tactic(auto)]
 
 mod acceptance;
@@ -13,6 +13,7 @@ mod judged;
 mod judgement;
 mod laws;
 mod lent_key;
+mod lent_value;
 mod places;
 mod values;
 mod verdict;

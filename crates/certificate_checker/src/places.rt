@@ -4,6 +4,7 @@ ghost use Rattle.certificate_checker.specs.Faults.{IsFirstBadInterval, IsFirstOf
 
 use crate::fault::Fault;
 use crate::lent_key::LentKey;
+use crate::lent_value::LentValue;
 use crate::values::{allows, note};
 use std::alloc::{AllocError, Global};
 use std::collections::HashMap;
@@ -34,7 +35,10 @@ pub(crate) fn first_fault_of_places<S: BuildHasher + Drop>(
 {
     let mut seen = vec![in alloc; false; history.len()]?;
     let mut greatest_start = 0;
-    let mut values: HashMap<LentKey<'_>, &[u8], S> = HashMap::with_hasher(alloc, hash_builder);
+    let mut values: HashMap<LentKey<'_>, LentValue<'_>, S> = HashMap::with_hasher(
+        alloc,
+        hash_builder,
+    );
     for place in 0..certificate.len() {
         let position = certificate.at(place) as usize;
         if position >= history.len() {

@@ -6,6 +6,8 @@ ghost use Rattle.certificate_checker.specs.Current.{after_deed};
 ghost use Rattle.certificate_checker.specs.Values.{value_at, IsAllowed};
 
 use crate::lent_key::LentKey;
+use crate::lent_value::LentValue;
+use record_pages::is_live;
 use std::alloc::AllocError;
 use std::collections::HashMap;
 use std::hash::BuildHasher;
@@ -13,7 +15,7 @@ use trace_file::{ActRef, CallRef};
 
 /// Notes in the map what a call writes.
 pub(crate) fn note<'a, S: BuildHasher>(
-    values: &mut HashMap<LentKey<'a>, &'a [u8], S>,
+    values: &mut HashMap<LentKey<'a>, LentValue<'a>, S>,
     call: CallRef<'a>,
 ) -> Result<(), AllocError>
     ensures { OnOk result ((key : List ℕ) → value_at values.new key
@@ -21,30 +23,30 @@ pub(crate) fn note<'a, S: BuildHasher>(
 {
     let key = LentKey { bytes: call.key };
     match call.act {
-        ActRef::Put(value) => {
-            values.insert(key, value)?;
+        ActRef::Put(bytes, expires) => {
+            values.insert(key, LentValue { bytes, expires })?;
         }
         ActRef::Remove => {
             values.remove(&key);
         }
-        ActRef::Hit(_) | ActRef::Miss => {}
+        ActRef::Hit(..) | ActRef::Miss => {}
     }
     Ok(())
 }
 
-/// Whether a call, where it is a hit, has the value that the map has for its key.
+/// Whether a call, where it is a hit, has the value that the map has for its key, live at the call's moment.
 pub(crate) fn allows<'a, S: BuildHasher>(
-    values: &HashMap<LentKey<'a>, &'a [u8], S>,
+    values: &HashMap<LentKey<'a>, LentValue<'a>, S>,
     call: CallRef<'a>,
 ) -> bool
     ensures { IsTrue result
         ↔ IsAllowed (value_at values.now call.entry.key.now) (call_shown call.entry).act }
 {
     match call.act {
-        ActRef::Hit(value) => match values.get(&LentKey { bytes: call.key }) {
-            Some(found) => *found == value,
+        ActRef::Hit(value, moment) => match values.get(&LentKey { bytes: call.key }) {
+            Some(found) => is_live(found.expires, moment) && found.bytes == value,
             None => false,
         },
-        ActRef::Put(_) | ActRef::Remove | ActRef::Miss => true,
+        ActRef::Put(..) | ActRef::Remove | ActRef::Miss => true,
     }
 }

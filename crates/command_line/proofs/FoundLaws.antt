@@ -11,7 +11,7 @@ use Rattle.clap.specs.Words.{Row, Text, first_of, first_value, rows_of}
 use Rattle.clap.specs.declared.parser.matches.Found.{Found}
 use Rattle.clap.proofs.WalkLemmas.{first_value-rows}
 use Rattle.load.specs.declared.setting.Setting.{Setting}
-use Rattle.load.specs.declared.setting.Setting.TheVariants.{Lanes, Sets, Memory, Segments, SegmentPages, Entries, Threshold, Admit, Callers, Operations, Keys, ValueBytes, Gets, Removes, Workers, Seed}
+use Rattle.load.specs.declared.setting.Setting.TheVariants.{Lanes, Sets, Memory, Segments, SegmentPages, Entries, Threshold, Admit, Callers, Operations, Keys, ValueBytes, Gets, Removes, Workers, Seed, Ttl}
 use Rattle.load.specs.Settings.{AreAdmitted, is_admitted, is_decimal, number_at, number_in, row_of, settings, value_of_text}
 use Rattle.command_line.specs.CommandLine.{Loaded, has_numbers, load_wanted, number_found, wanted_of}
 
@@ -47,6 +47,7 @@ each_found f numbers e Gets = ap (λ xs. get_or xs 12 (Some 0)) e ∙ at_map num
 each_found f numbers e Removes = ap (λ xs. get_or xs 13 (Some 0)) e ∙ at_map numbers 13
 each_found f numbers e Workers = ap (λ xs. get_or xs 14 (Some 0)) e ∙ at_map numbers 14
 each_found f numbers e Seed = ap (λ xs. get_or xs 15 (Some 0)) e ∙ at_map numbers 15
+each_found f numbers e Ttl = ap (λ xs. get_or xs 16 (Some 0)) e ∙ at_map numbers 16
 
 both : (a b : Bool) → (a && b) ≡ true → (a ≡ true) × (b ≡ true)
 both true b h = (refl, h)
@@ -87,7 +88,7 @@ all_at {X} p (x ∷ xs) zero d less h = (both (p x) (list_all p xs) h).0
 all_at {X} p (x ∷ xs) (suc i) d less h = all_at p xs i d (omega arith) (both (p x) (list_all p xs) h).1
 
 -- a setting with no number, and the numbers are not all there
-pub lacks : (rows : List Row) (place : ℕ) → place < 16 → number_found rows (get_or settings place Lanes) ≡ None → has_numbers rows ≡ false
+pub lacks : (rows : List Row) (place : ℕ) → place < 17 → number_found rows (get_or settings place Lanes) ≡ None → has_numbers rows ≡ false
 lacks rows place less none = elim (cases_Bool (has_numbers rows)) [
   | inl all ↦
       let some = all_at (λ setting. is_some (number_found rows setting)) settings place Lanes less all in

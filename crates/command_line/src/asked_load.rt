@@ -36,15 +36,15 @@ fn number_of<'a>(found: &ArgMatches<'a>, setting: Setting) -> Option<u32>
 }
 
 /// The number of each setting, or the first setting that has none.
-fn numbers_of<'a>(found: &ArgMatches<'a>) -> Result<[u32; 16], Setting>
+fn numbers_of<'a>(found: &ArgMatches<'a>) -> Result<[u32; 17], Setting>
     ensures numbers { IfOk result (λ numbers.
         map (number_found (rows_of (found_of found.now))) settings ≡ map Some numbers) }
     ensures none { IfErr result (λ setting.
         number_found (rows_of (found_of found.now)) setting ≡ None) }
     ensures lacks { OnErr result (has_numbers (rows_of (found_of found.now)) ≡ false) }
 {
-    let mut numbers = [0; 16];
-    for place in 0..16usize {
+    let mut numbers = [0; 17];
+    for place in 0..17usize {
         match number_of(found, SETTINGS[place]) {
             Some(number) => numbers[place] = number,
             None => return Err(SETTINGS[place]),

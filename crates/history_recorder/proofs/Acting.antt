@@ -19,14 +19,14 @@ use Rattle.history_recorder.specs.World.{OneSteps, LanesStep}
 
 -- an act that is replied in kind is not ignored: its books are those after the act
 act_books : (layout : Layout) (books : Books) (caller : ℕ) (operation : Operation) (reply : Reply) → IsReplyOf operation reply → after_event layout books (events.Act caller) reply ≡ after_act_in layout books caller (slice_index_or books.callers caller phases.Idle) reply
-act_books layout books caller (operations.Get key) (replies.Got answer) kind = refl
-act_books layout books caller (operations.Put key value word) (replies.Stored pushed) kind = refl
+act_books layout books caller (operations.Get key moment) (replies.Got answer) kind = refl
+act_books layout books caller (operations.Put key value word expires) (replies.Stored pushed) kind = refl
 act_books layout books caller (operations.Remove key) (replies.Removed done) kind = refl
 act_books layout books caller operation reply kind = absurd kind
 
 pub act_replied : (size : ℕ) (layout : Layout) (books : Books) (caller start : ℕ) (operation : Operation) (reply : Reply) → IsDoing books caller (phases.Began start operation) → IsReplyOf operation reply → AnswersAt size (length (lane_at books.lanes (lane_of layout operation))) operation reply → IsReplied size layout books (events.Act caller) reply
-act_replied size layout books caller start (operations.Get key) (replies.Got answer) doing kind answers = ((start, operations.Get key, doing), (start, operations.Get key, doing, tt, answers))
-act_replied size layout books caller start (operations.Put key value word) (replies.Stored pushed) doing kind answers = ((start, operations.Put key value word, doing), (start, operations.Put key value word, doing, tt, answers))
+act_replied size layout books caller start (operations.Get key moment) (replies.Got answer) doing kind answers = ((start, operations.Get key moment, doing), (start, operations.Get key moment, doing, tt, answers))
+act_replied size layout books caller start (operations.Put key value word expires) (replies.Stored pushed) doing kind answers = ((start, operations.Put key value word expires, doing), (start, operations.Put key value word expires, doing, tt, answers))
 act_replied size layout books caller start (operations.Remove key) (replies.Removed done) doing kind answers = ((start, operations.Remove key, doing), (start, operations.Remove key, doing, tt, answers))
 act_replied size layout books caller start operation reply doing kind answers = absurd kind
 
@@ -34,8 +34,8 @@ pub act_steps : (size : ℕ) (layout : Layout) (books : Books) (caller start : �
 act_steps size layout books caller start operation reply lane old new kind doing at step =
     in_kind operation reply kind (start, operation, doing, subst (λ i. OneSteps i (λ was is. IsOperation size layout operation was reply is) old new) at step) where
       in_kind : (asked : Operation) (r : Reply) → IsReplyOf asked r → (start : ℕ) × (operation : Operation) × IsDoing books caller (phases.Began start operation) × OneSteps (lane_of layout operation) (λ was is. IsOperation size layout operation was r is) old new → LanesStep size layout books old (events.Act caller) r new
-      in_kind (operations.Get key) (replies.Got answer) kind h = h
-      in_kind (operations.Put key value word) (replies.Stored pushed) kind h = h
+      in_kind (operations.Get key moment) (replies.Got answer) kind h = h
+      in_kind (operations.Put key value word expires) (replies.Stored pushed) kind h = h
       in_kind (operations.Remove key) (replies.Removed done) kind h = h
       in_kind asked r kind h = absurd kind
 

@@ -2,7 +2,7 @@
 use Rattle.std.proofs.Common.{◌≡◌, ◌<◌, ◌≤◌, ◌⊎◌, ◌↔◌, ℕ, Bool, List, [], ◌∷◌, ◌++◌, length, Option, Some, None, sym, ap, ◌∙◌, refl, arith, inl, inr}
 use Rattle.std.specs.Prelude.{IsTrue, Result, Ok, Err, IfOk, OnErr}
 use Rattle.std.proofs.lemmas.Bool.{cases_lt}
-use Rattle.record_pages.specs.Expiry.{lasting}
+use Rattle.record_pages.specs.Expiry.{timed}
 use Rattle.record_pages.specs.Sizes.{object_size, room}
 use Rattle.record_pages.specs.declared.answer.Answer.{Answer}
 use Rattle.record_pages.specs.declared.layout.Layout.{Layout}
@@ -48,9 +48,9 @@ other_fault result is same = cc
 no_fault : {X : Type 0} (result : Result X RecordFault) (x : X) (fault : RecordFault) → result ≡ Ok x → result ≡ Err fault → ⊥
 no_fault result x fault is same = cc
 
-refused_get : {X : Type 0} (size count : ℕ) (key : List ℕ) (result : Result X RecordFault) (fault : RecordFault) → result ≡ Err fault → ((result ≡ Err faults.HistoryFull) ↔ (max_calls ≤ count)) → AnswersAt size count (operations.Get key) (replies.Got (Err fault))
-refused_get size count key result faults.HistoryFull is full = λ less. let past = full.0 is in omega (arith, less, past)
-refused_get {X} size count key result faults.OutOfMemory is full = has_room result count full (λ same. other_fault result is same)
+refused_get : {X : Type 0} (size count : ℕ) (key : List ℕ) (moment : ℕ) (result : Result X RecordFault) (fault : RecordFault) → result ≡ Err fault → ((result ≡ Err faults.HistoryFull) ↔ (max_calls ≤ count)) → AnswersAt size count (operations.Get key moment) (replies.Got (Err fault))
+refused_get size count key moment result faults.HistoryFull is full = λ less. let past = full.0 is in omega (arith, less, past)
+refused_get {X} size count key moment result faults.OutOfMemory is full = has_room result count full (λ same. other_fault result is same)
 
 refused_removal : {X : Type 0} (size count : ℕ) (key : List ℕ) (result : Result X RecordFault) (fault : RecordFault) → result ≡ Err fault → ((result ≡ Err faults.HistoryFull) ↔ (max_calls ≤ count)) → AnswersAt size count (operations.Remove key) (replies.Removed (Err fault))
 refused_removal size count key result faults.HistoryFull is full = λ less. let past = full.0 is in omega (arith, less, past)
@@ -72,10 +72,10 @@ not_large result is same = cc
 not_full : {X : Type 0} (result : Result X RecordPutFault) → result ≡ Err put_faults.OutOfMemory → result ≡ Err put_faults.HistoryFull → ⊥
 not_full result is same = cc
 
-refused_put : {X : Type 0} (size count : ℕ) (key value : List ℕ) (word : ℕ) (result : Result X RecordPutFault) (fault : RecordPutFault) → result ≡ Err fault → ((result ≡ Err put_faults.TooLarge) ↔ (room size < object_size key value)) → ((result ≡ Err put_faults.HistoryFull) ↔ ((object_size key value ≤ room size) × (max_calls ≤ count))) → AnswersAt size count (operations.Put key value word) (replies.Stored (Err fault))
-refused_put size count key value word result put_faults.TooLarge is large full = λ within. let over = large.0 is in omega (arith, within, over)
-refused_put size count key value word result put_faults.HistoryFull is large full = ((full.0 is).0, λ less. let past = (full.0 is).1 in omega (arith, less, past))
-refused_put size count key value word result put_faults.OutOfMemory is large full =
+refused_put : {X : Type 0} (size count : ℕ) (key value : List ℕ) (word expires : ℕ) (result : Result X RecordPutFault) (fault : RecordPutFault) → result ≡ Err fault → ((result ≡ Err put_faults.TooLarge) ↔ (room size < object_size key value)) → ((result ≡ Err put_faults.HistoryFull) ↔ ((object_size key value ≤ room size) × (max_calls ≤ count))) → AnswersAt size count (operations.Put key value word expires) (replies.Stored (Err fault))
+refused_put size count key value word expires result put_faults.TooLarge is large full = λ within. let over = large.0 is in omega (arith, within, over)
+refused_put size count key value word expires result put_faults.HistoryFull is large full = ((full.0 is).0, λ less. let past = (full.0 is).1 in omega (arith, less, past))
+refused_put size count key value word expires result put_faults.OutOfMemory is large full =
     let fits = fits_alone size count key value result large full (not_large result is) in
     (fits, put_room size count key value result large full fits (not_full result is))
 
@@ -90,52 +90,53 @@ module _ {D : Type 0} (honest : D → Bool) (failures : D → ℕ) (held : D →
     abbrev called : Act → Noted
     called act = record { caller = caller; start = start; point = point; key = key; act = act }
 
-    pub got_ok : (result : Result Answer RecordFault) (answer : Answer) (n : Noted) → result ≡ Ok answer → n ≡ called (act_of answer) → new ≡ record old { store = new.store; calls = old.calls ++ called (act_of answer) ∷ [] } → StoreGets size honest failures held key 0 old.store (Ok answer) new.store → ((result ≡ Err faults.HistoryFull) ↔ (max_calls ≤ length old.calls)) → LaneActs honest held size caller start point (operations.Get key) old (record { reply = replies.Got (Ok answer); noted = Some n }) new
-    got_ok result answer n is noted recorded gets full = record {
-      layout = gets.reads.layout;
-      lane = ap (λ (l : Lane D). l.lane) recorded;
-      honesty = gets.reads.honesty;
-      kind = tt;
-      refused = has_room result (length old.calls) full (no_fault result answer faults.HistoryFull is);
-      noted = ap Some noted;
-      recorded = ap (λ (l : Lane D). l.calls) recorded ∙ ap (λ (m : Noted). old.calls ++ m ∷ []) (sym noted);
-      kept = well_kept;
-      step = gets.gives;
-    }
+    module _ (moment : ℕ) where
+      pub got_ok : (result : Result Answer RecordFault) (answer : Answer) (n : Noted) → result ≡ Ok answer → n ≡ called (act_of moment answer) → new ≡ record old { store = new.store; calls = old.calls ++ called (act_of moment answer) ∷ [] } → StoreGets size honest failures held key moment old.store (Ok answer) new.store → ((result ≡ Err faults.HistoryFull) ↔ (max_calls ≤ length old.calls)) → LaneActs honest held size caller start point (operations.Get key moment) old (record { reply = replies.Got (Ok answer); noted = Some n }) new
+      got_ok result answer n is noted recorded gets full = record {
+        layout = gets.reads.layout;
+        lane = ap (λ (l : Lane D). l.lane) recorded;
+        honesty = gets.reads.honesty;
+        kind = tt;
+        refused = has_room result (length old.calls) full (no_fault result answer faults.HistoryFull is);
+        noted = ap Some noted;
+        recorded = ap (λ (l : Lane D). l.calls) recorded ∙ ap (λ (m : Noted). old.calls ++ m ∷ []) (sym noted);
+        kept = well_kept;
+        step = gets.gives;
+      }
 
-    -- what is given of a lane by an answer, or where memory was refused
-    given_lane : (given : Result Answer AllocError) → StoreGets size honest failures held key 0 old.store given new.store → IsTrue (honest old.store.device) → (lane_of held new.store ≡ lane_of held old.store) ⊎ ((answer : Answer) × GetGives key 0 (lane_of held old.store) answer (lane_of held new.store))
-    given_lane (Ok answer) gets h = inr (answer, gets.gives h)
-    given_lane (Err e) gets h = inl (same_lane_held held old.store new.store gets.out_of_memory (gets.reads.same h))
+      -- what is given of a lane by an answer, or where memory was refused
+      given_lane : (given : Result Answer AllocError) → StoreGets size honest failures held key moment old.store given new.store → IsTrue (honest old.store.device) → (lane_of held new.store ≡ lane_of held old.store) ⊎ ((answer : Answer) × GetGives key moment (lane_of held old.store) answer (lane_of held new.store))
+      given_lane (Ok answer) gets h = inr (answer, gets.gives h)
+      given_lane (Err e) gets h = inl (same_lane_held held old.store new.store gets.out_of_memory (gets.reads.same h))
 
-    same_lane : MayHaveGot size honest failures held key old.store new.store → IsTrue (honest old.store.device) → (lane_of held new.store ≡ lane_of held old.store) ⊎ ((answer : Answer) × GetGives key 0 (lane_of held old.store) answer (lane_of held new.store))
-    same_lane (inl same) h = inl (ap (lane_of held) same)
-    same_lane (inr got) h = given_lane got.0 got.1 h
+      same_lane : MayHaveGot size honest failures held key moment old.store new.store → IsTrue (honest old.store.device) → (lane_of held new.store ≡ lane_of held old.store) ⊎ ((answer : Answer) × GetGives key moment (lane_of held old.store) answer (lane_of held new.store))
+      same_lane (inl same) h = inl (ap (lane_of held) same)
+      same_lane (inr got) h = given_lane got.0 got.1 h
 
-    kept_layout : MayHaveGot size honest failures held key old.store new.store → new.store.layout ≡ old.store.layout
-    kept_layout (inl same) = ap (λ (s : StoreState D). s.layout) same
-    kept_layout (inr got) = got.1.reads.layout
+      kept_layout : MayHaveGot size honest failures held key moment old.store new.store → new.store.layout ≡ old.store.layout
+      kept_layout (inl same) = ap (λ (s : StoreState D). s.layout) same
+      kept_layout (inr got) = got.1.reads.layout
 
-    kept_honest : MayHaveGot size honest failures held key old.store new.store → honest new.store.device ≡ honest old.store.device
-    kept_honest (inl same) = ap (λ (s : StoreState D). honest s.device) same
-    kept_honest (inr got) = got.1.reads.honesty
+      kept_honest : MayHaveGot size honest failures held key moment old.store new.store → honest new.store.device ≡ honest old.store.device
+      kept_honest (inl same) = ap (λ (s : StoreState D). honest s.device) same
+      kept_honest (inr got) = got.1.reads.honesty
 
-    refused_step : {X : Type 0} (result : Result X RecordFault) (fault : RecordFault) → result ≡ Err fault → (result ≡ Err faults.HistoryFull → new ≡ old) → MayHaveGot size honest failures held key old.store new.store → IsTrue (honest old.store.device) → IsOperation size old.store.layout (operations.Get key) (lane_of held old.store) (replies.Got (Err fault)) (lane_of held new.store)
-    refused_step result faults.HistoryFull is keeps either h = ap (λ (l : Lane D). lane_of held l.store) (keeps is)
-    refused_step result faults.OutOfMemory is keeps either h = same_lane either h
+      refused_step : {X : Type 0} (result : Result X RecordFault) (fault : RecordFault) → result ≡ Err fault → (result ≡ Err faults.HistoryFull → new ≡ old) → MayHaveGot size honest failures held key moment old.store new.store → IsTrue (honest old.store.device) → IsOperation size old.store.layout (operations.Get key moment) (lane_of held old.store) (replies.Got (Err fault)) (lane_of held new.store)
+      refused_step result faults.HistoryFull is keeps either h = ap (λ (l : Lane D). lane_of held l.store) (keeps is)
+      refused_step result faults.OutOfMemory is keeps either h = same_lane either h
 
-    pub got_err : {X : Type 0} (result : Result X RecordFault) (fault : RecordFault) → result ≡ Err fault → new ≡ record old { store = new.store } → ((result ≡ Err faults.HistoryFull) ↔ (max_calls ≤ length old.calls)) → (result ≡ Err faults.HistoryFull → new ≡ old) → MayHaveGot size honest failures held key old.store new.store → LaneActs honest held size caller start point (operations.Get key) old (record { reply = replies.Got (Err fault); noted = None }) new
-    got_err result fault is unrecorded full keeps either = record {
-      layout = kept_layout either;
-      lane = ap (λ (l : Lane D). l.lane) unrecorded;
-      honesty = kept_honest either;
-      kind = tt;
-      refused = refused_get size (length old.calls) key result fault is full;
-      noted = refl;
-      recorded = ap (λ (l : Lane D). l.calls) unrecorded;
-      kept = well_kept;
-      step = refused_step result fault is keeps either;
-    }
+      pub got_err : {X : Type 0} (result : Result X RecordFault) (fault : RecordFault) → result ≡ Err fault → new ≡ record old { store = new.store } → ((result ≡ Err faults.HistoryFull) ↔ (max_calls ≤ length old.calls)) → (result ≡ Err faults.HistoryFull → new ≡ old) → MayHaveGot size honest failures held key moment old.store new.store → LaneActs honest held size caller start point (operations.Get key moment) old (record { reply = replies.Got (Err fault); noted = None }) new
+      got_err result fault is unrecorded full keeps either = record {
+        layout = kept_layout either;
+        lane = ap (λ (l : Lane D). l.lane) unrecorded;
+        honesty = kept_honest either;
+        kind = tt;
+        refused = refused_get size (length old.calls) key moment result fault is full;
+        noted = refl;
+        recorded = ap (λ (l : Lane D). l.calls) unrecorded;
+        kept = well_kept;
+        step = refused_step result fault is keeps either;
+      }
 
     pub removed_ok : {X : Type 0} (result : Result X RecordFault) (removal : X) → result ≡ Ok removal → new ≡ record old { store = new.store; calls = old.calls ++ called acts.Remove ∷ [] } → StoreRemoves held key old.store new.store → ((result ≡ Err faults.HistoryFull) ↔ (max_calls ≤ length old.calls)) → LaneActs honest held size caller start point (operations.Remove key) old (record { reply = replies.Removed (Ok tt); noted = Some (called acts.Remove) }) new
     removed_ok result removal is recorded removes full = record {
@@ -163,8 +164,8 @@ module _ {D : Type 0} (honest : D → Bool) (failures : D → ℕ) (held : D →
       step = λ h. ap (λ (l : Lane D). lane_of held l.store) same;
     }
 
-    module _ (value : List ℕ) (word : ℕ) where
-      pub stored_ok : (result : Result Pushed RecordPutFault) (pushed : Pushed) (n : Noted) → result ≡ Ok pushed → n ≡ called (acts.Put value) → new ≡ record old { store = new.store; calls = old.calls ++ called (acts.Put value) ∷ [] } → StorePuts size held (record { key = key; value = lasting value }) word old.store (Ok pushed) new.store → ((result ≡ Err put_faults.TooLarge) ↔ (room size < object_size key value)) → ((result ≡ Err put_faults.HistoryFull) ↔ ((object_size key value ≤ room size) × (max_calls ≤ length old.calls))) → LaneActs honest held size caller start point (operations.Put key value word) old (record { reply = replies.Stored (Ok pushed); noted = Some n }) new
+    module _ (value : List ℕ) (word expires : ℕ) where
+      pub stored_ok : (result : Result Pushed RecordPutFault) (pushed : Pushed) (n : Noted) → result ≡ Ok pushed → n ≡ called (acts.Put value expires) → new ≡ record old { store = new.store; calls = old.calls ++ called (acts.Put value expires) ∷ [] } → StorePuts size held (record { key = key; value = timed value expires }) word old.store (Ok pushed) new.store → ((result ≡ Err put_faults.TooLarge) ↔ (room size < object_size key value)) → ((result ≡ Err put_faults.HistoryFull) ↔ ((object_size key value ≤ room size) × (max_calls ≤ length old.calls))) → LaneActs honest held size caller start point (operations.Put key value word expires) old (record { reply = replies.Stored (Ok pushed); noted = Some n }) new
       stored_ok result pushed n is noted recorded puts large full =
           let fits = fits_alone size (length old.calls) key value result large full (no_put_fault result pushed put_faults.TooLarge is) in
           record {
@@ -179,13 +180,13 @@ module _ {D : Type 0} (honest : D → Bool) (failures : D → ℕ) (held : D →
             step = λ h. puts.gives;
           }
 
-      pub stored_err : {X : Type 0} (result : Result X RecordPutFault) (fault : RecordPutFault) → result ≡ Err fault → new ≡ old → ((result ≡ Err put_faults.TooLarge) ↔ (room size < object_size key value)) → ((result ≡ Err put_faults.HistoryFull) ↔ ((object_size key value ≤ room size) × (max_calls ≤ length old.calls))) → LaneActs honest held size caller start point (operations.Put key value word) old (record { reply = replies.Stored (Err fault); noted = None }) new
+      pub stored_err : {X : Type 0} (result : Result X RecordPutFault) (fault : RecordPutFault) → result ≡ Err fault → new ≡ old → ((result ≡ Err put_faults.TooLarge) ↔ (room size < object_size key value)) → ((result ≡ Err put_faults.HistoryFull) ↔ ((object_size key value ≤ room size) × (max_calls ≤ length old.calls))) → LaneActs honest held size caller start point (operations.Put key value word expires) old (record { reply = replies.Stored (Err fault); noted = None }) new
       stored_err result fault is same large full = record {
         layout = ap (λ (l : Lane D). l.store.layout) same;
         lane = ap (λ (l : Lane D). l.lane) same;
         honesty = ap (λ (l : Lane D). honest l.store.device) same;
         kind = tt;
-        refused = refused_put size (length old.calls) key value word result fault is large full;
+        refused = refused_put size (length old.calls) key value word expires result fault is large full;
         noted = refl;
         recorded = ap (λ (l : Lane D). l.calls) same;
         kept = well_kept;

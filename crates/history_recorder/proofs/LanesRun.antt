@@ -4,12 +4,12 @@ use Rattle.std.specs.Prelude.{All, Ok, Err}
 use Rattle.std.proofs.lemmas.List.{map-append, length-append}
 use Rattle.std.proofs.lemmas.List.Elements.{All-push}
 use Rattle.std.proofs.lemmas.List.Quantifiers.{all_pairs_push}
-use Rattle.record_pages.specs.Expiry.{lasting}
+use Rattle.record_pages.specs.Expiry.{timed}
 use Rattle.record_pages.specs.declared.answer.Answer.{Answer}
 use Rattle.record_pages.specs.declared.layout.Layout.{Layout}
 use Rattle.memory_cache.specs.declared.pair.Pair.{Pair}
 use Rattle.trace_file.specs.declared.act.Act.TheVariants as acts
-use Rattle.certificate_checker.specs.Current.{current}
+use Rattle.certificate_checker.specs.Current.{current, given_at}
 use Rattle.certificate_checker.specs.Latest.{IsLawful}
 use Rattle.certificate_checker.proofs.Growing.{lawful-push}
 use Rattle.mover.specs.Lane.{LaneState}
@@ -67,7 +67,7 @@ module _ (layout : Layout) (lane : ℕ) (calls : List Noted) (old new : LaneStat
 
   -- ---- a call more
 
-  with_call : (n : Noted) → n.start < n.point → All (λ (m : Noted). m.point < n.point) calls → IsOfLane layout lane n.key → HasRoomFor (length calls) → IsSound new (deeds_of calls ++ deed_noted n ∷ []) → ((value : List ℕ) → n.act ≡ acts.Hit value → current (deeds_of calls) n.key ≡ Some value) → IsInOrder new → IsKeptLane layout lane (calls ++ n ∷ []) new
+  with_call : (n : Noted) → n.start < n.point → All (λ (m : Noted). m.point < n.point) calls → IsOfLane layout lane n.key → HasRoomFor (length calls) → IsSound new (deeds_of calls ++ deed_noted n ∷ []) → ((value : List ℕ) (asked : ℕ) → n.act ≡ acts.Hit value asked → given_at asked (current (deeds_of calls) n.key) ≡ Some value) → IsInOrder new → IsKeptLane layout lane (calls ++ n ∷ []) new
   with_call n start rises own room sound hits order =
       let more = map-append deed_noted calls (n ∷ []) in (
         record {
@@ -82,28 +82,28 @@ module _ (layout : Layout) (lane : ℕ) (calls : List Noted) (old new : LaneStat
       )
 
   module _ (size caller start point : ℕ) (began : start < point) (rises : All (λ (m : Noted). m.point < point) calls) where
-    got_kept : (key : List ℕ) (answer : Answer) → IsOfLane layout lane key → HasRoomFor (length calls) → GetGives key 0 old answer new → IsKeptLane layout lane (calls ++ record { caller = caller; start = start; point = point; key = key; act = act_of answer } ∷ []) new
-    got_kept key answer own room step =
-        let n : Noted = record { caller = caller; start = start; point = point; key = key; act = act_of answer } in
-        let law = get_law key 0 old new answer kept.1 step in
+    got_kept : (key : List ℕ) (moment : ℕ) (answer : Answer) → IsOfLane layout lane key → HasRoomFor (length calls) → GetGives key moment old answer new → IsKeptLane layout lane (calls ++ record { caller = caller; start = start; point = point; key = key; act = act_of moment answer } ∷ []) new
+    got_kept key moment answer own room step =
+        let n : Noted = record { caller = caller; start = start; point = point; key = key; act = act_of moment answer } in
+        let law = get_law key moment old new answer kept.1 step in
         let sound = well.sound refl in
-        with_call n began rises own room (sound_read (deeds_of calls) (deed_noted n) answer old new refl sound law.0.shows) (λ value hit. hit_is (deeds_of calls) key value old answer sound law.1 hit) law.0.order
+        with_call n began rises own room (sound_read (deeds_of calls) (deed_noted n) moment answer old new refl sound law.0.shows) (λ value asked hit. hit_is (deeds_of calls) key value moment asked old answer sound law.1 hit) law.0.order
 
     -- an act, recorded or refused
     pub acted_kept : (operation : Operation) (reply : Reply) → lane_of layout operation ≡ lane → AnswersAt size (length calls) operation reply → IsOperation size layout operation old reply new → IsKeptLane layout lane (calls_with calls (noted_by caller start point operation reply)) new
-    acted_kept (operations.Get key) (replies.Got (Ok answer)) own room step = got_kept key answer own room step
-    acted_kept (operations.Get key) (replies.Got (Err faults.HistoryFull)) own full step = same step
-    acted_kept (operations.Get key) (replies.Got (Err faults.OutOfMemory)) own room (inl is) = same is
-    acted_kept (operations.Get key) (replies.Got (Err faults.OutOfMemory)) own room (inr found) = still (get_law key 0 old new found.0 kept.1 found.1).0
-    acted_kept (operations.Put key value word) (replies.Stored (Ok pushed)) own fits step =
-        let n : Noted = record { caller = caller; start = start; point = point; key = key; act = acts.Put value } in
-        let pair : Pair = record { key = key; value = lasting value } in
+    acted_kept (operations.Get key moment) (replies.Got (Ok answer)) own room step = got_kept key moment answer own room step
+    acted_kept (operations.Get key moment) (replies.Got (Err faults.HistoryFull)) own full step = same step
+    acted_kept (operations.Get key moment) (replies.Got (Err faults.OutOfMemory)) own room (inl is) = same is
+    acted_kept (operations.Get key moment) (replies.Got (Err faults.OutOfMemory)) own room (inr found) = still (get_law key moment old new found.0 kept.1 found.1).0
+    acted_kept (operations.Put key value word expires) (replies.Stored (Ok pushed)) own fits step =
+        let n : Noted = record { caller = caller; start = start; point = point; key = key; act = acts.Put value expires } in
+        let pair : Pair = record { key = key; value = timed value expires } in
         let law = put_law size layout.admit word pair old new pushed kept.1 step in
-        with_call n began rises own fits.1 (sound_put (deeds_of calls) (deed_noted n) key value old new refl refl (well.sound refl) law.shows) (λ v hit. let both : acts.Put value ≡ acts.Hit v = hit in absurd cc) law.order
-    acted_kept (operations.Put key value word) (replies.Stored (Err fault)) own fits step = same step
+        with_call n began rises own fits.1 (sound_put (deeds_of calls) (deed_noted n) key value expires old new refl refl (well.sound refl) law.shows) (λ v asked hit. let both : acts.Put value expires ≡ acts.Hit v asked = hit in absurd cc) law.order
+    acted_kept (operations.Put key value word expires) (replies.Stored (Err fault)) own fits step = same step
     acted_kept (operations.Remove key) (replies.Removed (Ok done)) own room step =
         let n : Noted = record { caller = caller; start = start; point = point; key = key; act = acts.Remove } in
         let law = removal_law key old new kept.1 step in
-        with_call n began rises own room (sound_remove (deeds_of calls) (deed_noted n) key old new refl (well.sound refl) law.shows) (λ v hit. let both : acts.Remove ≡ acts.Hit v = hit in absurd cc) law.order
+        with_call n began rises own room (sound_remove (deeds_of calls) (deed_noted n) key old new refl (well.sound refl) law.shows) (λ v asked hit. let both : acts.Remove ≡ acts.Hit v asked = hit in absurd cc) law.order
     acted_kept (operations.Remove key) (replies.Removed (Err fault)) own room step = same step
     acted_kept operation reply own answers step = absurd step

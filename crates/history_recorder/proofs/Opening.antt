@@ -29,5 +29,5 @@ opened {D} honest held store device lane calls below none told law =
       few = omega arith;
       order = λ is. order;
       sound = λ is p shown. absurd (nothing p shown);
-      lawful = λ is before after deed value split. absurd (no_deed before after deed split);
+      lawful = λ is before after deed value moment split. absurd (no_deed before after deed split);
     })

@@ -209,7 +209,7 @@ module _ (layout : Layout) where
           points = λ i j d less within. absurd (omega (arith, within));
           few = omega arith;
           its = λ k d within. absurd (omega (arith, within));
-          lawful = λ is before after deed value split. absurd (no_deed before after deed split);
+          lawful = λ is before after deed value moment split. absurd (no_deed before after deed split);
           sound = λ is p shown. absurd (law.1 p shown);
         },
         law.0,

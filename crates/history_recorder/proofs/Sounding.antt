@@ -6,8 +6,7 @@ use Rattle.std.specs.Cmp.Lexicographic.{bytes_decides}
 use Rattle.std.proofs.lemmas.List.{map-append, length-append}
 use Rattle.std.proofs.lemmas.List.Elements.{All-push}
 use Rattle.std.proofs.lemmas.List.Quantifiers.{all_pairs_push}
-use Rattle.std.specs.Option.{option_map}
-use Rattle.record_pages.specs.Expiry.{lasting, timed}
+use Rattle.record_pages.specs.Expiry.{is_live, timed, value_at}
 use Rattle.record_pages.specs.declared.answer.Answer.{Answer}
 use Rattle.record_pages.specs.declared.timed_value.TimedValue.{TimedValue}
 use Rattle.record_pages.specs.declared.answer.Answer.TheVariants as answers
@@ -15,7 +14,7 @@ use Rattle.record_pages.specs.declared.layout.Layout.{Layout}
 use Rattle.memory_cache.specs.declared.pair.Pair.{Pair}
 use Rattle.trace_file.specs.declared.act.Act.TheVariants.{Put, Remove, Hit, Miss}
 use Rattle.certificate_checker.specs.Deeds.{Deed}
-use Rattle.certificate_checker.specs.Current.{current}
+use Rattle.certificate_checker.specs.Current.{current, given_at}
 use Rattle.certificate_checker.specs.Latest.{IsWrite, IsLawful}
 use Rattle.certificate_checker.proofs.LatestLemmas.{current-push, deed_kept}
 use Rattle.certificate_checker.proofs.Growing.{lawful-push}
@@ -32,15 +31,15 @@ use Rattle.mover.specs.Lane.{LaneState, lane_of}
 use Rattle.mover.specs.Visible.{ShowsFrom, TellsVisible}
 use Rattle.mover.proofs.Showing.{no_more, sees_no_more}
 use Rattle.history_recorder.specs.declared.noted.Noted.{Noted}
-use Rattle.history_recorder.specs.Lane.{Lane, deed_noted, deeds_of, act_of, IsOfLane, IsSound, IsRecorded, kept_of, max_calls}
+use Rattle.history_recorder.specs.Lane.{Lane, deed_noted, deeds_of, act_of, IsOfLane, IsSound, IsRecorded, max_calls}
 
 -- ---- what a lane shows is what its keys have
 
 -- The law of every step. What a step shows was shown and not struck, or is what it put: where deeds give a key what was
 -- put, and leave what was not struck, the lane is sound after them.
-pub sound_by : (struck : Option (List ℕ)) (put : Option Pair) (before after : List Deed) (old new : LaneState) → ((p : Pair) → put ≡ Some p → kept_of after p.key ≡ Some p.value) → ((p : Pair) → (struck ≢ Some p.key) → current after p.key ≡ current before p.key) → IsSound old before → ShowsFrom struck put old new → IsSound new after
+pub sound_by : (struck : Option (List ℕ)) (put : Option Pair) (before after : List Deed) (old new : LaneState) → ((p : Pair) → put ≡ Some p → current after p.key ≡ Some p.value) → ((p : Pair) → (struck ≢ Some p.key) → current after p.key ≡ current before p.key) → IsSound old before → ShowsFrom struck put old new → IsSound new after
 sound_by struck put before after old new puts stays sound shows = λ p shown. elim (shows p shown) [
-  | inl was ↦ ap (option_map lasting) (stays p was.1) ∙ sound p was.0
+  | inl was ↦ stays p was.1 ∙ sound p was.0
   | inr is ↦ puts p is
 ]
 
@@ -49,16 +48,15 @@ deed_leaves : (deeds : List Deed) (d : Deed) (key : List ℕ) → ((d.key ≡ ke
 deed_leaves deeds d key other = current-push key deeds d ∙ deed_kept key (current deeds key) d (λ w. other w.0 w.1)
 
 -- a put gives its key its value
-put_gives : (deeds : List Deed) (d : Deed) (key value : List ℕ) → d.key ≡ key → d.act ≡ Put value → kept_of (deeds ++ d ∷ []) key ≡ Some (lasting value)
-put_gives deeds d key value at put =
+put_gives : (deeds : List Deed) (d : Deed) (key value : List ℕ) (expires : ℕ) → d.key ≡ key → d.act ≡ Put value expires → current (deeds ++ d ∷ []) key ≡ Some (timed value expires)
+put_gives deeds d key value expires at put =
     let same : bytes_eq d.key key ≡ true = (bytes_decides d.key key).1 at in
-    let its : current (deeds ++ d ∷ []) key ≡ Some value = current-push key deeds d ∙ rw (same, put) refl in
-    ap (option_map lasting) its
+    current-push key deeds d ∙ rw (same, put) refl
 
 -- an answer writes nothing
-reads : (answer : Answer) → IsWrite (act_of answer) → ⊥
-reads (answers.Hit value tier) w = w
-reads (answers.Miss cause) w = w
+reads : (moment : ℕ) (answer : Answer) → IsWrite (act_of moment answer) → ⊥
+reads moment (answers.Hit value tier) w = w
+reads moment (answers.Miss cause) w = w
 
 pub none_some : {X : Type 0} {x : X} → None ≡ Some x → ⊥
 none_some is = cc
@@ -67,30 +65,33 @@ some_same : {X : Type 0} {x y : X} → Some x ≡ Some y → x ≡ y
 some_same is = cc
 
 -- after an answer
-pub sound_read : (deeds : List Deed) (d : Deed) (answer : Answer) (old new : LaneState) → d.act ≡ act_of answer → IsSound old deeds → ShowsFrom None None old new → IsSound new (deeds ++ d ∷ [])
-sound_read deeds d answer old new act = sound_by None None deeds (deeds ++ d ∷ []) old new (λ p no. absurd (none_some no)) (λ p other. deed_leaves deeds d p.key (λ same w. reads answer (subst IsWrite act w)))
+pub sound_read : (deeds : List Deed) (d : Deed) (moment : ℕ) (answer : Answer) (old new : LaneState) → d.act ≡ act_of moment answer → IsSound old deeds → ShowsFrom None None old new → IsSound new (deeds ++ d ∷ [])
+sound_read deeds d moment answer old new act = sound_by None None deeds (deeds ++ d ∷ []) old new (λ p no. absurd (none_some no)) (λ p other. deed_leaves deeds d p.key (λ same w. reads moment answer (subst IsWrite act w)))
 
 -- after a put
-pub sound_put : (deeds : List Deed) (d : Deed) (key value : List ℕ) (old new : LaneState) → d.key ≡ key → d.act ≡ Put value → IsSound old deeds → ShowsFrom (Some key) (Some (record { key = key; value = lasting value })) old new → IsSound new (deeds ++ d ∷ [])
-sound_put deeds d key value old new at act =
-    sound_by (Some key) (Some (record { key = key; value = lasting value })) deeds (deeds ++ d ∷ []) old new (λ p is. subst (λ (x : Pair). kept_of (deeds ++ d ∷ []) x.key ≡ Some x.value) (some_same is) (put_gives deeds d key value at act))
+pub sound_put : (deeds : List Deed) (d : Deed) (key value : List ℕ) (expires : ℕ) (old new : LaneState) → d.key ≡ key → d.act ≡ Put value expires → IsSound old deeds → ShowsFrom (Some key) (Some (record { key = key; value = timed value expires })) old new → IsSound new (deeds ++ d ∷ [])
+sound_put deeds d key value expires old new at act =
+    sound_by (Some key) (Some (record { key = key; value = timed value expires })) deeds (deeds ++ d ∷ []) old new (λ p is. subst (λ (x : Pair). current (deeds ++ d ∷ []) x.key ≡ Some x.value) (some_same is) (put_gives deeds d key value expires at act))
     (λ p other. deed_leaves deeds d p.key (λ same w. other (ap Some (sym at ∙ same))))
 
 -- after a removal
 pub sound_remove : (deeds : List Deed) (d : Deed) (key : List ℕ) (old new : LaneState) → d.key ≡ key → IsSound old deeds → ShowsFrom (Some key) None old new → IsSound new (deeds ++ d ∷ [])
 sound_remove deeds d key old new at = sound_by (Some key) None deeds (deeds ++ d ∷ []) old new (λ p no. absurd (none_some no)) (λ p other. deed_leaves deeds d p.key (λ same w. other (ap Some (sym at ∙ same))))
 
--- a hit that tells a visible pair is its key's value
-pub hit_is : (deeds : List Deed) (key value : List ℕ) (lane : LaneState) (answer : Answer) → IsSound lane deeds → TellsVisible key 0 lane answer → act_of answer ≡ Hit value → current deeds key ≡ Some value
-hit_is deeds key value lane (answers.Hit found tier) sound tells hit =
-    let both : Hit found ≡ Hit value = hit in
+-- a live value is given
+live_gives : (value : List ℕ) (expires moment : ℕ) → is_live expires moment ≡ true → given_at moment (Some (timed value expires)) ≡ Some value
+live_gives value expires moment live = rw live refl
+
+-- a hit that tells a visible pair is its key's value, live at its moment
+pub hit_is : (deeds : List Deed) (key value : List ℕ) (moment asked : ℕ) (lane : LaneState) (answer : Answer) → IsSound lane deeds → TellsVisible key moment lane answer → act_of moment answer ≡ Hit value asked → given_at asked (current deeds key) ≡ Some value
+hit_is deeds key value moment asked lane (answers.Hit found tier) sound tells hit =
+    let both : Hit found moment ≡ Hit value asked = hit in
     let same : found ≡ value = cc in
-    its (current deeds key) (sound (record { key = key; value = timed found tells.expires }) (inl tells.visible)) ∙ ap Some same
-  where
-    its : (o : Option (List ℕ)) → option_map lasting o ≡ Some (timed found tells.expires) → o ≡ Some found
-    its (Some v) is = ap (λ (t : TimedValue). Some t.value) (some_same is)
-    its None is = absurd (none_some is)
-hit_is deeds key value lane (answers.Miss cause) sound tells hit = let no : Miss ≡ Hit value = hit in absurd (cc)
+    let as_asked : moment ≡ asked = cc in
+    let has : current deeds key ≡ Some (timed found tells.expires) = sound (record { key = key; value = timed found tells.expires }) (inl tells.visible) in
+    let gives : given_at moment (current deeds key) ≡ Some found = ap (given_at moment) has ∙ live_gives found tells.expires moment tells.live in
+    subst (λ (m : ℕ). given_at m (current deeds key) ≡ Some value) as_asked (gives ∙ ap (λ (v : List ℕ). Some v) same)
+hit_is deeds key value moment asked lane (answers.Miss cause) sound tells hit = let no : Miss ≡ Hit value asked = hit in absurd (cc)
 
 -- ---- lanes that stay
 
@@ -150,7 +151,7 @@ module _ {D : Type 0} (honest : D → Bool) (held : D → ℕ → Option (List �
     deeds_are : deeds_of (lane.calls ++ n ∷ []) ≡ deeds_then
     deeds_are = map-append deed_noted lane.calls (n ∷ [])
 
-    recorded_with : (IsTrue (honest lane.store.device) → IsInOrder (lane_of held new)) → (IsTrue (honest lane.store.device) → IsSound (lane_of held new) deeds_then) → (IsTrue (honest lane.store.device) → (value : List ℕ) → n.act ≡ Hit value → current (deeds_of lane.calls) n.key ≡ Some value) → IsRecorded honest held (record { store = new; lane = lane.lane; calls = calls })
+    recorded_with : (IsTrue (honest lane.store.device) → IsInOrder (lane_of held new)) → (IsTrue (honest lane.store.device) → IsSound (lane_of held new) deeds_then) → (IsTrue (honest lane.store.device) → (value : List ℕ) (asked : ℕ) → n.act ≡ Hit value asked → given_at asked (current (deeds_of lane.calls) n.key) ≡ Some value) → IsRecorded honest held (record { store = new; lane = lane.lane; calls = calls })
     recorded_with order sound here = rw more (record {
       number = subst (λ (l : Layout). lane.lane < l.lanes) (sym layout) recorded.number;
       keys = subst (λ (l : Layout). All (λ (x : Noted). IsOfLane l lane.lane x.key) (lane.calls ++ n ∷ [])) (sym layout) (All-push (λ (x : Noted). IsOfLane lane.store.layout lane.lane x.key) lane.calls n recorded.keys own);
@@ -164,17 +165,17 @@ module _ {D : Type 0} (honest : D → Bool) (held : D → ℕ → Option (List �
           subst IsLawful (sym deeds_are) (lawful-push (deeds_of lane.calls) (deed_noted n) (recorded.lawful was) (here was));
     })
 
-    pub recorded_get : (key : List ℕ) (answer : Answer) → n.key ≡ key → n.act ≡ act_of answer → (IsTrue (honest lane.store.device) → TellsVisible key 0 (lane_of held lane.store) answer) → (IsTrue (honest lane.store.device) → StepsInOrder None None (lane_of held lane.store) (lane_of held new)) → IsRecorded honest held (record { store = new; lane = lane.lane; calls = calls })
-    recorded_get key answer at act tells steps = recorded_with (λ is. (steps is).order)
-        (λ is. sound_read (deeds_of lane.calls) (deed_noted n) answer (lane_of held lane.store) (lane_of held new) act (recorded.sound is) (steps is).shows)
-        (λ is value hit. subst (λ k. current (deeds_of lane.calls) k ≡ Some value) (sym at) (hit_is (deeds_of lane.calls) key value (lane_of held lane.store) answer (recorded.sound is) (tells is) (sym act ∙ hit)))
+    pub recorded_get : (key : List ℕ) (moment : ℕ) (answer : Answer) → n.key ≡ key → n.act ≡ act_of moment answer → (IsTrue (honest lane.store.device) → TellsVisible key moment (lane_of held lane.store) answer) → (IsTrue (honest lane.store.device) → StepsInOrder None None (lane_of held lane.store) (lane_of held new)) → IsRecorded honest held (record { store = new; lane = lane.lane; calls = calls })
+    recorded_get key moment answer at act tells steps = recorded_with (λ is. (steps is).order)
+        (λ is. sound_read (deeds_of lane.calls) (deed_noted n) moment answer (lane_of held lane.store) (lane_of held new) act (recorded.sound is) (steps is).shows)
+        (λ is value asked hit. subst (λ k. given_at asked (current (deeds_of lane.calls) k) ≡ Some value) (sym at) (hit_is (deeds_of lane.calls) key value moment asked (lane_of held lane.store) answer (recorded.sound is) (tells is) (sym act ∙ hit)))
 
-    pub recorded_put : (key value : List ℕ) → n.key ≡ key → n.act ≡ Put value → (IsTrue (honest lane.store.device) → StepsInOrder (Some key) (Some (record { key = key; value = lasting value })) (lane_of held lane.store) (lane_of held new)) → IsRecorded honest held (record { store = new; lane = lane.lane; calls = calls })
-    recorded_put key value at act steps = recorded_with (λ is. (steps is).order)
-        (λ is. sound_put (deeds_of lane.calls) (deed_noted n) key value (lane_of held lane.store) (lane_of held new) at act (recorded.sound is) (steps is).shows)
-        (λ is other hit. let both : Put value ≡ Hit other = sym act ∙ hit in absurd (cc))
+    pub recorded_put : (key value : List ℕ) (expires : ℕ) → n.key ≡ key → n.act ≡ Put value expires → (IsTrue (honest lane.store.device) → StepsInOrder (Some key) (Some (record { key = key; value = timed value expires })) (lane_of held lane.store) (lane_of held new)) → IsRecorded honest held (record { store = new; lane = lane.lane; calls = calls })
+    recorded_put key value expires at act steps = recorded_with (λ is. (steps is).order)
+        (λ is. sound_put (deeds_of lane.calls) (deed_noted n) key value expires (lane_of held lane.store) (lane_of held new) at act (recorded.sound is) (steps is).shows)
+        (λ is other asked hit. let both : Put value expires ≡ Hit other asked = sym act ∙ hit in absurd (cc))
 
     pub recorded_remove : (key : List ℕ) → n.key ≡ key → n.act ≡ Remove → (IsTrue (honest lane.store.device) → StepsInOrder (Some key) None (lane_of held lane.store) (lane_of held new)) → IsRecorded honest held (record { store = new; lane = lane.lane; calls = calls })
     recorded_remove key at act steps = recorded_with (λ is. (steps is).order)
         (λ is. sound_remove (deeds_of lane.calls) (deed_noted n) key (lane_of held lane.store) (lane_of held new) at (recorded.sound is) (steps is).shows)
-        (λ is value hit. let both : Remove ≡ Hit value = sym act ∙ hit in absurd (cc))
+        (λ is value asked hit. let both : Remove ≡ Hit value asked = sym act ∙ hit in absurd (cc))

@@ -124,8 +124,8 @@ Applies books (events.Abort lane number) = lane < length books.lanes
 
 -- a reply is of the kind of an operation
 abbrev pub IsReplyOf : Operation → Reply → Type 0
-IsReplyOf (operations.Get key) (replies.Got answer) = Unit {0}
-IsReplyOf (operations.Put key value word) (replies.Stored pushed) = Unit {0}
+IsReplyOf (operations.Get key moment) (replies.Got answer) = Unit {0}
+IsReplyOf (operations.Put key value word expires) (replies.Stored pushed) = Unit {0}
 IsReplyOf (operations.Remove key) (replies.Removed done) = Unit {0}
 IsReplyOf operation reply = ⊥
 

@@ -1,6 +1,6 @@
 -- What an operation and a background step do to a lane, by what is replied: the steps of its store.
 use Rattle.std.specs.Prelude.{◌≡◌, ◌⊎◌, ℕ, Ok, Err}
-use Rattle.record_pages.specs.Expiry.{lasting}
+use Rattle.record_pages.specs.Expiry.{timed}
 use Rattle.record_pages.specs.declared.answer.Answer.{Answer}
 use Rattle.record_pages.specs.declared.layout.Layout.{Layout}
 use Rattle.mover.specs.Lane.{LaneState}
@@ -21,13 +21,13 @@ use Rattle.history_recorder.specs.declared.reply.Reply.TheVariants as replies
 -- What an operation does to a lane of pages of this size. A refused one does nothing, but a get that was refused for
 -- memory may have noted what it found.
 abbrev pub IsOperation : ℕ → Layout → Operation → LaneState → Reply → LaneState → Type 0
-IsOperation size layout (operations.Get key) old (replies.Got (Ok answer)) new = GetGives key 0 old answer new
-IsOperation size layout (operations.Get key) old (replies.Got (Err faults.HistoryFull)) new = new ≡ old
-IsOperation size layout (operations.Get key) old (replies.Got (Err faults.OutOfMemory)) new =
-    (new ≡ old) ⊎ ((answer : Answer) × GetGives key 0 old answer new)
-IsOperation size layout (operations.Put key value word) old (replies.Stored (Ok pushed)) new =
-    IsStep (put_step size layout.admit (record { key = key; value = lasting value }) word old) pushed new
-IsOperation size layout (operations.Put key value word) old (replies.Stored (Err fault)) new = new ≡ old
+IsOperation size layout (operations.Get key moment) old (replies.Got (Ok answer)) new = GetGives key moment old answer new
+IsOperation size layout (operations.Get key moment) old (replies.Got (Err faults.HistoryFull)) new = new ≡ old
+IsOperation size layout (operations.Get key moment) old (replies.Got (Err faults.OutOfMemory)) new =
+    (new ≡ old) ⊎ ((answer : Answer) × GetGives key moment old answer new)
+IsOperation size layout (operations.Put key value word expires) old (replies.Stored (Ok pushed)) new =
+    IsStep (put_step size layout.admit (record { key = key; value = timed value expires }) word old) pushed new
+IsOperation size layout (operations.Put key value word expires) old (replies.Stored (Err fault)) new = new ≡ old
 IsOperation size layout (operations.Remove key) old (replies.Removed (Ok done)) new = new ≡ removed key old
 IsOperation size layout (operations.Remove key) old (replies.Removed (Err fault)) new = new ≡ old
 IsOperation size layout operation old reply new = ⊥

@@ -1,8 +1,6 @@
 -- A lane with its record, and what is true of every lane.
 use Rattle.std.specs.Prelude.{◌≡◌, ℕ, ◌-◌, ◌<◌, ◌≤◌, ◌^◌, List, Option, Bool, IsTrue, All, AllPairs, map, length, slice_get, Some}
-use Rattle.std.specs.Option.{option_map, option_map_or}
-use Rattle.record_pages.specs.Expiry.{lasting}
-use Rattle.record_pages.specs.declared.timed_value.TimedValue.{TimedValue}
+use Rattle.std.specs.Option.{option_map_or}
 use Rattle.record_pages.specs.declared.answer.Answer.{Answer}
 use Rattle.record_pages.specs.declared.answer.Answer.TheVariants as answers
 use Rattle.record_pages.specs.declared.layout.Layout.{Layout}
@@ -34,22 +32,18 @@ deed_noted n = record { key = n.key; act = n.act }
 abbrev pub deeds_of : List Noted → List Deed
 deeds_of calls = map deed_noted calls
 
--- what is recorded of an answer
-abbrev pub act_of : Answer → Act
-act_of (answers.Hit value tier) = Hit value
-act_of (answers.Miss cause) = Miss
+-- what is recorded of an answer to a get of a moment
+abbrev pub act_of : ℕ → Answer → Act
+act_of moment (answers.Hit value tier) = Hit value moment
+act_of moment (answers.Miss cause) = Miss
 
 -- by this layout a key belongs to the lane with this number
 abbrev pub IsOfLane : Layout → ℕ → List ℕ → Type 0
 IsOfLane layout number key = (placed_of layout.lanes layout.sets (fnv1a key)).lane ≡ number
 
--- what a key has after deeds, as a lane keeps it: it never expires
-abbrev pub kept_of : List Deed → List ℕ → Option TimedValue
-kept_of deeds key = option_map lasting (current deeds key)
-
--- a lane is sound after these deeds: each visible pair, and each of an item in flight that was not struck, is what its key has after them
+-- a lane is sound after these deeds: each visible pair, and each of an item in flight that was not struck, is what its key has after them, expired or not
 abbrev pub IsSound : LaneState → List Deed → Type 0
-IsSound lane deeds = (p : Pair) → IsShown lane p → kept_of deeds p.key ≡ Some p.value
+IsSound lane deeds = (p : Pair) → IsShown lane p → current deeds p.key ≡ Some p.value
 
 -- how many calls a lane records
 abbrev pub max_calls : ℕ

@@ -18,8 +18,8 @@ use Rattle.history_recorder.specs.Lane.{act_of, max_calls}
 
 -- the key of an operation
 abbrev pub key_of : Operation → List ℕ
-key_of (operations.Get key) = key
-key_of (operations.Put key value word) = key
+key_of (operations.Get key moment) = key
+key_of (operations.Put key value word expires) = key
 key_of (operations.Remove key) = key
 
 -- the number of the lane of a key
@@ -32,8 +32,8 @@ lane_of layout operation = lane_of_key layout (key_of operation)
 
 -- the act that is recorded of an operation by its reply; none where it was refused
 abbrev pub act_done : Operation → Reply → Option Act
-act_done (operations.Get key) (replies.Got (Ok answer)) = Some (act_of answer)
-act_done (operations.Put key value word) (replies.Stored (Ok pushed)) = Some (acts.Put value)
+act_done (operations.Get key moment) (replies.Got (Ok answer)) = Some (act_of moment answer)
+act_done (operations.Put key value word expires) (replies.Stored (Ok pushed)) = Some (acts.Put value expires)
 act_done (operations.Remove key) (replies.Removed (Ok done)) = Some acts.Remove
 act_done operation reply = None
 
@@ -58,13 +58,13 @@ HasRoomFor count = count < max_calls
 -- When a lane of so many calls, with pages of this size, answers so: a put is refused as too large exactly where its object
 -- does not fit on a page, and then an operation finds the history full exactly where the lane records no more calls.
 abbrev pub AnswersAt : ℕ → ℕ → Operation → Reply → Type 0
-AnswersAt size count (operations.Get key) (replies.Got (Ok answer)) = HasRoomFor count
-AnswersAt size count (operations.Get key) (replies.Got (Err faults.HistoryFull)) = ¬ HasRoomFor count
-AnswersAt size count (operations.Get key) (replies.Got (Err faults.OutOfMemory)) = HasRoomFor count
-AnswersAt size count (operations.Put key value word) (replies.Stored (Ok pushed)) = FitsAlone size key value × HasRoomFor count
-AnswersAt size count (operations.Put key value word) (replies.Stored (Err put_faults.TooLarge)) = ¬ FitsAlone size key value
-AnswersAt size count (operations.Put key value word) (replies.Stored (Err put_faults.HistoryFull)) = FitsAlone size key value × ¬ HasRoomFor count
-AnswersAt size count (operations.Put key value word) (replies.Stored (Err put_faults.OutOfMemory)) = FitsAlone size key value × HasRoomFor count
+AnswersAt size count (operations.Get key moment) (replies.Got (Ok answer)) = HasRoomFor count
+AnswersAt size count (operations.Get key moment) (replies.Got (Err faults.HistoryFull)) = ¬ HasRoomFor count
+AnswersAt size count (operations.Get key moment) (replies.Got (Err faults.OutOfMemory)) = HasRoomFor count
+AnswersAt size count (operations.Put key value word expires) (replies.Stored (Ok pushed)) = FitsAlone size key value × HasRoomFor count
+AnswersAt size count (operations.Put key value word expires) (replies.Stored (Err put_faults.TooLarge)) = ¬ FitsAlone size key value
+AnswersAt size count (operations.Put key value word expires) (replies.Stored (Err put_faults.HistoryFull)) = FitsAlone size key value × ¬ HasRoomFor count
+AnswersAt size count (operations.Put key value word expires) (replies.Stored (Err put_faults.OutOfMemory)) = FitsAlone size key value × HasRoomFor count
 AnswersAt size count (operations.Remove key) (replies.Removed (Ok done)) = HasRoomFor count
 AnswersAt size count (operations.Remove key) (replies.Removed (Err faults.HistoryFull)) = ¬ HasRoomFor count
 AnswersAt size count (operations.Remove key) (replies.Removed (Err faults.OutOfMemory)) = HasRoomFor count

@@ -1,7 +1,7 @@
 // A lane whose calls are recorded.
 ghost use Rattle.std.specs.Prelude.{◌≡◌, ◌↔◌, ◌<◌, ◌≤◌, ◌++◌, ◌∷◌, [], All, length, map, IfOk, OnOk, OnErr, IsErrOf, IfErr, IsTrue, slice_get, Ok, Some};
 ghost use Rattle.std.specs.List.{range_with_len};
-ghost use Rattle.record_pages.specs.Expiry.{lasting};
+ghost use Rattle.record_pages.specs.Expiry.{timed};
 ghost use Rattle.record_pages.specs.Asked.{HasNumbersOf};
 ghost use Rattle.record_pages.specs.Bounded.{IsKey, IsValue};
 ghost use Rattle.record_pages.specs.Sizes.{object_size, room};
@@ -21,7 +21,7 @@ use crate::record_put_fault::RecordPutFault;
 use crate::recorded_parts::RecordedParts;
 use mover::{OpenFault, Store, get_shows, opening_shows_nothing, put_shows, removal_shows};
 use page_device::PageDevice;
-use record_pages::{Answer, Config, Key, Layout, NEVER, Pushed, Value, is_too_large};
+use record_pages::{Answer, Config, Key, Layout, Pushed, Value, is_too_large};
 use std::alloc::{AllocError, Global};
 use std::marker::Model;
 use trace_file::{Act, ActRef};
@@ -164,7 +164,8 @@ impl<D: PageDevice<PAGE>, const PAGE: usize> RecordedLane<D, PAGE> {
         self.calls.at(count - 1).point
     }
 
-    /// Answers a get by the store, and records it.
+    /// Answers a get by the store, and records it. A value that has expired at the moment is a miss. The moment is the
+    /// caller's: it may go backwards, and what is promised of the answer speaks of this one.
     ///
     /// `HistoryFull` comes at `MAX_CALLS` calls, and changes nothing. `OutOfMemory` records nothing, and leaves the store
     /// as it was, or as the get left it that could not be recorded: then the key's pair has come to the front of memory,
@@ -175,6 +176,7 @@ impl<D: PageDevice<PAGE>, const PAGE: usize> RecordedLane<D, PAGE> {
         start: u64,
         point: u64,
         key: &Key,
+        moment: u64,
     ) -> Result<Answer, RecordFault>
         requires start { start < point }
         requires rises { All (λ n. n.point < point) self.old.calls }
@@ -187,34 +189,35 @@ impl<D: PageDevice<PAGE>, const PAGE: usize> RecordedLane<D, PAGE> {
             start = start;
             point = point;
             key = key.now;
-            act = act_of answer;
+            act = act_of moment answer;
           }) ∷ [];
         }) }
         ensures unrecorded { OnErr result (self.new ≡ record self.old { store = self.new.store }) }
 
         // The store's answer, and what it leaves.
         ensures gets { IfOk result (λ answer. StoreGets PAGE D.honest D.failures D.held key.now
-            0 self.old.store (Ok answer) self.new.store) }
+            moment self.old.store (Ok answer) self.new.store) }
 
         // When it is refused, and what that leaves.
         ensures full { IsErrOf result RecordFault.HistoryFull
             ↔ (max_calls ≤ length self.old.calls) }
         ensures full_keeps { IsErrOf result RecordFault.HistoryFull → self.new ≡ self.old }
         ensures out_of_memory { OnErr result (MayHaveGot PAGE D.honest D.failures D.held key.now
-            self.old.store self.new.store) }
+            moment self.old.store self.new.store) }
     {
         // A get shows nothing that was not shown.
         get_shows();
         if self.calls.len() >= MAX_CALLS {
             return Err(RecordFault::HistoryFull);
         }
-        let answer = self.store.get(key, 0)?;
+        let answer = self.store.get(key, moment)?;
         self.calls
-            .push(caller, start, point, key, act_lent(&answer))?;
+            .push(caller, start, point, key, act_lent(&answer, moment))?;
         Ok(answer)
     }
 
-    /// Puts a value into the store, and records it. No call of the device is made.
+    /// Puts a value into the store, where it expires at the moment `expires`, or never where that is `NEVER`, and records
+    /// it. No call of the device is made.
     ///
     /// A refused put leaves the lane as it was, so an older value of the key stays: `TooLarge` where the object does not
     /// fit on a page, else `HistoryFull` at `MAX_CALLS` calls, else `OutOfMemory`.
@@ -226,6 +229,7 @@ impl<D: PageDevice<PAGE>, const PAGE: usize> RecordedLane<D, PAGE> {
         key: Key,
         value: Value,
         word: u32,
+        expires: u64,
     ) -> Result<Pushed, RecordPutFault>
         requires start { start < point }
         requires rises { All (λ n. n.point < point) self.old.calls }
@@ -238,13 +242,13 @@ impl<D: PageDevice<PAGE>, const PAGE: usize> RecordedLane<D, PAGE> {
             start = start;
             point = point;
             key = key;
-            act = Act.Put value;
+            act = Act.Put value expires;
           }) ∷ [];
         }) }
 
         // What becomes of the store.
         ensures puts { IfOk result (λ pushed. StorePuts PAGE D.held
-            (record { key = key; value = lasting value }) word self.old.store (Ok pushed)
+            (record { key = key; value = timed value expires }) word self.old.store (Ok pushed)
             self.new.store) }
 
         // When it is refused, and what that leaves.
@@ -271,6 +275,7 @@ impl<D: PageDevice<PAGE>, const PAGE: usize> RecordedLane<D, PAGE> {
             key,
             value,
             word,
+            expires,
         )?;
         Ok(pushed)
     }
@@ -337,13 +342,13 @@ impl<D: PageDevice<PAGE>, const PAGE: usize> RecordedLane<D, PAGE> {
 
 ghost use Rattle.history_recorder.specs.Lane.{act_of};
 
-/// What is recorded of an answer, lent.
-fn act_lent(answer: &Answer) -> ActRef<'_>
-    ensures act { act_shown result ≡ act_of answer.now }
+/// What is recorded of an answer to a get of a moment, lent.
+fn act_lent(answer: &Answer, moment: u64) -> ActRef<'_>
+    ensures act { act_shown result ≡ act_of moment answer.now }
     ensures value { IsValue (value_of (act_shown result)) }
 {
     match answer {
-        Answer::Hit(value, _) => ActRef::Hit(value.bytes()),
+        Answer::Hit(value, _) => ActRef::Hit(value.bytes(), moment),
         Answer::Miss(_) => ActRef::Miss,
     }
 }
@@ -358,23 +363,24 @@ fn put_noted<D: PageDevice<PAGE>, const PAGE: usize>(
     key: Key,
     value: Value,
     word: u32,
+    expires: u64,
 ) -> Result<Pushed, AllocError>
     ensures recorded { OnOk result (calls.new ≡ calls.old ++ (record {
       caller = caller;
       start = start;
       point = point;
       key = key;
-      act = Act.Put value;
+      act = Act.Put value expires;
     }) ∷ []) }
     ensures puts { IfOk result (λ pushed. StorePuts PAGE D.held
-        (record { key = key; value = lasting value }) word store.old (Ok pushed)
+        (record { key = key; value = timed value expires }) word store.old (Ok pushed)
         store.new) }
     ensures calls_kept { OnErr result (calls.new ≡ calls.old) }
     ensures store_kept { OnErr result (store.new ≡ store.old) }
 {
-    let act = ActRef::Put(value.bytes());
+    let act = ActRef::Put(value.bytes(), expires);
     calls.push(caller, start, point, &key, act)?;
-    let Ok(pushed) = store.put(key, value, word, NEVER) else {
+    let Ok(pushed) = store.put(key, value, word, expires) else {
         calls.drop_last();
         return Err(AllocError);
     };

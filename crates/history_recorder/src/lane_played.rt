@@ -43,12 +43,12 @@ impl<D: PageDevice<PAGE>, const PAGE: usize> PlayedLane<PAGE> for RecordedLane<D
             self.old acted self.new) }
     {
         match operation {
-            Operation::Get(key) => match self.act_get(caller, start, point, key) {
+            Operation::Get(key, moment) => match self.act_get(caller, start, point, key, moment) {
                 Ok(acted) => Ok(acted),
                 Err(refused) => Err(refused),
             },
-            Operation::Put(key, value, word) => {
-                match self.act_put(caller, start, point, key, value, word) {
+            Operation::Put(key, value, word, expires) => {
+                match self.act_put(caller, start, point, key, value, word, expires) {
                     Ok(acted) => Ok(acted),
                     Err(refused) => Err(refused),
                 }
@@ -88,14 +88,15 @@ impl<D: PageDevice<PAGE>, const PAGE: usize> RecordedLane<D, PAGE> {
         start: u64,
         point: u64,
         key: Key,
+        moment: u64,
     ) -> Result<Acted, AllocError>
         requires start { start < point }
         requires rises { All (λ n. n.point < point) self.old.calls }
         requires own { IsOfLane self.old.store.layout self.old.lane key }
         ensures { IfOk result (λ acted. LaneActs D.honest D.held PAGE caller start point
-            (Operation.Get key) self.old acted self.new) }
+            (Operation.Get key moment) self.old acted self.new) }
     {
-        match self.get(caller, start, point, &key) {
+        match self.get(caller, start, point, &key, moment) {
             Ok(answer) => {
                 self.recall();
                 let noted = Noted {
@@ -103,7 +104,7 @@ impl<D: PageDevice<PAGE>, const PAGE: usize> RecordedLane<D, PAGE> {
                     start,
                     point,
                     key,
-                    act: act_from(&answer)?,
+                    act: act_from(&answer, moment)?,
                 };
                 Ok(Acted {
                     reply: Reply::Got(Ok(answer)),
@@ -129,21 +130,22 @@ impl<D: PageDevice<PAGE>, const PAGE: usize> RecordedLane<D, PAGE> {
         key: Key,
         value: Value,
         word: u32,
+        expires: u64,
     ) -> Result<Acted, AllocError>
         requires start { start < point }
         requires rises { All (λ n. n.point < point) self.old.calls }
         requires own { IsOfLane self.old.store.layout self.old.lane key }
         ensures { IfOk result (λ acted. LaneActs D.honest D.held PAGE caller start point
-            (Operation.Put key value word) self.old acted self.new) }
+            (Operation.Put key value word expires) self.old acted self.new) }
     {
         let noted = Noted {
             caller,
             start,
             point,
             key: key.try_clone()?,
-            act: Act::Put(value.try_clone()?),
+            act: Act::Put(value.try_clone()?, expires),
         };
-        match self.put(caller, start, point, key, value, word) {
+        match self.put(caller, start, point, key, value, word, expires) {
             Ok(pushed) => {
                 self.recall();
                 Ok(Acted {
@@ -234,12 +236,12 @@ impl<D: PageDevice<PAGE>, const PAGE: usize> RecordedLane<D, PAGE> {
 
 ghost use Rattle.history_recorder.specs.Lane.{act_of};
 
-/// A copy of what is recorded of an answer.
-fn act_from(answer: &Answer) -> Result<Act, AllocError>
-    ensures { IfOk result (λ act. act ≡ act_of answer.now) }
+/// A copy of what is recorded of an answer to a get of a moment.
+fn act_from(answer: &Answer, moment: u64) -> Result<Act, AllocError>
+    ensures { IfOk result (λ act. act ≡ act_of moment answer.now) }
 {
     match answer {
-        Answer::Hit(value, _) => Ok(Act::Hit(value.try_clone()?)),
+        Answer::Hit(value, _) => Ok(Act::Hit(value.try_clone()?, moment)),
         Answer::Miss(_) => Ok(Act::Miss),
     }
 }

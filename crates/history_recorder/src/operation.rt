@@ -8,11 +8,11 @@ use std::alloc::AllocError;
 /// What a caller asks of the lane of a key.
 #[derive(Debug, Drop)]
 pub enum Operation {
-    /// The value of a key.
-    Get(Key),
-    /// To keep a value of a key. A pair that memory pushes out for it is admitted to flash where the low 16 bits of
-    /// the word are below the configuration's `admit`.
-    Put(Key, Value, u32),
+    /// The value of a key, where it is live at this moment.
+    Get(Key, u64),
+    /// To keep a value of a key until a moment, or for ever where that is `NEVER`. A pair that memory pushes out for it
+    /// is admitted to flash where the low 16 bits of the word are below the configuration's `admit`.
+    Put(Key, Value, u32, u64),
     /// To keep no value of a key.
     Remove(Key),
 }
@@ -23,10 +23,10 @@ impl Operation {
         ensures { IfOk result (λ copy. copy ≡ self.now) }
     {
         match self {
-            Operation::Get(key) => Ok(Operation::Get(key.try_clone()?)),
-            Operation::Put(key, value, word) => {
+            Operation::Get(key, moment) => Ok(Operation::Get(key.try_clone()?, *moment)),
+            Operation::Put(key, value, word, expires) => {
                 let key = key.try_clone()?;
-                Ok(Operation::Put(key, value.try_clone()?, *word))
+                Ok(Operation::Put(key, value.try_clone()?, *word, *expires))
             }
             Operation::Remove(key) => Ok(Operation::Remove(key.try_clone()?)),
         }
@@ -37,8 +37,8 @@ impl Operation {
         ensures { result.now ≡ key_of self.now }
     {
         match self {
-            Operation::Get(key) => key,
-            Operation::Put(key, _, _) => key,
+            Operation::Get(key, _) => key,
+            Operation::Put(key, _, _, _) => key,
             Operation::Remove(key) => key,
         }
     }

@@ -5,7 +5,7 @@ ghost use Rattle.certificate_checker.specs.Lanes.{calls_of, PointsRise};
 
 use certificate_checker::{Done, Verdict, check};
 use history_recorder::{Dones, lay_out};
-use record_pages::{Key, Value};
+use record_pages::{Key, NEVER, Value};
 use std::alloc::Global;
 use std::test::Fail;
 use trace_file::{Act, ActRef, Call, CallRef, Certificate, History};
@@ -30,7 +30,7 @@ fn done_of(alloc: Global, put: &Put) -> Result<Done, Fail>
         start: put.1,
         end: put.3,
         key: Key::new(alloc, put.0)?,
-        act: Act::Put(Value::new(alloc, put.0)?),
+        act: Act::Put(Value::new(alloc, put.0)?, NEVER),
     };
     Ok(Done { call, point: put.2 })
 }
@@ -113,7 +113,10 @@ fn is_put(call: &CallRef<'_>, key: u8) -> bool {
 
 fn puts(call: &CallRef<'_>, key: &[u8]) -> bool {
     match call.act {
-        ActRef::Put(value) => call.caller == 7 && call.key == key && value == key,
+        ActRef::Put(value, expires) => expires == NEVER
+            && call.caller == 7
+            && call.key == key
+            && value == key,
         _ => false,
     }
 }

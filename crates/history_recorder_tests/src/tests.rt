@@ -8,7 +8,7 @@ use history_recorder::{NotedRef, RecordFault, RecordPutFault, RecordedLane, Reco
 use klog::Flushed;
 use mover::{Moved, OpenFault};
 use page_device::{FuseDevice, MemoryDevice, PageDevice};
-use record_pages::{Answer, Config, Field, Key, MissCause, Pushed, Tier};
+use record_pages::{Answer, Config, Field, Key, MissCause, NEVER, Pushed, Tier};
 use rriparoo::Rriparoo;
 use set_hash::place;
 use std::alloc::Global;

@@ -5,7 +5,7 @@ use klog::Flushed;
 use mover::{Aborted, Begin, Committed};
 use page_device::MemoryDevice;
 use policy_laws::{Choice, Plan};
-use record_pages::{Answer, Config, Field, Prediction};
+use record_pages::{Answer, Config, Field, NEVER, Prediction};
 use std::alloc::Global;
 use std::test::Fail;
 use test_steps::{key, value};
@@ -74,9 +74,12 @@ fn world(alloc: Global, row: &Row) -> Result<World<MemoryDevice<256>, 256>, Fail
 
 pub(crate) fn event(alloc: Global, happens: &Happens) -> Result<Event, Fail> {
     match happens {
-        Happens::Get(caller, name) => Ok(Event::Begin(*caller, Operation::Get(key(alloc, name)?))),
+        Happens::Get(caller, name) => Ok(Event::Begin(
+            *caller,
+            Operation::Get(key(alloc, name)?, 0),
+        )),
         Happens::Put(caller, name, bytes) => {
-            let operation = Operation::Put(key(alloc, name)?, value(alloc, bytes)?, 0);
+            let operation = Operation::Put(key(alloc, name)?, value(alloc, bytes)?, 0, NEVER);
             Ok(Event::Begin(*caller, operation))
         }
         Happens::Remove(caller, name) => {
@@ -150,8 +153,8 @@ fn are_replied(replies: &Replies, events: &[(Happens, u8)]) -> bool {
 
 fn is_call(call: &CallRef<'_>, wanted: &Called) -> bool {
     let did = match call.act {
-        ActRef::Put(value) => wanted.4 == b'p' && value == wanted.5,
-        ActRef::Hit(value) => wanted.4 == b'h' && value == wanted.5,
+        ActRef::Put(value, _) => wanted.4 == b'p' && value == wanted.5,
+        ActRef::Hit(value, _) => wanted.4 == b'h' && value == wanted.5,
         ActRef::Miss => wanted.4 == b'm',
         ActRef::Remove => wanted.4 == b'r',
     };

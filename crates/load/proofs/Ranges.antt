@@ -6,7 +6,7 @@ use Rattle.std.specs.Char.{digit_value}
 use Rattle.std.specs.List.{list_all}
 use Rattle.std.specs.Str.Parse.{AllDigits, IsNumeral, digits_value, without_leading_plus}
 use Rattle.load.specs.declared.setting.Setting.{Setting}
-use Rattle.load.specs.declared.setting.Setting.TheVariants.{Lanes, Sets, Memory, Segments, SegmentPages, Entries, Threshold, Admit, Callers, Operations, Keys, ValueBytes, Gets, Removes, Workers, Seed}
+use Rattle.load.specs.declared.setting.Setting.TheVariants.{Lanes, Sets, Memory, Segments, SegmentPages, Entries, Threshold, Admit, Callers, Operations, Keys, ValueBytes, Gets, Removes, Workers, Seed, Ttl}
 use Rattle.load.specs.declared.load.Load.{Load}
 use Rattle.load.specs.Asked.{HasNumbers, number_of}
 use Rattle.load.specs.Settings.{AreAdmitted, is_admitted, is_decimal, number_at, number_in, row_of, value_of_text}
@@ -39,6 +39,7 @@ small Gets = omega arith
 small Removes = omega arith
 small Workers = omega arith
 small Seed = omega arith
+small Ttl = omega arith
 
 digits : (ds : List ℕ) → AllDigits 10 ds → list_all (λ c. nat_lt (digit_value c) 10) ds ≡ true
 digits [] h = refl
@@ -108,3 +109,4 @@ each_number load numbers h Gets = h.gets
 each_number load numbers h Removes = h.removes
 each_number load numbers h Workers = h.workers
 each_number load numbers h Seed = h.seed
+each_number load numbers h Ttl = h.ttl

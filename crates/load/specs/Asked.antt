@@ -3,7 +3,7 @@ use Rattle.std.specs.Prelude.{◌≡◌, ℕ, List}
 use Rattle.record_pages.specs.declared.layout.Layout.{Layout}
 use Rattle.load.specs.declared.load.Load.{Load}
 use Rattle.load.specs.declared.setting.Setting.{Setting}
-use Rattle.load.specs.declared.setting.Setting.TheVariants.{Lanes, Sets, Memory, Segments, SegmentPages, Entries, Threshold, Admit, Callers, Operations, Keys, ValueBytes, Gets, Removes, Workers, Seed}
+use Rattle.load.specs.declared.setting.Setting.TheVariants.{Lanes, Sets, Memory, Segments, SegmentPages, Entries, Threshold, Admit, Callers, Operations, Keys, ValueBytes, Gets, Removes, Workers, Seed, Ttl}
 use Rattle.load.specs.Settings.{number_at}
 
 -- the number that a load has for a setting
@@ -24,6 +24,7 @@ number_of load Gets = load.gets
 number_of load Removes = load.removes
 number_of load Workers = load.workers
 number_of load Seed = load.seed
+number_of load Ttl = load.ttl
 
 -- the cache has its numbers of a list with one for each setting in their order
 pub record IsLayoutOf (layout : Layout) (numbers : List ℕ) : Type 0 where
@@ -47,3 +48,4 @@ pub record HasNumbers (load : Load) (numbers : List ℕ) : Type 0 where
   pub removes : load.removes ≡ number_at numbers Removes
   pub workers : load.workers ≡ number_at numbers Workers
   pub seed : load.seed ≡ number_at numbers Seed
+  pub ttl : load.ttl ≡ number_at numbers Ttl

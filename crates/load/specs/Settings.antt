@@ -4,7 +4,7 @@ use Rattle.std.specs.Char.{digit_value}
 use Rattle.std.specs.List.{list_all}
 use Rattle.std.specs.Str.Parse.{digits_value, without_leading_plus}
 use Rattle.load.specs.declared.setting.Setting.{Setting}
-use Rattle.load.specs.declared.setting.Setting.TheVariants.{Lanes, Sets, Memory, Segments, SegmentPages, Entries, Threshold, Admit, Callers, Operations, Keys, ValueBytes, Gets, Removes, Workers, Seed}
+use Rattle.load.specs.declared.setting.Setting.TheVariants.{Lanes, Sets, Memory, Segments, SegmentPages, Entries, Threshold, Admit, Callers, Operations, Keys, ValueBytes, Gets, Removes, Workers, Seed, Ttl}
 
 -- a row of the table
 pub record Row : Type 0 where
@@ -34,6 +34,7 @@ row_of Gets = row (codes "gets") (codes "70") 0 100
 row_of Removes = row (codes "removes") (codes "5") 0 100
 row_of Workers = row (codes "workers") (codes "2") 1 16
 row_of Seed = row (codes "seed") (codes "1") 0 4294967295
+row_of Ttl = row (codes "ttl") (codes "0") 0 1000000
 
 -- the number is in the setting's range
 abbrev pub is_admitted : Setting → ℕ → Bool
@@ -53,7 +54,7 @@ number_in setting text = if is_decimal text && is_admitted setting (value_of_tex
 
 -- the settings in their order
 abbrev pub settings : List Setting
-settings = Lanes ∷ Sets ∷ Memory ∷ Segments ∷ SegmentPages ∷ Entries ∷ Threshold ∷ Admit ∷ Callers ∷ Operations ∷ Keys ∷ ValueBytes ∷ Gets ∷ Removes ∷ Workers ∷ Seed ∷ []
+settings = Lanes ∷ Sets ∷ Memory ∷ Segments ∷ SegmentPages ∷ Entries ∷ Threshold ∷ Admit ∷ Callers ∷ Operations ∷ Keys ∷ ValueBytes ∷ Gets ∷ Removes ∷ Workers ∷ Seed ∷ Ttl ∷ []
 
 -- the place of a setting in that order
 abbrev pub place_of : Setting → ℕ
@@ -73,6 +74,7 @@ place_of Gets = 12
 place_of Removes = 13
 place_of Workers = 14
 place_of Seed = 15
+place_of Ttl = 16
 
 -- the number of a setting, of a list with one for each in their order
 abbrev pub number_at : List ℕ → Setting → ℕ

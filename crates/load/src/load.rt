@@ -27,6 +27,8 @@ pub struct Load {
     pub workers: u32,
     /// The seed of the callers' random words.
     pub seed: u32,
+    /// Operations of its caller after which a put expires; 0 for never.
+    pub ttl: u32,
     /// The folder of the lanes' files; none for devices in memory.
     pub device: Option<FileName>,
     /// The file that the trace is written to.
@@ -38,4 +40,5 @@ pub struct Load {
     ghost gets_range: { gets ≤ 100 },
     ghost removes_range: { removes ≤ 100 },
     ghost workers_range: { (1 ≤ workers) × (workers ≤ 16) },
+    ghost ttl_range: { ttl ≤ 1000000 },
 }

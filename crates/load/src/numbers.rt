@@ -8,7 +8,7 @@ use crate::load::Load;
 use record_pages::Layout;
 
 /// The cache with these numbers, one for each of `SETTINGS` in their order.
-fn layout_with(numbers: &[u32; 16]) -> Layout
+fn layout_with(numbers: &[u32; 17]) -> Layout
     requires { AreAdmitted numbers.now }
     ensures { IsLayoutOf result numbers.now }
 {
@@ -26,7 +26,7 @@ fn layout_with(numbers: &[u32; 16]) -> Layout
 
 /// The load with these numbers, one for each of `SETTINGS` in their order, whose devices are files of this
 /// folder, or in memory where there is none, and which writes its trace to this file.
-pub fn load_with(numbers: &[u32; 16], device: Option<FileName>, trace: FileName) -> Load
+pub fn load_with(numbers: &[u32; 17], device: Option<FileName>, trace: FileName) -> Load
     requires { AreAdmitted numbers.now }
     ensures numbers { HasNumbers result numbers.now }
     ensures device { result.device ≡ device }
@@ -42,6 +42,7 @@ pub fn load_with(numbers: &[u32; 16], device: Option<FileName>, trace: FileName)
         removes: numbers[13],
         workers: numbers[14],
         seed: numbers[15],
+        ttl: numbers[16],
         device,
         trace,
     }

@@ -2,7 +2,7 @@
 ghost use Rattle.std.specs.Prelude.{◌≡◌, ◌<◌, ◌≤◌, ◌++◌, codes, take, length, IfOk};
 ghost use Rattle.std.specs.Fmt.{decimal};
 ghost use Rattle.std.specs.List.{repeat};
-ghost use Rattle.load.specs.Operations.{key_of, value_of, next_of};
+ghost use Rattle.load.specs.Operations.{key_of, value_of, moment_of, expires_of, next_of};
 
 use crate::load::Load;
 use arrayvec::ArrayVec;
@@ -10,7 +10,7 @@ use history_recorder::Operation;
 use itoa::Buffer;
 use rand_core::utils::NextWord;
 use rand_pcg::Lcg64Xsh32;
-use record_pages::{Key, KeyFault, Value, ValueFault};
+use record_pages::{Key, KeyFault, NEVER, Value, ValueFault};
 use std::alloc::{AllocError, Global};
 
 /// The most bytes of a key: a `k` and a number of 32 bits in decimal.
@@ -45,8 +45,29 @@ fn value(alloc: Global, load: &Load, caller: u16, number: u32) -> Result<Value, 
     }
 }
 
+/// The moment of a caller's get with this number: the number itself, where puts expire.
+fn moment_of(load: &Load, number: u32) -> u64
+    ensures { result ≡ moment_of load.now number }
+{
+    if load.ttl == 0 { 0 } else { u64::from(number) }
+}
+
+/// The moment from which a caller's put with this number is expired.
+fn expires_of(load: &Load, number: u32) -> u64
+    ensures { result ≡ expires_of load.now number }
+{
+    if load.ttl == 0 {
+        NEVER
+    } else {
+        u64::from(number) + u64::from(load.ttl)
+    }
+}
+
 /// The operation of this number that a caller does next, by its generator's next words: one for the
 /// kind, one for the key, and for a put one more, its word of admission.
+///
+/// With a `ttl` of 0 each put is for ever, and each get at moment 0. With another the moment of an
+/// operation is its number, and a put is expired from the moment `ttl` further on.
 ///
 /// The words are drawn before memory is taken, so the generator is past them also where memory is
 /// refused.
@@ -64,13 +85,13 @@ pub fn next_operation(
     let kind = generator.next_word() % 100;
     let word = generator.next_word();
     if kind < load.gets {
-        Ok(Operation::Get(key(alloc, load, word)?))
+        Ok(Operation::Get(key(alloc, load, word)?, moment_of(load, number)))
     } else if kind < load.gets + load.removes {
         Ok(Operation::Remove(key(alloc, load, word)?))
     } else {
         let admission = generator.next_word();
         let key = key(alloc, load, word)?;
         let value = value(alloc, load, caller, number)?;
-        Ok(Operation::Put(key, value, admission))
+        Ok(Operation::Put(key, value, admission, expires_of(load, number)))
     }
 }

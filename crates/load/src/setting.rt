@@ -37,10 +37,12 @@ pub enum Setting {
     Workers,
     /// The seed of the callers' random words.
     Seed,
+    /// Operations of its caller after which a put expires; 0 for never.
+    Ttl,
 }
 
 /// The settings in their order.
-pub const SETTINGS: [Setting; 16] = [
+pub const SETTINGS: [Setting; 17] = [
     Setting::Lanes,
     Setting::Sets,
     Setting::Memory,
@@ -57,6 +59,7 @@ pub const SETTINGS: [Setting; 16] = [
     Setting::Removes,
     Setting::Workers,
     Setting::Seed,
+    Setting::Ttl,
 ];
 
 impl Setting {
@@ -81,6 +84,7 @@ impl Setting {
             Setting::Removes => "removes",
             Setting::Workers => "workers",
             Setting::Seed => "seed",
+            Setting::Ttl => "ttl",
         }
     }
 
@@ -103,6 +107,9 @@ impl Setting {
             Setting::Removes => "Removes, 0 to 100 per cent",
             Setting::Workers => "Threads that flush and move, 1 to 16",
             Setting::Seed => "The seed of the callers' random words, 0 to 4294967295",
+            Setting::Ttl => {
+                "Operations of its caller after which a put expires, 0 to 1000000; 0 for never"
+            }
         }
     }
 
@@ -116,7 +123,8 @@ impl Setting {
             | Setting::ValueBytes
             | Setting::Gets
             | Setting::Removes
-            | Setting::Seed => 0,
+            | Setting::Seed
+            | Setting::Ttl => 0,
             Setting::Segments => 2,
             _ => 1,
         }
@@ -134,7 +142,7 @@ impl Setting {
             Setting::Segments => 256,
             Setting::ValueBytes => 2048,
             Setting::Sets | Setting::Admit => 65536,
-            Setting::Operations | Setting::Keys => 1000000,
+            Setting::Operations | Setting::Keys | Setting::Ttl => 1000000,
             Setting::Memory | Setting::Entries => 1048576,
             Setting::Seed => 4294967295,
         }
@@ -157,6 +165,7 @@ impl Setting {
             Setting::Gets => "70",
             Setting::Removes => "5",
             Setting::Seed => "1",
+            Setting::Ttl => "0",
         }
     }
 

@@ -9,9 +9,9 @@ use Rattle.load_run.specs.declared.summary.Summary.{Summary}
 
 -- the act read a value
 abbrev pub is_hit_act : Act → Bool
-is_hit_act (Put value) = false
+is_hit_act (Put value expires) = false
 is_hit_act Remove = false
-is_hit_act (Hit value) = true
+is_hit_act (Hit value moment) = true
 is_hit_act Miss = false
 
 -- the call read a value

@@ -100,14 +100,16 @@ fn make<D: PageDevice<PAGE>, P: EvictionPolicy + Drop, const PAGE: usize, R: Wai
     ensures tie { KeepsTie pass.old pass.new }
 {
     match operation {
-        Operation::Get(key) => match cache.get(rt, pass, &key) {
+        Operation::Get(key, moment) => match cache.get(rt, pass, &key, moment) {
             Ok(_) => Ok(()),
             Err(fault) => Err(fault),
         },
-        Operation::Put(key, value, word) => match cache.put(rt, pass, key, value, word) {
-            Ok(_) => Ok(()),
-            Err(fault) => Err(fault),
-        },
+        Operation::Put(key, value, word, expires) => {
+            match cache.put(rt, pass, key, value, word, expires) {
+                Ok(_) => Ok(()),
+                Err(fault) => Err(fault),
+            }
+        }
         Operation::Remove(key) => match cache.remove(rt, pass, &key) {
             Ok(()) => Ok(()),
             Err(fault) => Err(fault),

@@ -23,5 +23,5 @@ ghost use Rattle.trace_file.specs.Lent.{call_shown};
 fn is_hit(call: &CallRef<'_>) -> bool
     ensures { result ≡ is_hit (call_shown call.now) }
 {
-    matches!(call.act, ActRef::Hit(_))
+    matches!(call.act, ActRef::Hit(..))
 }

@@ -24,6 +24,14 @@ is_numeral word = are_digits word && not (length word == 0) && (not (slice_index
 abbrev pub value_of : List ℕ → ℕ
 value_of digits = fold (λ n digit. 10 * n + (digit - 48)) 0 digits
 
--- the number below 2 ^ 32 that the word writes; none where it writes none
+-- the number below a bound that the word writes; none where it writes none
+abbrev pub number_below : ℕ → List ℕ → Option ℕ
+number_below bound word = if is_numeral word && nat_lt (value_of word) bound then Some (value_of word) else None
+
+-- a number of 32 bits
 abbrev pub number_of : List ℕ → Option ℕ
-number_of word = if is_numeral word && nat_lt (value_of word) (2 ^ 32) then Some (value_of word) else None
+number_of word = number_below (2 ^ 32) word
+
+-- a moment, which has 64 bits
+abbrev pub time_of : List ℕ → Option ℕ
+time_of word = number_below (2 ^ 64) word

@@ -1,18 +1,19 @@
 // The commands of a script.
 ghost use Rattle.std.specs.Prelude.{◌≡◌, ◌<◌, ◌≤◌, length, slice_index_or, [], List, map, IfOk, option_map};
-ghost use Rattle.script_words.specs.Commands.{is_named, key_of, value_of, put_words, command_of_words, command_of};
+ghost use Rattle.script_words.specs.Commands.{is_named, key_of, value_of, get_words, put_words, bare_of, command_of_words, command_of};
 
-use crate::words::{number, words};
-use record_pages::{Key, KeyFault, Value, ValueFault};
+use crate::words::{number, time, words};
+use record_pages::{Key, KeyFault, NEVER, Value, ValueFault};
 use std::alloc::{AllocError, Global};
 
 /// A line of a script behind its first.
 #[derive(Debug, Drop)]
 pub enum Command {
-    /// Puts a value, with the word that decides whether it enters flash.
-    Put(Key, Value, u32),
-    /// Asks for a key.
-    Get(Key),
+    /// Puts a value, with the word that decides whether it enters flash, and the moment from which it is
+    /// expired, 2^64 - 1 for never.
+    Put(Key, Value, u32, u64),
+    /// Asks for a key at a moment.
+    Get(Key, u64),
     /// Removes a key.
     Remove(Key),
     /// Has the cache forget a key, which is no call of the history.
@@ -58,14 +59,34 @@ fn value(alloc: Global, word: &[u8]) -> Result<Option<Value>, AllocError>
     }
 }
 
-/// The put that four words spell.
+/// The get of a key at a moment, if there is one.
+#[tactic(auto, unfolding(crate::specs::Commands::get_words))]
+fn get_command(
+    alloc: Global,
+    key_word: &[u8],
+    moment: Option<u64>,
+) -> Result<Option<Command>, AllocError>
+    ensures { IfOk result (λ command. command ≡ get_words key_word.now moment) }
+{
+    let Some(key) = key(alloc, key_word)? else {
+        return Ok(None);
+    };
+    match moment {
+        Some(moment) => Ok(Some(Command::Get(key, moment))),
+        None => Ok(None),
+    }
+}
+
+/// The put that three words spell, with the moment from which it is expired, if there is one.
+#[tactic(auto, unfolding(crate::specs::Commands::put_words))]
 fn put_command(
     alloc: Global,
     key_word: &[u8],
     value_word: &[u8],
     number_word: &[u8],
+    expires: Option<u64>,
 ) -> Result<Option<Command>, AllocError>
-    ensures { IfOk result (λ command. command ≡ put_words key_word.now value_word.now number_word.now) }
+    ensures { IfOk result (λ command. command ≡ put_words key_word.now value_word.now number_word.now expires) }
 {
     let Some(key) = key(alloc, key_word)? else {
         return Ok(None);
@@ -73,9 +94,27 @@ fn put_command(
     let Some(value) = value(alloc, value_word)? else {
         return Ok(None);
     };
-    match number(number_word) {
-        Some(word) => Ok(Some(Command::Put(key, value, word))),
-        None => Ok(None),
+    match (number(number_word), expires) {
+        (Some(word), Some(expires)) => Ok(Some(Command::Put(key, value, word, expires))),
+        _ => Ok(None),
+    }
+}
+
+/// The command that one word spells.
+#[tactic(auto, unfolding(crate::specs::Commands::bare_of))]
+fn bare_command(words: &[&[u8]]) -> Option<Command>
+    ensures { result ≡ bare_of (map (λ w. w.now) words.now) }
+{
+    if is_named(words, 1, b"verdict") {
+        Some(Command::Verdict)
+    } else if is_named(words, 1, b"trace") {
+        Some(Command::Trace)
+    } else if is_named(words, 1, b"flush") {
+        Some(Command::Flush)
+    } else if is_named(words, 1, b"move") {
+        Some(Command::Move)
+    } else {
+        None
     }
 }
 
@@ -83,29 +122,26 @@ fn put_command(
 fn command_of_words(alloc: Global, words: &[&[u8]]) -> Result<Option<Command>, AllocError>
     ensures { IfOk result (λ command. command ≡ command_of_words (map (λ w. w.now) words.now)) }
 {
-    if is_named(words, 1, b"verdict") {
-        Ok(Some(Command::Verdict))
-    } else if is_named(words, 1, b"trace") {
-        Ok(Some(Command::Trace))
-    } else if is_named(words, 1, b"flush") {
-        Ok(Some(Command::Flush))
-    } else if is_named(words, 1, b"move") {
-        Ok(Some(Command::Move))
-    } else if is_named(words, 2, b"get") {
-        Ok(key(alloc, words[1])?.map(Command::Get))
+    if is_named(words, 2, b"get") {
+        get_command(alloc, words[1], Some(0))
+    } else if is_named(words, 3, b"get") {
+        get_command(alloc, words[1], time(words[2]))
     } else if is_named(words, 2, b"remove") {
         Ok(key(alloc, words[1])?.map(Command::Remove))
     } else if is_named(words, 2, b"forget") {
         Ok(key(alloc, words[1])?.map(Command::Forget))
     } else if is_named(words, 4, b"put") {
-        put_command(alloc, words[1], words[2], words[3])
+        put_command(alloc, words[1], words[2], words[3], Some(NEVER))
+    } else if is_named(words, 5, b"put") {
+        put_command(alloc, words[1], words[2], words[3], time(words[4]))
     } else {
-        Ok(None)
+        Ok(bare_command(words))
     }
 }
 
 /// The command that a line spells. It takes memory for the command's key and value, and none for the
 /// line's words.
+#[tactic(auto, unfolding(crate::specs::Commands::bare_of))]
 pub fn parse_command(alloc: Global, line: &[u8]) -> Result<Option<Command>, AllocError>
     ensures { IfOk result (λ command. command ≡ command_of line.now) }
 {

@@ -2,12 +2,15 @@
 ghost use Rattle.std.specs.Prelude.{◌≡◌, ◌^◌, ◌<◌, ◌≤◌, ◌&&◌, ◌==◌, nat_le, ℕ, true, not, length, slice_index, IfNone, IfSome, IsTrue, Some, map};
 ghost use Rattle.std.specs.Fmt.{decimal};
 ghost use Rattle.std.specs.List.{list_all};
-ghost use Rattle.script_words.specs.Words.{is_word, words_of, are_digits, is_numeral, value_of, number_of};
+ghost use Rattle.script_words.specs.Words.{is_word, words_of, are_digits, is_numeral, value_of, number_below, number_of, time_of};
 
 use arrayvec::ArrayVec;
 
 /// The most words of a line that spells something: `config` and eight numbers.
 const MAX_WORDS: usize = 9;
+
+/// The most digits of a number below 2 ^ 64.
+const MAX_DIGITS: usize = 20;
 
 /// Whether bytes are a word.
 pub(crate) fn is_word(bytes: &[u8]) -> bool
@@ -42,15 +45,15 @@ pub(crate) fn words<'a>(line: &'a [u8]) -> Option<ArrayVec<&'a [u8], MAX_WORDS>>
     if are_words(&parts) { Some(parts) } else { None }
 }
 
-/// What up to ten digits write.
-fn value(digits: &[u8]) -> u64
+/// What up to `MAX_DIGITS` digits write.
+fn value(digits: &[u8]) -> u128
     requires digits { IsTrue (are_digits digits.now) }
-    requires few { length digits.now ≤ 10 }
+    requires few { length digits.now ≤ 20 }
     ensures { result ≡ value_of digits.now }
 {
-    let mut value = 0u64;
+    let mut value = 0u128;
     for digit in digits {
-        value = 10 * value + u64::from(*digit - b'0');
+        value = 10 * value + u128::from(*digit - b'0');
     }
     value
 }
@@ -62,13 +65,28 @@ fn is_numeral(word: &[u8]) -> bool
     are_within(word, b'0', b'9') && !word.is_empty() && (word[0] != b'0' || word.len() == 1)
 }
 
-/// The number that a word writes.
+/// The number of at most `MAX_DIGITS` digits that a word writes.
+fn numeral(word: &[u8]) -> Option<u128>
+    ensures { result ≡ number_below (10 ^ 20) word.now }
+{
+    if !is_numeral(word) || word.len() > MAX_DIGITS {
+        return None;
+    }
+    Some(value(word))
+}
+
+/// The number of 32 bits that a word writes.
 pub(crate) fn number(word: &[u8]) -> Option<u32>
     ensures value { result ≡ number_of word.now }
     ensures digits { IfSome result (λ n. word.now ≡ decimal n) }
 {
-    if !is_numeral(word) || word.len() > 10 {
-        return None;
-    }
-    u32::try_from(value(word)).ok()
+    u32::try_from(numeral(word)?).ok()
+}
+
+/// The moment that a word writes, a number of 64 bits.
+pub(crate) fn time(word: &[u8]) -> Option<u64>
+    ensures value { result ≡ time_of word.now }
+    ensures digits { IfSome result (λ n. word.now ≡ decimal n) }
+{
+    u64::try_from(numeral(word)?).ok()
 }

@@ -26,8 +26,8 @@ on_ok (Err e) f p = tt
 pub no_err : {T E : Type 0} (x : T) (e : E) → IsErrOf (Ok x) e → ⊥
 no_err x e is = cc
 
-module _ (page : ℕ) (o : Opened) (key value : List ℕ) (word : ℕ) where
-  pub stored_text : (room page < object_size key value → ⊥) → ((object_size key value ≤ room page) × (max_calls ≤ length o.calls) → ⊥) → (reply_to page o (Put key value word)).text ≡ codes "stored\n"
+module _ (page : ℕ) (o : Opened) (key value : List ℕ) (word expires : ℕ) where
+  pub stored_text : (room page < object_size key value → ⊥) → ((object_size key value ≤ room page) × (max_calls ≤ length o.calls) → ⊥) → (reply_to page o (Put key value word expires)).text ≡ codes "stored\n"
   stored_text not_large not_full = elim (cases_Bool (ltb (room page) (object_size key value))) [
     | inl large ↦ absurd (not_large (ltb-true (room page) (object_size key value) large))
     | inr fits ↦ elim (cases_Bool (ltb (length o.calls) max_calls)) [
@@ -36,10 +36,10 @@ module _ (page : ℕ) (o : Opened) (key value : List ℕ) (word : ℕ) where
     ]
   ]
 
-  pub large_text : room page < object_size key value → (reply_to page o (Put key value word)).text ≡ codes "too large\n"
+  pub large_text : room page < object_size key value → (reply_to page o (Put key value word expires)).text ≡ codes "too large\n"
   large_text large = rw (lt-ltb (room page) (object_size key value) large) refl
 
-  pub full_text : (object_size key value ≤ room page) × (max_calls ≤ length o.calls) → (reply_to page o (Put key value word)).text ≡ codes "history full\n"
+  pub full_text : (object_size key value ≤ room page) × (max_calls ≤ length o.calls) → (reply_to page o (Put key value word expires)).text ≡ codes "history full\n"
   full_text both = elim (cases_Bool (ltb (room page) (object_size key value))) [
     | inl large ↦ let over = ltb-true (room page) (object_size key value) large in absurd (omega (arith, over, both.0))
     | inr fits ↦ elim (cases_Bool (ltb (length o.calls) max_calls)) [

@@ -54,15 +54,15 @@ pub uncalled : (old new : Lane Pages) (lane : LaneState) → new ≡ record old 
 uncalled old new lane whole layout holds = seen_by new old.store.layout lane old.calls layout holds (ap (λ (l : Lane Pages). l.calls) whole)
 
 -- a get answers and leaves what its step does
-pub got : (size : ℕ) (old new : Lane Pages) (key : List ℕ) (answer : Answer) →
-    new ≡ record old { store = new.store; calls = old.calls ++ noted (length old.calls) key (act_of answer) ∷ [] } →
-    StoreGets size honest failures held_by key 0 old.store (Ok answer) new.store →
-    (answer ≡ (get_step key 0 (seen_of old).lane).reply)
-    × (seen_of new ≡ after_call (seen_of old) (get_step key 0 (seen_of old).lane).lane key (act_of answer))
-got size old new key answer whole told =
+pub got : (size : ℕ) (old new : Lane Pages) (key : List ℕ) (moment : ℕ) (answer : Answer) →
+    new ≡ record old { store = new.store; calls = old.calls ++ noted (length old.calls) key (act_of moment answer) ∷ [] } →
+    StoreGets size honest failures held_by key moment old.store (Ok answer) new.store →
+    (answer ≡ (get_step key moment (seen_of old).lane).reply)
+    × (seen_of new ≡ after_call (seen_of old) (get_step key moment (seen_of old).lane).lane key (act_of moment answer))
+got size old new key moment answer whole told =
     let unfailed = none_failed (is_fault (Ok answer)) told.reads.failed_once in
-    let step = get_is_step (get_step key 0 (lane_of held_by old.store)) (NeedsPage key (lane_of held_by old.store)) (lane_of held_by old.store) (lane_of held_by new.store) answer unfailed (told.gives refl) in
-    (step.0, called old new key (act_of answer) (get_step key 0 (lane_of held_by old.store)).lane whole told.reads.layout step.1)
+    let step = get_is_step (get_step key moment (lane_of held_by old.store)) (NeedsPage key (lane_of held_by old.store)) (lane_of held_by old.store) (lane_of held_by new.store) answer unfailed (told.gives refl) in
+    (step.0, called old new key (act_of moment answer) (get_step key moment (lane_of held_by old.store)).lane whole told.reads.layout step.1)
 
 -- a flush step answers and leaves what its function does
 pub flushed : (old new : Lane Pages) (answer : Flushed) → new ≡ record old { store = new.store } → StoreFlushes honest failures held_by old.store answer new.store →
@@ -91,13 +91,13 @@ stays old new its whole layout =
       first = ap (λ (l : Lane Pages). l.lane) whole ∙ its.first;
     }
 
-kept_layout : (size : ℕ) (key : List ℕ) (old new : Lane Pages) → MayHaveGot size honest failures held_by key old.store new.store → new.store.layout ≡ old.store.layout
-kept_layout size key old new (inl same) = ap (λ (s : StoreState Pages). s.layout) same
-kept_layout size key old new (inr got) = got.1.reads.layout
+kept_layout : (size : ℕ) (key : List ℕ) (moment : ℕ) (old new : Lane Pages) → MayHaveGot size honest failures held_by key moment old.store new.store → new.store.layout ≡ old.store.layout
+kept_layout size key moment old new (inl same) = ap (λ (s : StoreState Pages). s.layout) same
+kept_layout size key moment old new (inr got) = got.1.reads.layout
 
 -- also where a get was refused
-pub stays_refused : (size : ℕ) (key : List ℕ) (old new : Lane Pages) → IsOfScript old → new ≡ record old { store = new.store } → MayHaveGot size honest failures held_by key old.store new.store → IsOfScript new
-stays_refused size key old new its whole kept = stays old new its whole (kept_layout size key old new kept)
+pub stays_refused : (size : ℕ) (key : List ℕ) (moment : ℕ) (old new : Lane Pages) → IsOfScript old → new ≡ record old { store = new.store } → MayHaveGot size honest failures held_by key moment old.store new.store → IsOfScript new
+stays_refused size key moment old new its whole kept = stays old new its whole (kept_layout size key moment old new kept)
 
 one_more : (calls : List Noted) (key : List ℕ) (act : Act) → HasStamps calls → HasStamps (calls ++ noted (length calls) key act ∷ [])
 one_more calls key act stamps i d within =

@@ -1,6 +1,6 @@
 -- What a script's commands reply, and its lane after them.
 use Rattle.std.specs.Prelude.{ℕ, List, ◌++◌, length, nat_lt, ◌==◌, if◌then◌else◌, codes}
-use Rattle.record_pages.specs.Expiry.{lasting}
+use Rattle.record_pages.specs.Expiry.{timed}
 use Rattle.record_pages.specs.declared.answer.Answer.{Answer}
 use Rattle.record_pages.specs.declared.answer.Answer.TheVariants.{Hit, Miss}
 use Rattle.record_pages.specs.declared.miss_cause.MissCause.{MissCause}
@@ -10,7 +10,8 @@ use Rattle.record_pages.specs.declared.tier.Tier.TheVariants.{Memory, Log, Set}
 use Rattle.record_pages.specs.Sizes.{object_size, room}
 use Rattle.trace_file.specs.declared.act.Act.TheVariants as acts
 use Rattle.hex.specs.Hex.{encode_lower}
-use Rattle.trace_file.specs.Text.{trace_text}
+use Rattle.trace_file.specs.Text.{text_of}
+use Rattle.trace_file.specs.declared.version.Version.TheVariants.{Timed}
 use Rattle.certificate_checker.specs.declared.verdict.Verdict.TheVariants.{Accepted}
 use Rattle.certificate_checker.specs.VerdictLine.{verdict_line}
 use Rattle.klog.specs.declared.flushed.Flushed.{Flushed}
@@ -82,9 +83,9 @@ reply text opened = record { text = text ++ codes "\n"; opened = opened }
 abbrev pub unless_full : Opened → Reply → Reply
 unless_full o r = if nat_lt (length o.calls) max_calls then r else reply (codes "history full") o
 
--- the reply to a get, by its step
-abbrev pub reply_to_get : Opened → List ℕ → Step Answer → Reply
-reply_to_get o key step = reply (answer_text step.reply) (after_call o step.lane key (act_of step.reply))
+-- the reply to a get of a moment, by its step
+abbrev pub reply_to_get : Opened → List ℕ → ℕ → Step Answer → Reply
+reply_to_get o key moment step = reply (answer_text step.reply) (after_call o step.lane key (act_of moment step.reply))
 
 -- the reply to a flush, by its step
 abbrev pub reply_to_flush : Opened → Step Flushed → Reply
@@ -97,16 +98,16 @@ reply_to_move o step = reply (move_text step.reply) (with_lane o step.lane)
 -- The reply to a command over pages of this many bytes, and the script's lane after it. Each call of a device succeeds, and
 -- moves go by the plans of Rriparoo.
 abbrev pub reply_to : ℕ → Opened → Command → Reply
-reply_to page o (Put key value word) =
+reply_to page o (Put key value word expires) =
     if nat_lt (room page) (object_size key value) then reply (codes "too large") o
     else unless_full o (reply (codes "stored") (after_call o
-    (put_step page o.admit (record { key = key; value = lasting value }) word o.lane).lane key (acts.Put value)))
-reply_to page o (Get key) = unless_full o (reply_to_get o key (get_step key 0 o.lane))
+    (put_step page o.admit (record { key = key; value = timed value expires }) word o.lane).lane key (acts.Put value expires)))
+reply_to page o (Get key moment) = unless_full o (reply_to_get o key moment (get_step key moment o.lane))
 reply_to page o (Remove key) = unless_full o (reply (codes "removed") (after_call o (removed key o.lane) key acts.Remove))
 reply_to page o (Forget key) = reply (codes "forgotten") (with_lane o (removed key o.lane))
 reply_to page o Flush = reply_to_flush o (flush_step o.lane)
 reply_to page o Move = reply_to_move o (move_step page o.threshold rriparoo_plan o.lane)
 -- every verdict of a script is an accepted line
 reply_to page o Verdict = reply (verdict_line Accepted (length o.calls)) o
--- every trace of a script is that of its calls so far, in lower case hexadecimal
-reply_to page o Trace = reply (encode_lower (trace_text (own_history o.calls) (own_certificate o.calls))) o
+-- every trace of a script is the timed one of its calls so far, in lower case hexadecimal
+reply_to page o Trace = reply (encode_lower (text_of Timed (own_history o.calls) (own_certificate o.calls))) o

@@ -105,14 +105,15 @@ fn append_answer(text: &mut Vec<u8>, answer: &Answer) -> Result<(), AllocError>
 fn get_reply<const PAGE: usize>(
     lane: &mut ScriptLane<PAGE>,
     key: &Key,
+    moment: u64,
     text: &mut Vec<u8>,
 ) -> Result<(), AllocError>
     ensures text { OnOk result (text.new.items
-        ≡ text.old.items ++ (reply_to PAGE (seen_of lane.old) (Command.Get key.now)).text) }
+        ≡ text.old.items ++ (reply_to PAGE (seen_of lane.old) (Command.Get key.now moment)).text) }
     ensures lane { OnOk result (seen_of lane.new
-        ≡ (reply_to PAGE (seen_of lane.old) (Command.Get key.now)).opened) }
+        ≡ (reply_to PAGE (seen_of lane.old) (Command.Get key.now moment)).opened) }
 {
-    match lane.get(key) {
+    match lane.get(key, moment) {
         Ok(answer) => {
             append_answer(text, &answer)?;
             append(text, b"\n")
@@ -131,14 +132,15 @@ fn put_reply<const PAGE: usize>(
     key: Key,
     value: Value,
     word: u32,
+    expires: u64,
     text: &mut Vec<u8>,
 ) -> Result<(), AllocError>
     ensures text { OnOk result (text.new.items
-        ≡ text.old.items ++ (reply_to PAGE (seen_of lane.old) (Command.Put key value word)).text) }
+        ≡ text.old.items ++ (reply_to PAGE (seen_of lane.old) (Command.Put key value word expires)).text) }
     ensures lane { OnOk result (seen_of lane.new
-        ≡ (reply_to PAGE (seen_of lane.old) (Command.Put key value word)).opened) }
+        ≡ (reply_to PAGE (seen_of lane.old) (Command.Put key value word expires)).opened) }
 {
-    match lane.put(key, value, word) {
+    match lane.put(key, value, word, expires) {
         Ok(_pushed) => append(text, b"stored\n"),
         Err(RecordPutFault::TooLarge) => append(text, b"too large\n"),
         Err(RecordPutFault::HistoryFull) => append(text, b"history full\n"),
@@ -259,8 +261,10 @@ pub(crate) fn answer_command<const PAGE: usize, S: BuildHasher + Drop>(
     ensures lane { OnOk result (seen_of lane.new ≡ (reply_to PAGE (seen_of lane.old) command).opened) }
 {
     match command {
-        Command::Put(key, value, word) => put_reply(lane, key, value, word, text),
-        Command::Get(key) => get_reply(lane, &key, text),
+        Command::Put(key, value, word, expires) => {
+            put_reply(lane, key, value, word, expires, text)
+        }
+        Command::Get(key, moment) => get_reply(lane, &key, moment, text),
         Command::Remove(key) => remove_reply(lane, &key, text),
         Command::Forget(key) => forget_reply(lane, &key, text),
         Command::Flush => flush_reply(lane, text),

@@ -3,9 +3,9 @@ ghost use Rattle.std.specs.Prelude.{◌≡◌, ◌≢◌, ◌↔◌, ◌<◌, �
 ghost use Rattle.record_pages.specs.declared.field.Field.{Field};
 ghost use Rattle.record_pages.specs.Sizes.{IsPageSize, object_size, room};
 ghost use Rattle.rriparoo.specs.Rriparoo.{rriparoo_plan};
-ghost use Rattle.trace_file.specs.Text.{IsTrace};
+ghost use Rattle.trace_file.specs.Text.{IsTraceOf};
 ghost use Rattle.certificate_checker.specs.Acceptance.{IsAccepted};
-ghost use Rattle.record_pages.specs.Expiry.{lasting};
+ghost use Rattle.record_pages.specs.Expiry.{timed};
 ghost use Rattle.mover.specs.Get.{get_step};
 ghost use Rattle.mover.specs.Put.{put_step};
 ghost use Rattle.mover.specs.Strike.{removed};
@@ -25,7 +25,7 @@ use record_pages::{Answer, Config, Field, Key, Layout, Pushed, Value};
 use rriparoo::Rriparoo;
 use std::alloc::{AllocError, Global};
 use std::marker::Model;
-use trace_file::{Certificate, History, WriteTraceFault, write_trace};
+use trace_file::{Certificate, History, Version, WriteTraceFault, write_trace};
 
 /// The lane of a script, over a device in memory with just enough pages. Its call number `i`, from 0, has caller 0,
 /// start `3i + 1`, point `3i + 2` and end `3i + 3`. Its moves go by the plans of `Rriparoo`.
@@ -78,25 +78,31 @@ impl<const PAGE: usize> ScriptLane<PAGE> {
     }
 
     /// Answers a get as the script's next call. A refused call takes no number.
-    pub fn get(&mut self, key: &Key) -> Result<Answer, RecordFault>
+    pub fn get(&mut self, key: &Key, moment: u64) -> Result<Answer, RecordFault>
         ensures answer { IfOk result (λ answer.
-            answer ≡ (get_step key.now 0 (seen_of self.old).lane).reply) }
+            answer ≡ (get_step key.now moment (seen_of self.old).lane).reply) }
         ensures after { IfOk result (λ answer. seen_of self.new ≡ after_call (seen_of self.old)
-            (get_step key.now 0 (seen_of self.old).lane).lane key.now (act_of answer)) }
+            (get_step key.now moment (seen_of self.old).lane).lane key.now (act_of moment answer)) }
         ensures full { IsErrOf result RecordFault.HistoryFull ↔ (max_calls ≤ length self.old.calls) }
         ensures full_keeps { IsErrOf result RecordFault.HistoryFull → self.new ≡ self.old }
         ensures no_call { OnErr result (self.new.calls ≡ self.old.calls) }
     {
         let count = self.lane.len() as u64;
-        let answer = self.lane.get(0, 3 * count + 1, 3 * count + 2, key)?;
+        let answer = self.lane.get(0, 3 * count + 1, 3 * count + 2, key, moment)?;
         Ok(answer)
     }
 
     /// Puts a value as the script's next call. A refused call takes no number, and leaves the lane as it was.
-    pub fn put(&mut self, key: Key, value: Value, word: u32) -> Result<Pushed, RecordPutFault>
+    pub fn put(
+        &mut self,
+        key: Key,
+        value: Value,
+        word: u32,
+        expires: u64,
+    ) -> Result<Pushed, RecordPutFault>
         ensures after { OnOk result (seen_of self.new ≡ after_call (seen_of self.old)
-            (put_step PAGE self.old.store.layout.admit (record { key = key; value = lasting value }) word
-            (seen_of self.old).lane).lane key (Act.Put value)) }
+            (put_step PAGE self.old.store.layout.admit (record { key = key; value = timed value expires }) word
+            (seen_of self.old).lane).lane key (Act.Put value expires)) }
         ensures large { IsErrOf result RecordPutFault.TooLarge ↔ (room PAGE < object_size key value) }
         ensures full { IsErrOf result RecordPutFault.HistoryFull
             ↔ ((object_size key value ≤ room PAGE) × (max_calls ≤ length self.old.calls)) }
@@ -105,7 +111,7 @@ impl<const PAGE: usize> ScriptLane<PAGE> {
         let count = self.lane.len() as u64;
         let pushed = self
             .lane
-            .put(0, 3 * count + 1, 3 * count + 2, key, value, word)?;
+            .put(0, 3 * count + 1, 3 * count + 2, key, value, word, expires)?;
         Ok(pushed)
     }
 
@@ -173,9 +179,9 @@ impl<const PAGE: usize> ScriptLane<PAGE> {
         })
     }
 
-    /// The trace of the calls so far, which are accepted. `AllocError` comes where memory was refused.
+    /// The timed trace of the calls so far, which are accepted. `AllocError` comes where memory was refused.
     pub fn trace(&self, alloc: Global) -> Result<Vec<u8>, AllocError>
-        ensures trace { IfOk result (λ bytes. IsTrace bytes.items
+        ensures trace { IfOk result (λ bytes. IsTraceOf Version.Timed bytes.items
             (own_history self.now.calls) (own_certificate self.now.calls)) }
         ensures accepted { IfOk result (λ _. IsAccepted
             (own_history self.now.calls) (own_certificate self.now.calls)) }

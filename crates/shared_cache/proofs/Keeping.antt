@@ -24,6 +24,7 @@ lies_up low high e up lies = let room = lies.room in record {
   caller = lies.caller;
   start = lies.start;
   end = lies.end;
+  time = lies.time;
   some_key = lies.some_key;
   key = lies.key;
   value = lies.value;

@@ -1,6 +1,6 @@
 -- What a call does to the book of its lane, and when it is refused.
 use Rattle.std.specs.Prelude.{◌≡◌, ◌≢◌, ℕ, ◌+◌, ◌<◌, ◌≤◌, ◌^◌, ◌⊎◌, List, ◌++◌, ◌∷◌, [], length, Option, Some, Ok, Bool, All, slice_get}
-use Rattle.record_pages.specs.Expiry.{lasting}
+use Rattle.record_pages.specs.Expiry.{timed}
 use Rattle.record_pages.specs.Sizes.{object_size, room}
 use Rattle.mover.specs.Store.{StoreState}
 use Rattle.mover.specs.Calls.{StoreGets, StorePuts, StoreRemoves}
@@ -24,15 +24,15 @@ use Rattle.shared_cache.specs.Passes.{Ticket, former}
 
 -- the operation that a lent one asks for
 abbrev pub asked_shown : Asked → Operation
-asked_shown (lent.Get key) = asked.Get key.now
-asked_shown (lent.Put key value word) = asked.Put key value word
+asked_shown (lent.Get key moment) = asked.Get key.now moment
+asked_shown (lent.Put key value word expires) = asked.Put key value word expires
 asked_shown (lent.Remove key) = asked.Remove key.now
 
 -- what is recorded of an operation by what it gave
 abbrev pub act_by : Operation → Outcome → Act
-act_by (asked.Get key) (outcomes.Got answer) = act_of answer
-act_by (asked.Get key) _ = acts.Miss
-act_by (asked.Put key value word) _ = acts.Put value
+act_by (asked.Get key moment) (outcomes.Got answer) = act_of moment answer
+act_by (asked.Get key moment) _ = acts.Miss
+act_by (asked.Put key value word expires) _ = acts.Put value expires
 act_by (asked.Remove key) _ = acts.Remove
 
 -- the call that is recorded of an operation
@@ -50,23 +50,23 @@ listing lane position caller start point end operation outcome = record {
 
 -- an operation puts no object that is too large for a page of this size
 abbrev pub IsFitting : ℕ → Operation → Type 0
-IsFitting size (asked.Put key value word) = object_size key value ≤ room size
-IsFitting size (asked.Get key) = Unit {0}
+IsFitting size (asked.Put key value word expires) = object_size key value ≤ room size
+IsFitting size (asked.Get key moment) = Unit {0}
 IsFitting size (asked.Remove key) = Unit {0}
 
 module _ {D : Type 0} (honest : D → Bool) (failures : D → ℕ) (held : D → ℕ → Option (List ℕ)) (size : ℕ) where
   -- What an operation gives and does to the store of its lane: what that call of a store does. It gives nothing else.
   abbrev pub ActGives : Operation → StoreState D → Outcome → StoreState D → Type 0
-  ActGives (asked.Get key) old (outcomes.Got answer) new = StoreGets size honest failures held key 0 old (Ok answer) new
-  ActGives (asked.Put key value word) old (outcomes.Stored pushed) new =
-      StorePuts size held (record { key = key; value = lasting value }) word old (Ok pushed) new
+  ActGives (asked.Get key moment) old (outcomes.Got answer) new = StoreGets size honest failures held key moment old (Ok answer) new
+  ActGives (asked.Put key value word expires) old (outcomes.Stored pushed) new =
+      StorePuts size held (record { key = key; value = timed value expires }) word old (Ok pushed) new
   ActGives (asked.Remove key) old outcomes.Removed new = StoreRemoves held key old new
   ActGives _ old _ new = ⊥
 
   -- what want of memory leaves: of a get the store as it was, or as the answer left it; else all as it was
   abbrev pub ActLeaves : Operation → StoreState D → StoreState D → Type 0
-  ActLeaves (asked.Get key) old new = MayHaveGot size honest failures held key old new
-  ActLeaves (asked.Put key value word) old new = new ≡ old
+  ActLeaves (asked.Get key moment) old new = MayHaveGot size honest failures held key moment old new
+  ActLeaves (asked.Put key value word expires) old new = new ≡ old
   ActLeaves (asked.Remove key) old new = new ≡ old
 
 module _ {D : Type 0} where
@@ -106,8 +106,8 @@ module _ {D : Type 0} where
 
 -- what an operation gives: a get an answer, a put what became of the pair that was pushed out, a removal nothing
 abbrev pub Suits : Operation → Outcome → Type 0
-Suits (asked.Get key) (outcomes.Got answer) = Unit {0}
-Suits (asked.Put key value word) (outcomes.Stored pushed) = Unit {0}
+Suits (asked.Get key moment) (outcomes.Got answer) = Unit {0}
+Suits (asked.Put key value word expires) (outcomes.Stored pushed) = Unit {0}
 Suits (asked.Remove key) outcomes.Removed = Unit {0}
 Suits _ _ = ⊥
 

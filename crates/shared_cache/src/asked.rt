@@ -8,10 +8,10 @@ use record_pages::{Key, Value};
 /// An operation, as it is asked of the lane of its key: what the lane only reads is lent to it, and it keeps what it is given.
 #[derive(Drop)]
 pub enum Asked<'a> {
-    /// The value of a key.
-    Get(&'a Key),
-    /// To keep a value of a key, by the word of its admission.
-    Put(Key, Value, u32),
+    /// The value of a key, where it is live at this moment.
+    Get(&'a Key, u64),
+    /// To keep a value of a key, by the word of its admission, until this moment, or for ever where that is `NEVER`.
+    Put(Key, Value, u32, u64),
     /// To keep no value of a key.
     Remove(&'a Key),
 }
@@ -22,8 +22,8 @@ impl<'a> Asked<'a> {
         ensures { result.now ≡ key_of (asked_shown self.now) }
     {
         match self {
-            Asked::Get(key) => key,
-            Asked::Put(key, _, _) => key,
+            Asked::Get(key, _) => key,
+            Asked::Put(key, _, _, _) => key,
             Asked::Remove(key) => key,
         }
     }

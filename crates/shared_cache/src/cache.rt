@@ -144,27 +144,39 @@ impl<D: PageDevice<PAGE>, P: EvictionPolicy + Drop, const PAGE: usize> SharedCac
         Ok((cache, passes))
     }
 
-    /// Looks a key up. The refusals are those of `CallFault` but `TooLarge`.
+    /// Looks a key up. A value that has expired at the moment is a miss. The refusals are those of `CallFault` but
+    /// `TooLarge`.
+    ///
+    /// The moment is the caller's, in the unit in which puts say when they expire. It may go backwards, and differ from
+    /// caller to caller: what is promised of an answer speaks of the moment that its get brought. So let all callers read
+    /// one clock.
     ///
     /// A refused get is not recorded. Where memory was refused behind the answer, the key's pair has come to the front
     /// of memory, or its prediction is one less, or its slot is hit.
-    pub fn get<R: Wait>(&self, rt: &R, pass: &mut Pass, key: &Key) -> Result<Answer, CallFault>
+    pub fn get<R: Wait>(
+        &self,
+        rt: &R,
+        pass: &mut Pass,
+        key: &Key,
+        moment: u64,
+    ) -> Result<Answer, CallFault>
         requires { pass.old.sight.clock ≡ self.now.clock }
         ensures made { IfOk result (λ answer.
-            IsMade self.now.layout (Operation.Get key.now) pass.old (Outcome.Got answer) pass.new) }
+            IsMade self.now.layout (Operation.Get key.now moment) pass.old (Outcome.Got answer) pass.new) }
         ensures refused { OnErr result (pass.new.calls ≡ pass.old.calls) }
         ensures full { result ≡ Err CallFault.ClockFull → pass.new.sight.seen + 1 ≡ 2 ^ 63 }
         ensures small { result ≢ Err CallFault.TooLarge }
         ensures tie { KeepsTie pass.old pass.new }
     {
-        match self.call(rt, pass, Asked::Get(key)) {
+        match self.call(rt, pass, Asked::Get(key, moment)) {
             Ok(Outcome::Got(answer)) => Ok(answer),
             Ok(_) => unreachable!(),
             Err(fault) => Err(fault),
         }
     }
 
-    /// Puts a value. A refused put leaves the lane as it was, so an older value of the key stays.
+    /// Puts a value, which expires at the moment `expires`, or never where that is `NEVER`. A refused put leaves the lane
+    /// as it was, so an older value of the key stays.
     pub fn put<R: Wait>(
         &self,
         rt: &R,
@@ -172,10 +184,11 @@ impl<D: PageDevice<PAGE>, P: EvictionPolicy + Drop, const PAGE: usize> SharedCac
         key: Key,
         value: Value,
         word: u32,
+        expires: u64,
     ) -> Result<Pushed, CallFault>
         requires { pass.old.sight.clock ≡ self.now.clock }
         ensures made { IfOk result (λ pushed. IsMade self.now.layout
-            (Operation.Put key value word) pass.old (Outcome.Stored pushed) pass.new) }
+            (Operation.Put key value word expires) pass.old (Outcome.Stored pushed) pass.new) }
         ensures large { IsErrOf result CallFault.TooLarge ↔ (room PAGE < object_size key value) }
         ensures refused { OnErr result (pass.new.calls ≡ pass.old.calls) }
         ensures full { result ≡ Err CallFault.ClockFull → pass.new.sight.seen + 1 ≡ 2 ^ 63 }
@@ -184,7 +197,7 @@ impl<D: PageDevice<PAGE>, P: EvictionPolicy + Drop, const PAGE: usize> SharedCac
         if is_too_large::<PAGE>(&key, &value) {
             return Err(CallFault::TooLarge);
         }
-        match self.call(rt, pass, Asked::Put(key, value, word)) {
+        match self.call(rt, pass, Asked::Put(key, value, word, expires)) {
             Ok(Outcome::Stored(pushed)) => Ok(pushed),
             Ok(_) => unreachable!(),
             Err(fault) => Err(fault),

@@ -7,7 +7,7 @@ ghost use Rattle.history_recorder.specs.Points.{noted_shown};
 use history_recorder::NotedRef;
 use trace_file::ActRef;
 
-/// Whether a call is the one that a lane recorded: caller, start, point, key, kind and value.
+/// Whether a call is the one that a lane recorded: caller, start, point, key, kind, value and time.
 pub(crate) fn is_recorded_as(call: &NotedRef<'_>, recorded: &NotedRef<'_>) -> bool
     ensures { IsTrue result ↔ (noted_shown call.now ≡ noted_shown recorded.now) }
 {
@@ -23,32 +23,32 @@ fn is_act(act: ActRef<'_>, recorded: ActRef<'_>) -> bool
     ensures { IsTrue result ↔ (act_shown act.entry ≡ act_shown recorded.entry) }
 {
     match act {
-        ActRef::Put(value) => is_put(value, recorded),
+        ActRef::Put(value, expires) => is_put(value, expires, recorded),
         ActRef::Remove => matches!(recorded, ActRef::Remove),
-        ActRef::Hit(value) => is_hit(value, recorded),
+        ActRef::Hit(value, moment) => is_hit(value, moment, recorded),
         ActRef::Miss => matches!(recorded, ActRef::Miss),
     }
 }
 
-/// Whether it is a put of this value.
-fn is_put(value: &[u8], lent: ActRef<'_>) -> bool
-    ensures { IsTrue result ↔ (Act.Put value.now ≡ act_shown lent.entry) }
+/// Whether it is a put of this value, which expires then.
+fn is_put(value: &[u8], expires: u64, lent: ActRef<'_>) -> bool
+    ensures { IsTrue result ↔ (Act.Put value.now expires ≡ act_shown lent.entry) }
 {
     match lent {
-        ActRef::Put(other) => value == other,
+        ActRef::Put(other, time) => value == other && expires == time,
         ActRef::Remove => false,
-        ActRef::Hit(_) => false,
+        ActRef::Hit(..) => false,
         ActRef::Miss => false,
     }
 }
 
-/// Whether it is a hit of this value.
-fn is_hit(value: &[u8], lent: ActRef<'_>) -> bool
-    ensures { IsTrue result ↔ (Act.Hit value.now ≡ act_shown lent.entry) }
+/// Whether it is a hit of this value at this moment.
+fn is_hit(value: &[u8], moment: u64, lent: ActRef<'_>) -> bool
+    ensures { IsTrue result ↔ (Act.Hit value.now moment ≡ act_shown lent.entry) }
 {
     match lent {
-        ActRef::Hit(other) => value == other,
-        ActRef::Put(_) => false,
+        ActRef::Hit(other, time) => value == other && moment == time,
+        ActRef::Put(..) => false,
         ActRef::Remove => false,
         ActRef::Miss => false,
     }

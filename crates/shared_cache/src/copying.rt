@@ -53,9 +53,9 @@ fn act_of(alloc: Global, act: ActRef<'_>) -> Result<Act, AllocError>
     ensures { IfOk result (λ copy. copy ≡ act_shown act.entry) }
 {
     match act {
-        ActRef::Put(bytes) => Ok(Act::Put(value_in(alloc, bytes)?)),
+        ActRef::Put(bytes, expires) => Ok(Act::Put(value_in(alloc, bytes)?, expires)),
         ActRef::Remove => Ok(Act::Remove),
-        ActRef::Hit(bytes) => Ok(Act::Hit(value_in(alloc, bytes)?)),
+        ActRef::Hit(bytes, moment) => Ok(Act::Hit(value_in(alloc, bytes)?, moment)),
         ActRef::Miss => Ok(Act::Miss),
     }
 }

@@ -36,12 +36,12 @@ pub(crate) fn perform<D: PageDevice<PAGE>, const PAGE: usize>(
         (asked_shown asked.entry) lane.old.store lane.new.store) }
 {
     match asked {
-        Asked::Get(key) => match lane.get(caller, start, point, key) {
+        Asked::Get(key, moment) => match lane.get(caller, start, point, key, moment) {
             Ok(answer) => Ok(Outcome::Got(answer)),
             Err(_) => Err(ActFault::OutOfMemory),
         },
-        Asked::Put(key, value, word) => {
-            match lane.put(caller, start, point, key, value, word) {
+        Asked::Put(key, value, word, expires) => {
+            match lane.put(caller, start, point, key, value, word, expires) {
                 Ok(pushed) => Ok(Outcome::Stored(pushed)),
                 Err(_) => Err(ActFault::OutOfMemory),
             }

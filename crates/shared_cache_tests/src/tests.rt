@@ -24,7 +24,7 @@ use certificate_checker::{Verdict, check};
 use klog::Flushed;
 use page_device::{MemoryDevice, PageDevice};
 use policy_laws::EvictionPolicy;
-use record_pages::{Config, Pushed};
+use record_pages::{Config, NEVER, Pushed};
 use rriparoo::Rriparoo;
 use shared_cache::{FinishFault, Finished, Moved, Pass, SharedCache};
 use std::alloc::{AllocError, Global};

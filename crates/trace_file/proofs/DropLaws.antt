@@ -19,6 +19,7 @@ lies_before size a e lies before = record {
   caller = lies.caller;
   start = lies.start;
   end = lies.end;
+  time = lies.time;
   some_key = lies.some_key;
   key = lies.key;
   value = lies.value;

@@ -25,7 +25,7 @@ moved_call front store bytes e end at =
     let sums : e.offset + bytes + e.key_len ≡ e.offset + e.key_len + bytes = omega arith in
     let value : part (e.offset + bytes + e.key_len) e.value_len (front ++ store) ≡ part (e.offset + e.key_len) e.value_len store =
     ap (λ n. part n e.value_len (front ++ store)) sums ∙ part-behind front store bytes (e.offset + e.key_len) e.value_len at in
-    λ i. record { caller = e.caller; start = e.start; end = end; key = key i; act = act_of e.kind (value i) }
+    λ i. record { caller = e.caller; start = e.start; end = end; key = key i; act = act_of e.kind (value i) e.time }
 
 -- the calls of entries that were moved
 moved_calls : (front store : List ℕ) (bytes : ℕ) (es : List Entry) (ends : List ℕ) → length front ≡ bytes → calls_in (front ++ store) (each_moved bytes es ends) ≡ each_ending (calls_in store es) ends
@@ -86,6 +86,7 @@ module _ (front store : List ℕ) (bytes : ℕ) (old es : List Entry) (ends : Li
         caller = lies.caller;
         start = lies.start;
         end = lies.end;
+        time = lies.time;
         some_key = lies.some_key;
         key = lies.key;
         value = lies.value;
@@ -98,6 +99,7 @@ module _ (front store : List ℕ) (bytes : ℕ) (old es : List Entry) (ends : Li
         caller = lies.caller;
         start = lies.start;
         end = ended k;
+        time = lies.time;
         some_key = lies.some_key;
         key = lies.key;
         value = lies.value;
@@ -183,6 +185,7 @@ stored_ended size es ends many ended were = record {
         caller = lies.caller;
         start = lies.start;
         end = ended k;
+        time = lies.time;
         some_key = lies.some_key;
         key = lies.key;
         value = lies.value;

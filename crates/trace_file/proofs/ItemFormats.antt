@@ -6,18 +6,22 @@ use Rattle.std.proofs.lemmas.Bool.{eqb-true, eqb-false, ltb-false, le-ltb, ne_eq
 use Rattle.std.proofs.lemmas.List.{append-nil}
 use Rattle.std.proofs.lemmas.Option.{same_Some}
 use Rattle.record_pages.specs.Bounded.{IsKey, IsValue}
+use Rattle.record_pages.specs.Expiry.{never}
 use Rattle.trace_file.specs.declared.act.Act.{Act}
 use Rattle.trace_file.specs.declared.act.Act.TheVariants as acts
 use Rattle.trace_file.specs.declared.call.Call.{Call}
+use Rattle.trace_file.specs.declared.header.Header.{Header}
 use Rattle.trace_file.specs.declared.kind.Kind.{Kind}
 use Rattle.trace_file.specs.declared.kind.Kind.TheVariants.{Put, Remove, Hit, Miss}
 use Rattle.trace_file.specs.declared.stop.Stop.TheVariants.{Fault}
 use Rattle.trace_file.specs.declared.trace_fault.TraceFault.{TraceFault}
 use Rattle.trace_file.specs.declared.trace_fault.TraceFault.TheVariants.{BadMagic, TooMany, BadKind, BadKey, BadValue}
-use Rattle.trace_file.specs.Calls.{IsCall, value_of}
+use Rattle.trace_file.specs.declared.version.Version.{Version}
+use Rattle.trace_file.specs.declared.version.Version.TheVariants.{Timed, Timeless}
+use Rattle.trace_file.specs.Calls.{value_of, time_of}
 use Rattle.trace_file.specs.Outcome.{IsOfText}
-use Rattle.trace_file.specs.Reading.{Place, place, Read, ◌>>=◌, bytes_at, number_at, byte_at, or_fault, kind_of, kind_at, key_at, value_at, act_at, call_at, position_at, first_difference, unless_differs, magic_at, count_at, header_at}
-use Rattle.trace_file.specs.Text.{magic, most_calls, kind_byte, key_text, value_text, act_text, call_text, header_text}
+use Rattle.trace_file.specs.Reading.{Place, place, Read, ◌>>=◌, bytes_at, number_at, byte_at, or_fault, kind_of, kind_at, key_at, value_at, time_at, act_at, call_at, position_at, first_difference, version_by, version_at, count_at, header_at}
+use Rattle.trace_file.specs.Text.{magic, most_calls, kind_byte, key_text, value_text, time_text, act_text, call_text, header_of, header_text, CanSay, IsCallOf}
 use Rattle.trace_file.proofs.Formats.{IsBytes, same_fault, longer, Takes, IsFormat, same_lawful, same_text, pure_format, then_format, guard_format, bytes_format, wide16, wide32, wide64, number_format, byte_format}
 
 -- ---- a key, a value
@@ -123,168 +127,242 @@ kind_format =
 -- ---- an act
 
 kind_of_act : Act → Kind
-kind_of_act (acts.Put value) = Put
+kind_of_act (acts.Put value expires) = Put
 kind_of_act acts.Remove = Remove
-kind_of_act (acts.Hit value) = Hit
+kind_of_act (acts.Hit value moment) = Hit
 kind_of_act acts.Miss = Miss
 
 kind_number-act : (act : Act) → kind_number (kind_of_act act) ≡ kind_byte act
 unfolding kind_number kind_of_act
-kind_number-act (acts.Put value) = refl
+kind_number-act (acts.Put value expires) = refl
 kind_number-act acts.Remove = refl
-kind_number-act (acts.Hit value) = refl
+kind_number-act (acts.Hit value moment) = refl
 kind_number-act acts.Miss = refl
 
-abbrev IsActOf : Kind → Act → Type 0
-IsActOf kind act = IsValue (value_of act) × (kind_of_act act ≡ kind)
+-- a time that stands here, or that its lack means
+abbrev pub IsTimeOf : Version → ℕ → ℕ → Type 0
+IsTimeOf Timed meant time = time < 2 ^ 64
+IsTimeOf Timeless meant time = meant ≡ time
 
--- a value, and the act that has it
-valued : (kind : Kind) (make : List ℕ → Act) → ((value : List ℕ) → value_of (make value) ≡ value) → ((value : List ℕ) → act_text (make value) ≡ value_text value)
-    → ((value : List ℕ) → kind_of_act (make value) ≡ kind) → ((act : Act) → kind_of_act act ≡ kind → make (value_of act) ≡ act)
-    → IsFormat (λ p. value_at p >>= λ value. Ok (make value.0, value.1)) act_text (IsActOf kind)
-valued kind make has spelled is back =
-    let made = then_format value_at value_text IsValue
-    (λ at value p. Ok (make value, p)) (λ _. []) (λ value act. make value ≡ act) value_of
-    value_format (λ at value. pure_format (make value)) (λ value act h k. ap value_of (sym k) ∙ has value) in
-    same_lawful (same_text made act_text (λ act h. append-nil (value_text (value_of act)) ∙ sym (spelled (value_of act)) ∙ ap act_text h.1))
-    (IsActOf kind)
-    (λ act h. (h.0, ap kind_of_act (sym h.1) ∙ is (value_of act)))
-    (λ act h. (h.0, back act h.1))
+time_format : (version : Version) (meant : ℕ) → IsFormat (time_at version meant) (time_text version) (IsTimeOf version meant)
+unfolding time_at
+time_format Timed meant = number_format w64 (2 ^ 64) wide64
+time_format Timeless meant = pure_format meant
 
-put_back : (act : Act) → kind_of_act act ≡ Put → acts.Put (value_of act) ≡ act
+-- a trace of this form can say the act
+abbrev IsSaid : Version → Act → Type 0
+IsSaid version act = IsValue (value_of act) × ((time_of act < 2 ^ 64) × CanSay version act)
+
+abbrev IsActOf : Version → Kind → Act → Type 0
+IsActOf version kind act = IsSaid version act × (kind_of_act act ≡ kind)
+
+-- a value and a time, and the act that has them
+module _ (version : Version) (kind : Kind) (meant : ℕ) (make : List ℕ → ℕ → Act) (has : (value : List ℕ) (time : ℕ) → value_of (make value time) ≡ value)
+    (has_time : (value : List ℕ) (time : ℕ) → time_of (make value time) ≡ time)
+    (spelled : (value : List ℕ) (time : ℕ) → act_text version (make value time) ≡ value_text value ++ time_text version time)
+    (is : (value : List ℕ) (time : ℕ) → kind_of_act (make value time) ≡ kind) (back : (act : Act) → kind_of_act act ≡ kind → make (value_of act) (time_of act) ≡ act)
+    (says : (act : Act) → kind_of_act act ≡ kind → IsTimeOf version meant (time_of act) → (time_of act < 2 ^ 64) × CanSay version act)
+    (said : (act : Act) → kind_of_act act ≡ kind → (time_of act < 2 ^ 64) × CanSay version act → IsTimeOf version meant (time_of act)) where
+  abbrev timed : List ℕ → Place → Read Act
+  timed value p = time_at version meant p >>= λ time. Ok (make value time.0, time.1)
+
+  abbrev is_timed : List ℕ → Act → Type 0
+  is_timed value act = IsTimeOf version meant (time_of act) × (make value (time_of act) ≡ act)
+
+  timed_format : (value : List ℕ) → IsFormat (timed value) (λ act. time_text version (time_of act) ++ []) (is_timed value)
+  timed_format value =
+      then_format (time_at version meant) (time_text version) (IsTimeOf version meant) (λ at time p. Ok (make value time, p)) (λ _. []) (λ time act. make value time ≡ act) time_of
+      (time_format version meant) (λ at time. pure_format (make value time)) (λ time act h k. ap time_of (sym k) ∙ has_time value time)
+
+  valued : IsFormat (λ p. value_at p >>= λ value. timed value.0 value.1) (act_text version) (IsActOf version kind)
+  valued =
+      let made = then_format value_at value_text IsValue (λ at value p. timed value p) (λ act. time_text version (time_of act) ++ []) is_timed value_of
+      value_format (λ at value. timed_format value) (λ value act h k. ap value_of (sym k.1) ∙ has value (time_of act)) in
+      let kind-is : (act : Act) → make (value_of act) (time_of act) ≡ act → kind_of_act act ≡ kind = λ act e. ap kind_of_act (sym e) ∙ is (value_of act) (time_of act) in
+      same_lawful (same_text made (act_text version)
+      (λ act h. ap (λ (t : List ℕ). value_text (value_of act) ++ t) (append-nil (time_text version (time_of act))) ∙ sym (spelled (value_of act) (time_of act)) ∙ ap (act_text version) h.1.1))
+      (IsActOf version kind)
+      (λ act h. ((h.0, says act (kind-is act h.1.1) h.1.0), kind-is act h.1.1))
+      (λ act h. (h.0.0, (said act h.1 h.0.1, back act h.1)))
+
+put_back : (act : Act) → kind_of_act act ≡ Put → acts.Put (value_of act) (time_of act) ≡ act
 unfolding kind_of_act
-put_back (acts.Put value) e = refl
+put_back (acts.Put value expires) e = refl
 put_back acts.Remove e = absurd cc
-put_back (acts.Hit value) e = absurd cc
+put_back (acts.Hit value moment) e = absurd cc
 put_back acts.Miss e = absurd cc
 
-hit_back : (act : Act) → kind_of_act act ≡ Hit → acts.Hit (value_of act) ≡ act
+put_says : (version : Version) (act : Act) → kind_of_act act ≡ Put → IsTimeOf version never (time_of act) → (time_of act < 2 ^ 64) × CanSay version act
 unfolding kind_of_act
-hit_back (acts.Put value) e = absurd cc
+put_says Timed act e h = (h, tt)
+put_says Timeless (acts.Put value expires) e h = (omega (arith, h), sym h)
+put_says Timeless acts.Remove e h = absurd cc
+put_says Timeless (acts.Hit value moment) e h = absurd cc
+put_says Timeless acts.Miss e h = absurd cc
+
+put_said : (version : Version) (act : Act) → kind_of_act act ≡ Put → (time_of act < 2 ^ 64) × CanSay version act → IsTimeOf version never (time_of act)
+unfolding kind_of_act
+put_said Timed act e h = h.0
+put_said Timeless (acts.Put value expires) e h = sym h.1
+put_said Timeless acts.Remove e h = absurd cc
+put_said Timeless (acts.Hit value moment) e h = absurd cc
+put_said Timeless acts.Miss e h = absurd cc
+
+hit_back : (act : Act) → kind_of_act act ≡ Hit → acts.Hit (value_of act) (time_of act) ≡ act
+unfolding kind_of_act
+hit_back (acts.Put value expires) e = absurd cc
 hit_back acts.Remove e = absurd cc
-hit_back (acts.Hit value) e = refl
+hit_back (acts.Hit value moment) e = refl
 hit_back acts.Miss e = absurd cc
+
+hit_says : (version : Version) (act : Act) → kind_of_act act ≡ Hit → IsTimeOf version 0 (time_of act) → (time_of act < 2 ^ 64) × CanSay version act
+unfolding kind_of_act
+hit_says Timed act e h = (h, tt)
+hit_says Timeless (acts.Put value expires) e h = absurd cc
+hit_says Timeless acts.Remove e h = absurd cc
+hit_says Timeless (acts.Hit value moment) e h = (omega (arith, h), sym h)
+hit_says Timeless acts.Miss e h = absurd cc
+
+hit_said : (version : Version) (act : Act) → kind_of_act act ≡ Hit → (time_of act < 2 ^ 64) × CanSay version act → IsTimeOf version 0 (time_of act)
+unfolding kind_of_act
+hit_said Timed act e h = h.0
+hit_said Timeless (acts.Put value expires) e h = absurd cc
+hit_said Timeless acts.Remove e h = absurd cc
+hit_said Timeless (acts.Hit value moment) e h = sym h.1
+hit_said Timeless acts.Miss e h = absurd cc
 
 remove_back : (act : Act) → kind_of_act act ≡ Remove → acts.Remove ≡ act
 unfolding kind_of_act
-remove_back (acts.Put value) e = absurd cc
+remove_back (acts.Put value expires) e = absurd cc
 remove_back acts.Remove e = refl
-remove_back (acts.Hit value) e = absurd cc
+remove_back (acts.Hit value moment) e = absurd cc
 remove_back acts.Miss e = absurd cc
 
 miss_back : (act : Act) → kind_of_act act ≡ Miss → acts.Miss ≡ act
 unfolding kind_of_act
-miss_back (acts.Put value) e = absurd cc
+miss_back (acts.Put value expires) e = absurd cc
 miss_back acts.Remove e = absurd cc
-miss_back (acts.Hit value) e = absurd cc
+miss_back (acts.Hit value moment) e = absurd cc
 miss_back acts.Miss e = refl
 
 -- an act with no value
-bare : (kind : Kind) (it : Act) → IsValue (value_of it) → [] ≡ act_text it → kind_of_act it ≡ kind → ((act : Act) → kind_of_act act ≡ kind → it ≡ act) → IsFormat (λ p. Ok (it, p)) act_text (IsActOf kind)
-bare kind it small empty is back =
-    same_lawful (same_text (pure_format it) act_text (λ act h. empty ∙ ap act_text h)) (IsActOf kind)
-    (λ act h. subst (IsActOf kind) h (small, is))
+bare : (version : Version) (kind : Kind) (it : Act) → IsSaid version it → [] ≡ act_text version it → kind_of_act it ≡ kind → ((act : Act) → kind_of_act act ≡ kind → it ≡ act)
+    → IsFormat (λ p. Ok (it, p)) (act_text version) (IsActOf version kind)
+bare version kind it said empty is back =
+    same_lawful (same_text (pure_format it) (act_text version) (λ act h. empty ∙ ap (act_text version) h)) (IsActOf version kind)
+    (λ act h. subst (IsActOf version kind) h (said, is))
     (λ act h. back act h.1)
 
-act_format : (kind : Kind) → IsFormat (act_at kind) act_text (IsActOf kind)
+remove_said : (version : Version) → IsSaid version acts.Remove
+remove_said Timed = (omega arith, (omega arith, tt))
+remove_said Timeless = (omega arith, (omega arith, tt))
+
+miss_said : (version : Version) → IsSaid version acts.Miss
+miss_said Timed = (omega arith, (omega arith, tt))
+miss_said Timeless = (omega arith, (omega arith, tt))
+
+act_format : (version : Version) (kind : Kind) → IsFormat (act_at version kind) (act_text version) (IsActOf version kind)
 unfolding act_at kind_of_act
-act_format Put = valued Put (λ v. acts.Put v) (λ v. refl) (λ v. refl) (λ v. refl) put_back
-act_format Remove = bare Remove acts.Remove (omega arith) refl refl remove_back
-act_format Hit = valued Hit (λ v. acts.Hit v) (λ v. refl) (λ v. refl) (λ v. refl) hit_back
-act_format Miss = bare Miss acts.Miss (omega arith) refl refl miss_back
+act_format version Put = valued version Put never (λ v t. acts.Put v t) (λ v t. refl) (λ v t. refl) (λ v t. refl) (λ v t. refl) put_back (put_says version) (put_said version)
+act_format version Remove = bare version Remove acts.Remove (remove_said version) refl refl remove_back
+act_format version Hit = valued version Hit 0 (λ v t. acts.Hit v t) (λ v t. refl) (λ v t. refl) (λ v t. refl) (λ v t. refl) hit_back (hit_says version) (hit_said version)
+act_format version Miss = bare version Miss acts.Miss (miss_said version) refl refl miss_back
 
 -- ---- a call, from its last field to its first
 
 abbrev pub made : ℕ → ℕ → ℕ → List ℕ → Act → Call
 made caller start end key act = record { caller = caller; start = start; end = end; key = key; act = act }
 
-abbrev text_from_act : Call → List ℕ
-text_from_act c = act_text c.act ++ []
+abbrev text_from_act : Version → Call → List ℕ
+text_from_act version c = act_text version c.act ++ []
 
-abbrev text_from_key : Call → List ℕ
-text_from_key c = key_text c.key ++ text_from_act c
+abbrev text_from_key : Version → Call → List ℕ
+text_from_key version c = key_text c.key ++ text_from_act version c
 
-abbrev text_from_end : Call → List ℕ
-text_from_end c = to_be_bytes w64 c.end ++ text_from_key c
+abbrev text_from_end : Version → Call → List ℕ
+text_from_end version c = to_be_bytes w64 c.end ++ text_from_key version c
 
-abbrev text_from_start : Call → List ℕ
-text_from_start c = to_be_bytes w64 c.start ++ text_from_end c
+abbrev text_from_start : Version → Call → List ℕ
+text_from_start version c = to_be_bytes w64 c.start ++ text_from_end version c
 
-abbrev text_from_caller : Call → List ℕ
-text_from_caller c = to_be_bytes w16 c.caller ++ text_from_start c
+abbrev text_from_caller : Version → Call → List ℕ
+text_from_caller version c = to_be_bytes w16 c.caller ++ text_from_start version c
 
-abbrev pub read_act : Kind → ℕ → ℕ → ℕ → List ℕ → Place → Read Call
-read_act kind caller start end key p = act_at kind p >>= λ act. Ok (made caller start end key act.0, act.1)
+abbrev pub read_act : Version → Kind → ℕ → ℕ → ℕ → List ℕ → Place → Read Call
+read_act version kind caller start end key p = act_at version kind p >>= λ act. Ok (made caller start end key act.0, act.1)
 
-abbrev pub read_key : Kind → ℕ → ℕ → ℕ → Place → Read Call
-read_key kind caller start end p = key_at p >>= λ key. read_act kind caller start end key.0 key.1
+abbrev pub read_key : Version → Kind → ℕ → ℕ → ℕ → Place → Read Call
+read_key version kind caller start end p = key_at p >>= λ key. read_act version kind caller start end key.0 key.1
 
-abbrev pub read_end : Kind → ℕ → ℕ → Place → Read Call
-read_end kind caller start p = number_at w64 p >>= λ end. read_key kind caller start end.0 end.1
+abbrev pub read_end : Version → Kind → ℕ → ℕ → Place → Read Call
+read_end version kind caller start p = number_at w64 p >>= λ end. read_key version kind caller start end.0 end.1
 
-abbrev pub read_start : Kind → ℕ → Place → Read Call
-read_start kind caller p = number_at w64 p >>= λ start. read_end kind caller start.0 start.1
+abbrev pub read_start : Version → Kind → ℕ → Place → Read Call
+read_start version kind caller p = number_at w64 p >>= λ start. read_end version kind caller start.0 start.1
 
-abbrev pub read_caller : Kind → Place → Read Call
-read_caller kind p = number_at w16 p >>= λ caller. read_start kind caller.0 caller.1
+abbrev pub read_caller : Version → Kind → Place → Read Call
+read_caller version kind p = number_at w16 p >>= λ caller. read_start version kind caller.0 caller.1
 
-abbrev from_act : Kind → ℕ → ℕ → ℕ → List ℕ → Call → Type 0
-from_act kind caller start end key c = IsActOf kind c.act × (made caller start end key c.act ≡ c)
+abbrev from_act : Version → Kind → ℕ → ℕ → ℕ → List ℕ → Call → Type 0
+from_act version kind caller start end key c = IsActOf version kind c.act × (made caller start end key c.act ≡ c)
 
-abbrev from_key : Kind → ℕ → ℕ → ℕ → Call → Type 0
-from_key kind caller start end c = IsKey c.key × from_act kind caller start end c.key c
+abbrev from_key : Version → Kind → ℕ → ℕ → ℕ → Call → Type 0
+from_key version kind caller start end c = IsKey c.key × from_act version kind caller start end c.key c
 
-abbrev from_end : Kind → ℕ → ℕ → Call → Type 0
-from_end kind caller start c = (c.end < 2 ^ 64) × from_key kind caller start c.end c
+abbrev from_end : Version → Kind → ℕ → ℕ → Call → Type 0
+from_end version kind caller start c = (c.end < 2 ^ 64) × from_key version kind caller start c.end c
 
-abbrev from_start : Kind → ℕ → Call → Type 0
-from_start kind caller c = (c.start < 2 ^ 64) × from_end kind caller c.start c
+abbrev from_start : Version → Kind → ℕ → Call → Type 0
+from_start version kind caller c = (c.start < 2 ^ 64) × from_end version kind caller c.start c
 
-abbrev from_caller : Kind → Call → Type 0
-from_caller kind c = (c.caller < 2 ^ 16) × from_start kind c.caller c
+abbrev from_caller : Version → Kind → Call → Type 0
+from_caller version kind c = (c.caller < 2 ^ 16) × from_start version kind c.caller c
 
-act_part : (kind : Kind) (caller start end : ℕ) (key : List ℕ) → IsFormat (read_act kind caller start end key) text_from_act (from_act kind caller start end key)
-act_part kind caller start end key =
-    then_format (act_at kind) act_text (IsActOf kind) (λ at act p. Ok (made caller start end key act, p)) (λ _. []) (λ act c. made caller start end key act ≡ c) (λ c. c.act)
-    (act_format kind) (λ at act. pure_format (made caller start end key act)) (λ act c h k. ap (λ (x : Call). x.act) (sym k))
+act_part : (version : Version) (kind : Kind) (caller start end : ℕ) (key : List ℕ) → IsFormat (read_act version kind caller start end key) (text_from_act version) (from_act version kind caller start end key)
+act_part version kind caller start end key =
+    then_format (act_at version kind) (act_text version) (IsActOf version kind) (λ at act p. Ok (made caller start end key act, p)) (λ _. []) (λ act c. made caller start end key act ≡ c) (λ c. c.act)
+    (act_format version kind) (λ at act. pure_format (made caller start end key act)) (λ act c h k. ap (λ (x : Call). x.act) (sym k))
 
-key_part : (kind : Kind) (caller start end : ℕ) → IsFormat (read_key kind caller start end) text_from_key (from_key kind caller start end)
-key_part kind caller start end =
-    then_format key_at key_text IsKey (λ at key p. read_act kind caller start end key p) text_from_act (λ key c. from_act kind caller start end key c) (λ c. c.key)
-    key_format (λ at key. act_part kind caller start end key) (λ key c h k. ap (λ (x : Call). x.key) (sym k.1))
+key_part : (version : Version) (kind : Kind) (caller start end : ℕ) → IsFormat (read_key version kind caller start end) (text_from_key version) (from_key version kind caller start end)
+key_part version kind caller start end =
+    then_format key_at key_text IsKey (λ at key p. read_act version kind caller start end key p) (text_from_act version) (λ key c. from_act version kind caller start end key c) (λ c. c.key)
+    key_format (λ at key. act_part version kind caller start end key) (λ key c h k. ap (λ (x : Call). x.key) (sym k.1))
 
-end_part : (kind : Kind) (caller start : ℕ) → IsFormat (read_end kind caller start) text_from_end (from_end kind caller start)
-end_part kind caller start =
-    then_format (number_at w64) (to_be_bytes w64) (λ n. n < 2 ^ 64) (λ at end p. read_key kind caller start end p) text_from_key (λ end c. from_key kind caller start end c) (λ c. c.end)
-    (number_format w64 (2 ^ 64) wide64) (λ at end. key_part kind caller start end) (λ end c h k. ap (λ (x : Call). x.end) (sym k.1.1))
+end_part : (version : Version) (kind : Kind) (caller start : ℕ) → IsFormat (read_end version kind caller start) (text_from_end version) (from_end version kind caller start)
+end_part version kind caller start =
+    then_format (number_at w64) (to_be_bytes w64) (λ n. n < 2 ^ 64) (λ at end p. read_key version kind caller start end p) (text_from_key version) (λ end c. from_key version kind caller start end c) (λ c. c.end)
+    (number_format w64 (2 ^ 64) wide64) (λ at end. key_part version kind caller start end) (λ end c h k. ap (λ (x : Call). x.end) (sym k.1.1))
 
-start_part : (kind : Kind) (caller : ℕ) → IsFormat (read_start kind caller) text_from_start (from_start kind caller)
-start_part kind caller =
-    then_format (number_at w64) (to_be_bytes w64) (λ n. n < 2 ^ 64) (λ at start p. read_end kind caller start p) text_from_end (λ start c. from_end kind caller start c) (λ c. c.start)
-    (number_format w64 (2 ^ 64) wide64) (λ at start. end_part kind caller start) (λ start c h k. ap (λ (x : Call). x.start) (sym k.1.1.1))
+start_part : (version : Version) (kind : Kind) (caller : ℕ) → IsFormat (read_start version kind caller) (text_from_start version) (from_start version kind caller)
+start_part version kind caller =
+    then_format (number_at w64) (to_be_bytes w64) (λ n. n < 2 ^ 64) (λ at start p. read_end version kind caller start p) (text_from_end version) (λ start c. from_end version kind caller start c) (λ c. c.start)
+    (number_format w64 (2 ^ 64) wide64) (λ at start. end_part version kind caller start) (λ start c h k. ap (λ (x : Call). x.start) (sym k.1.1.1))
 
-caller_part : (kind : Kind) → IsFormat (read_caller kind) text_from_caller (from_caller kind)
-caller_part kind =
-    then_format (number_at w16) (to_be_bytes w16) (λ n. n < 2 ^ 16) (λ at caller p. read_start kind caller p) text_from_start (λ caller c. from_start kind caller c) (λ c. c.caller)
-    (number_format w16 (2 ^ 16) wide16) (λ at caller. start_part kind caller) (λ caller c h k. ap (λ (x : Call). x.caller) (sym k.1.1.1.1))
+caller_part : (version : Version) (kind : Kind) → IsFormat (read_caller version kind) (text_from_caller version) (from_caller version kind)
+caller_part version kind =
+    then_format (number_at w16) (to_be_bytes w16) (λ n. n < 2 ^ 16) (λ at caller p. read_start version kind caller p) (text_from_start version) (λ caller c. from_start version kind caller c) (λ c. c.caller)
+    (number_format w16 (2 ^ 16) wide16) (λ at caller. start_part version kind caller) (λ caller c h k. ap (λ (x : Call). x.caller) (sym k.1.1.1.1))
 
-whole_call : IsFormat call_at (λ c. kind_text (kind_of_act c.act) ++ text_from_caller c) (λ c. Unit {0} × from_caller (kind_of_act c.act) c)
+whole_call : (version : Version) → IsFormat (call_at version) (λ c. kind_text (kind_of_act c.act) ++ text_from_caller version c) (λ c. Unit {0} × from_caller version (kind_of_act c.act) c)
 unfolding call_at
-whole_call =
-    then_format kind_at kind_text (λ _. Unit {0}) (λ at kind p. read_caller kind p) text_from_caller (λ kind c. from_caller kind c) (λ c. kind_of_act c.act)
-    kind_format (λ at kind. caller_part kind) (λ kind c h k. k.1.1.1.1.0.1)
+whole_call version =
+    then_format kind_at kind_text (λ _. Unit {0}) (λ at kind p. read_caller version kind p) (text_from_caller version) (λ kind c. from_caller version kind c) (λ c. kind_of_act c.act)
+    kind_format (λ at kind. caller_part version kind) (λ kind c h k. k.1.1.1.1.0.1)
 
-call_spelled : (c : Call) → kind_text (kind_of_act c.act) ++ text_from_caller c ≡ call_text c
+call_spelled : (version : Version) (c : Call) → kind_text (kind_of_act c.act) ++ text_from_caller version c ≡ call_text version c
 unfolding call_text
-call_spelled c =
-    ap (λ (n : ℕ). n ∷ text_from_caller c) (kind_number-act c.act)
-    ∙ ap (λ (t : List ℕ). kind_byte c.act ∷ (to_be_bytes w16 c.caller ++ (to_be_bytes w64 c.start ++ (to_be_bytes w64 c.end ++ (key_text c.key ++ t))))) (append-nil (act_text c.act))
+call_spelled version c =
+    ap (λ (n : ℕ). n ∷ text_from_caller version c) (kind_number-act c.act)
+    ∙ ap (λ (t : List ℕ). kind_byte c.act ∷ (to_be_bytes w16 c.caller ++ (to_be_bytes w64 c.start ++ (to_be_bytes w64 c.end ++ (key_text c.key ++ t))))) (append-nil (act_text version c.act))
 
-pub call_format : IsFormat call_at call_text IsCall
-call_format =
-    same_lawful (same_text whole_call call_text (λ c h. call_spelled c)) IsCall
-    (λ c h. record { caller = h.1.0; start = h.1.1.0; end = h.1.1.1.0; key = h.1.1.1.1.0; value = h.1.1.1.1.1.0.0 })
-    (λ c is. (tt, (is.caller, (is.start, (is.end, (is.key, ((is.value, refl), refl)))))))
+pub call_format : (version : Version) → IsFormat (call_at version) (call_text version) (IsCallOf version)
+call_format version =
+    same_lawful (same_text (whole_call version) (call_text version) (λ c h. call_spelled version c)) (IsCallOf version)
+    (λ c h. let said = h.1.1.1.1.1.0.0 in record {
+      lawful = record { caller = h.1.0; start = h.1.1.0; end = h.1.1.1.0; key = h.1.1.1.1.0; value = said.0; time = said.1.0 };
+      said = said.1.1;
+    })
+    (λ c is. let l = is.lawful in (tt, (l.caller, (l.start, (l.end, (l.key, (((l.value, (l.time, is.said)), refl), refl)))))))
 
 pub position_format : IsFormat position_at (to_be_bytes w32) (λ n. n < 2 ^ 32)
 position_format = number_format w32 (2 ^ 32) wide32
@@ -311,46 +389,51 @@ none_of true x e = absurd cc
 none_of false x e = refl
 
 -- where no byte differs the bytes are those
-same_from_none : (bytes others : List ℕ) → length bytes ≡ length others → first_difference bytes others ≡ None → bytes ≡ others
+pub same_from_none : (bytes others : List ℕ) → length bytes ≡ length others → first_difference bytes others ≡ None → bytes ≡ others
 same_from_none bytes others len e =
     let test = none_of (ltb (prefix_len (λ p. not (not (eqb p.0 p.1))) (zip bytes others)) (length (zip bytes others))) (prefix_len (λ p. not (not (eqb p.0 p.1))) (zip bytes others)) e in
     same_from_prefix bytes others len (ltb-false _ _ test)
 
-module _ (at : ℕ) (m : List ℕ) where
-  differs_takes : (o : Option ℕ) (p : Place) (x : List ℕ) (q : Place) → IsBytes p.bytes → unless_differs o at (m, p) ≡ Ok (x, q) → Takes p [] q × ((o ≡ None) × (m ≡ x))
-  differs_takes None p x q fits e = let t = (pure_format m).takes p x q fits e in (t.0, (refl, t.1))
-  differs_takes (Some i) p x q fits e = absurd cc
+-- a fault is no format's value
+fault_format : {A : Type 0} (d : TraceFault) (text : A → List ℕ) → IsOfText d → IsFormat (λ p. Err (Fault d)) text (λ x. ⊥)
+fault_format d text is = record {
+  takes = λ p x q fits e. absurd cc;
+  again = λ at x rest h. absurd h;
+  stays = λ p f more fits e. e;
+  kind = λ p f e. subst IsOfText (same_fault d f e) is;
+}
 
-  differs_stays : (o : Option ℕ) (p : Place) (f : TraceFault) (more : List ℕ) → unless_differs o at (m, p) ≡ Err (Fault f) → unless_differs o at (m, longer p more) ≡ Err (Fault f)
-  differs_stays None p f more e = absurd cc
-  differs_stays (Some i) p f more e = cc
+-- the form that the two differences tell
+abbrev pub IsVersionBy : Option ℕ → Option ℕ → Version → Type 0
+IsVersionBy None older version = Timed ≡ version
+IsVersionBy (Some i) None version = Timeless ≡ version
+IsVersionBy (Some i) (Some j) version = ⊥
 
-  differs_kind : (o : Option ℕ) (p : Place) (f : TraceFault) → unless_differs o at (m, p) ≡ Err (Fault f) → IsOfText f
-  differs_kind None p f e = absurd cc
-  differs_kind (Some i) p f e = subst IsOfText (same_fault (BadMagic (at + i)) f e) tt
+version_by_format : (at : ℕ) (differs older : Option ℕ) → IsFormat (version_by differs older at) (λ _. []) (IsVersionBy differs older)
+version_by_format at None older = pure_format Timed
+version_by_format at (Some i) None = pure_format Timeless
+version_by_format at (Some i) (Some j) = fault_format (BadMagic (at + i)) (λ _. []) tt
 
-  differs_format : (o : Option ℕ) → IsFormat (λ p. unless_differs o at (m, p)) (λ _. []) (λ x. (o ≡ None) × (m ≡ x))
-  differs_format o = record {
-    takes = differs_takes o;
-    again = λ start x rest h.
-        let n : start ≡ start + 0 = omega arith in
-        ap (λ (z : Option ℕ). unless_differs z at (m, place start rest)) h.0 ∙ ap (λ (y : List ℕ). Ok (y, place start rest)) h.1 ∙ ap (λ (i : ℕ). Ok (x, place i rest)) n;
-    stays = λ p f more fits e. differs_stays o p f more e;
-    kind = differs_kind o;
-  }
+magic_by : (m : List ℕ) (differs older : Option ℕ) → first_difference m (magic Timed) ≡ differs → first_difference m (magic Timeless) ≡ older → length m ≡ 8 → (version : Version) → IsVersionBy differs older version → magic version ≡ m
+magic_by m None older e e' len version h = ap magic (sym h) ∙ sym (same_from_none m (magic Timed) len e)
+magic_by m (Some i) None e e' len version h = ap magic (sym h) ∙ sym (same_from_none m (magic Timeless) len e')
+magic_by m (Some i) (Some j) e e' len version h = absurd h
 
-abbrev IsMagic : List ℕ → Type 0
-IsMagic bytes = bytes ≡ magic
+magic_again : (version : Version) → (length (magic version) ≡ 8) × IsVersionBy (first_difference (magic version) (magic Timed)) (first_difference (magic version) (magic Timeless)) version
+magic_again Timed = (refl, refl)
+magic_again Timeless = (refl, refl)
 
-pub magic_format : IsFormat magic_at (λ bytes. bytes) IsMagic
-unfolding magic_at
-magic_format =
+pub version_format : IsFormat version_at magic (λ _. Unit {0})
+unfolding version_at
+version_format =
     let judged = then_format (bytes_at 8) (λ bytes. bytes) (λ bytes. length bytes ≡ 8)
-    (λ at m p. unless_differs (first_difference m magic) at (m, p)) (λ _. []) (λ m x. (first_difference m magic ≡ None) × (m ≡ x)) (λ x. x)
-    (bytes_format 8) (λ at m. differs_format at m (first_difference m magic)) (λ m x h k. sym k.1) in
-    same_lawful (same_text judged (λ bytes. bytes) (λ bytes h. append-nil bytes)) IsMagic
-    (λ bytes h. same_from_none bytes magic h.0 h.1.0)
-    (λ bytes is. subst (λ (b : List ℕ). (length b ≡ 8) × ((first_difference b magic ≡ None) × (b ≡ b))) (sym is) (refl, (refl, refl)))
+    (λ at m p. version_by (first_difference m (magic Timed)) (first_difference m (magic Timeless)) at p) (λ _. [])
+    (λ m version. IsVersionBy (first_difference m (magic Timed)) (first_difference m (magic Timeless)) version) magic
+    (bytes_format 8) (λ at m. version_by_format at (first_difference m (magic Timed)) (first_difference m (magic Timeless)))
+    (λ m version len is. magic_by m (first_difference m (magic Timed)) (first_difference m (magic Timeless)) refl refl len version is) in
+    same_lawful (same_text judged magic (λ version h. append-nil (magic version))) (λ _. Unit {0})
+    (λ version h. tt)
+    (λ version h. magic_again version)
 
 pub count_format : IsFormat count_at (to_be_bytes w32) (λ n. n ≤ most_calls)
 unfolding count_at
@@ -362,11 +445,17 @@ count_format =
     (λ n h. ltb-false most_calls n h.1.0)
     (λ n le. (omega (arith, le), (le-ltb most_calls n le, refl)))
 
-pub header_format : IsFormat header_at header_text (λ n. n ≤ most_calls)
+header_from_count : (version : Version) → IsFormat (λ p. count_at p >>= λ count. Ok (header_of version count.0, count.1)) (λ h. to_be_bytes w32 h.count ++ []) (λ h. (h.count ≤ most_calls) × (header_of version h.count ≡ h))
+header_from_count version =
+    then_format count_at (to_be_bytes w32) (λ n. n ≤ most_calls) (λ at n p. Ok (header_of version n, p)) (λ _. []) (λ n h. header_of version n ≡ h) (λ h. h.count)
+    count_format (λ at n. pure_format (header_of version n)) (λ n h le k. ap (λ (x : Header). x.count) (sym k))
+
+pub header_format : IsFormat header_at header_text (λ h. h.count ≤ most_calls)
 unfolding header_at header_text
 header_format =
-    same_lawful (then_format magic_at (λ bytes. bytes) IsMagic (λ at bytes p. count_at p) (to_be_bytes w32) (λ bytes n. n ≤ most_calls) (λ n. magic)
-    magic_format (λ at bytes. count_format) (λ bytes n h k. sym h))
-    (λ n. n ≤ most_calls)
-    (λ n h. h.1)
-    (λ n h. (refl, h))
+    let read = then_format version_at magic (λ _. Unit {0}) (λ at version p. count_at p >>= λ count. Ok (header_of version count.0, count.1)) (λ h. to_be_bytes w32 h.count ++ [])
+    (λ version h. (h.count ≤ most_calls) × (header_of version h.count ≡ h)) (λ h. h.version)
+    version_format (λ at version. header_from_count version) (λ version h u k. ap (λ (x : Header). x.version) (sym k.1)) in
+    same_lawful (same_text read header_text (λ h k. ap (λ (t : List ℕ). magic h.version ++ t) (append-nil (to_be_bytes w32 h.count)))) (λ h. h.count ≤ most_calls)
+    (λ h k. k.1.0)
+    (λ h le. (tt, (le, refl)))

@@ -5,21 +5,25 @@ use Rattle.std.specs.Int.{Width, w16, w32, w64, byte_len, from_be_bytes, to_be_b
 use Rattle.std.proofs.lemmas.Bool.{cases_Bool, eqb-true, eqb-false, eq-eqb, ne_eqb, le-ltb, lt-ltb}
 use Rattle.std.proofs.lemmas.List.{length-append, length-take, length-drop, take-append-drop, take-append-le, get_or-take}
 use Rattle.std.proofs.lemmas.List.Elements.{recursion_from_All}
+use Rattle.record_pages.specs.Expiry.{never}
 use Rattle.trace_file.specs.declared.act.Act.TheVariants as acts
+use Rattle.trace_file.specs.declared.header.Header.{Header}
 use Rattle.trace_file.specs.declared.kind.Kind.{Kind}
 use Rattle.trace_file.specs.declared.kind.Kind.TheVariants.{Put, Remove, Hit, Miss}
 use Rattle.trace_file.specs.declared.stop.Stop.{Stop}
 use Rattle.trace_file.specs.declared.stop.Stop.TheVariants.{Fault}
 use Rattle.trace_file.specs.declared.trace_fault.TraceFault.{TraceFault}
 use Rattle.trace_file.specs.declared.trace_fault.TraceFault.TheVariants.{BadMagic, TooMany, BadKind, BadKey, BadValue, Truncated, TrailingBytes, ReadFault, OutOfMemory}
-use Rattle.trace_file.specs.Calls.{IsCall}
-use Rattle.trace_file.specs.Reading.{Place, place, Read, ◌>>=◌, bytes_at, number_at, byte_at, or_fault, kind_of, kind_at, key_at, value_at, act_at, call_at, first_difference, unless_differs, magic_at, count_at, header_at, many_at, trace_at, met, first_fault_of}
+use Rattle.trace_file.specs.declared.version.Version.{Version}
+use Rattle.trace_file.specs.declared.version.Version.TheVariants.{Timed, Timeless}
+use Rattle.trace_file.specs.Reading.{Place, place, Read, ◌>>=◌, bytes_at, number_at, byte_at, or_fault, kind_of, kind_at, key_at, value_at, act_at, call_at, first_difference, version_by, version_at, count_at, header_at, many_at, trace_at, met, first_fault_of}
 use Rattle.trace_file.specs.Standing.{DiffersAt, CountsTooMany, AreCalls, IsKind, IsHead, HasBadValue, HasMore, StandsIn}
 use Rattle.trace_file.specs.Stream.{in_front}
-use Rattle.trace_file.specs.Text.{magic, most_calls, call_text, key_text, header_text}
+use Rattle.trace_file.specs.Text.{magic, most_calls, call_text, key_text, header_of, header_text, IsCallOf}
 use Rattle.trace_file.proofs.Formats.{bytes_format, wide16, wide32, number_format, many_before}
-use Rattle.trace_file.proofs.ItemFormats.{key_format, read_act, read_key, read_end, read_start, read_caller, made, call_format, magic_format, header_format}
-use Rattle.trace_file.proofs.Standings.{not_not}
+use Rattle.trace_file.proofs.ItemFormats.{key_format, read_act, read_key, read_end, read_start, read_caller, made, call_format, same_from_none, version_format, header_format}
+use Rattle.trace_file.proofs.ReaderLaws.{magic_len}
+use Rattle.trace_file.proofs.Standings.{not_not, timed_at}
 use Rattle.trace_file.proofs.TraceLaws.{after_calls, after_header}
 use Rattle.trace_file.proofs.ToldApart.{behind_trace, some_bytes}
 
@@ -72,20 +76,29 @@ first_difference_is bs os n a b same other =
 bytes_are_there : (n at : ℕ) (bytes : List ℕ) → n ≤ length bytes → bytes_at n (place at bytes) ≡ Ok (take n bytes, place (at + n) (drop n bytes))
 bytes_are_there n at bytes le = rw (le-ltb (length bytes) n le) refl
 
-differs_met : (bytes : List ℕ) (at : ℕ) → DiffersAt bytes at → magic_at (place 0 bytes) ≡ Err (Fault (BadMagic at))
-unfolding magic_at
+-- bytes that are not the older magic differ from it somewhere
+differs_somewhere : (eight : List ℕ) (older : Option ℕ) → first_difference eight (magic Timeless) ≡ older → length eight ≡ 8 → eight ≢ magic Timeless → (j : ℕ) × (first_difference eight (magic Timeless) ≡ Some j)
+differs_somewhere eight None e len other = absurd (other (same_from_none eight (magic Timeless) len e))
+differs_somewhere eight (Some j) e len other = (j, e)
+
+differs_met : (bytes : List ℕ) (at : ℕ) → DiffersAt bytes at → version_at (place 0 bytes) ≡ Err (Fault (BadMagic at))
+unfolding version_at
 differs_met bytes at d =
+    let timed = magic Timed in
     let eight = take 8 bytes in
     let there : 8 ≤ length bytes = d.there in
     let within : at < 8 = d.within in
     let len : length eight ≡ 8 = omega (arith, length-take 8 bytes, there) in
-    let front : take at eight ≡ take at magic = sym (take-append-le at eight (drop 8 bytes) (omega (arith, len, within))) ∙ ap (λ (b : List ℕ). take at b) (take-append-drop 8 bytes) ∙ d.same in
+    let front : take at eight ≡ take at timed = sym (take-append-le at eight (drop 8 bytes) (omega (arith, len, within))) ∙ ap (λ (b : List ℕ). take at b) (take-append-drop 8 bytes) ∙ d.same in
     let byte : get_or eight at 0 ≡ get_or bytes at 0 = get_or-take 8 bytes at 0 within in
-    let other : get_or eight at 0 ≢ get_or magic at 0 = λ e. d.other (sym byte ∙ e) in
-    let found : first_difference eight magic ≡ Some at = first_difference_is eight magic at (omega (arith, len, within)) within front other in
+    let other : get_or eight at 0 ≢ get_or timed at 0 = λ e. d.other (sym byte ∙ e) in
+    let found : first_difference eight timed ≡ Some at = first_difference_is eight timed at (omega (arith, len, within)) within front other in
+    let older = differs_somewhere eight (first_difference eight (magic Timeless)) refl len d.not_older in
     let none : 0 + at ≡ at = omega arith in
-    goes (bytes_at 8 (place 0 bytes)) (eight, place (0 + 8) (drop 8 bytes)) (λ b. unless_differs (first_difference b.0 magic) 0 b) (bytes_are_there 8 0 bytes there)
-    ∙ ap (λ (o : Option ℕ). unless_differs o 0 (eight, place (0 + 8) (drop 8 bytes))) found
+    let behind = place (0 + 8) (drop 8 bytes) in
+    goes (bytes_at 8 (place 0 bytes)) (eight, behind) (λ b. version_by (first_difference b.0 (magic Timed)) (first_difference b.0 (magic Timeless)) 0 b.1) (bytes_are_there 8 0 bytes there)
+    ∙ ap (λ (o : Option ℕ). version_by o (first_difference eight (magic Timeless)) 0 behind) found
+    ∙ ap (λ (o : Option ℕ). version_by (Some at) o 0 behind) older.1
     ∙ ap (λ (i : ℕ). Err (Fault (BadMagic i))) none
 
 count_met : (at count : ℕ) (more : List ℕ) → count < 2 ^ 32 → most_calls < count → count_at (place at (to_be_bytes w32 count ++ more)) ≡ Err (Fault (TooMany at))
@@ -98,20 +111,22 @@ count_met at count more small above =
 too_many_met : (bytes : List ℕ) (at : ℕ) → CountsTooMany bytes at → header_at (place 0 bytes) ≡ Err (Fault (TooMany at))
 unfolding header_at
 too_many_met bytes at c =
+    let v = c.version in
     let rest = to_be_bytes w32 c.count ++ c.more in
-    let eight : 0 + length magic ≡ 8 = refl in
+    let start = 0 + length (magic v) in
+    let eight : start ≡ 8 = omega (arith, magic_len v) in
     ap (λ (b : List ℕ). header_at (place 0 b)) c.split
-    ∙ goes (magic_at (place 0 (magic ++ rest))) (magic, place (0 + length magic) rest) (λ b. count_at b.1) (magic_format.again 0 magic rest refl)
-    ∙ count_met (0 + length magic) c.count c.more c.number c.above
+    ∙ goes (version_at (place 0 (magic v ++ rest))) (v, place start rest) (λ x. count_at x.1 >>= λ count. Ok (header_of x.0 count.0, count.1)) (version_format.again 0 v rest tt)
+    ∙ stops (count_at (place start rest)) (Fault (TooMany start)) (λ count. Ok (header_of v count.0, count.1)) (count_met start c.count c.more c.number c.above)
     ∙ ap (λ (i : ℕ). Err (Fault (TooMany i))) (eight ∙ sym c.at_is)
 
 in_header : (bytes : List ℕ) (f : TraceFault) → header_at (place 0 bytes) ≡ Err (Fault f) → first_fault_of bytes ≡ Some f
 unfolding trace_at first_fault_of
 in_header bytes f e = ap met (stops (header_at (place 0 bytes)) (Fault f) after_header e)
 
-in_magic : (bytes : List ℕ) (f : TraceFault) → magic_at (place 0 bytes) ≡ Err (Fault f) → first_fault_of bytes ≡ Some f
+in_magic : (bytes : List ℕ) (f : TraceFault) → version_at (place 0 bytes) ≡ Err (Fault f) → first_fault_of bytes ≡ Some f
 unfolding header_at
-in_magic bytes f e = in_header bytes f (stops (magic_at (place 0 bytes)) (Fault f) (λ b. count_at b.1) e)
+in_magic bytes f e = in_header bytes f (stops (version_at (place 0 bytes)) (Fault f) (λ v. count_at v.1 >>= λ count. Ok (header_of v.0 count.0, count.1)) e)
 
 -- ---- a call
 
@@ -147,25 +162,25 @@ known_kind b is =
           ]
     ]
 
-kind_met : (at b : ℕ) (more : List ℕ) → ¬ IsKind b → call_at (place at (b ∷ more)) ≡ Err (Fault (BadKind at))
+kind_met : (version : Version) (at b : ℕ) (more : List ℕ) → ¬ IsKind b → call_at version (place at (b ∷ more)) ≡ Err (Fault (BadKind at))
 unfolding call_at kind_at byte_at
-kind_met at b more unknown =
-    stops (kind_at (place at (b ∷ more))) (Fault (BadKind at)) (λ kind. read_caller kind.0 kind.1) (ap (λ (o : Option Kind). or_fault o (BadKind at) (place (at + 1) more)) (unknown_kind b unknown))
+kind_met version at b more unknown =
+    stops (kind_at (place at (b ∷ more))) (Fault (BadKind at)) (λ kind. read_caller version kind.0 kind.1) (ap (λ (o : Option Kind). or_fault o (BadKind at) (place (at + 1) more)) (unknown_kind b unknown))
 
 number_is_there : (w : Width) (at : ℕ) (bytes rest : List ℕ) → length bytes ≡ byte_len w → number_at w (place at (bytes ++ rest)) ≡ Ok (from_be_bytes w bytes, place (at + length bytes) rest)
 unfolding number_at
 number_is_there w at bytes rest len = ap (λ (r : Read (List ℕ)). r >>= λ b. Ok (from_be_bytes w b.0, b.1)) ((bytes_format (byte_len w)).again at bytes rest len)
 
 -- behind the head of a call its key is read
-record Headed (kind : Kind) (at : ℕ) (head rest : List ℕ) : Type 0 where
+record Headed (version : Version) (kind : Kind) (at : ℕ) (head rest : List ℕ) : Type 0 where
   pub caller : ℕ
   pub start : ℕ
   pub end : ℕ
-  pub read : call_at (place at (head ++ rest)) ≡ read_key kind caller start end (place (at + length head) rest)
+  pub read : call_at version (place at (head ++ rest)) ≡ read_key version kind caller start end (place (at + length head) rest)
 
-head_is_read : (kind : Kind) (at : ℕ) (head rest : List ℕ) (is : IsHead head) → kind_of is.kind ≡ Some kind → Headed kind at head rest
+head_is_read : (version : Version) (kind : Kind) (at : ℕ) (head rest : List ℕ) (is : IsHead head) → kind_of is.kind ≡ Some kind → Headed version kind at head rest
 unfolding call_at kind_at byte_at
-head_is_read kind at head rest is known =
+head_is_read version kind at head rest is known =
     let numbers = is.numbers in
     let a = take 2 numbers in
     let more = drop 2 numbers in
@@ -197,23 +212,23 @@ head_is_read kind at head rest is known =
       start = start;
       end = end;
       read =
-          ap (λ (x : List ℕ). call_at (place at x)) bytes
-          ∙ goes (kind_at (place at (is.kind ∷ from_a))) (kind, place at_a from_a) (λ k. read_caller k.0 k.1) known_here
-          ∙ goes (number_at w16 (place at_a from_a)) (caller, place at_b from_b) (λ x. read_start kind x.0 x.1) (number_is_there w16 at_a a from_b of_a)
-          ∙ goes (number_at w64 (place at_b from_b)) (start, place at_c from_c) (λ x. read_end kind caller x.0 x.1) (number_is_there w64 at_b b from_c of_b)
-          ∙ goes (number_at w64 (place at_c from_c)) (end, place (at_c + length c) rest) (λ x. read_key kind caller start x.0 x.1) (number_is_there w64 at_c c rest of_c)
-          ∙ ap (λ (i : ℕ). read_key kind caller start end (place i rest)) here;
+          ap (λ (x : List ℕ). call_at version (place at x)) bytes
+          ∙ goes (kind_at (place at (is.kind ∷ from_a))) (kind, place at_a from_a) (λ k. read_caller version k.0 k.1) known_here
+          ∙ goes (number_at w16 (place at_a from_a)) (caller, place at_b from_b) (λ x. read_start version kind x.0 x.1) (number_is_there w16 at_a a from_b of_a)
+          ∙ goes (number_at w64 (place at_b from_b)) (start, place at_c from_c) (λ x. read_end version kind caller x.0 x.1) (number_is_there w64 at_b b from_c of_b)
+          ∙ goes (number_at w64 (place at_c from_c)) (end, place (at_c + length c) rest) (λ x. read_key version kind caller start x.0 x.1) (number_is_there w64 at_c c rest of_c)
+          ∙ ap (λ (i : ℕ). read_key version kind caller start end (place i rest)) here;
     }
 
 no_key_met : (at : ℕ) (more : List ℕ) → key_at (place at (0 ∷ more)) ≡ Err (Fault (BadKey at))
 unfolding key_at byte_at
 no_key_met at more = refl
 
-key_met : (at : ℕ) (head more : List ℕ) → IsHead head → call_at (place at (head ++ (0 ∷ more))) ≡ Err (Fault (BadKey (at + length head)))
-key_met at head more is =
+key_met : (version : Version) (at : ℕ) (head more : List ℕ) → IsHead head → call_at version (place at (head ++ (0 ∷ more))) ≡ Err (Fault (BadKey (at + length head)))
+key_met version at head more is =
     let known = known_kind is.kind is.known in
-    let h = head_is_read known.0 at head (0 ∷ more) is known.1 in
-    h.read ∙ stops (key_at (place (at + length head) (0 ∷ more))) (Fault (BadKey (at + length head))) (λ key. read_act known.0 h.caller h.start h.end key.0 key.1) (no_key_met (at + length head) more)
+    let h = head_is_read version known.0 at head (0 ∷ more) is known.1 in
+    h.read ∙ stops (key_at (place (at + length head) (0 ∷ more))) (Fault (BadKey (at + length head))) (λ key. read_act version known.0 h.caller h.start h.end key.0 key.1) (no_key_met (at + length head) more)
 
 long_value_met : (at len : ℕ) (more : List ℕ) → len < 2 ^ 16 → 2048 < len → value_at (place at (to_be_bytes w16 len ++ more)) ≡ Err (Fault (BadValue at))
 unfolding value_at
@@ -223,58 +238,60 @@ long_value_met at len more small above =
     ∙ ap (λ (b : Bool). cond b (Err (Fault (BadValue at))) (bytes_at len behind)) (lt-ltb 2048 len above)
 
 -- a kind whose calls have values
-record Valued (number : ℕ) : Type 0 where
+record Valued (version : Version) (number : ℕ) : Type 0 where
   pub kind : Kind
   pub known : kind_of number ≡ Some kind
-  pub stopped : (p : Place) (f : TraceFault) → value_at p ≡ Err (Fault f) → act_at kind p ≡ Err (Fault f)
+  pub stopped : (p : Place) (f : TraceFault) → value_at p ≡ Err (Fault f) → act_at version kind p ≡ Err (Fault f)
 
-has_values : (number : ℕ) → (number ≡ 1) ⊎ (number ≡ 3) → Valued number
+has_values : (version : Version) (number : ℕ) → (number ≡ 1) ⊎ (number ≡ 3) → Valued version number
 unfolding act_at
-has_values number which =
+has_values version number which =
     elim which [
-      | inl put ↦ record { kind = Put; known = ap kind_of put; stopped = λ p f e. stops (value_at p) (Fault f) (λ value. Ok (acts.Put value.0, value.1)) e }
-      | inr hit ↦ record { kind = Hit; known = ap kind_of hit; stopped = λ p f e. stops (value_at p) (Fault f) (λ value. Ok (acts.Hit value.0, value.1)) e }
+      | inl put ↦ record { kind = Put; known = ap kind_of put; stopped = λ p f e. stops (value_at p) (Fault f) (λ value. timed_at version never (λ v t. acts.Put v t) value.0 value.1) e }
+      | inr hit ↦ record { kind = Hit; known = ap kind_of hit; stopped = λ p f e. stops (value_at p) (Fault f) (λ value. timed_at version 0 (λ v t. acts.Hit v t) value.0 value.1) e }
     ]
 
-value_met : (bytes : List ℕ) (at : ℕ) (s : HasBadValue bytes at) (start : ℕ)
-    → call_at (place start (s.head ++ (key_text s.key ++ (to_be_bytes w16 s.len ++ s.more)))) ≡ Err (Fault (BadValue (start + length s.head + length (key_text s.key))))
-value_met bytes at s start =
-    let v = has_values s.is_head.kind s.valued in
+value_met : (version : Version) (bytes : List ℕ) (at : ℕ) (s : HasBadValue bytes at) (start : ℕ)
+    → call_at version (place start (s.head ++ (key_text s.key ++ (to_be_bytes w16 s.len ++ s.more)))) ≡ Err (Fault (BadValue (start + length s.head + length (key_text s.key))))
+value_met version bytes at s start =
+    let v = has_values version s.is_head.kind s.valued in
     let tail = to_be_bytes w16 s.len ++ s.more in
-    let h = head_is_read v.kind start s.head (key_text s.key ++ tail) s.is_head v.known in
+    let h = head_is_read version v.kind start s.head (key_text s.key ++ tail) s.is_head v.known in
     let at_key = start + length s.head in
     let at_value = at_key + length (key_text s.key) in
-    let act : act_at v.kind (place at_value tail) ≡ Err (Fault (BadValue at_value)) = v.stopped (place at_value tail) (BadValue at_value) (long_value_met at_value s.len s.more s.number s.above) in
+    let act : act_at version v.kind (place at_value tail) ≡ Err (Fault (BadValue at_value)) = v.stopped (place at_value tail) (BadValue at_value) (long_value_met at_value s.len s.more s.number s.above) in
     h.read
-    ∙ goes (key_at (place at_key (key_text s.key ++ tail))) (s.key, place at_value tail) (λ key. read_act v.kind h.caller h.start h.end key.0 key.1) (key_format.again at_key s.key tail s.is_key)
-    ∙ stops (act_at v.kind (place at_value tail)) (Fault (BadValue at_value)) (λ act. Ok (made h.caller h.start h.end s.key act.0, act.1)) act
+    ∙ goes (key_at (place at_key (key_text s.key ++ tail))) (s.key, place at_value tail) (λ key. read_act version v.kind h.caller h.start h.end key.0 key.1) (key_format.again at_key s.key tail s.is_key)
+    ∙ stops (act_at version v.kind (place at_value tail)) (Fault (BadValue at_value)) (λ act. Ok (made h.caller h.start h.end s.key act.0, act.1)) act
 
 -- ---- among the calls
 
 -- what is wrong with the call behind a header and calls, fewer than it counts, is what is met
-behind_calls : (bytes front rest : List ℕ) (f : TraceFault) → AreCalls front → bytes ≡ front ++ rest → call_at (place (length front) rest) ≡ Err (Fault f) → first_fault_of bytes ≡ Some f
+behind_calls : (bytes front rest : List ℕ) (f : TraceFault) (a : AreCalls front) → bytes ≡ front ++ rest → call_at a.version (place (length front) rest) ≡ Err (Fault f) → first_fault_of bytes ≡ Some f
 unfolding trace_at first_fault_of many_at
 behind_calls bytes front rest f a split wrong =
+    let version = a.version in
     let n = a.count in
+    let h : Header = header_of version n in
     let calls = a.calls in
-    let texts = flat_map call_text calls in
-    let start = 0 + length (header_text n) in
+    let texts = flat_map (call_text version) calls in
+    let start = 0 + length (header_text h) in
     let fewer : length calls < n = a.fewer in
     let k = n - length calls - 1 in
     let count : n ≡ length calls + suc k = omega (arith, fewer) in
-    let here : start + length texts ≡ length front = omega (arith, ap length a.text, length-append (header_text n) texts) in
-    let parts : bytes ≡ header_text n ++ (texts ++ rest) = split ∙ ap (λ (b : List ℕ). b ++ rest) a.text ∙ append_assoc (header_text n) texts rest in
+    let here : start + length texts ≡ length front = omega (arith, ap length a.text, length-append (header_text h) texts) in
+    let parts : bytes ≡ header_text h ++ (texts ++ rest) = split ∙ ap (λ (b : List ℕ). b ++ rest) a.text ∙ append_assoc (header_text h) texts rest in
     let behind = place (start + length texts) rest in
-    let call : call_at behind ≡ Err (Fault f) = ap (λ (i : ℕ). call_at (place i rest)) here ∙ wrong in
-    let one : many_at call_at (suc k) behind ≡ Err (Fault f) = stops (call_at behind) (Fault f) (λ first. many_at call_at k first.1 >>= λ others. Ok (first.0 ∷ others.0, others.1)) call in
-    let many : many_at call_at n (place start (texts ++ rest)) ≡ Err (Fault f) =
-    ap (λ (i : ℕ). many_at call_at i (place start (texts ++ rest))) count
-    ∙ many_before call_format calls (suc k) start rest (recursion_from_All IsCall calls a.lawful)
+    let call : call_at version behind ≡ Err (Fault f) = ap (λ (i : ℕ). call_at version (place i rest)) here ∙ wrong in
+    let one : many_at (call_at version) (suc k) behind ≡ Err (Fault f) = stops (call_at version behind) (Fault f) (λ first. many_at (call_at version) k first.1 >>= λ others. Ok (first.0 ∷ others.0, others.1)) call in
+    let many : many_at (call_at version) n (place start (texts ++ rest)) ≡ Err (Fault f) =
+    ap (λ (i : ℕ). many_at (call_at version) i (place start (texts ++ rest))) count
+    ∙ many_before (call_format version) calls (suc k) start rest (recursion_from_All (IsCallOf version) calls a.lawful)
     ∙ ap (in_front calls) one in
     let whole : trace_at (place 0 bytes) ≡ Err (Fault f) =
     ap (λ (b : List ℕ). trace_at (place 0 b)) parts
-    ∙ goes (header_at (place 0 (header_text n ++ (texts ++ rest)))) (n, place start (texts ++ rest)) after_header (header_format.again 0 n (texts ++ rest) a.few)
-    ∙ stops (many_at call_at n (place start (texts ++ rest))) (Fault f) (after_calls n) many in
+    ∙ goes (header_at (place 0 (header_text h ++ (texts ++ rest)))) (h, place start (texts ++ rest)) after_header (header_format.again 0 h (texts ++ rest) a.few)
+    ∙ stops (many_at (call_at version) n (place start (texts ++ rest))) (Fault f) (after_calls n) many in
     ap met whole
 
 -- ---- each fault
@@ -283,17 +300,17 @@ more_met : (bytes : List ℕ) (at : ℕ) → HasMore bytes at → first_fault_of
 unfolding first_fault_of
 more_met bytes at s =
     ap (λ (b : List ℕ). met (trace_at (place 0 b))) s.split
-    ∙ ap met (behind_trace s.history s.certificate s.more s.pair (some_bytes s.more s.some))
+    ∙ ap met (behind_trace s.version s.history s.certificate s.more s.pair (some_bytes s.more s.some))
     ∙ ap (λ (i : ℕ). Some (TrailingBytes i)) (sym s.at_is)
 
 pub standing_is_met : (bytes : List ℕ) (fault : TraceFault) → StandsIn bytes fault → first_fault_of bytes ≡ Some fault
 standing_is_met bytes (BadMagic at) s = in_magic bytes (BadMagic at) (differs_met bytes at s)
 standing_is_met bytes (TooMany at) s = in_header bytes (TooMany at) (too_many_met bytes at s)
-standing_is_met bytes (BadKind at) s = behind_calls bytes s.front (s.kind ∷ s.more) (BadKind at) s.before s.split (kind_met (length s.front) s.kind s.more s.unknown ∙ ap (λ (i : ℕ). Err (Fault (BadKind i))) (sym s.at_is))
-standing_is_met bytes (BadKey at) s = behind_calls bytes s.front (s.head ++ (0 ∷ s.more)) (BadKey at) s.before s.split (key_met (length s.front) s.head s.more s.is_head ∙ ap (λ (i : ℕ). Err (Fault (BadKey i))) (sym s.at_is))
+standing_is_met bytes (BadKind at) s = behind_calls bytes s.front (s.kind ∷ s.more) (BadKind at) s.before s.split (kind_met s.before.version (length s.front) s.kind s.more s.unknown ∙ ap (λ (i : ℕ). Err (Fault (BadKind i))) (sym s.at_is))
+standing_is_met bytes (BadKey at) s = behind_calls bytes s.front (s.head ++ (0 ∷ s.more)) (BadKey at) s.before s.split (key_met s.before.version (length s.front) s.head s.more s.is_head ∙ ap (λ (i : ℕ). Err (Fault (BadKey i))) (sym s.at_is))
 standing_is_met bytes (BadValue at) s =
     behind_calls bytes s.front (s.head ++ (key_text s.key ++ (to_be_bytes w16 s.len ++ s.more))) (BadValue at) s.before s.split
-    (value_met bytes at s (length s.front) ∙ ap (λ (i : ℕ). Err (Fault (BadValue i))) (sym s.at_is))
+    (value_met s.before.version bytes at s (length s.front) ∙ ap (λ (i : ℕ). Err (Fault (BadValue i))) (sym s.at_is))
 standing_is_met bytes (TrailingBytes at) s = more_met bytes at s
 standing_is_met bytes (Truncated at) s = absurd s
 standing_is_met bytes (ReadFault at) s = absurd s

@@ -1,12 +1,13 @@
 -- What a reader of pieces keeps.
 use Rattle.std.proofs.Common.{◌≡◌, ℕ, ◌+◌, ◌-◌, ◌*◌, ◌^◌, ◌<◌, ◌≤◌, Bool, true, false, cond, List, [], ◌∷◌, ◌++◌, length, drop, Option, Some, None, Result, Ok, Err, refl, sym, ap, subst, ◌∙◌, append_assoc, arith, All}
 use Rattle.std.specs.List.{flat_map, AllByRecursion}
-use Rattle.std.specs.Int.{w16, to_be_bytes}
+use Rattle.std.specs.Int.{w16, w32, w64, to_be_bytes}
 use Rattle.std.proofs.lemmas.List.{append-nil, length-append, drop_at, drop-drop}
 use Rattle.std.proofs.lemmas.List.Elements.{All-nil, All-append, recursion_from_All}
 use Rattle.trace_file.specs.declared.act.Act.{Act}
 use Rattle.trace_file.specs.declared.act.Act.TheVariants.{Put, Remove, Hit, Miss}
 use Rattle.trace_file.specs.declared.call.Call.{Call}
+use Rattle.trace_file.specs.declared.header.Header.{Header}
 use Rattle.trace_file.specs.declared.stop.Stop.{Stop}
 use Rattle.trace_file.specs.declared.stop.Stop.TheVariants.{Short, Fault}
 use Rattle.trace_file.specs.declared.taken.Taken.{Taken}
@@ -14,64 +15,80 @@ use Rattle.trace_file.specs.declared.trace.Trace.{Trace}
 use Rattle.trace_file.specs.declared.trace_fault.TraceFault.{TraceFault}
 use Rattle.trace_file.specs.declared.trace_fault.TraceFault.TheVariants.{Truncated}
 use Rattle.record_pages.specs.Bounded.{IsValue}
+use Rattle.trace_file.specs.declared.version.Version.{Version}
+use Rattle.trace_file.specs.declared.version.Version.TheVariants.{Timed, Timeless}
 use Rattle.trace_file.specs.Calls.{IsCall, value_of}
-use Rattle.trace_file.specs.Reading.{Place, place, magic_at, header_at, trace_at, at_end, outcome_of, first_fault_of, met}
+use Rattle.trace_file.specs.Reading.{Place, place, version_at, header_at, trace_at, at_end, outcome_of, first_fault_of, met}
 use Rattle.trace_file.specs.Stream.{pair_of, FailsAs, counted_text, text_so_far, read_behind, IsTaken, whole, standing, Advances, IsReading, IsReader, StartsOn, Keeps, FaultIn, stream_of, fed_of, finished}
-use Rattle.trace_file.specs.Text.{IsTrace, act_text, call_text, position_text, header_text}
+use Rattle.trace_file.specs.Text.{IsTrace, magic, time_text, act_text, call_text, position_text, header_text, IsCallOf}
 use Rattle.trace_file.proofs.TraceLaws.{goes_on, stopped_at_header, trace_takes, trace_stays}
 use Rattle.trace_file.proofs.Takings.{bytes_from_All}
 use Rattle.std.specs.Prelude.{IfOk, IfErr}
 
 -- ---- how long a text can be
 
-act_len : (act : Act) → IsValue (value_of act) → length (act_text act) ≤ 2050
-act_len (Put value) is = omega (arith, length-append (to_be_bytes w16 (length value)) value, is)
-act_len Remove is = omega arith
-act_len (Hit value) is = omega (arith, length-append (to_be_bytes w16 (length value)) value, is)
-act_len Miss is = omega arith
+time_len : (version : Version) (time : ℕ) → length (time_text version time) ≤ 8
+time_len Timed time = omega arith
+time_len Timeless time = omega arith
 
-call_len : (c : Call) → IsCall c → length (call_text c) ≤ 2325
+value_len : (version : Version) (value : List ℕ) (time : ℕ) → IsValue value → length ((to_be_bytes w16 (length value) ++ value) ++ time_text version time) ≤ 2058
+value_len version value time is =
+    omega (arith, length-append (to_be_bytes w16 (length value) ++ value) (time_text version time), length-append (to_be_bytes w16 (length value)) value, time_len version time, is)
+
+act_len : (version : Version) (act : Act) → IsValue (value_of act) → length (act_text version act) ≤ 2058
+act_len version (Put value expires) is = value_len version value expires is
+act_len version Remove is = omega arith
+act_len version (Hit value moment) is = value_len version value moment is
+act_len version Miss is = omega arith
+
+call_len : (version : Version) (c : Call) → IsCall c → length (call_text version c) ≤ 2333
 unfolding call_text
-call_len c is =
-    let act = act_len c.act is.value in
+call_len version c is =
+    let act = act_len version c.act is.value in
     let key = is.key.1 in
-    omega (arith, act, key, length-append c.key (act_text c.act))
+    omega (arith, act, key, length-append c.key (act_text version c.act))
 
-calls_len : (cs : List Call) → AllByRecursion IsCall cs → length (flat_map call_text cs) ≤ 2325 * length cs
-calls_len [] is = omega arith
-calls_len (c ∷ cs) is = omega (arith, call_len c is.0, calls_len cs is.1, length-append (call_text c) (flat_map call_text cs))
+calls_len : (version : Version) (cs : List Call) → AllByRecursion (IsCallOf version) cs → length (flat_map (call_text version) cs) ≤ 2333 * length cs
+calls_len version [] is = omega arith
+calls_len version (c ∷ cs) is = omega (arith, call_len version c is.0.lawful, calls_len version cs is.1, length-append (call_text version c) (flat_map (call_text version) cs))
 
 positions_len : (ps : List ℕ) → length (flat_map position_text ps) ≤ 4 * length ps
 positions_len [] = omega arith
 positions_len (p ∷ ps) = omega (arith, positions_len ps, length-append (position_text p) (flat_map position_text ps))
 
-text_len : (count : Option ℕ) (h : List Call) (c : List ℕ) → IsTaken count h c → length (text_so_far count h c) < 2 ^ 40
+pub magic_len : (version : Version) → length (magic version) ≡ 8
+magic_len Timed = refl
+magic_len Timeless = refl
+
+text_len : (header : Option Header) (h : List Call) (c : List ℕ) → IsTaken header h c → length (text_so_far header h c) < 2 ^ 40
 unfolding counted_text header_text
 text_len None h c is = omega arith
 text_len (Some n) h c is =
-    let calls = calls_len h (recursion_from_All IsCall h is.calls) in
+    let calls = calls_len n.version h (recursion_from_All (IsCallOf n.version) h is.calls) in
     let positions = positions_len c in
     omega (
       arith,
       calls,
       positions,
+      magic_len n.version,
       is.few,
       is.within,
       is.behind,
-      length-append (header_text n) (flat_map call_text h ++ flat_map position_text c),
-      length-append (flat_map call_text h) (flat_map position_text c),
+      length-append (magic n.version) (to_be_bytes w32 n.count),
+      length-append (header_text n) (flat_map (call_text n.version) h ++ flat_map position_text c),
+      length-append (flat_map (call_text n.version) h) (flat_map position_text c),
     )
 
 -- ---- a new reader
 
 pub nothing_there : trace_at (place 0 []) ≡ Err Short
-unfolding header_at magic_at
+unfolding header_at version_at
 nothing_there = stopped_at_header (place 0 []) Short short
   where
     short : header_at (place 0 []) ≡ Err Short
     short = refl
 
-pub reader_of_nothing : IsReader (record { count = None; history = []; certificate = [] }) 0 [] None
+pub reader_of_nothing : IsReader (record { header = None; history = []; certificate = [] }) 0 [] None
 reader_of_nothing = record {
   small = omega arith;
   reading = λ none. record { taken_is = (refl, refl); at_is = refl; are_bytes = All-nil (λ byte. byte < 256); stands = nothing_there };
@@ -80,11 +97,11 @@ reader_of_nothing = record {
 -- ---- the end
 
 pub finishes : (taken : Taken) (at len : ℕ) (pending : List ℕ) (self : Result (List ℕ) TraceFault) → fed_of None (stream_of taken pending) ≡ self → IsReading taken at pending → len ≡ length pending
-    → at_end (at + len) (standing taken.count taken.history taken.certificate) ≡ finished self
+    → at_end (at + len) (standing taken.header taken.history taken.certificate) ≡ finished self
 unfolding outcome_of
 finishes taken at len pending self view is len-is =
-    let n : at + len ≡ length (stream_of taken pending) = omega (arith, is.at_is, length-append (text_so_far taken.count taken.history taken.certificate) pending) in
-    ap (λ (m : ℕ). at_end m (standing taken.count taken.history taken.certificate)) n
+    let n : at + len ≡ length (stream_of taken pending) = omega (arith, is.at_is, length-append (text_so_far taken.header taken.history taken.certificate) pending) in
+    ap (λ (m : ℕ). at_end m (standing taken.header taken.history taken.certificate)) n
     ∙ ap (at_end (length (stream_of taken pending))) (sym is.stands)
     ∙ ap finished view
 
@@ -95,9 +112,9 @@ ended_ok n (Err (Fault f)) t e = absurd cc
 
 -- what is handed out is the trace that was fed
 pub finishes_trace : (taken : Taken) (at len : ℕ) (pending : List ℕ) (self : Result (List ℕ) TraceFault) (t : Trace) → fed_of None (stream_of taken pending) ≡ self → IsReading taken at pending
-    → Ok t ≡ at_end (at + len) (standing taken.count taken.history taken.certificate) → IfOk self (λ stream. IsTrace stream t.history t.certificate)
+    → Ok t ≡ at_end (at + len) (standing taken.header taken.history taken.certificate) → IfOk self (λ stream. IsTrace stream t.history t.certificate)
 finishes_trace taken at len pending self t view is e =
-    let read : trace_at (place 0 (stream_of taken pending)) ≡ Ok t = is.stands ∙ ended_ok (at + len) (standing taken.count taken.history taken.certificate) t (sym e) in
+    let read : trace_at (place 0 (stream_of taken pending)) ≡ Ok t = is.stands ∙ ended_ok (at + len) (standing taken.header taken.history taken.certificate) t (sym e) in
     subst (λ (r : Result (List ℕ) TraceFault). IfOk r (λ stream. IsTrace stream t.history t.certificate)) view
     (trace_takes 0 (stream_of taken pending) t (bytes_from_All (stream_of taken pending) is.are_bytes) read)
 
@@ -107,22 +124,22 @@ cut_by false trace n f e = cc
 
 -- a stream that ends too early is cut at its end
 pub finishes_cut : (taken : Taken) (at len : ℕ) (pending : List ℕ) (self : Result (List ℕ) TraceFault) (f : TraceFault) → fed_of None (stream_of taken pending) ≡ self → IsReading taken at pending → len ≡ length pending
-    → Err f ≡ at_end (at + len) (standing taken.count taken.history taken.certificate) → IfOk self (λ stream. f ≡ Truncated (length stream))
+    → Err f ≡ at_end (at + len) (standing taken.header taken.history taken.certificate) → IfOk self (λ stream. f ≡ Truncated (length stream))
 finishes_cut taken at len pending self f view is len-is e =
-    let n : at + len ≡ length (stream_of taken pending) = omega (arith, is.at_is, length-append (text_so_far taken.count taken.history taken.certificate) pending) in
-    let cut = cut_by (whole taken.count taken.certificate) (pair_of taken.history taken.certificate) (at + len) f e in
+    let n : at + len ≡ length (stream_of taken pending) = omega (arith, is.at_is, length-append (text_so_far taken.header taken.history taken.certificate) pending) in
+    let cut = cut_by (whole taken.header taken.certificate) (pair_of taken.history taken.certificate) (at + len) f e in
     subst (λ (r : Result (List ℕ) TraceFault). IfOk r (λ stream. f ≡ Truncated (length stream))) view (cut ∙ ap (λ (m : ℕ). Truncated m) n)
 
 -- ---- further bytes
 
-behind_by : (count : Option ℕ) (h : List Call) (c : List ℕ) (at : ℕ) (pending : List ℕ) → IsTaken count h c → at ≡ length (text_so_far count h c)
-    → trace_at (place 0 (text_so_far count h c ++ pending)) ≡ read_behind count h c (place at pending)
+behind_by : (header : Option Header) (h : List Call) (c : List ℕ) (at : ℕ) (pending : List ℕ) → IsTaken header h c → at ≡ length (text_so_far header h c)
+    → trace_at (place 0 (text_so_far header h c ++ pending)) ≡ read_behind header h c (place at pending)
 behind_by None h c at pending is at-is = ap (λ (i : ℕ). trace_at (place i pending)) (sym at-is)
 behind_by (Some n) h c at pending is at-is = goes_on n h c pending is ∙ ap (λ (i : ℕ). read_behind (Some n) h c (place i pending)) (sym at-is)
 
 -- what is read of the whole stream is what is read behind that which was taken
-behind_is : (t : Taken) (at : ℕ) (pending : List ℕ) → StartsOn t at pending → trace_at (place 0 (stream_of t pending)) ≡ read_behind t.count t.history t.certificate (place at pending)
-behind_is t at pending starts = behind_by t.count t.history t.certificate at pending starts.taken_is starts.at_is
+behind_is : (t : Taken) (at : ℕ) (pending : List ℕ) → StartsOn t at pending → trace_at (place 0 (stream_of t pending)) ≡ read_behind t.header t.history t.certificate (place at pending)
+behind_is t at pending starts = behind_by t.header t.history t.certificate at pending starts.taken_is starts.at_is
 
 -- what is left is the end of what was there
 tail_is : (front more rest pending : List ℕ) → more ++ rest ≡ front ++ pending → length front ≤ length more → (length rest ≤ length pending) × (rest ≡ drop (length pending - length rest) pending)
@@ -140,7 +157,7 @@ tail_is front more rest pending same le =
 module _ {old : Taken} {at : ℕ} {pending : List ℕ} (starts : StartsOn old at pending) where
   pub left_is : (new : Taken) (q : Place) → Advances old new (place at pending) q → (length q.bytes ≤ length pending) × (q.bytes ≡ drop (length pending - length q.bytes) pending)
   left_is new q step =
-      tail_is (text_so_far old.count old.history old.certificate) (text_so_far new.count new.history new.certificate) q.bytes pending step.spelled (omega (arith, step.at, step.onward, starts.at_is))
+      tail_is (text_so_far old.header old.history old.certificate) (text_so_far new.header new.history new.certificate) q.bytes pending step.spelled (omega (arith, step.at, step.onward, starts.at_is))
 
   pub advanced : (new : Taken) (q : Place) (kept : List ℕ) → Advances old new (place at pending) q → kept ≡ drop (length pending - length q.bytes) pending → Keeps old pending new q.at kept
   advanced new q kept step cut =
@@ -148,12 +165,12 @@ module _ {old : Taken} {at : ℕ} {pending : List ℕ} (starts : StartsOn old at
       let same : stream_of new kept ≡ stream_of old pending = ap (stream_of new) left ∙ step.spelled in
       let bytes : All (λ byte. byte < 256) (stream_of new kept) = subst (λ (s : List ℕ). All (λ byte. byte < 256) s) (sym same) starts.are_bytes in
       record {
-        small = omega (arith, step.at, text_len new.count new.history new.certificate step.taken);
+        small = omega (arith, step.at, text_len new.header new.history new.certificate step.taken);
         reading = record { taken_is = step.taken; at_is = step.at; are_bytes = bytes; stands = ap (λ (s : List ℕ). trace_at (place 0 s)) same ∙ behind_is old at pending starts ∙ step.stands };
         same = same;
       }
 
-  pub fault_in : (f : TraceFault) → FailsAs f (read_behind old.count old.history old.certificate (place at pending)) → FaultIn (stream_of old pending) f
+  pub fault_in : (f : TraceFault) → FailsAs f (read_behind old.header old.history old.certificate (place at pending)) → FaultIn (stream_of old pending) f
   unfolding first_fault_of
   fault_in f fails known more =
       let e : trace_at (place 0 (stream_of old pending)) ≡ Err (Fault f) = behind_is old at pending starts ∙ fails known in
@@ -162,7 +179,7 @@ module _ {old : Taken} {at : ℕ} {pending : List ℕ} (starts : StartsOn old at
 -- a piece was put behind the pending bytes
 pub starts_from : (t : Taken) (at : ℕ) (pending piece now : List ℕ) → at < 2 ^ 40 → IsReading t at pending → All (λ byte. byte < 256) piece → now ≡ pending ++ piece → StartsOn t at now
 starts_from t at pending piece now small is bytes grown =
-    let text = text_so_far t.count t.history t.certificate in
+    let text = text_so_far t.header t.history t.certificate in
     let same : text ++ now ≡ (text ++ pending) ++ piece = ap (λ (s : List ℕ). text ++ s) grown ∙ sym (append_assoc text pending piece) in
     record {
       small = small;
@@ -178,13 +195,13 @@ met_standing false trace = refl
 -- a stream whose standing is known has no fault
 pub no_fault : (t : Taken) (at : ℕ) (pending : List ℕ) → IsReading t at pending → first_fault_of (stream_of t pending) ≡ None
 unfolding first_fault_of
-no_fault t at pending is = ap met is.stands ∙ met_standing (whole t.count t.certificate) (pair_of t.history t.certificate)
+no_fault t at pending is = ap met is.stands ∙ met_standing (whole t.header t.certificate) (pair_of t.history t.certificate)
 
 -- after a piece was taken
 pub no_fault_now : (self : Result (List ℕ) TraceFault) (old : Taken) (pending piece now : List ℕ) (t : Taken) (at : ℕ) (kept : List ℕ) → fed_of None (stream_of old pending) ≡ self → now ≡ pending ++ piece
     → Keeps old now t at kept → IfOk self (λ stream. first_fault_of (stream ++ piece) ≡ None)
 no_fault_now self old pending piece now t at kept view grown keeps =
-    let text = text_so_far old.count old.history old.certificate in
+    let text = text_so_far old.header old.history old.certificate in
     let same : (text ++ pending) ++ piece ≡ stream_of t kept = append_assoc text pending piece ∙ ap (λ (s : List ℕ). text ++ s) (sym grown) ∙ sym keeps.same in
     subst (λ (r : Result (List ℕ) TraceFault). IfOk r (λ stream. first_fault_of (stream ++ piece) ≡ None)) view (ap first_fault_of same ∙ no_fault t at kept keeps.reading)
 

@@ -8,7 +8,8 @@ use Rattle.std.proofs.lemmas.Option.{get_or_from_slice_get}
 use Rattle.std.specs.Prelude.{slice_get, ◌≢◌}
 use Rattle.std.specs.Int.{w32, to_be_bytes}
 use Rattle.trace_file.specs.declared.call.Call.{Call}
-use Rattle.trace_file.specs.Text.{magic, call_text, position_text, header_text, trace_text}
+use Rattle.trace_file.specs.declared.version.Version.TheVariants.{Timed}
+use Rattle.trace_file.specs.Text.{magic, call_text, position_text, header_of, header_text, text_of}
 use Rattle.std.proofs.lemmas.List.Concat.{flat_map-append}
 use Rattle.trace_file.specs.Sending.{Sent, Begun}
 
@@ -51,9 +52,9 @@ pub begun_behind : (a b : Option (List ℕ)) (all more : List ℕ) → Begun a b
 begun_behind a b all more p = (p.0 ++ more, some_behind p.0 more p.1, sent_behind a b all p.0 more p.2)
 
 -- nothing of a trace was written, and a trace has some bytes
-pub begun_none : (a : Option (List ℕ)) (h : List Call) (c : List ℕ) → Begun a a (trace_text h c)
-unfolding trace_text header_text
-begun_none a h c = (trace_text h c, λ e. cc, sent_none a (trace_text h c))
+pub begun_none : (a : Option (List ℕ)) (h : List Call) (c : List ℕ) → Begun a a (text_of Timed h c)
+unfolding text_of header_text
+begun_none a h c = (text_of Timed h c, λ e. cc, sent_none a (text_of Timed h c))
 
 -- items were sent, and stop among them
 pub begun_items : {A : Type 0} (text : A → List ℕ) (a b c : Option (List ℕ)) (start left : List ℕ) (xs : List A) (i : ℕ) → Sent a b (start ++ flat_map text (take i xs)) left → Begun b c left → Begun a c (start ++ flat_map text xs)
@@ -82,25 +83,25 @@ joined b p1 p2 p3 p4 p5 p6 p7 k caller start end len key act e1 e2 e3 e4 e5 e6 e
 
 -- ---- the whole trace
 
-pub header_put : (b p q : List ℕ) (n : ℕ) → b ≡ [] → p ≡ b ++ magic → q ≡ p ++ to_be_bytes w32 n → q ≡ header_text n
+pub header_put : (b p q : List ℕ) (n : ℕ) → b ≡ [] → p ≡ b ++ magic Timed → q ≡ p ++ to_be_bytes w32 n → q ≡ header_text (header_of Timed n)
 unfolding header_text
-header_put b p q n none first second = second ∙ ap (λ (x : List ℕ). x ++ to_be_bytes w32 n) (first ∙ ap (λ (x : List ℕ). x ++ magic) none)
+header_put b p q n none first second = second ∙ ap (λ (x : List ℕ). x ++ to_be_bytes w32 n) (first ∙ ap (λ (x : List ℕ). x ++ magic Timed) none)
 
-whole_text : (h : List Call) (c : List ℕ) (buffer : List ℕ) → buffer ≡ header_text (length h) → (buffer ++ flat_map call_text h) ++ flat_map position_text c ≡ trace_text h c
-unfolding trace_text
-whole_text h c buffer is = ap (λ (x : List ℕ). (x ++ flat_map call_text h) ++ flat_map position_text c) is ∙ append_assoc (header_text (length h)) (flat_map call_text h) (flat_map position_text c)
+whole_text : (h : List Call) (c : List ℕ) (buffer : List ℕ) → buffer ≡ header_text (header_of Timed (length h)) → (buffer ++ flat_map (call_text Timed) h) ++ flat_map position_text c ≡ text_of Timed h c
+unfolding text_of
+whole_text h c buffer is = ap (λ (x : List ℕ). (x ++ flat_map (call_text Timed) h) ++ flat_map position_text c) is ∙ append_assoc (header_text (header_of Timed (length h))) (flat_map (call_text Timed) h) (flat_map position_text c)
 
-module _ (h : List Call) (c : List ℕ) (buffer : List ℕ) (is : buffer ≡ header_text (length h)) where
-  pub stopped_in_calls : (a b : Option (List ℕ)) → Begun a b (buffer ++ flat_map call_text h) → Begun a b (trace_text h c)
-  stopped_in_calls a b begun = subst (Begun a b) (whole_text h c buffer is) (begun_behind a b (buffer ++ flat_map call_text h) (flat_map position_text c) begun)
+module _ (h : List Call) (c : List ℕ) (buffer : List ℕ) (is : buffer ≡ header_text (header_of Timed (length h))) where
+  pub stopped_in_calls : (a b : Option (List ℕ)) → Begun a b (buffer ++ flat_map (call_text Timed) h) → Begun a b (text_of Timed h c)
+  stopped_in_calls a b begun = subst (Begun a b) (whole_text h c buffer is) (begun_behind a b (buffer ++ flat_map (call_text Timed) h) (flat_map position_text c) begun)
 
-  pub stopped_in_positions : (a b d : Option (List ℕ)) (left : List ℕ) → Sent a b (buffer ++ flat_map call_text h) left → Begun b d (left ++ flat_map position_text c) → Begun a d (trace_text h c)
+  pub stopped_in_positions : (a b d : Option (List ℕ)) (left : List ℕ) → Sent a b (buffer ++ flat_map (call_text Timed) h) left → Begun b d (left ++ flat_map position_text c) → Begun a d (text_of Timed h c)
   stopped_in_positions a b d left sent begun =
       subst (Begun a d) (whole_text h c buffer is)
-      (begun_more a b d ((buffer ++ flat_map call_text h) ++ flat_map position_text c) (left ++ flat_map position_text c) (sent_behind a b (buffer ++ flat_map call_text h) left (flat_map position_text c) sent) begun)
+      (begun_more a b d ((buffer ++ flat_map (call_text Timed) h) ++ flat_map position_text c) (left ++ flat_map position_text c) (sent_behind a b (buffer ++ flat_map (call_text Timed) h) left (flat_map position_text c) sent) begun)
 
   -- what is left when all was put
-  pub all_put : (a b d : Option (List ℕ)) (left rest : List ℕ) → Sent a b (buffer ++ flat_map call_text h) left → Sent b d (left ++ flat_map position_text c) rest → Sent a d (trace_text h c) rest
+  pub all_put : (a b d : Option (List ℕ)) (left rest : List ℕ) → Sent a b (buffer ++ flat_map (call_text Timed) h) left → Sent b d (left ++ flat_map position_text c) rest → Sent a d (text_of Timed h c) rest
   all_put a b d left rest p q =
       subst (λ (t : List ℕ). Sent a d t rest) (whole_text h c buffer is)
-      (sent_more a b d ((buffer ++ flat_map call_text h) ++ flat_map position_text c) (left ++ flat_map position_text c) rest (sent_behind a b (buffer ++ flat_map call_text h) left (flat_map position_text c) p) q)
+      (sent_more a b d ((buffer ++ flat_map (call_text Timed) h) ++ flat_map position_text c) (left ++ flat_map position_text c) rest (sent_behind a b (buffer ++ flat_map (call_text Timed) h) left (flat_map position_text c) p) q)

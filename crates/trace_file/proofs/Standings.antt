@@ -3,12 +3,15 @@ use Rattle.std.proofs.Common.{◌≡◌, ◌≢◌, ℕ, zero, suc, ◌+◌, ◌
 use Rattle.std.specs.List.{flat_map, zip, prefix_len, AllByRecursion}
 use Rattle.std.specs.Int.{Width, w16, w32, w64, byte_len, from_be_bytes, to_be_bytes}
 use Rattle.std.proofs.lemmas.Bool.{cases_Bool, eqb-true, eqb-false, ltb-true}
-use Rattle.std.proofs.lemmas.List.{length-append, take-append-le, get_or_append_left}
+use Rattle.std.proofs.lemmas.List.{length-append, take_at, take-append-le, get_or_append_left}
 use Rattle.std.proofs.lemmas.List.Elements.{All-from_recursion}
 use Rattle.std.proofs.lemmas.Option.{same_Some}
 use Rattle.record_pages.specs.Bounded.{IsKey}
+use Rattle.record_pages.specs.Expiry.{never}
+use Rattle.trace_file.specs.declared.act.Act.{Act}
 use Rattle.trace_file.specs.declared.act.Act.TheVariants as acts
 use Rattle.trace_file.specs.declared.call.Call.{Call}
+use Rattle.trace_file.specs.declared.header.Header.{Header}
 use Rattle.trace_file.specs.declared.kind.Kind.{Kind}
 use Rattle.trace_file.specs.declared.kind.Kind.TheVariants.{Put, Remove, Hit, Miss}
 use Rattle.trace_file.specs.declared.stop.Stop.{Stop}
@@ -16,13 +19,15 @@ use Rattle.trace_file.specs.declared.stop.Stop.TheVariants.{Fault}
 use Rattle.trace_file.specs.declared.trace.Trace.{Trace}
 use Rattle.trace_file.specs.declared.trace_fault.TraceFault.{TraceFault}
 use Rattle.trace_file.specs.declared.trace_fault.TraceFault.TheVariants.{BadMagic, TooMany, BadKind, BadKey, BadValue, Truncated, TrailingBytes, ReadFault, OutOfMemory}
-use Rattle.trace_file.specs.Calls.{IsCall}
-use Rattle.trace_file.specs.Reading.{Place, place, ◌>>=◌, bytes_at, number_at, first_at, byte_at, or_fault, kind_of, kind_at, key_at, value_at, act_at, call_at, position_at, first_difference, unless_differs, magic_at, count_at, header_at, many_at, end_at, trace_at, first_fault_of}
+use Rattle.trace_file.specs.declared.version.Version.{Version}
+use Rattle.trace_file.specs.declared.version.Version.TheVariants.{Timed, Timeless}
+use Rattle.trace_file.specs.Reading.{Place, place, Read, ◌>>=◌, bytes_at, number_at, first_at, byte_at, or_fault, kind_of, kind_at, key_at, value_at, time_at, act_at, call_at, position_at, first_difference, version_by, version_at, count_at, header_at, many_at, end_at, trace_at, first_fault_of}
 use Rattle.trace_file.specs.Standing.{DiffersAt, CountsTooMany, AreCalls, IsKind, IsHead, HasMore, StandsIn}
 use Rattle.trace_file.specs.Stream.{pair_of}
-use Rattle.trace_file.specs.Text.{magic, most_calls, call_text, position_text, key_text, header_text, trace_text, IsPair}
+use Rattle.trace_file.specs.Text.{magic, most_calls, call_text, position_text, key_text, header_of, header_text, text_of, IsCallOf, IsPairOf}
 use Rattle.trace_file.proofs.Formats.{IsBytes, bind_err, at_first, at_second, same_fault, not_short, Takes, Takes-then, bytes_format, wide16, wide32, wide64, number_format, byte_format, many_format}
-use Rattle.trace_file.proofs.ItemFormats.{key_format, kind_text, kind_format, kind_number, kind_number-known, kind_number-put, kind_number-hit, read_act, read_key, read_end, read_start, read_caller, made, call_format, position_format, magic_format, header_format}
+use Rattle.trace_file.proofs.ItemFormats.{key_format, kind_text, kind_format, kind_number, kind_number-known, kind_number-put, kind_number-hit, read_act, read_key, read_end, read_start, read_caller, made, call_format, position_format, version_format, header_format}
+use Rattle.trace_file.proofs.ReaderLaws.{magic_len}
 use Rattle.trace_file.proofs.Readings.{stopped_by}
 use Rattle.trace_file.proofs.Takings.{bytes_from_All}
 use Rattle.trace_file.proofs.TraceLaws.{after_calls, after_header}
@@ -93,44 +98,68 @@ some_is : (b : Bool) (x y : ℕ) → cond b (Some x) None ≡ Some y → (b ≡ 
 some_is true x y e = (refl, same_Some x y e)
 some_is false x y e = absurd cc
 
-differs_err : (o : Option ℕ) (at : ℕ) (m : List ℕ × Place) (f : TraceFault) → unless_differs o at m ≡ Err (Fault f) → (i : ℕ) × (o ≡ Some i) × (BadMagic (at + i) ≡ f)
-differs_err None at m f e = absurd cc
-differs_err (Some i) at m f e = (i, refl, same_fault (BadMagic (at + i)) f e)
+by_err : (differs older : Option ℕ) (at : ℕ) (p : Place) (f : TraceFault) → version_by differs older at p ≡ Err (Fault f) → (i : ℕ) × (j : ℕ) × (differs ≡ Some i) × (older ≡ Some j) × (BadMagic (at + i) ≡ f)
+by_err None older at p f e = absurd cc
+by_err (Some i) None at p f e = absurd cc
+by_err (Some i) (Some j) at p f e = (i, j, refl, refl, same_fault (BadMagic (at + i)) f e)
 
-magic_differs : (bytes eight rest : List ℕ) (i : ℕ) (f : TraceFault) → bytes ≡ eight ++ rest → length eight ≡ 8 → first_difference eight magic ≡ Some i → BadMagic (0 + i) ≡ f → StandsIn bytes f
-magic_differs bytes eight rest i f parts len found is =
-    let n = prefix_len (λ p. not (not (eqb p.0 p.1))) (zip eight magic) in
-    let at = some_is (ltb n (length (zip eight magic))) n i found in
-    let d = differ_first eight magic n refl (ltb-true n (length (zip eight magic)) at.0) in
+-- bytes that differ from the older magic are not it
+differ_so : (eight : List ℕ) (j : ℕ) → first_difference eight (magic Timeless) ≡ Some j → eight ≢ magic Timeless
+differ_so eight j found e =
+    let same : ◌≡◌ {A = Option ℕ} None (Some j) = ap (λ (b : List ℕ). first_difference b (magic Timeless)) (sym e) ∙ found in
+    cc
+
+version_differs : (bytes eight rest : List ℕ) (i j : ℕ) (f : TraceFault) → bytes ≡ eight ++ rest → length eight ≡ 8 → first_difference eight (magic Timed) ≡ Some i → first_difference eight (magic Timeless) ≡ Some j → BadMagic (0 + i) ≡ f
+    → StandsIn bytes f
+version_differs bytes eight rest i j f parts len found found' is =
+    let timed = magic Timed in
+    let n = prefix_len (λ p. not (not (eqb p.0 p.1))) (zip eight timed) in
+    let at = some_is (ltb n (length (zip eight timed))) n i found in
+    let d = differ_first eight timed n refl (ltb-true n (length (zip eight timed)) at.0) in
     let within : n < length eight = d.0 in
     let eighth : n < 8 = d.1 in
     let here : 0 + i ≡ n = omega (arith, at.1) in
-    let front : take n bytes ≡ take n magic = ap (take n) parts ∙ take-append-le n eight rest (omega (arith, within)) ∙ d.2 in
+    let front : take n bytes ≡ take n timed = ap (take n) parts ∙ take-append-le n eight rest (omega (arith, within)) ∙ d.2 in
     let byte : get_or bytes n 0 ≡ get_or eight n 0 = ap (λ (b : List ℕ). get_or b n 0) parts ∙ get_or_append_left eight rest 0 n within in
-    let stands : DiffersAt bytes n = record { there = omega (arith, ap length parts, len, length-append eight rest); within = eighth; same = front; other = λ e. d.3 (sym byte ∙ e) } in
+    let first : take 8 bytes ≡ eight = ap (take 8) parts ∙ take_at eight rest 8 len in
+    let stands : DiffersAt bytes n = record {
+      there = omega (arith, ap length parts, len, length-append eight rest);
+      within = eighth;
+      not_older = λ e. differ_so eight j found' (sym first ∙ e);
+      same = front;
+      other = λ e. d.3 (sym byte ∙ e);
+    } in
     subst (StandsIn bytes) is (subst (DiffersAt bytes) (sym here) stands)
 
-magic_stands : (bytes : List ℕ) (f : TraceFault) → IsBytes bytes → magic_at (place 0 bytes) ≡ Err (Fault f) → StandsIn bytes f
-unfolding magic_at
-magic_stands bytes f fits e =
-    elim (bind_err (bytes_at 8 (place 0 bytes)) (λ b. unless_differs (first_difference b.0 magic) 0 b) (Fault f) e) [
+version_stands : (bytes : List ℕ) (f : TraceFault) → IsBytes bytes → version_at (place 0 bytes) ≡ Err (Fault f) → StandsIn bytes f
+unfolding version_at
+version_stands bytes f fits e =
+    elim (bind_err (bytes_at 8 (place 0 bytes)) (λ b. version_by (first_difference b.0 (magic Timed)) (first_difference b.0 (magic Timeless)) 0 b.1) (Fault f) e) [
       | at_first e' ↦ absurd (no_fault_in_bytes 8 (place 0 bytes) f e')
       | at_second x e' g ↦
           let t = (bytes_format 8).takes (place 0 bytes) x.0 x.1 fits e' in
-          let d = differs_err (first_difference x.0 magic) 0 x f g in
-          magic_differs bytes x.0 x.1.bytes d.0 f t.0.parts t.1 d.1 d.2
+          let d = by_err (first_difference x.0 (magic Timed)) (first_difference x.0 (magic Timeless)) 0 x.1 f g in
+          version_differs bytes x.0 x.1.bytes d.0 d.1 f t.0.parts t.1 d.2 d.3 d.4
     ]
 
-count_stands : (bytes : List ℕ) (p : Place) (f : TraceFault) → IsBytes p.bytes → bytes ≡ magic ++ p.bytes → p.at ≡ 8 → count_at p ≡ Err (Fault f) → StandsIn bytes f
+count_stands : (version : Version) (bytes : List ℕ) (p : Place) (f : TraceFault) → IsBytes p.bytes → bytes ≡ magic version ++ p.bytes → p.at ≡ 8 → count_at p ≡ Err (Fault f) → StandsIn bytes f
 unfolding count_at
-count_stands bytes p f fits behind at e =
+count_stands version bytes p f fits behind at e =
     elim (bind_err (number_at w32 p) (λ count. cond (ltb most_calls count.0) (Err (Fault (TooMany p.at))) (Ok count)) (Fault f) e) [
       | at_first e' ↦ absurd (no_fault_in_number w32 p f e')
       | at_second x e' g ↦
           let t = (number_format w32 (2 ^ 32) wide32).takes p x.0 x.1 fits e' in
           elim (guard_err (ltb most_calls x.0) (TooMany p.at) f (Ok x) g) [
             | inl d ↦
-                let stands : CountsTooMany bytes p.at = record { count = x.0; more = x.1.bytes; split = behind ∙ ap (λ (b : List ℕ). magic ++ b) t.0.parts; number = t.1; above = ltb-true most_calls x.0 d.0; at_is = at } in
+                let stands : CountsTooMany bytes p.at = record {
+                  version = version;
+                  count = x.0;
+                  more = x.1.bytes;
+                  split = behind ∙ ap (λ (b : List ℕ). magic version ++ b) t.0.parts;
+                  number = t.1;
+                  above = ltb-true most_calls x.0 d.0;
+                  at_is = at;
+                } in
                 subst (StandsIn bytes) d.1 stands
             | inr other ↦ absurd (not_ok x f other)
           ]
@@ -139,12 +168,14 @@ count_stands bytes p f fits behind at e =
 header_stands : (bytes : List ℕ) (f : TraceFault) → IsBytes bytes → header_at (place 0 bytes) ≡ Err (Fault f) → StandsIn bytes f
 unfolding header_at
 header_stands bytes f fits e =
-    elim (bind_err (magic_at (place 0 bytes)) (λ b. count_at b.1) (Fault f) e) [
-      | at_first e' ↦ magic_stands bytes f fits e'
+    elim (bind_err (version_at (place 0 bytes)) (λ v. count_at v.1 >>= λ count. Ok (header_of v.0 count.0, count.1)) (Fault f) e) [
+      | at_first e' ↦ version_stands bytes f fits e'
       | at_second x e' g ↦
-          let t = magic_format.takes (place 0 bytes) x.0 x.1 fits e' in
-          let len : length x.0 ≡ 8 = ap length t.1 in
-          count_stands bytes x.1 f t.0.rest_fits (t.0.parts ∙ ap (λ (m : List ℕ). m ++ x.1.bytes) t.1) (omega (arith, t.0.at, len)) g
+          let t = version_format.takes (place 0 bytes) x.0 x.1 fits e' in
+          elim (bind_err (count_at x.1) (λ count. Ok (header_of x.0 count.0, count.1)) (Fault f) g) [
+            | at_first e'' ↦ count_stands x.0 bytes x.1 f t.0.rest_fits t.0.parts (omega (arith, t.0.at, magic_len x.0)) e''
+            | at_second y e'' h ↦ absurd (not_ok (header_of x.0 y.0, y.1) f h)
+          ]
     ]
 
 -- ---- a call
@@ -218,14 +249,33 @@ value_fault p f fits e =
           ]
     ]
 
-act_fault : (kind : Kind) (p : Place) (f : TraceFault) → IsBytes p.bytes → act_at kind p ≡ Err (Fault f) → ((kind_number kind ≡ 1) ⊎ (kind_number kind ≡ 3)) × LongValue p f
+no_fault_in_time : (version : Version) (meant : ℕ) (p : Place) (f : TraceFault) → time_at version meant p ≡ Err (Fault f) → ⊥
+unfolding time_at
+no_fault_in_time Timed meant p f e = no_fault_in_number w64 p f e
+no_fault_in_time Timeless meant p f e = not_ok (meant, p) f e
+
+-- a time behind a value, and the act that has both
+abbrev pub timed_at : Version → ℕ → (List ℕ → ℕ → Act) → List ℕ → Place → Read Act
+timed_at version meant make value p = time_at version meant p >>= λ time. Ok (make value time.0, time.1)
+
+timed_fault : (version : Version) (meant : ℕ) (make : List ℕ → ℕ → Act) (value : List ℕ) (p : Place) (f : TraceFault) → timed_at version meant make value p ≡ Err (Fault f) → ⊥
+timed_fault version meant make value p f e =
+    elim (bind_err (time_at version meant p) (λ time. Ok (make value time.0, time.1)) (Fault f) e) [ at_first e' ↦ no_fault_in_time version meant p f e' | at_second x e' g ↦ not_ok (make value x.0, x.1) f g ]
+
+act_fault : (version : Version) (kind : Kind) (p : Place) (f : TraceFault) → IsBytes p.bytes → act_at version kind p ≡ Err (Fault f) → ((kind_number kind ≡ 1) ⊎ (kind_number kind ≡ 3)) × LongValue p f
 unfolding act_at
-act_fault Put p f fits e =
-    elim (bind_err (value_at p) (λ value. Ok (acts.Put value.0, value.1)) (Fault f) e) [ at_first e' ↦ (inl kind_number-put, value_fault p f fits e') | at_second x e' g ↦ absurd (not_ok (acts.Put x.0, x.1) f g) ]
-act_fault Remove p f fits e = absurd (not_ok (acts.Remove, p) f e)
-act_fault Hit p f fits e =
-    elim (bind_err (value_at p) (λ value. Ok (acts.Hit value.0, value.1)) (Fault f) e) [ at_first e' ↦ (inr kind_number-hit, value_fault p f fits e') | at_second x e' g ↦ absurd (not_ok (acts.Hit x.0, x.1) f g) ]
-act_fault Miss p f fits e = absurd (not_ok (acts.Miss, p) f e)
+act_fault version Put p f fits e =
+    elim (bind_err (value_at p) (λ value. timed_at version never (λ v t. acts.Put v t) value.0 value.1) (Fault f) e) [
+      | at_first e' ↦ (inl kind_number-put, value_fault p f fits e')
+      | at_second x e' g ↦ absurd (timed_fault version never (λ v t. acts.Put v t) x.0 x.1 f g)
+    ]
+act_fault version Remove p f fits e = absurd (not_ok (acts.Remove, p) f e)
+act_fault version Hit p f fits e =
+    elim (bind_err (value_at p) (λ value. timed_at version 0 (λ v t. acts.Hit v t) value.0 value.1) (Fault f) e) [
+      | at_first e' ↦ (inr kind_number-hit, value_fault p f fits e')
+      | at_second x e' g ↦ absurd (timed_fault version 0 (λ v t. acts.Hit v t) x.0 x.1 f g)
+    ]
+act_fault version Miss p f fits e = absurd (not_ok (acts.Miss, p) f e)
 
 -- what a call has before its key
 abbrev head_of : Kind → ℕ → ℕ → ℕ → List ℕ
@@ -240,14 +290,14 @@ head_is kind caller start end = record {
   long = refl;
 }
 
-module _ (p : Place) (f : TraceFault) (kind : Kind) where
-  in_act : (caller start end : ℕ) (key : List ℕ) (q r : Place) → Takes p (head_of kind caller start end) q → Takes q (key_text key) r → IsKey key → read_act kind caller start end key r ≡ Err (Fault f) → CallStands p f
+module _ (version : Version) (p : Place) (f : TraceFault) (kind : Kind) where
+  in_act : (caller start end : ℕ) (key : List ℕ) (q r : Place) → Takes p (head_of kind caller start end) q → Takes q (key_text key) r → IsKey key → read_act version kind caller start end key r ≡ Err (Fault f) → CallStands p f
   unfolding head_is
   in_act caller start end key q r took took' is e =
       let head = head_of kind caller start end in
-      elim (bind_err (act_at kind r) (λ act. Ok (made caller start end key act.0, act.1)) (Fault f) e) [
+      elim (bind_err (act_at version kind r) (λ act. Ok (made caller start end key act.0, act.1)) (Fault f) e) [
         | at_first e' ↦
-            let a = act_fault kind r f took'.rest_fits e' in
+            let a = act_fault version kind r f took'.rest_fits e' in
             let v = a.1 in
             let whole = took.parts ∙ ap (λ (b : List ℕ). head ++ b) (took'.parts ∙ ap (λ (b : List ℕ). key_text key ++ b) v.2) in
             let at : r.at ≡ p.at + length head + length (key_text key) = omega (arith, took.at, took'.at) in
@@ -255,10 +305,10 @@ module _ (p : Place) (f : TraceFault) (kind : Kind) where
         | at_second x e' g ↦ absurd (not_ok (made caller start end key x.0, x.1) f g)
       ]
 
-  in_key : (caller start end : ℕ) (q : Place) → Takes p (head_of kind caller start end) q → read_key kind caller start end q ≡ Err (Fault f) → CallStands p f
+  in_key : (caller start end : ℕ) (q : Place) → Takes p (head_of kind caller start end) q → read_key version kind caller start end q ≡ Err (Fault f) → CallStands p f
   in_key caller start end q took e =
       let head = head_of kind caller start end in
-      elim (bind_err (key_at q) (λ key. read_act kind caller start end key.0 key.1) (Fault f) e) [
+      elim (bind_err (key_at q) (λ key. read_act version kind caller start end key.0 key.1) (Fault f) e) [
         | at_first e' ↦
             let k = key_fault q f took.rest_fits e' in
             subst (CallStands p) k.2 (head, head_is kind caller start end, k.0, took.parts ∙ ap (λ (b : List ℕ). head ++ b) k.1, took.at)
@@ -267,69 +317,69 @@ module _ (p : Place) (f : TraceFault) (kind : Kind) where
             in_act caller start end x.0 q x.1 took t.0 t.1 g
       ]
 
-  in_end : (caller start : ℕ) (q : Place) → Takes p ((kind_text kind ++ to_be_bytes w16 caller) ++ to_be_bytes w64 start) q → read_end kind caller start q ≡ Err (Fault f) → CallStands p f
+  in_end : (caller start : ℕ) (q : Place) → Takes p ((kind_text kind ++ to_be_bytes w16 caller) ++ to_be_bytes w64 start) q → read_end version kind caller start q ≡ Err (Fault f) → CallStands p f
   in_end caller start q took e =
-      elim (bind_err (number_at w64 q) (λ end. read_key kind caller start end.0 end.1) (Fault f) e) [
+      elim (bind_err (number_at w64 q) (λ end. read_key version kind caller start end.0 end.1) (Fault f) e) [
         | at_first e' ↦ absurd (no_fault_in_number w64 q f e')
         | at_second x e' g ↦
             let t = (number_format w64 (2 ^ 64) wide64).takes q x.0 x.1 took.rest_fits e' in
             in_key caller start x.0 x.1 (Takes-then p ((kind_text kind ++ to_be_bytes w16 caller) ++ to_be_bytes w64 start) q (to_be_bytes w64 x.0) x.1 took t.0) g
       ]
 
-  in_start : (caller : ℕ) (q : Place) → Takes p (kind_text kind ++ to_be_bytes w16 caller) q → read_start kind caller q ≡ Err (Fault f) → CallStands p f
+  in_start : (caller : ℕ) (q : Place) → Takes p (kind_text kind ++ to_be_bytes w16 caller) q → read_start version kind caller q ≡ Err (Fault f) → CallStands p f
   in_start caller q took e =
-      elim (bind_err (number_at w64 q) (λ start. read_end kind caller start.0 start.1) (Fault f) e) [
+      elim (bind_err (number_at w64 q) (λ start. read_end version kind caller start.0 start.1) (Fault f) e) [
         | at_first e' ↦ absurd (no_fault_in_number w64 q f e')
         | at_second x e' g ↦
             let t = (number_format w64 (2 ^ 64) wide64).takes q x.0 x.1 took.rest_fits e' in
             in_end caller x.0 x.1 (Takes-then p (kind_text kind ++ to_be_bytes w16 caller) q (to_be_bytes w64 x.0) x.1 took t.0) g
       ]
 
-  in_caller : (q : Place) → Takes p (kind_text kind) q → read_caller kind q ≡ Err (Fault f) → CallStands p f
+  in_caller : (q : Place) → Takes p (kind_text kind) q → read_caller version kind q ≡ Err (Fault f) → CallStands p f
   in_caller q took e =
-      elim (bind_err (number_at w16 q) (λ caller. read_start kind caller.0 caller.1) (Fault f) e) [
+      elim (bind_err (number_at w16 q) (λ caller. read_start version kind caller.0 caller.1) (Fault f) e) [
         | at_first e' ↦ absurd (no_fault_in_number w16 q f e')
         | at_second x e' g ↦
             let t = (number_format w16 (2 ^ 16) wide16).takes q x.0 x.1 took.rest_fits e' in
             in_start x.0 x.1 (Takes-then p (kind_text kind) q (to_be_bytes w16 x.0) x.1 took t.0) g
       ]
 
-call_stands : (p : Place) (f : TraceFault) → IsBytes p.bytes → call_at p ≡ Err (Fault f) → CallStands p f
+call_stands : (version : Version) (p : Place) (f : TraceFault) → IsBytes p.bytes → call_at version p ≡ Err (Fault f) → CallStands p f
 unfolding call_at
-call_stands p f fits e =
-    elim (bind_err (kind_at p) (λ kind. read_caller kind.0 kind.1) (Fault f) e) [
+call_stands version p f fits e =
+    elim (bind_err (kind_at p) (λ kind. read_caller version kind.0 kind.1) (Fault f) e) [
       | at_first e' ↦ kind_stands p f fits e'
-      | at_second x e' g ↦ in_caller p f x.0 x.1 (kind_format.takes p x.0 x.1 fits e').0 g
+      | at_second x e' g ↦ in_caller version p f x.0 x.1 (kind_format.takes p x.0 x.1 fits e').0 g
     ]
 
 -- ---- among the calls, and at the end
 
 -- behind some calls, fewer than these, stands what is wrong with the next
-pub record AmongCalls (n : ℕ) (p : Place) (f : TraceFault) : Type 0 where
+pub record AmongCalls (version : Version) (n : ℕ) (p : Place) (f : TraceFault) : Type 0 where
   pub calls : List Call
   pub behind : Place
-  pub took : Takes p (flat_map call_text calls) behind
-  pub lawful : AllByRecursion IsCall calls
+  pub took : Takes p (flat_map (call_text version) calls) behind
+  pub lawful : AllByRecursion (IsCallOf version) calls
   pub fewer : length calls < n
   pub stands : CallStands behind f
 
-calls_stand : (n : ℕ) (p : Place) (f : TraceFault) → IsBytes p.bytes → many_at call_at n p ≡ Err (Fault f) → AmongCalls n p f
+calls_stand : (version : Version) (n : ℕ) (p : Place) (f : TraceFault) → IsBytes p.bytes → many_at (call_at version) n p ≡ Err (Fault f) → AmongCalls version n p f
 unfolding many_at
-calls_stand zero p f fits e = absurd (not_ok ([], p) f e)
-calls_stand (suc n) p f fits e =
-    elim (bind_err (call_at p) (λ first. many_at call_at n first.1 >>= λ others. Ok (first.0 ∷ others.0, others.1)) (Fault f) e) [
+calls_stand version zero p f fits e = absurd (not_ok ([], p) f e)
+calls_stand version (suc n) p f fits e =
+    elim (bind_err (call_at version p) (λ first. many_at (call_at version) n first.1 >>= λ others. Ok (first.0 ∷ others.0, others.1)) (Fault f) e) [
       | at_first e' ↦
           let nothing : Takes p [] p = record { parts = refl; at = omega arith; rest_fits = fits } in
-          record { calls = []; behind = p; took = nothing; lawful = tt; fewer = omega arith; stands = call_stands p f fits e' }
+          record { calls = []; behind = p; took = nothing; lawful = tt; fewer = omega arith; stands = call_stands version p f fits e' }
       | at_second x e' g ↦
-          let t = call_format.takes p x.0 x.1 fits e' in
-          elim (bind_err (many_at call_at n x.1) (λ others. Ok (x.0 ∷ others.0, others.1)) (Fault f) g) [
+          let t = (call_format version).takes p x.0 x.1 fits e' in
+          elim (bind_err (many_at (call_at version) n x.1) (λ others. Ok (x.0 ∷ others.0, others.1)) (Fault f) g) [
             | at_first e'' ↦
-                let rest = calls_stand n x.1 f t.0.rest_fits e'' in
+                let rest = calls_stand version n x.1 f t.0.rest_fits e'' in
                 record {
                   calls = x.0 ∷ rest.calls;
                   behind = rest.behind;
-                  took = Takes-then p (call_text x.0) x.1 (flat_map call_text rest.calls) rest.behind t.0 rest.took;
+                  took = Takes-then p (call_text version x.0) x.1 (flat_map (call_text version) rest.calls) rest.behind t.0 rest.took;
                   lawful = (t.1, rest.lawful);
                   fewer = let less = rest.fewer in omega (arith, less);
                   stands = rest.stands;
@@ -338,12 +388,12 @@ calls_stand (suc n) p f fits e =
           ]
     ]
 
-module _ (bytes : List ℕ) (n : ℕ) (calls : List Call) (q : Place) (took : Takes (place 0 bytes) (header_text n ++ flat_map call_text calls) q) (few : n ≤ most_calls) (lawful : AllByRecursion IsCall calls) (fewer : length calls < n) where
+module _ (bytes : List ℕ) (n : Header) (calls : List Call) (q : Place) (took : Takes (place 0 bytes) (header_text n ++ flat_map (call_text n.version) calls) q) (few : n.count ≤ most_calls) (lawful : AllByRecursion (IsCallOf n.version) calls) (fewer : length calls < n.count) where
   abbrev front : List ℕ
-  front = header_text n ++ flat_map call_text calls
+  front = header_text n ++ flat_map (call_text n.version) calls
 
   before : AreCalls front
-  before = record { count = n; calls = calls; text = refl; few = few; lawful = All-from_recursion IsCall calls lawful; fewer = fewer }
+  before = record { version = n.version; count = n.count; calls = calls; text = refl; few = few; lawful = All-from_recursion (IsCallOf n.version) calls lawful; fewer = fewer }
 
   among : (f : TraceFault) → CallStands q f → StandsIn bytes f
   among (BadKind at) s = record { front = front; before = before; kind = s.0; more = s.1; split = took.parts ∙ ap (λ (b : List ℕ). front ++ b) s.2; unknown = s.3; at_is = let is = s.4 in omega (arith, is, took.at) }
@@ -380,24 +430,25 @@ end_fault t p f e =
     let d = end_err (eqb (length p.bytes) 0) t (TrailingBytes p.at) f e in
     (λ none. eqb-false (length p.bytes) 0 d.0 (ap length none), d.1)
 
-module _ (bytes : List ℕ) (n : ℕ) (f : TraceFault) (q : Place) (took : Takes (place 0 bytes) (header_text n) q) (few : n ≤ most_calls) where
-  at_the_end : (calls : List Call) (positions : List ℕ) (r s : Place) → Takes q (flat_map call_text calls) r → Takes r (flat_map position_text positions) s
-      → length calls ≡ n → AllByRecursion IsCall calls → length positions ≡ n → AllByRecursion (λ position. position < 2 ^ 32) positions → end_at (pair_of calls positions) s ≡ Err (Fault f) → StandsIn bytes f
-  unfolding trace_text
+module _ (bytes : List ℕ) (n : Header) (f : TraceFault) (q : Place) (took : Takes (place 0 bytes) (header_text n) q) (few : n.count ≤ most_calls) where
+  at_the_end : (calls : List Call) (positions : List ℕ) (r s : Place) → Takes q (flat_map (call_text n.version) calls) r → Takes r (flat_map position_text positions) s
+      → length calls ≡ n.count → AllByRecursion (IsCallOf n.version) calls → length positions ≡ n.count → AllByRecursion (λ position. position < 2 ^ 32) positions → end_at (pair_of calls positions) s ≡ Err (Fault f) → StandsIn bytes f
+  unfolding text_of
   at_the_end calls positions r s took' took'' count lawful count' lawful' e =
-      let items = flat_map call_text calls ++ flat_map position_text positions in
-      let both = Takes-then q (flat_map call_text calls) r (flat_map position_text positions) s took' took'' in
+      let items = flat_map (call_text n.version) calls ++ flat_map position_text positions in
+      let both = Takes-then q (flat_map (call_text n.version) calls) r (flat_map position_text positions) s took' took'' in
       let all = Takes-then (place 0 bytes) (header_text n) q items s took both in
       let end = end_fault (pair_of calls positions) s f e in
-      let text : header_text n ++ items ≡ trace_text calls positions = ap (λ (k : ℕ). header_text k ++ items) (sym count) in
-      let pair : IsPair calls positions = record {
-        calls = All-from_recursion IsCall calls lawful;
+      let text : header_text n ++ items ≡ text_of n.version calls positions = ap (λ (k : ℕ). header_text (header_of n.version k) ++ items) (sym count) in
+      let pair : IsPairOf n.version calls positions = record {
+        calls = All-from_recursion (IsCallOf n.version) calls lawful;
         positions = All-from_recursion (λ position. position < 2 ^ 32) positions lawful';
         few = omega (arith, few, count);
         as_many = count' ∙ sym count;
       } in
-      let lens : length (header_text n ++ items) ≡ length (trace_text calls positions) = ap length text in
+      let lens : length (header_text n ++ items) ≡ length (text_of n.version calls positions) = ap length text in
       let stands : HasMore bytes s.at = record {
+        version = n.version;
         history = calls;
         certificate = positions;
         pair = pair;
@@ -408,23 +459,23 @@ module _ (bytes : List ℕ) (n : ℕ) (f : TraceFault) (q : Place) (took : Takes
       } in
       subst (StandsIn bytes) end.1 stands
 
-  behind_calls : (calls : List Call) (r : Place) → Takes q (flat_map call_text calls) r → length calls ≡ n → AllByRecursion IsCall calls → after_calls n (calls, r) ≡ Err (Fault f) → StandsIn bytes f
+  behind_calls : (calls : List Call) (r : Place) → Takes q (flat_map (call_text n.version) calls) r → length calls ≡ n.count → AllByRecursion (IsCallOf n.version) calls → after_calls n.count (calls, r) ≡ Err (Fault f) → StandsIn bytes f
   behind_calls calls r took' count lawful e =
-      elim (bind_err (many_at position_at n r) (λ positions. end_at (pair_of calls positions.0) positions.1) (Fault f) e) [
-        | at_first e' ↦ absurd (no_fault_in_positions n r f e')
+      elim (bind_err (many_at position_at n.count r) (λ positions. end_at (pair_of calls positions.0) positions.1) (Fault f) e) [
+        | at_first e' ↦ absurd (no_fault_in_positions n.count r f e')
         | at_second x e' g ↦
-            let t = (many_format position_format n).takes r x.0 x.1 took'.rest_fits e' in
+            let t = (many_format position_format n.count).takes r x.0 x.1 took'.rest_fits e' in
             at_the_end calls x.0 r x.1 took' t.0 count lawful t.1.0 t.1.1 g
       ]
 
   behind_header : after_header (n, q) ≡ Err (Fault f) → StandsIn bytes f
   behind_header e =
-      elim (bind_err (many_at call_at n q) (after_calls n) (Fault f) e) [
+      elim (bind_err (many_at (call_at n.version) n.count q) (after_calls n.count) (Fault f) e) [
         | at_first e' ↦
-            let m = calls_stand n q f took.rest_fits e' in
-            among bytes n m.calls m.behind (Takes-then (place 0 bytes) (header_text n) q (flat_map call_text m.calls) m.behind took m.took) few m.lawful m.fewer f m.stands
+            let m = calls_stand n.version n.count q f took.rest_fits e' in
+            among bytes n m.calls m.behind (Takes-then (place 0 bytes) (header_text n) q (flat_map (call_text n.version) m.calls) m.behind took m.took) few m.lawful m.fewer f m.stands
         | at_second x e' g ↦
-            let t = (many_format call_format n).takes q x.0 x.1 took.rest_fits e' in
+            let t = (many_format (call_format n.version) n.count).takes q x.0 x.1 took.rest_fits e' in
             behind_calls x.0 x.1 t.0 t.1.0 t.1.1 g
       ]
 

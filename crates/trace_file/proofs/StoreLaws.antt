@@ -1,5 +1,5 @@
 -- A store that grows keeps the calls that lie in it.
-use Rattle.std.proofs.Common.{◌≡◌, ℕ, ◌+◌, ◌-◌, ◌<◌, ◌≤◌, List, [], ◌∷◌, ◌++◌, length, take, drop, get_or, All, Result, Ok, Err, refl, sym, ap, subst, ◌∙◌, arith}
+use Rattle.std.proofs.Common.{◌≡◌, ℕ, ◌+◌, ◌-◌, ◌^◌, ◌<◌, ◌≤◌, List, [], ◌∷◌, ◌++◌, length, take, drop, get_or, All, Result, Ok, Err, refl, sym, ap, subst, ◌∙◌, arith}
 use Rattle.std.specs.Prelude.{OnErr, slice_get, Some}
 use Rattle.std.specs.Option.{option_map}
 use Rattle.std.specs.List.{AllByRecursion}
@@ -11,7 +11,7 @@ use Rattle.trace_file.specs.declared.call.Call.{Call}
 use Rattle.trace_file.specs.declared.entry.Entry.{Entry}
 use Rattle.trace_file.specs.declared.kind.Kind.{Kind}
 use Rattle.trace_file.specs.declared.kind.Kind.TheVariants.{Put, Remove, Hit, Miss}
-use Rattle.trace_file.specs.Calls.{IsCall, value_of}
+use Rattle.trace_file.specs.Calls.{IsCall, value_of, time_of}
 use Rattle.trace_file.specs.Stored.{part, act_of, call_in, calls_in, LiesIn}
 
 -- a fact that holds anyhow holds at an error
@@ -41,11 +41,17 @@ by_more store more (e ∷ es) lie = let one = call_in-more store more e lie.0 in
 pub calls_in-more : (store more : List ℕ) (es : List Entry) → All (LiesIn (length store)) es → calls_in (store ++ more) es ≡ calls_in store es
 calls_in-more store more es lie = by_more store more es (recursion_from_All (LiesIn (length store)) es lie)
 
-act_value : (kind : Kind) (value : List ℕ) → IsValue value → IsValue (value_of (act_of kind value))
-act_value Put value h = h
-act_value Remove value h = omega arith
-act_value Hit value h = h
-act_value Miss value h = omega arith
+act_value : (kind : Kind) (value : List ℕ) (time : ℕ) → IsValue value → IsValue (value_of (act_of kind value time))
+act_value Put value time h = h
+act_value Remove value time h = omega arith
+act_value Hit value time h = h
+act_value Miss value time h = omega arith
+
+act_time : (kind : Kind) (value : List ℕ) (time : ℕ) → time < 2 ^ 64 → time_of (act_of kind value time) < 2 ^ 64
+act_time Put value time h = h
+act_time Remove value time h = omega arith
+act_time Hit value time h = h
+act_time Miss value time h = omega arith
 
 -- an entry that lies in a store stands for a call
 pub call_in-lawful : (store : List ℕ) (e : Entry) → LiesIn (length store) e → IsCall (call_in store e)
@@ -58,7 +64,8 @@ call_in-lawful store e lies =
       start = lies.start;
       end = lies.end;
       key = (omega (arith, key, lies.some_key), omega (arith, key, lies.key));
-      value = act_value e.kind _ (omega (arith, value, lies.value));
+      value = act_value e.kind _ e.time (omega (arith, value, lies.value));
+      time = act_time e.kind _ e.time lies.time;
     }
 
 pub calls_in-lawful : (store : List ℕ) (es : List Entry) → All (LiesIn (length store)) es → All IsCall (calls_in store es)
@@ -71,14 +78,14 @@ same_call a b caller start end key act = λ i. record { caller = caller i; start
 
 -- an entry for a key and a value that were put behind the store stands for their call
 pub call_in-new : (store key value : List ℕ) (e : Entry) (call : Call) → e.offset ≡ length store → e.key_len ≡ length key → e.value_len ≡ length value
-    → e.caller ≡ call.caller → e.start ≡ call.start → e.end ≡ call.end → key ≡ call.key → act_of e.kind value ≡ call.act → call_in ((store ++ key) ++ value) e ≡ call
+    → e.caller ≡ call.caller → e.start ≡ call.start → e.end ≡ call.end → key ≡ call.key → act_of e.kind value e.time ≡ call.act → call_in ((store ++ key) ++ value) e ≡ call
 unfolding call_in
 call_in-new store key value e call at key_len value_len caller start end key-is act =
     let front : drop e.offset ((store ++ key) ++ value) ≡ key ++ value = ap (drop e.offset) (append_assoc store key value) ∙ drop_at store (key ++ value) e.offset (sym at) in
     let k : part e.offset e.key_len ((store ++ key) ++ value) ≡ key = ap (take e.key_len) front ∙ take_at key value e.key_len (sym key_len) in
     let back : drop (e.offset + e.key_len) ((store ++ key) ++ value) ≡ value = drop_at (store ++ key) value (e.offset + e.key_len) (omega (arith, length-append store key)) in
     let v : part (e.offset + e.key_len) e.value_len ((store ++ key) ++ value) ≡ value = ap (take e.value_len) back ∙ take_all e.value_len value (omega (arith, value_len)) in
-    let a : act_of e.kind (part (e.offset + e.key_len) e.value_len ((store ++ key) ++ value)) ≡ call.act = ap (act_of e.kind) v ∙ act in
+    let a : act_of e.kind (part (e.offset + e.key_len) e.value_len ((store ++ key) ++ value)) e.time ≡ call.act = ap (λ (b : List ℕ). act_of e.kind b e.time) v ∙ act in
     let k' : part e.offset e.key_len ((store ++ key) ++ value) ≡ call.key = k ∙ key-is in
     same_call _ call caller start end k' a
 
@@ -97,7 +104,7 @@ pushed_call store new key value es now calls e call lie is grown pushed one =
 
 -- the call that an entry stands for, by its parts
 pub lent_call : (store : List ℕ) (e : Entry) (call : Call) → e.caller ≡ call.caller → e.start ≡ call.start → e.end ≡ call.end → part e.offset e.key_len store ≡ call.key
-    → act_of e.kind (part (e.offset + e.key_len) e.value_len store) ≡ call.act → call_in store e ≡ call
+    → act_of e.kind (part (e.offset + e.key_len) e.value_len store) e.time ≡ call.act → call_in store e ≡ call
 unfolding call_in
 lent_call store e call caller start end key act = same_call (call_in store e) call caller start end key act
 

@@ -8,9 +8,9 @@ use Rattle.trace_file.specs.declared.call_ref.CallRef.{CallRef}
 
 -- the act that a lent one shows
 abbrev pub act_shown : ActRef → Act
-act_shown (Put value) = acts.Put value.now
+act_shown (Put value expires) = acts.Put value.now expires
 act_shown Remove = acts.Remove
-act_shown (Hit value) = acts.Hit value.now
+act_shown (Hit value moment) = acts.Hit value.now moment
 act_shown Miss = acts.Miss
 
 -- the call that a lent one shows

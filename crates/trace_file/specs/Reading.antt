@@ -2,9 +2,11 @@
 use Rattle.std.specs.Prelude.{ℕ, zero, suc, ◌+◌, List, [], ◌∷◌, length, take, drop, Option, Some, None, Result, Ok, Err, not, nat_lt, ◌==◌, if◌then◌else◌, position}
 use Rattle.std.specs.List.{zip}
 use Rattle.std.specs.Int.{Width, w16, w32, w64, byte_len, from_be_bytes}
+use Rattle.record_pages.specs.Expiry.{never}
 use Rattle.trace_file.specs.declared.act.Act.{Act}
 use Rattle.trace_file.specs.declared.act.Act.TheVariants as acts
 use Rattle.trace_file.specs.declared.call.Call.{Call}
+use Rattle.trace_file.specs.declared.header.Header.{Header}
 use Rattle.trace_file.specs.declared.kind.Kind.{Kind}
 use Rattle.trace_file.specs.declared.kind.Kind.TheVariants.{Put, Remove, Hit, Miss}
 use Rattle.trace_file.specs.declared.stop.Stop.{Stop}
@@ -12,7 +14,9 @@ use Rattle.trace_file.specs.declared.stop.Stop.TheVariants.{Short, Fault}
 use Rattle.trace_file.specs.declared.trace.Trace.{Trace}
 use Rattle.trace_file.specs.declared.trace_fault.TraceFault.{TraceFault}
 use Rattle.trace_file.specs.declared.trace_fault.TraceFault.TheVariants.{BadMagic, TooMany, BadKind, BadKey, BadValue, Truncated, TrailingBytes}
-use Rattle.trace_file.specs.Text.{magic, most_calls}
+use Rattle.trace_file.specs.declared.version.Version.{Version}
+use Rattle.trace_file.specs.declared.version.Version.TheVariants.{Timed, Timeless}
+use Rattle.trace_file.specs.Text.{magic, most_calls, header_of}
 
 -- a place in a text: its offset, and the bytes from it on
 pub record Place : Type 0 where
@@ -75,25 +79,32 @@ value_at p = do
   len ← number_at w16 p
   if nat_lt 2048 len.0 then Err (Fault (BadValue p.at)) else bytes_at len.0 len.1
 
--- the act of a kind, with its value where it has one
-unfoldable pub act_at : Kind → Place → Read Act
-act_at Put p = do
-  value ← value_at p
-  Ok (acts.Put value.0, value.1)
-act_at Remove p = Ok (acts.Remove, p)
-act_at Hit p = do
-  value ← value_at p
-  Ok (acts.Hit value.0, value.1)
-act_at Miss p = Ok (acts.Miss, p)
+-- a time, or what its lack means in a trace that says no times
+unfoldable pub time_at : Version → ℕ → Place → Read ℕ
+time_at Timed meant p = number_at w64 p
+time_at Timeless meant p = Ok (meant, p)
 
-unfoldable pub call_at : Place → Read Call
-call_at p = do
+-- the act of a kind, with its value and its time where it has them
+unfoldable pub act_at : Version → Kind → Place → Read Act
+act_at version Put p = do
+  value ← value_at p
+  expires ← time_at version never value.1
+  Ok (acts.Put value.0 expires.0, expires.1)
+act_at version Remove p = Ok (acts.Remove, p)
+act_at version Hit p = do
+  value ← value_at p
+  moment ← time_at version 0 value.1
+  Ok (acts.Hit value.0 moment.0, moment.1)
+act_at version Miss p = Ok (acts.Miss, p)
+
+unfoldable pub call_at : Version → Place → Read Call
+call_at version p = do
   kind ← kind_at p
   caller ← number_at w16 kind.1
   start ← number_at w64 caller.1
   end ← number_at w64 start.1
   key ← key_at end.1
-  act ← act_at kind.0 key.1
+  act ← act_at version kind.0 key.1
   Ok (record { caller = caller.0; start = start.0; end = end.0; key = key.0; act = act.0 }, act.1)
 
 abbrev pub position_at : Place → Read ℕ
@@ -103,16 +114,17 @@ position_at p = number_at w32 p
 abbrev pub first_difference : List ℕ → List ℕ → Option ℕ
 first_difference bytes others = position (λ p. not (p.0 == p.1)) (zip bytes others)
 
--- the bytes, where they do not differ from the magic
-abbrev pub unless_differs : Option ℕ → ℕ → List ℕ × Place → Read (List ℕ)
-unless_differs None at bytes = Ok bytes
-unless_differs (Some i) at bytes = Err (Fault (BadMagic (at + i)))
+-- the form whose magic they do not differ from, by where they differ from each; a fault is where they differ from the timed one
+abbrev pub version_by : Option ℕ → Option ℕ → ℕ → Place → Read Version
+version_by None older at p = Ok (Timed, p)
+version_by (Some i) None at p = Ok (Timeless, p)
+version_by (Some i) (Some j) at p = Err (Fault (BadMagic (at + i)))
 
--- the magic, which is judged once its eight bytes are there
-unfoldable pub magic_at : Place → Read (List ℕ)
-magic_at p = do
+-- the form, by the magic, which is judged once its eight bytes are there
+unfoldable pub version_at : Place → Read Version
+version_at p = do
   bytes ← bytes_at 8 p
-  unless_differs (first_difference bytes.0 magic) p.at bytes
+  version_by (first_difference bytes.0 (magic Timed)) (first_difference bytes.0 (magic Timeless)) p.at bytes.1
 
 -- how many calls there are
 unfoldable pub count_at : Place → Read ℕ
@@ -120,10 +132,11 @@ count_at p = do
   count ← number_at w32 p
   if nat_lt most_calls count.0 then Err (Fault (TooMany p.at)) else Ok count
 
-unfoldable pub header_at : Place → Read ℕ
+unfoldable pub header_at : Place → Read Header
 header_at p = do
-  bytes ← magic_at p
-  count_at bytes.1
+  version ← version_at p
+  count ← count_at version.1
+  Ok (header_of version.0 count.0, count.1)
 
 -- so many items, one after the other
 unfoldable pub many_at : {A : Type 0} → (Place → Read A) → ℕ → Place → Read (List A)
@@ -140,9 +153,9 @@ end_at trace p = if length p.bytes == 0 then Ok trace else Err (Fault (TrailingB
 -- the whole trace
 unfoldable pub trace_at : Place → Result Trace Stop
 trace_at p = do
-  count ← header_at p
-  calls ← many_at call_at count.0 count.1
-  positions ← many_at position_at count.0 calls.1
+  header ← header_at p
+  calls ← many_at (call_at header.0.version) header.0.count header.1
+  positions ← many_at position_at header.0.count calls.1
   end_at (record { history = calls.0; certificate = positions.0 }) positions.1
 
 -- what a whole input of so many bytes gives: the trace, or the first fault

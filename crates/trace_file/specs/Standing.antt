@@ -6,32 +6,36 @@ use Rattle.record_pages.specs.Bounded.{IsKey}
 use Rattle.trace_file.specs.declared.call.Call.{Call}
 use Rattle.trace_file.specs.declared.trace_fault.TraceFault.{TraceFault}
 use Rattle.trace_file.specs.declared.trace_fault.TraceFault.TheVariants.{BadMagic, TooMany, BadKind, BadKey, BadValue, Truncated, TrailingBytes, ReadFault, OutOfMemory}
-use Rattle.trace_file.specs.Calls.{IsCall}
-use Rattle.trace_file.specs.Text.{magic, most_calls, call_text, key_text, header_text, trace_text, IsPair}
+use Rattle.trace_file.specs.declared.version.Version.{Version}
+use Rattle.trace_file.specs.declared.version.Version.TheVariants.{Timed, Timeless}
+use Rattle.trace_file.specs.Text.{magic, most_calls, call_text, key_text, header_of, header_text, text_of, IsCallOf, IsPairOf}
 
--- of the first eight bytes this one is the first that differs from the magic
+-- the first eight bytes are not the older magic, and of them this one is the first that differs from the timed one
 pub record DiffersAt (bytes : List ℕ) (at : ℕ) : Type 0 where
   pub there : 8 ≤ length bytes
   pub within : at < 8
-  pub same : take at bytes ≡ take at magic
-  pub other : slice_index bytes at ≢ slice_index magic at
+  pub not_older : take 8 bytes ≢ magic Timeless
+  pub same : take at bytes ≡ take at (magic Timed)
+  pub other : slice_index bytes at ≢ slice_index (magic Timed) at
 
--- behind the magic stands a count that is above the most calls
+-- behind a magic stands a count that is above the most calls
 pub record CountsTooMany (bytes : List ℕ) (at : ℕ) : Type 0 where
+  pub version : Version
   pub count : ℕ
   pub more : List ℕ
-  pub split : bytes ≡ magic ++ (to_be_bytes w32 count ++ more)
+  pub split : bytes ≡ magic version ++ (to_be_bytes w32 count ++ more)
   pub number : count < 2 ^ 32
   pub above : most_calls < count
   pub at_is : at ≡ 8
 
 -- these bytes are the header and calls, fewer than it counts
 pub record AreCalls (front : List ℕ) : Type 0 where
+  pub version : Version
   pub count : ℕ
   pub calls : List Call
-  pub text : front ≡ header_text count ++ flat_map call_text calls
+  pub text : front ≡ header_text (header_of version count) ++ flat_map (call_text version) calls
   pub few : count ≤ most_calls
-  pub lawful : All IsCall calls
+  pub lawful : All (IsCallOf version) calls
   pub fewer : length calls < count
 
 -- one of the four kinds
@@ -84,13 +88,14 @@ pub record HasBadValue (bytes : List ℕ) (at : ℕ) : Type 0 where
 
 -- behind a whole trace stands a byte
 pub record HasMore (bytes : List ℕ) (at : ℕ) : Type 0 where
+  pub version : Version
   pub history : List Call
   pub certificate : List ℕ
-  pub pair : IsPair history certificate
+  pub pair : IsPairOf version history certificate
   pub more : List ℕ
   pub some : more ≢ []
-  pub split : bytes ≡ trace_text history certificate ++ more
-  pub at_is : at ≡ length (trace_text history certificate)
+  pub split : bytes ≡ text_of version history certificate ++ more
+  pub at_is : at ≡ length (text_of version history certificate)
 
 -- where a fault stands among these bytes
 abbrev pub StandsIn : List ℕ → TraceFault → Type 0

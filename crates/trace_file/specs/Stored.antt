@@ -11,12 +11,12 @@ use Rattle.trace_file.specs.declared.kind.Kind.TheVariants.{Put, Remove, Hit, Mi
 abbrev pub part : ℕ → ℕ → List ℕ → List ℕ
 part offset len store = take len (drop offset store)
 
--- the act of a kind, with its value where it has one
-abbrev pub act_of : Kind → List ℕ → Act
-act_of Put value = acts.Put value
-act_of Remove value = acts.Remove
-act_of Hit value = acts.Hit value
-act_of Miss value = acts.Miss
+-- the act of a kind, with its value and its time where it has them
+abbrev pub act_of : Kind → List ℕ → ℕ → Act
+act_of Put value time = acts.Put value time
+act_of Remove value time = acts.Remove
+act_of Hit value time = acts.Hit value time
+act_of Miss value time = acts.Miss
 
 -- the call that an entry stands for
 unfoldable pub call_in : List ℕ → Entry → Call
@@ -25,7 +25,7 @@ call_in store e = record {
   start = e.start;
   end = e.end;
   key = part e.offset e.key_len store;
-  act = act_of e.kind (part (e.offset + e.key_len) e.value_len store);
+  act = act_of e.kind (part (e.offset + e.key_len) e.value_len store) e.time;
 }
 
 -- the calls that entries stand for, in their order
@@ -42,6 +42,7 @@ abbrev pub moved_by : ℕ → Entry → ℕ → Entry
 moved_by bytes e end = record {
   start = e.start;
   end = end;
+  time = e.time;
   offset = e.offset + bytes;
   caller = e.caller;
   value_len = e.value_len;
@@ -59,6 +60,7 @@ pub record LiesIn (size : ℕ) (e : Entry) : Type 0 where
   pub caller : e.caller < 2 ^ 16
   pub start : e.start < 2 ^ 64
   pub end : e.end < 2 ^ 64
+  pub time : e.time < 2 ^ 64
   pub some_key : 0 < e.key_len
   pub key : e.key_len ≤ 255
   pub value : e.value_len ≤ 2048

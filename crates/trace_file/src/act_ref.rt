@@ -1,23 +1,23 @@
 // What a call of a history did, lent.
-ghost use Rattle.std.specs.Prelude.{◌≡◌};
+ghost use Rattle.std.specs.Prelude.{◌≡◌, ◌<◌, ◌^◌};
 
 use crate::kind::Kind;
 
 /// What a call did, with the bytes of its value lent by the history.
 #[derive(Clone, Copy)]
 pub enum ActRef<'a> {
-    /// It put this value.
-    Put(&'a [u8]),
+    /// It put this value, which expires at this moment, or never with `2^64 - 1`.
+    Put(&'a [u8], u64),
     /// It removed the key.
     Remove,
-    /// It read this value.
-    Hit(&'a [u8]),
+    /// It read this value, asked for at this moment.
+    Hit(&'a [u8], u64),
     /// It read nothing.
     Miss,
 }
 
 impl<'a> ActRef<'a> {
-    ghost use Rattle.trace_file.specs.Calls.{value_of};
+    ghost use Rattle.trace_file.specs.Calls.{time_of, value_of};
     ghost use Rattle.trace_file.specs.Lent.{act_shown};
     ghost use Rattle.trace_file.specs.Stored.{act_of};
 
@@ -26,21 +26,34 @@ impl<'a> ActRef<'a> {
         ensures { result.now ≡ value_of (act_shown self.now) }
     {
         match self {
-            ActRef::Put(value) => value,
+            ActRef::Put(value, _) => value,
             ActRef::Remove => &[],
-            ActRef::Hit(value) => value,
+            ActRef::Hit(value, _) => value,
             ActRef::Miss => &[],
+        }
+    }
+
+    /// The moment at which what it put expires, or at which it was asked for; 0 where the act has none.
+    pub fn time(&self) -> u64
+        ensures time { result ≡ time_of (act_shown self.now) }
+        ensures small { time_of (act_shown self.now) < 2 ^ 64 }
+    {
+        match self {
+            ActRef::Put(_, expires) => *expires,
+            ActRef::Remove => 0,
+            ActRef::Hit(_, moment) => *moment,
+            ActRef::Miss => 0,
         }
     }
 
     /// The kind of the act.
     pub(crate) fn kind(&self) -> Kind
-        ensures { act_of result (value_of (act_shown self.now)) ≡ act_shown self.now }
+        ensures { act_of result (value_of (act_shown self.now)) (time_of (act_shown self.now)) ≡ act_shown self.now }
     {
         match self {
-            ActRef::Put(_) => Kind::Put,
+            ActRef::Put(..) => Kind::Put,
             ActRef::Remove => Kind::Remove,
-            ActRef::Hit(_) => Kind::Hit,
+            ActRef::Hit(..) => Kind::Hit,
             ActRef::Miss => Kind::Miss,
         }
     }

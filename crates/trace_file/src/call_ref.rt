@@ -36,6 +36,7 @@ impl<'a> CallRef<'a> {
         } }
         ensures lawful { IsCall (call_shown result) }
     {
+        let _time = act.time();
         CallRef {
             caller,
             start,

@@ -1,6 +1,6 @@
 // Where a call lies in a store of bytes.
 ghost use Rattle.std.specs.Prelude.{◌≡◌, ◌+◌, ◌<◌, ◌^◌, ◌++◌, List, ℕ, length};
-ghost use Rattle.trace_file.specs.Calls.{IsCall, value_of};
+ghost use Rattle.trace_file.specs.Calls.{IsCall, time_of, value_of};
 ghost use Rattle.trace_file.specs.Lent.{act_shown, call_shown};
 ghost use Rattle.trace_file.specs.Stored.{LiesIn, act_of, call_in, moved_by};
 
@@ -14,6 +14,7 @@ use crate::kind::Kind;
 pub struct Entry {
     pub(crate) start: u64,
     pub(crate) end: u64,
+    pub(crate) time: u64,
     pub(crate) offset: usize,
     pub(crate) caller: u16,
     pub(crate) value_len: u16,
@@ -36,6 +37,7 @@ impl Entry {
         Entry {
             start: call.start,
             end: call.end,
+            time: call.act.time(),
             offset,
             caller: call.caller,
             value_len: value.len() as u16,
@@ -57,7 +59,7 @@ impl Entry {
             start: self.start,
             end: self.end,
             key: &store[self.offset..key_end],
-            act: lent(self.kind, &store[key_end..value_end]),
+            act: lent(self.kind, &store[key_end..value_end], self.time),
         }
     }
 }
@@ -76,14 +78,14 @@ impl Entry {
     }
 }
 
-/// The act of a kind, with the bytes of its value where it has one.
-fn lent(kind: Kind, value: &[u8]) -> ActRef<'_>
-    ensures { act_shown result ≡ act_of kind value.now }
+/// The act of a kind, with the bytes of its value and its time where it has them.
+fn lent(kind: Kind, value: &[u8], time: u64) -> ActRef<'_>
+    ensures { act_shown result ≡ act_of kind value.now time }
 {
     match kind {
-        Kind::Put => ActRef::Put(value),
+        Kind::Put => ActRef::Put(value, time),
         Kind::Remove => ActRef::Remove,
-        Kind::Hit => ActRef::Hit(value),
+        Kind::Hit => ActRef::Hit(value, time),
         Kind::Miss => ActRef::Miss,
     }
 }

@@ -1,23 +1,29 @@
 // The items of a trace, read field by field.
-ghost use Rattle.std.specs.Prelude.{◌≡◌, ◌≤◌, length, IfOk};
+ghost use Rattle.std.specs.Prelude.{◌≡◌, ◌<◌, ◌≤◌, ◌^◌, ℕ, length, IfOk, IfSome};
 ghost use Rattle.std.specs.Option.{option_map};
 ghost use Rattle.record_pages.specs.Bounded.{IsKey, IsValue};
-ghost use Rattle.trace_file.specs.Calls.{IsCall, value_of};
+ghost use Rattle.trace_file.specs.Calls.{IsCall, time_of, value_of};
 ghost use Rattle.trace_file.specs.Given.{Gives, shown};
 ghost use Rattle.trace_file.specs.Lent.{act_shown, call_shown};
-ghost use Rattle.trace_file.specs.Reading.{kind_of, kind_at, key_at, value_at, act_at, call_at, first_difference, magic_at, count_at, header_at, position_at};
+ghost use Rattle.trace_file.specs.Reading.{kind_of, kind_at, key_at, value_at, time_at, act_at, call_at, first_difference, version_at, count_at, header_at, position_at};
 ghost use Rattle.trace_file.specs.Text.{magic};
+ghost use Rattle.trace_file.specs.declared.version.Version.TheVariants.{Timed, Timeless};
 
 use crate::act_ref::ActRef;
 use crate::call_ref::CallRef;
 use crate::cursor::Cursor;
+use crate::header::Header;
 use crate::kind::Kind;
 use crate::stop::Stop;
 use crate::trace_fault::TraceFault;
-use record_pages::Value;
+use crate::version::Version;
+use record_pages::{NEVER, Value};
 
-/// The bytes that each trace begins with.
-pub(crate) const MAGIC: [u8; 8] = *b"KGTRACE1";
+/// The bytes that a timed trace begins with.
+pub(crate) const TIMED_MAGIC: [u8; 8] = *b"KGTRACE2";
+
+/// The bytes that a timeless trace begins with.
+const TIMELESS_MAGIC: [u8; 8] = *b"KGTRACE1";
 
 /// The most calls of a trace.
 pub(crate) const MOST_CALLS: u32 = 268_435_456;
@@ -72,20 +78,33 @@ fn value(cursor: Cursor<'_>) -> Result<(&[u8], Cursor<'_>), Stop>
     Ok((value, behind))
 }
 
+/// The time that stands here, or what its lack means where the trace says no times.
+#[tactic(auto, unfolding(crate::specs::Reading::time_at))]
+fn time(version: Version, meant: u64, cursor: Cursor<'_>) -> Result<(u64, Cursor<'_>), Stop>
+    ensures { Gives (λ x. (x.0, shown x.1)) result (time_at version meant (shown cursor.entry)) }
+{
+    match version {
+        Version::Timed => cursor.number64(),
+        Version::Timeless => Ok((meant, cursor)),
+    }
+}
+
 #[tactic(auto, unfolding(crate::specs::Reading::act_at))]
-fn act(kind: Kind, cursor: Cursor<'_>) -> Result<(ActRef<'_>, Cursor<'_>), Stop>
-    ensures read { Gives (λ x. (act_shown x.0, shown x.1)) result (act_at kind (shown cursor.entry)) }
+fn act(version: Version, kind: Kind, cursor: Cursor<'_>) -> Result<(ActRef<'_>, Cursor<'_>), Stop>
+    ensures read { Gives (λ x. (act_shown x.0, shown x.1)) result (act_at version kind (shown cursor.entry)) }
     ensures lawful { IfOk result (λ x. IsValue (value_of (act_shown x.0))) }
 {
     match kind {
         Kind::Put => {
             let (value, behind) = value(cursor)?;
-            Ok((ActRef::Put(value), behind))
+            let (expires, behind) = time(version, NEVER, behind)?;
+            Ok((ActRef::Put(value, expires), behind))
         }
         Kind::Remove => Ok((ActRef::Remove, cursor)),
         Kind::Hit => {
             let (value, behind) = value(cursor)?;
-            Ok((ActRef::Hit(value), behind))
+            let (moment, behind) = time(version, 0, behind)?;
+            Ok((ActRef::Hit(value, moment), behind))
         }
         Kind::Miss => Ok((ActRef::Miss, cursor)),
     }
@@ -93,8 +112,8 @@ fn act(kind: Kind, cursor: Cursor<'_>) -> Result<(ActRef<'_>, Cursor<'_>), Stop>
 
 /// The call that begins here.
 #[tactic(auto, unfolding(crate::specs::Reading::call_at))]
-pub(crate) fn call(cursor: Cursor<'_>) -> Result<(CallRef<'_>, Cursor<'_>), Stop>
-    ensures read { Gives (λ x. (call_shown x.0, shown x.1)) result (call_at (shown cursor.entry)) }
+pub(crate) fn call(version: Version, cursor: Cursor<'_>) -> Result<(CallRef<'_>, Cursor<'_>), Stop>
+    ensures read { Gives (λ x. (call_shown x.0, shown x.1)) result (call_at version (shown cursor.entry)) }
     ensures lawful { IfOk result (λ x. IsCall (call_shown x.0)) }
 {
     let (kind, behind) = kind(cursor)?;
@@ -102,31 +121,38 @@ pub(crate) fn call(cursor: Cursor<'_>) -> Result<(CallRef<'_>, Cursor<'_>), Stop
     let (start, behind) = behind.number64()?;
     let (end, behind) = behind.number64()?;
     let (key, behind) = key(behind)?;
-    let (act, behind) = act(kind, behind)?;
+    let (act, behind) = act(version, kind, behind)?;
     Ok((CallRef::new(caller, start, end, key, act), behind))
 }
 
-/// Where these bytes differ from the magic first.
-fn first_difference(bytes: &[u8]) -> Option<usize>
-    ensures { result ≡ first_difference bytes.now magic }
+/// Where these bytes differ from those of a magic first.
+fn first_difference(bytes: &[u8], others: &[u8; 8]) -> Option<usize>
+    ensures place { result ≡ first_difference bytes.now others.now }
+    ensures within { IfSome result (λ i. i < 8) }
 {
     bytes
         .iter()
-        .zip(&MAGIC)
+        .zip(others)
         .position(|(byte, right)| *byte != *right)
 }
 
-#[tactic(auto, unfolding(crate::specs::Reading::magic_at))]
-fn magic(cursor: Cursor<'_>) -> Result<(&[u8], Cursor<'_>), Stop>
-    ensures { Gives (λ x. (x.0.now, shown x.1)) result (magic_at (shown cursor.entry)) }
+/// The form of a trace, by the eight bytes that it begins with.
+#[tactic(auto, unfolding(crate::specs::Reading::version_at))]
+fn version(cursor: Cursor<'_>) -> Result<(Version, Cursor<'_>), Stop>
+    ensures { Gives (λ x. (x.0, shown x.1)) result (version_at (shown cursor.entry)) }
 {
-    let (bytes, behind) = cursor.bytes(MAGIC.len())?;
-    match first_difference(bytes) {
-        None => Ok((bytes, behind)),
-        Some(i) => {
-            let at = cursor.at + i as u64;
-            Err(Stop::Fault(TraceFault::BadMagic { at }))
-        }
+    let (bytes, behind) = cursor.bytes(8)?;
+    let differs = first_difference(bytes, &TIMED_MAGIC);
+    let differs_older = first_difference(bytes, &TIMELESS_MAGIC);
+    match differs {
+        None => Ok((Version::Timed, behind)),
+        Some(i) => match differs_older {
+            None => Ok((Version::Timeless, behind)),
+            Some(_) => {
+                let at = cursor.at + i as u64;
+                Err(Stop::Fault(TraceFault::BadMagic { at }))
+            }
+        },
     }
 }
 
@@ -141,13 +167,14 @@ fn count(cursor: Cursor<'_>) -> Result<(u32, Cursor<'_>), Stop>
     Ok((count, behind))
 }
 
-/// What stands before the calls: the magic, and how many calls there are.
+/// What stands before the calls: the form of the trace, and how many calls there are.
 #[tactic(auto, unfolding(crate::specs::Reading::header_at))]
-pub(crate) fn header(cursor: Cursor<'_>) -> Result<(u32, Cursor<'_>), Stop>
+pub(crate) fn header(cursor: Cursor<'_>) -> Result<(Header, Cursor<'_>), Stop>
     ensures { Gives (λ x. (x.0, shown x.1)) result (header_at (shown cursor.entry)) }
 {
-    let (_, behind) = magic(cursor)?;
-    count(behind)
+    let (version, behind) = version(cursor)?;
+    let (count, behind) = count(behind)?;
+    Ok((Header { version, count }, behind))
 }
 
 /// The position that stands here.

@@ -1,7 +1,7 @@
 // The four kinds of act.
 ghost use Rattle.std.specs.Prelude.{◌≡◌, List, ℕ};
 
-/// The kind of an act, without its value.
+/// The kind of an act, without its value and its time.
 #[derive(Clone, Copy, Debug, PartialEq, Eq)]
 pub(crate) enum Kind {
     Put,
@@ -16,7 +16,7 @@ impl Kind {
 
     /// The byte that stands for the kind in a trace.
     pub(crate) fn byte(self) -> u8
-        ensures { (value : List ℕ) → result ≡ kind_byte (act_of self value) }
+        ensures { (value : List ℕ) (time : ℕ) → result ≡ kind_byte (act_of self value time) }
     {
         match self {
             Kind::Put => 1,

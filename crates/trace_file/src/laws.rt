@@ -7,17 +7,24 @@ ghost use Rattle.trace_file.specs.declared.trace_fault.TraceFault.TheVariants.{T
 ghost use Rattle.trace_file.specs.Reading.{outcome_of, first_fault_of};
 ghost use Rattle.trace_file.specs.Standing.{StandsIn};
 ghost use Rattle.trace_file.specs.Stream.{pair_of};
-ghost use Rattle.trace_file.specs.Text.{IsPair, IsTrace, trace_text};
+ghost use Rattle.trace_file.specs.Text.{IsPairOf, IsTrace, IsTraceOf, text_of};
+ghost use Rattle.trace_file.specs.declared.version.Version.{Version};
 
-/// Traces tell their pairs apart: a pair has one text, a text one pair, no text begins another, and
-/// what was written is read back.
+/// Traces tell their pairs apart: a pair has one text of a form at most, a text one pair and one form, no text begins
+/// another, and what was written is read back.
 pub fn trace_laws()
-    ensures read_back { (history : List Call) (certificate : List ℕ) → IsPair history certificate →
-        outcome_of (trace_text history certificate) ≡ Ok (pair_of history certificate) }
+    ensures read_back { (version : Version) (history : List Call) (certificate : List ℕ) →
+        IsPairOf version history certificate →
+        outcome_of (text_of version history certificate) ≡ Ok (pair_of history certificate) }
     ensures exactly { (bytes : List ℕ) (trace : Trace) → All (λ byte. byte < 256) bytes →
         ((outcome_of bytes ≡ Ok trace) ↔ IsTrace bytes trace.history trace.certificate) }
-    ensures one_text { (bytes others : List ℕ) (history : List Call) (certificate : List ℕ) →
-        IsTrace bytes history certificate → IsTrace others history certificate → bytes ≡ others }
+    ensures one_text { (version : Version) (bytes others : List ℕ) (history : List Call) (certificate : List ℕ) →
+        IsTraceOf version bytes history certificate → IsTraceOf version others history certificate →
+        bytes ≡ others }
+    ensures one_version { (version other : Version) (bytes : List ℕ) (history history' : List Call)
+        (certificate certificate' : List ℕ) →
+        IsTraceOf version bytes history certificate → IsTraceOf other bytes history' certificate' →
+        version ≡ other }
     ensures one_pair { (bytes : List ℕ) (history other : List Call) (certificate certificate' : List ℕ) →
         IsTrace bytes history certificate → IsTrace bytes other certificate' →
         (history ≡ other) × (certificate ≡ certificate') }
@@ -40,10 +47,10 @@ pub fn fault_laws()
         ¬ IsTrace (bytes ++ more) history certificate }
 
     // Bytes behind a trace are found at its end, and a trace that is cut ends too early.
-    ensures trailing { (history : List Call) (certificate : List ℕ) (more : List ℕ) →
-        IsPair history certificate → more ≢ [] →
-        outcome_of (trace_text history certificate ++ more)
-        ≡ Err (TrailingBytes (length (trace_text history certificate))) }
+    ensures trailing { (version : Version) (history : List Call) (certificate : List ℕ) (more : List ℕ) →
+        IsPairOf version history certificate → more ≢ [] →
+        outcome_of (text_of version history certificate ++ more)
+        ≡ Err (TrailingBytes (length (text_of version history certificate))) }
     ensures cut { (bytes more : List ℕ) (history : List Call) (certificate : List ℕ) →
         All (λ byte. byte < 256) bytes → IsTrace (bytes ++ more) history certificate → more ≢ [] →
         outcome_of bytes ≡ Err (Truncated (length bytes)) }

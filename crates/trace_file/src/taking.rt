@@ -1,13 +1,15 @@
 // Taking the items of a trace from the bytes of a stream, as many as are whole.
-ghost use Rattle.std.specs.Prelude.{◌≡◌, ◌≤◌, ◌<◌, ◌-◌, ◌+◌, ℕ, List, length, IfOk, IfErr, OnErr, OnOk, Some, None, [], All};
+ghost use Rattle.std.specs.Prelude.{◌≡◌, ◌≤◌, ◌<◌, ◌-◌, ◌+◌, ℕ, List, ◌^◌, length, IfOk, IfErr, OnErr, OnOk, Some, None, [], All};
 ghost use Rattle.std.specs.Option.{option_map};
 ghost use Rattle.trace_file.specs.Given.{shown};
 ghost use Rattle.trace_file.specs.Reading.{call_at, position_at, many_at, at_end};
+ghost use Rattle.trace_file.specs.Calls.{IsCall};
 ghost use Rattle.trace_file.specs.Stream.{in_front, TakesItems, FailsAs, IsTaken, Opens, Advances, read_behind, text_so_far, counted_text, counted_at, IsCounted, Settles, whole, standing};
-ghost use Rattle.trace_file.specs.Text.{call_text, position_text};
+ghost use Rattle.trace_file.specs.Text.{call_text, position_text, IsCallOf};
 
 use crate::certificate::Certificate;
 use crate::cursor::Cursor;
+use crate::header::Header;
 use crate::history::History;
 use crate::items::{call, header, position};
 use crate::stop::Stop;
@@ -16,19 +18,19 @@ use crate::trace::Trace;
 use crate::trace_fault::TraceFault;
 use std::alloc::Global;
 
-/// Takes the calls that are whole, up to so many, and answers the place behind them.
+/// Takes the calls that are whole, up to as many as the header counts, and answers the place behind them.
 fn take_calls<'a>(
     history: &mut History,
-    count: u32,
+    header: Header,
     cursor: Cursor<'a>,
 ) -> Result<Cursor<'a>, TraceFault>
-    requires { length history.old ≤ count }
-    ensures ok { IfOk result (λ rest. TakesItems call_at call_text count history.old history.new (shown cursor.entry) (shown rest)) }
-    ensures err { IfErr result (λ fault. FailsAs fault (in_front history.old (many_at call_at (count - length history.old) (shown cursor.entry)))) }
+    requires { length history.old ≤ header.count }
+    ensures ok { IfOk result (λ rest. TakesItems (call_at header.version) (call_text header.version) (IsCallOf header.version) header.count history.old history.new (shown cursor.entry) (shown rest)) }
+    ensures err { IfErr result (λ fault. FailsAs fault (in_front history.old (many_at (call_at header.version) (header.count - length history.old) (shown cursor.entry)))) }
 {
     let mut rest = cursor;
-    while history.len() < count as usize {
-        match call(rest) {
+    while history.len() < header.count as usize {
+        match call(header.version, rest) {
             Ok((next, behind)) => {
                 let Ok(()) = history.push_ref(&next) else {
                     return Err(TraceFault::OutOfMemory);
@@ -49,7 +51,7 @@ fn take_positions<'a>(
     cursor: Cursor<'a>,
 ) -> Result<Cursor<'a>, TraceFault>
     requires { length certificate.old ≤ count }
-    ensures ok { IfOk result (λ rest. TakesItems position_at position_text count certificate.old certificate.new (shown cursor.entry) (shown rest)) }
+    ensures ok { IfOk result (λ rest. TakesItems position_at position_text (λ position. position < 2 ^ 32) count certificate.old certificate.new (shown cursor.entry) (shown rest)) }
     ensures err { IfErr result (λ fault. FailsAs fault (in_front certificate.old (many_at position_at (count - length certificate.old) (shown cursor.entry)))) }
 {
     let mut rest = cursor;
@@ -68,24 +70,24 @@ fn take_positions<'a>(
     Ok(rest)
 }
 
-/// Takes the calls and then the positions that are whole, up to so many of each.
+/// Takes the calls and then the positions that are whole, up to as many as the header counts.
 fn take_counted<'a>(
     history: &mut History,
     certificate: &mut Certificate,
-    count: u32,
+    header: Header,
     cursor: Cursor<'a>,
 ) -> Result<Cursor<'a>, TraceFault>
-    requires counted { IsCounted count history.old certificate.old }
-    requires at { cursor.at ≡ length (counted_text count history.old certificate.old) }
-    ensures ok { IfOk result (λ rest. Settles count history.old certificate.old (shown cursor.entry) history.new certificate.new (shown rest)) }
-    ensures err { IfErr result (λ fault. FailsAs fault (counted_at count history.old certificate.old (shown cursor.entry))) }
+    requires counted { IsCounted header history.old certificate.old }
+    requires at { cursor.at ≡ length (counted_text header history.old certificate.old) }
+    ensures ok { IfOk result (λ rest. Settles header history.old certificate.old (shown cursor.entry) history.new certificate.new (shown rest)) }
+    ensures err { IfErr result (λ fault. FailsAs fault (counted_at header history.old certificate.old (shown cursor.entry))) }
 {
-    let rest = take_calls(history, count, cursor)?;
-    if history.len() < count as usize {
+    let rest = take_calls(history, header, cursor)?;
+    if history.len() < header.count as usize {
         return Ok(rest);
     }
-    let rest = take_positions(certificate, count, rest)?;
-    if certificate.len() < count as usize {
+    let rest = take_positions(certificate, header.count, rest)?;
+    if certificate.len() < header.count as usize {
         return Ok(rest);
     }
     if !rest.bytes.is_empty() {
@@ -97,10 +99,10 @@ fn take_counted<'a>(
 impl Taken {
     /// Nothing was taken yet. It takes no memory.
     pub(crate) fn new(alloc: Global) -> Taken
-        ensures { result ≡ record { count = None; history = []; certificate = [] } }
+        ensures { result ≡ record { header = None; history = []; certificate = [] } }
     {
         Taken {
-            count: None,
+            header: None,
             history: History::new(alloc),
             certificate: Certificate::new(alloc),
         }
@@ -108,23 +110,23 @@ impl Taken {
 
     /// Whether all calls and positions that the header counts were taken.
     fn is_whole(&self) -> bool
-        ensures { result ≡ whole self.now.count self.now.certificate }
+        ensures { result ≡ whole self.now.header self.now.certificate }
     {
-        match self.count {
-            Some(count) => self.certificate.len() == count as usize,
+        match self.header {
+            Some(header) => self.certificate.len() == header.count as usize,
             None => false,
         }
     }
 
     /// What was taken as a trace, if it is whole; else the stream ended too early, after so many bytes.
     pub(crate) fn ended(self, fed: u64) -> Result<Trace, TraceFault>
-        ensures { result ≡ at_end fed (standing self.count self.history self.certificate) }
+        ensures { result ≡ at_end fed (standing self.header self.history self.certificate) }
     {
         if !self.is_whole() {
             return Err(TraceFault::Truncated { at: fed });
         }
         let Taken {
-            count: _,
+            header: _,
             history,
             certificate,
         } = self;
@@ -134,22 +136,22 @@ impl Taken {
         })
     }
 
-    /// Takes the header, once it is whole, and answers the count and the place behind it.
+    /// Takes the header, once it is whole, and answers it and the place behind it.
     fn take_header<'a>(
         &mut self,
         cursor: Cursor<'a>,
-    ) -> Result<Option<(u32, Cursor<'a>)>, TraceFault>
-        requires taken { IsTaken self.old.count self.old.history self.old.certificate }
-        requires at { cursor.at ≡ length (text_so_far self.old.count self.old.history self.old.certificate) }
+    ) -> Result<Option<(Header, Cursor<'a>)>, TraceFault>
+        requires taken { IsTaken self.old.header self.old.history self.old.certificate }
+        requires at { cursor.at ≡ length (text_so_far self.old.header self.old.history self.old.certificate) }
         ensures ok { IfOk result (λ opened. Opens self.old self.new (shown cursor.entry) (option_map (λ x. (x.0, shown x.1)) opened)) }
-        ensures err { IfErr result (λ fault. FailsAs fault (read_behind self.old.count self.old.history self.old.certificate (shown cursor.entry))) }
+        ensures err { IfErr result (λ fault. FailsAs fault (read_behind self.old.header self.old.history self.old.certificate (shown cursor.entry))) }
     {
-        match self.count {
-            Some(count) => Ok(Some((count, cursor))),
+        match self.header {
+            Some(header) => Ok(Some((header, cursor))),
             None => match header(cursor) {
-                Ok((count, behind)) => {
-                    self.count = Some(count);
-                    Ok(Some((count, behind)))
+                Ok((header, behind)) => {
+                    self.header = Some(header);
+                    Ok(Some((header, behind)))
                 }
                 Err(Stop::Short) => Ok(None),
                 Err(Stop::Fault(fault)) => Err(fault),
@@ -161,14 +163,14 @@ impl Taken {
     ///
     /// After a fault nothing is said of what was taken.
     pub(crate) fn take<'a>(&mut self, cursor: Cursor<'a>) -> Result<Cursor<'a>, TraceFault>
-        requires taken { IsTaken self.old.count self.old.history self.old.certificate }
-        requires at { cursor.at ≡ length (text_so_far self.old.count self.old.history self.old.certificate) }
+        requires taken { IsTaken self.old.header self.old.history self.old.certificate }
+        requires at { cursor.at ≡ length (text_so_far self.old.header self.old.history self.old.certificate) }
         ensures ok { IfOk result (λ rest. Advances self.old self.new (shown cursor.entry) (shown rest)) }
-        ensures err { IfErr result (λ fault. FailsAs fault (read_behind self.old.count self.old.history self.old.certificate (shown cursor.entry))) }
+        ensures err { IfErr result (λ fault. FailsAs fault (read_behind self.old.header self.old.history self.old.certificate (shown cursor.entry))) }
     {
         match self.take_header(cursor)? {
-            Some((count, rest)) => {
-                match take_counted(&mut self.history, &mut self.certificate, count, rest) {
+            Some((header, rest)) => {
+                match take_counted(&mut self.history, &mut self.certificate, header, rest) {
                     Ok(rest) => Ok(rest),
                     Err(fault) => Err(fault),
                 }

@@ -6,20 +6,21 @@ ghost use Rattle.record_pages.specs.Bounded.{IsValue};
 ghost use Rattle.trace_file.specs.Calls.{IsCall, value_of};
 ghost use Rattle.trace_file.specs.Lent.{act_shown, call_shown};
 ghost use Rattle.trace_file.specs.Sending.{Sent, Begun};
-ghost use Rattle.trace_file.specs.Text.{value_text, act_text, call_text, position_text, trace_text, IsTrace};
+ghost use Rattle.trace_file.specs.Text.{value_text, time_text, act_text, call_text, position_text, text_of, IsTraceOf};
+ghost use Rattle.trace_file.specs.declared.version.Version.TheVariants.{Timed};
 
 use crate::act_ref::ActRef;
 use crate::call_ref::CallRef;
 use crate::certificate::Certificate;
 use crate::history::History;
-use crate::items::{MAGIC, MOST_CALLS};
+use crate::items::{MOST_CALLS, TIMED_MAGIC};
 use crate::text_buffer::{ROOM, TextBuffer};
 use crate::unwritten::Unwritten;
 use crate::write_trace_fault::WriteTraceFault;
 use std::io::Write;
 
-/// The most bytes of a call: its fixed fields, a key and a value.
-const MOST_CALL_BYTES: usize = 2325;
+/// The most bytes of a call: its fixed fields, a key, a value and a time.
+const MOST_CALL_BYTES: usize = 2333;
 
 /// Writes all of the bytes. A write that fails, or takes nothing, is `Unwritten` at once and is not tried
 /// again; the writer may have taken a front of the bytes then.
@@ -40,7 +41,7 @@ pub fn write_whole<W: Write>(writer: &mut W, bytes: &[u8]) -> Result<(), Unwritt
 
 /// Leaves room for a call among the bytes that wait, by writing them if need be.
 fn make_room<W: Write>(buffer: &mut TextBuffer, writer: &mut W) -> Result<(), Unwritten>
-    ensures room { OnOk result (length buffer.new + 2325 ≤ 8192) }
+    ensures room { OnOk result (length buffer.new + 2333 ≤ 8192) }
     ensures ok { OnOk result (
         Sent (W.contents writer.old) (W.contents writer.new) buffer.old buffer.new) }
     ensures err { OnErr result (Begun (W.contents writer.old) (W.contents writer.new) buffer.old) }
@@ -60,9 +61,9 @@ fn make_room<W: Write>(buffer: &mut TextBuffer, writer: &mut W) -> Result<(), Un
 /// Puts a call behind the bytes that wait.
 #[tactic(auto, unfolding(crate::specs::Text::call_text))]
 fn put_call(buffer: &mut TextBuffer, call: &CallRef<'_>)
-    requires room { length buffer.old + 2325 ≤ 8192 }
+    requires room { length buffer.old + 2333 ≤ 8192 }
     requires call { IsCall (call_shown call.now) }
-    ensures { buffer.new ≡ buffer.old ++ call_text (call_shown call.now) }
+    ensures { buffer.new ≡ buffer.old ++ call_text Timed (call_shown call.now) }
 {
     buffer.push(&[call.act.kind().byte()]);
     buffer.push(&call.caller.to_be_bytes());
@@ -73,18 +74,28 @@ fn put_call(buffer: &mut TextBuffer, call: &CallRef<'_>)
     put_act(buffer, &call.act);
 }
 
-/// Puts the value of an act behind the bytes that wait, where it has one.
+/// Puts the value and the time of an act behind the bytes that wait, where it has them.
 fn put_act(buffer: &mut TextBuffer, act: &ActRef<'_>)
-    requires room { length buffer.old + 2050 ≤ 8192 }
+    requires room { length buffer.old + 2058 ≤ 8192 }
     requires value { IsValue (value_of (act_shown act.now)) }
-    ensures { buffer.new ≡ buffer.old ++ act_text (act_shown act.now) }
+    ensures { buffer.new ≡ buffer.old ++ act_text Timed (act_shown act.now) }
 {
     match act {
-        ActRef::Put(value) => put_value(buffer, value),
+        ActRef::Put(value, expires) => put_timed(buffer, value, *expires),
         ActRef::Remove => {}
-        ActRef::Hit(value) => put_value(buffer, value),
+        ActRef::Hit(value, moment) => put_timed(buffer, value, *moment),
         ActRef::Miss => {}
     }
+}
+
+/// Puts a value and a time behind the bytes that wait.
+fn put_timed(buffer: &mut TextBuffer, value: &[u8], time: u64)
+    requires room { length buffer.old + 2058 ≤ 8192 }
+    requires value { IsValue value.now }
+    ensures { buffer.new ≡ buffer.old ++ (value_text value.now ++ time_text Timed time) }
+{
+    put_value(buffer, value);
+    buffer.push(&time.to_be_bytes());
 }
 
 /// Puts a value behind the bytes that wait, after its length.
@@ -104,9 +115,9 @@ fn send_calls<W: Write>(
     writer: &mut W,
 ) -> Result<(), Unwritten>
     ensures ok { OnOk result (Sent (W.contents writer.old) (W.contents writer.new)
-        (buffer.old ++ flat_map call_text history.now) buffer.new) }
+        (buffer.old ++ flat_map (call_text Timed) history.now) buffer.new) }
     ensures err { OnErr result (Begun (W.contents writer.old) (W.contents writer.new)
-        (buffer.old ++ flat_map call_text history.now)) }
+        (buffer.old ++ flat_map (call_text Timed) history.now)) }
 {
     for position in 0..history.len() {
         match make_room(buffer, writer) {
@@ -147,12 +158,12 @@ fn send<W: Write>(
 ) -> Result<(), Unwritten>
     requires { length history.now ≤ 268435456 }
     ensures ok { OnOk result (Appends (W.contents writer.old) (W.contents writer.new)
-        (trace_text history.now certificate.now)) }
+        (text_of Timed history.now certificate.now)) }
     ensures err { OnErr result (Begun (W.contents writer.old) (W.contents writer.new)
-        (trace_text history.now certificate.now)) }
+        (text_of Timed history.now certificate.now)) }
 {
     let mut buffer = TextBuffer::new();
-    buffer.push(&MAGIC);
+    buffer.push(&TIMED_MAGIC);
     buffer.push(&(history.len() as u32).to_be_bytes());
     match send_calls(history, &mut buffer, writer) {
         Ok(()) => {}
@@ -168,7 +179,7 @@ fn send<W: Write>(
     }
 }
 
-/// Writes the trace of a history and its certificate. It takes no memory, and flushes nothing.
+/// Writes the timed trace of a history and its certificate. It takes no memory, and flushes nothing.
 ///
 /// A write that fails, or takes nothing, is `WriteFault` at once and is not tried again.
 pub fn write_trace<W: Write>(
@@ -177,8 +188,8 @@ pub fn write_trace<W: Write>(
     writer: &mut W,
 ) -> Result<(), WriteTraceFault>
     ensures ok { OnOk result (Appends (W.contents writer.old) (W.contents writer.new)
-        (trace_text history.now certificate.now)) }
-    ensures trace { OnOk result (IsTrace (trace_text history.now certificate.now)
+        (text_of Timed history.now certificate.now)) }
+    ensures trace { OnOk result (IsTraceOf Timed (text_of Timed history.now certificate.now)
         history.now certificate.now) }
 
     ensures too_many { IsErrOf result WriteTraceFault.TooMany ↔ (268435456 < length history.now) }
@@ -187,7 +198,7 @@ pub fn write_trace<W: Write>(
     ensures nothing { IfErr result (λ fault.
         fault ≢ WriteTraceFault.WriteFault → writer.new ≡ writer.old) }
     ensures begun { OnErr result (Begun (W.contents writer.old) (W.contents writer.new)
-        (trace_text history.now certificate.now)) }
+        (text_of Timed history.now certificate.now)) }
 {
     if history.len() > MOST_CALLS as usize {
         return Err(WriteTraceFault::TooMany);

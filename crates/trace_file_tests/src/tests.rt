@@ -20,6 +20,13 @@ const ONE_PUT: [u8; 40] = [
     0, 0, 0, 0, 0, 0, 3, 1, 0x61, 0, 1, 0x31, 0, 0, 0, 0,
 ];
 
+/// The same call in the newer form: what it puts never expires.
+const TIMED_PUT: [u8; 48] = [
+    0x4b, 0x47, 0x54, 0x52, 0x41, 0x43, 0x45, 0x32, 0, 0, 0, 1, 1, 0, 0, 0, 0, 0, 0, 0, 0, 0, 1, 0,
+    0, 0, 0, 0, 0, 0, 3, 1, 0x61, 0, 1, 0x31, 0xff, 0xff, 0xff, 0xff, 0xff, 0xff, 0xff, 0xff, 0, 0,
+    0, 0,
+];
+
 /// A call of each kind: caller 0 puts `1` at `a`, caller 258 hits it, caller 0 removes `bc`, and caller 258 misses it.
 /// The certificate lists the removal first.
 const EACH_KIND: [u8; 120] = [
@@ -28,6 +35,15 @@ const EACH_KIND: [u8; 120] = [
     5, 1, 0x61, 0, 1, 0x31, 2, 0, 0, 0, 0, 0, 0, 0, 0, 0, 4, 0, 0, 0, 0, 0, 0, 0, 6, 2, 0x62, 0x63,
     4, 1, 2, 0, 0, 0, 0, 0, 0, 0, 7, 0, 0, 0, 0, 0, 0, 1, 0, 2, 0x62, 0x63, 0, 0, 0, 2, 0, 0, 0, 0,
     0, 0, 0, 1, 0, 0, 0, 3,
+];
+
+/// The same calls in the newer form: the put expires at `0x0102030405060708`, and the hit's moment is `0x090a0b0c0d0e0f10`.
+const TIMED_KINDS: [u8; 136] = [
+    0x4b, 0x47, 0x54, 0x52, 0x41, 0x43, 0x45, 0x32, 0, 0, 0, 4, 1, 0, 0, 0, 0, 0, 0, 0, 0, 0, 1, 0,
+    0, 0, 0, 0, 0, 0, 3, 1, 0x61, 0, 1, 0x31, 1, 2, 3, 4, 5, 6, 7, 8, 3, 1, 2, 0, 0, 0, 0, 0, 0, 0,
+    2, 0, 0, 0, 0, 0, 0, 0, 5, 1, 0x61, 0, 1, 0x31, 9, 10, 11, 12, 13, 14, 15, 16, 2, 0, 0, 0, 0,
+    0, 0, 0, 0, 0, 4, 0, 0, 0, 0, 0, 0, 0, 6, 2, 0x62, 0x63, 4, 1, 2, 0, 0, 0, 0, 0, 0, 0, 7, 0, 0,
+    0, 0, 0, 0, 1, 0, 2, 0x62, 0x63, 0, 0, 0, 2, 0, 0, 0, 0, 0, 0, 0, 1, 0, 0, 0, 3,
 ];
 
 /// No call.
@@ -96,20 +112,22 @@ fn has_one_put(trace: &Trace) -> bool {
     }
     let call = trace.history.at(0);
     is(&call, 0, 1, 3, b"a")
-        && matches!(call.act, ActRef::Put(b"1"))
+        && matches!(call.act, ActRef::Put(b"1", u64::MAX))
         && trace.certificate.at(0) == 0
 }
 
-/// Whether the trace is that of `ONE_PUT`, read and written again.
+/// Whether the trace is that of `ONE_PUT`, and is written in the newer form.
 fn is_one_put(alloc: Global, trace: &Trace) -> Result<bool, Fail> {
     let written = written(alloc, trace)?;
-    Ok(has_one_put(trace) && written.as_slice() == ONE_PUT.as_slice())
+    Ok(has_one_put(trace) && written.as_slice() == TIMED_PUT.as_slice())
 }
 
 #[test]
 fn one_put_is_read_and_written_again(rt: HostRuntime) -> Result<(), Fail> {
-    let trace = one_put(rt.alloc())?;
-    assert!(rt; is_one_put(rt.alloc(), &trace)?);
+    for text in [ONE_PUT.as_slice(), TIMED_PUT.as_slice()] {
+        let trace = trace_of(rt.alloc(), text)?;
+        assert!(rt; is_one_put(rt.alloc(), &trace)?);
+    }
     Ok(())
 }
 
@@ -118,17 +136,19 @@ fn is(call: &CallRef<'_>, caller: u16, start: u64, end: u64, key: &[u8]) -> bool
     (call.caller, call.start, call.end) == (caller, start, end) && call.key == key
 }
 
-/// Whether these are the calls of `EACH_KIND`.
-fn are_each_kind(history: &History) -> bool {
+/// Whether these are the calls of `EACH_KIND`, with this expiry and this moment.
+fn are_each_kind(history: &History, expires: u64, moment: u64) -> bool {
     if history.len() != 4 {
         return false;
     }
     let (put, hit) = (history.at(0), history.at(1));
     let (removed, missed) = (history.at(2), history.at(3));
     is(&put, 0, 1, 3, b"a")
-        && matches!(put.act, ActRef::Put(b"1"))
+        && matches!(put.act, ActRef::Put(b"1", _))
+        && put.act.time() == expires
         && is(&hit, 258, 2, 5, b"a")
-        && matches!(hit.act, ActRef::Hit(b"1"))
+        && matches!(hit.act, ActRef::Hit(b"1", _))
+        && hit.act.time() == moment
         && is(&removed, 0, 4, 6, b"bc")
         && matches!(removed.act, ActRef::Remove)
         && is(&missed, 258, 7, 256, b"bc")
@@ -137,23 +157,23 @@ fn are_each_kind(history: &History) -> bool {
 
 #[test]
 fn each_kind_is_read_and_written_again(rt: HostRuntime) -> Result<(), Fail> {
-    let mut reader = EACH_KIND.as_slice();
-    let trace = read_trace(rt.alloc(), &mut reader)?;
-    assert!(rt; are_each_kind(&trace.history));
-    let mut written = Vec::new(rt.alloc());
-    write_trace(&trace.history, &trace.certificate, &mut written)?;
-    assert!(rt; written.as_slice() == EACH_KIND.as_slice());
+    let trace = trace_of(rt.alloc(), &EACH_KIND)?;
+    assert!(rt; are_each_kind(&trace.history, u64::MAX, 0));
+    let timed = trace_of(rt.alloc(), &TIMED_KINDS)?;
+    assert!(rt; are_each_kind(&timed.history, 0x0102_0304_0506_0708, 0x090a_0b0c_0d0e_0f10));
+    assert_eq!(rt; come_back(rt.alloc(), &TIMED_KINDS)?, Some(4));
     Ok(())
 }
 
 #[test]
 fn a_trace_cut_anywhere_is_truncated_there(rt: HostRuntime) {
-    for len in 0..ONE_PUT.len() {
-        let whole = ONE_PUT.as_slice();
-        let want = Some(TraceFault::Truncated { at: len as u64 });
-        assert_eq!(rt; fault_of(rt.alloc(), &whole[..len]), want, "at {len}");
+    for whole in [ONE_PUT.as_slice(), TIMED_PUT.as_slice()] {
+        for len in 0..whole.len() {
+            let want = Some(TraceFault::Truncated { at: len as u64 });
+            assert_eq!(rt; fault_of(rt.alloc(), &whole[..len]), want, "at {len}");
+        }
+        assert_eq!(rt; fault_of(rt.alloc(), whole), None);
     }
-    assert_eq!(rt; fault_of(rt.alloc(), &ONE_PUT), None);
     assert_eq!(rt; fault_of(rt.alloc(), &EMPTY), None);
 }
 
@@ -166,8 +186,9 @@ fn each_fault_has_its_offset(rt: HostRuntime) {
         (3, 0, TraceFault::BadMagic { at: 3 }),
         (4, 0, TraceFault::BadMagic { at: 4 }),
         (5, 0, TraceFault::BadMagic { at: 5 }),
-        (6, 0, TraceFault::BadMagic { at: 6 }),
+        (6, 0x58, TraceFault::BadMagic { at: 6 }),
         (7, 0x39, TraceFault::BadMagic { at: 7 }),
+        (7, 0x32, TraceFault::Truncated { at: 40 }),
         (8, 0x10, TraceFault::TooMany { at: 8 }),
         (12, 0, TraceFault::BadKind { at: 12 }),
         (12, 5, TraceFault::BadKind { at: 12 }),
@@ -185,31 +206,31 @@ fn each_fault_has_its_offset(rt: HostRuntime) {
     }
 }
 
-// Feeds the bytes of `ONE_PUT`, so many at a time, and says how many were fed.
-fn feed_all(parts: &mut TraceReader, size: usize) -> Result<u64, TraceFault>
+// Feeds the bytes, so many at a time, and says how many were fed.
+fn feed_all(parts: &mut TraceReader, bytes: &[u8], size: usize) -> Result<u64, TraceFault>
     requires { 0 < size }
 {
-    for piece in ONE_PUT.chunks(size) {
+    for piece in bytes.chunks(size) {
         parts.feed(piece)?;
     }
     Ok(parts.bytes_fed())
 }
 
 // How many bytes were fed, so many at a time, and their trace.
-fn in_pieces(alloc: Global, size: usize) -> Result<(u64, Trace), TraceFault>
+fn in_pieces(alloc: Global, bytes: &[u8], size: usize) -> Result<(u64, Trace), TraceFault>
     requires { 0 < size }
 {
     let mut parts = TraceReader::new(alloc);
-    let fed = feed_all(&mut parts, size)?;
+    let fed = feed_all(&mut parts, bytes, size)?;
     Ok((fed, parts.finish()?))
 }
 
 #[test]
 fn pieces_give_what_the_whole_gives(rt: HostRuntime) -> Result<(), Fail> {
     for size in 1..8usize {
-        let (fed, trace) = in_pieces(rt.alloc(), size)?;
+        let (fed, trace) = in_pieces(rt.alloc(), &TIMED_PUT, size)?;
         assert!(rt;
-            fed == 40 && is_one_put(rt.alloc(), &trace)?,
+            fed == 48 && is_one_put(rt.alloc(), &trace)?,
             "pieces of {size}"
         );
     }
@@ -255,8 +276,8 @@ fn a_failed_read_is_not_tried_again(rt: HostRuntime) {
     }
 }
 
-fn one_put(alloc: Global) -> Result<Trace, Fail> {
-    let mut reader = ONE_PUT.as_slice();
+fn trace_of(alloc: Global, bytes: &[u8]) -> Result<Trace, Fail> {
+    let mut reader = bytes;
     Ok(read_trace(alloc, &mut reader)?)
 }
 
@@ -268,17 +289,17 @@ fn written_within(trace: &Trace, room: usize) -> Result<(), WriteTraceFault> {
 
 #[test]
 fn a_write_that_fails_is_a_write_fault(rt: HostRuntime) -> Result<(), Fail> {
-    let trace = one_put(rt.alloc())?;
+    let trace = trace_of(rt.alloc(), &ONE_PUT)?;
     let fault = Err(WriteTraceFault::WriteFault);
     assert_eq!(rt; written_within(&trace, 0), fault);
-    assert_eq!(rt; written_within(&trace, 39), fault);
-    assert_eq!(rt; written_within(&trace, 41), Ok(()));
+    assert_eq!(rt; written_within(&trace, 47), fault);
+    assert_eq!(rt; written_within(&trace, 49), Ok(()));
     Ok(())
 }
 
 #[test]
 fn a_certificate_of_another_length_is_not_written(rt: HostRuntime) -> Result<(), Fail> {
-    let mut trace = one_put(rt.alloc())?;
+    let mut trace = trace_of(rt.alloc(), &ONE_PUT)?;
     trace.certificate.push(0)?;
     assert_eq!(rt; written_within(&trace, 0), Err(WriteTraceFault::WrongCount));
     Ok(())
@@ -292,11 +313,11 @@ fn largest_value(alloc: Global, byte: u8) -> Result<Value, Fail> {
     Ok(Value::new(alloc, [byte; 2048].as_slice())?)
 }
 
-fn act_of(kind: u32, value: Value) -> Act {
+fn act_of(kind: u32, value: Value, time: u64) -> Act {
     match kind {
-        0 => Act::Put(value),
+        0 => Act::Put(value, time),
         1 => Act::Remove,
-        2 => Act::Hit(value),
+        2 => Act::Hit(value, time),
         _ => Act::Miss,
     }
 }
@@ -310,7 +331,7 @@ fn large_call(alloc: Global, number: u32, kind: u32) -> Result<Call, Fail> {
         start: u64::from(number),
         end: u64::from(number) + 1,
         key,
-        act: act_of(kind, value),
+        act: act_of(kind, value, u64::from(number)),
     })
 }
 
@@ -338,8 +359,7 @@ fn written(alloc: Global, trace: &Trace) -> Result<Vec<u8>, Fail> {
 
 // How many calls these bytes are a trace of, where it is written as the same bytes again.
 fn come_back(alloc: Global, bytes: &[u8]) -> Result<Option<usize>, Fail> {
-    let mut reader = bytes;
-    let trace = read_trace(alloc, &mut reader)?;
+    let trace = trace_of(alloc, bytes)?;
     let again = written(alloc, &trace)?;
     if again.as_slice() == bytes {
         Ok(Some(trace.history.len()))

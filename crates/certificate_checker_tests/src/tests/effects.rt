@@ -106,9 +106,9 @@ fn puts_and_hits(alloc: Global) -> Result<(History, Certificate), Fail> {
             end: u64::from(number),
             key: Key::new(alloc, &byte)?,
             act: if number < 200 {
-                Act::Put(value)
+                Act::Put(value, 400)
             } else {
-                Act::Hit(value)
+                Act::Hit(value, u64::from(number))
             },
         })?;
         certificate.push(number)?;
@@ -139,14 +139,14 @@ fn a_piece_is_read_at_a_time_and_no_read_follows_a_failed_one_or_a_fault(
     let (history, certificate) = puts_and_hits(rt.alloc())?;
     let mut long = Vec::new(rt.alloc());
     write_trace(&history, &certificate, &mut long)?;
-    assert_eq!(rt; long.len(), 12 + 400 * 28);
+    assert_eq!(rt; long.len(), 12 + 400 * 36);
     let table: [(&[u8], u32, u32, &[u8]); 9] = [
         (&EMPTY, 0, 2, b"accepted 0 calls\n"),
         (&EMPTY, 1, 1, b"bad trace ReadFault at 0\n"),
         (&EMPTY, 2, 2, b"bad trace ReadFault at 12\n"),
-        (&long, 0, 4, b"accepted 400 calls\n"),
+        (&long, 0, 5, b"accepted 400 calls\n"),
         (&long, 3, 3, b"bad trace ReadFault at 8192\n"),
-        (&long, 4, 4, b"bad trace ReadFault at 11212\n"),
+        (&long, 5, 5, b"bad trace ReadFault at 14412\n"),
         (
             b"KGTRACE1\x10\x00\x00\x00",
             0,

@@ -9,6 +9,10 @@ use std::test::Fail;
 const ONE_PUT: [u8; 40] =
     *b"KGTRACE1\x00\x00\x00\x01\x01\x00\x00\x00\x00\x00\x00\x00\x00\x00\x01\x00\x00\x00\x00\x00\x00\x00\x03\x01a\x00\x011\x00\x00\x00\x00";
 
+/// The same in the newer form, where what is put never expires.
+const TIMED_PUT: [u8; 48] =
+    *b"KGTRACE2\x00\x00\x00\x01\x01\x00\x00\x00\x00\x00\x00\x00\x00\x00\x01\x00\x00\x00\x00\x00\x00\x00\x03\x01a\x00\x011\xff\xff\xff\xff\xff\xff\xff\xff\x00\x00\x00\x00";
+
 /// A reader that gives a byte at a time, and then is at its end or fails.
 #[derive(Drop)]
 struct Slow<'a> {
@@ -67,8 +71,9 @@ fn changed(at: usize, bytes: [u8; 2]) -> [u8; 40] {
 
 #[test]
 fn each_trace_has_its_line(rt: HostRuntime) -> Result<(), Fail> {
-    let table: [(&[u8], &[u8], Judged); 14] = [
+    let table: [(&[u8], &[u8], Judged); 15] = [
         (&ONE_PUT, b"accepted 1 calls\n", Judged::Accepted),
+        (&TIMED_PUT, b"accepted 1 calls\n", Judged::Accepted),
         (
             b"KGTRACE1\x00\x00\x00\x00",
             b"accepted 0 calls\n",

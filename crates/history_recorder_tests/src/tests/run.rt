@@ -114,7 +114,7 @@ fn put_gives<D: PageDevice<PAGE>, const PAGE: usize>(
 ) -> Result<bool, Fail> {
     let before = lane.len();
     let given = stored(put(alloc, lane, caller, name, bytes, word)?)?;
-    Ok(given == pushed && is_last(lane, before, caller, name, ActRef::Put(bytes)))
+    Ok(given == pushed && is_last(lane, before, caller, name, ActRef::Put(bytes, NEVER)))
 }
 
 fn refuses<D: PageDevice<PAGE>, const PAGE: usize>(
@@ -138,7 +138,10 @@ fn get_gives<D: PageDevice<PAGE>, const PAGE: usize>(
 ) -> Result<bool, Fail> {
     let before = lane.len();
     let answer = get(alloc, lane, caller, name)?;
-    Ok(is_found(&answer, found) && is_last(lane, before, caller, name, act_of(&answer)))
+    Ok(
+        is_found(&answer, found)
+            && is_last(lane, before, caller, name, act_of(&answer, caller as u64)),
+    )
 }
 
 fn removes<D: PageDevice<PAGE>, const PAGE: usize>(
@@ -249,10 +252,10 @@ fn put_once<D: PageDevice<PAGE>, const PAGE: usize>(
     let (start, point) = stamps(lane)?;
     let value = value(alloc, bytes)?;
     let key = own_key(alloc, lane, name)?;
-    Ok(lane.put(caller, start, point, key, value, word))
+    Ok(lane.put(caller, start, point, key, value, word, NEVER))
 }
 
-// Gets a key, once more where memory was refused.
+// Gets a key at the caller's number, once more where memory was refused.
 fn get<D: PageDevice<PAGE>, const PAGE: usize>(
     alloc: Global,
     lane: &mut RecordedLane<D, PAGE>,
@@ -273,7 +276,7 @@ fn get_once<D: PageDevice<PAGE>, const PAGE: usize>(
 ) -> Result<Result<Answer, RecordFault>, Fail> {
     let (start, point) = stamps(lane)?;
     let key = own_key(alloc, lane, name)?;
-    Ok(lane.get(caller, start, point, &key))
+    Ok(lane.get(caller, start, point, &key, caller as u64))
 }
 
 // Removes a key, once more where memory was refused.
@@ -353,18 +356,19 @@ fn has_stamps(noted: NotedRef<'_>, point: u64) -> bool {
     noted.point == point && noted.start < point && point - noted.start == 1
 }
 
-// What is recorded of an answer.
-fn act_of(answer: &Answer) -> ActRef<'_> {
+// What is recorded of an answer to a get of this moment.
+fn act_of(answer: &Answer, moment: u64) -> ActRef<'_> {
     match answer {
-        Answer::Hit(value, _) => ActRef::Hit(value.bytes()),
+        Answer::Hit(value, _) => ActRef::Hit(value.bytes(), moment),
         Answer::Miss(_) => ActRef::Miss,
     }
 }
 
 fn is_same_act(one: ActRef<'_>, other: ActRef<'_>) -> bool {
     match (one, other) {
-        (ActRef::Put(value), ActRef::Put(bytes)) => value == bytes,
-        (ActRef::Hit(value), ActRef::Hit(bytes)) => value == bytes,
+        (ActRef::Put(value, expires), ActRef::Put(bytes, time)) => value == bytes
+            && expires == time,
+        (ActRef::Hit(value, moment), ActRef::Hit(bytes, time)) => value == bytes && moment == time,
         (ActRef::Remove, ActRef::Remove) => true,
         (ActRef::Miss, ActRef::Miss) => true,
         _ => false,
@@ -389,9 +393,9 @@ fn has_acts<D: PageDevice<PAGE>, const PAGE: usize>(
 
 fn letter_of(act: ActRef<'_>) -> u8 {
     match act {
-        ActRef::Put(_) => b'p',
+        ActRef::Put(..) => b'p',
         ActRef::Remove => b'r',
-        ActRef::Hit(_) => b'h',
+        ActRef::Hit(..) => b'h',
         ActRef::Miss => b'm',
     }
 }

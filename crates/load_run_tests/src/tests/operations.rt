@@ -4,7 +4,7 @@ use history_recorder::Operation;
 use load::{FileName, Load, next_operation};
 use rand_core::utils::NextWord;
 use rand_pcg::Lcg64Xsh32;
-use record_pages::{Config, Layout};
+use record_pages::{Config, Layout, NEVER};
 use std::alloc::Global;
 use std::test::Fail;
 
@@ -111,7 +111,7 @@ fn small_cache() -> Result<Layout, Fail> {
 }
 
 /// The load of a row, whose numbers are in their ranges.
-fn load_of(alloc: Global, layout: Layout, row: &Row) -> Result<Load, Fail> {
+fn load_of(alloc: Global, layout: Layout, row: &Row, ttl: u32) -> Result<Load, Fail> {
     Ok(Load {
         layout,
         callers: 1,
@@ -122,18 +122,22 @@ fn load_of(alloc: Global, layout: Layout, row: &Row) -> Result<Load, Fail> {
         removes: row.removes.min(100),
         workers: 1,
         seed: 42,
+        ttl: ttl.min(1000000),
         device: None,
         trace: FileName::new(alloc, "t")?,
     })
 }
 
-/// Whether an operation is this.
-fn is(operation: &Operation, does: &Does) -> bool {
+/// Whether an operation is this: a get of this moment, or a put that expires then.
+fn is(operation: &Operation, does: &Does, moment: u64, expires: u64) -> bool {
     match (operation, does) {
-        (Operation::Get(key), Does::Get(name)) => key.bytes() == *name,
+        (Operation::Get(key, at), Does::Get(name)) => key.bytes() == *name && *at == moment,
         (Operation::Remove(key), Does::Remove(name)) => key.bytes() == *name,
-        (Operation::Put(key, value, word), Does::Put(name, bytes, admission)) => {
-            key.bytes() == *name && value.bytes() == *bytes && *word == *admission
+        (Operation::Put(key, value, word, until), Does::Put(name, bytes, admission)) => {
+            key.bytes() == *name
+                && value.bytes() == *bytes
+                && *word == *admission
+                && *until == expires
         }
         _ => false,
     }
@@ -141,10 +145,10 @@ fn is(operation: &Operation, does: &Does) -> bool {
 
 /// Whether the first operation of caller 54 is that of the row.
 fn holds(alloc: Global, layout: Layout, row: &Row) -> Result<bool, Fail> {
-    let load = load_of(alloc, layout, row)?;
+    let load = load_of(alloc, layout, row, 0)?;
     let mut generator = Lcg64Xsh32::new(42, 54);
     let operation = next_operation(alloc, &mut generator, &load, 54, 0)?;
-    Ok(is(&operation, &row.first))
+    Ok(is(&operation, &row.first, 0, NEVER))
 }
 
 #[test]
@@ -166,16 +170,17 @@ fn pass_over(alloc: Global, generator: &mut Lcg64Xsh32, load: &Load, caller: u16
     let _operation = next_operation(alloc, generator, load, caller, number);
 }
 
-/// A put took three words and a get takes two, so the sixth is left.
+/// A put took three words and a get takes two, so the sixth is left. With a time to live of 7 the put of number 0 expires at
+/// 7, and the get of number 1 is made at 1.
 #[test]
 fn operations_go_on_behind_the_words_that_were_drawn(rt: HostRuntime) -> Result<(), Fail> {
     let layout = small_cache()?;
-    let load = load_of(rt.alloc(), layout, &ROWS[3])?;
+    let load = load_of(rt.alloc(), layout, &ROWS[3], 7)?;
     let mut generator = Lcg64Xsh32::new(42, 54);
     let first = next_operation(rt.alloc(), &mut generator, &load, 54, 0)?;
     let second = next_operation(rt.alloc(), &mut generator, &load, 54, 1)?;
-    assert!(rt; is(&first, &ROWS[3].first));
-    assert!(rt; is(&second, &Does::Get(b"k955")));
+    assert!(rt; is(&first, &ROWS[3].first, 0, 7));
+    assert!(rt; is(&second, &Does::Get(b"k955"), 1, 0));
     assert_eq!(rt; generator.next_word(), 0xcbed_606e);
     let mut passed = Lcg64Xsh32::new(42, 54);
     pass_over(rt.alloc(), &mut passed, &load, 54, 0);
@@ -193,10 +198,10 @@ fn value_of(alloc: Global, layout: Layout, value_bytes: u32) -> Result<Vec<u8>, 
         removes: 0,
         first: Does::Get(b""),
     };
-    let load = load_of(alloc, layout, &row)?;
+    let load = load_of(alloc, layout, &row, 0)?;
     let mut generator = Lcg64Xsh32::new(1, 258);
     match next_operation(alloc, &mut generator, &load, 258, 0x0304_0506)? {
-        Operation::Put(_, value, _) => Ok(value.bytes().to_vec(alloc)?),
+        Operation::Put(_, value, ..) => Ok(value.bytes().to_vec(alloc)?),
         _ => Ok(Vec::new(alloc)),
     }
 }

@@ -33,6 +33,7 @@ fn number_of(load: &Load, setting: Setting) -> u32 {
         Setting::Removes => load.removes,
         Setting::Workers => load.workers,
         Setting::Seed => load.seed,
+        Setting::Ttl => load.ttl,
     }
 }
 
@@ -98,14 +99,14 @@ fn each_setting_takes_the_numbers_of_its_range(rt: HostRuntime) -> Result<(), Fa
 }
 
 /// The default of each setting, in their order.
-const DEFAULTS: [u32; 16] = [
-    4, 64, 64, 8, 4, 4096, 2, 65536, 4, 10000, 1000, 100, 70, 5, 2, 1,
+const DEFAULTS: [u32; 17] = [
+    4, 64, 64, 8, 4, 4096, 2, 65536, 4, 10000, 1000, 100, 70, 5, 2, 1, 0,
 ];
 
 #[test]
 fn a_setting_that_is_not_given_is_its_default(rt: HostRuntime) {
     let line = parse_line(rt.alloc(), &["kangaroo", "run", "--trace", "t"]);
-    for place in 0..16usize {
+    for place in 0..17usize {
         assert!(rt; gives(&line, SETTINGS[place], DEFAULTS[place]));
     }
 }
@@ -210,7 +211,7 @@ fn puts_first<'a>(alloc: Global, words: &'a [&'a str]) -> Result<bool, AllocErro
 fn is_first_put(alloc: Global, load: &Load) -> Result<bool, AllocError> {
     let mut generator = Lcg64Xsh32::new(42, 54);
     match next_operation(alloc, &mut generator, load, 54, 0)? {
-        Operation::Put(key, value, word) => Ok(
+        Operation::Put(key, value, word, _) => Ok(
             key.bytes() == b"k0".as_slice() && value.bytes() == FIRST_VALUE && word == 0xba1d_3330,
         ),
         _ => Ok(false),

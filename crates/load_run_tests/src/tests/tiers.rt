@@ -68,11 +68,13 @@ fn step<R: Wait>(
     cache.flush_round(rt, 0);
     let _moved = cache.move_round(rt, 0);
     match operation {
-        Operation::Get(key) => with_answer(tally, cache.get(rt, pass, &key)),
-        Operation::Put(key, value, word) => match cache.put(rt, pass, key, value, word) {
-            Ok(_) => tally,
-            Err(_) => with_refusal(tally),
-        },
+        Operation::Get(key, moment) => with_answer(tally, cache.get(rt, pass, &key, moment)),
+        Operation::Put(key, value, word, expires) => {
+            match cache.put(rt, pass, key, value, word, expires) {
+                Ok(_) => tally,
+                Err(_) => with_refusal(tally),
+            }
+        }
         Operation::Remove(key) => match cache.remove(rt, pass, &key) {
             Ok(()) => tally,
             Err(_) => with_refusal(tally),

@@ -6,7 +6,7 @@ use std::test::Fail;
 /// A script, what it must write, and how it must end.
 type Case = (&'static [u8], &'static [u8], Scripted);
 
-const CALLS: [Case; 7] = [
+const CALLS: [Case; 10] = [
     (
         b"config 1 1 4 2 1 8 1 65536\nput a 1 0\nget a\nget b\nverdict\n",
         b"ready\nstored\nhit 1 memory\nmiss absent\naccepted 3 calls\n",
@@ -32,13 +32,30 @@ const CALLS: [Case; 7] = [
     ),
     (
         b"config 1 1 1 2 1 8 1 65536\nput a 1 0\ntrace\n",
-        b"ready\nstored\n4b475452414345310000000101000000000000000000010000000000000003016100013100000000\n",
+        b"ready\nstored\n4b4754524143453200000001010000000000000000000100000000000000030161000131ffffffffffffffff00000000\n",
         Scripted::Ended,
     ),
     // a hyphen is the empty value
     (
         b"config 1 1 1 2 1 8 1 65536\nput a - 0\ntrace\n",
-        b"ready\nstored\n4b4754524143453100000001010000000000000000000100000000000000030161000000000000\n",
+        b"ready\nstored\n4b47545241434532000000010100000000000000000001000000000000000301610000ffffffffffffffff00000000\n",
+        Scripted::Ended,
+    ),
+    // a pair that has expired is a miss and changes nothing, in memory and in the log
+    (
+        b"config 1 1 1 2 1 8 1 65536\nput ax 1 0 10\nget ax 9\nget ax 10\nget ax\nverdict\n",
+        b"ready\nstored\nhit 1 memory\nmiss expired\nhit 1 memory\naccepted 4 calls\n",
+        Scripted::Ended,
+    ),
+    (
+        b"config 1 1 1 2 1 8 1 65536\nput ax 1 0 10\nput bx 2 0\nget ax 10\nget ax 9\nverdict\n",
+        b"ready\nstored\nstored\nmiss expired\nhit 1 log\naccepted 4 calls\n",
+        Scripted::Ended,
+    ),
+    // what never expires is live at the last moment, and an expired put uncovers no older one
+    (
+        b"config 1 1 2 2 1 8 1 65536\nput ax 1 0 18446744073709551615\nget ax 18446744073709551615\nput ax 2 0 0\nget ax\ntrace\n",
+        b"ready\nstored\nhit 1 memory\nstored\nmiss expired\n4b475452414345320000000401000000000000000000010000000000000003026178000131ffffffffffffffff03000000000000000000040000000000000006026178000131ffffffffffffffff010000000000000000000700000000000000090261780001320000000000000000040000000000000000000a000000000000000c02617800000000000000010000000200000003\n",
         Scripted::Ended,
     ),
     (

@@ -3,10 +3,25 @@ use scripts::{Scripted, run_script};
 use std::alloc::Global;
 use std::test::Fail;
 
-const GOOD: [&[u8]; 4] = [b"put a 1 4294967295", b"put ~ ! 0", b"flush", b"move"];
+const GOOD: [&[u8]; 7] = [
+    b"put a 1 4294967295",
+    b"put ~ ! 0",
+    b"flush",
+    b"move",
+    b"put a 1 0 18446744073709551615",
+    b"get a 18446744073709551615",
+    b"get a",
+];
 
-const BAD: [&[u8]; 21] = [
+const BAD: [&[u8]; 28] = [
     b"put a 1 4294967296",
+    b"put a 1 0 18446744073709551616",
+    b"put a 1 0 never",
+    b"put a 1 0 00",
+    b"put a 1 0 1 2",
+    b"get a 18446744073709551616",
+    b"get a x",
+    b"get a 1 2",
     b"put a 1 10000000000",
     b"put a 1 00",
     b"put a 1 07",

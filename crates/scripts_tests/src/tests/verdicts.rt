@@ -13,7 +13,7 @@ fn a_verdict_comes_from_the_checker(rt: HostRuntime) -> Result<(), Fail> {
         start: 1,
         end: 3,
         key: Key::new(alloc, b"a")?,
-        act: Act::Hit(Value::new(alloc, b"1")?),
+        act: Act::Hit(Value::new(alloc, b"1")?, 0),
     })?;
     let mut certificate = Certificate::new(alloc);
     certificate.push(0)?;

@@ -75,7 +75,7 @@ fn is_put<R: Wait>(rt: &R, alloc: Global, cache: &Apart, pass: &mut Pass, name: 
     let (Some(key), Some(value)) = (key(alloc, name), value(alloc, b"v")) else {
         return false;
     };
-    cache.put(rt, pass, key, value, 0).is_ok()
+    cache.put(rt, pass, key, value, 0, NEVER).is_ok()
 }
 
 // Whether a round of a lane does what is written beside it.

@@ -97,14 +97,14 @@ fn call<R: Wait>(
         return refused(tally);
     };
     match (drawn >> 41) % 10 {
-        0..=4 => after_get(cache.get(rt, pass, &key), tally),
+        0..=4 => after_get(cache.get(rt, pass, &key, 0), tally),
         5 => after_remove(cache.remove(rt, pass, &key), tally),
         _ => {
             let Ok(value) = Value::new(alloc, &drawn.to_be_bytes()) else {
                 return refused(tally);
             };
             let word = ((drawn >> 17) % 65536) as u32;
-            after_put(cache.put(rt, pass, key, value, word), tally)
+            after_put(cache.put(rt, pass, key, value, word, NEVER), tally)
         }
     }
 }

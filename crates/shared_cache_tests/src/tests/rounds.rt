@@ -1,8 +1,10 @@
 //! What the rounds do.
 use super::*;
 
-// An older value of a key moves to its page first, then the newer one takes its place there.
-const TWICE_WRITTEN: [Step; 12] = [
+// A value that has expired is replaced. An older value of a key moves to its page first, then the newer one takes its place there.
+const TWICE_WRITTEN: [Step; 14] = [
+    Step::PutUntil(b"ax", 5, Pushed::Nobody),
+    Step::Get(b"ax", Found::Expired),
     Step::Put(b"ax", b"1", Pushed::Nobody),
     Step::Put(b"bx", b"2", Pushed::Logged),
     Step::Flush(Flushed::Sealed),
@@ -24,7 +26,7 @@ fn the_rounds_bring_a_value_to_its_page(rt: HostRuntime) -> Result<(), Fail> {
     let ran = run(&rt, alloc, &cache, only(&cache, passes)?, &TWICE_WRITTEN);
     assert_eq!(rt; ran.strayed, None);
     let ended = cache.finish(&rt, listed(alloc, ran.pass)?);
-    assert_eq!(rt; accepted(alloc, ended)?, Some(5));
+    assert_eq!(rt; accepted(alloc, ended)?, Some(7));
     Ok(())
 }
 

@@ -13,6 +13,7 @@ pub enum Found {
     Log(&'static [u8]),
     Set(&'static [u8]),
     Absent,
+    Expired,
 }
 
 /// A call of a cache, and what it gives.
@@ -22,7 +23,9 @@ pub enum Step {
     Put(&'static [u8], &'static [u8], Pushed),
     /// A key, the word that decides of the pair that leaves memory, and what becomes of that.
     PutBy(&'static [u8], u32, Pushed),
-    /// A key, and what is found of it.
+    /// A key, when its value expires, and what becomes of the pair that leaves memory.
+    PutUntil(&'static [u8], u64, Pushed),
+    /// A key, and what is found of it at moment 5.
     Get(&'static [u8], Found),
     /// A key.
     Remove(&'static [u8]),
@@ -78,10 +81,13 @@ fn gives<D: PageDevice<PAGE>, P: EvictionPolicy + Drop, const PAGE: usize, R: Wa
     ensures { pass.new.sight.clock ≡ cache.now.clock }
 {
     match step {
-        Step::Put(name, bytes, wanted) => puts(rt, alloc, cache, pass, name, bytes, 0)
+        Step::Put(name, bytes, wanted) => puts(rt, alloc, cache, pass, name, bytes, 0, NEVER)
             == Some(*wanted),
-        Step::PutBy(name, word, wanted) => puts(rt, alloc, cache, pass, name, b"v", *word)
+        Step::PutBy(name, word, wanted) => puts(rt, alloc, cache, pass, name, b"v", *word, NEVER)
             == Some(*wanted),
+        Step::PutUntil(name, expires, wanted) => puts(
+            rt, alloc, cache, pass, name, b"v", 0, *expires,
+        ) == Some(*wanted),
         Step::Get(name, wanted) => is_found(&gets(rt, alloc, cache, pass, name), wanted),
         Step::Remove(name) => removes(rt, alloc, cache, pass, name),
         Step::Flush(wanted) => cache.flush_round(rt, 0) == *wanted,
@@ -91,7 +97,7 @@ fn gives<D: PageDevice<PAGE>, P: EvictionPolicy + Drop, const PAGE: usize, R: Wa
     }
 }
 
-// Puts a pair by this word, once more where memory was refused.
+// Puts a pair by this word and with this expiry, once more where memory was refused.
 fn puts<D: PageDevice<PAGE>, P: EvictionPolicy + Drop, const PAGE: usize, R: Wait>(
     rt: &R,
     alloc: Global,
@@ -100,23 +106,38 @@ fn puts<D: PageDevice<PAGE>, P: EvictionPolicy + Drop, const PAGE: usize, R: Wai
     name: &[u8],
     bytes: &[u8],
     word: u32,
+    expires: u64,
 ) -> Option<Pushed>
     requires { pass.old.sight.clock ≡ cache.now.clock }
     ensures { pass.new.sight.clock ≡ cache.now.clock }
 {
-    let first = cache.put(rt, pass, key(alloc, name)?, value(alloc, bytes)?, word);
+    let first = cache.put(
+        rt,
+        pass,
+        key(alloc, name)?,
+        value(alloc, bytes)?,
+        word,
+        expires,
+    );
     match first {
         Ok(pushed) => Some(pushed),
         Err(CallFault::OutOfMemory) => {
             cache
-                .put(rt, pass, key(alloc, name)?, value(alloc, bytes)?, word)
+                .put(
+                    rt,
+                    pass,
+                    key(alloc, name)?,
+                    value(alloc, bytes)?,
+                    word,
+                    expires,
+                )
                 .ok()
         }
         Err(_) => None,
     }
 }
 
-// Looks a key up, once more where memory was refused.
+// Looks a key up at moment 5, once more where memory was refused.
 fn gets<D: PageDevice<PAGE>, P: EvictionPolicy + Drop, const PAGE: usize, R: Wait>(
     rt: &R,
     alloc: Global,
@@ -130,8 +151,8 @@ fn gets<D: PageDevice<PAGE>, P: EvictionPolicy + Drop, const PAGE: usize, R: Wai
     let Some(key) = key(alloc, name) else {
         return Err(CallFault::OutOfMemory);
     };
-    match cache.get(rt, pass, &key) {
-        Err(CallFault::OutOfMemory) => cache.get(rt, pass, &key),
+    match cache.get(rt, pass, &key, 5) {
+        Err(CallFault::OutOfMemory) => cache.get(rt, pass, &key, 5),
         Ok(answer) => Ok(answer),
         Err(fault) => Err(fault),
     }
@@ -209,6 +230,7 @@ fn is_found(answer: &Result<Answer, CallFault>, wanted: &Found) -> bool {
         (Ok(Answer::Hit(value, Tier::Log)), Found::Log(bytes)) => value.bytes() == *bytes,
         (Ok(Answer::Hit(value, Tier::Set)), Found::Set(bytes)) => value.bytes() == *bytes,
         (Ok(Answer::Miss(MissCause::Absent)), Found::Absent) => true,
+        (Ok(Answer::Miss(MissCause::Expired)), Found::Expired) => true,
         _ => false,
     }
 }

@@ -7,11 +7,11 @@ use std::io::{Error, ErrorKind, Read, Write};
 use std::test::Fail;
 use trace_file::{Trace, TraceFault, TraceReader, WriteTraceFault, read_trace, write_trace};
 
-/// How many calls the long trace has, each with 2,325 bytes, and with 4 bytes of the certificate.
+/// How many calls the long trace has, each with 2,333 bytes, and with 4 bytes of the certificate.
 const CALLS: u32 = 100;
 
 /// How many bytes it has.
-const LONG: usize = 12 + 100 * 2329;
+const LONG: usize = 12 + 100 * 2337;
 
 /// A header that counts as many calls as a trace may have, 268,435,456.
 const MOST: [u8; 12] = *b"KGTRACE1\x10\x00\x00\x00";
@@ -98,10 +98,10 @@ fn a_piece_is_read_at_a_time_and_no_read_follows_a_failed_one_or_a_fault(
     let long = written(rt.alloc(), &trace)?;
     assert_eq!(rt; long.len(), LONG);
     let table: [(&[u8], u32, u32, Option<TraceFault>); 9] = [
-        (&long, 0, 58, None),
+        (&long, 0, 59, None),
         (&long, 1, 1, Some(TraceFault::ReadFault { at: 0 })),
         (&long, 30, 30, Some(TraceFault::ReadFault { at: 118_784 })),
-        (&long, 58, 58, Some(TraceFault::ReadFault { at: 232_912 })),
+        (&long, 59, 59, Some(TraceFault::ReadFault { at: 233_712 })),
         (&MOST, 0, 2, Some(TraceFault::Truncated { at: 12 })),
         (&MOST, 2, 2, Some(TraceFault::ReadFault { at: 12 })),
         (b"KGTRACE9", 0, 1, Some(TraceFault::BadMagic { at: 7 })),
@@ -144,7 +144,7 @@ fn is_written(trace: &Trace, row: &Writes) -> bool {
 // Three calls are written at a time, and the last one with the certificate.
 const WRITES: [Writes; 6] = [
     Writes(0, usize::MAX, 34, None),
-    Writes(0, 1, 232_912, None),
+    Writes(0, 1, 233_712, None),
     Writes(1, usize::MAX, 1, Some(WriteTraceFault::WriteFault)),
     Writes(17, usize::MAX, 17, Some(WriteTraceFault::WriteFault)),
     Writes(34, usize::MAX, 34, Some(WriteTraceFault::WriteFault)),

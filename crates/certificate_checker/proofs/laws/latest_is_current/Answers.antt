@@ -3,4 +3,4 @@ use Rattle.certificate_checker.proofs.LatestLemmas.{latest_found, latest_is}
 use Rattle.certificate_checker.proofs.laws.latest_is_current.Goals as goal
 
 pub returns : goal.returns
-returns c = λ deeds key value. (latest_found key value deeds, latest_is key value deeds)
+returns c = λ deeds key latest. (latest_found key latest deeds, latest_is key latest deeds)

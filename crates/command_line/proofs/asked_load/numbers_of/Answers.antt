@@ -10,7 +10,7 @@ use Rattle.command_line.specs.CommandLine.{number_found}
 use Rattle.command_line.proofs.FoundLaws.{lacks}
 use Rattle.command_line.proofs.asked_load.numbers_of.Goals as goal
 
-one_more : (f : Setting → Option ℕ) (numbers : List ℕ) (place n : ℕ) → length numbers ≡ 16 → place < 16 → map f (take place settings) ≡ map Some (take place numbers) → Some n ≡ f (get_or settings place Lanes) → map f (take (place + 1) settings) ≡ map Some (take (place + 1) (set numbers place n))
+one_more : (f : Setting → Option ℕ) (numbers : List ℕ) (place n : ℕ) → length numbers ≡ 17 → place < 17 → map f (take place settings) ≡ map Some (take place numbers) → Some n ≡ f (get_or settings place Lanes) → map f (take (place + 1) settings) ≡ map Some (take (place + 1) (set numbers place n))
 one_more f numbers place n len less before is =
     map_more f settings place Lanes less
     ∙ ap₂ (λ front last. front ++ last ∷ []) before (sym is)

@@ -6,4 +6,4 @@ use Rattle.command_line.specs.CommandLine.{number_found}
 use Rattle.command_line.proofs.asked_load.numbers_of.Given as goal
 
 abbrev pub invariant-loop-place : goal.invariant-loop-place
-invariant-loop-place l = (length l.numbers ≡ 16) × (map (number_found (rows_of (found_of l.found))) (take l.place settings) ≡ map Some (take l.place l.numbers))
+invariant-loop-place l = (length l.numbers ≡ 17) × (map (number_found (rows_of (found_of l.found))) (take l.place settings) ≡ map Some (take l.place l.numbers))

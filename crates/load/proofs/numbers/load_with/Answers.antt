@@ -1,5 +1,5 @@
 -- Each number of the load is in its setting's range.
-use Rattle.load.specs.declared.setting.Setting.TheVariants.{Callers, Operations, Keys, ValueBytes, Gets, Removes, Workers}
+use Rattle.load.specs.declared.setting.Setting.TheVariants.{Callers, Operations, Keys, ValueBytes, Gets, Removes, Workers, Ttl}
 use Rattle.load.proofs.Ranges.{within}
 use Rattle.load.proofs.numbers.load_with.Goals as goal
 
@@ -14,4 +14,5 @@ invariant_of-result c =
       gets_range = (within numbers Gets c.requires).1;
       removes_range = (within numbers Removes c.requires).1;
       workers_range = within numbers Workers c.requires;
+      ttl_range = (within numbers Ttl c.requires).1;
     }

@@ -10,4 +10,4 @@ pub returns-in_ok-append-in-Err-HistoryFull-clause-lane : goal.returns-in_ok-app
 returns-in_ok-append-in-Err-HistoryFull-clause-lane g c =
     let said = c.in-Err-HistoryFull.ensures in
     let o = seen_of c.args.lane.now in
-    refused_full c.args.lane.now c.get.new.self (reply_to_get o c.args.key.now (get_step c.args.key.now 0 o.lane)) (said.full.0 (ap Err c.in-Err-HistoryFull.field-0-is)) (said.full_keeps (ap Err c.in-Err-HistoryFull.field-0-is))
+    refused_full c.args.lane.now c.get.new.self (reply_to_get o c.args.key.now c.args.moment (get_step c.args.key.now c.args.moment o.lane)) (said.full.0 (ap Err c.in-Err-HistoryFull.field-0-is)) (said.full_keeps (ap Err c.in-Err-HistoryFull.field-0-is))

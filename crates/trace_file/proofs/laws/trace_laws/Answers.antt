@@ -9,7 +9,10 @@ pub returns-clause-exactly : goal.returns-clause-exactly
 returns-clause-exactly c = told.exactly
 
 pub returns-clause-one_text : goal.returns-clause-one_text
-returns-clause-one_text c = λ bytes others h p a b. a.text ∙ sym b.text
+returns-clause-one_text c = λ version bytes others h p a b. a.text ∙ sym b.text
+
+pub returns-clause-one_version : goal.returns-clause-one_version
+returns-clause-one_version c = told.one_version
 
 pub returns-clause-one_pair : goal.returns-clause-one_pair
 returns-clause-one_pair c = told.one_pair

@@ -21,5 +21,5 @@ pub returns-in-Err-clause-err : goal.returns-in-Err-clause-err
 returns-in-Err-clause-err c =
     let here : shown c.new-cursor.result ≡ place c.args.at c.args.pending.now.items = c.new-cursor.ensures ∙ ap (place c.args.at) c.as_slice.ensures.value in
     let t = c.args.taken.now in
-    let fails = subst (λ (p : Place). FailsAs c.in-Err.fault (read_behind t.count t.history t.certificate p)) here c.in-Err.ensures.err in
+    let fails = subst (λ (p : Place). FailsAs c.in-Err.fault (read_behind t.header t.history t.certificate p)) here c.in-Err.ensures.err in
     fault_in c.requires c.in-Err.fault fails
