@@ -2,7 +2,7 @@
 use Rattle.std.proofs.Common.{◌≡◌, ℕ, zero, suc, Some, None, slice_get, slice_set, inl, inr, ◌+◌, ◌-◌, ◌<◌, ◌≤◌, Bool, true, false, ◌||◌, cond, ltb, List, [], ◌∷◌, ◌++◌, length, take, get_or, set, refl, sym, ap, ◌∙◌, arith}
 use Rattle.std.proofs.lemmas.Bool.{ltb-true, and_parts, cases_lt, cases_eq, cond_both}
 use Rattle.std.proofs.lemmas.List.{length-take-le, length-set, get_or-take, take_more_set, set_at, get_or_default, take_more, get_or_past, get_or-set_same, get_or-set_other, get_or_append_left, get_or_at, length_push}
-use Rattle.record_pages.specs.Recs.{Rec, fit}
+use Rattle.record_pages.specs.Recs.{Rec, fit_log}
 use Rattle.klog.specs.Buffer.{Buffer, page_of, record_in, pages_with, fits_here, can_add, page_for, slot_for}
 
 -- a record was pushed
@@ -93,7 +93,7 @@ added_at size pages r = by_cases (fits_here size pages r) refl
   where
     by_cases : (t : Bool) → fits_here size pages r ≡ t → record_in (pages_with size pages r) (page_for size pages r) (slot_for size pages r) ≡ Some r
     by_cases true e =
-        let some = and_parts (ltb 0 (length pages)) (fit size (page_of pages (length pages - 1) ++ r ∷ [])) e in
+        let some = and_parts (ltb 0 (length pages)) (fit_log size (page_of pages (length pages - 1) ++ r ∷ [])) e in
         let lt : length pages - 1 < length pages = omega (arith, ltb-true 0 (length pages) some.0) in
         let at = length pages - 1 in
         let p = page_of pages at in

@@ -4,8 +4,8 @@ use Rattle.std.specs.Prelude.{IsSome, sum_by}
 use Rattle.std.proofs.lemmas.Bool.{and_parts, and_from, or_cases, or_left, or_right, ltb-true, leb-true, lt-ltb, le-leb, false≢true}
 use Rattle.std.proofs.lemmas.List.{length_push}
 use Rattle.std.proofs.lemmas.List.Sums.{sum_by-cons, sum_by_push}
-use Rattle.record_pages.specs.Recs.{Rec, size, sizes, fit}
-use Rattle.record_pages.specs.Sizes.{room, max_records}
+use Rattle.record_pages.specs.Recs.{Rec, size, sizes, fit_log}
+use Rattle.record_pages.specs.Sizes.{room, max_log_records}
 use Rattle.klog_index.specs.declared.entry.Entry.{Entry}
 use Rattle.klog.specs.Buffer.{page_of, fits_here, can_add}
 use Rattle.klog.specs.Log.{LogState, filling_buffer}
@@ -27,18 +27,18 @@ sum-numbered f h g same n (x ∷ xs) =
 -- ---- a page
 
 -- records fit with one more where the page takes it
-page_takes : (bytes : ℕ) (r : Rec) (rs : List Rec) (xs : List LogRecord) → sum_by bytes_of xs ≡ sizes rs → length xs ≡ length rs → fit bytes (rs ++ r ∷ []) ≡ true → TakesOneMore bytes r xs
+page_takes : (bytes : ℕ) (r : Rec) (rs : List Rec) (xs : List LogRecord) → sum_by bytes_of xs ≡ sizes rs → length xs ≡ length rs → fit_log bytes (rs ++ r ∷ []) ≡ true → TakesOneMore bytes r xs
 page_takes bytes r rs xs sums count fits =
-    let both = and_parts (leb (sizes (rs ++ r ∷ [])) (room bytes)) (leb (length (rs ++ r ∷ [])) max_records) fits in
+    let both = and_parts (leb (sizes (rs ++ r ∷ [])) (room bytes)) (leb (length (rs ++ r ∷ [])) max_log_records) fits in
     let small : sizes (rs ++ r ∷ []) ≤ room bytes = leb-true (sizes (rs ++ r ∷ [])) (room bytes) both.0 in
-    let few : length (rs ++ r ∷ []) ≤ max_records = leb-true (length (rs ++ r ∷ [])) max_records both.1 in
+    let few : length (rs ++ r ∷ []) ≤ max_log_records = leb-true (length (rs ++ r ∷ [])) max_log_records both.1 in
     record { fits = omega (arith, small, sums, sum_by_push size rs r); few = omega (arith, few, count, length_push rs r) }
 
-page_fits : (bytes : ℕ) (r : Rec) (rs : List Rec) (xs : List LogRecord) → sum_by bytes_of xs ≡ sizes rs → length xs ≡ length rs → TakesOneMore bytes r xs → fit bytes (rs ++ r ∷ []) ≡ true
+page_fits : (bytes : ℕ) (r : Rec) (rs : List Rec) (xs : List LogRecord) → sum_by bytes_of xs ≡ sizes rs → length xs ≡ length rs → TakesOneMore bytes r xs → fit_log bytes (rs ++ r ∷ []) ≡ true
 page_fits bytes r rs xs sums count takes =
-    and_from (leb (sizes (rs ++ r ∷ [])) (room bytes)) (leb (length (rs ++ r ∷ [])) max_records)
+    and_from (leb (sizes (rs ++ r ∷ [])) (room bytes)) (leb (length (rs ++ r ∷ [])) max_log_records)
     (le-leb (sizes (rs ++ r ∷ [])) (room bytes) (omega (arith, takes.fits, sums, sum_by_push size rs r)))
-    (le-leb (length (rs ++ r ∷ [])) max_records (omega (arith, takes.few, count, length_push rs r)))
+    (le-leb (length (rs ++ r ∷ [])) max_log_records (omega (arith, takes.few, count, length_push rs r)))
 
 -- ---- a segment in memory
 
@@ -76,7 +76,7 @@ takes_where bytes count k r n pages can =
     let last : List Rec = page_of pages (length pages - 1) in
     elim (or_cases (fits_here bytes pages r) (ltb (length pages) count) can) [
       | inl here ↦
-          let both = and_parts (ltb 0 (length pages)) (fit bytes (last ++ r ∷ [])) here in
+          let both = and_parts (ltb 0 (length pages)) (fit_log bytes (last ++ r ∷ [])) here in
           let some : 0 < length pages = ltb-true 0 (length pages) both.0 in
           inl (omega (arith, some, same), page_takes bytes r last (last_page (buffered_segment k n pages)) (last_bytes k n pages) (last_records k n pages) both.1)
       | inr more ↦ let lt : length pages < count = ltb-true (length pages) count more in inr (omega (arith, lt, same))
@@ -90,7 +90,7 @@ can_where bytes count k r n pages takes =
       | inl here ↦
           let some = here.0 in
           or_left (fits_here bytes pages r) (ltb (length pages) count)
-          (and_from (ltb 0 (length pages)) (fit bytes (last ++ r ∷ [])) (lt-ltb 0 (length pages) (omega (arith, some, same)))
+          (and_from (ltb 0 (length pages)) (fit_log bytes (last ++ r ∷ [])) (lt-ltb 0 (length pages) (omega (arith, some, same)))
           (page_fits bytes r last (last_page (buffered_segment k n pages)) (last_bytes k n pages) (last_records k n pages) here.1))
       | inr more ↦ or_right (fits_here bytes pages r) (ltb (length pages) count) (lt-ltb (length pages) count (omega (arith, more, same)))
     ]

@@ -2,7 +2,7 @@
 use Rattle.std.specs.Prelude.{◌≡◌, ◌≢◌, ◌⊎◌, ◌↔◌, ℕ, ◌+◌, ◌-◌, ◌<◌, ◌≤◌, ◌^◌, List, [], ◌∷◌, ◌++◌, length, map, take, reverse, filter, count_by, sum_by, slice_get, All, Option, Some, IsSome, MatchOption, true}
 use Rattle.std.specs.Option.{option_map}
 use Rattle.record_pages.specs.Recs.{Rec, size}
-use Rattle.record_pages.specs.Sizes.{object_size, room, max_records}
+use Rattle.record_pages.specs.Sizes.{object_size, room, max_log_records}
 use Rattle.klog_index.specs.Entries.{is_of}
 use Rattle.klog.specs.declared.oldest.Oldest.{Oldest}
 use Rattle.klog.specs.declared.oldest.Oldest.TheVariants as oldest
@@ -98,7 +98,7 @@ bytes_of x = object_size x.key x.value.value
 -- a page of so many bytes, with these records, live or dead, takes this one too: its bytes fit, and there are not too many
 pub record TakesOneMore (bytes : ℕ) (r : Rec) (records : List LogRecord) : Type 0 where
   pub fits : sum_by bytes_of records + size r ≤ room bytes
-  pub few : length records < max_records
+  pub few : length records < max_log_records
 
 -- a segment that may have so many pages takes the record: on its last page, or on one page more
 abbrev pub Takes : ℕ → ℕ → Rec → Segment → Type 0

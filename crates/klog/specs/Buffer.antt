@@ -1,6 +1,6 @@
 -- A segment in the making: its pages, each a list of records, none of them empty.
 use Rattle.std.specs.Prelude.{ℕ, ◌-◌, List, [], ◌∷◌, ◌++◌, length, Option, Bool, ◌&&◌, ◌||◌, nat_lt, slice_index_or, slice_get, slice_set, if◌then◌else◌}
-use Rattle.record_pages.specs.Recs.{Rec, fit}
+use Rattle.record_pages.specs.Recs.{Rec, fit_log}
 
 -- pages of records, and how many pages there may be
 pub record Buffer : Type 0 where
@@ -21,7 +21,7 @@ record_in pages page slot = slice_get (page_of pages page) slot
 
 -- the record fits on the current page, the last one, of pages of this many bytes
 abbrev pub fits_here : ℕ → List (List Rec) → Rec → Bool
-fits_here size pages r = nat_lt 0 (length pages) && fit size (page_of pages (length pages - 1) ++ r ∷ [])
+fits_here size pages r = nat_lt 0 (length pages) && fit_log size (page_of pages (length pages - 1) ++ r ∷ [])
 
 -- the record goes on the current page where it fits there, else on the next one, where there may be one
 abbrev pub can_add : ℕ → Buffer → Rec → Bool

@@ -1,7 +1,7 @@
 // A segment in the making.
 ghost use Rattle.std.specs.Prelude.{◌≡◌, ◌<◌, ◌≤◌, ◌↔◌, [], length, take, IfOk, IfSome, IfNone, IsTrue, true, false};
 ghost use Rattle.std.specs.Bool.{OnTrue};
-ghost use Rattle.record_pages.specs.Sizes.{IsPageSize, room, max_records};
+ghost use Rattle.record_pages.specs.Sizes.{IsPageSize, room, max_log_records};
 ghost use Rattle.record_pages.specs.Recs.{IsRecord, size};
 ghost use Rattle.record_pages.specs.Lent.{record_shown};
 ghost use Rattle.klog.specs.Buffer.{Buffer, empty_buffer, can_add, pages_with, page_for, slot_for, page_of, fits_here};
@@ -102,7 +102,7 @@ impl<const PAGE: usize> SegmentBuffer<PAGE> {
             })
             × (at.page ≡ page_for PAGE self.old.pages (record_shown added.entry))
             × (at.slot ≡ slot_for PAGE self.old.pages (record_shown added.entry))) }
-        ensures within { IfSome result (λ at. (at.page < self.old.room) × (at.slot < max_records)) }
+        ensures within { IfSome result (λ at. (at.page < self.old.room) × (at.slot < max_log_records)) }
         ensures none { IfNone result
             ((can_add PAGE self.old (record_shown added.entry) ≡ false) × (self.new ≡ self.old)) }
     {

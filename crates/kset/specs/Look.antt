@@ -3,7 +3,7 @@ use Rattle.std.specs.Prelude.{◌≡◌, ◌<◌, ℕ, List, Some, None, IsSomeA
 use Rattle.std.specs.declared.alloc.AllocError.{AllocError}
 use Rattle.record_pages.specs.Expiry.{value_at}
 use Rattle.record_pages.specs.Recs.{Rec}
-use Rattle.record_pages.specs.Sizes.{max_records}
+use Rattle.record_pages.specs.Sizes.{max_set_records}
 use Rattle.kset.specs.declared.looked.Looked.{Looked}
 use Rattle.kset.specs.declared.looked.Looked.TheVariants as looked
 use Rattle.kset.specs.Sets.{SetsState, hit_in}
@@ -17,7 +17,7 @@ is_set_fault _ = false
 -- one slot of the page is noted as hit
 pub record NotesSlot (old : SetsState) (set : ℕ) (new : SetsState) : Type 0 where
   pub slot : ℕ
-  pub within : slot < max_records
+  pub within : slot < max_set_records
   pub noted : new ≡ hit_in old set slot
 
 -- a hit notes a slot as hit; else nothing changes

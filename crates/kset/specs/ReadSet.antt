@@ -2,7 +2,7 @@
 use Rattle.std.specs.Prelude.{◌≡◌, ◌≤◌, ℕ, List, length, Bool, true, false, Result, Ok, Err}
 use Rattle.std.specs.declared.alloc.AllocError.{AllocError}
 use Rattle.page_device.specs.Device.{faults_after}
-use Rattle.record_pages.specs.Sizes.{max_records}
+use Rattle.record_pages.specs.Sizes.{max_set_records}
 use Rattle.kset.specs.declared.set_record.SetRecord.{SetRecord}
 use Rattle.kset.specs.declared.set_read.SetRead.{SetRead}
 use Rattle.kset.specs.declared.set_read.SetRead.TheVariants as reads
@@ -16,7 +16,7 @@ is_set_lost _ = false
 -- where the page was lost the set is forgotten; else nothing changes, and no more records are read than a page holds
 abbrev pub SetReadLeaves : SetsState → ℕ → Result SetRead AllocError → SetsState → Type 0
 SetReadLeaves old set (Ok reads.PageLost) new = new ≡ forgotten old set
-SetReadLeaves old set (Ok (reads.Records rs)) new = (new ≡ old) × (length rs ≤ max_records)
+SetReadLeaves old set (Ok (reads.Records rs)) new = (new ≡ old) × (length rs ≤ max_set_records)
 SetReadLeaves old set (Err e) new = new ≡ old
 
 -- the records that are read are these; or the device failed, as its count of failures before and after tells

@@ -3,7 +3,7 @@ use Rattle.std.specs.Prelude.{◌≡◌, ◌<◌, ◌==◌, ℕ, List, Option, S
 use Rattle.record_pages.specs.Expiry.{value_at}
 use Rattle.record_pages.specs.PageText.{SetPageParts}
 use Rattle.record_pages.specs.Looking.{first_with}
-use Rattle.record_pages.specs.Sizes.{max_records}
+use Rattle.record_pages.specs.Sizes.{max_set_records}
 use Rattle.kset.specs.declared.page.Told.{Told}
 use Rattle.kset.specs.declared.page.Told.TheVariants as told
 
@@ -19,7 +19,7 @@ SetPageTells key moment None (told.Found slot value) = ⊥
 SetPageTells key moment (Some p) told.Damaged = ⊥
 SetPageTells key moment (Some p) told.Absent = first_with key p.records ≡ None
 SetPageTells key moment (Some p) (told.Found slot value) =
-    (slot < max_records) × IsSomeAnd (first_with key p.records) (λ x. (x.0 ≡ slot) × (value_at moment x.1.value ≡ value))
+    (slot < max_set_records) × IsSomeAnd (first_with key p.records) (λ x. (x.0 ≡ slot) × (value_at moment x.1.value ≡ value))
 
 -- there is a page, and a record of it has the key
 abbrev pub HasKey : List ℕ → Option SetPageParts → Type 0

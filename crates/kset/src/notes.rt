@@ -3,7 +3,7 @@ ghost use Rattle.std.specs.Prelude.{◌≡◌, ◌<◌, ◌↔◌, IsTrue};
 ghost use Rattle.std.specs.FinSet as set;
 ghost use Rattle.bloom.specs.Filter.{with_bits};
 ghost use Rattle.set_hash.specs.Place.{probes_of};
-ghost use Rattle.record_pages.specs.Sizes.{max_records};
+ghost use Rattle.record_pages.specs.Sizes.{max_set_records};
 ghost use Rattle.kset.specs.Notes.{Notes, notes_code, no_notes, lets_show, struck, with_hit, notes_of_page};
 
 use crate::strikes::Strikes;
@@ -92,7 +92,7 @@ impl SetNotes {
 
     /// Notes a hit.
     pub(crate) fn hit(&mut self, slot: usize)
-        requires { slot < max_records }
+        requires { slot < max_set_records }
         ensures { self.new ≡ with_hit self.old slot }
     {
         self.hits.set(slot);
@@ -100,7 +100,7 @@ impl SetNotes {
 
     /// Whether a slot was hit.
     pub(crate) fn was_hit(&self, slot: usize) -> bool
-        requires { slot < max_records }
+        requires { slot < max_set_records }
         ensures { result ≡ set.contains self.now.hits slot }
     {
         self.hits.has(slot)

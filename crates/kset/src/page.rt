@@ -1,6 +1,6 @@
 // What a set's page says.
 ghost use Rattle.std.specs.Prelude.{◌≡◌, ◌≤◌, ◌<◌, IfOk, OnErr, IfSome, length};
-ghost use Rattle.record_pages.specs.Sizes.{max_records};
+ghost use Rattle.record_pages.specs.Sizes.{max_set_records};
 ghost use Rattle.record_pages.specs.Reading.{set_page_at};
 ghost use Rattle.kset.specs.Telling.{page_if_of, SetPageTells, HasKey};
 
@@ -21,7 +21,7 @@ pub(crate) enum Told {
 /// The page that these bytes spell, where it is the page of this set.
 pub(crate) fn page_of<const PAGE: usize>(bytes: &[u8; PAGE], set: u32) -> Option<SetPage<'_>>
     ensures page { result ≡ page_if_of set (set_page_at bytes.now) }
-    ensures few { IfSome result (λ p. length p.records ≤ max_records) }
+    ensures few { IfSome result (λ p. length p.records ≤ max_set_records) }
 {
     let page = SetPage::read(bytes)?;
     if page.set() != set {

@@ -5,7 +5,7 @@ ghost use Rattle.std.specs.List.{enumerate_from};
 ghost use Rattle.std.specs.FinSet as bits;
 ghost use Rattle.page_device.specs.Frames.{pages_from};
 ghost use Rattle.page_device.specs.Lending.{OnlyReads, ReadsOrStops, OnlyWrites};
-ghost use Rattle.record_pages.specs.Sizes.{IsPageSize, max_records};
+ghost use Rattle.record_pages.specs.Sizes.{IsPageSize, max_set_records};
 ghost use Rattle.record_pages.specs.Recs.{Rec};
 ghost use Rattle.record_pages.specs.PageText.{set_page_text};
 ghost use Rattle.set_hash.specs.Fnv.{fnv1a};
@@ -273,7 +273,7 @@ impl<const PAGE: usize> KSet<PAGE> {
     // Notes a hit in a slot of a set.
     fn hit(&mut self, set: u32, slot: usize)
         requires set { set < set_count self.old }
-        requires slot { slot < max_records }
+        requires slot { slot < max_set_records }
         ensures { self.new ≡ hit_in self.old set slot }
     {
         self.sets[set as usize].hit(slot);
@@ -295,10 +295,10 @@ fn visible(
     notes: &SetNotes,
     mut records: Records<'_>,
 ) -> Result<SetRecords, AllocError>
-    requires { length records ≤ max_records }
+    requires { length records ≤ max_set_records }
     ensures visible { IfOk result (λ rs.
         rs ≡ with_flags notes.now (visible_from notes.now 0 records.entry)) }
-    ensures few { IfOk result (λ rs. length rs ≤ max_records) }
+    ensures few { IfOk result (λ rs. length rs ≤ max_set_records) }
     ensures short { OnErr result (visible_from notes.now 0 records.entry ≢ []) }
 {
     let mut visible = SetRecords::new(alloc);

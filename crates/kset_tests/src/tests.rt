@@ -13,7 +13,7 @@ use self::owner::Owner;
 use self::step::{Listed, Step, run};
 use kset::{KSet, Looked, Rewritten, SetRead, SetRecord};
 use page_device::{FuseDevice, MemoryDevice, PageDevice};
-use record_pages::{Config, Key, Layout, MAX_RECORDS, Prediction, Record, SetPageWriter};
+use record_pages::{Config, Key, Layout, MAX_SET_RECORDS, Prediction, Record, SetPageWriter};
 use std::alloc::{AllocError, Global};
 use std::process::Abort;
 use std::test::Fail;

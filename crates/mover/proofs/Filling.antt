@@ -10,7 +10,7 @@ use Rattle.std.proofs.lemmas.List.Elements.{All-head, All-tail}
 use Rattle.std.proofs.lemmas.List.Sums.{sum_by-take-le}
 use Rattle.std.proofs.lemmas.Option.{get_or_from_slice_get, slice_get_within, slice_get-get_or, slice_get-map, none-some}
 use Rattle.record_pages.specs.Expiry.{lasting}
-use Rattle.record_pages.specs.Sizes.{room}
+use Rattle.record_pages.specs.Sizes.{room, max_set_records}
 use Rattle.record_pages.specs.Recs.{Rec, rec, size, sizes, fit}
 use Rattle.policy_laws.specs.declared.item.Item.{Item}
 use Rattle.policy_laws.specs.declared.choice.Choice.{Choice}
@@ -115,7 +115,7 @@ next_fits page moving plan p n c r old is at passes so_far this =
     let few = is.few in
     let count = length-map front q in
     subst (λ rs. IsTrue (fit page rs)) (sym now) (and_from _ _ (le-leb (sizes (map q front)) (room page) (omega (arith, sum, kept, taken, whole, within)))
-    (le-leb (length (map q front)) 64 (omega (arith, long, longer, few, count))))
+    (le-leb (length (map q front)) max_set_records (omega (arith, long, longer, few, count))))
 
 -- the record of a choice, with its prediction, is what the choice plans
 pub planned_as : (moving : Moving) (c : Choice) (x r : Rec) → slice_get (records_of moving) c.item ≡ Some x → r ≡ rec x.key x.value c.prediction → r ≡ planned (records_of moving) c

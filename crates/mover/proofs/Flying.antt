@@ -7,7 +7,7 @@ use Rattle.std.proofs.lemmas.Option.{slice_get-map}
 use Rattle.record_pages.specs.Recs.{Rec}
 use Rattle.klog.specs.Log.{Shape}
 use Rattle.klog.specs.Moves.{most_taken}
-use Rattle.record_pages.specs.Sizes.{max_records}
+use Rattle.record_pages.specs.Sizes.{max_set_records}
 use Rattle.klog.specs.Shown.{place_in}
 use Rattle.mover.specs.declared.mark.Mark.{Mark}
 use Rattle.mover.specs.declared.moving.Moving.{Moving}
@@ -45,7 +45,7 @@ fresh_hashes shape [] = refl
 fresh_hashes shape (r ∷ rs) = ap (λ ns. (place_in shape r.key).hash ∷ ns) (fresh_hashes shape rs)
 
 -- a move that begins is one of the store
-pub flies_anew : (shape : Shape) (moves : ℕ) (moving : Moving) (marks : List Mark) → moving.set < shape.sets → moving.number ≡ moves + 1 → length (records_of moving) ≤ max_records + most_taken → marks ≡ map (fresh_mark shape) (records_of moving) →
+pub flies_anew : (shape : Shape) (moves : ℕ) (moving : Moving) (marks : List Mark) → moving.set < shape.sets → moving.number ≡ moves + 1 → length (records_of moving) ≤ max_set_records + most_taken → marks ≡ map (fresh_mark shape) (records_of moving) →
     IsFlightOf shape (moves + 1) (record { moving = moving; marks = marks })
 flies_anew shape moves moving marks set number few fresh = record {
   set = set;

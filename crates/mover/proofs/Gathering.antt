@@ -22,7 +22,7 @@ use Rattle.mover.specs.declared.begin.Begin.TheVariants as begin
 use Rattle.klog.specs.declared.set_taken.SetTaken.TheVariants as taken
 use Rattle.kset.specs.declared.set_read.SetRead.TheVariants as read
 use Rattle.policy_laws.specs.declared.job.Job.{Job}
-use Rattle.record_pages.specs.Sizes.{max_records}
+use Rattle.record_pages.specs.Sizes.{max_set_records}
 use Rattle.mover.specs.declared.moving.Moving.{Moving}
 use Rattle.mover.specs.Flight.{Flight, records_of, unstruck, is_struck, AreOfSet, just_begun}
 use Rattle.mover.specs.Job.{job_of, items_of}
@@ -87,7 +87,7 @@ gathered_placed lane mid new set moving takes reads its log sets =
     subst (λ (l : LaneState). AreOfSet l.log.shape moving) (sym same) (subst (AreOfSet lane.log.shape) (sym is) (moving_placed lane set log sets))
 
 -- there are no more than are taken and read
-pub gathered_few : (moving : Moving) → length moving.taken ≤ most_taken → length moving.visible ≤ max_records → length (records_of moving) ≤ max_records + most_taken
+pub gathered_few : (moving : Moving) → length moving.taken ≤ most_taken → length moving.visible ≤ max_set_records → length (records_of moving) ≤ max_set_records + most_taken
 gathered_few moving takes reads =
     let both = length-append (map (λ (x : SetRecord). x.stored) moving.visible) (map (λ (t : TakenRecord). t.stored) moving.taken) in
     let old = length-map moving.visible (λ (x : SetRecord). x.stored) in

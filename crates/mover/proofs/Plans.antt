@@ -11,7 +11,7 @@ use Rattle.std.proofs.lemmas.List.Quantifiers.{all_pairs_push}
 use Rattle.std.proofs.lemmas.List.Sums.{sum_by-append, sum_by-take-le}
 use Rattle.std.proofs.lemmas.Option.{slice_get_within, get_or_from_slice_get, slice_get-map, none-some}
 use Rattle.record_pages.specs.Recs.{Rec, size}
-use Rattle.record_pages.specs.Sizes.{max_records}
+use Rattle.record_pages.specs.Sizes.{max_set_records}
 use Rattle.policy_laws.specs.declared.item.Item.{Item}
 use Rattle.policy_laws.specs.declared.job.Job.{Job}
 use Rattle.policy_laws.specs.declared.choice.Choice.{Choice}
@@ -52,7 +52,7 @@ tested_none job named clear = record {
 }
 
 -- one choice more
-pub tested_more : (job : Job) (front : List Choice) (named : List Bool) (used : ℕ) (c : Choice) → IsTested job front named used → c.item < length job.items → c.item < length named → get_or named c.item false ≡ false → length front < max_records →
+pub tested_more : (job : Job) (front : List Choice) (named : List Bool) (used : ℕ) (c : Choice) → IsTested job front named used → c.item < length job.items → c.item < length named → get_or named c.item false ≡ false → length front < max_set_records →
     used + size_at job.items c.item ≤ job.room → IsTested job (front ++ c ∷ []) (set named c.item true) (used + size_at job.items c.item)
 tested_more job front named used c is range below fresh few fits = record {
   fits = record {
@@ -92,11 +92,11 @@ module _ (job : Job) (plan : List Choice) where
   front_more : (n : ℕ) (c : Choice) → slice_get plan n ≡ Some c → take (n + 1) plan ≡ take n plan ++ c ∷ []
   front_more n c at = take_more plan n c (slice_get_within plan n c at) ∙ ap (λ x. take n plan ++ x ∷ []) (get_or_from_slice_get plan n c c at)
 
-  pub next_tested : (n : ℕ) (c : Choice) (named : List Bool) (used : ℕ) → slice_get plan n ≡ Some c → length plan ≤ max_records → IsTested job (take n plan) named used → c.item < length job.items → c.item < length named → get_or named c.item false ≡ false →
+  pub next_tested : (n : ℕ) (c : Choice) (named : List Bool) (used : ℕ) → slice_get plan n ≡ Some c → length plan ≤ max_set_records → IsTested job (take n plan) named used → c.item < length job.items → c.item < length named → get_or named c.item false ≡ false →
       used + size_at job.items c.item ≤ job.room → IsTested job (take (n + 1) plan) (set named c.item true) (used + size_at job.items c.item)
   next_tested n c named used at few is range below fresh fits =
       let within = slice_get_within plan n c at in
-      let long : length (take n plan) < max_records = simp length-take (omega (arith, within, few)) in
+      let long : length (take n plan) < max_set_records = simp length-take (omega (arith, within, few)) in
       subst (λ front. IsTested job front (set named c.item true) (used + size_at job.items c.item)) (sym (front_more n c at)) (tested_more job (take n plan) named used c is range below fresh long fits)
 
   -- a plan of which all choices were tested fits
@@ -104,7 +104,7 @@ module _ (job : Job) (plan : List Choice) where
   all_tested n named used all is = subst (IsFitting job) (take_all n plan all) is.fits
 
   -- one that is too long does not
-  pub too_long : max_records < length plan → IsFitting job plan → ⊥
+  pub too_long : max_set_records < length plan → IsFitting job plan → ⊥
   too_long long fits = let few = fits.few in omega (arith, long, few)
 
   -- nor one that names what is not there

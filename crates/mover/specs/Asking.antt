@@ -2,7 +2,7 @@
 use Rattle.std.specs.Prelude.{◌≡◌, ◌<◌, ℕ, List, Option, Some, None, IsSomeAnd, Contains, IsTrue, false}
 use Rattle.set_hash.specs.declared.placed.Placed.{Placed}
 use Rattle.record_pages.specs.Expiry.{timed, value_at}
-use Rattle.record_pages.specs.Sizes.{max_records}
+use Rattle.record_pages.specs.Sizes.{max_set_records}
 use Rattle.record_pages.specs.declared.answer.Answer.{Answer}
 use Rattle.record_pages.specs.declared.answer.Answer.TheVariants.{Hit, Miss}
 use Rattle.record_pages.specs.declared.miss_cause.MissCause.TheVariants.{Expired}
@@ -47,7 +47,7 @@ pub record LowersOne {D : Type 0} (at : Placed) (old new : StoreState D) : Type 
 -- a hit in a set: one slot of its page is noted as hit, and nothing else changes but the device
 pub record NotesHit {D : Type 0} (set : ℕ) (old new : StoreState D) : Type 0 where
   pub slot : ℕ
-  pub within : slot < max_records
+  pub within : slot < max_set_records
   pub rest : new ≡ record old { device = new.device; sets = hit_in old.sets set slot }
 
 -- what memory tells by what its pair of a key gives: its value, and the pair comes to the front; or that it has expired, and all

@@ -3,7 +3,7 @@ use Rattle.std.specs.Prelude.{◌≡◌, ◌≢◌, ◌<◌, ◌≤◌, ℕ, Lis
 use Rattle.std.specs.List.{enumerate_from}
 use Rattle.record_pages.specs.Expiry.{lasting}
 use Rattle.record_pages.specs.Recs.{Rec, rec}
-use Rattle.record_pages.specs.Sizes.{max_records}
+use Rattle.record_pages.specs.Sizes.{max_set_records}
 use Rattle.policy_laws.specs.declared.choice.Choice.{Choice}
 use Rattle.policy_laws.specs.declared.job.Job.{Job}
 use Rattle.policy_laws.specs.Laws.{size_at}
@@ -68,12 +68,12 @@ abbrev pub committed_in : {D : Type 0} → Flight → List Choice → Rewritten 
 committed_in f plan rewritten s device =
     record (landed_in f plan rewritten s device) { flights = without_flight f.moving.number s.flights }
 
--- a plan names items of its job, none twice, that fit on a page, struck ones included
+-- a plan names items of its job, none twice, that fit on a set page, struck ones included
 pub record IsFitting (job : Job) (plan : List Choice) : Type 0 where
   pub in_range : All (λ choice. choice.item < length job.items) plan
   pub distinct : AllPairs (λ a b. a.item ≢ b.item) plan
   pub within : sum_by (λ choice. size_at job.items choice.item) plan ≤ job.room
-  pub few : length plan ≤ max_records
+  pub few : length plan ≤ max_set_records
 
 -- a move with this number is in flight, and the plan fits
 pub record IsFittingIn (size : ℕ) (plan : List Choice) (number : ℕ) (flights : List Flight) : Type 0 where

@@ -4,7 +4,7 @@ use Rattle.std.specs.List.{list_any}
 use Rattle.std.specs.Option.{option_map_or}
 use Rattle.std.specs.declared.alloc.Global.{Global}
 use Rattle.record_pages.specs.Recs.{Rec}
-use Rattle.record_pages.specs.Sizes.{max_records}
+use Rattle.record_pages.specs.Sizes.{max_set_records}
 use Rattle.policy_laws.specs.declared.choice.Choice.{Choice}
 use Rattle.klog.specs.Log.{Shape}
 use Rattle.klog.specs.Shown.{place_in}
@@ -81,7 +81,7 @@ pub record IsFlightOf (shape : Shape) (moves : ℕ) (f : Flight) : Type 0 where
   pub set : f.moving.set < shape.sets
   pub numbered : f.moving.number ≤ moves
   pub marked : map (λ (m : Mark). m.hash) f.marks ≡ map (λ (r : Rec). (place_in shape r.key).hash) (records_of f.moving)
-  pub few : length (records_of f.moving) ≤ max_records + most_taken
+  pub few : length (records_of f.moving) ≤ max_set_records + most_taken
 
 -- What is true of the moves in flight, which stand as they began: no more than so many, each one of the store, with rising
 -- numbers and no set twice.

@@ -1,7 +1,7 @@
 -- What the beginning of a move leaves of a store, on any device, by what it answers.
 use Rattle.std.specs.Prelude.{◌≡◌, ◌≢◌, ◌≤◌, ◌⊎◌, ◌+◌, ℕ, [], ◌∷◌, ◌++◌, length, Bool, true, false, nat_lt, Contains}
 use Rattle.std.specs.FinSet as bits
-use Rattle.record_pages.specs.Sizes.{max_records}
+use Rattle.record_pages.specs.Sizes.{max_set_records}
 use Rattle.policy_laws.specs.declared.job.Job.{Job}
 use Rattle.admission.specs.declared.judgement.Judgement.{Judgement}
 use Rattle.admission.specs.declared.judgement.Judgement.TheVariants as judgement
@@ -51,7 +51,7 @@ TakingLeaves set old taken.PageLost new = LosesLogPage set old new
 
 -- a reading of the records of a set: all stays, and they are few; or its page is lost
 abbrev pub ReadingLeaves : {D : Type 0} → ℕ → StoreState D → SetRead → StoreState D → Type 0
-ReadingLeaves set old (read.Records rs) new = (length rs ≤ max_records) × HasAll old new
+ReadingLeaves set old (read.Records rs) new = (length rs ≤ max_set_records) × HasAll old new
 ReadingLeaves set old read.PageLost new = LosesSetPage set old new
 
 -- a move of a set with the next number is in flight, behind the others, and this is its job

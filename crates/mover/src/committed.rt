@@ -9,6 +9,6 @@ pub enum Committed {
     Forgotten,
     /// No move with that number is in flight.
     StalePlan,
-    /// The plan names an item that is not there, or one twice, or items that do not fit on a page.
+    /// The plan names an item that is not there, or one twice, or items that do not fit on a set page.
     BadPlan,
 }

@@ -21,7 +21,7 @@ pub(crate) struct Moving {
 
 impl Moving {
     ghost use Rattle.std.specs.Prelude.{◌≡◌, ◌<◌, ◌≤◌, ◌+◌, length, map, slice_get, Some, IfOk};
-    ghost use Rattle.record_pages.specs.Sizes.{IsPageSize, max_records};
+    ghost use Rattle.record_pages.specs.Sizes.{IsPageSize, max_set_records};
     ghost use Rattle.klog.specs.Log.{Shape};
     ghost use Rattle.klog.specs.Moves.{most_taken};
     ghost use Rattle.mover.specs.Flight.{records_of, fresh_mark};
@@ -29,7 +29,7 @@ impl Moving {
 
     /// How many records there are.
     pub(crate) fn len(&self) -> usize
-        requires { length (records_of self.now) ≤ max_records + most_taken }
+        requires { length (records_of self.now) ≤ max_set_records + most_taken }
         ensures { result ≡ length (records_of self.now) }
     {
         self.visible.len() + self.taken.len()
@@ -66,7 +66,7 @@ impl Moving {
 
     /// A mark for each record, none of them struck, or `AllocError` where memory was refused.
     pub(crate) fn marks(&self, alloc: Global) -> Result<Marks, AllocError>
-        requires { length (records_of self.now) ≤ max_records + most_taken }
+        requires { length (records_of self.now) ≤ max_set_records + most_taken }
         ensures { IfOk result (λ marks. (shape : Shape) →
             marks ≡ map (fresh_mark shape) (records_of self.now)) }
     {

@@ -7,7 +7,7 @@ use Rattle.std.proofs.lemmas.List.Kept.{AllPairs-cons}
 use Rattle.std.proofs.lemmas.List.Sums.{sum_by-cons}
 use Rattle.std.specs.List.{AllByRecursion, Contains, sum_by, slice_get, enumerate_from}
 use Rattle.std.specs.Option.{option_map_or}
-use Rattle.record_pages.specs.Sizes.{max_records}
+use Rattle.record_pages.specs.Sizes.{max_set_records}
 use Rattle.policy_laws.specs.declared.item.Item.{Item}
 use Rattle.policy_laws.specs.declared.job.Job.{Job}
 use Rattle.policy_laws.specs.declared.candidate.Candidate.{Candidate}
@@ -45,27 +45,27 @@ all_among (x ∷ xs) = (inl refl, All_map (λ z. Among z xs) (λ z. Among z (x �
 -- what fits of the candidates by rank is what is kept of them
 pub keeps_by_rank : (room : ℕ) (all : List Candidate) → AllPairs (λ a b. a.item ≢ b.item) all → KeepsByRank room all (plan_by_rank room all)
 keeps_by_rank room all differ = record {
-  those = fitting room max_records (by_rank all);
+  those = fitting room max_set_records (by_rank all);
   by_rank = record {
-    among = All-from_recursion (Contains all) those (All_map (λ z. Among z all) (Contains all) (λ z. contains_from z all) those (All-fitting (λ z. Among z all) room max_records (by_rank all) (All-ranked_from (λ z. Among z all) [] all tt (all_among all))));
-    ordered = pairs_to Ranks those (Pairs-fitting Ranks room max_records (by_rank all) ranks);
+    among = All-from_recursion (Contains all) those (All_map (λ z. Among z all) (Contains all) (λ z. contains_from z all) those (All-fitting (λ z. Among z all) room max_set_records (by_rank all) (All-ranked_from (λ z. Among z all) [] all tt (all_among all))));
+    ordered = pairs_to Ranks those (Pairs-fitting Ranks room max_set_records (by_rank all) ranks);
     exactly = All-from_recursion _ all (All_map (λ z. Among z all) _ exact all (all_among all));
   };
   listed = refl;
 }
   where
     those : List Candidate
-    those = fitting room max_records (by_rank all)
+    those = fitting room max_set_records (by_rank all)
 
     ranks : Pairs Ranks (by_rank all)
     ranks = Pairs_ranks-ranked_from [] all tt (pairs_from Differ all differ) (Apart-none all)
 
-    exact : (x : Candidate) → Among x all → Contains (fitting room max_records (by_rank all)) x ↔ FitsBehind room (fitting room max_records (by_rank all)) x
+    exact : (x : Candidate) → Among x all → Contains (fitting room max_set_records (by_rank all)) x ↔ FitsBehind room (fitting room max_set_records (by_rank all)) x
     exact x h =
-        let e = exactly_fitting room max_records (by_rank all) ranks x (among-ranked_from x [] all (inr h)) in
-        let there : Contains (fitting room max_records (by_rank all)) x → FitsBehind room (fitting room max_records (by_rank all)) x =
-        λ c. let f = e.0 (among_from x (fitting room max_records (by_rank all)) c) in record { within = f.0; few = f.1 } in
-        (there, (λ fit. contains_from x (fitting room max_records (by_rank all)) (e.1 (fit.within, fit.few))))
+        let e = exactly_fitting room max_set_records (by_rank all) ranks x (among-ranked_from x [] all (inr h)) in
+        let there : Contains (fitting room max_set_records (by_rank all)) x → FitsBehind room (fitting room max_set_records (by_rank all)) x =
+        λ c. let f = e.0 (among_from x (fitting room max_set_records (by_rank all)) c) in record { within = f.0; few = f.1 } in
+        (there, (λ fit. contains_from x (fitting room max_set_records (by_rank all)) (e.1 (fit.within, fit.few))))
 
 -- ---- candidates of items
 
@@ -153,15 +153,15 @@ pub lawful_by_rank : (candidate : ℕ → Item → Candidate) → HasItems candi
 lawful_by_rank candidate has job =
     let items : List Item = job.items in
     let all : List Candidate = numbered candidate 0 items in
-    let ks : List Candidate = fitting job.room max_records (by_rank all) in
+    let ks : List Candidate = fitting job.room max_set_records (by_rank all) in
     let of_items : AllByRecursion (IsOf items) all = stands candidate has items 0 items (λ k. ap (slice_get items) (zero-add k)) in
-    let kept : AllByRecursion (IsOf items) ks = All-fitting (IsOf items) job.room max_records (by_rank all) (All-ranked_from (IsOf items) [] all tt of_items) in
+    let kept : AllByRecursion (IsOf items) ks = All-fitting (IsOf items) job.room max_set_records (by_rank all) (All-ranked_from (IsOf items) [] all tt of_items) in
     let differ : Pairs Differ (by_rank all) = Pairs_differ-ranked_from [] all tt (differ-numbered candidate has 0 items) (Apart-none all) in
     record {
       in_range = All-map (λ (choice : Choice). choice.item < length items) choice_of ks (All-from_recursion _ ks (All_map (IsOf items) (λ c. c.item < length items) (λ c h. h.0) ks kept));
-      distinct = map_differ ks (Pairs-fitting Differ job.room max_records (by_rank all) differ);
-      within = rw (map_total items ks kept) (total-fitting job.room max_records (by_rank all));
-      few = rw length-map (length-fitting job.room max_records (by_rank all));
+      distinct = map_differ ks (Pairs-fitting Differ job.room max_set_records (by_rank all) differ);
+      within = rw (map_total items ks kept) (total-fitting job.room max_set_records (by_rank all));
+      few = rw length-map (length-fitting job.room max_set_records (by_rank all));
       all_kept = λ fit number within. kept_all candidate has job fit number within;
     }
   where
@@ -171,9 +171,9 @@ lawful_by_rank candidate has job =
         let all : List Candidate = numbered candidate 0 job.items in
         let bytes : total (by_rank all) ≡ sum_by (λ (item : Item). item.size) job.items = total-ranked_from [] all ∙ zero-add (total all) ∙ total-numbered candidate has 0 job.items in
         let count : length (by_rank all) ≡ length job.items = length-ranked_from [] all ∙ zero-add (length all) ∙ length-numbered candidate has 0 job.items in
-        let fits : fitting job.room max_records (by_rank all) ≡ by_rank all = all_fitting job.room max_records (by_rank all) (subst (λ n. n ≤ job.room) (sym bytes) fit.within) (subst (λ n. n ≤ max_records) (sym count) fit.few) in
+        let fits : fitting job.room max_set_records (by_rank all) ≡ by_rank all = all_fitting job.room max_set_records (by_rank all) (subst (λ n. n ≤ job.room) (sym bytes) fit.within) (subst (λ n. n ≤ max_set_records) (sym count) fit.few) in
         let z = has_number candidate has 0 number job.items within in
-        map_contains z.0 number (fitting job.room max_records (by_rank all)) (subst (Among z.0) (sym fits) (among-ranked_from z.0 [] all (inr z.1))) (z.2 ∙ zero-add number)
+        map_contains z.0 number (fitting job.room max_set_records (by_rank all)) (subst (Among z.0) (sym fits) (among-ranked_from z.0 [] all (inr z.1))) (z.2 ∙ zero-add number)
 
 -- ---- what a policy ensures that keeps its candidates by rank
 

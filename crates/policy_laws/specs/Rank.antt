@@ -1,7 +1,7 @@
 -- Candidates by rank, and those of them that are kept.
 use Rattle.std.specs.Prelude.{◌≡◌, ◌↔◌, ℕ, ◌+◌, ◌-◌, ◌<◌, ◌≤◌, Bool, not, IsTrue, ◌&&◌, ◌==◌, nat_lt, nat_le, List, [], ◌∷◌, length, map, fold, filter, sum_by, All, AllPairs, Contains, if◌then◌else◌}
 use Rattle.std.specs.List.{enumerate_from}
-use Rattle.record_pages.specs.Sizes.{max_records}
+use Rattle.record_pages.specs.Sizes.{max_set_records}
 use Rattle.policy_laws.specs.declared.item.Item.{Item}
 use Rattle.policy_laws.specs.declared.candidate.Candidate.{Candidate}
 use Rattle.policy_laws.specs.declared.choice.Choice.{Choice}
@@ -23,10 +23,10 @@ abbrev pub kept_before : List Candidate → Candidate → List Candidate
 kept_before kept x = filter (λ k. rank_before k x) kept
 
 -- a candidate fits beside the kept ones that rank before it: its size and theirs are within the room, and there
--- are fewer of them than records on a page
+-- are fewer of them than a set page may have
 pub record FitsBehind (room : ℕ) (kept : List Candidate) (x : Candidate) : Type 0 where
   pub within : x.size + sum_by (λ k. k.size) (kept_before kept x) ≤ room
-  pub few : length (kept_before kept x) < max_records
+  pub few : length (kept_before kept x) < max_set_records
 
 -- the kept of all candidates: they stand by rank, and one is kept exactly where it fits beside the kept ones that
 -- rank before it
@@ -64,7 +64,7 @@ fitting room number (x ∷ xs) =
 
 -- the plan that lists those of all candidates that fit, by rank
 abbrev pub plan_by_rank : ℕ → List Candidate → List Choice
-plan_by_rank room all = map choice_of (fitting room max_records (by_rank all))
+plan_by_rank room all = map choice_of (fitting room max_set_records (by_rank all))
 
 -- a candidate for each item of a list, by its number and what is known of it
 abbrev pub candidates_by : (ℕ → Item → Candidate) → List Item → List Candidate

@@ -5,11 +5,11 @@ ghost use Rattle.policy_laws.specs.Rank.{KeepsByRank, by_rank, plan_by_rank as p
 use crate::candidate::Candidate;
 use crate::choice::Choice;
 use crate::plan::Plan;
-use record_pages::MAX_RECORDS;
+use record_pages::MAX_SET_RECORDS;
 use std::alloc::{AllocError, Global};
 
 /// The plan that keeps each candidate that fits beside the kept ones that rank before it: its size and theirs
-/// are within the room, and there are fewer than `MAX_RECORDS` of them. `AllocError` where memory was refused.
+/// are within the room, and there are fewer than `MAX_SET_RECORDS` of them. `AllocError` where memory was refused.
 pub fn plan_by_rank(alloc: Global, room: u32, candidates: &[Candidate]) -> Result<Plan, AllocError>
     ensures plan { IfOk result (λ plan. plan ≡ plan_of room candidates.now) }
     ensures by_rank { AllPairs (λ a b. a.item ≢ b.item) candidates.now →
@@ -19,7 +19,7 @@ pub fn plan_by_rank(alloc: Global, room: u32, candidates: &[Candidate]) -> Resul
     let mut plan = Plan::new(alloc);
     let mut left = room;
     for candidate in &ranked {
-        if candidate.size <= left && plan.len() < MAX_RECORDS {
+        if candidate.size <= left && plan.len() < MAX_SET_RECORDS {
             left -= candidate.size;
             plan.push(Choice {
                 item: candidate.item,

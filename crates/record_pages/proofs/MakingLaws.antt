@@ -1,6 +1,6 @@
 -- What writes into a page leave there.
 use Rattle.std.proofs.Common.{inl, inr, ◌≡◌, ℕ, suc, ◌+◌, ◌-◌, ◌*◌, ◌^◌, ◌<◌, ◌≤◌, List, [], ◌∷◌, ◌++◌, length, take, drop, replicate, get_or, Option, Some, true, refl, sym, ap, subst, ◌∙◌, append_assoc, arith}
-use Rattle.std.specs.Prelude.{is_some, IsTrue, All, nat_le, slice_get, slice_set}
+use Rattle.std.specs.Prelude.{◌&&◌, is_some, IsTrue, All, nat_le, slice_get, slice_set}
 use Rattle.std.specs.Option.{option_map_or}
 use Rattle.std.specs.Int.{w16, to_be_bytes}
 use Rattle.std.specs.List.{AllByRecursion}
@@ -12,28 +12,35 @@ use Rattle.std.proofs.lemmas.Option.{slice_get_cases}
 use Rattle.std.proofs.lemmas.List.Concat.{flat_map-append}
 use Rattle.std.proofs.lemmas.List.Elements.{All-nil, All-push, All-from_recursion, recursion_from_All}
 use Rattle.std.proofs.lemmas.List.Sums.{sum_by-cons, sum_by_push}
-use Rattle.record_pages.specs.Sizes.{room}
-use Rattle.record_pages.specs.Recs.{Rec, IsRecord, size, sizes, fit}
+use Rattle.record_pages.specs.Sizes.{room, max_set_records, max_log_records}
+use Rattle.record_pages.specs.Recs.{Rec, IsRecord, size, sizes, fit, fit_log}
 use Rattle.record_pages.specs.PageText.{CanSay, record_text, records_text, body_text, padded_to, set_head, log_head, set_text, log_text, SpellsSetForm, SpellsLogForm}
 use Rattle.record_pages.specs.declared.form.Form.TheVariants.{Timed}
+use Rattle.record_pages.specs.declared.form.SetForm.TheVariants.{Large}
 use Rattle.record_pages.specs.Reading.{record_at, records_at, records_of}
-use Rattle.record_pages.specs.Making.{HoldsRecords, IsInTheMaking, AreStarts}
+use Rattle.record_pages.specs.Making.{HoldsRecords, IsInTheMaking, AreStarts, IsLogInTheMaking}
 use Rattle.record_pages.proofs.RecordLaws.{records_again, record_from, length-records_text, said_all}
 
 -- ---- records that fit
 
--- what fits is within the room, and at most 64
-pub record Fits (page : ℕ) (rs : List Rec) : Type 0 where
+-- what fits is within the room, and at most so many
+pub record Fits (most page : ℕ) (rs : List Rec) : Type 0 where
   pub room : sizes rs ≤ room page
-  pub few : length rs ≤ 64
+  pub few : length rs ≤ most
 
-pub fit_parts : (page : ℕ) (rs : List Rec) → IsTrue (fit page rs) → Fits page rs
-fit_parts page rs e =
-    let a = and_parts (nat_le (sizes rs) (room page)) (nat_le (length rs) 64) e in
+parts : (most page : ℕ) (rs : List Rec) → IsTrue (nat_le (sizes rs) (room page) && nat_le (length rs) most) → Fits most page rs
+parts most page rs e =
+    let a = and_parts (nat_le (sizes rs) (room page)) (nat_le (length rs) most) e in
     record { room = leb-true _ _ a.0; few = leb-true _ _ a.1 }
 
-pub fit_from : (page : ℕ) (rs : List Rec) → Fits page rs → IsTrue (fit page rs)
-fit_from page rs f = and_from (nat_le (sizes rs) (room page)) (nat_le (length rs) 64) (le-leb _ _ f.room) (le-leb _ _ f.few)
+pub fit_parts : (page : ℕ) (rs : List Rec) → IsTrue (fit page rs) → Fits max_set_records page rs
+fit_parts page rs e = parts max_set_records page rs e
+
+pub fit_log_parts : (page : ℕ) (rs : List Rec) → IsTrue (fit_log page rs) → Fits max_log_records page rs
+fit_log_parts page rs e = parts max_log_records page rs e
+
+pub fit_from : (page : ℕ) (rs : List Rec) → Fits max_set_records page rs → IsTrue (fit page rs)
+fit_from page rs f = and_from (nat_le (sizes rs) (room page)) (nat_le (length rs) max_set_records) (le-leb _ _ f.room) (le-leb _ _ f.few)
 
 -- ---- texts
 
@@ -146,6 +153,10 @@ starts_push rs starts r old enough slot within = elim (cases_eq slot (length rs)
       get_or-set_other starts (length rs) slot (sizes rs) 0 other ∙ old slot lt ∙ ap sizes (sym (take-append-le slot rs (r ∷ []) (omega (arith, lt))))
 ]
 
+-- one record more on a log page
+pub log_push : (rs : List Rec) (noted : List ℕ) (r : Rec) → IsLogInTheMaking rs noted → length rs < max_log_records → length rs < length noted → IsLogInTheMaking (rs ++ r ∷ []) (slice_set noted (length rs) (sizes rs))
+log_push rs noted r old few enough = record { few = omega (arith, few, length-append rs (r ∷ [])); starts = starts_push rs noted r old.starts enough }
+
 sizes_within : (rs : List Rec) → AllByRecursion IsRecord rs → sizes rs ≤ 2315 * length rs
 sizes_within [] each = omega arith
 sizes_within (r ∷ rs) each = omega (arith, each.0.key.1, each.0.value, sizes_within rs each.1, sum_by-cons size r rs)
@@ -174,20 +185,20 @@ written_text page head new rs at end first front w =
     let gap : length front - end ≡ page - length (head ++ body_text Timed rs) = omega (arith, len, w.whole) in
     w.new_is ∙ ap (λ (t : List ℕ). t ++ replicate (length front - end) 0) text ∙ ap (λ (n : ℕ). (head ++ body_text Timed rs) ++ replicate n 0) gap
 
-pub set_page_written : (page set write : ℕ) (new : List ℕ) (rs : List Rec) (at end : ℕ) (first front : List ℕ) → 18 ≤ page → set < 2 ^ 32 → write < 2 ^ 64 → Written page (set_head Timed set write) new rs at end first front → SpellsSetForm Timed page new (record { set = set; write = write; records = rs })
+pub set_page_written : (page set write : ℕ) (new : List ℕ) (rs : List Rec) (at end : ℕ) (first front : List ℕ) → 18 ≤ page → set < 2 ^ 32 → write < 2 ^ 64 → Written page (set_head Large set write) new rs at end first front → SpellsSetForm Large page new (record { set = set; write = write; records = rs })
 unfolding set_text
 set_page_written page set write new rs at end first front large set_fits write_fits w =
     let fits = fit_parts page rs w.fits in
     record {
       lawful = record { set_fits = set_fits; write_fits = write_fits; each = w.each; said = All-from_recursion (CanSay Timed) rs (said_all rs); few = fits.few; room = omega (arith, fits.room, large) };
-      text = written_text page (set_head Timed set write) new rs at end first front w;
+      text = written_text page (set_head Large set write) new rs at end first front w;
     }
 
-pub log_page_written : (page segment number : ℕ) (new : List ℕ) (rs : List Rec) (at end : ℕ) (first front : List ℕ) → 18 ≤ page → segment < 2 ^ 64 → number < 2 ^ 16 → Written page (log_head Timed segment number) new rs at end first front → SpellsLogForm Timed page new (record { segment = segment; page = number; records = rs })
+pub log_page_written : (page segment number : ℕ) (new : List ℕ) (rs : List Rec) (at end : ℕ) (first front : List ℕ) → 18 ≤ page → segment < 2 ^ 64 → number < 2 ^ 16 → length rs ≤ max_log_records → Written page (log_head Timed segment number) new rs at end first front → SpellsLogForm Timed page new (record { segment = segment; page = number; records = rs })
 unfolding log_text
-log_page_written page segment number new rs at end first front large segment_fits number_fits w =
+log_page_written page segment number new rs at end first front large segment_fits number_fits few w =
     let fits = fit_parts page rs w.fits in
     record {
-      lawful = record { segment_fits = segment_fits; page_fits = number_fits; each = w.each; said = All-from_recursion (CanSay Timed) rs (said_all rs); few = fits.few; room = omega (arith, fits.room, large) };
+      lawful = record { segment_fits = segment_fits; page_fits = number_fits; each = w.each; said = All-from_recursion (CanSay Timed) rs (said_all rs); few = few; room = omega (arith, fits.room, large) };
       text = written_text page (log_head Timed segment number) new rs at end first front w;
     }

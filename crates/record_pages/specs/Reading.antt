@@ -5,10 +5,14 @@ use Rattle.std.specs.Option.{option_map_or}
 use Rattle.std.specs.Int.{Width, w16, w32, w64, byte_len, from_be_bytes}
 use Rattle.record_pages.specs.Expiry.{never, timed}
 use Rattle.record_pages.specs.Recs.{Rec, rec}
-use Rattle.record_pages.specs.Sizes.{max_records}
-use Rattle.record_pages.specs.PageText.{SetPageParts, LogPageParts, set_magic, log_magic}
+use Rattle.record_pages.specs.Sizes.{max_log_records}
+use Rattle.record_pages.specs.PageText.{SetPageParts, LogPageParts, records_form, limit, set_magic, log_magic}
 use Rattle.record_pages.specs.declared.form.Form.{Form}
 use Rattle.record_pages.specs.declared.form.Form.TheVariants.{Timed, Lasting}
+use Rattle.record_pages.specs.declared.form.SetForm.{SetForm}
+use Rattle.record_pages.specs.declared.form.SetForm.TheVariants as set_forms
+use Rattle.record_pages.specs.declared.form.PageForm.{PageForm}
+use Rattle.record_pages.specs.declared.form.PageForm.TheVariants as page_forms
 
 infixl 10 ◌>>=◌
 abbrev pub ◌>>=◌ : {A B : Type 0} → Option A → (A → Option B) → Option B
@@ -29,7 +33,7 @@ byte_at (b ∷ rest) = Some (b, rest)
 abbrev pub is_bad : ℕ → ℕ → ℕ → List ℕ → Bool
 is_bad k v p rest = k == 0 || nat_lt 2048 v || nat_lt 7 p || nat_lt (length rest) (k + v)
 
--- the expiry at the front, and the bytes behind it: a page of the older form has none, and its records never expire
+-- the expiry at the front, and the bytes behind it: a record of the older form has none, and never expires
 abbrev pub expiry_at : Form → List ℕ → Option (ℕ × List ℕ)
 expiry_at Timed bytes = number_at w64 bytes
 expiry_at Lasting bytes = Some (never, bytes)
@@ -60,35 +64,52 @@ records_of form n bytes = option_map_or (λ x. x.0) (records_at form n bytes) []
 abbrev pub all_zero : List ℕ → Bool
 all_zero bytes = list_all (λ b. b == 0) bytes
 
--- the records of a page whose head was read: a count that a page may have, so many records, zeros to the end
-unfoldable pub body_at : Form → List ℕ → Option (List Rec)
+-- what the records of a page say of expiry
+abbrev pub form_within : PageForm → Form
+form_within (page_forms.Set form) = records_form form
+form_within (page_forms.Log form) = form
+
+-- how many records a page may have
+abbrev pub limit_of : PageForm → ℕ
+limit_of (page_forms.Set form) = limit form
+limit_of (page_forms.Log form) = max_log_records
+
+-- the records of a page whose head was read: a count that a page of this form may have, so many records, zeros to the end
+unfoldable pub body_at : PageForm → List ℕ → Option (List Rec)
 body_at form bytes = do
   count ← number_at w16 bytes
-  if nat_lt max_records count.0 then None else do
-    records ← records_at form count.0 count.1
+  if nat_lt (limit_of form) count.0 then None else do
+    records ← records_at (form_within form) count.0 count.1
     if all_zero records.1 then Some records.0 else None
 
--- the form of a page whose first four bytes are this number, where those of each form are these
-abbrev pub form_of : (Form → ℕ) → ℕ → Option Form
-form_of magic_of magic =
-    if magic == magic_of Timed then Some Timed else if magic == magic_of Lasting then Some Lasting else None
+-- the form of a set page whose first four bytes are this number
+abbrev pub set_form_of : ℕ → Option SetForm
+set_form_of magic =
+    if magic == set_magic set_forms.Large then Some set_forms.Large
+    else if magic == set_magic set_forms.Timed then Some set_forms.Timed
+    else if magic == set_magic set_forms.Lasting then Some set_forms.Lasting else None
+
+-- the form of a log page whose first four bytes are this number
+abbrev pub log_form_of : ℕ → Option Form
+log_form_of magic =
+    if magic == log_magic Timed then Some Timed else if magic == log_magic Lasting then Some Lasting else None
 
 -- what these bytes say as a set page
 unfoldable pub set_page_at : List ℕ → Option SetPageParts
 set_page_at bytes = do
   magic ← number_at w32 bytes
-  form ← form_of set_magic magic.0
+  form ← set_form_of magic.0
   set ← number_at w32 magic.1
   write ← number_at w64 set.1
-  records ← body_at form write.1
+  records ← body_at (page_forms.Set form) write.1
   Some (record { set = set.0; write = write.0; records = records })
 
 -- what these bytes say as a log page
 unfoldable pub log_page_at : List ℕ → Option LogPageParts
 log_page_at bytes = do
   magic ← number_at w32 bytes
-  form ← form_of log_magic magic.0
+  form ← log_form_of magic.0
   segment ← number_at w64 magic.1
   page ← number_at w16 segment.1
-  records ← body_at form page.1
+  records ← body_at (page_forms.Log form) page.1
   Some (record { segment = segment.0; page = page.0; records = records })

@@ -1,7 +1,7 @@
--- What a record is, and which records fit on a page together.
+-- What a record is, and which records fit together on a page of each kind.
 use Rattle.std.specs.Prelude.{ℕ, ◌<◌, ◌≤◌, ◌^◌, List, length, sum_by, Bool, ◌&&◌, nat_le}
 use Rattle.record_pages.specs.Bounded.{IsKey, IsValue}
-use Rattle.record_pages.specs.Sizes.{object_size, room, max_records}
+use Rattle.record_pages.specs.Sizes.{object_size, room, max_set_records, max_log_records}
 use Rattle.record_pages.specs.declared.record.Record.{Record}
 use Rattle.record_pages.specs.declared.timed_value.TimedValue.{TimedValue}
 
@@ -28,6 +28,10 @@ size r = object_size r.key r.value.value
 abbrev pub sizes : List Rec → ℕ
 sizes rs = sum_by size rs
 
--- whether records fit on a page of this many bytes: within its room, and not too many
+-- whether records fit on a set page of this many bytes: within its room, and not too many
 abbrev pub fit : ℕ → List Rec → Bool
-fit page rs = nat_le (sizes rs) (room page) && nat_le (length rs) max_records
+fit page rs = nat_le (sizes rs) (room page) && nat_le (length rs) max_set_records
+
+-- whether records fit on a log page of this many bytes: within its room, and not too many
+abbrev pub fit_log : ℕ → List Rec → Bool
+fit_log page rs = nat_le (sizes rs) (room page) && nat_le (length rs) max_log_records

@@ -13,9 +13,20 @@ room page = page - 18
 abbrev pub object_size : List ℕ → List ℕ → ℕ
 object_size key value = 12 + length key + length value
 
--- how many records a page may have
-abbrev pub max_records : ℕ
-max_records = 64
+-- how many records a set page may have: the hits of a set are the bits of one word of 128, one for each place of its page; so
+-- many records lie on a page of 4,096 bytes where each takes at most 31 bytes, and the least takes 13
+abbrev pub max_set_records : ℕ
+max_set_records = 128
+
+-- how many records a log page may have: an entry of the log's index has room for 64 places on a page, and a page in the making
+-- notes where each of 64 records begins
+abbrev pub max_log_records : ℕ
+max_log_records = 64
+
+-- how many records a set page may have that was written before there were so many: the hits of a set were the bits of one word
+-- of 64
+abbrev pub max_former_records : ℕ
+max_former_records = 64
 
 -- the prediction with which a record enters the log
 abbrev pub entering_prediction : ℕ

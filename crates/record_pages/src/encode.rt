@@ -1,14 +1,15 @@
 // Records that are written onto a page all at once.
-ghost use Rattle.std.specs.Prelude.{◌≡◌, IsTrue};
-ghost use Rattle.record_pages.specs.Sizes.{IsPageSize};
+ghost use Rattle.std.specs.Prelude.{◌≡◌, ◌≤◌, IsTrue, length};
+ghost use Rattle.record_pages.specs.Sizes.{IsPageSize, max_log_records};
 ghost use Rattle.record_pages.specs.Recs.{fit};
 ghost use Rattle.record_pages.specs.PageText.{set_page_text, log_page_text, SpellsSetPage, SpellsLogPage};
 
-use crate::object::{MAX_RECORDS, PAGE_OVERHEAD};
+use crate::object::{MAX_SET_RECORDS, PAGE_OVERHEAD};
 use crate::put::{put_log_header, put_records, put_set_header, zero_from};
 use crate::record::Record;
 
-/// Whether the records fit together on a page of `PAGE` bytes, of either kind.
+/// Whether the records fit together on a set page of `PAGE` bytes. A log page takes them too where there are at most
+/// `MAX_LOG_RECORDS` of them.
 pub fn fits<const PAGE: usize>(records: &[Record]) -> bool
     ensures { result ≡ fit PAGE records.now }
 {
@@ -20,7 +21,7 @@ pub fn fits<const PAGE: usize>(records: &[Record]) -> bool
         }
         room -= size;
     }
-    records.len() <= MAX_RECORDS
+    records.len() <= MAX_SET_RECORDS
 }
 
 /// Writes the text of the set page with these records.
@@ -41,7 +42,7 @@ pub fn encode_set_page<const PAGE: usize>(
     zero_from(page, at);
 }
 
-/// Writes the text of the log page with these records.
+/// Writes the text of the log page with these records, at most `MAX_LOG_RECORDS`.
 pub fn encode_log_page<const PAGE: usize>(
     segment: u64,
     page_number: u16,
@@ -50,6 +51,7 @@ pub fn encode_log_page<const PAGE: usize>(
 )
     requires page_size { IsPageSize PAGE }
     requires fits { IsTrue (fit PAGE records.now) }
+    requires few { length records.now ≤ max_log_records }
     ensures text { page.new ≡ log_page_text PAGE segment page_number records.now }
     ensures spelled { SpellsLogPage PAGE page.new
         (record { segment = segment; page = page_number; records = records.now }) }

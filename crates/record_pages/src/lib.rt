@@ -38,7 +38,7 @@ pub use layout::Layout;
 pub use log_page::LogPage;
 pub use log_page_writer::LogPageWriter;
 pub use miss_cause::MissCause;
-pub use object::{MAX_RECORDS, PAGE_OVERHEAD, RECORD_OVERHEAD, is_too_large};
+pub use object::{MAX_LOG_RECORDS, MAX_SET_RECORDS, PAGE_OVERHEAD, RECORD_OVERHEAD, is_too_large};
 pub use prediction::Prediction;
 pub use pushed::Pushed;
 pub use put_fault::PutFault;

@@ -1,9 +1,9 @@
 // A log page that was read.
 ghost use Rattle.std.specs.Prelude.{◌≡◌, IfSome, Some, length};
-ghost use Rattle.record_pages.specs.PageText.{LogPageParts, log_magic, SpellsLogPage, LogPageTextsDiffer};
-ghost use Rattle.record_pages.specs.Reading.{form_of, log_page_at};
+ghost use Rattle.record_pages.specs.PageText.{LogPageParts, SpellsLogPage, LogPageTextsDiffer};
+ghost use Rattle.record_pages.specs.Reading.{log_form_of, log_page_at};
 
-use crate::form::Form;
+use crate::form::{Form, PageForm};
 use crate::front::{u16_at, u32_at, u64_at};
 use crate::records::{Records, body_at};
 use std::marker::Model;
@@ -71,7 +71,7 @@ fn log_page_at(bytes: &[u8]) -> Option<LogPage<'_>>
     let form = form_of(magic)?;
     let (segment, rest) = u64_at(rest)?;
     let (page, rest) = u16_at(rest)?;
-    let records = body_at(form, rest)?;
+    let records = body_at(PageForm::Log(form), rest)?;
     Some(LogPage {
         segment,
         page,
@@ -81,7 +81,7 @@ fn log_page_at(bytes: &[u8]) -> Option<LogPage<'_>>
 
 // The form of a log page that begins so.
 fn form_of(magic: u32) -> Option<Form>
-    ensures { result ≡ form_of log_magic magic }
+    ensures { result ≡ log_form_of magic }
 {
     match magic {
         LOG_MAGIC => Some(Form::Timed),

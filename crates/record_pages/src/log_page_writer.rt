@@ -2,12 +2,12 @@
 ghost use Rattle.std.specs.Prelude.{◌≡◌, ◌↔◌, [], ◌∷◌, ◌++◌, List, IsTrue, IfSome, length, slice_get, All};
 ghost use Rattle.std.specs.Option.{option_map};
 ghost use Rattle.record_pages.specs.Sizes.{IsPageSize};
-ghost use Rattle.record_pages.specs.Recs.{Rec, IsRecord, fit};
+ghost use Rattle.record_pages.specs.Recs.{Rec, IsRecord, fit_log};
 ghost use Rattle.record_pages.specs.Lent.{record_shown};
 ghost use Rattle.record_pages.specs.PageText.{log_page_text, SpellsLogPage};
-ghost use Rattle.record_pages.specs.Making.{AreStarts};
+ghost use Rattle.record_pages.specs.Making.{IsLogInTheMaking};
 
-use crate::object::MAX_RECORDS;
+use crate::object::MAX_LOG_RECORDS;
 use crate::page_body::PageBody;
 use crate::put::{put, put_log_header, zero_from};
 use crate::record_ref::RecordRef;
@@ -19,7 +19,7 @@ use std::marker::Model;
 pub struct LogPageWriter<const PAGE: usize> {
     body: PageBody<PAGE>,
     // Where the bytes of each record begin.
-    starts: [u32; MAX_RECORDS],
+    starts: [u32; MAX_LOG_RECORDS],
 }
 
 impl<const PAGE: usize> Model for LogPageWriter<PAGE> {
@@ -27,7 +27,7 @@ impl<const PAGE: usize> Model for LogPageWriter<PAGE> {
 
     ghost view = { λ w. w.body };
 
-    ghost invariant = { λ w. AreStarts w.body w.starts };
+    ghost invariant = { λ w. IsLogInTheMaking w.body w.starts };
 }
 
 impl<const PAGE: usize> LogPageWriter<PAGE> {
@@ -37,14 +37,14 @@ impl<const PAGE: usize> LogPageWriter<PAGE> {
     {
         LogPageWriter {
             body: PageBody::new(),
-            starts: [0; MAX_RECORDS],
+            starts: [0; MAX_LOG_RECORDS],
         }
     }
 
     /// How many records there are.
     pub fn len(&self) -> usize
         ensures len { result ≡ length self.now }
-        ensures fits { IsTrue (fit PAGE self.now) }
+        ensures fits { IsTrue (fit_log PAGE self.now) }
         ensures each { All IsRecord self.now }
     {
         self.body.len() as usize
@@ -60,15 +60,15 @@ impl<const PAGE: usize> LogPageWriter<PAGE> {
     /// Whether a record more still fits.
     pub fn fits(&self, added: RecordRef<'_>) -> bool
         requires { IsRecord (record_shown added) }
-        ensures { result ≡ fit PAGE (self.now ++ record_shown added.entry ∷ []) }
+        ensures { result ≡ fit_log PAGE (self.now ++ record_shown added.entry ∷ []) }
     {
-        self.body.fits(added)
+        self.body.has_room(added) && self.len() < MAX_LOG_RECORDS
     }
 
     /// Adds a record behind the others. It has to fit.
     pub fn push(&mut self, added: RecordRef<'_>)
         requires lawful { IsRecord (record_shown added) }
-        requires fits { IsTrue (fit PAGE (self.old ++ record_shown added ∷ [])) }
+        requires fits { IsTrue (fit_log PAGE (self.old ++ record_shown added ∷ [])) }
         ensures { self.new ≡ self.old ++ record_shown added.entry ∷ [] }
     {
         let slot = self.body.len() as usize;

@@ -1,5 +1,6 @@
 // The records of a page in the making, in the bytes that they take on a page, without a header.
-ghost use Rattle.std.specs.Prelude.{◌≡◌, ◌+◌, ◌<◌, [], ◌∷◌, ◌++◌, List, IsTrue, Some, length, take, slice_get, All};
+ghost use Rattle.std.specs.Prelude.{◌≡◌, ◌+◌, ◌<◌, [], ◌∷◌, ◌++◌, List, IsTrue, Some, length, take, slice_get, nat_le, All};
+ghost use Rattle.record_pages.specs.Sizes.{room};
 ghost use Rattle.record_pages.specs.Recs.{Rec, IsRecord, size, sizes, fit};
 ghost use Rattle.record_pages.specs.Lent.{record_shown};
 ghost use Rattle.record_pages.specs.PageText.{records_text};
@@ -8,13 +9,13 @@ ghost use Rattle.record_pages.specs.Making.{IsInTheMaking};
 ghost use Rattle.record_pages.specs.declared.form.Form.TheVariants.{Timed};
 
 use crate::form::Form;
-use crate::object::{MAX_RECORDS, PAGE_OVERHEAD};
+use crate::object::PAGE_OVERHEAD;
 use crate::put::put_record;
 use crate::record_ref::RecordRef;
 use crate::records::{Records, record_there, records_in};
 use std::marker::Model;
 
-// The records pushed so far, in order.
+// The records pushed so far, in order: they fit on a set page. On a log page there are fewer, which its writer tests.
 #[derive(Debug, Drop)]
 pub(crate) struct PageBody<const PAGE: usize> {
     bytes: [u8; PAGE],
@@ -59,13 +60,13 @@ impl<const PAGE: usize> PageBody<PAGE> {
         self.count = 0;
     }
 
-    // Whether a record more still fits.
-    pub(crate) fn fits(&self, added: RecordRef<'_>) -> bool
+    // Whether there is room for the bytes of a record more.
+    pub(crate) fn has_room(&self, added: RecordRef<'_>) -> bool
         requires { IsRecord (record_shown added) }
-        ensures { result ≡ fit PAGE (self.now ++ record_shown added.entry ∷ []) }
+        ensures { result
+            ≡ nat_le (sizes (self.now ++ record_shown added.entry ∷ [])) (room PAGE) }
     {
-        let room = PAGE.saturating_sub(PAGE_OVERHEAD) - self.used;
-        added.size() <= room && (self.count as usize) < MAX_RECORDS
+        added.size() <= PAGE.saturating_sub(PAGE_OVERHEAD) - self.used
     }
 
     // Adds a record, which has to fit.

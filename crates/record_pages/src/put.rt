@@ -5,6 +5,7 @@ ghost use Rattle.record_pages.specs.Recs.{IsRecord, size, sizes};
 ghost use Rattle.record_pages.specs.Lent.{record_shown};
 ghost use Rattle.record_pages.specs.PageText.{record_text, records_text, set_head, log_head};
 ghost use Rattle.record_pages.specs.declared.form.Form.TheVariants.{Timed};
+ghost use Rattle.record_pages.specs.declared.form.SetForm.TheVariants.{Large};
 
 use crate::log_page::LOG_MAGIC;
 use crate::record::Record;
@@ -57,7 +58,7 @@ pub(crate) fn put_records(into: &mut [u8], at: usize, records: &[Record]) -> usi
 // Writes the header of a set page, and answers the place behind it.
 pub(crate) fn put_set_header(into: &mut [u8], set: u32, write: u64, count: u16) -> usize
     requires { 18 ≤ length into.old }
-    ensures text { take result into.new ≡ set_head Timed set write ++ to_be_bytes w16 count }
+    ensures text { take result into.new ≡ set_head Large set write ++ to_be_bytes w16 count }
     ensures end { result ≡ 18 }
 {
     let at = put(into, 0, &SET_MAGIC.to_be_bytes());

@@ -8,11 +8,10 @@ ghost use Rattle.record_pages.specs.Reading.{expiry_at, record_at, records_at, r
 ghost use Rattle.record_pages.specs.Walking.{StepsOverRecord};
 ghost use Rattle.record_pages.specs.Looking.{first_with, found_shown};
 
-use crate::form::Form;
+use crate::form::{Form, PageForm};
 use crate::found::Found;
 use crate::front::{byte_at, is_zero, u16_at, u64_at};
 use crate::key::Key;
-use crate::object::MAX_RECORDS;
 use crate::prediction::Prediction;
 use crate::record_ref::RecordRef;
 use crate::timed_value::NEVER;
@@ -118,13 +117,14 @@ pub(crate) fn records_in(form: Form, left: u16, rest: &[u8]) -> Records<'_>
 
 // The records of a page whose head was read.
 #[tactic(auto, unfolding(crate::specs::Reading::body_at))]
-pub(crate) fn body_at(form: Form, bytes: &[u8]) -> Option<Records<'_>>
+pub(crate) fn body_at(form: PageForm, bytes: &[u8]) -> Option<Records<'_>>
     ensures { result ≡ body_at form bytes.now }
 {
     let (count, body) = u16_at(bytes)?;
-    if count as usize > MAX_RECORDS {
+    if count as usize > form.limit() {
         return None;
     }
+    let form = form.within();
     let tail = after_records(form, count, body)?;
     if !is_zero(tail) {
         return None;

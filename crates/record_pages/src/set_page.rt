@@ -1,20 +1,24 @@
 // A set page that was read.
 ghost use Rattle.std.specs.Prelude.{◌≡◌, IfSome, Some, length};
-ghost use Rattle.record_pages.specs.PageText.{SetPageParts, set_magic, SpellsSetPage, SetPageTextsDiffer};
-ghost use Rattle.record_pages.specs.Reading.{form_of, set_page_at};
+ghost use Rattle.record_pages.specs.PageText.{SetPageParts, SpellsSetPage, SetPageTextsDiffer};
+ghost use Rattle.record_pages.specs.Reading.{set_form_of, set_page_at};
 
-use crate::form::Form;
+use crate::form::{PageForm, SetForm};
 use crate::front::{u32_at, u64_at};
 use crate::records::{Records, body_at};
 use std::marker::Model;
 
-/// The first four bytes of a set page: `KSE1`.
-pub(crate) const SET_MAGIC: u32 = 0x4b53_4531;
+/// The first four bytes of a set page: `KSE2`.
+pub(crate) const SET_MAGIC: u32 = 0x4b53_4532;
 
-// The first four bytes of a set page whose records have no expiry: `KSET`.
+// The first four bytes of a set page of at most `MAX_FORMER_RECORDS` records: `KSE1`.
+const TIMED_SET_MAGIC: u32 = 0x4b53_4531;
+
+// The first four bytes of a set page of as many records that have no expiry: `KSET`.
 const LASTING_SET_MAGIC: u32 = 0x4b53_4554;
 
-/// A set page that was read: its header, and its records, which lie in the bytes that were read.
+/// A set page that was read: its header, and its records, which lie in the bytes that were read. Pages of the two older
+/// forms are read too.
 #[derive(Debug, Drop)]
 pub struct SetPage<'a> {
     set: u32,
@@ -71,7 +75,7 @@ fn set_page_at(bytes: &[u8]) -> Option<SetPage<'_>>
     let form = form_of(magic)?;
     let (set, rest) = u32_at(rest)?;
     let (write, rest) = u64_at(rest)?;
-    let records = body_at(form, rest)?;
+    let records = body_at(PageForm::Set(form), rest)?;
     Some(SetPage {
         set,
         write,
@@ -80,12 +84,13 @@ fn set_page_at(bytes: &[u8]) -> Option<SetPage<'_>>
 }
 
 // The form of a set page that begins so.
-fn form_of(magic: u32) -> Option<Form>
-    ensures { result ≡ form_of set_magic magic }
+fn form_of(magic: u32) -> Option<SetForm>
+    ensures { result ≡ set_form_of magic }
 {
     match magic {
-        SET_MAGIC => Some(Form::Timed),
-        LASTING_SET_MAGIC => Some(Form::Lasting),
+        SET_MAGIC => Some(SetForm::Large),
+        TIMED_SET_MAGIC => Some(SetForm::Timed),
+        LASTING_SET_MAGIC => Some(SetForm::Lasting),
         _ => None,
     }
 }

@@ -5,6 +5,7 @@ ghost use Rattle.record_pages.specs.Recs.{Rec, IsRecord, fit};
 ghost use Rattle.record_pages.specs.Lent.{record_shown};
 ghost use Rattle.record_pages.specs.PageText.{set_page_text, SpellsSetPage};
 
+use crate::object::MAX_SET_RECORDS;
 use crate::page_body::PageBody;
 use crate::put::{put, put_set_header, zero_from};
 use crate::record_ref::RecordRef;
@@ -54,7 +55,7 @@ impl<const PAGE: usize> SetPageWriter<PAGE> {
         requires { IsRecord (record_shown added) }
         ensures { result ≡ fit PAGE (self.now ++ record_shown added.entry ∷ []) }
     {
-        self.body.fits(added)
+        self.body.has_room(added) && self.len() < MAX_SET_RECORDS
     }
 
     /// Adds a record behind the others. It has to fit.

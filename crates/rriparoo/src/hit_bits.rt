@@ -3,16 +3,16 @@ ghost use Rattle.std.specs.Prelude.{◌≡◌, ◌<◌};
 ghost use Rattle.std.specs.Ordering.{nat_cmp};
 ghost use Rattle.std.specs.FinSet as set;
 ghost use Rattle.std.specs.Coded.{coded_ℕ};
-ghost use Rattle.record_pages.specs.Sizes.{max_records};
+ghost use Rattle.record_pages.specs.Sizes.{max_set_records};
 ghost use Rattle.rriparoo.specs.HitBits.{bits_of};
 
 use std::marker::Model;
 
 /// The places of a set's page whose records were hit since the page was written: a set of places below
-/// `MAX_RECORDS`.
+/// `MAX_SET_RECORDS`, a bit of one word for each.
 #[derive(Clone, Debug, Drop)]
 pub struct HitBits {
-    bits: u64,
+    bits: u128,
 }
 
 impl Model for HitBits {
@@ -33,7 +33,7 @@ impl HitBits {
 
     /// Notes a hit at a place.
     pub fn set(&mut self, place: usize)
-        requires { place < max_records }
+        requires { place < max_set_records }
         ensures { self.new ≡ set.insert self.old place }
     {
         self.bits |= 1 << place;
@@ -41,7 +41,7 @@ impl HitBits {
 
     /// Whether the place was hit.
     pub fn has(&self, place: usize) -> bool
-        requires { place < max_records }
+        requires { place < max_set_records }
         ensures { result ≡ set.contains self.now place }
     {
         (self.bits >> place) & 1 == 1

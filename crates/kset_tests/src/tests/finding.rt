@@ -66,27 +66,30 @@ fn the_first_of_two_records_with_a_key_is_found(rt: HostRuntime) -> Result<(), F
 
 type Wide = MemoryDevice<4096>;
 
-const A: Pair = (b"a", b"1");
+// Two pairs whose records are of the least size, 13 bytes.
+const A: Pair = (b"a", b"");
 
-// 63 records of one key, and one of another.
+const B: Pair = (b"b", b"");
+
+// As many pairs as a set page may have: all but the last of one key, and that of another.
 fn full(alloc: Global) -> Result<Vec<Pair>, Fail> {
-    let mut pairs: Vec<Pair> = vec![in alloc; A; MAX_RECORDS - 1]?;
-    pairs.push((b"b", b"2"))?;
+    let mut pairs: Vec<Pair> = vec![in alloc; A; MAX_SET_RECORDS - 1]?;
+    pairs.push(B)?;
     Ok(pairs)
 }
 
-const FINDS_THE_LAST: [Step; 1] = [Step::Look(b"b", Seen::Value(b"2"))];
+const FINDS_THE_LAST: [Step; 1] = [Step::Look(b"b", Seen::Value(b""))];
 
-// Whether these are so many records as fit on a page, of which the last alone is hit.
+// Whether these are as many records as a set page may have, of which the last alone is hit.
 fn is_last_alone_hit(read: SetRead) -> bool {
     let SetRead::Records(records) = read else {
         return false;
     };
-    if records.len() != MAX_RECORDS {
+    if records.len() != MAX_SET_RECORDS {
         return false;
     }
     for number in 0..records.len() {
-        if records.at(number).hit != (number + 1 == MAX_RECORDS) {
+        if records.at(number).hit != (number + 1 == MAX_SET_RECORDS) {
             return false;
         }
     }
@@ -107,7 +110,7 @@ fn read_behind(
 }
 
 #[test]
-fn the_last_of_64_slots_is_hit(rt: HostRuntime) -> Result<(), Fail> {
+fn the_last_of_128_slots_is_hit(rt: HostRuntime) -> Result<(), Fail> {
     let pairs = full(rt.alloc())?;
     let read = read_behind(&rt, rt.alloc(), &pairs, &FINDS_THE_LAST)?;
     assert!(rt; is_last_alone_hit(read));

@@ -1,7 +1,7 @@
 // Gathering the records of a move.
 ghost use Rattle.std.specs.Prelude.{◌≡◌, ◌<◌, ◌≤◌, ◌+◌, [], ◌∷◌, ◌++◌, false, length, IfOk, OnErr, IsTrue};
 ghost use Rattle.page_device.specs.Device.{faults_after};
-ghost use Rattle.record_pages.specs.Sizes.{max_records};
+ghost use Rattle.record_pages.specs.Sizes.{max_set_records};
 ghost use Rattle.klog.specs.Moves.{is_taking_lost, most_taken};
 ghost use Rattle.kset.specs.ReadSet.{is_set_lost};
 ghost use Rattle.mover.specs.Store.{most_moves};
@@ -92,7 +92,7 @@ impl<D: PageDevice<PAGE>, const PAGE: usize> Store<D, PAGE> {
         requires set { moving.set < self.old.layout.sets }
         requires number { moving.number ≡ self.old.moves + 1 }
         requires room { self.old.moves < most_moves }
-        requires few { length (records_of moving) ≤ max_records + most_taken }
+        requires few { length (records_of moving) ≤ max_set_records + most_taken }
         requires placed { IsTrue (D.honest self.old.device) →
             AreOfSet self.old.log.shape moving }
         ensures job { IfOk result (λ job. job ≡ job_of PAGE moving) }

@@ -60,6 +60,25 @@ fn job(alloc: Global, rows: &[Row]) -> Result<Job, Fail> {
     })
 }
 
+/// A job of so many fresh items, the least that there are, for a page of 4,096 bytes.
+fn least(alloc: Global, count: usize) -> Result<Job, Fail> {
+    let mut items = Items::new(alloc);
+    for _ in 0..count {
+        items.push(Item {
+            size: 13,
+            prediction: prediction(6)?,
+            hit: false,
+            fresh: true,
+        })?;
+    }
+    Ok(Job {
+        number: 1,
+        set: 0,
+        room: 4078,
+        items,
+    })
+}
+
 fn through_the_bound<P: EvictionPolicy>(
     policy: &P,
     alloc: Global,
@@ -83,6 +102,16 @@ fn is_plan(plan: &Plan, wanted: &[(usize, u8)]) -> bool {
 
 fn is_choice(choice: Choice, (item, number): (usize, u8)) -> bool {
     choice.item == item && choice.prediction.get() == number
+}
+
+/// Whether a plan keeps the first items, so many, in their order.
+fn keeps_first(plan: &Plan, count: usize) -> bool {
+    for index in 0..plan.len() {
+        if !is_choice(plan.at(index), (index, 6)) {
+            return false;
+        }
+    }
+    plan.len() == count
 }
 
 /// Whether the first items have these ages.
@@ -135,5 +164,14 @@ fn items_age_where_all_fit(rt: HostRuntime) -> Result<(), Fail> {
     let job = job(rt.alloc(), &ALL_FIT)?;
     let plan = Rriparoo.choose(rt.alloc(), &job)?;
     assert!(rt; is_plan(&plan, &[(0, 5), (1, 7)]));
+    Ok(())
+}
+
+#[test]
+fn a_plan_keeps_128_of_129_items(rt: HostRuntime) -> Result<(), Fail> {
+    let some = Rriparoo.choose(rt.alloc(), &least(rt.alloc(), 100)?)?;
+    assert!(rt; keeps_first(&some, 100));
+    let most = Rriparoo.choose(rt.alloc(), &least(rt.alloc(), 129)?)?;
+    assert!(rt; keeps_first(&most, 128));
     Ok(())
 }

@@ -1,7 +1,9 @@
 //! Pages that are read, and each reason for which one is refused.
 ghost use Rattle.record_pages.specs.Sizes.{IsPageSize};
 
-use super::rows::{EXPIRES, LASTING_LOG_ROW, LASTING_SET_ROW, LOG_ROW, SET_ROW, page_of};
+use super::rows::{
+    EXPIRES, FORMER_SET_ROW, LASTING_LOG_ROW, LASTING_SET_ROW, LOG_ROW, SET_ROW, page_of,
+};
 use record_pages::{LogPage, NEVER, Records, SetPage};
 
 /// Whether these are one record: key `a`, a value of this length that expires then, prediction 6.
@@ -37,16 +39,17 @@ fn is_the_log_page(page: &[u8; 256], value_len: usize, expires: u64) -> bool {
 #[test]
 fn pages_of_one_record_are_read(rt: HostRuntime) {
     let page = page_of::<256>(&SET_ROW);
-    assert!(rt; is_the_set_page(&page, 2, EXPIRES));
+    assert!(rt; is_the_set_page(&page, 2, NEVER));
     assert!(rt; LogPage::read(&page).is_none());
     let page = page_of::<256>(&LOG_ROW);
     assert!(rt; is_the_log_page(&page, 2, EXPIRES));
     assert!(rt; SetPage::read(&page).is_none());
 }
 
-// Records of a page of the older form never expire.
+// Records of a page of the oldest form never expire.
 #[test]
-fn pages_of_the_older_form_are_read(rt: HostRuntime) {
+fn pages_of_the_older_forms_are_read(rt: HostRuntime) {
+    assert!(rt; is_the_set_page(&page_of::<256>(&FORMER_SET_ROW), 2, EXPIRES));
     let page = page_of::<256>(&LASTING_SET_ROW);
     assert!(rt; is_the_set_page(&page, 2, NEVER));
     assert!(rt; LogPage::read(&page).is_none());
@@ -67,8 +70,8 @@ fn is_refused<const PAGE: usize>(front: &[u8], at: usize, byte: u8) -> bool
 }
 
 /// Whether a page of a row is read as it is and with other bytes that may stand there, and each byte that may not is
-/// refused: the magic, 65 records, no key, a value of 2,050 bytes, prediction 8, a byte behind the record and the last
-/// one. The row's header ends before `body`, and its record, of 7 or 15 bytes, at `end`.
+/// refused: the magic, a second record where none is, no key, a value of 2,050 bytes, prediction 8, a byte behind the
+/// record and the last one. The row's header ends before `body`, and its record, of 7 or 15 bytes, at `end`.
 fn are_refused<const PAGE: usize>(front: &[u8], body: usize, end: usize) -> bool
     requires small { (0 < body) × (body < 64) }
     requires page_size { IsPageSize PAGE }
@@ -76,8 +79,8 @@ fn are_refused<const PAGE: usize>(front: &[u8], body: usize, end: usize) -> bool
     !is_refused::<PAGE>(front, 0, 0x4b)
         && !is_refused::<PAGE>(front, body + 3, 7)
         && is_refused::<PAGE>(front, 0, 0x4c)
-        && is_refused::<PAGE>(front, 3, 0x32)
-        && is_refused::<PAGE>(front, body - 1, 65)
+        && is_refused::<PAGE>(front, 3, 0x33)
+        && is_refused::<PAGE>(front, body - 1, 2)
         && is_refused::<PAGE>(front, body, 0)
         && is_refused::<PAGE>(front, body + 1, 8)
         && is_refused::<PAGE>(front, body + 3, 8)
@@ -85,7 +88,7 @@ fn are_refused<const PAGE: usize>(front: &[u8], body: usize, end: usize) -> bool
         && is_refused::<PAGE>(front, PAGE - 1, 1)
 }
 
-ghost use Rattle.std.specs.Prelude.{◌<◌};
+ghost use Rattle.std.specs.Prelude.{◌<◌, ◌≤◌, length};
 
 #[test]
 fn pages_that_are_no_text_are_refused(rt: HostRuntime) {
@@ -93,6 +96,7 @@ fn pages_that_are_no_text_are_refused(rt: HostRuntime) {
     assert!(rt; are_refused::<4096>(&SET_ROW, 18, 33));
     assert!(rt; are_refused::<256>(&LOG_ROW, 16, 31));
     assert!(rt; are_refused::<4096>(&LOG_ROW, 16, 31));
+    assert!(rt; are_refused::<256>(&FORMER_SET_ROW, 18, 33));
     assert!(rt; are_refused::<256>(&LASTING_SET_ROW, 18, 25));
     assert!(rt; are_refused::<256>(&LASTING_LOG_ROW, 16, 23));
 }
@@ -129,4 +133,65 @@ fn values_have_their_greatest_length(rt: HostRuntime) {
     assert!(rt; !reads_up_to(228));
     assert!(rt; reads_a_lasting_value_of(235));
     assert!(rt; !reads_a_lasting_value_of(236));
+}
+
+/// A page with this head and so many records, each of these bytes.
+fn crowded(head: &[u8], record: &[u8], count: u8) -> [u8; 4096]
+    requires head { length head.now ≤ 16 }
+    requires record { 0 < length record.now }
+{
+    let start = head.len() + 2;
+    let mut page = page_of::<4096>(head);
+    page[start - 1] = count;
+    for (at, byte) in page.iter_mut().enumerate() {
+        if at >= start && (at - start) / record.len() < count as usize {
+            *byte = record[(at - start) % record.len()];
+        }
+    }
+    page
+}
+
+// A record of key `a` and no value, which expires at 1, and one that never expires.
+const SMALL: [u8; 13] = [1, 0, 0, 6, 0, 0, 0, 0, 0, 0, 0, 1, 0x61];
+
+const LASTING_SMALL: [u8; 5] = [1, 0, 0, 6, 0x61];
+
+/// Whether a set page with the head of a row is read with so many records, and no page with one more is.
+fn is_set_limit(row: &[u8], record: &[u8], count: u8) -> bool
+    requires row { 16 ≤ length row.now }
+    requires record { 0 < length record.now }
+    requires count { count < 255 }
+{
+    let head = &row[..16];
+    let full = crowded(head, record, count);
+    let Some(read) = SetPage::read(&full) else {
+        return false;
+    };
+    read.records().len() == count as usize
+        && SetPage::read(&crowded(head, record, count + 1)).is_none()
+}
+
+/// The same of a log page.
+fn is_log_limit(row: &[u8], record: &[u8], count: u8) -> bool
+    requires row { 14 ≤ length row.now }
+    requires record { 0 < length record.now }
+    requires count { count < 255 }
+{
+    let head = &row[..14];
+    let full = crowded(head, record, count);
+    let Some(read) = LogPage::read(&full) else {
+        return false;
+    };
+    read.records().len() == count as usize
+        && LogPage::read(&crowded(head, record, count + 1)).is_none()
+}
+
+// Records of 13 bytes and of 5 leave room on a page of 4,096 bytes, so that their number alone is too great.
+#[test]
+fn pages_of_each_form_have_their_limit(rt: HostRuntime) {
+    assert!(rt; is_set_limit(&SET_ROW, &SMALL, 128));
+    assert!(rt; is_set_limit(&FORMER_SET_ROW, &SMALL, 64));
+    assert!(rt; is_set_limit(&LASTING_SET_ROW, &LASTING_SMALL, 64));
+    assert!(rt; is_log_limit(&LOG_ROW, &SMALL, 64));
+    assert!(rt; is_log_limit(&LASTING_LOG_ROW, &LASTING_SMALL, 64));
 }

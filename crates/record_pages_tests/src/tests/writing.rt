@@ -1,7 +1,8 @@
 //! Pages that are written, at once and record by record.
-use super::rows::{LOG_ROW, ROW, Row, SET_ROW, page_of, record};
+use super::rows::{LOG_ROW, ROW, Row, SET_ROW, lasting_record, page_of, record};
 use record_pages::{
-    LogPageWriter, Record, Records, SetPage, SetPageWriter, encode_log_page, encode_set_page, fits,
+    LogPageWriter, MAX_LOG_RECORDS, Record, Records, SetPage, SetPageWriter, encode_log_page,
+    encode_set_page, fits,
 };
 use std::alloc::Global;
 use std::test::Fail;
@@ -18,7 +19,7 @@ fn is_set_text(records: &[Record], text: &[u8; 256]) -> bool {
 
 /// Whether these records, as page 0 of segment 0, are this page.
 fn is_log_text(records: &[Record], text: &[u8; 256]) -> bool {
-    if !fits::<256>(records) {
+    if records.len() > MAX_LOG_RECORDS || !fits::<256>(records) {
         return false;
     }
     let mut page = [0xff; 256];
@@ -28,8 +29,9 @@ fn is_log_text(records: &[Record], text: &[u8; 256]) -> bool {
 
 #[test]
 fn one_record_is_written(rt: HostRuntime) -> Result<(), Fail> {
-    let records = vec![in rt.alloc(); record(rt.alloc(), ROW)?]?;
+    let records = vec![in rt.alloc(); lasting_record(rt.alloc(), ROW)?]?;
     assert!(rt; is_set_text(&records, &page_of::<256>(&SET_ROW)));
+    let records = vec![in rt.alloc(); record(rt.alloc(), ROW)?]?;
     assert!(rt; is_log_text(&records, &page_of::<256>(&LOG_ROW)));
     Ok(())
 }
@@ -75,9 +77,8 @@ fn writes_the_log_page(record: &Record) -> bool {
 
 #[test]
 fn one_record_is_written_by_a_writer(rt: HostRuntime) -> Result<(), Fail> {
-    let record = record(rt.alloc(), ROW)?;
-    assert!(rt; writes_the_set_page(&record));
-    assert!(rt; writes_the_log_page(&record));
+    assert!(rt; writes_the_set_page(&lasting_record(rt.alloc(), ROW)?));
+    assert!(rt; writes_the_log_page(&record(rt.alloc(), ROW)?));
     Ok(())
 }
 
@@ -133,6 +134,15 @@ fn pushed(tries: u8, record: &Record) -> usize {
     writer.len()
 }
 
+/// The same on a log page.
+fn pushed_to_log(tries: u8, record: &Record) -> usize {
+    let mut writer = LogPageWriter::<4096>::new();
+    for _ in 0..tries {
+        let _is_pushed = push_to_log(&mut writer, record);
+    }
+    writer.len()
+}
+
 /// So many records of 13 bytes.
 fn small(alloc: Global, count: u8) -> Result<Vec<Record>, Fail> {
     let mut records = Vec::new(alloc);
@@ -142,12 +152,16 @@ fn small(alloc: Global, count: u8) -> Result<Vec<Record>, Fail> {
     Ok(records)
 }
 
-// Records of 13 bytes leave room on a page of 4,096 bytes when 64 of them lie there.
+// Records of 13 bytes leave room on a page of 4,096 bytes when as many of them lie there as may.
 #[test]
-fn a_page_has_at_most_64_records(rt: HostRuntime) -> Result<(), Fail> {
-    assert_eq!(rt; pushed(100, &record(rt.alloc(), (b"a", b"", 0))?), 64);
-    assert!(rt; fits::<4096>(&small(rt.alloc(), 64)?));
-    assert!(rt; !fits::<4096>(&small(rt.alloc(), 65)?));
+fn a_page_of_each_kind_has_its_limit(rt: HostRuntime) -> Result<(), Fail> {
+    let record = record(rt.alloc(), (b"a", b"", 0))?;
+    assert_eq!(rt;
+        (pushed(200, &record), pushed_to_log(200, &record)),
+        (128, 64)
+    );
+    assert!(rt; fits::<4096>(&small(rt.alloc(), 128)?));
+    assert!(rt; !fits::<4096>(&small(rt.alloc(), 129)?));
     Ok(())
 }
 

@@ -2,6 +2,8 @@ use Rattle.std.proofs.Common.{◌<◌, ◌≤◌, ◌+◌, true, false, set, len
 use Rattle.std.proofs.lemmas.Bool.{false≢true}
 use Rattle.std.proofs.lemmas.List.{length-set, length-replicate}
 use Rattle.record_pages.specs.Recs.{size}
+use Rattle.record_pages.specs.Sizes.{max_set_records}
+use Rattle.klog.specs.Moves.{most_taken}
 use Rattle.mover.specs.Job.{job_of, items_of}
 use Rattle.mover.specs.Commit.{IsFitting}
 use Rattle.mover.proofs.Filling.{as_many}
@@ -11,10 +13,10 @@ use Rattle.mover.proofs.fitting.is_fitting.Goals as goal
 
 pub loop-number-init : goal.loop-number-init
 loop-number-init g c = (
-  tested_none (job_of g.row.PAGE c.args.moving.now) (replicate 96 false) (unmarked 96),
-  length-replicate 96 false,
+  tested_none (job_of g.row.PAGE c.args.moving.now) (replicate (max_set_records + most_taken) false) (unmarked (max_set_records + most_taken)),
+  length-replicate (max_set_records + most_taken) false,
   omega arith,
-  omega (arith, c.if-len-gt-MAX_RECORDS.false, c.len.ensures),
+  omega (arith, c.if-len-gt-MAX_SET_RECORDS.false, c.len.ensures),
 )
 
 pub returns-then-item-len : goal.returns-then-item-len

@@ -19,7 +19,7 @@ spells g c =
       fits = c.requires.fits;
       each = behind.ensures.each;
     } in
-    log_page_written g.row.PAGE c.args.segment c.args.page_number c.zero_from.new.into c.args.records.now header.result behind.result header.new.into behind.new.into (omega (arith, c.requires.page_size)) (omega (arith, c.ranges.segment)) (omega (arith, c.ranges.page_number)) written
+    log_page_written g.row.PAGE c.args.segment c.args.page_number c.zero_from.new.into c.args.records.now header.result behind.result header.new.into behind.new.into (omega (arith, c.requires.page_size)) (omega (arith, c.ranges.segment)) (omega (arith, c.ranges.page_number)) c.requires.few written
 
 pub returns-clause-spelled : goal.returns-clause-spelled
 returns-clause-spelled g c = inl (spells g c)

@@ -24,7 +24,7 @@ spells g c =
       each = c.len.ensures.each;
     } in
     let shows : List Rec → Type 0 = λ xs. SpellsLogForm Timed g.row.PAGE c.zero_from.new.into (record { segment = c.args.segment; page = c.args.page_number; records = xs }) in
-    subst shows c.self.view_is (log_page_written g.row.PAGE c.args.segment c.args.page_number c.zero_from.new.into rs header.result behind.result header.new.into behind.new.into (omega (arith, c.requires)) (omega (arith, c.ranges.segment)) (omega (arith, c.ranges.page_number)) written)
+    subst shows c.self.view_is (log_page_written g.row.PAGE c.args.segment c.args.page_number c.zero_from.new.into rs header.result behind.result header.new.into behind.new.into (omega (arith, c.requires)) (omega (arith, c.ranges.segment)) (omega (arith, c.ranges.page_number)) c.self.invariant.few written)
 
 pub returns-clause-spelled : goal.returns-clause-spelled
 returns-clause-spelled g c = inl (spells g c)

@@ -2,16 +2,16 @@ use Rattle.std.proofs.Common.{inl, ◌+◌, ◌++◌, take, arith, ap, subst, �
 use Rattle.std.specs.Int.{w16, to_be_bytes}
 use Rattle.record_pages.specs.Recs.{Rec}
 use Rattle.record_pages.specs.PageText.{set_head, SpellsSetForm}
-use Rattle.record_pages.specs.declared.form.Form.TheVariants.{Timed}
+use Rattle.record_pages.specs.declared.form.SetForm.TheVariants.{Large}
 use Rattle.record_pages.proofs.MakingLaws.{Written, set_page_written}
 use Rattle.record_pages.proofs.set_page_writer.SetPageWriter.text.Goals as goal
 
-spells : (g : _) (c : goal.After-page-3-1 g) → SpellsSetForm Timed g.row.PAGE c.zero_from.new.into (record { set = c.args.set; write = c.args.write; records = c.args.self.now })
+spells : (g : _) (c : goal.After-page-3-1 g) → SpellsSetForm Large g.row.PAGE c.zero_from.new.into (record { set = c.args.set; write = c.args.write; records = c.args.self.now })
 spells g c =
     let header = c.put_set_header-at in
     let behind = c.put-at in
     let rs = c.self.inside.body in
-    let head = set_head Timed c.args.set c.args.write in
+    let head = set_head Large c.args.set c.args.write in
     let written : Written g.row.PAGE head c.zero_from.new.into rs header.result behind.result header.new.into behind.new.into =
     record {
       first_is = header.ensures.text ∙ ap (λ n. head ++ to_be_bytes w16 n) c.len.ensures.len;
@@ -23,7 +23,7 @@ spells g c =
       fits = c.len.ensures.fits;
       each = c.len.ensures.each;
     } in
-    let shows : List Rec → Type 0 = λ xs. SpellsSetForm Timed g.row.PAGE c.zero_from.new.into (record { set = c.args.set; write = c.args.write; records = xs }) in
+    let shows : List Rec → Type 0 = λ xs. SpellsSetForm Large g.row.PAGE c.zero_from.new.into (record { set = c.args.set; write = c.args.write; records = xs }) in
     subst shows c.self.view_is (set_page_written g.row.PAGE c.args.set c.args.write c.zero_from.new.into rs header.result behind.result header.new.into behind.new.into (omega (arith, c.requires)) (omega (arith, c.ranges.set)) (omega (arith, c.ranges.write)) written)
 
 pub returns-clause-spelled : goal.returns-clause-spelled
