@@ -14,7 +14,7 @@ import sys
 import tempfile
 
 HERE = os.path.dirname(os.path.abspath(__file__))
-TOLD = (b"AllocError", b"AllocFailed", b"OutOfMemory")
+TOLD = (b"AllocError", b"AllocFailed", b"OutOfMemory", b"out of memory")
 
 
 def run(library, program, test, number, folder):
