@@ -5,14 +5,9 @@ use Rattle.mover.specs.Store.{StoreState, opening}
 use Rattle.mover.specs.Laws.{IsInOrder, OpeningShowsNothing}
 use Rattle.mover.specs.Lane.{lane_of}
 use Rattle.mover.specs.Visible.{IsShown}
-use Rattle.certificate_checker.specs.Deeds.{Deed}
+use Rattle.deed_laws.proofs.Sounding.{no_deed}
 use Rattle.history_recorder.specs.declared.noted.Noted.{Noted}
 use Rattle.history_recorder.specs.Lane.{IsRecorded}
-
--- no deed is among none
-pub no_deed : (before after : List Deed) (deed : Deed) → [] ≡ before ++ deed ∷ after → ⊥
-no_deed [] after deed split = cc
-no_deed (x ∷ before) after deed split = cc
 
 -- what is true of a lane that was just opened and recorded nothing
 pub opened : {D : Type 0} (honest : D → Bool) (held : D → ℕ → Option (List ℕ)) (store : StoreState D) (device : D) (lane : ℕ) (calls : List Noted) → lane < store.layout.lanes → calls ≡ [] → store ≡ opening store.layout device → OpeningShowsNothing →

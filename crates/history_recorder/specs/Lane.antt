@@ -15,6 +15,7 @@ use Rattle.trace_file.specs.declared.act.Act.{Act}
 use Rattle.trace_file.specs.declared.act.Act.TheVariants.{Hit, Miss}
 use Rattle.certificate_checker.specs.Deeds.{Deed}
 use Rattle.certificate_checker.specs.Latest.{IsLawful}
+use Rattle.deed_laws.specs.Sound as laws
 use Rattle.certificate_checker.specs.Current.{current}
 use Rattle.history_recorder.specs.declared.noted.Noted.{Noted}
 
@@ -34,8 +35,7 @@ deeds_of calls = map deed_noted calls
 
 -- what is recorded of an answer to a get of a moment
 abbrev pub act_of : ℕ → Answer → Act
-act_of moment (answers.Hit value tier) = Hit value moment
-act_of moment (answers.Miss cause) = Miss
+act_of moment answer = laws.act_of moment answer
 
 -- by this layout a key belongs to the lane with this number
 abbrev pub IsOfLane : Layout → ℕ → List ℕ → Type 0
@@ -43,7 +43,7 @@ IsOfLane layout number key = (placed_of layout.lanes layout.sets (fnv1a key)).la
 
 -- a lane is sound after these deeds: each visible pair, and each of an item in flight that was not struck, is what its key has after them, expired or not
 abbrev pub IsSound : LaneState → List Deed → Type 0
-IsSound lane deeds = (p : Pair) → IsShown lane p → current deeds p.key ≡ Some p.value
+IsSound lane deeds = laws.IsSound lane deeds
 
 -- how many calls a lane records
 abbrev pub max_calls : ℕ

@@ -1,7 +1,6 @@
 -- What a look-up finds among the live records.
 use Rattle.std.proofs.Common.{◌≡◌, ℕ, zero, suc, ◌+◌, ◌<◌, ◌≤◌, Bool, true, false, cond, ◌&&◌, eqb, List, [], ◌∷◌, ◌++◌, length, get_or, take, drop, filter, Option, Some, None, All, Contains, slice_get, drop-cons, refl, sym, ap, subst, ◌∙◌, arith}
-use Rattle.std.specs.Prelude.{IsSomeAnd, IsTrue, find, Result, Ok}
-use Rattle.std.specs.declared.alloc.AllocError.{AllocError}
+use Rattle.std.specs.Prelude.{IsSomeAnd, IsTrue, find}
 use Rattle.std.specs.List.{cons_option}
 use Rattle.std.specs.Option.{option_map}
 use Rattle.std.specs.Cmp.Lexicographic.{same_text}
@@ -9,20 +8,20 @@ use Rattle.std.proofs.lemmas.Bool.{and_from, and_parts, eq-eqb, eqb-true, false�
 use Rattle.std.proofs.lemmas.List.{take_all, take-append-drop}
 use Rattle.std.proofs.lemmas.List.Elements.{All-filter, All-cons, All-nil, All-head, All-tail, All-more, All-contains, All-contains_itself, All-take, filter_passes}
 use Rattle.std.proofs.lemmas.Option.{slice_get_within, get_or_from_slice_get}
+use Rattle.value_buffer.specs.Given.{given}
 use Rattle.record_pages.specs.Expiry.{value_at}
 use Rattle.record_pages.specs.Recs.{Rec}
 use Rattle.record_pages.specs.Looking.{has_key}
 use Rattle.klog_index.specs.declared.entry.Entry.{Entry}
 use Rattle.klog_index.specs.Entries.{is_of, has_tag, of_set, of_tag}
 use Rattle.set_hash.specs.declared.placed.Placed.{Placed}
-use Rattle.klog.specs.declared.told.Told.{Told}
 use Rattle.klog.specs.declared.found.Found.{Found}
 use Rattle.klog.specs.declared.found.Found.TheVariants as found
 use Rattle.klog.specs.Log.{Shape, LogState}
 use Rattle.klog.specs.Shown.{shown_on, live_on, ArePlaced, newest_with, place_in, CanStandFor, IsLiveOn, IsSpelledOn}
 use Rattle.klog.specs.Fetch.{IsPlaceOf}
-use Rattle.klog.specs.Find.{with_tag, TellsKey, Finds, FindsAt}
-use Rattle.klog.specs.Look.{lowered_in, ShowsOther, IsReached, ComesToPage}
+use Rattle.klog.specs.Find.{with_tag, IsOfTag, Finds, FindsAt}
+use Rattle.klog.specs.Look.{lowered_in, LowersEntry, ShowsOther, IsReached, HitsAt, ExpiredAt, WantsAt, ComesToPage}
 use Rattle.klog.specs.Known.{is_buffered, AreBuffered, ShowsIfHad}
 use Rattle.klog.proofs.LiveLaws.{live_by, live_by-kept, length-kept}
 use Rattle.klog.proofs.KnownLaws.{shows_live}
@@ -195,10 +194,6 @@ first_ones {X} P xs n x at all =
 pub turn_first : (P : Entry → Type 0) (k : LogState) (set tag behind : ℕ) (e : Entry) → AtTurn k set tag behind e → All P (take (behind + 1) (of_tag set tag k.entries)) → All P (take behind (of_tag set tag k.entries)) × P e
 turn_first P k set tag behind e at all = first_ones P (of_tag set tag k.entries) behind e at all
 
--- what is told of it, as another word has it
-pub turn_tells : (bytes : ℕ) (known : ℕ → Option (List ℕ)) (k : LogState) (key : List ℕ) (moment : ℕ) (e : Entry) (t t' : Result Told AllocError) → t ≡ t' → TellsKey bytes known k e key moment t → TellsKey bytes known k e key moment t'
-turn_tells bytes known k key moment e t t' is tells = subst (TellsKey bytes known k e key moment) is tells
-
 -- the search came to it
 pub turn_reached : (bytes : ℕ) (held : ℕ → Option (List ℕ)) (k : LogState) (set tag : ℕ) (key : List ℕ) (behind : ℕ) (e : Entry) → AtTurn k set tag behind e
     → All (ShowsOther bytes held k key) (take behind (of_tag set tag k.entries)) → IsReached bytes held k set tag key e
@@ -242,16 +237,16 @@ newest_in bytes held k key placed is spelled =
     ap (λ (p : Placed). newest_with (live_by (shown_on held k) (of_tag p.set p.tag k.entries)) key) is ∙ newest_of_tag bytes held k key spelled
 
 -- a hit is the newest live record of the key
-hit_newest : (bytes : ℕ) (held : ℕ → Option (List ℕ)) (k : LogState) (key : List ℕ) (moment : ℕ) (placed : Placed) (e : Entry) (value : Option (List ℕ)) → placed ≡ place_in k.shape key → IsSpelledOn bytes held k
-    → IsReached bytes held k placed.set placed.tag key e → ShowsIfHad bytes held k e (λ r. (has_key key r ≡ true) × (value_at moment r.value ≡ value)) → Finds k (live_on held k) key moment (found.Hit e value)
-hit_newest bytes held k key moment placed e value is spelled reached shows =
+hit_newest : (bytes : ℕ) (held : ℕ → Option (List ℕ)) (k : LogState) (key : List ℕ) (moment : ℕ) (placed : Placed) (e : Entry) (buffer : List ℕ) (is_live : Bool) → placed ≡ place_in k.shape key → IsSpelledOn bytes held k
+    → IsReached bytes held k placed.set placed.tag key e → ShowsIfHad bytes held k e (λ r. (has_key key r ≡ true) × (value_at moment r.value ≡ given is_live buffer)) → Finds k (live_on held k) key moment buffer (found.Hit e is_live)
+hit_newest bytes held k key moment placed e buffer is_live is spelled reached shows =
     let es = of_tag placed.set placed.tag k.entries in
     let behind = reached.behind in
     let live = spelled_live bytes held k placed.set placed.tag spelled in
     let newer : All (OtherBy (shown_on held k) key) (take behind es) = spelled_other bytes held k key (take behind es) (All-take (IsLiveOn bytes held k) behind es live) reached.newer in
     let here : IsLiveOn bytes held k e = All-contains (IsLiveOn bytes held k) es e live (reached_listed bytes held k placed.set placed.tag key e reached) in
-    let hit : (r : Rec) × (shown_on held k e ≡ Some r) × (has_key key r ≡ true) × (value_at moment r.value ≡ value) =
-    known (shown_on held k e) refl (shows_live bytes held k e (λ r. (has_key key r ≡ true) × (value_at moment r.value ≡ value)) here shows) in (
+    let hit : (r : Rec) × (shown_on held k e ≡ Some r) × (has_key key r ≡ true) × (value_at moment r.value ≡ given is_live buffer) =
+    known (shown_on held k e) refl (shows_live bytes held k e (λ r. (has_key key r ≡ true) × (value_at moment r.value ≡ given is_live buffer)) here shows) in (
       hit.0,
       sym (newest_in bytes held k key placed is spelled)
           ∙ ap (λ (xs : List Entry). newest_with (live_by (shown_on held k) xs) key) (split_at es behind e reached.at)
@@ -259,7 +254,7 @@ hit_newest bytes held k key moment placed e value is spelled reached shows =
       hit.3,
     )
   where
-    known : (o : Option Rec) → shown_on held k e ≡ o → IsSomeAnd o (λ r. (has_key key r ≡ true) × (value_at moment r.value ≡ value)) → (r : Rec) × (shown_on held k e ≡ Some r) × (has_key key r ≡ true) × (value_at moment r.value ≡ value)
+    known : (o : Option Rec) → shown_on held k e ≡ o → IsSomeAnd o (λ r. (has_key key r ≡ true) × (value_at moment r.value ≡ given is_live buffer)) → (r : Rec) × (shown_on held k e ≡ Some r) × (has_key key r ≡ true) × (value_at moment r.value ≡ given is_live buffer)
     known (Some r) at h = (r, at, h.0, h.1)
     known None at h = absurd h
 
@@ -309,12 +304,12 @@ comes_to_page bytes held k key placed e is spelled reached stored =
     known None at h = absurd h
 
 -- so what lies behind an answer gives what is found
-pub finds_of : (bytes : ℕ) (held : ℕ → Option (List ℕ)) (k : LogState) (key : List ℕ) (moment : ℕ) (placed : Placed) (f : Found) → placed ≡ place_in k.shape key
-    → FindsAt bytes held k placed.set placed.tag key moment (Ok f) → IsSpelledOn bytes held k → Finds k (live_on held k) key moment f
-finds_of bytes held k key moment placed (found.Hit e value) is at spelled = hit_newest bytes held k key moment placed e value is spelled at.0 at.1
-finds_of bytes held k key moment placed found.Absent is at spelled = absent_none bytes held k key placed is spelled at
-finds_of bytes held k key moment placed found.Fault is at spelled = comes_to_page bytes held k key placed at.entry is spelled at.reached at.stored
-finds_of bytes held k key moment placed found.Damaged is at spelled =
+pub finds_of : (bytes : ℕ) (held : ℕ → Option (List ℕ)) (k : LogState) (key : List ℕ) (moment : ℕ) (placed : Placed) (buffer : List ℕ) (f : Found) → placed ≡ place_in k.shape key
+    → FindsAt bytes held k placed.set placed.tag key moment buffer f → IsSpelledOn bytes held k → Finds k (live_on held k) key moment buffer f
+finds_of bytes held k key moment placed buffer (found.Hit e is_live) is at spelled = hit_newest bytes held k key moment placed e buffer is_live is spelled at.0 at.1
+finds_of bytes held k key moment placed buffer found.Absent is at spelled = absent_none bytes held k key placed is spelled at
+finds_of bytes held k key moment placed buffer found.Fault is at spelled = comes_to_page bytes held k key placed at.entry is spelled at.reached at.stored
+finds_of bytes held k key moment placed buffer found.Damaged is at spelled =
     at.dead (All-contains (IsLiveOn bytes held k) (of_tag placed.set placed.tag k.entries) at.entry (spelled_live bytes held k placed.set placed.tag spelled)
     (reached_listed bytes held k placed.set placed.tag key at.entry at.reached))
 
@@ -334,3 +329,45 @@ set_of_tag set tag es e h =
 -- so where it is lowered it is lowered in the set
 pub lowered_there : (k k' : LogState) (set tag : ℕ) (e : Entry) → Contains (of_tag set tag k.entries) e → k' ≡ lowered_in k e.set e.place → k' ≡ lowered_in k set e.place
 lowered_there k k' set tag e listed is = is ∙ ap (λ (n : ℕ). lowered_in k n e.place) (set_of_tag set tag k.entries e listed)
+
+-- a search that finds a live record of the key makes a hit, once its entry is lowered
+pub hits_at : (bytes : ℕ) (held : ℕ → Option (List ℕ)) (k new : LogState) (set tag : ℕ) (key : List ℕ) (moment : ℕ) (buffer : List ℕ) (e : Entry) (is_live : Bool) (nc : Type 0) → is_live ≡ true
+    → FindsAt bytes held k set tag key moment buffer (found.Hit e is_live) → IsOfTag k set tag nc (found.Hit e is_live) → new ≡ lowered_in k e.set e.place → HitsAt bytes held k set tag key moment buffer new nc
+hits_at bytes held k new set tag key moment buffer e is_live nc live at its lowered = record {
+  entry = e;
+  reached = at.0;
+  lowered = lowered_there k new set tag e its.0 lowered;
+  shows = subst (λ (b : Bool). ShowsIfHad bytes held k e (λ r. (has_key key r ≡ true) × (value_at moment r.value ≡ given b buffer))) live at.1;
+  uncalled = its.1;
+}
+
+-- and one that is not live an expired one
+pub expired_at : (bytes : ℕ) (held : ℕ → Option (List ℕ)) (k : LogState) (set tag : ℕ) (key : List ℕ) (moment : ℕ) (buffer : List ℕ) (e : Entry) (is_live : Bool) (nc : Type 0) → is_live ≡ false
+    → FindsAt bytes held k set tag key moment buffer (found.Hit e is_live) → IsOfTag k set tag nc (found.Hit e is_live) → ExpiredAt bytes held k set tag key moment k nc
+expired_at bytes held k set tag key moment buffer e is_live nc gone at its = record {
+  entry = e;
+  reached = at.0;
+  stays = refl;
+  shows = subst (λ (b : Bool). ShowsIfHad bytes held k e (λ r. (has_key key r ≡ true) × (value_at moment r.value ≡ given b buffer))) gone at.1;
+  uncalled = its.1;
+}
+
+-- so it lowers an entry
+pub lowers_entry : (k new : LogState) (set tag : ℕ) (e : Entry) (is_live : Bool) (nc : Type 0) → IsOfTag k set tag nc (found.Hit e is_live) → new ≡ lowered_in k e.set e.place → LowersEntry k set tag new nc
+lowers_entry k new set tag e is_live nc its lowered = record { entry = e; listed = its.0; lowered = lowered_there k new set tag e its.0 lowered; uncalled = its.1 }
+
+-- and memory is wanted for what it shows
+pub wants_at : (bytes : ℕ) (held : ℕ → Option (List ℕ)) (k : LogState) (set tag : ℕ) (key : List ℕ) (moment : ℕ) (buffer : List ℕ) (e : Entry) (is_live : Bool)
+    → FindsAt bytes held k set tag key moment buffer (found.Hit e is_live) → WantsAt bytes held k set tag key
+wants_at bytes held k set tag key moment buffer e is_live at = record { entry = e; reached = at.0; shows = λ had. shown (shown_on held k e) (at.1 had) }
+  where
+    shown : (o : Option Rec) → IsSomeAnd o (λ r. CanStandFor bytes k.shape e r × ((has_key key r ≡ true) × (value_at moment r.value ≡ given is_live buffer)))
+        → IsSomeAnd o (λ r. CanStandFor bytes k.shape e r × (has_key key r ≡ true))
+    shown (Some r) h = (h.0, h.1.0)
+    shown None h = h
+
+-- what is found of the bytes of a key, in the bytes of a buffer, is found of the key, in the buffer
+pub finds_as : (bytes : ℕ) (held : ℕ → Option (List ℕ)) (k : LogState) (set tag : ℕ) (key' key : List ℕ) (moment : ℕ) (buffer buffer' : List ℕ) (f : Found) → key' ≡ key → buffer ≡ buffer'
+    → FindsAt bytes held k set tag key' moment buffer f → FindsAt bytes held k set tag key moment buffer' f
+finds_as bytes held k set tag key' key moment buffer buffer' f same_key same_buffer at =
+    subst (λ (b : List ℕ). FindsAt bytes held k set tag key moment b f) same_buffer (subst (λ (q : List ℕ). FindsAt bytes held k set tag q moment buffer f) same_key at)

@@ -1,13 +1,12 @@
 // What the entries of a key's set and tag say of it.
 use klog_index::Entry;
-use record_pages::Value;
 
 /// What the entries of a key's set and tag say of it.
-#[derive(Debug, Drop)]
+#[derive(Clone, Copy, Debug)]
 pub(crate) enum Found {
-    /// The record of this entry is the newest live one with the key, and has this value, if
-    /// it has not expired at the moment.
-    Hit(Entry, Option<Value>),
+    /// The record of this entry is the newest live one with the key, and if it has not expired at the moment its value is
+    /// in the buffer.
+    Hit { entry: Entry, is_live: bool },
     /// No live record has the key.
     Absent,
     /// The device failed.

@@ -14,6 +14,7 @@ mod log;
 mod looked;
 mod oldest;
 mod readmitted;
+mod seen;
 mod segment_laws;
 mod set_taken;
 mod sources;
@@ -35,6 +36,7 @@ pub use log::{KLog, MAX_TAKEN};
 pub use looked::Looked;
 pub use oldest::Oldest;
 pub use readmitted::Readmitted;
+pub use seen::Seen;
 pub use segment_laws::{
     appends_put_last, entry_dies, freeing_takes_oldest, lost_pages_die, pages_are_done,
     sealing_flushes, segments_tell_live, strikes_kill, taken_die,

@@ -1,11 +1,10 @@
 // What the record of an entry says of a key.
-use record_pages::Value;
 
 /// What the record of an entry says of a key.
-#[derive(Debug, Drop)]
+#[derive(Clone, Copy, Debug)]
 pub(crate) enum Told {
-    /// It has the key, and this value, if it is live at the moment.
-    Hit(Option<Value>),
+    /// It has the key, and if it is live at the moment its value is in the buffer.
+    Hit { is_live: bool },
     /// It has another key.
     Other,
     /// The device failed.

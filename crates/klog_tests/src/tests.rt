@@ -5,6 +5,7 @@ ghost use Rattle.record_pages.specs.Sizes.{IsPageSize};
 mod calls;
 mod entering;
 mod failing;
+mod into;
 mod leaving;
 mod owner;
 mod pages;
@@ -97,6 +98,9 @@ fn on_refusing(rt: &impl Abort, alloc: Global, config: Config, steps: &[Step]) -
 }
 
 const ADDED: Option<Appended> = Some(Appended::Appended);
+
+// The tag of the key "ax", the high 16 bits of its hash.
+const TAG_OF_AX: u16 = 0x089c;
 
 // The first slot of the first segment.
 const FIRST: Place = Place {

@@ -6,6 +6,7 @@ mod looked;
 mod notes;
 mod page;
 mod rewritten;
+mod seen;
 mod set_read;
 mod set_record;
 mod set_records;
@@ -18,6 +19,7 @@ pub use laws::{
 };
 pub use looked::Looked;
 pub use rewritten::Rewritten;
+pub use seen::Seen;
 pub use set_read::SetRead;
 pub use set_record::SetRecord;
 pub use set_records::SetRecords;

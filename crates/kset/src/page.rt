@@ -1,21 +1,22 @@
 // What a set's page says.
-ghost use Rattle.std.specs.Prelude.{◌≡◌, ◌≤◌, ◌<◌, IfOk, OnErr, IfSome, length};
+ghost use Rattle.std.specs.Prelude.{◌≡◌, ◌≤◌, IfSome, length};
+ghost use Rattle.std.specs.Bool.{OnFalse};
 ghost use Rattle.record_pages.specs.Sizes.{max_set_records};
 ghost use Rattle.record_pages.specs.Reading.{set_page_at};
-ghost use Rattle.kset.specs.Telling.{page_if_of, SetPageTells, HasKey};
+ghost use Rattle.kset.specs.Telling.{page_if_of, tells_value, SetPageTells};
 
-use record_pages::{Key, SetPage, Value};
-use std::alloc::{AllocError, Global};
+use record_pages::{SetPage, is_live};
+use value_buffer::ValueBuffer;
 
 /// What a page says of a key.
-#[derive(Debug, Drop)]
+#[derive(Clone, Copy, Debug)]
 pub(crate) enum Told {
     /// It is not the set's page.
     Damaged,
     /// No record has the key.
     Absent,
-    /// The slot of the first record with the key, and its value, if it is live at the moment.
-    Found(usize, Option<Value>),
+    /// The first record with the key lies in this slot, and if it is live at the moment its value is in the buffer.
+    Found { slot: usize, is_live: bool },
 }
 
 /// The page that these bytes spell, where it is the page of this set.
@@ -30,24 +31,33 @@ pub(crate) fn page_of<const PAGE: usize>(bytes: &[u8; PAGE], set: u32) -> Option
     Some(page)
 }
 
-/// What these bytes say of a key at a moment, as the page of this set. Memory is asked for only where a record
-/// has the key.
+/// What these bytes say of a key at a moment, as the page of this set. A live value of the key goes into the buffer.
 pub(crate) fn tell<const PAGE: usize>(
-    alloc: Global,
     bytes: &[u8; PAGE],
     set: u32,
-    key: &Key,
+    key: &[u8],
     moment: u64,
-) -> Result<Told, AllocError>
-    ensures tells { IfOk result (SetPageTells key.now moment (page_if_of set (set_page_at bytes.now))) }
-    ensures refused { OnErr result (HasKey key.now (page_if_of set (set_page_at bytes.now))) }
+    into: &mut ValueBuffer,
+) -> Told
+    ensures tells { SetPageTells key.now moment into.new (page_if_of set (set_page_at bytes.now))
+        result }
+    ensures stays { OnFalse (tells_value result) (into.new ≡ into.old) }
 {
     let Some(page) = page_of(bytes, set) else {
-        return Ok(Told::Damaged);
+        return Told::Damaged;
     };
-    let Some(found) = page.records().find_key(key.bytes()) else {
-        return Ok(Told::Absent);
+    let Some(found) = page.records().find_key(key) else {
+        return Told::Absent;
     };
-    let value = found.lent.value_at(alloc, moment)?;
-    Ok(Told::Found(found.slot, value))
+    if !is_live(found.lent.expires, moment) {
+        return Told::Found {
+            slot: found.slot,
+            is_live: false,
+        };
+    }
+    into.set(found.lent.value);
+    Told::Found {
+        slot: found.slot,
+        is_live: true,
+    }
 }

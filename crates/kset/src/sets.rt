@@ -13,7 +13,7 @@ ghost use Rattle.kset.specs.Notes.{lets_show, notes_of_page};
 ghost use Rattle.kset.specs.Sets.{SetsState, sets_code, set_count, notes_of, opening_sets, struck_in, hit_in, forgotten, next_write, IsPlaceIn};
 ghost use Rattle.kset.specs.Pages.{AreSpelledOn, page_records};
 ghost use Rattle.kset.specs.Shown.{visible_in, visible_from, first_visible, with_flags};
-ghost use Rattle.kset.specs.Look.{is_set_fault, SetLookLeaves, SetLookGives};
+ghost use Rattle.kset.specs.Look.{is_set_fault, looked_of, is_hit, SetLookLeaves, SetLookGives};
 ghost use Rattle.kset.specs.ReadSet.{is_set_lost, SetReadLeaves, SetReadGives};
 ghost use Rattle.kset.specs.Rewrite.{is_forgotten, after_rewrite};
 ghost use Rattle.kset.specs.After.{with_set, after_strike, shown_after_reading, shown_after_rewriting, IsForeign};
@@ -23,14 +23,16 @@ use crate::looked::Looked;
 use crate::notes::SetNotes;
 use crate::page::{Told, page_of, tell};
 use crate::rewritten::Rewritten;
+use crate::seen::Seen;
 use crate::set_read::SetRead;
 use crate::set_record::SetRecord;
 use crate::set_records::SetRecords;
 use page_device::PageDevice;
-use record_pages::{Key, Layout, Records, SetPageWriter};
+use record_pages::{Key, Layout, Records, SetPageWriter, Value};
 use set_hash::{Placed, place};
 use std::alloc::{AllocError, Global};
 use std::marker::Model;
+use value_buffer::ValueBuffer;
 
 /// The sets of a lane. Each has a page of the device, the one with its number, and in memory a filter over the keys
 /// of that page, up to eight strikes and the hits since the page was written.
@@ -122,15 +124,73 @@ impl<const PAGE: usize> KSet<PAGE> {
         let Ok(()) = device.read(placed.set, &mut bytes) else {
             return Ok(Looked::Fault);
         };
-        match tell(alloc, &bytes, placed.set, key, moment)? {
+        let mut found = ValueBuffer::empty();
+        match tell(&bytes, placed.set, key.bytes(), moment, &mut found) {
             Told::Damaged => Ok(Looked::Damaged),
             Told::Absent => Ok(Looked::Absent),
-            Told::Found(slot, value) => {
-                let Some(value) = value else {
-                    return Ok(Looked::Expired);
+            Told::Found { is_live: false, .. } => Ok(Looked::Expired),
+            Told::Found { slot, .. } => {
+                let Ok(value) = Value::new(alloc, found.bytes()) else {
+                    return Err(AllocError);
                 };
                 self.hit(placed.set, slot);
                 Ok(Looked::Hit(value))
+            }
+        }
+    }
+
+    /// The same into room of the caller's, by the key's bytes: a hit leaves the value in the buffer, and all other answers
+    /// leave the buffer as it was. No memory is taken.
+    pub fn look_into<D: PageDevice<PAGE>>(
+        &mut self,
+        device: &mut D,
+        placed: &Placed,
+        key: &[u8],
+        moment: u64,
+        found: &mut ValueBuffer,
+    ) -> Seen
+        requires page_size { IsPageSize PAGE }
+        requires room { set_count self.old ≤ D.page_count device.old }
+        requires place { IsPlaceIn self.old placed.now }
+        requires hash { placed.now.hash ≡ fnv1a key.now }
+
+        // On any device.
+        ensures reads { OnlyReads D.page_count D.honest D.failures D.held device.old
+            (is_set_fault (Ok (looked_of result found.new))) device.new }
+        ensures keeps { KeepsSets PAGE (D.honest device.old) (D.held device.old) self.old
+            (D.held device.new) self.new }
+        ensures leaves { SetLookLeaves self.old placed.now.set (Ok (looked_of result found.new))
+            self.new }
+        ensures stays { OnFalse (is_hit result) (found.new ≡ found.old) }
+        ensures denied { OnFalse (lets_show (notes_of self.old placed.now.set) placed.now.hash)
+            ((result ≡ Seen.Absent) × (device.new ≡ device.old)) }
+
+        // Where it is honest.
+        ensures gives { IsTrue (D.honest device.old) →
+            AreSpelledOn PAGE (D.held device.old) self.old →
+            SetLookGives (visible_in (D.held device.old) self.old placed.now.set)
+            key.now moment self.old placed.now.set (looked_of result found.new) self.new }
+        ensures foreign { IsTrue (D.honest device.old) →
+            IsForeign placed.now.set (D.held device.old placed.now.set) →
+            OnTrue (lets_show (notes_of self.old placed.now.set) placed.now.hash)
+            (OnFalse (is_set_fault (Ok (looked_of result found.new))) (result ≡ Seen.Damaged)) }
+        ensures shown { IsTrue (D.honest device.old) →
+            visible_in (D.held device.new) self.new ≡ visible_in (D.held device.old) self.old }
+    {
+        if !self.notes(placed.set).lets_show(placed) {
+            return Seen::Absent;
+        }
+        let mut bytes = [0u8; PAGE];
+        let Ok(()) = device.read(placed.set, &mut bytes) else {
+            return Seen::Fault;
+        };
+        match tell(&bytes, placed.set, key, moment, found) {
+            Told::Damaged => Seen::Damaged,
+            Told::Absent => Seen::Absent,
+            Told::Found { is_live: false, .. } => Seen::Expired,
+            Told::Found { slot, .. } => {
+                self.hit(placed.set, slot);
+                Seen::Hit
             }
         }
     }

@@ -4,6 +4,7 @@ ghost use Rattle.record_pages.specs.Sizes.{IsPageSize};
 mod calls;
 mod failing;
 mod finding;
+mod into;
 mod owner;
 mod retried;
 mod step;

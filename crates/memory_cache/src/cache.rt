@@ -3,6 +3,7 @@ ghost use Rattle.std.specs.Prelude.{◌≡◌, ◌≤◌, ◌↔◌, [], length,
 ghost use Rattle.std.specs.Borrow.{sem};
 ghost use Rattle.memory_cache.specs.MemoryList.{IsBounded, value_in, empty, after_put, pushed_out, after_get, after_remove};
 
+use crate::key_bytes::KeyBytes;
 use crate::pair::Pair;
 use lru::LruCache;
 use record_pages::{Key, TimedValue};
@@ -66,7 +67,14 @@ impl MemoryCache {
     pub fn peek(&self, key: &Key) -> Option<&TimedValue>
         ensures { option_copied result ≡ value_in key.now self.now.pairs }
     {
-        self.objects.peek(key)
+        self.peek_bytes(key.bytes())
+    }
+
+    /// The value of the key with these bytes, as `peek` has it. None has it where they are no key.
+    pub fn peek_bytes(&self, key: &[u8]) -> Option<&TimedValue>
+        ensures { option_copied result ≡ value_in key.now self.now.pairs }
+    {
+        self.objects.peek(KeyBytes(key))
     }
 
     /// The value of a key, whose pair comes to the front.
@@ -74,8 +82,16 @@ impl MemoryCache {
         ensures* raised { sem 𝓛 (EndsAs self.entry (after_get key.now self.old)) }
         ensures value { option_copied result ≡ value_in key.now self.old.pairs }
     {
+        self.get_bytes(key.bytes())
+    }
+
+    /// The value of the key with these bytes, as `get` has it.
+    pub fn get_bytes(&mut self, key: &[u8]) -> Option<&TimedValue>
+        ensures* raised { sem 𝓛 (EndsAs self.entry (after_get key.now self.old)) }
+        ensures value { option_copied result ≡ value_in key.now self.old.pairs }
+    {
         recall(&self.objects);
-        self.objects.get(key)
+        self.objects.get(KeyBytes(key))
     }
 
     /// Puts a value first, in place of an older one of its key. Gives the pair of another key that had
@@ -109,8 +125,16 @@ impl MemoryCache {
         ensures value { result ≡ value_in key.now self.old.pairs }
         ensures after { self.new ≡ after_remove key.now self.old }
     {
+        self.remove_bytes(key.bytes())
+    }
+
+    /// Takes the pair of the key with these bytes out and gives its value, as `remove` does.
+    pub fn remove_bytes(&mut self, key: &[u8]) -> Option<TimedValue>
+        ensures value { result ≡ value_in key.now self.old.pairs }
+        ensures after { self.new ≡ after_remove key.now self.old }
+    {
         recall(&self.objects);
-        self.objects.pop(key)
+        self.objects.pop(KeyBytes(key))
     }
 }
 

@@ -2,6 +2,7 @@
 #![tactic(auto)]
 
 mod cache;
+mod key_bytes;
 mod laws;
 mod pair;
 

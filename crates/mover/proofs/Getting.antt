@@ -34,7 +34,9 @@ use Rattle.kset.specs.declared.looked.Looked.TheVariants as set
 use Rattle.kset.specs.declared.looked.Looked.{Looked as SetLooked}
 use Rattle.kset.specs.Sets.{SetsState, hit_in, notes_of}
 use Rattle.kset.specs.Shown.{visible_in, first_visible}
-use Rattle.kset.specs.Look.{SetLookGives, SetLookLeaves, is_set_fault}
+use Rattle.kset.specs.declared.seen.Seen.TheVariants as set_seen
+use Rattle.kset.specs.declared.seen.Seen.{Seen as SetSeen}
+use Rattle.kset.specs.Look.{SetLookGives, SetLookLeaves, is_set_fault, looked_of as set_looked_of}
 use Rattle.mover.specs.Store.{StoreState, OnlyReads}
 use Rattle.mover.specs.Lane.{LaneState, lane_of}
 use Rattle.mover.specs.Get.{Step, LogTells, NeedsSetPage, NeedsFlashPage, NeedsPage, lane_lowered, is_fault, log_step, set_step, ask_set, ask_log, memory_step, StepGives, GetGives, answer_by, answer_of_set}
@@ -191,6 +193,11 @@ asks_set key s mid at is all asks = (λ i. lets_show (notes_of (all i).sets (is 
 pub asked_page : (shows : Bool) (r : Result SetLooked AllocError) (not_called : Type 0) → OnFalse shows ((r ≡ Ok set.Absent) × not_called) → r ≡ Ok set.Fault → shows ≡ true
 asked_page true r not_called denied is = refl
 asked_page false r not_called denied is = let no : Ok set.Fault ≡ Ok set.Absent = sym is ∙ denied.0 in absurd cc
+
+-- the same of a look into a buffer
+pub asked_page_into : (shows : Bool) (seen : SetSeen) (found : List ℕ) (not_called : Type 0) → OnFalse shows ((seen ≡ set_seen.Absent) × not_called) → set_looked_of seen found ≡ set.Fault → shows ≡ true
+asked_page_into true seen found not_called denied is = refl
+asked_page_into false seen found not_called denied is = let no : set.Fault ≡ set.Absent = sym is ∙ ap (λ (s : SetSeen). set_looked_of s found) denied.0 in absurd cc
 
 -- ---- what a look leaves of a store, on any device
 

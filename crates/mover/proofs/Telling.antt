@@ -1,6 +1,7 @@
 -- What the log tells of a key ends a get, or its set is asked.
-use Rattle.std.proofs.Common.{◌∙◌, ap, sym, ◌≡◌, ℕ, true, false, List, Option, Some, None, refl, subst}
+use Rattle.std.proofs.Common.{◌∙◌, ap, sym, ◌≡◌, ℕ, Bool, true, false, List, Option, Some, None, refl, subst}
 use Rattle.std.specs.Prelude.{Ok}
+use Rattle.std.specs.Bool.{OnFalse}
 use Rattle.set_hash.specs.declared.placed.Placed.{Placed}
 use Rattle.record_pages.specs.Expiry.{value_at}
 use Rattle.record_pages.specs.Recs.{Rec}
@@ -11,7 +12,9 @@ use Rattle.record_pages.specs.declared.tier.Tier.TheVariants.{Log}
 use Rattle.klog_index.specs.declared.entry.Entry.{Entry}
 use Rattle.klog.specs.declared.looked.Looked.TheVariants as log
 use Rattle.klog.specs.declared.looked.Looked.{Looked as LogLooked}
-use Rattle.klog.specs.Look.{is_log_fault, IsInBuffers}
+use Rattle.klog.specs.declared.seen.Seen.TheVariants as log_seen
+use Rattle.klog.specs.declared.seen.Seen.{Seen as LogSeen}
+use Rattle.klog.specs.Look.{is_log_fault, looked_of, is_hit, IsInBuffers}
 use Rattle.klog.specs.Shown.{place_in}
 use Rattle.mover.specs.Asking.{LogLeaves, GetLeaves}
 use Rattle.mover.specs.Calls.{AnswersFromBuffers, AnswersRecord, TellsRecord}
@@ -90,3 +93,11 @@ module _ {D : Type 0} (size : ℕ) (key : List ℕ) (moment : ℕ) (old mid : St
 -- a get that the log does not end finds all as it was
 pub absent_leaves : {D : Type 0} (old mid : StoreState D) (at : Placed) (looked : LogLooked) → answer_of_log looked ≡ None → LogLeaves at looked old mid → HasAll old mid
 absent_leaves old mid at looked is leaves = none_leaves old mid at looked log.Absent (is_absent looked is) leaves
+
+-- where the log has no record of a key, a look into it leaves the buffer, so that what a look into the set leaves stays
+pub stays_after : (logged : LogSeen) (hit : Bool) (old mid new : List ℕ) → answer_of_log (looked_of logged mid) ≡ None → OnFalse (is_hit logged) (mid ≡ old) → OnFalse hit (new ≡ mid) → OnFalse hit (new ≡ old)
+stays_after log_seen.Hit hit old mid new none first next = absurd cc
+stays_after log_seen.Expired hit old mid new none first next = absurd cc
+stays_after log_seen.Fault hit old mid new none first next = absurd cc
+stays_after log_seen.Damaged hit old mid new none first next = absurd cc
+stays_after log_seen.Absent hit old mid new none first next = subst (λ (b : List ℕ). OnFalse hit (new ≡ b)) first next

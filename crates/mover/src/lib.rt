@@ -13,6 +13,7 @@ mod marks;
 mod moved;
 mod moving;
 mod open_fault;
+mod seen;
 mod store;
 
 pub use aborted::Aborted;
@@ -24,4 +25,5 @@ pub use laws::{
 };
 pub use moved::Moved;
 pub use open_fault::OpenFault;
+pub use seen::Seen;
 pub use store::Store;

@@ -18,6 +18,7 @@ mod commit;
 mod flush;
 mod gather;
 mod get;
+mod get_into;
 mod move_whole;
 mod put;
 mod remove;

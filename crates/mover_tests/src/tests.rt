@@ -4,6 +4,7 @@ mod expiring;
 mod failing;
 mod filling;
 mod going_back;
+mod into;
 mod losing;
 mod moving;
 mod opening;

@@ -17,7 +17,7 @@ use crate::buffer::SegmentBuffer;
 use crate::fetched::Fetched;
 use klog_index::Entry;
 use page_device::PageDevice;
-use record_pages::{Key, LogPage, PAGE_OVERHEAD, RecordRef};
+use record_pages::{LogPage, PAGE_OVERHEAD, RecordRef};
 use set_hash::place;
 
 impl<const PAGE: usize> KLog<PAGE> {
@@ -28,7 +28,7 @@ impl<const PAGE: usize> KLog<PAGE> {
         device: &mut D,
         entry: &Entry,
         bytes: &'a mut Option<[u8; PAGE]>,
-        asked: Option<&Key>,
+        asked: Option<&[u8]>,
     ) -> Fetched<'a>
         requires page_size { IsPageSize PAGE }
         requires room { HasRoom (D.page_count device.old) self.now }
@@ -59,7 +59,7 @@ impl<const PAGE: usize> KLog<PAGE> {
         device: &mut D,
         entry: &Entry,
         bytes: &'a mut [u8; PAGE],
-        asked: Option<&Key>,
+        asked: Option<&[u8]>,
     ) -> Fetched<'a>
         requires page_size { IsPageSize PAGE }
         requires room { HasRoom (D.page_count device.old) self.now }
@@ -86,7 +86,7 @@ impl<const PAGE: usize> KLog<PAGE> {
         &self,
         entry: &Entry,
         found: Option<RecordRef<'a>>,
-        asked: Option<&Key>,
+        asked: Option<&[u8]>,
     ) -> Fetched<'a>
         requires page_size { IsPageSize PAGE }
         requires asked { IfSome asked (λ key. IsPlaceOf self.now.shape key.now entry.now) }
@@ -107,12 +107,12 @@ impl<const PAGE: usize> KLog<PAGE> {
 
     // Whether a record with this key has the entry's set and tag. Of the key that is asked for that is known, and no
     // hash is computed.
-    fn belongs(&self, entry: &Entry, key: &[u8], asked: Option<&Key>) -> bool
+    fn belongs(&self, entry: &Entry, key: &[u8], asked: Option<&[u8]>) -> bool
         requires asked { IfSome asked (λ key. IsPlaceOf self.now.shape key.now entry.now) }
         ensures { IsTrue result ↔ IsPlaceOf self.now.shape key.now entry.now }
     {
         if let Some(asked) = asked {
-            if key == asked.bytes() {
+            if key == asked {
                 return true;
             }
         }

@@ -1,9 +1,6 @@
 //! What enters the log: what is found of it, and what is refused.
 use super::*;
 
-// The tag of the key "ax", the high 16 bits of its hash.
-const TAG_OF_AX: u16 = 0x089c;
-
 const FOUND_UNTIL_STRUCK: [Step; 16] = [
     Step::Append(b"ax", b"1", ADDED),
     Step::NoSegment,

@@ -7,6 +7,7 @@ use super::*;
 use record_pages::{TimedValue, is_too_large};
 use set_hash::place;
 use std::marker::Model;
+use value_buffer::ValueBuffer;
 
 /// The log of a lane with its device.
 #[derive(Drop)]
@@ -75,6 +76,20 @@ impl<D: PageDevice<PAGE>, const PAGE: usize> Owner<D, PAGE> {
     {
         let placed = place(&self.layout, key.bytes());
         self.log.look(alloc, &mut self.device, &placed, key, moment)
+    }
+
+    /// The same into a buffer, by the key's bytes.
+    pub(super) fn look_into(
+        &mut self,
+        key: &[u8],
+        moment: u64,
+        found: &mut ValueBuffer,
+    ) -> klog::Seen
+        requires { IsPageSize PAGE }
+    {
+        let placed = place(&self.layout, key);
+        self.log
+            .look_into(&mut self.device, &placed, key, moment, found)
     }
 
     pub(super) fn strike(&mut self, key: &Key) {

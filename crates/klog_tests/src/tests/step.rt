@@ -3,6 +3,7 @@ ghost use Rattle.record_pages.specs.Sizes.{IsPageSize};
 
 use super::retried::{EXPIRES, append, look, look_at, strike, take};
 use super::*;
+use value_buffer::ValueBuffer;
 
 /// A record that a taking gives.
 #[derive(Clone, Copy)]
@@ -23,6 +24,10 @@ pub enum Step {
     Look(&'static [u8], Seen),
     /// A key whose record has expired at the moment when it expires, and at none before.
     LookLate(&'static [u8]),
+    /// The bytes of a key, what is answered of them, and what is in the buffer then.
+    LookInto(&'static [u8], klog::Seen, &'static [u8]),
+    /// The bytes of a key whose record has expired at the moment when it expires, which leaves the buffer.
+    LookIntoLate(&'static [u8]),
     /// A key.
     Strike(&'static [u8]),
     Flush(Flushed),
@@ -85,6 +90,10 @@ fn moves<D: PageDevice<PAGE>, const PAGE: usize>(owner: &mut Owner<D, PAGE>, ste
     requires { IsPageSize PAGE }
 {
     match step {
+        Step::LookInto(key, wanted, held) => is_seen_into(owner, key, EXPIRES - 1, *wanted, held),
+        Step::LookIntoLate(key) => {
+            is_seen_into(owner, key, EXPIRES, klog::Seen::Expired, WAS_HELD)
+        }
         Step::Flush(wanted) => owner.flush() == *wanted,
         Step::First(tag, place, prediction) => is_first(owner.oldest(), *tag, *place, *prediction),
         Step::NoSegment => owner.oldest() == Oldest::NoSegment,
@@ -104,6 +113,24 @@ fn is_seen(looked: Looked, wanted: &Seen) -> bool {
         (Looked::Damaged, Seen::Damaged) => true,
         _ => false,
     }
+}
+
+/// What a buffer holds before a look-up.
+pub const WAS_HELD: &[u8] = b"was held";
+
+// Whether this is answered of the bytes of a key, and the buffer then holds these bytes.
+fn is_seen_into<D: PageDevice<PAGE>, const PAGE: usize>(
+    owner: &mut Owner<D, PAGE>,
+    key: &[u8],
+    moment: u64,
+    wanted: klog::Seen,
+    held: &[u8],
+) -> bool
+    requires { IsPageSize PAGE }
+{
+    let mut found = ValueBuffer::empty();
+    found.set(WAS_HELD);
+    owner.look_into(key, moment, &mut found) == wanted && found.bytes() == held
 }
 
 fn is_expired(looked: Looked) -> bool {

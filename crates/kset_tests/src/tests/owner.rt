@@ -11,6 +11,7 @@ use record_pages::{Key, Layout, SetPageWriter};
 use set_hash::place;
 use std::alloc::{AllocError, Global};
 use std::marker::Model;
+use value_buffer::ValueBuffer;
 
 /// The sets of a lane with their device. A call speaks of the set of the key that it is given.
 #[derive(Drop)]
@@ -67,6 +68,20 @@ impl<D: PageDevice<PAGE>, const PAGE: usize> Owner<D, PAGE> {
         let placed = place(&self.layout, key.bytes());
         self.sets
             .look(alloc, &mut self.device, &placed, key, moment)
+    }
+
+    /// The same into a buffer, by the key's bytes.
+    pub(super) fn look_into(
+        &mut self,
+        key: &[u8],
+        moment: u64,
+        found: &mut ValueBuffer,
+    ) -> kset::Seen
+        requires { IsPageSize PAGE }
+    {
+        let placed = place(&self.layout, key);
+        self.sets
+            .look_into(&mut self.device, &placed, key, moment, found)
     }
 
     pub(super) fn read(&mut self, alloc: Global, key: &Key) -> Result<SetRead, AllocError>

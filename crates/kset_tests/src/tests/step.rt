@@ -3,6 +3,7 @@ ghost use Rattle.record_pages.specs.Sizes.{IsPageSize};
 
 use super::retried::{EXPIRES, forget, look, look_at, read, rewrite, strike};
 use super::*;
+use value_buffer::ValueBuffer;
 
 /// A record that a reading lists, with the prediction that it entered with.
 #[derive(Clone, Copy)]
@@ -21,6 +22,10 @@ pub enum Step {
     Look(&'static [u8], Seen),
     /// A key whose record has expired at the moment when it expires, and at none before.
     LookLate(&'static [u8]),
+    /// The bytes of a key, what is answered of them, and what is in the buffer then.
+    LookInto(&'static [u8], kset::Seen, &'static [u8]),
+    /// The bytes of a key whose record has expired at the moment when it expires, which leaves the buffer.
+    LookIntoLate(&'static [u8]),
     /// The records that are listed.
     Read(&'static [Listed]),
     /// A reading that meets a lost page.
@@ -57,6 +62,12 @@ fn gives<D: PageDevice<PAGE>, const PAGE: usize>(
         Step::Rewrite(pairs, wanted) => Ok(rewrite(alloc, owner, pairs)? == *wanted),
         Step::Look(key, wanted) => Ok(is_seen(look(alloc, owner, key)?, wanted)),
         Step::LookLate(key) => Ok(is_expired(look_at(alloc, owner, key, EXPIRES)?)),
+        Step::LookInto(key, wanted, held) => {
+            Ok(is_seen_into(owner, key, EXPIRES - 1, *wanted, held))
+        }
+        Step::LookIntoLate(key) => {
+            Ok(is_seen_into(owner, key, EXPIRES, kset::Seen::Expired, WAS_HELD))
+        }
         Step::Read(wanted) => Ok(are_listed(read(alloc, owner)?, wanted)),
         Step::ReadLost => Ok(is_lost(read(alloc, owner)?)),
         Step::Strike(key) => {
@@ -78,6 +89,24 @@ fn is_seen(looked: Looked, wanted: &Seen) -> bool {
         (Looked::Damaged, Seen::Damaged) => true,
         _ => false,
     }
+}
+
+/// What a buffer holds before a look-up.
+pub const WAS_HELD: &[u8] = b"was held";
+
+// Whether this is answered of the bytes of a key, and the buffer then holds these bytes.
+fn is_seen_into<D: PageDevice<PAGE>, const PAGE: usize>(
+    owner: &mut Owner<D, PAGE>,
+    key: &[u8],
+    moment: u64,
+    wanted: kset::Seen,
+    held: &[u8],
+) -> bool
+    requires { IsPageSize PAGE }
+{
+    let mut found = ValueBuffer::empty();
+    found.set(WAS_HELD);
+    owner.look_into(key, moment, &mut found) == wanted && found.bytes() == held
 }
 
 fn is_expired(looked: Looked) -> bool {

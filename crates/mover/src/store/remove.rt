@@ -17,8 +17,16 @@ impl<D: PageDevice<PAGE>, const PAGE: usize> Store<D, PAGE> {
     pub fn remove(&mut self, key: &Key)
         ensures { StoreRemoves D.held key.now self.old self.new }
     {
-        let placed = self.place(key);
-        self.memory.remove(key);
+        self.remove_bytes(key.bytes());
+    }
+
+    /// The pair of the key with these bytes leaves every tier, as `remove` has it; there is none where they are no key. No
+    /// call of the device is made, and no memory taken.
+    pub fn remove_bytes(&mut self, key: &[u8])
+        ensures { StoreRemoves D.held key.now self.old self.new }
+    {
+        let placed = self.place_bytes(key);
+        self.memory.remove_bytes(key);
         self.strike(&placed);
     }
 
@@ -47,6 +55,14 @@ impl<D: PageDevice<PAGE>, const PAGE: usize> Store<D, PAGE> {
         ensures at { result ≡ place_in self.now.log.shape key.now }
         ensures its { IsPlaceIn self.now.sets result }
     {
-        place(&self.layout, key.bytes())
+        self.place_bytes(key.bytes())
+    }
+
+    // Where the key with these bytes belongs.
+    pub(super) fn place_bytes(&self, key: &[u8]) -> Placed
+        ensures at { result ≡ place_in self.now.log.shape key.now }
+        ensures its { IsPlaceIn self.now.sets result }
+    {
+        place(&self.layout, key)
     }
 }

@@ -59,7 +59,7 @@ const DAMAGED_ABOVE: [Step; 13] = [
     Step::Flush(Flushed::Sealed),
     Step::Flush(Flushed::Wrote),
     Step::Get(b"a", Found::Damaged),
-    Step::Get(b"b", Found::Damaged),
+    Step::GetInto(b"b", Found::Damaged),
     Step::Remove(b"b"),
     Step::Get(b"a", Found::Set(b"1")),
 ];
@@ -79,8 +79,24 @@ const FAULT_ABOVE: [Step; 12] = [
     Step::Get(b"a", Found::Set(b"1")),
 ];
 
+// The same by gets into a buffer.
+const FAULT_ABOVE_INTO: [Step; 12] = [
+    Step::Put(b"a", b"1", 0, Pushed::Nobody),
+    Step::Put(b"b", b"2", 0, Pushed::Logged),
+    Step::Flush(Flushed::Sealed),
+    Step::Flush(Flushed::Wrote),
+    Step::Move(Moved::Written),
+    Step::Move(Moved::Freed),
+    Step::Put(b"cx", b"3", 0, Pushed::Logged),
+    Step::Flush(Flushed::Sealed),
+    Step::Flush(Flushed::Wrote),
+    Step::GetInto(b"a", Found::Fault),
+    Step::RemoveBytes(b"b"),
+    Step::GetInto(b"a", Found::Set(b"1")),
+];
+
 // Neither the log's page nor, where it fails, the set's is asked for again.
-const ENDED: [Script; 2] = [
+const ENDED: [Script; 3] = [
     Script {
         lost: 2,
         refused: 0,
@@ -99,6 +115,19 @@ const ENDED: [Script; 2] = [
         lost: 3,
         refused: 5,
         steps: &FAULT_ABOVE,
+        asked: &[
+            Asked::Write(1),
+            Asked::Read(1),
+            Asked::Write(0),
+            Asked::Write(2),
+            Asked::Read(2),
+            Asked::Read(0),
+        ],
+    },
+    Script {
+        lost: 3,
+        refused: 5,
+        steps: &FAULT_ABOVE_INTO,
         asked: &[
             Asked::Write(1),
             Asked::Read(1),

@@ -1,8 +1,9 @@
 //! Calls of a store, each with what it gives.
 use super::*;
-use mover::{Aborted, Begin, Committed};
+use mover::{Aborted, Begin, Committed, Seen};
 use policy_laws::{Choice, Item, Job, Plan};
 use record_pages::{Answer, Key, MissCause, Prediction, PutFault, Tier, Value};
+use value_buffer::ValueBuffer;
 
 /// When each value that is put expires.
 const EXPIRES: u64 = 10;
@@ -56,8 +57,14 @@ pub enum Step {
     Get(&'static [u8], Found),
     /// A key, and what is found of it when it expires.
     GetLate(&'static [u8], Found),
+    /// The bytes of a key, and what is found of them in a buffer, a moment before it expires.
+    GetInto(&'static [u8], Found),
+    /// The bytes of a key, and what is found of them in a buffer when it expires.
+    GetIntoLate(&'static [u8], Found),
     /// A key.
     Remove(&'static [u8]),
+    /// The bytes of a key.
+    RemoveBytes(&'static [u8]),
     /// A key.
     Forget(&'static [u8]),
     Flush(Flushed),
@@ -95,6 +102,12 @@ fn gives<D: PageDevice<PAGE>, const PAGE: usize>(
         Step::TooLarge(name, bytes) => Ok(is_too_large(put(alloc, store, name, bytes, 0)?)),
         Step::Get(name, wanted) => Ok(is_found(get(alloc, store, name, EXPIRES - 1)?, wanted)),
         Step::GetLate(name, wanted) => Ok(is_found(get(alloc, store, name, EXPIRES)?, wanted)),
+        Step::GetInto(name, wanted) => Ok(gets_into(store, name, EXPIRES - 1, wanted)),
+        Step::GetIntoLate(name, wanted) => Ok(gets_into(store, name, EXPIRES, wanted)),
+        Step::RemoveBytes(name) => {
+            store.remove_bytes(name);
+            Ok(true)
+        }
         Step::Remove(name) => {
             store.remove(&key(alloc, name)?);
             Ok(true)
@@ -155,6 +168,44 @@ fn get<D: PageDevice<PAGE>, const PAGE: usize>(
     match store.get(&key, moment) {
         Ok(answer) => Ok(answer),
         Err(_) => Ok(store.get(&key, moment)?),
+    }
+}
+
+// What a buffer holds before a get.
+const WAS_HELD: &[u8] = b"was held";
+
+// Whether this is found of the bytes of a key: a hit is in the buffer, and a miss leaves it as it was.
+fn gets_into<D: PageDevice<PAGE>, const PAGE: usize>(
+    store: &mut Store<D, PAGE>,
+    name: &[u8],
+    moment: u64,
+    wanted: &Found,
+) -> bool {
+    let mut found = ValueBuffer::empty();
+    found.set(WAS_HELD);
+    let seen = store.get_into(name, moment, &mut found);
+    is_seen(seen, wanted) && found.bytes() == held_then(wanted)
+}
+
+fn is_seen(seen: Seen, wanted: &Found) -> bool {
+    match wanted {
+        Found::Memory(_) => seen == Seen::Hit(Tier::Memory),
+        Found::Log(_) => seen == Seen::Hit(Tier::Log),
+        Found::Set(_) => seen == Seen::Hit(Tier::Set),
+        Found::Absent => seen == Seen::Miss(MissCause::Absent),
+        Found::Fault => seen == Seen::Miss(MissCause::Fault),
+        Found::Damaged => seen == Seen::Miss(MissCause::Damaged),
+        Found::Expired => seen == Seen::Miss(MissCause::Expired),
+    }
+}
+
+// What a buffer is to hold behind a get.
+fn held_then(wanted: &Found) -> &'static [u8] {
+    match wanted {
+        Found::Memory(bytes) => *bytes,
+        Found::Log(bytes) => *bytes,
+        Found::Set(bytes) => *bytes,
+        _ => WAS_HELD,
     }
 }
 

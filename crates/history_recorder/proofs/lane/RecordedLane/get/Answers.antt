@@ -8,7 +8,8 @@ use Rattle.history_recorder.specs.declared.noted.Noted.{Noted}
 use Rattle.history_recorder.specs.Lane.{Lane, IsOfLane, act_of}
 use Rattle.history_recorder.specs.Answering.{MayHaveGot}
 use Rattle.history_recorder.proofs.Refusing.{on_err}
-use Rattle.history_recorder.proofs.Sounding.{recorded_still, recorded_get, still_in_order}
+use Rattle.deed_laws.proofs.Sounding.{still_in_order}
+use Rattle.history_recorder.proofs.Sounding.{recorded_still, recorded_get}
 use Rattle.mover.proofs.Beginning.{same_lane_held}
 use Rattle.history_recorder.proofs.lane.RecordedLane.get.Goals as goal
 

@@ -3,7 +3,8 @@ use Rattle.std.proofs.Common.{None, subst}
 use Rattle.mover.specs.Lane.{lane_of}
 use Rattle.mover.specs.Calls.{StoreBegins}
 use Rattle.history_recorder.specs.Lane.{Lane}
-use Rattle.history_recorder.proofs.Sounding.{recorded_step, begun_in_order}
+use Rattle.deed_laws.proofs.Sounding.{begun_in_order}
+use Rattle.history_recorder.proofs.Sounding.{recorded_step}
 use Rattle.history_recorder.proofs.lane.RecordedLane.move_begin.Goals as goal
 
 pub invariant_of-self : goal.invariant_of-self

@@ -4,7 +4,8 @@ use Rattle.mover.specs.Lane.{lane_of}
 use Rattle.mover.specs.Calls.{StoreMoves}
 use Rattle.history_recorder.specs.Lane.{Lane}
 use Rattle.mover.proofs.FlightLists.{flights_counted}
-use Rattle.history_recorder.proofs.Sounding.{recorded_step, moved_in_order}
+use Rattle.deed_laws.proofs.Sounding.{moved_in_order}
+use Rattle.history_recorder.proofs.Sounding.{recorded_step}
 use Rattle.history_recorder.proofs.lane.RecordedLane.move_whole.Goals as goal
 
 pub invariant_of-self : goal.invariant_of-self

@@ -1,20 +1,15 @@
-use Rattle.std.proofs.Common.{◌≡◌, Bool, refl, sym, ap, subst, ◌∙◌, rules, arith}
-use Rattle.std.specs.Prelude.{IsTrue, Ok, Err}
+use Rattle.std.proofs.Common.{Bool, refl, sym, ap, subst, ◌∙◌, rules, arith}
+use Rattle.std.specs.Prelude.{IsTrue}
 use Rattle.std.proofs.lemmas.List.Elements.{All-nil}
-use Rattle.std.proofs.lemmas.Result.{err_from_is_err_and}
 use Rattle.klog_index.specs.Entries.{of_tag}
-use Rattle.klog.specs.declared.told.Told.TheVariants as told
 use Rattle.klog.specs.declared.found.Found.TheVariants as found
 use Rattle.klog.specs.Names.{HasRoom}
-use Rattle.klog.specs.Find.{FindsAt, is_told_fault}
 use Rattle.klog.specs.Known.{is_buffered}
-use Rattle.klog.specs.declared.told.Told.{Told}
-use Rattle.page_device.specs.Device.{faults_after}
 use Rattle.klog.proofs.CallLaws.{unbuffered}
 use Rattle.klog.proofs.KnownLaws.{all_held, held_still}
 use Rattle.klog.specs.Keeps.{IsLog}
 use Rattle.klog.proofs.OrderLaws.{newer_buffered}
-use Rattle.klog.proofs.LookLaws.{turn_at, turn_rest, turn_listed, turn_its, turn_buffered, turn_before, turn_first, turn_tells, turn_reached, turn_other, turns_over, finds_of, got, got_none, all_left, all_seen}
+use Rattle.klog.proofs.LookLaws.{turn_at, turn_rest, turn_listed, turn_its, turn_buffered, turn_before, turn_first, turn_reached, turn_other, turns_over, finds_of, got, got_none, all_left, all_seen}
 use Rattle.klog.proofs.log.KLog.find.Goals as goal
 
 pub returns-in_default-clause-finds_at : goal.returns-in_default-clause-finds_at
@@ -31,7 +26,7 @@ pub returns-in_default-clause-finds : goal.returns-in_default-clause-finds
 returns-in_default-clause-finds g c = λ honest spelled.
     let held = g.D.PageDevice.held c.args.device.now in
     let knows = all_held g.D.PageDevice.honest g.D.PageDevice.held c.args.device.now honest in
-    finds_of g.row.PAGE held c.args.self.now c.args.key.now c.args.moment c.args.placed.now found.Absent c.requires.place (returns-in_default-clause-finds_at g c held knows) spelled
+    finds_of g.row.PAGE held c.args.self.now c.args.key.now c.args.moment c.args.placed.now c.loop.found found.Absent c.requires.place (returns-in_default-clause-finds_at g c held knows) spelled
 
 pub ask-requires : goal.ask-requires
 ask-requires g c =
@@ -39,25 +34,6 @@ ask-requires g c =
     let room : HasRoom (g.D.PageDevice.page_count c.loop.device) k = search rules in
     let at = turn_at k c.args.placed.now.set c.args.placed.now.tag c.loop.counter c.in-Some.entry _ _ c.loop.invariant.rest c.in-Some.ensures in
     (omega arith, (omega (arith, c.requires.page_size.1), (c.requires.page_size, (room, (turn_listed k c.args.placed.now.set c.args.placed.now.tag c.loop.counter c.in-Some.entry at, turn_its k c.args.key.now c.args.placed.now c.loop.counter c.in-Some.entry c.requires.place at)))))
-
-pub returns-in_err-ask-clause-buffered : goal.returns-in_err-ask-clause-buffered
-returns-in_err-ask-clause-buffered g c = λ all.
-    let k = c.args.self.now in
-    let at = turn_at k c.args.placed.now.set c.args.placed.now.tag c.loop.counter c.in-Some.entry _ _ c.loop.invariant.rest c.in-Some.ensures in
-    c.ask.ensures.buffered (turn_buffered k c.args.placed.now.set c.args.placed.now.tag c.loop.counter c.in-Some.entry at all) ∙ c.loop.invariant.buffered (turn_before k c.args.placed.now.set c.args.placed.now.tag c.loop.counter all)
-
-pub returns-in_err-ask-clause-finds_at : goal.returns-in_err-ask-clause-finds_at
-returns-in_err-ask-clause-finds_at g c = λ known knows.
-    let k = c.args.self.now in
-    let at = turn_at k c.args.placed.now.set c.args.placed.now.tag c.loop.counter c.in-Some.entry _ _ c.loop.invariant.rest c.in-Some.ensures in
-    let on = held_still g.D.PageDevice.honest g.D.PageDevice.held c.args.device.now c.loop.device known c.loop.invariant.honest c.loop.invariant.same knows in
-    let failed = err_from_is_err_and c.from_residual.result c.from_residual.ensures.1 in
-    let finds : FindsAt g.row.PAGE known k c.args.placed.now.set c.args.placed.now.tag c.args.key.now c.args.moment (Err failed.0) = record {
-      entry = c.in-Some.entry;
-      reached = turn_reached g.row.PAGE known k c.args.placed.now.set c.args.placed.now.tag c.args.key.now c.loop.counter c.in-Some.entry at (c.loop.invariant.newer known knows);
-      shows = turn_tells g.row.PAGE known k c.args.key.now c.args.moment c.in-Some.entry (Err failed.0) (Err failed.0) refl (c.in_err-ask.ensures.tells known on);
-    } in
-    subst (FindsAt g.row.PAGE known k c.args.placed.now.set c.args.placed.now.tag c.args.key.now c.args.moment) (sym failed.1) finds
 
 pub returns-in-Fault-clause-buffered : goal.returns-in-Fault-clause-buffered
 returns-in-Fault-clause-buffered g c = λ all.
@@ -69,7 +45,7 @@ pub returns-in-Fault-clause-finds_at : goal.returns-in-Fault-clause-finds_at
 returns-in-Fault-clause-finds_at g c = λ known knows.
     let k = c.args.self.now in
     let at = turn_at k c.args.placed.now.set c.args.placed.now.tag c.loop.counter c.in-Some.entry _ _ c.loop.invariant.rest c.in-Some.ensures in
-    let failed = subst (λ (t : Told). g.D.PageDevice.failures c.ask.new.device ≡ faults_after (g.D.PageDevice.failures c.loop.device) (is_told_fault (Ok t))) c.in-Fault.is c.in_ok-ask.ensures.reads.faults in
+    let failed = c.in-Fault.ensures.reads.faults in
     record {
       entry = c.in-Some.entry;
       reached = turn_reached g.row.PAGE known k c.args.placed.now.set c.args.placed.now.tag c.args.key.now c.loop.counter c.in-Some.entry at (c.loop.invariant.newer known knows);
@@ -80,7 +56,7 @@ pub returns-in-Fault-clause-finds : goal.returns-in-Fault-clause-finds
 returns-in-Fault-clause-finds g c = λ honest spelled.
     let held = g.D.PageDevice.held c.args.device.now in
     let knows = all_held g.D.PageDevice.honest g.D.PageDevice.held c.args.device.now honest in
-    finds_of g.row.PAGE held c.args.self.now c.args.key.now c.args.moment c.args.placed.now found.Fault c.requires.place (returns-in-Fault-clause-finds_at g c held knows) spelled
+    finds_of g.row.PAGE held c.args.self.now c.args.key.now c.args.moment c.args.placed.now c.ask.new.found found.Fault c.requires.place (returns-in-Fault-clause-finds_at g c held knows) spelled
 
 pub returns-in-Damaged-clause-buffered : goal.returns-in-Damaged-clause-buffered
 returns-in-Damaged-clause-buffered g c = λ all.
@@ -96,14 +72,14 @@ returns-in-Damaged-clause-finds_at g c = λ known knows.
     record {
       entry = c.in-Some.entry;
       reached = turn_reached g.row.PAGE known k c.args.placed.now.set c.args.placed.now.tag c.args.key.now c.loop.counter c.in-Some.entry at (c.loop.invariant.newer known knows);
-      dead = turn_tells g.row.PAGE known k c.args.key.now c.args.moment c.in-Some.entry (Ok c.in_ok-ask.field-0) (Ok told.Damaged) (ap Ok c.in-Damaged.is) (c.in_ok-ask.ensures.tells known on);
+      dead = c.in-Damaged.ensures.tells known on;
     }
 
 pub returns-in-Damaged-clause-finds : goal.returns-in-Damaged-clause-finds
 returns-in-Damaged-clause-finds g c = λ honest spelled.
     let held = g.D.PageDevice.held c.args.device.now in
     let knows = all_held g.D.PageDevice.honest g.D.PageDevice.held c.args.device.now honest in
-    finds_of g.row.PAGE held c.args.self.now c.args.key.now c.args.moment c.args.placed.now found.Damaged c.requires.place (returns-in-Damaged-clause-finds_at g c held knows) spelled
+    finds_of g.row.PAGE held c.args.self.now c.args.key.now c.args.moment c.args.placed.now c.ask.new.found found.Damaged c.requires.place (returns-in-Damaged-clause-finds_at g c held knows) spelled
 
 pub returns-in-Hit-clause-its : goal.returns-in-Hit-clause-its
 returns-in-Hit-clause-its g c =
@@ -126,14 +102,14 @@ returns-in-Hit-clause-finds_at g c = λ known knows.
     let at = turn_at k c.args.placed.now.set c.args.placed.now.tag c.loop.counter c.in-Some.entry _ _ c.loop.invariant.rest c.in-Some.ensures in
     let on = held_still g.D.PageDevice.honest g.D.PageDevice.held c.args.device.now c.loop.device known c.loop.invariant.honest c.loop.invariant.same knows in (
       turn_reached g.row.PAGE known k c.args.placed.now.set c.args.placed.now.tag c.args.key.now c.loop.counter c.in-Some.entry at (c.loop.invariant.newer known knows),
-      turn_tells g.row.PAGE known k c.args.key.now c.args.moment c.in-Some.entry (Ok c.in_ok-ask.field-0) (Ok (told.Hit c.in-Hit.value)) (ap Ok c.in-Hit.is) (c.in_ok-ask.ensures.tells known on),
+      c.in-Hit.ensures.tells known on,
     )
 
 pub returns-in-Hit-clause-finds : goal.returns-in-Hit-clause-finds
 returns-in-Hit-clause-finds g c = λ honest spelled.
     let held = g.D.PageDevice.held c.args.device.now in
     let knows = all_held g.D.PageDevice.honest g.D.PageDevice.held c.args.device.now honest in
-    finds_of g.row.PAGE held c.args.self.now c.args.key.now c.args.moment c.args.placed.now (found.Hit c.in-Some.entry c.in-Hit.value) c.requires.place (returns-in-Hit-clause-finds_at g c held knows) spelled
+    finds_of g.row.PAGE held c.args.self.now c.args.key.now c.args.moment c.args.placed.now c.ask.new.found (found.Hit c.in-Some.entry c.in-Hit.is_live) c.requires.place (returns-in-Hit-clause-finds_at g c held knows) spelled
 
 pub loop-preserved : goal.loop-preserved
 loop-preserved g c =
@@ -143,6 +119,7 @@ loop-preserved g c =
       pages = search rules;
       honest = search rules;
       failures = search rules;
+      stays = c.in-Other.ensures.stays ∙ c.loop.invariant.stays;
       same = λ honest. c.ask.ensures.reads.same (subst (λ (b : Bool). IsTrue b) (sym c.loop.invariant.honest) honest) ∙ c.loop.invariant.same honest;
       buffered = λ all.
           let both = turn_first (λ e. IsTrue (is_buffered k e)) k c.args.placed.now.set c.args.placed.now.tag c.loop.counter c.in-Some.entry at all in
@@ -151,7 +128,7 @@ loop-preserved g c =
       newer = λ known knows.
           let on = held_still g.D.PageDevice.honest g.D.PageDevice.held c.args.device.now c.loop.device known c.loop.invariant.honest c.loop.invariant.same knows in
           turn_other g.row.PAGE known k c.args.placed.now.set c.args.placed.now.tag c.args.key.now c.loop.counter c.in-Some.entry at (c.loop.invariant.newer known knows)
-          (turn_tells g.row.PAGE known k c.args.key.now c.args.moment c.in-Some.entry (Ok c.in_ok-ask.field-0) (Ok told.Other) (ap Ok c.in-Other.is) (c.in_ok-ask.ensures.tells known on));
+          (c.in-Other.ensures.tells known on);
     }
 
 pub returns-clause-finds_at : goal.returns-clause-finds_at
@@ -168,7 +145,7 @@ pub returns-clause-finds : goal.returns-clause-finds
 returns-clause-finds g c = λ honest spelled.
     let held = g.D.PageDevice.held c.args.device.now in
     let knows = all_held g.D.PageDevice.honest g.D.PageDevice.held c.args.device.now honest in
-    finds_of g.row.PAGE held c.args.self.now c.args.key.now c.args.moment c.args.placed.now found.Absent c.requires.place (returns-clause-finds_at g c held knows) spelled
+    finds_of g.row.PAGE held c.args.self.now c.args.key.now c.args.moment c.args.placed.now c.loop.found found.Absent c.requires.place (returns-clause-finds_at g c held knows) spelled
 
 pub loop-init : goal.loop-init
 loop-init g c =
@@ -177,6 +154,7 @@ loop-init g c =
       pages = refl;
       honest = refl;
       failures = refl;
+      stays = refl;
       same = λ honest. refl;
       buffered = λ all. refl;
       rest = all_left _ k c.args.placed.now.set c.args.placed.now.tag c.entries_of-entries.result c.self.view_is c.entries_of-entries.ensures;

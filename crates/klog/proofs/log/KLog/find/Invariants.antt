@@ -11,6 +11,7 @@ invariant-loop g l = record {
   pages : g.D.PageDevice.page_count l.device ≡ g.D.PageDevice.page_count l.initial.device;
   honest : g.D.PageDevice.honest l.device ≡ g.D.PageDevice.honest l.initial.device;
   failures : g.D.PageDevice.failures l.device ≡ g.D.PageDevice.failures l.initial.device;
+  stays : l.found ≡ l.initial.found;
   same : IsTrue (g.D.PageDevice.honest l.initial.device) → g.D.PageDevice.held l.device ≡ g.D.PageDevice.held l.initial.device;
   buffered : AreBuffered l.self (take l.counter (of_tag l.placed.set l.placed.tag l.self.entries)) → l.device ≡ l.initial.device;
   rest : with_tag l.placed.tag l.entries ≡ drop l.counter (of_tag l.placed.set l.placed.tag l.self.entries);

@@ -1,0 +1,3 @@
+pub mod DividingLaws
+pub mod FaultLaws
+pub mod ShapeLaws

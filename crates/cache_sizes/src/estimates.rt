@@ -1,0 +1,21 @@
+// What the parts of a lane take of memory: estimates, until they are measured.
+
+/// An estimate of the bytes of memory of a set: 128 for its filter, strikes and hit bits, and 4 for the head of its list
+/// in the log's index.
+pub const ESTIMATED_SET_BYTES: u64 = 132;
+
+/// An estimate of the bytes of memory of an entry of the log's index: two words.
+pub const ESTIMATED_ENTRY_BYTES: u64 = 16;
+
+/// An estimate of the bytes of memory of a page of a segment: its place in each of the log's two buffers, 4,096 each,
+/// and what is noted of its records.
+pub const ESTIMATED_SEGMENT_PAGE_BYTES: u64 = 8800;
+
+/// An estimate of the bytes of memory of a slot for leases: a count of 64 bits.
+pub const ESTIMATED_LEASE_SLOT_BYTES: u64 = 8;
+
+/// An estimate of the bytes of memory of a lane beside its parts.
+pub const ESTIMATED_LANE_BYTES: u64 = 65_536;
+
+/// An estimate of the bytes of memory of an object beside its key and value: for list, table and allocator.
+pub const ESTIMATED_OBJECT_BYTES: u64 = 200;

@@ -1,0 +1,28 @@
+// How many records lie on a page.
+ghost use Rattle.std.specs.Prelude.{◌≡◌, ◌≤◌};
+ghost use Rattle.cache_sizes.specs.Records.{log_records, set_records};
+
+use crate::limits::{MAX_OBJECT_BYTES, PAGE_BYTES};
+use record_pages::{MAX_LOG_RECORDS, MAX_SET_RECORDS, PAGE_OVERHEAD, RECORD_OVERHEAD};
+
+// How many records of objects of so many bytes lie on a page of a set.
+#[tactic(auto, unfolding(crate::specs::Records::set_records))]
+pub(crate) fn set_records(object_bytes: u32) -> u64
+    ensures records { result ≡ set_records object_bytes }
+    ensures least { object_bytes ≤ MAX_OBJECT_BYTES → 1 ≤ result }
+    ensures most { result ≤ MAX_SET_RECORDS }
+{
+    let room = PAGE_BYTES - PAGE_OVERHEAD as u64;
+    let records = room / (RECORD_OVERHEAD as u64 + u64::from(object_bytes));
+    records.min(MAX_SET_RECORDS as u64)
+}
+
+// How many records of objects of so many bytes lie on a page of the log.
+#[tactic(auto, unfolding(crate::specs::Records::log_records))]
+pub(crate) fn log_records(object_bytes: u32) -> u64
+    ensures records { result ≡ log_records object_bytes }
+    ensures least { object_bytes ≤ MAX_OBJECT_BYTES → 1 ≤ result }
+    ensures most { result ≤ MAX_LOG_RECORDS }
+{
+    set_records(object_bytes).min(MAX_LOG_RECORDS as u64)
+}

@@ -1,0 +1,5 @@
+//! The tests of sizes, through public calls.
+#![tactic(auto)]
+
+#[cfg(test)]
+mod tests;

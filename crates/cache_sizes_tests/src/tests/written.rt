@@ -1,0 +1,72 @@
+//! Shapes that were written down and not worked out: what they take and hold.
+use super::rows::{bytes, counts, objects};
+use cache_sizes::{
+    MAX_LEASE_SLOTS, MAX_LOG_OBJECTS, MAX_MEMORY_OBJECTS, MAX_SEGMENT_PAGES, MAX_SEGMENTS,
+    MAX_SETS, MAX_SHARD_LANES, MAX_SHARDS, Shape,
+};
+
+// Bytes of an object; bytes of files and memory; objects.
+type Row = (u32, [u64; 3], [u64; 4]);
+
+fn are_met(shape: &Shape, rows: &[Row]) -> bool {
+    rows.iter().all(|row| bytes(shape, row.0) == row.1 && objects(shape, row.0) == row.2)
+}
+
+// More bytes than an object can have count as the most.
+const OF_THE_GREATEST: [Row; 3] = [
+    (
+        0,
+        [5_497_558_138_880, 564_351_991_808, 4_000_325_828_608],
+        [
+            17_179_869_184,
+            17_179_869_184,
+            127_818_226_728,
+            162_177_965_096,
+        ],
+    ),
+    (
+        2303,
+        [5_497_558_138_880, 564_351_991_808, 43_565_564_559_360],
+        [17_179_869_184, 268_435_456, 998_579_896, 18_446_884_536],
+    ),
+    (
+        u32::MAX,
+        [5_497_558_138_880, 564_351_991_808, 43_565_564_559_360],
+        [17_179_869_184, 268_435_456, 998_579_896, 18_446_884_536],
+    ),
+];
+
+#[test]
+fn the_greatest_shape_has_its_sizes(rt: HostRuntime) {
+    let shape = Shape {
+        shards: MAX_SHARDS,
+        lanes: MAX_SHARD_LANES,
+        sets: MAX_SETS,
+        segments: MAX_SEGMENTS,
+        segment_pages: MAX_SEGMENT_PAGES,
+        log_objects: MAX_LOG_OBJECTS,
+        memory_objects: MAX_MEMORY_OBJECTS,
+        lease_slots: MAX_LEASE_SLOTS,
+    };
+    assert_eq!(rt; counts(&shape), [16_384, 16_384, 81_920]);
+    assert!(rt; are_met(&shape, &OF_THE_GREATEST));
+}
+
+// The log has room for 72 objects, and entries for 8.
+const OF_A_SMALL_ONE: [Row; 1] = [(100, [24_576, 75_000, 76_200], [4, 8, 133, 145])];
+
+#[test]
+fn a_log_holds_as_many_as_its_index(rt: HostRuntime) {
+    let shape = Shape {
+        shards: 1,
+        lanes: 1,
+        sets: 4,
+        segments: 2,
+        segment_pages: 1,
+        log_objects: 8,
+        memory_objects: 4,
+        lease_slots: 1,
+    };
+    assert_eq!(rt; counts(&shape), [1, 2, 6]);
+    assert!(rt; are_met(&shape, &OF_A_SMALL_ONE));
+}

@@ -1,0 +1,63 @@
+use Rattle.std.proofs.Common.{◌≡◌, false, sym, ap, refl, ◌∙◌}
+use Rattle.kset.specs.declared.page.Told.TheVariants.{Damaged, Absent, Found}
+use Rattle.kset.specs.Notes.{Notes, lets_show}
+use Rattle.kset.specs.Sets.{notes_of, set_count}
+use Rattle.kset.specs.Pages.{page_records}
+use Rattle.kset.specs.Shown.{visible_in}
+use Rattle.kset.proofs.LookLaws.{told_of, expired_gives, hit_gives, first_visible-hidden}
+use Rattle.kset.proofs.ShownLaws.{shown-hit_on}
+use Rattle.kset.proofs.sets.KSet.look_into.Goals as goal
+
+pub returns-then-not-lets_show-clause-gives : goal.returns-then-not-lets_show-clause-gives
+returns-then-not-lets_show-clause-gives g c =
+    let hash = c.args.placed.now.hash in
+    let notes = notes_of c.args.self.now c.args.placed.now.set in
+    let hidden : lets_show notes hash ≡ false = sym (c.if-not-lets_show.ensures ∙ ap (λ (n : Notes). lets_show n hash) c.notes.ensures) in
+    let records = page_records (g.D.PageDevice.held c.args.device.now) c.args.self.now c.args.placed.now.set in
+    λ honest spelled. (first_visible-hidden notes c.args.key.now (sym (ap (lets_show notes) c.requires.hash) ∙ hidden) 0 records, refl)
+
+pub returns-in-Damaged-clause-gives : goal.returns-in-Damaged-clause-gives
+returns-in-Damaged-clause-gives g c =
+    let at = c.args.placed.now in
+    let held = g.D.PageDevice.held c.args.device.now in
+    let shows = c.if-not-lets_show.ensures ∙ ap (λ (n : Notes). lets_show n at.hash) c.notes.ensures in
+    λ honest spelled. (told_of g.row.PAGE (set_count c.args.self.now) at.set held c.read.new.into c.args.key.now c.args.moment c.tell.new.into at.hash (notes_of c.args.self.now at.set) Damaged
+    c.requires.hash shows c.requires.place.set (spelled at.set) (c.in-Ok.ensures.known honest) c.in-Damaged.ensures.tells)
+
+pub returns-in-Absent-clause-gives : goal.returns-in-Absent-clause-gives
+returns-in-Absent-clause-gives g c =
+    let at = c.args.placed.now in
+    let held = g.D.PageDevice.held c.args.device.now in
+    let shows = c.if-not-lets_show.ensures ∙ ap (λ (n : Notes). lets_show n at.hash) c.notes.ensures in
+    λ honest spelled. (
+      (told_of g.row.PAGE (set_count c.args.self.now) at.set held c.read.new.into c.args.key.now c.args.moment c.tell.new.into at.hash (notes_of c.args.self.now at.set) Absent
+          c.requires.hash shows c.requires.place.set (spelled at.set) (c.in-Ok.ensures.known honest) c.in-Absent.ensures.tells),
+      refl,
+    )
+
+pub returns-in-Found-default-false-clause-gives : goal.returns-in-Found-default-false-clause-gives
+returns-in-Found-default-false-clause-gives g c =
+    let at = c.args.placed.now in
+    let held = g.D.PageDevice.held c.args.device.now in
+    let shows = c.if-not-lets_show.ensures ∙ ap (λ (n : Notes). lets_show n at.hash) c.notes.ensures in
+    let d = c.in-Found-default-false in
+    λ honest spelled. (
+      expired_gives (visible_in held c.args.self.now at.set) c.args.key.now c.args.moment c.tell.new.into d.slot d.is_live (told_of g.row.PAGE (set_count c.args.self.now) at.set held c.read.new.into c.args.key.now c.args.moment c.tell.new.into at.hash (notes_of c.args.self.now at.set) (Found d.slot d.is_live)
+          c.requires.hash shows c.requires.place.set (spelled at.set) (c.in-Ok.ensures.known honest) c.in-Found-default-false.ensures.tells) d.is_live-test,
+      refl,
+    )
+
+pub returns-in-Found-clause-gives : goal.returns-in-Found-clause-gives
+returns-in-Found-clause-gives g c =
+    let at = c.args.placed.now in
+    let held = g.D.PageDevice.held c.args.device.now in
+    let shows = c.if-not-lets_show.ensures ∙ ap (λ (n : Notes). lets_show n at.hash) c.notes.ensures in
+    λ honest spelled.
+    hit_gives (visible_in held c.args.self.now at.set) c.args.key.now c.args.moment c.tell.new.into c.in-Found.slot c.in-Found.is_live at.set c.args.self.now _
+    (told_of g.row.PAGE (set_count c.args.self.now) at.set held c.read.new.into c.args.key.now c.args.moment c.tell.new.into at.hash (notes_of c.args.self.now at.set) (Found c.in-Found.slot c.in-Found.is_live)
+    c.requires.hash shows c.requires.place.set (spelled at.set) (c.in-Ok.ensures.known honest) c.in-Found.ensures.tells) c.in-Found.is_live-test c.hit.ensures
+
+pub returns-in-Found-clause-shown : goal.returns-in-Found-clause-shown
+returns-in-Found-clause-shown g c =
+    λ honest. shown-hit_on (g.D.PageDevice.held c.args.device.now) (g.D.PageDevice.held c.read.new.self) c.args.self.now c.hit.new.self c.args.placed.now.set c.in-Found.slot
+    c.requires.place.set (c.read.ensures.same honest) c.hit.ensures

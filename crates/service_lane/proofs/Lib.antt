@@ -1,0 +1,3 @@
+pub mod Remembering
+pub mod Writing
+pub mod Serves

@@ -1,0 +1,19 @@
+-- The store after a whole move, or a refused one.
+use Rattle.mover.specs.Lane.{lane_of}
+use Rattle.service_lane.specs.Asked.{Asked}
+use Rattle.service_lane.specs.Trails.{told_by}
+use Rattle.mover.proofs.FlightLists.{flights_counted}
+use Rattle.deed_laws.proofs.Sounding.{moved_in_order}
+use Rattle.service_lane.proofs.Remembering.{moved_stays}
+use Rattle.service_lane.proofs.Serves.{served_step}
+use Rattle.service_lane.proofs.asked.AskedStore.move_whole.Goals as goal
+
+pub invariant_of-self : goal.invariant_of-self
+invariant_of-self g c =
+    let d = g.D.PageDevice in
+    let old : Asked g.row.D.Denot = record { store = c.self.inside.store; deeds = told_by c.self.inside.trail } in
+    let moves = c.move_whole.ensures in
+    let plan_of = g.P.EvictionPolicy.plan_of c.args.policy.now in
+    served_step d.honest d.held old c.self.invariant c.move_whole.new.self moves.honesty (moved_stays g.row.PAGE old.store plan_of c.move_whole.result c.move_whole.new.self moves.leaves moves.out_of_memory)
+    (λ is. moved_in_order c.whole_move_shows.ensures g.row.PAGE old.store.layout.threshold plan_of (lane_of d.held old.store) (lane_of d.held c.move_whole.new.self) c.move_whole.result
+    (c.self.invariant.order is) (flights_counted old.store.log.shape old.store.moves old.store.flights c.layout-layout.ensures.kept.flights) (moves.planned is) (moves.gives is) (moves.lane_stays is))

@@ -1,0 +1,12 @@
+-- A fill is stale where its lease has ended alone.
+use Rattle.std.proofs.Common.{ℕ, List, subst}
+use Rattle.service_lane.specs.Leases.{HoldsLease}
+use Rattle.service_lane.specs.Serving.{Serving}
+use Rattle.service_lane.proofs.lane.ServiceLane.fill.Goals as goal
+
+pub returns-clause-stale : goal.returns-clause-stale
+returns-clause-stale g c =
+    let a = c.args in
+    let held : HoldsLease c.self.inside.slots c.bytes.result.now a.lease.writes = c.holds.ensures.0 c.if-not-holds.false in
+    let holds = subst (λ (s : Serving g.row.D.Denot). HoldsLease s.slots a.key a.lease.writes) c.self.view_is (subst (λ (k : List ℕ). HoldsLease c.self.inside.slots k a.lease.writes) c.bytes.ensures.value held) in
+    (λ stale. absurd (cc), λ ended. absurd (ended holds))

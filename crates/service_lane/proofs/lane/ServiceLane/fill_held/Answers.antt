@@ -1,0 +1,36 @@
+-- The lane after a fill by a lease that had not ended.
+use Rattle.std.proofs.Common.{◌∙◌, refl, ap, sym, subst}
+use Rattle.record_pages.specs.Expiry.{timed}
+use Rattle.memory_cache.specs.declared.pair.Pair.{Pair}
+use Rattle.trace_file.specs.declared.act.Act.TheVariants.{Put}
+use Rattle.service_lane.specs.Asked.{Asked}
+use Rattle.service_lane.specs.Counting.{with_stored}
+use Rattle.service_lane.specs.Leases.{HoldsLease}
+use Rattle.service_lane.specs.Serving.{Serving, FillsStore}
+use Rattle.service_lane.proofs.Writing.{counted_write, counted_kept, unwritten}
+use Rattle.service_lane.proofs.lane.ServiceLane.fill_held.Goals as goal
+
+pub invariant_of-self : goal.invariant_of-self
+invariant_of-self g c = counted_write c.self.inside.asked.deeds c.put_counted.new.asked.deeds (record { key = c.args.key; act = Put c.args.value c.args.expires }) c.self.inside.slots c.put_counted.new.slots c.in-Ok.ensures.deeds refl c.in-Ok.ensures.counted c.self.invariant
+
+pub invariant_of-self-in-Err : goal.invariant_of-self-in-Err
+invariant_of-self-in-Err g c = counted_kept c.self.inside.asked.deeds c.put_counted.new.asked.deeds c.self.inside.slots c.put_counted.new.slots (ap (λ (s : Asked g.row.D.Denot). s.deeds) c.in-Err.ensures.asked_kept) c.in-Err.ensures.slots_kept c.self.invariant
+
+pub returns-in-Ok-clause-filled : goal.returns-in-Ok-clause-filled
+returns-in-Ok-clause-filled g c held =
+    let d = g.D.PageDevice in
+    let a = c.args in
+    let p : Pair = record { key = a.key; value = timed a.value a.expires } in
+    let counts = c.self.inside.counts in
+    let asked = c.put_counted.new.asked in
+    let old : Serving g.row.D.Denot = record { store = c.self.inside.asked.store; deeds = c.self.inside.asked.deeds; slots = c.self.inside.slots; counts = counts } in
+    let new : Serving g.row.D.Denot = record { store = asked.store; deeds = asked.deeds; slots = c.put_counted.new.slots; counts = record counts { fills = c.stored.new.self; pushed = c.pushed.new.self } } in
+    let put : FillsStore g.row.PAGE d.held p a.word a.lease.writes c.in-Ok.pushed old new =
+    record {
+      unwritten = unwritten c.self.inside.asked.deeds c.self.inside.slots a.key a.lease.writes c.count-some.ensures.some c.self.invariant (subst (λ (s : Serving g.row.D.Denot). HoldsLease s.slots a.key a.lease.writes) (sym c.self.view_is) held);
+      puts = c.in-Ok.ensures.puts;
+      deeds = c.in-Ok.ensures.deeds;
+      slots = c.in-Ok.ensures.counted;
+      counts = λ i. record counts { fills = (c.stored.ensures ∙ ap (λ n. with_stored n counts.fills) c.bytes_of-bytes.ensures) i; pushed = c.pushed.ensures i };
+    } in
+    subst (λ (s : Serving g.row.D.Denot). FillsStore g.row.PAGE d.held p a.word a.lease.writes c.in-Ok.pushed s new) c.self.view_is put

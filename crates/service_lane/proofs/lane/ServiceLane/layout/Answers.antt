@@ -1,0 +1,14 @@
+-- What is true of every lane.
+use Rattle.std.proofs.Common.{subst}
+use Rattle.service_lane.specs.Asked.{IsServed}
+use Rattle.service_lane.specs.Leases.{AreCounted}
+use Rattle.service_lane.specs.Serving.{Serving}
+use Rattle.service_lane.proofs.lane.ServiceLane.layout.Goals as goal
+
+pub returns-clause-served : goal.returns-clause-served
+returns-clause-served g c =
+    let d = g.D.PageDevice in
+    subst (λ (s : Serving g.row.D.Denot). IsServed d.honest d.held (record { store = s.store; deeds = s.deeds })) c.self.view_is c.layout.ensures.served
+
+pub returns-clause-counted : goal.returns-clause-counted
+returns-clause-counted g c = subst (λ (s : Serving g.row.D.Denot). AreCounted s.deeds s.slots) c.self.view_is c.self.invariant

@@ -1,0 +1,34 @@
+-- The lane after a put.
+use Rattle.std.proofs.Common.{◌∙◌, refl, ap, subst}
+use Rattle.record_pages.specs.Expiry.{timed}
+use Rattle.memory_cache.specs.declared.pair.Pair.{Pair}
+use Rattle.trace_file.specs.declared.act.Act.TheVariants.{Put}
+use Rattle.service_lane.specs.Asked.{Asked}
+use Rattle.service_lane.specs.Counting.{with_stored}
+use Rattle.service_lane.specs.Serving.{Serving, PutsStore}
+use Rattle.service_lane.proofs.Writing.{counted_write, counted_kept}
+use Rattle.service_lane.proofs.lane.ServiceLane.put.Goals as goal
+
+pub invariant_of-self : goal.invariant_of-self
+invariant_of-self g c = counted_write c.self.inside.asked.deeds c.put_counted.new.asked.deeds (record { key = c.args.key; act = Put c.args.value c.args.expires }) c.self.inside.slots c.put_counted.new.slots c.in-Ok.ensures.deeds refl c.in-Ok.ensures.counted c.self.invariant
+
+pub invariant_of-self-in-Err : goal.invariant_of-self-in-Err
+invariant_of-self-in-Err g c = counted_kept c.self.inside.asked.deeds c.put_counted.new.asked.deeds c.self.inside.slots c.put_counted.new.slots (ap (λ (s : Asked g.row.D.Denot). s.deeds) c.in-Err.ensures.asked_kept) c.in-Err.ensures.slots_kept c.self.invariant
+
+pub returns-in-Ok-clause-stored : goal.returns-in-Ok-clause-stored
+returns-in-Ok-clause-stored g c =
+    let d = g.D.PageDevice in
+    let a = c.args in
+    let p : Pair = record { key = a.key; value = timed a.value a.expires } in
+    let counts = c.self.inside.counts in
+    let asked = c.put_counted.new.asked in
+    let old : Serving g.row.D.Denot = record { store = c.self.inside.asked.store; deeds = c.self.inside.asked.deeds; slots = c.self.inside.slots; counts = counts } in
+    let new : Serving g.row.D.Denot = record { store = asked.store; deeds = asked.deeds; slots = c.put_counted.new.slots; counts = record counts { puts = c.stored.new.self; pushed = c.pushed.new.self } } in
+    let put : PutsStore g.row.PAGE d.held p a.word c.in-Ok.pushed old new =
+    record {
+      puts = c.in-Ok.ensures.puts;
+      deeds = c.in-Ok.ensures.deeds;
+      slots = c.in-Ok.ensures.counted;
+      counts = λ i. record counts { puts = (c.stored.ensures ∙ ap (λ n. with_stored n counts.puts) c.bytes_of-bytes.ensures) i; pushed = c.pushed.ensures i };
+    } in
+    subst (λ (s : Serving g.row.D.Denot). PutsStore g.row.PAGE d.held p a.word c.in-Ok.pushed s new) c.self.view_is put

@@ -1,0 +1,5 @@
+pub mod Trails
+pub mod Asked
+pub mod Leases
+pub mod Counting
+pub mod Serving

@@ -1,0 +1,167 @@
+// A store with what was asked of it and answered.
+ghost use Rattle.std.specs.Prelude.{◌≡◌, ◌++◌, ◌∷◌, [], IfOk, OnOk, OnErr, IfErr, Ok, IsTrue};
+ghost use Rattle.record_pages.specs.Asked.{HasNumbersOf};
+ghost use Rattle.record_pages.specs.Expiry.{timed};
+ghost use Rattle.mover.specs.Store.{opening};
+ghost use Rattle.mover.specs.Opening.{CanServe, RefusesStore};
+ghost use Rattle.mover.specs.Calls.{StoreGets, StorePuts, StoreRemoves, StoreFlushes, StoreMoves};
+ghost use Rattle.trace_file.specs.declared.act.Act.{Act};
+
+use crate::key_buffer::KeyBuffer;
+use crate::trail::Trail;
+use klog::Flushed;
+use memory_cache::found_is_held;
+use mover::{
+    Moved, OpenFault, Seen, Store, flush_shows, get_shows, opening_shows_nothing, put_shows,
+    removal_shows, whole_move_shows,
+};
+use page_device::PageDevice;
+use policy_laws::EvictionPolicy;
+use record_pages::{Config, Key, Layout, Pushed, PutFault, Value};
+use std::alloc::{AllocError, Global};
+use std::marker::Model;
+use std::snapshot::Snapshot;
+use value_buffer::ValueBuffer;
+
+/// A store with what was asked of it and answered.
+#[derive(Drop)]
+pub(crate) struct AskedStore<D: PageDevice<PAGE>, const PAGE: usize> {
+    store: Store<D, PAGE>,
+    trail: Trail,
+}
+
+impl<D: PageDevice<PAGE>, const PAGE: usize> Model for AskedStore<D, PAGE> {
+    ghost use Rattle.std.specs.Coded.{codes};
+    ghost use Rattle.kset.specs.Sets.{sets_code};
+    ghost use Rattle.service_lane.specs.Asked.{Asked, IsServed};
+    ghost use Rattle.service_lane.specs.Trails.{told_by};
+
+    ghost Value = { Asked D };
+
+    ghost coded = { Prim.hlevel (codes, sets_code) };
+
+    ghost view = { λ s. record { store = s.store; deeds = told_by s.trail } };
+
+    ghost invariant = { λ s. IsServed D.honest D.held (record {
+      store = s.store;
+      deeds = told_by s.trail;
+    }) };
+}
+
+impl<D: PageDevice<PAGE>, const PAGE: usize> AskedStore<D, PAGE> {
+    ghost use Rattle.deed_laws.specs.Sound.{act_of};
+    ghost use Rattle.mover.specs.Get.{answer_of};
+    ghost use Rattle.service_lane.specs.Asked.{IsServed, IsLiveHit, IsMiss};
+
+    /// An empty store of which nothing was asked. Its refusals are those of `Store::open`.
+    pub(crate) fn open(alloc: Global, config: &Config, device: D) -> Result<Self, OpenFault>
+        ensures opening { IfOk result (λ opened. HasNumbersOf opened.store.layout config.now
+            × (opened ≡ record { store = opening opened.store.layout device; deeds = [] })) }
+        ensures serves { OnOk result (CanServe PAGE config.now (D.page_count device)) }
+        ensures refused { IfErr result (RefusesStore PAGE config.now (D.page_count device)) }
+    {
+        opening_shows_nothing();
+        let store = Store::open(alloc, config, device)?;
+        Ok(AskedStore {
+            store,
+            trail: Trail::Opened,
+        })
+    }
+
+    /// The numbers that it was opened with.
+    pub(crate) fn layout(&self) -> Layout
+        ensures layout { result ≡ self.now.store.layout }
+        // What is true of every such store.
+        ensures served { IsServed D.honest D.held self.now }
+    {
+        self.store.layout()
+    }
+
+    /// Looks a key up, and writes the value of a hit into the buffer.
+    pub(crate) fn get(&mut self, key: &KeyBuffer, moment: u64, found: &mut ValueBuffer) -> Seen
+        ensures gets { StoreGets PAGE D.honest D.failures D.held key.now moment self.old.store
+            (Ok (answer_of result found.new)) self.new.store }
+        ensures deeds { self.new.deeds ≡ self.old.deeds
+            ++ record { key = key.now; act = act_of moment (answer_of result found.new) } ∷ [] }
+        ensures live { IsLiveHit (IsTrue (D.honest self.old.store.device)) self.old.deeds key.now
+            moment (answer_of result found.new) }
+        ensures untouched { IsMiss result → found.new ≡ found.old }
+    {
+        get_shows();
+        found_is_held();
+        let seen = self.store.get_into(key.bytes(), moment, found);
+        self.trail = Trail::Got(
+            Snapshot::of(&self.trail),
+            Snapshot::of(key),
+            Snapshot::of(&moment),
+            Snapshot::of(&seen),
+            Snapshot::of(found),
+        );
+        seen
+    }
+
+    /// Puts a value.
+    pub(crate) fn put(
+        &mut self,
+        key: Key,
+        value: Value,
+        word: u32,
+        expires: u64,
+    ) -> Result<Pushed, PutFault>
+        ensures puts { StorePuts PAGE D.held (record { key = key; value = timed value expires }) word
+            self.old.store result self.new.store }
+        ensures deeds { OnOk result (self.new.deeds ≡ self.old.deeds
+            ++ record { key = key; act = Act.Put value expires } ∷ []) }
+        ensures refused { OnErr result (self.new ≡ self.old) }
+    {
+        put_shows();
+        let stored = Trail::Stored(
+            Snapshot::of(&self.trail),
+            Snapshot::of(&key),
+            Snapshot::of(&value),
+            Snapshot::of(&expires),
+        );
+        let pushed = self.store.put(key, value, word, expires)?;
+        self.trail = stored;
+        Ok(pushed)
+    }
+
+    /// Removes a key.
+    pub(crate) fn remove(&mut self, key: &KeyBuffer)
+        ensures removes { StoreRemoves D.held key.now self.old.store self.new.store }
+        ensures deeds { self.new.deeds
+            ≡ self.old.deeds ++ record { key = key.now; act = Act.Remove } ∷ [] }
+    {
+        removal_shows();
+        self.store.remove_bytes(key.bytes());
+        self.trail = Trail::Removed(Snapshot::of(&self.trail), Snapshot::of(key));
+    }
+
+    /// One step of flushing.
+    pub(crate) fn flush_step(&mut self) -> Flushed
+        ensures flushes { StoreFlushes D.honest D.failures D.held self.old.store result
+            self.new.store }
+        ensures deeds { self.new.deeds ≡ self.old.deeds }
+    {
+        flush_shows();
+        self.store.flush_step()
+    }
+
+    /// A whole move.
+    pub(crate) fn move_whole<P: EvictionPolicy>(&mut self, policy: &P) -> Result<Moved, AllocError>
+        ensures moves { StoreMoves PAGE D.honest D.failures D.held (P.plan_of policy.now)
+            self.old.store result self.new.store }
+        ensures deeds { self.new.deeds ≡ self.old.deeds }
+    {
+        let _layout = self.store.layout();
+        whole_move_shows();
+        self.store.move_whole(policy)
+    }
+
+    /// The device, as it is now. What memory held is gone.
+    pub(crate) fn into_device(self) -> D
+        ensures { result ≡ self.store.device }
+    {
+        self.store.into_device()
+    }
+}

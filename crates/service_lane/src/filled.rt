@@ -1,0 +1,11 @@
+// What a fill did.
+use record_pages::Pushed;
+
+/// What a fill did.
+#[derive(Clone, Copy, Debug, PartialEq, Eq)]
+pub enum Filled {
+    /// The value was stored, and this became of the pair that was pushed out of memory.
+    Stored(Pushed),
+    /// A key of the slot was written since the lease was given, so nothing was stored.
+    Stale,
+}

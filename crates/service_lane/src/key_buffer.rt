@@ -1,0 +1,66 @@
+// A key in room of its own.
+ghost use Rattle.std.specs.Prelude.{◌≡◌, ◌≢◌, ◌<◌, ◌↔◌, [], length, IfOk};
+ghost use Rattle.record_pages.specs.Bounded.{IsKey};
+
+use record_pages::{Key, KeyFault};
+use std::marker::Model;
+
+/// A copy of a key's bytes that lies in the buffer itself, so that none can be refused memory.
+#[derive(Drop)]
+pub(crate) struct KeyBuffer {
+    bytes: [u8; Key::MAX_LEN],
+    len: usize,
+}
+
+impl Model for KeyBuffer {
+    ghost use Rattle.std.specs.Prelude.{◌<◌, ◌≤◌, ℕ, List, take};
+
+    ghost Value = { List ℕ };
+
+    ghost view = { λ k. take k.len k.bytes };
+
+    ghost invariant = { λ k. (0 < k.len) × (k.len ≤ 255) };
+}
+
+impl KeyBuffer {
+    /// A copy of these bytes, which have to be those of a key. `OutOfMemory` never comes.
+    pub(crate) fn new(bytes: &[u8]) -> Result<KeyBuffer, KeyFault>
+        ensures ok { IfOk result (λ key. key ≡ bytes.now) }
+        ensures empty { (result ≡ Err KeyFault.KeyEmpty) ↔ (bytes.now ≡ []) }
+        ensures too_long { (result ≡ Err KeyFault.KeyTooLong) ↔ (255 < length bytes.now) }
+        ensures memory { result ≢ Err KeyFault.OutOfMemory }
+    {
+        if bytes.is_empty() {
+            return Err(KeyFault::KeyEmpty);
+        }
+        if bytes.len() > Key::MAX_LEN {
+            return Err(KeyFault::KeyTooLong);
+        }
+        Ok(KeyBuffer::copied(bytes))
+    }
+
+    /// A copy of a key.
+    pub(crate) fn of(key: &Key) -> KeyBuffer
+        ensures { result ≡ key.now }
+    {
+        KeyBuffer::copied(key.bytes())
+    }
+
+    /// The bytes of the key, in order.
+    pub(crate) fn bytes(&self) -> &[u8]
+        ensures { result.now ≡ self.now }
+    {
+        &self.bytes[..self.len]
+    }
+
+    // A copy of the bytes of a key.
+    fn copied(bytes: &[u8]) -> KeyBuffer
+        requires { IsKey bytes.now }
+        ensures { result ≡ bytes.now }
+    {
+        let len = bytes.len();
+        let mut room = [0; Key::MAX_LEN];
+        room[..len].copy_from_slice(bytes);
+        KeyBuffer { bytes: room, len }
+    }
+}

@@ -1,0 +1,119 @@
+// A lane that serves.
+ghost use Rattle.std.specs.Prelude.{◌≡◌, ◌≤◌, [], replicate, IfOk, OnOk, IfErr};
+ghost use Rattle.record_pages.specs.Asked.{HasNumbersOf};
+ghost use Rattle.mover.specs.Store.{opening};
+ghost use Rattle.mover.specs.Opening.{CanServe};
+
+use crate::asked::AskedStore;
+use crate::counts::Counts;
+use crate::open_lane_fault::OpenLaneFault;
+use crate::slots::Slots;
+use mover::OpenFault;
+use page_device::PageDevice;
+use record_pages::{Config, Layout};
+use std::alloc::Global;
+use std::marker::Model;
+
+mod get;
+mod put;
+mod steps;
+
+/// A lane of a cache that serves: its store, its counters and its slots for leases. Nothing is recorded, so it may serve for
+/// years: what it takes of memory is what its store holds, and 8 bytes a slot.
+///
+/// What it promises is said of the list of all that it was asked and answered since it was opened, its deeds, which proofs alone
+/// see: a hit is its key's latest value in that list not since removed, and live at the moment that the get brought.
+#[derive(Drop)]
+pub struct ServiceLane<D: PageDevice<PAGE>, const PAGE: usize> {
+    asked: AskedStore<D, PAGE>,
+    slots: Slots,
+    counts: Counts,
+}
+
+impl<D: PageDevice<PAGE>, const PAGE: usize> Model for ServiceLane<D, PAGE> {
+    ghost use Rattle.std.specs.Coded.{codes};
+    ghost use Rattle.kset.specs.Sets.{sets_code};
+    ghost use Rattle.service_lane.specs.Leases.{AreCounted};
+    ghost use Rattle.service_lane.specs.Serving.{Serving};
+
+    ghost Value = { Serving D };
+
+    ghost coded = { Prim.hlevel (codes, sets_code) };
+
+    ghost view = { λ l. record {
+      store = l.asked.store;
+      deeds = l.asked.deeds;
+      slots = l.slots;
+      counts = l.counts;
+    } };
+
+    ghost invariant = { λ l. AreCounted l.asked.deeds l.slots };
+}
+
+impl<D: PageDevice<PAGE>, const PAGE: usize> ServiceLane<D, PAGE> {
+    ghost use Rattle.service_lane.specs.Asked.{IsServed};
+    ghost use Rattle.service_lane.specs.Counting.{no_counts};
+    ghost use Rattle.service_lane.specs.Leases.{AreCounted};
+    ghost use Rattle.service_lane.specs.Serving.{RefusesLane};
+
+    /// An empty lane with so many slots for leases, over a device. Its refusals are tested in the order of `OpenLaneFault`,
+    /// those of the store in that of `Store::open`, and the device is dropped with each.
+    pub fn open(
+        alloc: Global,
+        config: &Config,
+        lease_slots: u32,
+        device: D,
+    ) -> Result<Self, OpenLaneFault>
+        ensures opening { IfOk result (λ opened. HasNumbersOf opened.store.layout config.now
+            × (opened ≡ record {
+              store = opening opened.store.layout device;
+              deeds = [];
+              slots = replicate lease_slots 0;
+              counts = no_counts;
+            })) }
+        ensures serves { OnOk result
+            ((1 ≤ lease_slots) × CanServe PAGE config.now (D.page_count device)) }
+        ensures refused { IfErr result
+            (RefusesLane PAGE config.now lease_slots (D.page_count device)) }
+    {
+        if lease_slots == 0 {
+            return Err(OpenLaneFault::NoLeaseSlots);
+        }
+        let asked = AskedStore::open(alloc, config, device)?;
+        let Ok(slots) = Slots::open(alloc, lease_slots) else {
+            return Err(OpenLaneFault::Store(OpenFault::OutOfMemory));
+        };
+        Ok(ServiceLane {
+            asked,
+            slots,
+            counts: Counts::none(),
+        })
+    }
+
+    /// How often what was done since it was opened.
+    pub fn counts(&self) -> Counts
+        ensures { result ≡ self.now.counts }
+    {
+        self.counts
+    }
+
+    /// The numbers that the lane was opened with.
+    pub fn layout(&self) -> Layout
+        ensures layout { result ≡ self.now.store.layout }
+        // What is true of every lane.
+        ensures served { IsServed D.honest D.held (record {
+          store = self.now.store;
+          deeds = self.now.deeds;
+        }) }
+        ensures counted { AreCounted self.now.deeds self.now.slots }
+    {
+        self.asked.layout()
+    }
+
+    /// The device, as it is now. What memory held is gone.
+    pub fn into_device(self) -> D
+        ensures { result ≡ self.store.device }
+    {
+        self.asked.into_device()
+    }
+}

@@ -1,0 +1,61 @@
+// Gets and leases of a lane.
+ghost use Rattle.std.specs.Prelude.{◌≡◌, ◌≢◌, ◌<◌, ◌↔◌, ◌++◌, ◌∷◌, [], length, IfOk, OnErr, Ok, IsTrue};
+ghost use Rattle.record_pages.specs.declared.key.KeyFault.{KeyFault};
+ghost use Rattle.mover.specs.Calls.{StoreGets};
+ghost use Rattle.mover.specs.Get.{answer_of};
+ghost use Rattle.deed_laws.specs.Sound.{act_of};
+ghost use Rattle.service_lane.specs.Asked.{IsLiveHit, IsMiss};
+ghost use Rattle.service_lane.specs.Counting.{counts_answer, with_given};
+ghost use Rattle.service_lane.specs.Leases.{writes_for};
+ghost use Rattle.service_lane.specs.Serving.{Gets};
+
+use super::ServiceLane;
+use crate::key_buffer::KeyBuffer;
+use crate::lease::Lease;
+use mover::Seen;
+use page_device::PageDevice;
+use record_pages::KeyFault;
+use value_buffer::ValueBuffer;
+
+impl<D: PageDevice<PAGE>, const PAGE: usize> ServiceLane<D, PAGE> {
+    /// Looks a key up, by its bytes. The value of a hit is in the buffer then; at a miss the buffer is as it was. No memory is
+    /// taken.
+    ///
+    /// A hit is the key's latest value not since removed, live at the moment: in memory whatever the device does, on flash where
+    /// it gives back what was written. The moment is the caller's, and may go backwards. `KeyEmpty` and `KeyTooLong`, for bytes that
+    /// are no key's, change nothing.
+    pub fn get(
+        &mut self,
+        key: &[u8],
+        moment: u64,
+        found: &mut ValueBuffer,
+    ) -> Result<Seen, KeyFault>
+        ensures gets { IfOk result (λ seen. Gets PAGE D.honest D.failures D.held key.now moment
+            (answer_of seen found.new) self.old self.new) }
+        ensures untouched { IfOk result (λ seen. IsMiss seen → found.new ≡ found.old) }
+
+        // When it is refused, and what that leaves.
+        ensures empty { (result ≡ Err KeyFault.KeyEmpty) ↔ (key.now ≡ []) }
+        ensures too_long { (result ≡ Err KeyFault.KeyTooLong) ↔ (255 < length key.now) }
+        ensures memory { result ≢ Err KeyFault.OutOfMemory }
+        ensures refused { OnErr result (self.new ≡ self.old) }
+        ensures refused_found { OnErr result (found.new ≡ found.old) }
+    {
+        let key = KeyBuffer::new(key)?;
+        let seen = self.asked.get(&key, moment, found);
+        self.counts.gets.answered(seen);
+        Ok(seen)
+    }
+
+    /// A lease of a key, to be taken in the same hold of the lane as the get that missed: for a fill by what is read elsewhere
+    /// then. It ends with the next put, fill or removal of the key, or of another key of its slot. No memory is taken.
+    pub fn lease(&mut self, key: &[u8]) -> Lease
+        ensures lease { result.writes ≡ writes_for self.old.slots key.now }
+        ensures leaves { self.new ≡ record self.old {
+          counts = record self.old.counts { leases = with_given self.old.counts.leases };
+        } }
+    {
+        self.counts.leases.gave();
+        self.slots.lease(key)
+    }
+}

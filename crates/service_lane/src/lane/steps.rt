@@ -1,0 +1,52 @@
+// The steps of a lane that show nothing new: flushes and moves.
+ghost use Rattle.std.specs.Prelude.{◌≡◌, IfOk, OnErr};
+ghost use Rattle.mover.specs.Calls.{StoreFlushes, StoreMoves};
+ghost use Rattle.service_lane.specs.Counting.{with_flushed, with_moved, with_refused_move};
+
+use super::ServiceLane;
+use klog::Flushed;
+use mover::Moved;
+use page_device::PageDevice;
+use policy_laws::EvictionPolicy;
+use std::alloc::AllocError;
+
+impl<D: PageDevice<PAGE>, const PAGE: usize> ServiceLane<D, PAGE> {
+    /// One step of flushing the log. It adds no deed, and no memory is taken.
+    pub fn flush_step(&mut self) -> Flushed
+        ensures leaves { self.new ≡ record self.old {
+          store = self.new.store;
+          counts = record self.old.counts { steps = with_flushed result self.old.counts.steps };
+        } }
+        ensures flushes { StoreFlushes D.honest D.failures D.held self.old.store result
+            self.new.store }
+    {
+        let flushed = self.asked.flush_step();
+        self.counts.steps.flushed(flushed);
+        flushed
+    }
+
+    /// Moves the objects of a set from the oldest segment of the log to their page, by a policy's plan; or readmits or drops
+    /// one, or frees the segment. It adds no deed.
+    ///
+    /// Where memory is refused the tiers stay as they were. Where it is the policy that is refused, a move began, is given
+    /// up, and its number is not given again.
+    pub fn move_whole<P: EvictionPolicy>(&mut self, policy: &P) -> Result<Moved, AllocError>
+        ensures moved { IfOk result (λ moved. self.new ≡ record self.old {
+          store = self.new.store;
+          counts = record self.old.counts { steps = with_moved moved self.old.counts.steps };
+        }) }
+        ensures refused { OnErr result (self.new ≡ record self.old {
+          store = self.new.store;
+          counts = record self.old.counts { steps = with_refused_move self.old.counts.steps };
+        }) }
+        ensures moves { StoreMoves PAGE D.honest D.failures D.held (P.plan_of policy.now)
+            self.old.store result self.new.store }
+    {
+        let Ok(moved) = self.asked.move_whole(policy) else {
+            self.counts.steps.refused();
+            return Err(AllocError);
+        };
+        self.counts.steps.moved(moved);
+        Ok(moved)
+    }
+}

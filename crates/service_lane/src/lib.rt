@@ -1,0 +1,29 @@
+//! A lane that serves: a store with counters and leases, of which nothing is recorded. What it was asked and answered is there
+//! in proofs alone: it takes no memory and no time, however long the lane serves.
+#![tactic(auto)]
+
+mod asked;
+mod counts;
+mod filled;
+mod get_counts;
+mod key_buffer;
+mod lane;
+mod lease;
+mod lease_counts;
+mod open_lane_fault;
+mod pushed_counts;
+mod put_counts;
+mod slots;
+mod step_counts;
+mod trail;
+
+pub use counts::Counts;
+pub use filled::Filled;
+pub use get_counts::GetCounts;
+pub use lane::ServiceLane;
+pub use lease::Lease;
+pub use lease_counts::LeaseCounts;
+pub use open_lane_fault::OpenLaneFault;
+pub use pushed_counts::PushedCounts;
+pub use put_counts::PutCounts;
+pub use step_counts::StepCounts;

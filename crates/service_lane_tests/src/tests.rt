@@ -1,0 +1,194 @@
+//! A lane that serves, from end to end: each call with what it gives, and what the counters say then.
+mod run;
+
+use self::run::{Found, Step, run};
+use klog::Flushed;
+use mover::{Moved, OpenFault};
+use page_device::MemoryDevice;
+use record_pages::{Config, Field, NEVER, Pushed, PutFault};
+use service_lane::{Filled, LeaseCounts, OpenLaneFault, PutCounts, ServiceLane};
+use std::alloc::Global;
+use std::test::Fail;
+use test_steps::{key, value};
+
+// One lane of one set, with one object in memory and two segments of one page.
+const ONE_SET: Config = Config {
+    lanes: 1,
+    sets: 1,
+    memory: 1,
+    segments: 2,
+    segment_pages: 1,
+    entries: 8,
+    threshold: 1,
+    admit: 65536,
+};
+
+// The pages of a set and of two segments.
+fn device(alloc: Global) -> Result<MemoryDevice<256>, Fail> {
+    match MemoryDevice::new(alloc, 3) {
+        Ok(device) => Ok(device),
+        Err(_) => Ok(MemoryDevice::new(alloc, 3)?),
+    }
+}
+
+// A lane with so many slots for leases, opened once more where memory was refused.
+fn lane(alloc: Global, slots: u32) -> Result<ServiceLane<MemoryDevice<256>, 256>, Fail> {
+    match ServiceLane::open(alloc, &ONE_SET, slots, device(alloc)?) {
+        Ok(lane) => Ok(lane),
+        Err(_) => Ok(ServiceLane::open(alloc, &ONE_SET, slots, device(alloc)?)?),
+    }
+}
+
+const EACH_TIER: [Step; 15] = [
+    Step::Get(b"ax", 0, Found::Absent),
+    Step::Put(b"ax", b"1", 9, Pushed::Nobody),
+    Step::Get(b"ax", 8, Found::Memory(b"1")),
+    Step::Get(b"ax", 9, Found::Expired),
+    Step::Put(b"bx", b"2", NEVER, Pushed::Logged),
+    Step::Get(b"ax", 8, Found::Log(b"1")),
+    Step::Flush(Flushed::Sealed),
+    Step::Flush(Flushed::Wrote),
+    Step::Get(b"ax", 8, Found::Log(b"1")),
+    Step::Move(Moved::Written),
+    Step::Get(b"ax", 8, Found::Set(b"1")),
+    Step::Get(b"ax", 9, Found::Expired),
+    Step::Remove(b"ax"),
+    Step::Get(b"ax", 8, Found::Absent),
+    Step::Move(Moved::Freed),
+];
+
+#[test]
+fn a_value_is_a_hit_in_each_tier_and_each_call_is_counted(rt: HostRuntime) -> Result<(), Fail> {
+    let mut lane = lane(rt.alloc(), 1)?;
+    assert_eq!(rt; run(rt.alloc(), &mut lane, &EACH_TIER)?, None);
+    let counts = lane.counts();
+    let hits = (
+        counts.gets.memory_hits,
+        counts.gets.log_hits,
+        counts.gets.set_hits,
+    );
+    assert_eq!(rt; hits, (1, 2, 1));
+    assert_eq!(rt;
+        (counts.gets.absent, counts.gets.expired, counts.removals),
+        (2, 2, 1)
+    );
+    assert_eq!(rt;
+        (counts.puts.stored, counts.puts.bytes, counts.pushed.logged),
+        (2, 6, 1)
+    );
+    let steps = counts.steps;
+    assert_eq!(rt;
+        (steps.sealed, steps.pages_written, steps.sets_written),
+        (1, 1, 1)
+    );
+    assert_eq!(rt; steps.segments_freed, 1);
+    Ok(())
+}
+
+// With one slot a write of any key ends a lease.
+const LEASES: [Step; 14] = [
+    Step::Lease(0, b"ax"),
+    Step::Fill(0, b"ax", b"1", Filled::Stored(Pushed::Nobody)),
+    Step::Fill(0, b"ax", b"2", Filled::Stale),
+    Step::Get(b"ax", 0, Found::Memory(b"1")),
+    Step::Lease(0, b"ax"),
+    Step::Put(b"ax", b"3", NEVER, Pushed::Nobody),
+    Step::Fill(0, b"ax", b"4", Filled::Stale),
+    Step::Lease(0, b"ax"),
+    Step::Remove(b"ax"),
+    Step::Fill(0, b"ax", b"5", Filled::Stale),
+    Step::Get(b"ax", 0, Found::Absent),
+    Step::Lease(1, b"ax"),
+    Step::Put(b"bx", b"6", NEVER, Pushed::Nobody),
+    Step::Fill(1, b"ax", b"7", Filled::Stale),
+];
+
+#[test]
+fn a_lease_ends_with_the_next_write_of_its_slot(rt: HostRuntime) -> Result<(), Fail> {
+    let mut lane = lane(rt.alloc(), 1)?;
+    assert_eq!(rt; run(rt.alloc(), &mut lane, &LEASES)?, None);
+    let counts = lane.counts();
+    assert_eq!(rt; counts.leases, LeaseCounts { given: 4, stale: 4 });
+    assert_eq!(rt;
+        (counts.fills.stored, counts.fills.bytes, counts.puts.stored),
+        (1, 3, 2)
+    );
+    Ok(())
+}
+
+// Among many slots the keys have slots of their own. What changes nothing ends no lease.
+const APART: [Step; 8] = [
+    Step::Lease(0, b"ax"),
+    Step::Put(b"bx", b"1", NEVER, Pushed::Nobody),
+    Step::Remove(b"cx"),
+    Step::TooLarge(b"ax", &[7; 225]),
+    Step::Get(b"ax", 0, Found::Absent),
+    Step::Flush(Flushed::Nothing),
+    Step::Move(Moved::Nothing),
+    Step::Fill(0, b"ax", b"2", Filled::Stored(Pushed::Logged)),
+];
+
+#[test]
+fn a_lease_outlives_what_does_not_write_its_slot(rt: HostRuntime) -> Result<(), Fail> {
+    let mut lane = lane(rt.alloc(), 1000)?;
+    assert_eq!(rt; run(rt.alloc(), &mut lane, &APART)?, None);
+    Ok(())
+}
+
+const REFUSED: [Step; 7] = [
+    Step::Put(b"ax", b"1", NEVER, Pushed::Nobody),
+    Step::TooLarge(b"ax", &[7; 225]),
+    Step::Get(b"ax", 0, Found::Memory(b"1")),
+    Step::Instead(b"ax", b"2"),
+    Step::Get(b"ax", 0, Found::Memory(b"2")),
+    Step::GoneInstead(b"ax", &[7; 225]),
+    Step::Get(b"ax", 0, Found::Absent),
+];
+
+#[test]
+fn a_refused_put_leaves_the_older_value_or_removes_it(rt: HostRuntime) -> Result<(), Fail> {
+    let mut lane = lane(rt.alloc(), 1)?;
+    assert_eq!(rt; run(rt.alloc(), &mut lane, &REFUSED)?, None);
+    let counts = lane.counts();
+    assert_eq!(rt;
+        (counts.puts.stored, counts.puts.too_large, counts.removals),
+        (2, 2, 1)
+    );
+    Ok(())
+}
+
+const NO_KEYS: [Step; 3] = [
+    Step::Put(b"ax", b"1", NEVER, Pushed::Nobody),
+    Step::NoKey(b"", &[7; 256]),
+    Step::Get(b"ax", 0, Found::Memory(b"1")),
+];
+
+#[test]
+fn bytes_that_are_no_key_are_refused(rt: HostRuntime) -> Result<(), Fail> {
+    let mut lane = lane(rt.alloc(), 1)?;
+    assert_eq!(rt; run(rt.alloc(), &mut lane, &NO_KEYS)?, None);
+    Ok(())
+}
+
+// Why a lane is not opened, if it is not.
+fn fault_of(alloc: Global, config: &Config, slots: u32) -> Result<Option<OpenLaneFault>, Fail> {
+    match ServiceLane::<_, 256>::open(alloc, config, slots, device(alloc)?) {
+        Ok(_) => Ok(None),
+        Err(fault) => Ok(Some(fault)),
+    }
+}
+
+#[test]
+fn a_lane_is_refused_with_no_slot_or_by_its_store(rt: HostRuntime) -> Result<(), Fail> {
+    let no_sets = Config { sets: 0, ..ONE_SET };
+    let field = OpenFault::ConfigFault { field: Field::Sets };
+    assert_eq!(rt;
+        fault_of(rt.alloc(), &no_sets, 0)?,
+        Some(OpenLaneFault::NoLeaseSlots)
+    );
+    assert_eq!(rt;
+        fault_of(rt.alloc(), &no_sets, 1)?,
+        Some(OpenLaneFault::Store(field))
+    );
+    Ok(())
+}

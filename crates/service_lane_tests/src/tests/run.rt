@@ -1,0 +1,160 @@
+//! Calls of a lane, each with what it gives.
+use super::*;
+use mover::Seen;
+use record_pages::{KeyFault, MissCause, Tier};
+use rriparoo::Rriparoo;
+use service_lane::Lease;
+use value_buffer::ValueBuffer;
+
+/// What a get is to find.
+#[derive(Clone, Copy)]
+pub enum Found {
+    Memory(&'static [u8]),
+    Log(&'static [u8]),
+    Set(&'static [u8]),
+    Absent,
+    Expired,
+}
+
+/// A call of a lane, and what it gives.
+#[derive(Clone, Copy)]
+pub enum Step {
+    /// A key, its value, when that expires, and what becomes of the pair that leaves memory.
+    Put(&'static [u8], &'static [u8], u64, Pushed),
+    /// A key, and a value that is too large with it.
+    TooLarge(&'static [u8], &'static [u8]),
+    /// A key, and its value, which is put, or else the key removed.
+    Instead(&'static [u8], &'static [u8]),
+    /// A key, and a value that is too large with it, so that the key is removed.
+    GoneInstead(&'static [u8], &'static [u8]),
+    /// A key, the moment, and what is found.
+    Get(&'static [u8], u64, Found),
+    /// A key.
+    Remove(&'static [u8]),
+    /// Bytes that are too few for a key, and bytes that are too many.
+    NoKey(&'static [u8], &'static [u8]),
+    /// The lease of a key, kept at this place.
+    Lease(usize, &'static [u8]),
+    /// A fill by the lease at this place: a key, its value, and what it does.
+    Fill(usize, &'static [u8], &'static [u8], Filled),
+    Flush(Flushed),
+    Move(Moved),
+}
+
+type Lane = ServiceLane<MemoryDevice<256>, 256>;
+
+/// Makes each of these calls, up to the first that does not give what is written beside it; its number.
+pub fn run(alloc: Global, lane: &mut Lane, steps: &[Step]) -> Result<Option<usize>, Fail> {
+    let mut leases = [Lease { writes: 0 }; 2];
+    for number in 0..steps.len() {
+        if !gives(alloc, lane, &mut leases, &steps[number])? {
+            return Ok(Some(number));
+        }
+    }
+    Ok(None)
+}
+
+// Whether a call gives what is written beside it.
+fn gives(
+    alloc: Global,
+    lane: &mut Lane,
+    leases: &mut [Lease; 2],
+    step: &Step,
+) -> Result<bool, Fail> {
+    match step {
+        Step::Put(name, bytes, expires, pushed) => {
+            Ok(put(alloc, lane, name, bytes, *expires)? == Ok(*pushed))
+        }
+        Step::TooLarge(name, bytes) => {
+            Ok(put(alloc, lane, name, bytes, NEVER)? == Err(PutFault::TooLarge))
+        }
+        Step::Instead(name, bytes) => {
+            Ok(put_or_remove(alloc, lane, name, bytes)? == Ok(Pushed::Nobody))
+        }
+        Step::GoneInstead(name, bytes) => {
+            Ok(put_or_remove(alloc, lane, name, bytes)? == Err(PutFault::TooLarge))
+        }
+        Step::Get(name, moment, found) => Ok(is_found(lane, name, *moment, found)),
+        Step::Remove(name) => Ok(lane.remove(name) == Ok(())),
+        Step::NoKey(few, many) => Ok(are_refused(lane, few, many)),
+        Step::Lease(place, name) => {
+            leases[*place % 2] = lane.lease(name);
+            Ok(true)
+        }
+        Step::Fill(place, name, bytes, filled) => {
+            Ok(fill(alloc, lane, leases[*place % 2], name, bytes)? == Ok(*filled))
+        }
+        Step::Flush(flushed) => Ok(lane.flush_step() == *flushed),
+        Step::Move(wanted) => Ok(moved(lane)? == *wanted),
+    }
+}
+
+// Puts a pair, once more where memory was refused.
+fn put(
+    alloc: Global,
+    lane: &mut Lane,
+    name: &[u8],
+    bytes: &[u8],
+    expires: u64,
+) -> Result<Result<Pushed, PutFault>, Fail> {
+    match lane.put(key(alloc, name)?, value(alloc, bytes)?, 0, expires) {
+        Err(PutFault::OutOfMemory) => {
+            Ok(lane.put(key(alloc, name)?, value(alloc, bytes)?, 0, expires))
+        }
+        Ok(pushed) => Ok(Ok(pushed)),
+        Err(fault) => Ok(Err(fault)),
+    }
+}
+
+fn put_or_remove(
+    alloc: Global,
+    lane: &mut Lane,
+    name: &[u8],
+    bytes: &[u8],
+) -> Result<Result<Pushed, PutFault>, Fail> {
+    Ok(lane.put_or_remove(key(alloc, name)?, value(alloc, bytes)?, 0, NEVER))
+}
+
+// Fills a key, once more where memory was refused.
+fn fill(
+    alloc: Global,
+    lane: &mut Lane,
+    lease: Lease,
+    name: &[u8],
+    bytes: &[u8],
+) -> Result<Result<Filled, PutFault>, Fail> {
+    match lane.fill(lease, key(alloc, name)?, value(alloc, bytes)?, 0, NEVER) {
+        Err(PutFault::OutOfMemory) => {
+            Ok(lane.fill(lease, key(alloc, name)?, value(alloc, bytes)?, 0, NEVER))
+        }
+        Ok(filled) => Ok(Ok(filled)),
+        Err(fault) => Ok(Err(fault)),
+    }
+}
+
+fn moved(lane: &mut Lane) -> Result<Moved, Fail> {
+    match lane.move_whole(&Rriparoo) {
+        Ok(moved) => Ok(moved),
+        Err(_) => Ok(lane.move_whole(&Rriparoo)?),
+    }
+}
+
+fn is_found(lane: &mut Lane, name: &[u8], moment: u64, wanted: &Found) -> bool {
+    let mut found = ValueBuffer::empty();
+    let seen = lane.get(name, moment, &mut found);
+    match wanted {
+        Found::Memory(bytes) => seen == Ok(Seen::Hit(Tier::Memory)) && found.bytes() == *bytes,
+        Found::Log(bytes) => seen == Ok(Seen::Hit(Tier::Log)) && found.bytes() == *bytes,
+        Found::Set(bytes) => seen == Ok(Seen::Hit(Tier::Set)) && found.bytes() == *bytes,
+        Found::Absent => seen == Ok(Seen::Miss(MissCause::Absent)) && found.bytes().is_empty(),
+        Found::Expired => seen == Ok(Seen::Miss(MissCause::Expired)) && found.bytes().is_empty(),
+    }
+}
+
+fn are_refused(lane: &mut Lane, few: &[u8], many: &[u8]) -> bool {
+    let mut found = ValueBuffer::empty();
+    lane.get(few, 0, &mut found) == Err(KeyFault::KeyEmpty)
+        && lane.get(many, 0, &mut found) == Err(KeyFault::KeyTooLong)
+        && lane.remove(few) == Err(KeyFault::KeyEmpty)
+        && lane.remove(many) == Err(KeyFault::KeyTooLong)
+}

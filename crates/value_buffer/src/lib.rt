@@ -1,0 +1,6 @@
+//! Room for a value, into which a get writes it.
+#![tactic(auto)]
+
+mod buffer;
+
+pub use buffer::ValueBuffer;
