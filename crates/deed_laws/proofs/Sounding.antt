@@ -47,13 +47,13 @@ deed_leaves : (deeds : List Deed) (d : Deed) (key : List ℕ) → ((d.key ≡ ke
 deed_leaves deeds d key other = current-push key deeds d ∙ deed_kept key (current deeds key) d (λ w. other w.0 w.1)
 
 -- a put gives its key its value
-put_gives : (deeds : List Deed) (d : Deed) (key value : List ℕ) (expires : ℕ) → d.key ≡ key → d.act ≡ Put value expires → current (deeds ++ d ∷ []) key ≡ Some (timed value expires)
+pub put_gives : (deeds : List Deed) (d : Deed) (key value : List ℕ) (expires : ℕ) → d.key ≡ key → d.act ≡ Put value expires → current (deeds ++ d ∷ []) key ≡ Some (timed value expires)
 put_gives deeds d key value expires at put =
     let same : bytes_eq d.key key ≡ true = (bytes_decides d.key key).1 at in
     current-push key deeds d ∙ rw (same, put) refl
 
 -- an answer writes nothing
-reads : (moment : ℕ) (answer : Answer) → IsWrite (act_of moment answer) → ⊥
+pub reads : (moment : ℕ) (answer : Answer) → IsWrite (act_of moment answer) → ⊥
 reads moment (answers.Hit value tier) w = w
 reads moment (answers.Miss cause) w = w
 

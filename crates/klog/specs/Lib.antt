@@ -1,5 +1,6 @@
 pub mod Buffer
 pub mod Log
+pub mod Usage
 pub mod Names
 pub mod Shown
 pub mod Known

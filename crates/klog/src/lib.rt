@@ -11,6 +11,7 @@ mod found;
 mod gathered;
 mod laws;
 mod log;
+mod log_usage;
 mod looked;
 mod oldest;
 mod readmitted;
@@ -33,6 +34,7 @@ pub use laws::{
     list_keeps_places, live_are_as_many, names_tell_numbers,
 };
 pub use log::{KLog, MAX_TAKEN};
+pub use log_usage::LogUsage;
 pub use looked::Looked;
 pub use oldest::Oldest;
 pub use readmitted::Readmitted;

@@ -6,6 +6,7 @@ ghost use Rattle.klog.specs.Log.{LogState, shape_of, opening_log};
 ghost use Rattle.klog.specs.Names.{names, name_of, number_of, flushed_number, filled_number, device_page};
 ghost use Rattle.klog.specs.Shown.{IsSpelledOn, live_on, ArePlaced};
 ghost use Rattle.klog.specs.Keeps.{IsLog};
+ghost use Rattle.klog.specs.Usage.{usage_of};
 
 mod append;
 mod fetch;
@@ -15,6 +16,7 @@ mod moves;
 
 pub use self::moves::MAX_TAKEN;
 use crate::buffer::SegmentBuffer;
+use crate::log_usage::LogUsage;
 use klog_index::LogIndex;
 use record_pages::Layout;
 use std::alloc::{AllocError, Global};
@@ -94,6 +96,21 @@ impl<const PAGE: usize> KLog<PAGE> {
         ensures { IsTrue result ↔ (self.now.entries ≡ []) }
     {
         self.index.is_empty()
+    }
+
+    /// How full the log is.
+    pub fn usage(&self) -> LogUsage
+        ensures { result ≡ usage_of self.now }
+    {
+        LogUsage {
+            segments: self.layout.segments,
+            free_segments: self.layout.segments - self.stored,
+            is_flushing: self.is_flushing,
+            segment_pages: self.layout.segment_pages,
+            filled_pages: self.filling.len() as u32,
+            limit: self.layout.entries,
+            live: self.index.len() as u32,
+        }
     }
 
     // The number of the segment that is flushed, where there is one.

@@ -1,10 +1,11 @@
 // The store of a lane.
-ghost use Rattle.std.specs.Prelude.{◌≡◌, IfOk, OnOk, IfErr};
+ghost use Rattle.std.specs.Prelude.{◌≡◌, IfOk, OnOk, IfErr, length};
 ghost use Rattle.record_pages.specs.Asked.{HasNumbersOf};
+ghost use Rattle.klog.specs.Usage.{usage_of};
 
 use crate::flights::Flights;
 use crate::open_fault::OpenFault;
-use klog::KLog;
+use klog::{KLog, LogUsage};
 use kset::KSet;
 use memory_cache::MemoryCache;
 use page_device::PageDevice;
@@ -115,6 +116,20 @@ impl<D: PageDevice<PAGE>, const PAGE: usize> Store<D, PAGE> {
         // That live records are placed is known from the log's length.
         let _live = self.log.len();
         self.layout
+    }
+
+    /// How full the log is.
+    pub fn log_usage(&self) -> LogUsage
+        ensures { result ≡ usage_of self.now.log }
+    {
+        self.log.usage()
+    }
+
+    /// How many objects are in memory.
+    pub fn memory_len(&self) -> usize
+        ensures { result ≡ length self.now.memory.pairs }
+    {
+        self.memory.len()
     }
 
     /// The device, as it is now. What memory held is gone.

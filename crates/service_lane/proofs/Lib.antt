@@ -1,3 +1,4 @@
 pub mod Remembering
 pub mod Writing
 pub mod Serves
+pub mod Tending

@@ -1,5 +1,5 @@
 -- Each call of a store keeps what is true of it and of what was asked of it.
-use Rattle.std.proofs.Common.{◌≡◌, ◌≢◌, ◌⊎◌, ℕ, Bool, true, List, [], ◌∷◌, ◌++◌, Option, Some, None, Ok, refl, ap, sym, ◌∙◌, subst, inl}
+use Rattle.std.proofs.Common.{◌≡◌, ◌≢◌, ◌⊎◌, ℕ, Bool, List, [], ◌∷◌, ◌++◌, Option, Some, None, Ok, refl, ap, sym, ◌∙◌, subst, inl}
 use Rattle.std.specs.Prelude.{IsTrue}
 use Rattle.record_pages.specs.Expiry.{timed}
 use Rattle.record_pages.specs.declared.answer.Answer.{Answer}
@@ -10,20 +10,17 @@ use Rattle.trace_file.specs.declared.act.Act.{Act}
 use Rattle.trace_file.specs.declared.act.Act.TheVariants.{Put, Remove, Hit}
 use Rattle.certificate_checker.specs.Deeds.{Deed}
 use Rattle.certificate_checker.specs.Current.{current}
-use Rattle.certificate_checker.specs.Latest.{IsLive, IsWrite}
+use Rattle.certificate_checker.specs.Latest.{IsLive}
 use Rattle.certificate_checker.proofs.Growing.{lawful-push}
 use Rattle.mover.specs.Store.{StoreState, opening}
 use Rattle.mover.specs.Lane.{lane_of}
 use Rattle.mover.specs.Laws.{IsInOrder, StepsInOrder, OpeningShowsNothing}
 use Rattle.mover.specs.Visible.{IsShown, TellsVisible}
 use Rattle.deed_laws.specs.Sound.{act_of}
-use Rattle.deed_laws.proofs.Sounding.{no_deed}
-use Rattle.deed_laws.proofs.Sounding.{sound_by, sound_read, sound_put, sound_remove, none_some, hit_is}
+use Rattle.deed_laws.proofs.Sounding.{no_deed, reads, put_gives, sound_by, sound_read, sound_put, sound_remove, none_some, hit_is}
 use Rattle.service_lane.specs.Asked.{Asked, IsServed, AreCurrent, IsLiveHit}
 use Rattle.certificate_checker.proofs.LatestLemmas.{current-push, deed_kept, live_is}
 use Rattle.certificate_checker.specs.Current.{given_at}
-use Rattle.std.specs.Str.{bytes_eq}
-use Rattle.std.specs.Cmp.Lexicographic.{bytes_decides}
 use Rattle.record_pages.specs.Expiry.{value_at}
 use Rattle.record_pages.specs.declared.timed_value.TimedValue.{TimedValue}
 use Rattle.memory_cache.specs.MemoryList.{MemoryList, after_get, after_put, after_remove}
@@ -34,11 +31,6 @@ use Rattle.service_lane.proofs.Remembering.{current_got, current_put, current_re
 
 -- ---- what deeds give
 
--- an answer writes nothing
-reads : (moment : ℕ) (answer : Answer) → IsWrite (act_of moment answer) → ⊥
-reads moment (answers.Hit value tier) w = w
-reads moment (answers.Miss cause) w = w
-
 -- after a get each key has what it had
 read_keeps : (deeds : List Deed) (key : List ℕ) (moment : ℕ) (answer : Answer) (k : List ℕ) → current (deeds ++ record { key = key; act = act_of moment answer } ∷ []) k ≡ current deeds k
 read_keeps deeds key moment answer k =
@@ -48,13 +40,6 @@ read_keeps deeds key moment answer k =
 -- after a deed of a key the others have what they had
 write_keeps : (deeds : List Deed) (d : Deed) (k : List ℕ) → k ≢ d.key → current (deeds ++ d ∷ []) k ≡ current deeds k
 write_keeps deeds d k other = current-push k deeds d ∙ deed_kept k (current deeds k) d (λ w. other (sym w.0))
-
--- after a put its key has its value
-put_gives : (deeds : List Deed) (key value : List ℕ) (expires : ℕ) → current (deeds ++ record { key = key; act = Put value expires } ∷ []) key ≡ Some (timed value expires)
-put_gives deeds key value expires =
-    let d : Deed = record { key = key; act = Put value expires } in
-    let same : bytes_eq d.key key ≡ true = (bytes_decides d.key key).1 refl in
-    current-push key deeds d ∙ rw same refl
 
 -- a deed more, by what it is told as
 pub more_by : (before b : List Deed) (key k : List ℕ) (act a : Act) → b ≡ before → k ≡ key → a ≡ act → b ++ record { key = k; act = a } ∷ [] ≡ before ++ record { key = key; act = act } ∷ []
@@ -132,7 +117,7 @@ module _ {D : Type 0} (honest : D → Bool) (held : D → ℕ → Option (List �
         let d : Deed = record { key = key; act = Put value expires } in
         let put : Pair = record { key = key; value = timed value expires } in
         subst (λ (ds : List Deed). IsServed honest held (record { store = new; deeds = ds })) (sym more) (record {
-          memory = current_put old.deeds (old.deeds ++ d ∷ []) put old.store.memory new.memory (put_gives old.deeds key value expires) (write_keeps old.deeds d) leaves served.memory;
+          memory = current_put old.deeds (old.deeds ++ d ∷ []) put old.store.memory new.memory (put_gives old.deeds d key value expires refl refl) (write_keeps old.deeds d) leaves served.memory;
           order = λ is. (steps (subst IsTrue honesty is)).order;
           sound = λ is.
               let was = subst IsTrue honesty is in

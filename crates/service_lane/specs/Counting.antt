@@ -1,5 +1,5 @@
 -- What each call adds to the counters of a lane. They are modulo 2^64.
-use Rattle.std.specs.Prelude.{ℕ, ◌+◌, ◌%◌, ◌^◌, List, length}
+use Rattle.std.specs.Prelude.{ℕ, zero, suc, ◌+◌, ◌%◌, ◌^◌, List, length}
 use Rattle.record_pages.specs.declared.answer.Answer.{Answer}
 use Rattle.record_pages.specs.declared.answer.Answer.TheVariants.{Hit, Miss}
 use Rattle.record_pages.specs.declared.tier.Tier.{Tier}
@@ -19,6 +19,7 @@ use Rattle.service_lane.specs.declared.put_counts.PutCounts.{PutCounts}
 use Rattle.service_lane.specs.declared.pushed_counts.PushedCounts.{PushedCounts}
 use Rattle.service_lane.specs.declared.lease_counts.LeaseCounts.{LeaseCounts}
 use Rattle.service_lane.specs.declared.step_counts.StepCounts.{StepCounts}
+use Rattle.service_lane.specs.declared.upkeep_counts.UpkeepCounts.{UpkeepCounts}
 use Rattle.service_lane.specs.declared.counts.Counts.{Counts}
 
 -- one more, modulo 2^64
@@ -55,6 +56,10 @@ no_steps = record {
   out_of_memory = 0;
 }
 
+-- no step was due
+abbrev pub no_upkeep : UpkeepCounts
+no_upkeep = record { steps = 0; in_help = 0 }
+
 -- nothing was done
 abbrev pub no_counts : Counts
 no_counts = record {
@@ -65,6 +70,7 @@ no_counts = record {
   removals = 0;
   pushed = no_pushed;
   steps = no_steps;
+  upkeep = no_upkeep;
 }
 
 -- a hit more in a tier
@@ -132,6 +138,19 @@ with_moved moved.Forgotten c = record c { sets_forgotten = more c.sets_forgotten
 -- a move more that was refused memory
 abbrev pub with_refused_move : StepCounts → StepCounts
 with_refused_move c = record c { out_of_memory = more c.out_of_memory }
+
+-- a step more that was due
+abbrev pub with_step : UpkeepCounts → UpkeepCounts
+with_step c = record c { steps = more c.steps }
+
+-- a step of these more that was done in help
+abbrev pub with_help : UpkeepCounts → UpkeepCounts
+with_help c = record c { in_help = more c.in_help }
+
+-- so many steps more that were due, all of them done in help
+abbrev pub with_helps : ℕ → UpkeepCounts → UpkeepCounts
+with_helps zero c = c
+with_helps (suc n) c = with_help (with_step (with_helps n c))
 
 -- the bytes of an object
 abbrev pub bytes_of : List ℕ → List ℕ → ℕ

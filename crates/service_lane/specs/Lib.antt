@@ -3,3 +3,4 @@ pub mod Asked
 pub mod Leases
 pub mod Counting
 pub mod Serving
+pub mod Upkeep

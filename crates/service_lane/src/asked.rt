@@ -1,5 +1,6 @@
 // A store with what was asked of it and answered.
-ghost use Rattle.std.specs.Prelude.{◌≡◌, ◌++◌, ◌∷◌, [], IfOk, OnOk, OnErr, IfErr, Ok, IsTrue};
+ghost use Rattle.std.specs.Prelude.{◌≡◌, ◌++◌, ◌∷◌, [], length, IfOk, OnOk, OnErr, IfErr, Ok, IsTrue};
+ghost use Rattle.klog.specs.Usage.{usage_of};
 ghost use Rattle.record_pages.specs.Asked.{HasNumbersOf};
 ghost use Rattle.record_pages.specs.Expiry.{timed};
 ghost use Rattle.mover.specs.Store.{opening};
@@ -9,7 +10,7 @@ ghost use Rattle.trace_file.specs.declared.act.Act.{Act};
 
 use crate::key_buffer::KeyBuffer;
 use crate::trail::Trail;
-use klog::Flushed;
+use klog::{Flushed, LogUsage};
 use memory_cache::found_is_held;
 use mover::{
     Moved, OpenFault, Seen, Store, flush_shows, get_shows, opening_shows_nothing, put_shows,
@@ -75,6 +76,20 @@ impl<D: PageDevice<PAGE>, const PAGE: usize> AskedStore<D, PAGE> {
         ensures served { IsServed D.honest D.held self.now }
     {
         self.store.layout()
+    }
+
+    /// How full the log is.
+    pub(crate) fn log_usage(&self) -> LogUsage
+        ensures { result ≡ usage_of self.now.store.log }
+    {
+        self.store.log_usage()
+    }
+
+    /// How many objects are in memory.
+    pub(crate) fn memory_len(&self) -> usize
+        ensures { result ≡ length self.now.store.memory.pairs }
+    {
+        self.store.memory_len()
     }
 
     /// Looks a key up, and writes the value of a hit into the buffer.

@@ -6,6 +6,7 @@ use crate::lease_counts::LeaseCounts;
 use crate::pushed_counts::PushedCounts;
 use crate::put_counts::PutCounts;
 use crate::step_counts::StepCounts;
+use crate::upkeep_counts::UpkeepCounts;
 
 /// How often a lane did what since it was opened, each number modulo 2^64.
 #[derive(Clone, Copy, Debug, PartialEq, Eq)]
@@ -24,6 +25,8 @@ pub struct Counts {
     pub pushed: PushedCounts,
     /// What flushes and moves did.
     pub steps: StepCounts,
+    /// How many steps were done since they were due.
+    pub upkeep: UpkeepCounts,
 }
 
 impl Counts {
@@ -41,6 +44,7 @@ impl Counts {
             removals: 0,
             pushed: PushedCounts::none(),
             steps: StepCounts::none(),
+            upkeep: UpkeepCounts::none(),
         }
     }
 }

@@ -1,5 +1,6 @@
 // A lane that serves.
-ghost use Rattle.std.specs.Prelude.{◌≡◌, ◌≤◌, [], replicate, IfOk, OnOk, IfErr};
+ghost use Rattle.std.specs.Prelude.{◌≡◌, ◌≤◌, [], replicate, length, IfOk, OnOk, IfErr};
+ghost use Rattle.klog.specs.Usage.{usage_of};
 ghost use Rattle.record_pages.specs.Asked.{HasNumbersOf};
 ghost use Rattle.mover.specs.Store.{opening};
 ghost use Rattle.mover.specs.Opening.{CanServe};
@@ -8,6 +9,7 @@ use crate::asked::AskedStore;
 use crate::counts::Counts;
 use crate::open_lane_fault::OpenLaneFault;
 use crate::slots::Slots;
+use klog::LogUsage;
 use mover::OpenFault;
 use page_device::PageDevice;
 use record_pages::{Config, Layout};
@@ -17,6 +19,7 @@ use std::marker::Model;
 mod get;
 mod put;
 mod steps;
+mod tend;
 
 /// A lane of a cache that serves: its store, its counters and its slots for leases. Nothing is recorded, so it may serve for
 /// years: what it takes of memory is what its store holds, and 8 bytes a slot.
@@ -97,6 +100,20 @@ impl<D: PageDevice<PAGE>, const PAGE: usize> ServiceLane<D, PAGE> {
         self.counts
     }
 
+    /// How full its log is.
+    pub fn log_usage(&self) -> LogUsage
+        ensures { result ≡ usage_of self.now.store.log }
+    {
+        self.asked.log_usage()
+    }
+
+    /// How many objects are in memory.
+    pub fn memory_len(&self) -> usize
+        ensures { result ≡ length self.now.store.memory.pairs }
+    {
+        self.asked.memory_len()
+    }
+
     /// The numbers that the lane was opened with.
     pub fn layout(&self) -> Layout
         ensures layout { result ≡ self.now.store.layout }
@@ -106,7 +123,9 @@ impl<D: PageDevice<PAGE>, const PAGE: usize> ServiceLane<D, PAGE> {
           deeds = self.now.deeds;
         }) }
         ensures counted { AreCounted self.now.deeds self.now.slots }
+        ensures slots { 1 ≤ length self.now.slots }
     {
+        let _some = self.slots.count();
         self.asked.layout()
     }
 

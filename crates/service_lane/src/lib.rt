@@ -1,11 +1,12 @@
 //! A lane that serves: a store with counters and leases, of which nothing is recorded. What it was asked and answered is there
-//! in proofs alone: it takes no memory and no time, however long the lane serves.
+//! in proofs alone, however long the lane serves.
 #![tactic(auto)]
 
 mod asked;
 mod counts;
 mod filled;
 mod get_counts;
+mod helped;
 mod key_buffer;
 mod lane;
 mod lease;
@@ -16,10 +17,13 @@ mod put_counts;
 mod slots;
 mod step_counts;
 mod trail;
+mod upkeep_counts;
+mod upkept;
 
 pub use counts::Counts;
 pub use filled::Filled;
 pub use get_counts::GetCounts;
+pub use helped::{Helped, MAX_HELP_STEPS};
 pub use lane::ServiceLane;
 pub use lease::Lease;
 pub use lease_counts::LeaseCounts;
@@ -27,3 +31,5 @@ pub use open_lane_fault::OpenLaneFault;
 pub use pushed_counts::PushedCounts;
 pub use put_counts::PutCounts;
 pub use step_counts::StepCounts;
+pub use upkeep_counts::UpkeepCounts;
+pub use upkept::{UpkeepStep, Upkept};

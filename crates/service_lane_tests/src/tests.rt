@@ -6,7 +6,7 @@ use klog::Flushed;
 use mover::{Moved, OpenFault};
 use page_device::MemoryDevice;
 use record_pages::{Config, Field, NEVER, Pushed, PutFault};
-use service_lane::{Filled, LeaseCounts, OpenLaneFault, PutCounts, ServiceLane};
+use service_lane::{Counts, Filled, LeaseCounts, OpenLaneFault, ServiceLane, Upkept};
 use std::alloc::Global;
 use std::test::Fail;
 use test_steps::{key, value};
@@ -39,6 +39,14 @@ fn lane(alloc: Global, slots: u32) -> Result<ServiceLane<MemoryDevice<256>, 256>
     }
 }
 
+// Makes these calls of a new lane of one set with so many slots: the number of the first that does not give what is written
+// beside it, and what the lane counts then.
+fn after(alloc: Global, slots: u32, steps: &[Step]) -> Result<(Option<usize>, Counts), Fail> {
+    let mut lane = lane(alloc, slots)?;
+    let stray = run(alloc, &mut lane, steps)?;
+    Ok((stray, lane.counts()))
+}
+
 const EACH_TIER: [Step; 15] = [
     Step::Get(b"ax", 0, Found::Absent),
     Step::Put(b"ax", b"1", 9, Pushed::Nobody),
@@ -59,9 +67,8 @@ const EACH_TIER: [Step; 15] = [
 
 #[test]
 fn a_value_is_a_hit_in_each_tier_and_each_call_is_counted(rt: HostRuntime) -> Result<(), Fail> {
-    let mut lane = lane(rt.alloc(), 1)?;
-    assert_eq!(rt; run(rt.alloc(), &mut lane, &EACH_TIER)?, None);
-    let counts = lane.counts();
+    let (stray, counts) = after(rt.alloc(), 1, &EACH_TIER)?;
+    assert_eq!(rt; stray, None);
     let hits = (
         counts.gets.memory_hits,
         counts.gets.log_hits,
@@ -105,9 +112,8 @@ const LEASES: [Step; 14] = [
 
 #[test]
 fn a_lease_ends_with_the_next_write_of_its_slot(rt: HostRuntime) -> Result<(), Fail> {
-    let mut lane = lane(rt.alloc(), 1)?;
-    assert_eq!(rt; run(rt.alloc(), &mut lane, &LEASES)?, None);
-    let counts = lane.counts();
+    let (stray, counts) = after(rt.alloc(), 1, &LEASES)?;
+    assert_eq!(rt; stray, None);
     assert_eq!(rt; counts.leases, LeaseCounts { given: 4, stale: 4 });
     assert_eq!(rt;
         (counts.fills.stored, counts.fills.bytes, counts.puts.stored),
@@ -130,8 +136,8 @@ const APART: [Step; 8] = [
 
 #[test]
 fn a_lease_outlives_what_does_not_write_its_slot(rt: HostRuntime) -> Result<(), Fail> {
-    let mut lane = lane(rt.alloc(), 1000)?;
-    assert_eq!(rt; run(rt.alloc(), &mut lane, &APART)?, None);
+    let (stray, _counts) = after(rt.alloc(), 1000, &APART)?;
+    assert_eq!(rt; stray, None);
     Ok(())
 }
 
@@ -147,9 +153,8 @@ const REFUSED: [Step; 7] = [
 
 #[test]
 fn a_refused_put_leaves_the_older_value_or_removes_it(rt: HostRuntime) -> Result<(), Fail> {
-    let mut lane = lane(rt.alloc(), 1)?;
-    assert_eq!(rt; run(rt.alloc(), &mut lane, &REFUSED)?, None);
-    let counts = lane.counts();
+    let (stray, counts) = after(rt.alloc(), 1, &REFUSED)?;
+    assert_eq!(rt; stray, None);
     assert_eq!(rt;
         (counts.puts.stored, counts.puts.too_large, counts.removals),
         (2, 2, 1)
@@ -165,8 +170,65 @@ const NO_KEYS: [Step; 3] = [
 
 #[test]
 fn bytes_that_are_no_key_are_refused(rt: HostRuntime) -> Result<(), Fail> {
-    let mut lane = lane(rt.alloc(), 1)?;
-    assert_eq!(rt; run(rt.alloc(), &mut lane, &NO_KEYS)?, None);
+    let (stray, _counts) = after(rt.alloc(), 1, &NO_KEYS)?;
+    assert_eq!(rt; stray, None);
+    Ok(())
+}
+
+// Two objects of these bytes fill a page, so the third and the fifth that leave memory each seal a segment.
+const FULL: [u8; 100] = [1; 100];
+
+// A page is written once a segment is sealed, and the oldest segment moves once no place is free.
+const TENDED: [Step; 13] = [
+    Step::Put(b"ax", &FULL, NEVER, Pushed::Nobody),
+    Step::Put(b"bx", &FULL, NEVER, Pushed::Logged),
+    Step::Put(b"cx", &FULL, NEVER, Pushed::Logged),
+    Step::Tend(Upkept::Idle, false, false),
+    Step::Help(0, false),
+    Step::Put(b"dx", &FULL, NEVER, Pushed::Logged),
+    Step::Tend(Upkept::Flushed(Flushed::Wrote), true, false),
+    Step::Tend(Upkept::Idle, false, false),
+    Step::Put(b"ex", &FULL, NEVER, Pushed::Logged),
+    Step::Put(b"fx", &FULL, NEVER, Pushed::Logged),
+    Step::Help(1, true),
+    Step::Tend(Upkept::Moved(Moved::Written), true, true),
+    Step::Tend(Upkept::Moved(Moved::Freed), false, false),
+];
+
+#[test]
+fn a_lane_is_tended_where_something_is_due(rt: HostRuntime) -> Result<(), Fail> {
+    let (stray, counts) = after(rt.alloc(), 1, &TENDED)?;
+    assert_eq!(rt; stray, None);
+    assert_eq!(rt; (counts.upkeep.steps, counts.upkeep.in_help), (4, 1));
+    assert_eq!(rt;
+        (
+            counts.steps.pages_written,
+            counts.steps.sets_written,
+            counts.steps.segments_freed
+        ),
+        (2, 1, 1)
+    );
+    assert_eq!(rt; counts.steps.sealed, 0);
+    Ok(())
+}
+
+// Nobody tends it, so with each buffer full the object that leaves memory is lost, and the put is stored.
+const UNTENDED: [Step; 7] = [
+    Step::Put(b"ax", &FULL, NEVER, Pushed::Nobody),
+    Step::Put(b"bx", &FULL, NEVER, Pushed::Logged),
+    Step::Put(b"cx", &FULL, NEVER, Pushed::Logged),
+    Step::Put(b"dx", &FULL, NEVER, Pushed::Logged),
+    Step::Put(b"ex", &FULL, NEVER, Pushed::Logged),
+    Step::Put(b"fx", &FULL, NEVER, Pushed::Full),
+    Step::Get(b"ex", 0, Found::Absent),
+];
+
+#[test]
+fn an_object_is_lost_and_counted_where_nobody_tends(rt: HostRuntime) -> Result<(), Fail> {
+    let (stray, counts) = after(rt.alloc(), 1, &UNTENDED)?;
+    assert_eq!(rt; stray, None);
+    assert_eq!(rt; (counts.pushed.logged, counts.pushed.log_full), (4, 1));
+    assert_eq!(rt; (counts.puts.stored, counts.upkeep.steps), (6, 0));
     Ok(())
 }
 

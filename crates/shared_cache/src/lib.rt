@@ -6,7 +6,6 @@ mod act_fault;
 mod acted;
 mod asked;
 mod books;
-mod boxed;
 mod cache;
 mod call_fault;
 mod claims;

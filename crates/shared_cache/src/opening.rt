@@ -56,18 +56,3 @@ pub(crate) fn books_of<D: PageDevice<PAGE>, const PAGE: usize>(
     }
     Ok(books)
 }
-
-/// Whether some device has fewer pages than this.
-pub(crate) fn is_one_too_small<D: PageDevice<PAGE>, const PAGE: usize>(
-    pages: u32,
-    devices: &[D],
-) -> bool
-    ensures { IsTrue result ↔ Any (λ d. D.page_count d < pages) devices.now }
-{
-    for device in devices {
-        if device.pages() < pages {
-            return true;
-        }
-    }
-    false
-}

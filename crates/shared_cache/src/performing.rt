@@ -6,9 +6,9 @@ ghost use Rattle.shared_cache.specs.Acts.{ActGives, ActLeaves, IsFitting, asked_
 
 use crate::act_fault::ActFault;
 use crate::asked::Asked;
-use crate::boxed::Boxed;
 use crate::outcome::Outcome;
 use history_recorder::RecordedLane;
+use lane_devices::Boxed;
 use page_device::PageDevice;
 
 /// Has a lane answer what is asked and record it. Only memory may be refused.

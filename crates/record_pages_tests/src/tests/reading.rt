@@ -136,16 +136,16 @@ fn values_have_their_greatest_length(rt: HostRuntime) {
 }
 
 /// A page with this head and so many records, each of these bytes.
-fn crowded(head: &[u8], record: &[u8], count: u8) -> [u8; 4096]
+fn crowded(head: &[u8], repeated: &[u8], count: u8) -> [u8; 4096]
     requires head { length head.now ≤ 16 }
-    requires record { 0 < length record.now }
+    requires some { 0 < length repeated.now }
 {
     let start = head.len() + 2;
     let mut page = page_of::<4096>(head);
     page[start - 1] = count;
     for (at, byte) in page.iter_mut().enumerate() {
-        if at >= start && (at - start) / record.len() < count as usize {
-            *byte = record[(at - start) % record.len()];
+        if at >= start && (at - start) / repeated.len() < count as usize {
+            *byte = repeated[(at - start) % repeated.len()];
         }
     }
     page

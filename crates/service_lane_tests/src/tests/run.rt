@@ -1,9 +1,10 @@
 //! Calls of a lane, each with what it gives.
 use super::*;
 use mover::Seen;
+use page_device::PageDevice;
 use record_pages::{KeyFault, MissCause, Tier};
 use rriparoo::Rriparoo;
-use service_lane::Lease;
+use service_lane::{Helped, Lease, UpkeepStep};
 use value_buffer::ValueBuffer;
 
 /// What a get is to find.
@@ -39,12 +40,18 @@ pub enum Step {
     Fill(usize, &'static [u8], &'static [u8], Filled),
     Flush(Flushed),
     Move(Moved),
+    /// What a step of upkeep does, whether it may ask the device, and whether something is due behind it.
+    Tend(Upkept, bool, bool),
+    /// How many steps are done in help, and whether the device may have been asked.
+    Help(u32, bool),
 }
 
-type Lane = ServiceLane<MemoryDevice<256>, 256>;
-
 /// Makes each of these calls, up to the first that does not give what is written beside it; its number.
-pub fn run(alloc: Global, lane: &mut Lane, steps: &[Step]) -> Result<Option<usize>, Fail> {
+pub fn run<D: PageDevice<PAGE>, const PAGE: usize>(
+    alloc: Global,
+    lane: &mut ServiceLane<D, PAGE>,
+    steps: &[Step],
+) -> Result<Option<usize>, Fail> {
     let mut leases = [Lease { writes: 0 }; 2];
     for number in 0..steps.len() {
         if !gives(alloc, lane, &mut leases, &steps[number])? {
@@ -55,9 +62,9 @@ pub fn run(alloc: Global, lane: &mut Lane, steps: &[Step]) -> Result<Option<usiz
 }
 
 // Whether a call gives what is written beside it.
-fn gives(
+fn gives<D: PageDevice<PAGE>, const PAGE: usize>(
     alloc: Global,
-    lane: &mut Lane,
+    lane: &mut ServiceLane<D, PAGE>,
     leases: &mut [Lease; 2],
     step: &Step,
 ) -> Result<bool, Fail> {
@@ -86,13 +93,28 @@ fn gives(
         }
         Step::Flush(flushed) => Ok(lane.flush_step() == *flushed),
         Step::Move(wanted) => Ok(moved(lane)? == *wanted),
+        Step::Tend(did, asked_device, is_due) => Ok(
+            lane.upkeep_step(&Rriparoo)
+                == UpkeepStep {
+                    did: *did,
+                    asked_device: *asked_device,
+                    is_due: *is_due,
+                },
+        ),
+        Step::Help(steps, asked_device) => Ok(
+            lane.help(&Rriparoo)
+                == Helped {
+                    steps: *steps,
+                    asked_device: *asked_device,
+                },
+        ),
     }
 }
 
 // Puts a pair, once more where memory was refused.
-fn put(
+fn put<D: PageDevice<PAGE>, const PAGE: usize>(
     alloc: Global,
-    lane: &mut Lane,
+    lane: &mut ServiceLane<D, PAGE>,
     name: &[u8],
     bytes: &[u8],
     expires: u64,
@@ -106,9 +128,9 @@ fn put(
     }
 }
 
-fn put_or_remove(
+fn put_or_remove<D: PageDevice<PAGE>, const PAGE: usize>(
     alloc: Global,
-    lane: &mut Lane,
+    lane: &mut ServiceLane<D, PAGE>,
     name: &[u8],
     bytes: &[u8],
 ) -> Result<Result<Pushed, PutFault>, Fail> {
@@ -116,9 +138,9 @@ fn put_or_remove(
 }
 
 // Fills a key, once more where memory was refused.
-fn fill(
+fn fill<D: PageDevice<PAGE>, const PAGE: usize>(
     alloc: Global,
-    lane: &mut Lane,
+    lane: &mut ServiceLane<D, PAGE>,
     lease: Lease,
     name: &[u8],
     bytes: &[u8],
@@ -132,14 +154,21 @@ fn fill(
     }
 }
 
-fn moved(lane: &mut Lane) -> Result<Moved, Fail> {
+fn moved<D: PageDevice<PAGE>, const PAGE: usize>(
+    lane: &mut ServiceLane<D, PAGE>,
+) -> Result<Moved, Fail> {
     match lane.move_whole(&Rriparoo) {
         Ok(moved) => Ok(moved),
         Err(_) => Ok(lane.move_whole(&Rriparoo)?),
     }
 }
 
-fn is_found(lane: &mut Lane, name: &[u8], moment: u64, wanted: &Found) -> bool {
+fn is_found<D: PageDevice<PAGE>, const PAGE: usize>(
+    lane: &mut ServiceLane<D, PAGE>,
+    name: &[u8],
+    moment: u64,
+    wanted: &Found,
+) -> bool {
     let mut found = ValueBuffer::empty();
     let seen = lane.get(name, moment, &mut found);
     match wanted {
@@ -151,7 +180,11 @@ fn is_found(lane: &mut Lane, name: &[u8], moment: u64, wanted: &Found) -> bool {
     }
 }
 
-fn are_refused(lane: &mut Lane, few: &[u8], many: &[u8]) -> bool {
+fn are_refused<D: PageDevice<PAGE>, const PAGE: usize>(
+    lane: &mut ServiceLane<D, PAGE>,
+    few: &[u8],
+    many: &[u8],
+) -> bool {
     let mut found = ValueBuffer::empty();
     lane.get(few, 0, &mut found) == Err(KeyFault::KeyEmpty)
         && lane.get(many, 0, &mut found) == Err(KeyFault::KeyTooLong)

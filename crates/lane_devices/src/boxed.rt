@@ -7,7 +7,7 @@ use std::marker::Model;
 
 /// A device in memory of its own, so that what holds it has a size that is known whatever the device. It is that device.
 #[derive(Drop)]
-pub(crate) struct Boxed<D> {
+pub struct Boxed<D> {
     device: Box<D>,
 }
 
@@ -19,7 +19,7 @@ impl<D> Model for Boxed<D> {
 
 impl<D> Boxed<D> {
     /// The device, moved into memory of its own, or `AllocError` where that was refused: then it is dropped.
-    pub(crate) fn new(alloc: Global, device: D) -> Result<Boxed<D>, AllocError>
+    pub fn new(alloc: Global, device: D) -> Result<Boxed<D>, AllocError>
     where
         D: Drop,
         ensures { IfOk result (λ boxed. boxed ≡ device) }
@@ -30,7 +30,7 @@ impl<D> Boxed<D> {
     }
 
     /// The device.
-    pub(crate) fn into_inner(self) -> D
+    pub fn into_inner(self) -> D
         ensures { result ≡ self }
     {
         Box::into_inner(self.device)

@@ -1,0 +1,66 @@
+-- What is due is done.
+use Rattle.std.proofs.Common.{◌≡◌, Some, ap, sym, ◌∙◌, subst}
+use Rattle.klog.specs.Usage.{usage_of}
+use Rattle.upkeep.specs.declared.due.Due.TheVariants as due
+use Rattle.upkeep.specs.Dueness.{due_of}
+use Rattle.service_lane.specs.declared.upkeep_counts.UpkeepCounts.{UpkeepCounts}
+use Rattle.service_lane.specs.Counting.{with_flushed, with_moved, with_refused_move}
+use Rattle.service_lane.specs.Serving.{Serving}
+use Rattle.service_lane.specs.Upkeep.{Flushes, Moves, LacksMemory, due_in}
+use Rattle.service_lane.proofs.Tending.{page_done, moved_asks_none}
+use Rattle.service_lane.proofs.lane.ServiceLane.do_due.Goals as goal
+
+pub returns-in-Some-Flush-clause-upkept : goal.returns-in-Some-Flush-clause-upkept
+returns-in-Some-Flush-clause-upkept g c =
+    let d = g.D.PageDevice in
+    let i = c.self.inside in
+    let new = c.flush_step.new.self in
+    let answer = c.flush_step.result in
+    let old : Serving g.row.D.Denot = record { store = i.asked.store; deeds = i.asked.deeds; slots = i.slots; counts = i.counts } in
+    let is_due : due_in old ≡ Some due.Flush = ap due_of (ap (λ (s : Serving g.row.D.Denot). usage_of s.store.log) c.self.view_is ∙ sym c.log_usage.ensures) ∙ sym c.what_is_due.ensures ∙ c.in-Some-Flush.is ∙ ap Some c.in-Some-Flush.field-0-is in
+    let done : Flushes d.honest d.failures d.held old answer new =
+    record {
+      due = is_due;
+      done = page_done old.store.log new.store.log answer is_due c.flush_step.ensures.flushes.flushes;
+      rest = c.flush_step.ensures.leaves ∙ ap (λ (u : UpkeepCounts). record old { store = new.store; counts = record i.counts { steps = with_flushed answer i.counts.steps; upkeep = u } }) c.stepped.ensures;
+      flushes = c.flush_step.ensures.flushes;
+    } in
+    subst (λ (s : Serving g.row.D.Denot). Flushes d.honest d.failures d.held s answer new) c.self.view_is done
+
+pub returns-in-Ok-clause-upkept : goal.returns-in-Ok-clause-upkept
+returns-in-Ok-clause-upkept g c =
+    let d = g.D.PageDevice in
+    let i = c.self.inside in
+    let new = c.move_whole.new.self in
+    let answer = c.in-Ok.moved in
+    let plan_of = g.P.EvictionPolicy.plan_of c.args.policy.now in
+    let old : Serving g.row.D.Denot = record { store = i.asked.store; deeds = i.asked.deeds; slots = i.slots; counts = i.counts } in
+    let is_due : due_in old ≡ Some due.Move = ap due_of (ap (λ (s : Serving g.row.D.Denot). usage_of s.store.log) c.self.view_is ∙ sym c.log_usage.ensures) ∙ sym c.what_is_due.ensures ∙ c.in-Some-Move.is ∙ ap Some c.in-Some-Move.field-0-is in
+    let done : Moves g.row.PAGE d.honest d.failures d.held plan_of old answer new =
+    record {
+      due = is_due;
+      rest = c.in-Ok.ensures.moved ∙ ap (λ (u : UpkeepCounts). record old { store = new.store; counts = record i.counts { steps = with_moved answer i.counts.steps; upkeep = u } }) c.stepped-in-Some-Move.ensures;
+      moves = c.in-Ok.ensures.moves;
+    } in
+    subst (λ (s : Serving g.row.D.Denot). Moves g.row.PAGE d.honest d.failures d.held plan_of s answer new) c.self.view_is done
+
+pub returns-in-Ok-clause-unasked : goal.returns-in-Ok-clause-unasked
+returns-in-Ok-clause-unasked g c asks =
+    moved_asks_none g.row.PAGE (g.P.EvictionPolicy.plan_of c.args.policy.now) c.self.inside.asked.store c.move_whole.new.self.store c.in-Ok.moved asks c.in-Ok.ensures.moves.leaves
+    ∙ ap (λ (s : Serving g.row.D.Denot). s.store.device) c.self.view_is
+
+pub returns-in-Err-clause-upkept : goal.returns-in-Err-clause-upkept
+returns-in-Err-clause-upkept g c =
+    let d = g.D.PageDevice in
+    let i = c.self.inside in
+    let new = c.move_whole.new.self in
+    let plan_of = g.P.EvictionPolicy.plan_of c.args.policy.now in
+    let old : Serving g.row.D.Denot = record { store = i.asked.store; deeds = i.asked.deeds; slots = i.slots; counts = i.counts } in
+    let is_due : due_in old ≡ Some due.Move = ap due_of (ap (λ (s : Serving g.row.D.Denot). usage_of s.store.log) c.self.view_is ∙ sym c.log_usage.ensures) ∙ sym c.what_is_due.ensures ∙ c.in-Some-Move.is ∙ ap Some c.in-Some-Move.field-0-is in
+    let done : LacksMemory g.row.PAGE d.honest d.failures d.held plan_of old new =
+    record {
+      due = is_due;
+      rest = c.in-Err.ensures.refused ∙ ap (λ (u : UpkeepCounts). record old { store = new.store; counts = record i.counts { steps = with_refused_move i.counts.steps; upkeep = u } }) c.stepped-in-Some-Move.ensures;
+      moves = c.in-Err.ensures.moves;
+    } in
+    subst (λ (s : Serving g.row.D.Denot). LacksMemory g.row.PAGE d.honest d.failures d.held plan_of s new) c.self.view_is done
