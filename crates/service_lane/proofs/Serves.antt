@@ -6,7 +6,6 @@ use Rattle.record_pages.specs.declared.answer.Answer.{Answer}
 use Rattle.record_pages.specs.declared.answer.Answer.TheVariants as answers
 use Rattle.record_pages.specs.declared.tier.Tier.TheVariants.{Memory, Log, Set}
 use Rattle.memory_cache.specs.declared.pair.Pair.{Pair}
-use Rattle.trace_file.specs.declared.act.Act.{Act}
 use Rattle.trace_file.specs.declared.act.Act.TheVariants.{Put, Remove, Hit}
 use Rattle.certificate_checker.specs.Deeds.{Deed}
 use Rattle.certificate_checker.specs.Current.{current}
@@ -40,10 +39,6 @@ read_keeps deeds key moment answer k =
 -- after a deed of a key the others have what they had
 write_keeps : (deeds : List Deed) (d : Deed) (k : List ℕ) → k ≢ d.key → current (deeds ++ d ∷ []) k ≡ current deeds k
 write_keeps deeds d k other = current-push k deeds d ∙ deed_kept k (current deeds k) d (λ w. other (sym w.0))
-
--- a deed more, by what it is told as
-pub more_by : (before b : List Deed) (key k : List ℕ) (act a : Act) → b ≡ before → k ≡ key → a ≡ act → b ++ record { key = k; act = a } ∷ [] ≡ before ++ record { key = key; act = act } ∷ []
-more_by before b key k act a eb ek ea = rw (eb, ek, ea) refl
 
 -- ---- hits that are live
 

@@ -9,7 +9,7 @@ ghost use Rattle.mover.specs.Calls.{StoreGets, StorePuts, StoreRemoves, StoreFlu
 ghost use Rattle.trace_file.specs.declared.act.Act.{Act};
 
 use crate::key_buffer::KeyBuffer;
-use crate::trail::Trail;
+use crate::trail::{Trail, note_got, note_removed, note_stored};
 use klog::{Flushed, LogUsage};
 use memory_cache::found_is_held;
 use mover::{
@@ -28,7 +28,7 @@ use value_buffer::ValueBuffer;
 #[derive(Drop)]
 pub(crate) struct AskedStore<D: PageDevice<PAGE>, const PAGE: usize> {
     store: Store<D, PAGE>,
-    trail: Trail,
+    trail: Snapshot<Trail>,
 }
 
 impl<D: PageDevice<PAGE>, const PAGE: usize> Model for AskedStore<D, PAGE> {
@@ -41,11 +41,11 @@ impl<D: PageDevice<PAGE>, const PAGE: usize> Model for AskedStore<D, PAGE> {
 
     ghost coded = { Prim.hlevel (codes, sets_code) };
 
-    ghost view = { λ s. record { store = s.store; deeds = told_by s.trail } };
+    ghost view = { λ s. record { store = s.store; deeds = told_by s.trail.value } };
 
     ghost invariant = { λ s. IsServed D.honest D.held (record {
       store = s.store;
-      deeds = told_by s.trail;
+      deeds = told_by s.trail.value;
     }) };
 }
 
@@ -65,7 +65,7 @@ impl<D: PageDevice<PAGE>, const PAGE: usize> AskedStore<D, PAGE> {
         let store = Store::open(alloc, config, device)?;
         Ok(AskedStore {
             store,
-            trail: Trail::Opened,
+            trail: Snapshot::of(&Trail::Opened),
         })
     }
 
@@ -105,13 +105,7 @@ impl<D: PageDevice<PAGE>, const PAGE: usize> AskedStore<D, PAGE> {
         get_shows();
         found_is_held();
         let seen = self.store.get_into(key.bytes(), moment, found);
-        self.trail = Trail::Got(
-            Snapshot::of(&self.trail),
-            Snapshot::of(key),
-            Snapshot::of(&moment),
-            Snapshot::of(&seen),
-            Snapshot::of(found),
-        );
+        note_got(&mut self.trail, key, moment, seen, found);
         seen
     }
 
@@ -130,14 +124,9 @@ impl<D: PageDevice<PAGE>, const PAGE: usize> AskedStore<D, PAGE> {
         ensures refused { OnErr result (self.new ≡ self.old) }
     {
         put_shows();
-        let stored = Trail::Stored(
-            Snapshot::of(&self.trail),
-            Snapshot::of(&key),
-            Snapshot::of(&value),
-            Snapshot::of(&expires),
-        );
+        let (put_key, put_value) = (Snapshot::of(&key), Snapshot::of(&value));
         let pushed = self.store.put(key, value, word, expires)?;
-        self.trail = stored;
+        note_stored(&mut self.trail, put_key, put_value, expires);
         Ok(pushed)
     }
 
@@ -149,7 +138,7 @@ impl<D: PageDevice<PAGE>, const PAGE: usize> AskedStore<D, PAGE> {
     {
         removal_shows();
         self.store.remove_bytes(key.bytes());
-        self.trail = Trail::Removed(Snapshot::of(&self.trail), Snapshot::of(key));
+        note_removed(&mut self.trail, key);
     }
 
     /// One step of flushing.

@@ -1,5 +1,5 @@
 //! A lane that serves: a store with counters and leases, of which nothing is recorded. What it was asked and answered is there
-//! in proofs alone, however long the lane serves.
+//! in proofs alone: it takes no memory, however long the lane serves.
 #![tactic(auto)]
 
 mod asked;

@@ -11,7 +11,7 @@ use Rattle.service_lane.proofs.asked.AskedStore.move_whole.Goals as goal
 pub invariant_of-self : goal.invariant_of-self
 invariant_of-self g c =
     let d = g.D.PageDevice in
-    let old : Asked g.row.D.Denot = record { store = c.self.inside.store; deeds = told_by c.self.inside.trail } in
+    let old : Asked g.row.D.Denot = record { store = c.self.inside.store; deeds = told_by c.self.inside.trail.value } in
     let moves = c.move_whole.ensures in
     let plan_of = g.P.EvictionPolicy.plan_of c.args.policy.now in
     served_step d.honest d.held old c.self.invariant c.move_whole.new.self moves.honesty (moved_stays g.row.PAGE old.store plan_of c.move_whole.result c.move_whole.new.self moves.leaves moves.out_of_memory)

@@ -1,5 +1,5 @@
 -- The store after a put.
-use Rattle.std.proofs.Common.{ap}
+use Rattle.std.proofs.Common.{ap, ◌∙◌, ◌++◌, ◌∷◌, []}
 use Rattle.record_pages.specs.Expiry.{timed}
 use Rattle.memory_cache.specs.declared.pair.Pair.{Pair}
 use Rattle.trace_file.specs.declared.act.Act.TheVariants.{Put}
@@ -7,18 +7,18 @@ use Rattle.mover.specs.Lane.{lane_of}
 use Rattle.service_lane.specs.Asked.{Asked}
 use Rattle.service_lane.specs.Trails.{told_by}
 use Rattle.service_lane.proofs.Remembering.{put_leaves}
-use Rattle.service_lane.proofs.Serves.{more_by, served_put}
+use Rattle.service_lane.proofs.Serves.{served_put}
 use Rattle.service_lane.proofs.asked.AskedStore.put.Goals as goal
 
 pub invariant_of-self-2 : goal.invariant_of-self-2
 invariant_of-self-2 g c =
     let d = g.D.PageDevice in
     let a = c.args in
-    let old : Asked g.row.D.Denot = record { store = c.self.inside.store; deeds = told_by c.self.inside.trail } in
+    let old : Asked g.row.D.Denot = record { store = c.self.inside.store; deeds = told_by c.self.inside.trail.value } in
     let new = c.put.new.self in
     let put : Pair = record { key = a.key; value = timed a.value a.expires } in
     let gives = c.in_ok-pushed.ensures.gives in
     served_put d.honest d.held old c.self.invariant new (ap d.honest c.put.ensures.device) a.key a.value a.expires _
-    (more_by old.deeds (told_by c.of.result.value) a.key c.of-2.result.value (Put a.value a.expires) (Put c.of-3.result.value c.of-4.result.value) (ap told_by c.of.ensures) c.of-2.ensures (λ i. Put (c.of-3.ensures i) (c.of-4.ensures i)))
+    (c.note_stored.ensures ∙ (λ i. old.deeds ++ record { key = c.of-put_key.ensures i; act = Put (c.of-put_value.ensures i) a.expires } ∷ []))
     (put_leaves g.row.PAGE old.store.layout.admit a.word put c.in_ok-pushed.pushed (lane_of d.held old.store) (lane_of d.held new) gives)
     (λ is. c.put_shows.ensures g.row.PAGE old.store.layout.admit a.word put (lane_of d.held old.store) (lane_of d.held new) c.in_ok-pushed.pushed (c.self.invariant.order is) gives)

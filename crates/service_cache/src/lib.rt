@@ -1,0 +1,12 @@
+//! A cache that serves: lanes of which nothing is recorded, each under a lock of its own.
+#![tactic(auto)]
+
+mod cache;
+mod guarded;
+mod looked_up;
+mod open_service_fault;
+mod opening;
+
+pub use cache::{MAX_SHARDS, ServiceCache};
+pub use looked_up::LookedUp;
+pub use open_service_fault::OpenServiceFault;

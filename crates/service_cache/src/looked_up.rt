@@ -1,0 +1,12 @@
+// What a look-up gave that leases a key at a miss.
+use record_pages::{MissCause, Tier};
+use service_lane::Lease;
+
+/// What a look-up gave that leases a key at a miss.
+#[derive(Clone, Copy, Debug, PartialEq, Eq)]
+pub enum LookedUp {
+    /// The value is in the buffer, and came from this tier.
+    Hit(Tier),
+    /// There is none, for this cause; and this lease is for a fill by what is read elsewhere.
+    Miss(MissCause, Lease),
+}

@@ -1,0 +1,5 @@
+//! Tests of the cache that serves, through its public calls.
+#![tactic(auto)]
+
+#[cfg(test)]
+mod tests;

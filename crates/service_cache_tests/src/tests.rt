@@ -1,0 +1,45 @@
+//! A cache that serves: its shards and lanes, who does its upkeep, and callers who know what their keys have.
+mod caller;
+mod calls;
+mod many;
+mod opening;
+
+ghost use Rattle.std.specs.Prelude.{IfOk};
+
+use page_device::{MemoryDevice, PageDevice};
+use policy_laws::EvictionPolicy;
+use record_pages::{Config, NEVER, Pushed, PutFault};
+use rriparoo::Rriparoo;
+use service_cache::{LookedUp, OpenServiceFault, ServiceCache};
+use service_lane::Filled;
+use std::alloc::Global;
+use std::sync::Wait;
+use std::test::Fail;
+use test_steps::{key, value};
+use value_buffer::ValueBuffer;
+
+type Cache = ServiceCache<MemoryDevice<256>, Rriparoo, 256>;
+
+// Two lanes of three sets, in which all is small.
+const SMALL: Config = Config {
+    lanes: 2,
+    sets: 3,
+    memory: 2,
+    segments: 2,
+    segment_pages: 1,
+    entries: 16,
+    threshold: 1,
+    admit: 65536,
+};
+
+// The pages of three sets and of two segments.
+const PAGES: u32 = 5;
+
+// So many devices of so many pages.
+fn so_many(alloc: Global, count: u32, pages: u32) -> Result<Vec<MemoryDevice<256>>, Fail> {
+    let mut devices = Vec::new(alloc);
+    for _ in 0..count {
+        devices.push(MemoryDevice::new(alloc, pages)?)?;
+    }
+    Ok(devices)
+}
