@@ -82,7 +82,9 @@ impl<D: PageDevice<PAGE>, const PAGE: usize> Guarded<D, PAGE> {
         key: Key,
         value: Value,
         expires: u64,
-    ) -> Result<Filled, PutFault> {
+    ) -> Result<Filled, PutFault>
+        ensures large { IsErrOf result PutFault.TooLarge → room PAGE < object_size key value }
+    {
         let word = self.words.next_word();
         let filled = self.lane.fill(lease, key, value, word, expires)?;
         if filled != Filled::Stale {

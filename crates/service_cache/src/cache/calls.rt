@@ -102,7 +102,9 @@ impl<D: PageDevice<PAGE>, P: EvictionPolicy + Drop, const PAGE: usize> ServiceCa
         key: Key,
         value: Value,
         expires: u64,
-    ) -> Result<Filled, PutFault> {
+    ) -> Result<Filled, PutFault>
+        ensures large { IsErrOf result PutFault.TooLarge → room PAGE < object_size key value }
+    {
         let mut guard = self.lane(key.bytes()).lock(rt);
         let held = &mut **guard;
         held.fill(&self.policy, lease, key, value, expires)
