@@ -12,6 +12,14 @@ started seed = record { state = seed.start; multiplier = seed.multiplier }
 unfoldable pub folded : ℕ → ℕ → ℕ
 folded a b = bit_xor (bit_and (a * b) (2 ^ 64 - 1)) (a * b / 2 ^ 64)
 
+-- the seed that is the same in every run: the first fractional bits of pi
+abbrev pub fixed_seed : RandomSeed
+fixed_seed = record { start = 0x243f6a8885a308d3; multiplier = 0x13198a2e03707344 }
+
+-- the seed that is made of one and a number: two products of the one, after twice the number and one more were joined to its start by xor
+abbrev pub derived : RandomSeed → ℕ → RandomSeed
+derived seed n = record { start = folded (bit_xor seed.start (2 * n)) seed.multiplier; multiplier = folded (bit_xor seed.start (2 * n + 1)) seed.multiplier }
+
 -- the state after the words at two places
 abbrev pub mixed : ℕ → List ℕ → ℕ → ℕ → ℕ → ℕ
 mixed multiplier bytes state i j = folded (bit_xor (word bytes i) state) (bit_xor (word bytes j) multiplier)

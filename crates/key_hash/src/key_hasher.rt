@@ -14,7 +14,7 @@ pub struct KeyHasher {
 }
 
 /// The two halves of a product, joined by xor.
-fn fold(a: u64, b: u64) -> u64
+pub(crate) fn fold(a: u64, b: u64) -> u64
     ensures { result ≡ folded a b }
 {
     let product = a as u128 * b as u128;

@@ -1,7 +1,8 @@
 // What makes a hasher for each key.
-ghost use Rattle.key_hash.specs.Hashing.{started};
+ghost use Rattle.std.specs.Prelude.{◌≡◌};
+ghost use Rattle.key_hash.specs.Hashing.{started, fixed_seed, derived};
 
-use crate::key_hasher::KeyHasher;
+use crate::key_hasher::{KeyHasher, fold};
 use std::hash::BuildHasher;
 use std::io;
 use std::random::RandomSource;
@@ -27,6 +28,29 @@ impl RandomSeed {
             start: (seed & 0xffff_ffff_ffff_ffff) as u64,
             multiplier: (seed >> 64) as u64,
         })
+    }
+
+    /// The seed that is the same in every run, of fractional bits of pi. It is for maps whose keys no stranger picks: whoever
+    /// reads this can pick keys that collide under it.
+    pub fn fixed() -> RandomSeed
+        ensures { result ≡ fixed_seed }
+    {
+        RandomSeed {
+            start: 0x243f_6a88_85a3_08d3,
+            multiplier: 0x1319_8a2e_0370_7344,
+        }
+    }
+
+    /// Another seed, made of this one and a number. Who hashes the same keys for several uses gives each use a number of its
+    /// own, so that keys that one use has put together are apart in the others.
+    pub fn derive(self, number: u32) -> RandomSeed
+        ensures { result ≡ derived self number }
+    {
+        let twice = 2 * number as u64;
+        RandomSeed {
+            start: fold(self.start ^ twice, self.multiplier),
+            multiplier: fold(self.start ^ (twice + 1), self.multiplier),
+        }
     }
 }
 

@@ -5,6 +5,7 @@ ghost use Rattle.memory_cache.specs.MemoryList.{IsBounded, value_in, empty, afte
 
 use crate::key_bytes::KeyBytes;
 use crate::pair::Pair;
+use key_hash::RandomSeed;
 use lru::LruCache;
 use record_pages::{Key, TimedValue};
 use std::alloc::{AllocError, AllocFailed, Global};
@@ -16,7 +17,7 @@ use std::num::NonZeroUsize;
 /// Its memory grows with the objects that it holds, and not with its capacity.
 #[derive(Drop)]
 pub struct MemoryCache {
-    objects: LruCache<Key, TimedValue>,
+    objects: LruCache<Key, TimedValue, RandomSeed>,
 }
 
 impl Model for MemoryCache {
@@ -31,13 +32,29 @@ impl Model for MemoryCache {
 impl MemoryCache {
     ghost use Rattle.memory_cache.specs.Lending.{EndsAs};
 
-    /// An empty memory for so many objects, or `AllocError` where memory was refused.
+    /// An empty memory for so many objects, or `AllocError` where memory was refused. Its table hashes by a seed that is the
+    /// same in every run.
     pub fn open(alloc: Global, capacity: u32) -> Result<MemoryCache, AllocError>
         requires { 1 ≤ capacity }
         ensures { IfOk result (λ memory. memory ≡ empty capacity) }
     {
+        MemoryCache::with_seed(alloc, capacity, RandomSeed::fixed())
+    }
+
+    /// An empty memory, as `open` makes it, whose table hashes by this seed. Who does not know it can't pick keys that collide
+    /// in the table.
+    pub fn with_seed(
+        alloc: Global,
+        capacity: u32,
+        seed: RandomSeed,
+    ) -> Result<MemoryCache, AllocError>
+        requires { 1 ≤ capacity }
+        ensures { IfOk result (λ memory. memory ≡ empty capacity) }
+    {
         let most = NonZeroUsize::new(capacity as usize).unwrap();
-        let objects = LruCache::sparse(alloc, most)?;
+        // Neither reserves room for the objects to come.
+        let mut objects = LruCache::unbounded_with_hasher(alloc, seed)?;
+        objects.resize(most);
         Ok(MemoryCache { objects })
     }
 
@@ -144,14 +161,14 @@ ghost use Rattle.lru.specs.LruCache.{IsValid};
 ghost use Rattle.memory_cache.specs.Entries.{is_first};
 
 /// That no key stands twice, which is true of every such map. Its model hides that, and its length tells it.
-fn recall(objects: &LruCache<Key, TimedValue>)
+fn recall(objects: &LruCache<Key, TimedValue, RandomSeed>)
     ensures { IsValid (pointwise nat_eq) objects.now }
 {
     let _held = objects.len();
 }
 
 /// The pair that left, unless it is the older one of the key that is first now.
-fn unless_first(objects: &LruCache<Key, TimedValue>, left: Pair) -> Option<Pair>
+fn unless_first(objects: &LruCache<Key, TimedValue, RandomSeed>, left: Pair) -> Option<Pair>
     ensures { result ≡ (if is_first left.key objects.now.entries then None else Some left) }
 {
     match objects.peek_mru() {

@@ -5,6 +5,7 @@ ghost use Rattle.klog.specs.Usage.{usage_of};
 
 use crate::flights::Flights;
 use crate::open_fault::OpenFault;
+use key_hash::RandomSeed;
 use klog::{KLog, LogUsage};
 use kset::KSet;
 use memory_cache::MemoryCache;
@@ -76,8 +77,24 @@ impl<D: PageDevice<PAGE>, const PAGE: usize> Store<D, PAGE> {
     ghost use Rattle.mover.specs.Laws.{IsInOrder};
 
     /// An empty store of this configuration over a device. Its refusals are tested in the order of `OpenFault`, and the
-    /// device is dropped with each.
+    /// device is dropped with each. The table of its memory hashes by a seed that is the same in every run.
     pub fn open(alloc: Global, config: &Config, device: D) -> Result<Self, OpenFault>
+        ensures opening { IfOk result (λ s. HasNumbersOf s.layout config.now
+            × (s ≡ opening s.layout device)) }
+        ensures serves { OnOk result (CanServe PAGE config.now (D.page_count device)) }
+        ensures refused { IfErr result (RefusesStore PAGE config.now (D.page_count device)) }
+    {
+        Store::with_seed(alloc, config, device, RandomSeed::fixed())
+    }
+
+    /// An empty store, as `open` makes it, the table of whose memory hashes by this seed. Who does not know it can't pick keys
+    /// that collide in that table.
+    pub fn with_seed(
+        alloc: Global,
+        config: &Config,
+        device: D,
+        seed: RandomSeed,
+    ) -> Result<Self, OpenFault>
         ensures opening { IfOk result (λ s. HasNumbersOf s.layout config.now
             × (s ≡ opening s.layout device)) }
         ensures serves { OnOk result (CanServe PAGE config.now (D.page_count device)) }
@@ -90,7 +107,7 @@ impl<D: PageDevice<PAGE>, const PAGE: usize> Store<D, PAGE> {
         if device.pages() < layout.sets + layout.segments * layout.segment_pages {
             return Err(OpenFault::DeviceTooSmall);
         }
-        let memory = MemoryCache::open(alloc, layout.memory)?;
+        let memory = MemoryCache::with_seed(alloc, layout.memory, seed)?;
         let log = KLog::open(alloc, &layout)?;
         let sets = KSet::open(alloc, &layout)?;
         let flights = Flights::open(alloc)?;

@@ -35,7 +35,13 @@ pub(crate) fn lanes_over<D: PageDevice<PAGE>, const PAGE: usize>(
             unreachable!()
         };
         let words = Lcg64Xsh32::new(seed.hash_one(number as u64), number as u64);
-        let lane = lane_over(alloc, config, lease_slots, device)?;
+        let lane = lane_over(
+            alloc,
+            config,
+            lease_slots,
+            device,
+            seed.derive(number as u32),
+        )?;
         lanes.push(Mutex::new(CachePadded::new(Guarded { lane, words })))?;
     }
     Ok(lanes)
@@ -47,9 +53,10 @@ fn lane_over<D: PageDevice<PAGE>, const PAGE: usize>(
     config: &Config,
     lease_slots: u32,
     device: D,
+    seed: RandomSeed,
 ) -> Result<ServiceLane<Boxed<D>, PAGE>, AllocError> {
     let boxed = Boxed::new(alloc, device)?;
-    match ServiceLane::open(alloc, config, lease_slots, boxed) {
+    match ServiceLane::open(alloc, config, lease_slots, boxed, seed) {
         Ok(lane) => Ok(lane),
         // Nothing but memory can be refused here.
         Err(_) => Err(AllocError),

@@ -9,7 +9,9 @@ ghost use Rattle.mover.specs.Calls.{StoreGets, StorePuts, StoreRemoves, StoreFlu
 ghost use Rattle.trace_file.specs.declared.act.Act.{Act};
 
 use crate::key_buffer::KeyBuffer;
+use crate::next::Next;
 use crate::trail::{Trail, note_got, note_removed, note_stored};
+use key_hash::RandomSeed;
 use klog::{Flushed, LogUsage};
 use memory_cache::found_is_held;
 use mover::{
@@ -28,24 +30,23 @@ use value_buffer::ValueBuffer;
 #[derive(Drop)]
 pub(crate) struct AskedStore<D: PageDevice<PAGE>, const PAGE: usize> {
     store: Store<D, PAGE>,
-    trail: Snapshot<Trail>,
+    trail: Trail,
 }
 
 impl<D: PageDevice<PAGE>, const PAGE: usize> Model for AskedStore<D, PAGE> {
     ghost use Rattle.std.specs.Coded.{codes};
     ghost use Rattle.kset.specs.Sets.{sets_code};
     ghost use Rattle.service_lane.specs.Asked.{Asked, IsServed};
-    ghost use Rattle.service_lane.specs.Trails.{told_by};
 
     ghost Value = { Asked D };
 
     ghost coded = { Prim.hlevel (codes, sets_code) };
 
-    ghost view = { λ s. record { store = s.store; deeds = told_by s.trail.value } };
+    ghost view = { λ s. record { store = s.store; deeds = s.trail.deeds } };
 
     ghost invariant = { λ s. IsServed D.honest D.held (record {
       store = s.store;
-      deeds = told_by s.trail.value;
+      deeds = s.trail.deeds;
     }) };
 }
 
@@ -54,18 +55,24 @@ impl<D: PageDevice<PAGE>, const PAGE: usize> AskedStore<D, PAGE> {
     ghost use Rattle.mover.specs.Get.{answer_of};
     ghost use Rattle.service_lane.specs.Asked.{IsServed, IsLiveHit, IsMiss};
 
-    /// An empty store of which nothing was asked. Its refusals are those of `Store::open`.
-    pub(crate) fn open(alloc: Global, config: &Config, device: D) -> Result<Self, OpenFault>
+    /// An empty store of which nothing was asked, the table of whose memory hashes by this seed. Its refusals are those of
+    /// `Store::open`.
+    pub(crate) fn open(
+        alloc: Global,
+        config: &Config,
+        device: D,
+        seed: RandomSeed,
+    ) -> Result<Self, OpenFault>
         ensures opening { IfOk result (λ opened. HasNumbersOf opened.store.layout config.now
             × (opened ≡ record { store = opening opened.store.layout device; deeds = [] })) }
         ensures serves { OnOk result (CanServe PAGE config.now (D.page_count device)) }
         ensures refused { IfErr result (RefusesStore PAGE config.now (D.page_count device)) }
     {
         opening_shows_nothing();
-        let store = Store::open(alloc, config, device)?;
+        let store = Store::with_seed(alloc, config, device, seed)?;
         Ok(AskedStore {
             store,
-            trail: Snapshot::of(&Trail::Opened),
+            trail: Trail::after(&Next::Opened),
         })
     }
 

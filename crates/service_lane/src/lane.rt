@@ -9,6 +9,7 @@ use crate::asked::AskedStore;
 use crate::counts::Counts;
 use crate::open_lane_fault::OpenLaneFault;
 use crate::slots::Slots;
+use key_hash::RandomSeed;
 use klog::LogUsage;
 use mover::OpenFault;
 use page_device::PageDevice;
@@ -61,11 +62,15 @@ impl<D: PageDevice<PAGE>, const PAGE: usize> ServiceLane<D, PAGE> {
 
     /// An empty lane with so many slots for leases, over a device. Its refusals are tested in the order of `OpenLaneFault`,
     /// those of the store in that of `Store::open`, and the device is dropped with each.
+    ///
+    /// The seed is that of the table of the objects in memory. Draw it at random where strangers pick keys: who knows it can
+    /// pick keys that collide there.
     pub fn open(
         alloc: Global,
         config: &Config,
         lease_slots: u32,
         device: D,
+        seed: RandomSeed,
     ) -> Result<Self, OpenLaneFault>
         ensures opening { IfOk result (λ opened. HasNumbersOf opened.store.layout config.now
             × (opened ≡ record {
@@ -82,7 +87,7 @@ impl<D: PageDevice<PAGE>, const PAGE: usize> ServiceLane<D, PAGE> {
         if lease_slots == 0 {
             return Err(OpenLaneFault::NoLeaseSlots);
         }
-        let asked = AskedStore::open(alloc, config, device)?;
+        let asked = AskedStore::open(alloc, config, device, seed)?;
         let Ok(slots) = Slots::open(alloc, lease_slots) else {
             return Err(OpenLaneFault::Store(OpenFault::OutOfMemory));
         };

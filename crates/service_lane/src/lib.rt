@@ -11,6 +11,7 @@ mod key_buffer;
 mod lane;
 mod lease;
 mod lease_counts;
+mod next;
 mod open_lane_fault;
 mod pushed_counts;
 mod put_counts;

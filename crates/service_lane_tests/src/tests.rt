@@ -2,6 +2,7 @@
 mod run;
 
 use self::run::{Found, Step, run};
+use key_hash::RandomSeed;
 use klog::Flushed;
 use mover::{Moved, OpenFault};
 use page_device::MemoryDevice;
@@ -33,9 +34,15 @@ fn device(alloc: Global) -> Result<MemoryDevice<256>, Fail> {
 
 // A lane with so many slots for leases, opened once more where memory was refused.
 fn lane(alloc: Global, slots: u32) -> Result<ServiceLane<MemoryDevice<256>, 256>, Fail> {
-    match ServiceLane::open(alloc, &ONE_SET, slots, device(alloc)?) {
+    match ServiceLane::open(alloc, &ONE_SET, slots, device(alloc)?, RandomSeed::fixed()) {
         Ok(lane) => Ok(lane),
-        Err(_) => Ok(ServiceLane::open(alloc, &ONE_SET, slots, device(alloc)?)?),
+        Err(_) => Ok(ServiceLane::open(
+            alloc,
+            &ONE_SET,
+            slots,
+            device(alloc)?,
+            RandomSeed::fixed(),
+        )?),
     }
 }
 
@@ -234,7 +241,7 @@ fn an_object_is_lost_and_counted_where_nobody_tends(rt: HostRuntime) -> Result<(
 
 // Why a lane is not opened, if it is not.
 fn fault_of(alloc: Global, config: &Config, slots: u32) -> Result<Option<OpenLaneFault>, Fail> {
-    match ServiceLane::<_, 256>::open(alloc, config, slots, device(alloc)?) {
+    match ServiceLane::<_, 256>::open(alloc, config, slots, device(alloc)?, RandomSeed::fixed()) {
         Ok(_) => Ok(None),
         Err(fault) => Ok(Some(fault)),
     }

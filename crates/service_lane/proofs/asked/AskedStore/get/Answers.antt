@@ -6,7 +6,6 @@ use Rattle.mover.specs.Calls.{StoreGets}
 use Rattle.mover.specs.Get.{answer_of}
 use Rattle.mover.specs.Lane.{lane_of}
 use Rattle.service_lane.specs.Asked.{Asked, IsLiveHit}
-use Rattle.service_lane.specs.Trails.{told_by}
 use Rattle.service_lane.proofs.Remembering.{get_leaves}
 use Rattle.service_lane.proofs.Serves.{served_got, live_hit}
 use Rattle.service_lane.proofs.asked.AskedStore.get.Goals as goal
@@ -15,7 +14,7 @@ pub invariant_of-self : goal.invariant_of-self
 invariant_of-self g c =
     let d = g.D.PageDevice in
     let a = c.args in
-    let old : Asked g.row.D.Denot = record { store = c.self.inside.store; deeds = told_by c.self.inside.trail.value } in
+    let old : Asked g.row.D.Denot = record { store = c.self.inside.store; deeds = c.self.inside.trail.deeds } in
     let new = c.get_into-seen.new.self in
     let answer : Answer = answer_of c.get_into-seen.result c.get_into-seen.new.found in
     let gets = subst (λ (k : List ℕ). StoreGets g.row.PAGE d.honest d.failures d.held k a.moment old.store (Ok answer) new) c.bytes.ensures c.get_into-seen.ensures.gets in
@@ -28,7 +27,7 @@ pub returns-clause-live : goal.returns-clause-live
 returns-clause-live g c =
     let d = g.D.PageDevice in
     let a = c.args in
-    let old : Asked g.row.D.Denot = record { store = c.self.inside.store; deeds = told_by c.self.inside.trail.value } in
+    let old : Asked g.row.D.Denot = record { store = c.self.inside.store; deeds = c.self.inside.trail.deeds } in
     let new = c.get_into-seen.new.self in
     let answer : Answer = answer_of c.get_into-seen.result c.get_into-seen.new.found in
     let gets = subst (λ (k : List ℕ). StoreGets g.row.PAGE d.honest d.failures d.held k a.moment old.store (Ok answer) new) c.bytes.ensures c.get_into-seen.ensures.gets in

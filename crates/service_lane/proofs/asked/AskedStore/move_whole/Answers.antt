@@ -1,7 +1,6 @@
 -- The store after a whole move, or a refused one.
 use Rattle.mover.specs.Lane.{lane_of}
 use Rattle.service_lane.specs.Asked.{Asked}
-use Rattle.service_lane.specs.Trails.{told_by}
 use Rattle.mover.proofs.FlightLists.{flights_counted}
 use Rattle.deed_laws.proofs.Sounding.{moved_in_order}
 use Rattle.service_lane.proofs.Remembering.{moved_stays}
@@ -11,7 +10,7 @@ use Rattle.service_lane.proofs.asked.AskedStore.move_whole.Goals as goal
 pub invariant_of-self : goal.invariant_of-self
 invariant_of-self g c =
     let d = g.D.PageDevice in
-    let old : Asked g.row.D.Denot = record { store = c.self.inside.store; deeds = told_by c.self.inside.trail.value } in
+    let old : Asked g.row.D.Denot = record { store = c.self.inside.store; deeds = c.self.inside.trail.deeds } in
     let moves = c.move_whole.ensures in
     let plan_of = g.P.EvictionPolicy.plan_of c.args.policy.now in
     served_step d.honest d.held old c.self.invariant c.move_whole.new.self moves.honesty (moved_stays g.row.PAGE old.store plan_of c.move_whole.result c.move_whole.new.self moves.leaves moves.out_of_memory)

@@ -1,7 +1,6 @@
 -- What is true of a store that was just opened.
 use Rattle.std.proofs.Common.{subst, sym}
 use Rattle.service_lane.specs.Asked.{IsServed}
-use Rattle.service_lane.specs.Trails.{told_by}
 use Rattle.service_lane.proofs.Serves.{served_opened}
 use Rattle.service_lane.proofs.asked.AskedStore.open.Goals as goal
 
@@ -9,4 +8,4 @@ pub invariant_of-result : goal.invariant_of-result
 invariant_of-result g c =
     let d = g.D.PageDevice in
     let opened = served_opened d.honest d.held c.in_ok-store.store c.args.device c.opening_shows_nothing.ensures c.in_ok-store.ensures.opening.1 in
-    subst (λ t. IsServed d.honest d.held (record { store = c.in_ok-store.store; deeds = told_by t })) (sym c.of.ensures) opened
+    subst (λ t. IsServed d.honest d.held (record { store = c.in_ok-store.store; deeds = t })) (sym c.after.ensures) opened

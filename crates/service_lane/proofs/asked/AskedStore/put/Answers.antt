@@ -5,7 +5,6 @@ use Rattle.memory_cache.specs.declared.pair.Pair.{Pair}
 use Rattle.trace_file.specs.declared.act.Act.TheVariants.{Put}
 use Rattle.mover.specs.Lane.{lane_of}
 use Rattle.service_lane.specs.Asked.{Asked}
-use Rattle.service_lane.specs.Trails.{told_by}
 use Rattle.service_lane.proofs.Remembering.{put_leaves}
 use Rattle.service_lane.proofs.Serves.{served_put}
 use Rattle.service_lane.proofs.asked.AskedStore.put.Goals as goal
@@ -14,7 +13,7 @@ pub invariant_of-self-2 : goal.invariant_of-self-2
 invariant_of-self-2 g c =
     let d = g.D.PageDevice in
     let a = c.args in
-    let old : Asked g.row.D.Denot = record { store = c.self.inside.store; deeds = told_by c.self.inside.trail.value } in
+    let old : Asked g.row.D.Denot = record { store = c.self.inside.store; deeds = c.self.inside.trail.deeds } in
     let new = c.put.new.self in
     let put : Pair = record { key = a.key; value = timed a.value a.expires } in
     let gives = c.in_ok-pushed.ensures.gives in
