@@ -149,6 +149,13 @@ impl<D: PageDevice<PAGE>, const PAGE: usize> Store<D, PAGE> {
         self.memory.len()
     }
 
+    /// The device.
+    pub fn device(&self) -> &D
+        ensures { result.now ≡ self.now.device }
+    {
+        &self.device
+    }
+
     /// The device, as it is now. What memory held is gone.
     pub fn into_device(self) -> D
         ensures { result ≡ self.device }

@@ -13,6 +13,7 @@ mod run;
 mod several;
 mod splitting;
 mod striking;
+mod through_lane;
 mod untrue;
 mod untrue_device;
 
@@ -58,7 +59,7 @@ fn store(alloc: Global, config: &Config) -> Result<Store<MemoryDevice<256>, 256>
 
 /// An empty store's configuration, and tables of its calls, which are made one after the other.
 #[derive(Clone, Copy)]
-struct Row {
+pub struct Row {
     config: Config,
     tables: &'static [&'static [Step]],
 }

@@ -5,7 +5,9 @@ use Rattle.record_pages.specs.Table.{first_faulty}
 use Rattle.record_pages.specs.declared.config.Config.{Config}
 use Rattle.record_pages.specs.declared.layout.Layout.{Layout}
 use Rattle.mover.specs.Store.{IsTooSmall}
-use Rattle.service_cache.specs.declared.cache.TheConstants.{MAX_SHARDS}
+use Rattle.cache_sizes.specs.declared.limits.TheConstants.{MAX_SHARDS}
+use Rattle.service_cache.specs.declared.looked_up.LookedUp.{LookedUp}
+use Rattle.service_cache.specs.declared.looked_up.LookedUp.TheVariants as looked
 use Rattle.service_cache.specs.declared.open_service_fault.OpenServiceFault.{OpenServiceFault}
 use Rattle.service_cache.specs.declared.open_service_fault.OpenServiceFault.TheVariants.{ConfigFault, Shards, DeviceCount, NoLeaseSlots, WrongPage, DeviceTooSmall, OutOfMemory}
 
@@ -55,3 +57,8 @@ RefusesOpening size pages config shards slots devices WrongPage =
 RefusesOpening size pages config shards slots devices DeviceTooSmall =
     HasDevices config shards devices × (1 ≤ slots) × IsPageSize size × Any (λ d. IsTooSmall config (pages d)) devices
 RefusesOpening size pages config shards slots devices OutOfMemory = CanOpen size pages config shards slots devices
+
+-- a look-up that found no value
+abbrev pub HasMissed : LookedUp → Type 0
+HasMissed (looked.Hit tier) = ⊥
+HasMissed (looked.Miss cause lease) = Unit {0}

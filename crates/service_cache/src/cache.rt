@@ -5,6 +5,7 @@ ghost use Rattle.service_cache.specs.Serving.{CanOpen, RefusesOpening, lanes_of}
 
 use crate::open_service_fault::OpenServiceFault;
 use crate::opening::{Locked, lanes_over};
+use cache_sizes::MAX_SHARDS;
 use key_hash::RandomSeed;
 use lane_devices::is_one_too_small;
 use page_device::PageDevice;
@@ -16,9 +17,6 @@ use std::marker::Model;
 
 mod calls;
 mod tending;
-
-/// The most shards of a cache.
-pub const MAX_SHARDS: u32 = 1024;
 
 /// A cache that serves: its lanes, each under a lock of its own, and the policy of their moves. Nothing is recorded, so it may
 /// serve for years.

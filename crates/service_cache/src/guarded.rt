@@ -2,7 +2,7 @@
 ghost use Rattle.std.specs.Prelude.{◌≡◌, IfOk};
 
 use crate::looked_up::LookedUp;
-use lane_devices::Boxed;
+use lane_devices::{Boxed, Counted};
 use mover::Seen;
 use page_device::PageDevice;
 use policy_laws::EvictionPolicy;
@@ -15,13 +15,14 @@ use value_buffer::ValueBuffer;
 /// What the lock of a lane keeps: the lane, and the generator of its words of admission.
 #[derive(Drop)]
 pub(crate) struct Guarded<D: PageDevice<PAGE>, const PAGE: usize> {
-    pub(crate) lane: ServiceLane<Boxed<D>, PAGE>,
+    pub(crate) lane: ServiceLane<Counted<Boxed<D>>, PAGE>,
     pub(crate) words: Lcg64Xsh32,
 }
 
 ghost use Rattle.std.specs.Prelude.{◌≢◌, ◌↔◌, ◌<◌, [], length, Err, IsErrOf, OnErr};
 ghost use Rattle.record_pages.specs.declared.key.KeyFault.{KeyFault};
 ghost use Rattle.record_pages.specs.Sizes.{object_size, room};
+ghost use Rattle.service_cache.specs.Serving.{HasMissed};
 
 impl<D: PageDevice<PAGE>, const PAGE: usize> Guarded<D, PAGE> {
     /// Looks a key up, and leases it at a miss.
@@ -35,6 +36,7 @@ impl<D: PageDevice<PAGE>, const PAGE: usize> Guarded<D, PAGE> {
         ensures too_long { (result ≡ Err KeyFault.KeyTooLong) ↔ (255 < length key.now) }
         ensures memory { result ≢ Err KeyFault.OutOfMemory }
         ensures refused { OnErr result (found.new ≡ found.old) }
+        ensures untouched { IfOk result (λ looked. HasMissed looked → found.new ≡ found.old) }
     {
         match self.lane.get(key, moment, found)? {
             Seen::Hit(tier) => Ok(LookedUp::Hit(tier)),

@@ -7,6 +7,7 @@ mod looked_up;
 mod open_service_fault;
 mod opening;
 
-pub use cache::{MAX_SHARDS, ServiceCache};
+pub use cache::ServiceCache;
+pub use cache_sizes::MAX_SHARDS;
 pub use looked_up::LookedUp;
 pub use open_service_fault::OpenServiceFault;

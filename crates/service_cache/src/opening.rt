@@ -1,10 +1,10 @@
 // The parts of a new cache.
-ghost use Rattle.std.specs.Prelude.{◌≡◌, ◌≤◌, IfOk, length};
+ghost use Rattle.std.specs.Prelude.{◌≡◌, ◌≤◌, ◌<◌, ◌^◌, IfOk, length};
 
 use crate::guarded::Guarded;
 use crossbeam_utils::CachePadded;
 use key_hash::RandomSeed;
-use lane_devices::Boxed;
+use lane_devices::{Boxed, Counted};
 use page_device::PageDevice;
 use rand_pcg::Lcg64Xsh32;
 use record_pages::Config;
@@ -25,6 +25,7 @@ pub(crate) fn lanes_over<D: PageDevice<PAGE>, const PAGE: usize>(
     devices: Vec<D>,
     seed: RandomSeed,
 ) -> Result<Vec<Locked<D, PAGE>>, AllocError>
+    requires { length devices.items < 2 ^ 32 }
     ensures { IfOk result (λ lanes. length lanes.items ≡ length devices.items) }
 {
     let count = devices.len();
@@ -54,9 +55,9 @@ fn lane_over<D: PageDevice<PAGE>, const PAGE: usize>(
     lease_slots: u32,
     device: D,
     seed: RandomSeed,
-) -> Result<ServiceLane<Boxed<D>, PAGE>, AllocError> {
-    let boxed = Boxed::new(alloc, device)?;
-    match ServiceLane::open(alloc, config, lease_slots, boxed, seed) {
+) -> Result<ServiceLane<Counted<Boxed<D>>, PAGE>, AllocError> {
+    let counted = Counted::new(Boxed::new(alloc, device)?);
+    match ServiceLane::open(alloc, config, lease_slots, counted, seed) {
         Ok(lane) => Ok(lane),
         // Nothing but memory can be refused here.
         Err(_) => Err(AllocError),

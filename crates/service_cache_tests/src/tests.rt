@@ -3,6 +3,7 @@ mod caller;
 mod calls;
 mod many;
 mod opening;
+mod threads;
 
 ghost use Rattle.std.specs.Prelude.{IfOk};
 

@@ -86,13 +86,14 @@ pub record HelpsOnce {D : Type 0} (size : ℕ) (honest : D → Bool) (failures :
   pub asked_is : asked ≡ may_ask did
   pub counted : new ≡ record between { counts = record between.counts { upkeep = with_help between.counts.upkeep } }
 
--- so many steps in help: each where the lane was near its end, and behind none that may have asked the device
+-- the last of so many steps in help: it was done where the lane was near its end
 pub record LastHelp {D : Type 0} (size : ℕ) (honest : D → Bool) (failures : D → ℕ) (held : D → ℕ → Option (List ℕ)) (plan_of : Job → List Choice) (before : Serving D → Type 0) (asked : Bool) (new : Serving D) : Type 0 where
   pub old : Serving D
   pub so_far : before old
   pub near : is_lane_near_end old ≡ true
   pub once : HelpsOnce size honest failures held plan_of old asked new
 
+-- so many steps in help: each where the lane was near its end, and behind none that may have asked the device
 abbrev pub HelpsSteps : {D : Type 0} → ℕ → (D → Bool) → (D → ℕ) → (D → ℕ → Option (List ℕ)) → (Job → List Choice) → ℕ → Serving D → Bool → Serving D → Type 0
 HelpsSteps size honest failures held plan_of zero old asked new = (asked ≡ false) × (new ≡ old)
 HelpsSteps size honest failures held plan_of (suc n) old asked new = LastHelp size honest failures held plan_of (λ s. HelpsSteps size honest failures held plan_of n old false s) asked new

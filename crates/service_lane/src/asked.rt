@@ -92,6 +92,13 @@ impl<D: PageDevice<PAGE>, const PAGE: usize> AskedStore<D, PAGE> {
         self.store.log_usage()
     }
 
+    /// The device.
+    pub(crate) fn device(&self) -> &D
+        ensures { result.now ≡ self.now.store.device }
+    {
+        self.store.device()
+    }
+
     /// How many objects are in memory.
     pub(crate) fn memory_len(&self) -> usize
         ensures { result ≡ length self.now.store.memory.pairs }

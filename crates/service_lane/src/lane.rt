@@ -134,6 +134,13 @@ impl<D: PageDevice<PAGE>, const PAGE: usize> ServiceLane<D, PAGE> {
         self.asked.layout()
     }
 
+    /// The device.
+    pub fn device(&self) -> &D
+        ensures { result.now ≡ self.now.store.device }
+    {
+        self.asked.device()
+    }
+
     /// The device, as it is now. What memory held is gone.
     pub fn into_device(self) -> D
         ensures { result ≡ self.store.device }

@@ -1,4 +1,5 @@
 //! A lane that serves, from end to end: each call with what it gives, and what the counters say then.
+mod rows;
 mod run;
 
 use self::run::{Found, Step, run};

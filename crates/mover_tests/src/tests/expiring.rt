@@ -33,7 +33,7 @@ const STAYS_BEHIND: [Step; 5] = [
     Step::Get(b"ax", Found::Log(b"1")),
 ];
 
-const EXPIRING: [Row; 2] = [
+pub const EXPIRING: [Row; 2] = [
     Row {
         config: ONE_SET,
         tables: &[&IN_EACH_TIER],

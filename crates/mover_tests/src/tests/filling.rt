@@ -21,7 +21,7 @@ const BOTH_SEGMENTS: [Step; 17] = [
     Step::Get(b"cx", Found::Set(b"3")),
 ];
 
-const WAITING: [Row; 1] = [Row {
+pub const WAITING: [Row; 1] = [Row {
     config: ONE_SET,
     tables: &[&BOTH_SEGMENTS],
 }];
@@ -52,7 +52,7 @@ const BOTH_BUFFERS: [Step; 7] = [
     Step::Get(b"ax", Found::Log(&LARGE)),
 ];
 
-const NO_PLACE: [Row; 2] = [
+pub const NO_PLACE: [Row; 2] = [
     Row {
         config: Config {
             entries: 1,
@@ -82,7 +82,7 @@ const BY_SIZE: [Step; 3] = [
     Step::Get(b"a", Found::Memory(&LARGEST)),
 ];
 
-const SIZES: [Row; 1] = [Row {
+pub const SIZES: [Row; 1] = [Row {
     config: ONE_SET,
     tables: &[&BY_SIZE],
 }];

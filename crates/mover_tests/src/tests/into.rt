@@ -47,7 +47,7 @@ const REMOVED: [Step; 11] = [
     Step::GetInto(b"bx", Found::Absent),
 ];
 
-const INTO: [Row; 2] = [
+pub const INTO: [Row; 2] = [
     Row {
         config: ONE_SET,
         tables: &[&IN_EACH_TIER],

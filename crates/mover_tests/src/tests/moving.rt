@@ -7,7 +7,7 @@ const IN_MEMORY: [Step; 3] = [
     Step::Get(b"b", Found::Absent),
 ];
 
-const MEMORY: [Row; 1] = [Row {
+pub const MEMORY: [Row; 1] = [Row {
     config: Config {
         memory: 4,
         ..ONE_SET
@@ -43,7 +43,7 @@ const THROUGH_ALL_TIERS: [Step; 20] = [
     Step::Get(b"cx", Found::Absent),
 ];
 
-const TIERS: [Row; 1] = [Row {
+pub const TIERS: [Row; 1] = [Row {
     config: ONE_SET,
     tables: &[&THROUGH_ALL_TIERS],
 }];
@@ -79,7 +79,7 @@ const READMITTED: [Step; 12] = [
     Step::Get(b"bx", Found::Memory(b"2")),
 ];
 
-const ALONE: [Row; 2] = [
+pub const ALONE: [Row; 2] = [
     Row {
         config: Config {
             threshold: 2,

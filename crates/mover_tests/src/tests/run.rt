@@ -6,7 +6,7 @@ use record_pages::{Answer, Key, MissCause, Prediction, PutFault, Tier, Value};
 use value_buffer::ValueBuffer;
 
 /// When each value that is put expires.
-const EXPIRES: u64 = 10;
+pub const EXPIRES: u64 = 10;
 
 /// What a get is to find.
 #[derive(Clone, Copy)]
@@ -172,7 +172,7 @@ fn get<D: PageDevice<PAGE>, const PAGE: usize>(
 }
 
 // What a buffer holds before a get.
-const WAS_HELD: &[u8] = b"was held";
+pub const WAS_HELD: &[u8] = b"was held";
 
 // Whether this is found of the bytes of a key: a hit is in the buffer, and a miss leaves it as it was.
 fn gets_into<D: PageDevice<PAGE>, const PAGE: usize>(
@@ -187,7 +187,7 @@ fn gets_into<D: PageDevice<PAGE>, const PAGE: usize>(
     is_seen(seen, wanted) && found.bytes() == held_then(wanted)
 }
 
-fn is_seen(seen: Seen, wanted: &Found) -> bool {
+pub fn is_seen(seen: Seen, wanted: &Found) -> bool {
     match wanted {
         Found::Memory(_) => seen == Seen::Hit(Tier::Memory),
         Found::Log(_) => seen == Seen::Hit(Tier::Log),
@@ -200,7 +200,7 @@ fn is_seen(seen: Seen, wanted: &Found) -> bool {
 }
 
 // What a buffer is to hold behind a get.
-fn held_then(wanted: &Found) -> &'static [u8] {
+pub fn held_then(wanted: &Found) -> &'static [u8] {
     match wanted {
         Found::Memory(bytes) => *bytes,
         Found::Log(bytes) => *bytes,
@@ -288,14 +288,14 @@ fn is_known(item: Item, wanted: &Known) -> bool {
         && item.fresh == wanted.fresh
 }
 
-fn is_put(answer: Result<Pushed, PutFault>, wanted: Pushed) -> bool {
+pub fn is_put(answer: Result<Pushed, PutFault>, wanted: Pushed) -> bool {
     match answer {
         Ok(pushed) => pushed == wanted,
         Err(_) => false,
     }
 }
 
-fn is_too_large(answer: Result<Pushed, PutFault>) -> bool {
+pub fn is_too_large(answer: Result<Pushed, PutFault>) -> bool {
     match answer {
         Err(PutFault::TooLarge) => true,
         _ => false,

@@ -10,7 +10,7 @@ const ONE_TAG: [Step; 5] = [
     Step::Get(b"b", Found::Log(b"2")),
 ];
 
-const NEIGHBOURS: [Row; 1] = [Row {
+pub const NEIGHBOURS: [Row; 1] = [Row {
     config: ONE_SET,
     tables: &[&ONE_TAG],
 }];
@@ -35,7 +35,7 @@ const PUT_ANEW: [Step; 11] = [
     Step::Get(b"cx", Found::Memory(b"5")),
 ];
 
-const HIDDEN: [Row; 1] = [Row {
+pub const HIDDEN: [Row; 1] = [Row {
     config: Config {
         admit: 32768,
         ..ONE_SET
@@ -54,7 +54,7 @@ const NONE_ADMITTED: [Step; 3] = [
     Step::Get(b"ax", Found::Absent),
 ];
 
-const LOST: [Row; 1] = [Row {
+pub const LOST: [Row; 1] = [Row {
     config: Config {
         admit: 0,
         ..ONE_SET
@@ -101,7 +101,7 @@ const NINE_STRIKES: [Step; 14] = [
     Step::Get(b"kx", Found::Memory(b"1")),
 ];
 
-const NINTH: [Row; 1] = [Row {
+pub const NINTH: [Row; 1] = [Row {
     config: Config {
         entries: 16,
         ..ONE_SET

@@ -4,6 +4,7 @@ ghost use Rattle.record_pages.specs.declared.key.KeyFault.{KeyFault};
 ghost use Rattle.record_pages.specs.declared.put_fault.PutFault.{PutFault};
 ghost use Rattle.record_pages.specs.Sizes.{object_size, room};
 ghost use Rattle.service_lane.specs.Asked.{IsMiss};
+ghost use Rattle.service_cache.specs.Serving.{HasMissed};
 
 use super::ServiceCache;
 use crate::looked_up::LookedUp;
@@ -40,7 +41,7 @@ impl<D: PageDevice<PAGE>, P: EvictionPolicy + Drop, const PAGE: usize> ServiceCa
     }
 
     /// Looks a key up as `get` does, and leases it at a miss, in the same hold of its lane: for a fill by what is read elsewhere
-    /// then. No memory is taken.
+    /// then. No memory is taken. At a miss the buffer is as it was.
     pub fn get_or_lease<R: Wait>(
         &self,
         rt: &R,
@@ -48,6 +49,7 @@ impl<D: PageDevice<PAGE>, P: EvictionPolicy + Drop, const PAGE: usize> ServiceCa
         moment: u64,
         found: &mut ValueBuffer,
     ) -> Result<LookedUp, KeyFault>
+        ensures untouched { IfOk result (λ looked. HasMissed looked → found.new ≡ found.old) }
         ensures empty { (result ≡ Err KeyFault.KeyEmpty) ↔ (key.now ≡ []) }
         ensures too_long { (result ≡ Err KeyFault.KeyTooLong) ↔ (255 < length key.now) }
         ensures memory { result ≢ Err KeyFault.OutOfMemory }

@@ -4,6 +4,7 @@ ghost use Rattle.service_cache.specs.Serving.{lanes_of};
 
 use super::ServiceCache;
 use klog::LogUsage;
+use lane_devices::DeviceCounts;
 use page_device::PageDevice;
 use policy_laws::EvictionPolicy;
 use service_lane::{Counts, UpkeepStep};
@@ -11,6 +12,9 @@ use std::sync::Wait;
 
 impl<D: PageDevice<PAGE>, P: EvictionPolicy + Drop, const PAGE: usize> ServiceCache<D, P, PAGE> {
     /// Does what is due in a lane, one step, in one hold of it. At most 33 pages are read and one is written.
+    ///
+    /// Whoever tends the cache, a thread beside the callers for one, goes round the lanes and calls it for each as long as the
+    /// step says that something is due behind it; and where it says `OutOfMemory` leaves the lane for the next round.
     pub fn upkeep_step<R: Wait>(&self, rt: &R, lane: u32) -> UpkeepStep
         requires { lane < lanes_of self.now }
     {
@@ -26,6 +30,15 @@ impl<D: PageDevice<PAGE>, P: EvictionPolicy + Drop, const PAGE: usize> ServiceCa
         let mut guard = self.lanes[lane as usize].lock(rt);
         let held = &mut **guard;
         held.lane.counts()
+    }
+
+    /// What the device of a lane was asked since the cache was opened.
+    pub fn device_counts<R: Wait>(&self, rt: &R, lane: u32) -> DeviceCounts
+        requires { lane < lanes_of self.now }
+    {
+        let mut guard = self.lanes[lane as usize].lock(rt);
+        let held = &mut **guard;
+        held.lane.device().counts()
     }
 
     /// How full the log of a lane is.

@@ -1,0 +1,93 @@
+//! What users of a lane rely on, of any lane and any device.
+ghost use Rattle.std.specs.Prelude.{◌≡◌, ◌≢◌, Ok, IfOk, IsTrue};
+ghost use Rattle.record_pages.specs.declared.tier.Tier.{Tier};
+ghost use Rattle.record_pages.specs.declared.tier.Tier.TheVariants.{Memory};
+ghost use Rattle.mover.specs.declared.seen.Seen.TheVariants.{Hit};
+ghost use Rattle.service_lane.specs.declared.filled.Filled.{Filled};
+
+use certificate_checker::latest_is_current;
+use mover::Seen;
+use page_device::PageDevice;
+use policy_laws::EvictionPolicy;
+use record_pages::{Key, KeyFault, PutFault, Value};
+use service_lane::{Filled, ServiceLane};
+use value_buffer::ValueBuffer;
+
+/// A hit behind a put of its key has the value that was put: in memory whatever the device does, on flash where it gives back
+/// what was written.
+pub fn a_hit_is_what_was_put<D: PageDevice<PAGE>, const PAGE: usize>(
+    lane: &mut ServiceLane<D, PAGE>,
+    key: Key,
+    name: &[u8],
+    value: Value,
+    expires: u64,
+    moment: u64,
+    found: &mut ValueBuffer,
+) -> Result<Seen, PutFault>
+    requires { name.now ≡ key }
+    ensures memory { result ≡ Ok (Hit Memory) → found.new ≡ value }
+    ensures flash { IsTrue (D.honest lane.old.store.device) → (tier : Tier) →
+        result ≡ Ok (Hit tier) → found.new ≡ value }
+{
+    latest_is_current();
+    let _pushed = lane.put(key, value, 0, expires)?;
+    match lane.get(name, moment, found) {
+        Ok(seen) => Ok(seen),
+        // A key's bytes are never refused.
+        Err(_) => Err(PutFault::OutOfMemory),
+    }
+}
+
+/// Behind a removal of its key nothing is hit, also where a step of upkeep lies between: in memory whatever the device does, on
+/// flash where it gives back what was written.
+pub fn a_removed_key_is_not_hit<D: PageDevice<PAGE>, P: EvictionPolicy, const PAGE: usize>(
+    lane: &mut ServiceLane<D, PAGE>,
+    policy: &P,
+    name: &[u8],
+    moment: u64,
+    found: &mut ValueBuffer,
+) -> Result<Seen, KeyFault>
+    ensures memory { result ≢ Ok (Hit Memory) }
+    ensures flash { IsTrue (D.honest lane.old.store.device) → (tier : Tier) → result ≢ Ok (Hit tier) }
+{
+    latest_is_current();
+    lane.remove(name)?;
+    let _step = lane.upkeep_step(policy);
+    lane.get(name, moment, found)
+}
+
+/// No lease outlives a removal of its key: the fill is stale, and leaves what the key has, which is nothing.
+pub fn a_fill_behind_a_removal_is_stale<D: PageDevice<PAGE>, const PAGE: usize>(
+    lane: &mut ServiceLane<D, PAGE>,
+    key: Key,
+    name: &[u8],
+    value: Value,
+) -> Result<Filled, PutFault>
+    requires { name.now ≡ key }
+    ensures { IfOk result (λ filled. filled ≡ Filled.Stale) }
+{
+    let _layout = lane.layout();
+    let lease = lane.lease(name);
+    match lane.remove(name) {
+        Ok(()) => lane.fill(lease, key, value, 0, 0),
+        // A key's bytes are never refused.
+        Err(_) => Err(PutFault::OutOfMemory),
+    }
+}
+
+/// No lease outlives a put of its key: the fill is stale.
+pub fn a_fill_behind_a_put_is_stale<D: PageDevice<PAGE>, const PAGE: usize>(
+    lane: &mut ServiceLane<D, PAGE>,
+    key: Key,
+    again: Key,
+    put: Value,
+    filled: Value,
+) -> Result<Filled, PutFault>
+    requires { again ≡ key }
+    ensures { IfOk result (λ filled. filled ≡ Filled.Stale) }
+{
+    let _layout = lane.layout();
+    let lease = lane.lease(key.bytes());
+    let _pushed = lane.put(key, put, 0, 0)?;
+    lane.fill(lease, again, filled, 0, 0)
+}
