@@ -26,7 +26,7 @@ pub fn a_hit_is_what_was_put<D: PageDevice<PAGE>, const PAGE: usize>(
 ) -> Result<Seen, PutFault>
     requires { name.now ≡ key }
     ensures memory { result ≡ Ok (Hit Memory) → found.new ≡ value }
-    ensures flash { IsTrue (D.honest lane.old.store.device) → (tier : Tier) →
+    ensures flash { ((d : D) → IsTrue (D.honest d)) → (tier : Tier) →
         result ≡ Ok (Hit tier) → found.new ≡ value }
 {
     latest_is_current();
@@ -48,7 +48,7 @@ pub fn a_removed_key_is_not_hit<D: PageDevice<PAGE>, P: EvictionPolicy, const PA
     found: &mut ValueBuffer,
 ) -> Result<Seen, KeyFault>
     ensures memory { result ≢ Ok (Hit Memory) }
-    ensures flash { IsTrue (D.honest lane.old.store.device) → (tier : Tier) → result ≢ Ok (Hit tier) }
+    ensures flash { ((d : D) → IsTrue (D.honest d)) → (tier : Tier) → result ≢ Ok (Hit tier) }
 {
     latest_is_current();
     lane.remove(name)?;

@@ -1,0 +1,89 @@
+-- What a hit can be behind a put or a removal of its key, and that no lease outlives either.
+use Rattle.std.proofs.Common.{◌≡◌, ◌≤◌, ◌<◌, ◌+◌, ◌/◌, ◌^◌, ◌∙◌, ℕ, Bool, true, false, List, [], ◌∷◌, ◌++◌, length, Option, Some, None, Result, Ok, sym, ap, refl, subst, cond, arith, get_or, ltb}
+use Rattle.std.specs.Prelude.{IsTrue}
+use Rattle.std.specs.Str.{bytes_eq}
+use Rattle.std.specs.Cmp.Lexicographic.{bytes_decides}
+use Rattle.std.proofs.lemmas.Bool.{ltb-false}
+use Rattle.std.proofs.lemmas.List.{get_or-set_same, length-set}
+use Rattle.std.proofs.lemmas.Nat.{mod_below}
+use Rattle.set_hash.specs.Fnv.{fnv1a}
+use Rattle.record_pages.specs.Expiry.{timed}
+use Rattle.record_pages.specs.declared.tier.Tier.{Tier}
+use Rattle.record_pages.specs.declared.tier.Tier.TheVariants.{Memory, Log, Set}
+use Rattle.record_pages.specs.declared.timed_value.TimedValue.{TimedValue}
+use Rattle.policy_laws.specs.declared.choice.Choice.{Choice}
+use Rattle.policy_laws.specs.declared.job.Job.{Job}
+use Rattle.trace_file.specs.declared.act.Act.TheVariants.{Put, Remove}
+use Rattle.certificate_checker.specs.Deeds.{Deed}
+use Rattle.certificate_checker.specs.Current.{current}
+use Rattle.certificate_checker.specs.Latest.{IsLive}
+use Rattle.certificate_checker.specs.Laws.{LatestIsCurrent}
+use Rattle.certificate_checker.proofs.LatestLemmas.{current-push}
+use Rattle.deed_laws.proofs.Sounding.{put_gives, none_some}
+use Rattle.mover.specs.Get.{answer_of}
+use Rattle.mover.specs.declared.seen.Seen.{Seen}
+use Rattle.mover.specs.declared.seen.Seen.TheVariants.{Hit}
+use Rattle.mover.proofs.Showing.{some_same}
+use Rattle.service_lane.specs.Asked.{IsLiveHit}
+use Rattle.service_lane.specs.Leases.{slot_of, writes_for, with_write, one_more, most_writes, HoldsLease}
+use Rattle.service_lane.specs.Serving.{Serving}
+use Rattle.service_lane.specs.Upkeep.{Upkeeps}
+use Rattle.service_lane.specs.declared.upkept.Upkept.{Upkept}
+use Rattle.service_lane.specs.declared.upkept.Upkept.TheVariants as upkept
+
+-- the value of an answer is one
+pub ok_same : {X E : Type 0} (x y : X) → ◌≡◌ {A = Result X E} (Ok x) (Ok y) → x ≡ y
+ok_same x y is = cc
+
+-- ---- hits
+
+-- behind a put of its key a live value is the one that was put
+pub put_is_live : LatestIsCurrent → (before after : List Deed) (key value other : List ℕ) (expires moment : ℕ) → after ≡ before ++ record { key = key; act = Put value expires } ∷ [] → IsLive after key other moment → other ≡ value
+put_is_live law before after key value other expires moment more live =
+    let now : current after key ≡ Some (timed other live.expires) = (law after key (timed other live.expires)).0 live.latest in
+    let put : current after key ≡ Some (timed value expires) = ap (λ ds. current ds key) more ∙ put_gives before (record { key = key; act = Put value expires }) key value expires refl refl in
+    ap (λ (t : TimedValue). t.value) (some_same (sym now ∙ put))
+
+-- behind a removal of its key no value is live
+pub removed_is_not_live : LatestIsCurrent → (before after : List Deed) (key other : List ℕ) (moment : ℕ) → after ≡ before ++ record { key = key; act = Remove } ∷ [] → IsLive after key other moment → ⊥
+removed_is_not_live law before after key other moment more live =
+    let now : current after key ≡ Some (timed other live.expires) = (law after key (timed other live.expires)).0 live.latest in
+    let same : bytes_eq key key ≡ true = (bytes_decides key key).1 refl in
+    let gone : current after key ≡ None = ap (λ ds. current ds key) more ∙ current-push key before (record { key = key; act = Remove }) ∙ rw same refl in
+    none_some (sym gone ∙ now)
+
+-- a hit in memory is live
+pub in_memory : {D : Type 0} (honest : D → Bool) (device : D) (deeds : List Deed) (key found : List ℕ) (moment : ℕ) (seen : Seen) → seen ≡ Hit Memory → IsLiveHit (IsTrue (honest device)) deeds key moment (answer_of seen found) → IsLive deeds key found moment
+in_memory honest device deeds key found moment seen is live = subst (λ s. IsLiveHit (IsTrue (honest device)) deeds key moment (answer_of s found)) is live
+
+-- and where all devices are honest each is
+pub in_any : {D : Type 0} (honest : D → Bool) (device : D) (deeds : List Deed) (key found : List ℕ) (moment : ℕ) (seen : Seen) (tier : Tier) → ((d : D) → IsTrue (honest d)) → seen ≡ Hit tier → IsLiveHit (IsTrue (honest device)) deeds key moment (answer_of seen found) → IsLive deeds key found moment
+in_any honest device deeds key found moment seen Memory all is live = in_memory honest device deeds key found moment seen is live
+in_any honest device deeds key found moment seen Log all is live = subst (λ s. IsLiveHit (IsTrue (honest device)) deeds key moment (answer_of s found)) is live (all device)
+in_any honest device deeds key found moment seen Set all is live = subst (λ s. IsLiveHit (IsTrue (honest device)) deeds key moment (answer_of s found)) is live (all device)
+
+-- a step of upkeep adds no deed
+pub upkept_adds_none : {D : Type 0} (size : ℕ) (honest : D → Bool) (failures : D → ℕ) (held : D → ℕ → Option (List ℕ)) (plan_of : Job → List Choice) (old : Serving D) (did : Upkept) (new : Serving D) → Upkeeps size honest failures held plan_of old did new → new.deeds ≡ old.deeds
+upkept_adds_none size honest failures held plan_of old upkept.Idle new done = ap (λ (s : Serving _). s.deeds) done.1
+upkept_adds_none size honest failures held plan_of old (upkept.Flushed answer) new done = ap (λ (s : Serving _). s.deeds) done.rest
+upkept_adds_none size honest failures held plan_of old (upkept.Moved answer) new done = ap (λ (s : Serving _). s.deeds) done.rest
+upkept_adds_none size honest failures held plan_of old upkept.OutOfMemory new done = ap (λ (s : Serving _). s.deeds) done.rest
+
+-- ---- leases
+
+-- one more is more, where it is not the most
+grows : (n : ℕ) (b : Bool) → ltb n most_writes ≡ b → n < most_writes → cond b (n + 1) n ≡ n → ⊥
+grows n true is few same = omega (arith, same)
+grows n false is few same =
+    let most = ltb-false n most_writes is in
+    absurd (omega (arith, few, most))
+
+-- a lease of a key does not hold behind one more write of it
+pub lease_ended : (slots after : List ℕ) (key : List ℕ) (writes : ℕ) → 1 ≤ length slots → writes ≡ writes_for slots key → after ≡ with_write slots key → HoldsLease after key writes → ⊥
+lease_ended slots after key writes some leased written holds =
+    let slot = slot_of (length slots) key in
+    let within : slot < length slots = mod_below (fnv1a key / 2 ^ 32) (length slots) some in
+    let shows : writes_for after key ≡ one_more (get_or slots slot 0) =
+    ap (λ s. writes_for s key) written ∙ ap (λ n. get_or (with_write slots key) (slot_of n key) 0) (length-set slots slot (one_more (get_or slots slot 0))) ∙ get_or-set_same slots slot (one_more (get_or slots slot 0)) 0 within in
+    let n = get_or slots slot 0 in
+    grows n (ltb n most_writes) refl (subst (λ w. w < most_writes) leased holds.few) (sym shows ∙ holds.same ∙ leased)
