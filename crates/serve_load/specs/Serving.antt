@@ -62,7 +62,14 @@ IsLate ends.SharesExceed = ⊥
 IsLate ends.NoSize = ⊥
 IsLate (ends.Size fault) = ⊥
 
--- A load ended with this status.
+-- a load over devices that were there ended with this status
+pub record IsServedOver (load : ServedLoad) (old new : Option (List ℕ)) (status : ℕ) : Type 0 where
+  pub end : ServeEnd
+  pub status_is : status ≡ status_of end
+  pub late : IsLate end
+  pub wrote : WroteReport load old new end
+
+-- a load ended with this status
 pub record IsServed (load : ServedLoad) (old new : Option (List ℕ)) (status : ℕ) : Type 0 where
   pub end : ServeEnd
   pub status_is : status ≡ status_of end

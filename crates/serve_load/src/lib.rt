@@ -21,4 +21,4 @@ pub use form::Form;
 pub use objects::KEY_BYTES;
 pub use report::Report;
 pub use serve_end::ServeEnd;
-pub use serving::serve_load;
+pub use serving::{serve_load, serve_over};

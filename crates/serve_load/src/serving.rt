@@ -1,7 +1,7 @@
 // A load, from what it is asked for to its status.
 ghost use Rattle.std.specs.Prelude.{◌≡◌, ◌≢◌, ◌↔◌, ◌⊎◌, ◌<◌, ◌+◌, IfErr, IfOk};
 ghost use Rattle.serve_load.specs.Ends.{IsFailure, status_of};
-ghost use Rattle.serve_load.specs.Serving.{IsServed, IsSaid, IsRefusedFirst, WroteReport};
+ghost use Rattle.serve_load.specs.Serving.{IsServed, IsServedOver, IsSaid, IsRefusedFirst, WroteReport};
 
 use crate::cause::Cause;
 use crate::ended::Ended;
@@ -55,6 +55,28 @@ pub fn serve_load<
     ended.end.status()
 }
 
+/// Runs a load over devices that the caller has, one for each lane of a form, and answers the status that the program ends with.
+/// Which of the load's numbers the form has is the caller's affair; gets and removes may exceed 100 per cent, and count up to that.
+pub fn serve_over<
+    D: PageDevice<PAGE> + Send,
+    R: Threads + Wait + Sync + AllocGlobal + Clock + RandomSource,
+    O: Write,
+    E: Write + IsTerminal,
+>(
+    rt: &R,
+    load: &ServedLoad,
+    form: &Form,
+    devices: Vec<D>,
+    out: &mut O,
+    err: &mut E,
+) -> u8
+    ensures { IsServedOver load.now (O.contents out.old) (O.contents out.new) result }
+{
+    let ended = over(rt, load, form, devices, out, err);
+    ended.tell(err);
+    ended.end.status()
+}
+
 /// Runs a load, and answers how it ended.
 fn serve_to_end<
     R: Threads + Wait + Sync + AllocGlobal + Files<File = File> + Clock + RandomSource,
@@ -76,11 +98,11 @@ fn serve_to_end<
     };
     match &load.device {
         Some(folder) => match in_files(rt, rt.alloc(), &form, folder) {
-            Ok(devices) => serve_over(rt, load, &form, devices, out, err),
+            Ok(devices) => over(rt, load, &form, devices, out, err),
             Err(ended) => ended,
         },
         None => match lanes_in_memory(rt.alloc(), form.lanes(), form.pages()) {
-            Ok(devices) => serve_over(rt, load, &form, devices, out, err),
+            Ok(devices) => over(rt, load, &form, devices, out, err),
             Err(_) => Ended::plain(ServeEnd::OutOfMemory),
         },
     }
@@ -103,7 +125,7 @@ fn in_files<R: Files<File = File>>(
 }
 
 /// Runs a load over its devices, and answers how it ended.
-fn serve_over<
+fn over<
     D: PageDevice<PAGE> + Send,
     R: Threads + Wait + Sync + AllocGlobal + Clock + RandomSource,
     O: Write,
