@@ -109,15 +109,14 @@ within settings numbers h place less = (least _ _ _ (h place less), greatest _ _
 pub in_front : (front rest : List Setting) (numbers : List ℕ) → AreAdmitted (front ++ rest) numbers → AreAdmitted front numbers
 in_front front rest numbers h = λ place less.
     let all : place < length (front ++ rest) = omega (arith, length-append front rest, less) in
-    subst (λ (s : Setting). is_admitted s (get_or numbers place 0) ≡ true) (get_or-append front rest place Lanes less) (h place all)
+    subst (λ (s : Setting). is_admitted s (get_or numbers place 0) ≡ true) (get_or-append front rest Lanes place less) (h place all)
 
 -- the numbers at so many places from one on
-places : List ℕ → ℕ → ℕ → List ℕ
+abbrev pub places : List ℕ → ℕ → ℕ → List ℕ
 places xs start zero = []
 places xs start (suc count) = get_or xs start 0 ∷ places xs (suc start) count
 
 -- a list is what lies at its places
-placed : (xs : List ℕ) (start count : ℕ) → start + count ≡ length xs → drop start xs ≡ places xs start count
-unfolding places
+pub placed : (xs : List ℕ) (start count : ℕ) → start + count ≡ length xs → drop start xs ≡ places xs start count
 placed xs start zero e = drop_all start xs (omega arith)
 placed xs start (suc count) e = drop-cons xs start 0 (omega arith) ∙ ap (λ rest. get_or xs start 0 ∷ rest) (placed xs (suc start) count (omega arith))

@@ -129,8 +129,8 @@ fn steps_lines(alloc: Global, steps: &StepCounts) -> Result<String, AllocError>
     ensures { IfOk result (λ text. string_bytes text ≡ steps_lines steps.now) }
 {
     format!(in alloc;
-        "segments-sealed {}\npages-written {}\npages-lost {}\nsets-written {}\nsets-forgotten {}\nsegments-freed {}\nmoves-readmitted {}\nmoves-dropped {}\nmoves-refused {}\n",
-        steps.sealed, steps.pages_written, steps.pages_lost, steps.sets_written, steps.sets_forgotten, steps.segments_freed, steps.readmitted, steps.dropped, steps.out_of_memory
+        "pages-written {}\npages-lost {}\nsets-written {}\nsets-forgotten {}\nsegments-freed {}\nmoves-readmitted {}\nmoves-dropped {}\nmoves-refused {}\n",
+        steps.pages_written, steps.pages_lost, steps.sets_written, steps.sets_forgotten, steps.segments_freed, steps.readmitted, steps.dropped, steps.out_of_memory
     )
 }
 

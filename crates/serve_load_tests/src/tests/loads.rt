@@ -185,7 +185,7 @@ const STALE: &[&str] = &[
     "--operations",
     "100000",
     "--keys",
-    "20",
+    "60",
     "--gets",
     "50",
 ];

@@ -87,7 +87,6 @@ pushed-declined 16
 pushed-logged 17
 pushed-log-full 18
 pushed-index-full 19
-segments-sealed 20
 pages-written 21
 pages-lost 22
 sets-written 23

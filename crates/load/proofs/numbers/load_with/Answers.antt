@@ -22,3 +22,8 @@ invariant_of-result c =
       workers_range = within_at 14 (lit< tt);
       ttl_range = (within_at 16 (lit< tt)).1;
     }
+
+pub returns-clause-numbers : goal.returns-clause-numbers
+returns-clause-numbers c =
+    let is = c.layout_with.ensures in
+    rw (is.lanes, is.sets, is.memory, is.segments, is.segment_pages, is.entries, is.threshold, is.admit) (sym (placed c.args.numbers.now 0 17 (sym c.told-numbers)))
