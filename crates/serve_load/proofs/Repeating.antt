@@ -1,13 +1,23 @@
 -- A word that is repeated, from one to the next.
-use Rattle.std.proofs.Common.{◌≡◌, ◌∙◌, ◌≤◌, ◌<◌, ◌+◌, ◌/◌, ◌++◌, ◌↔◌, ℕ, suc, List, [], ap, ap₂, arith, drop, length, length-drop, sym, take}
+use Rattle.std.proofs.Common.{◌≡◌, ◌∙◌, ◌≤◌, ◌<◌, ◌+◌, ◌*◌, ◌/◌, ◌++◌, ◌↔◌, ℕ, zero, suc, List, [], ap, ap₂, arith, drop, length, length-append, length-drop, refl, sym, take}
 use Rattle.std.specs.List.{repeat}
 use Rattle.std.proofs.Math.Seq.{take-append-add}
-use Rattle.std.proofs.lemmas.List.{append_cancel_left, take-append-drop, take-append-le}
+use Rattle.std.proofs.lemmas.List.{append_cancel_left, length-take-le, take-append-drop, take-append-le}
 use Rattle.serve_load.specs.Objects.{repeated}
 
 -- bytes are a word, over and over, cut where they end
 abbrev pub IsRepeated : List ℕ → List ℕ → Type 0
 IsRepeated word bytes = bytes ≡ repeated word (length bytes)
+
+length-repeat : (word : List ℕ) (k : ℕ) → length word ≡ 8 → length (repeat k word) ≡ k * 8
+length-repeat word zero len = refl
+length-repeat word (suc k) len = let rest = length-repeat word k len in let both = length-append word (repeat k word) in omega (arith, len, rest, both)
+
+-- it is as long as it is asked for
+pub length-repeated : (word : List ℕ) (n : ℕ) → length word ≡ 8 → length (repeated word n) ≡ n
+length-repeated word n len =
+    let enough = length-repeat word (n / 8 + 1) len in
+    length-take-le n (repeat (n / 8 + 1) word) (omega (arith, enough))
 
 times : (m n : ℕ) → n ≡ 8 + m → n / 8 + 1 ≡ suc (m / 8 + 1)
 times m n e = omega (arith, e)

@@ -6,7 +6,7 @@ use Rattle.serve_load.specs.declared.report.Report.{Report}
 use Rattle.serve_load.specs.declared.serve_end.ServeEnd.{ServeEnd}
 use Rattle.serve_load.specs.declared.serve_end.ServeEnd.TheVariants as ends
 use Rattle.serve_load.specs.Ends.{end_of_wrong_hits, status_of}
-use Rattle.serve_load.specs.Forms.{RefusesSize}
+use Rattle.serve_load.specs.Wanting.{RefusesSize}
 use Rattle.serve_load.specs.Reports.{IsMade, report_of}
 
 -- the text of a report was written, whose operations fit the load, and the load ended as its wrong hits say

@@ -1,6 +1,6 @@
 -- What a caller knows of its keys: a word for each, 0 where the key has no value, and else 1 more than the number of the operation
 -- that put it.
-use Rattle.std.specs.Prelude.{◌≡◌, ◌≢◌, ℕ, ◌+◌, ◌-◌, ◌<◌, ◌≤◌, ◌⊎◌, List, length, Result, Ok, Err, slice_index, slice_set}
+use Rattle.std.specs.Prelude.{◌≡◌, ◌≢◌, ℕ, ◌+◌, ◌-◌, ◌<◌, ◌⊎◌, List, Result, Ok, Err, slice_set}
 use Rattle.record_pages.specs.declared.put_fault.PutFault.{PutFault}
 use Rattle.service_lane.specs.declared.filled.Filled.{Filled}
 use Rattle.service_lane.specs.declared.filled.Filled.TheVariants.{Stored, Stale}

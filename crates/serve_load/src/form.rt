@@ -1,10 +1,9 @@
 // What a load's cache is made of.
-ghost use Rattle.std.specs.Prelude.{◌≡◌, ◌≤◌, ◌*◌, ◌+◌, IfErr, IfOk, Some};
-ghost use Rattle.cache_sizes.specs.Faults.{first_size_fault};
-ghost use Rattle.serve_load.specs.Wanting.{wanted_by};
+ghost use Rattle.std.specs.Prelude.{◌≡◌, ◌≤◌, ◌*◌, ◌+◌, IfErr, IfOk};
+ghost use Rattle.serve_load.specs.Wanting.{RefusesSize};
 
-use crate::objects::KEY_BYTES;
-use cache_sizes::{Shape, SizeFault, Wanted};
+use crate::sized::sized_form;
+use cache_sizes::SizeFault;
 use load::{ServedLoad, pages_of};
 use record_pages::Layout;
 
@@ -39,7 +38,7 @@ impl Form {
                 shards: load.shards,
                 lease_slots,
             }),
-            Some(size) => match sized(load, size) {
+            Some(size) => match sized_form(load, size) {
                 Ok(sized) => Ok(Form {
                     layout: sized.layout,
                     shards: sized.shards,
@@ -63,47 +62,5 @@ impl Form {
             + self.now.layout.segments * self.now.layout.segment_pages }
     {
         pages_of(&self.layout)
-    }
-}
-
-ghost use Rattle.serve_load.specs.Forms.{IsSizedFor, RefusesSize};
-
-/// The numbers of a cache of a size.
-#[derive(Clone, Copy)]
-struct SizedForm {
-    layout: Layout,
-    shards: u32,
-    ghost shards_range: { (1 ≤ shards) × (shards ≤ 1024) },
-}
-
-/// The numbers of a cache for a load of so many bytes of flash.
-fn sized(load: &ServedLoad, size: u64) -> Result<SizedForm, SizeFault>
-    ensures sized { IfOk result (λ sized. IsSizedFor (wanted_by load.now size)
-        load.now.layout sized.layout sized.shards) }
-    ensures refused { IfErr result (λ fault.
-        first_size_fault (wanted_by load.now size) ≡ Some fault) }
-{
-    let shape = Shape::of(&wanted(load, size))?;
-    match shape
-        .config(load.layout.threshold, load.layout.admit)
-        .check()
-    {
-        Ok(layout) => Ok(SizedForm {
-            layout,
-            shards: shape.shards,
-        }),
-        Err(_) => unreachable!(),
-    }
-}
-
-/// What a load wants of a cache of a size.
-fn wanted(load: &ServedLoad, size: u64) -> Wanted
-    ensures { result ≡ wanted_by load.now size }
-{
-    Wanted {
-        flash_bytes: size,
-        memory_bytes: load.memory_bytes.unwrap_or(size / 8),
-        object_bytes: load.value_bytes + KEY_BYTES,
-        threads: load.callers,
     }
 }

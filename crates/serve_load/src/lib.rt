@@ -13,6 +13,7 @@ mod report;
 mod right;
 mod serve_end;
 mod serving;
+mod sized;
 mod totals;
 mod words;
 mod worker;

@@ -1,6 +1,6 @@
 // What is told of a load.
 ghost use Rattle.std.specs.Prelude.{◌≡◌, ◌≤◌, IfOk, string_bytes};
-ghost use Rattle.serve_load.specs.Lines.{fills_lines, first_lines, gets_lines, last_lines, pushed_lines, puts_lines, rate_of, steps_lines, upkeep_lines};
+ghost use Rattle.serve_load.specs.Lines.{fills_lines, hits_lines, last_lines, misses_lines, moves_lines, pages_lines, pushed_lines, puts_lines, rate_line, rate_of, time_lines, upkeep_lines};
 
 use service_lane::{
     Counts, GetCounts, LeaseCounts, PushedCounts, PutCounts, StepCounts, UpkeepCounts,
@@ -31,22 +31,16 @@ pub struct Report {
 const LAST: &str = "no history was recorded, so nothing was judged beyond each caller's check of the hits of its own keys\n";
 
 impl Report {
-    ghost use Rattle.serve_load.specs.Reports.{report_of};
+    ghost use Rattle.serve_load.specs.Reports.{first_part, last_part, middle_part, report_of};
 
     /// Its text, a line for each number, and a last one that says what was judged.
     pub fn text(&self, alloc: Global) -> Result<String, AllocError>
         ensures { IfOk result (λ text. string_bytes text ≡ report_of self.now) }
     {
-        let mut text = self.first_lines(alloc)?;
-        text.push_str(gets_lines(alloc, &self.counts.gets)?.as_str())?;
-        text.push_str(puts_lines(alloc, &self.counts.puts)?.as_str())?;
-        text.push_str(fills_lines(alloc, &self.counts.fills, &self.counts.leases)?.as_str())?;
-        text.push_str(pushed_lines(alloc, &self.counts.pushed)?.as_str())?;
-        text.push_str(steps_lines(alloc, &self.counts.steps)?.as_str())?;
-        text.push_str(upkeep_lines(alloc, &self.counts.upkeep)?.as_str())?;
-        text.push_str(self.last_lines(alloc)?.as_str())?;
-        text.push_str(LAST)?;
-        Ok(text)
+        let first = self.first_part(alloc)?;
+        let middle = self.middle_part(alloc)?;
+        let last = self.last_part(alloc)?;
+        format!(in alloc; "{first}{middle}{last}{LAST}")
     }
 
     /// Operations a second: of a load that took no millisecond, as of one that took one.
@@ -56,21 +50,39 @@ impl Report {
         self.operations * 1000 / self.milliseconds.max(1)
     }
 
-    /// How many operations, and in what time.
-    fn first_lines(&self, alloc: Global) -> Result<String, AllocError>
-        ensures { IfOk result (λ text. string_bytes text
-            ≡ first_lines self.now.operations self.now.milliseconds) }
+    /// How many operations, in what time, and how gets were answered.
+    fn first_part(&self, alloc: Global) -> Result<String, AllocError>
+        ensures { IfOk result (λ text. string_bytes text ≡ first_part self.now) }
     {
-        let seconds = self.milliseconds / 1000;
-        let rest = self.milliseconds % 1000;
-        let rate = self.operations_a_second();
-        format!(in alloc;
-            "operations {}\nseconds {seconds}.{rest:03}\noperations-a-second {rate}\n",
-            self.operations
-        )
+        let time = time_lines(alloc, self.operations, self.milliseconds)?;
+        let rate = rate_line(alloc, self.operations_a_second())?;
+        let hits = hits_lines(alloc, &self.counts.gets)?;
+        let misses = misses_lines(alloc, &self.counts.gets)?;
+        format!(in alloc; "{time}{rate}{hits}{misses}")
     }
 
-    /// What is left at the end, and what the callers found.
+    /// What was stored, and what was pushed out of memory for it.
+    fn middle_part(&self, alloc: Global) -> Result<String, AllocError>
+        ensures { IfOk result (λ text. string_bytes text ≡ middle_part self.now) }
+    {
+        let puts = puts_lines(alloc, &self.counts.puts)?;
+        let fills = fills_lines(alloc, &self.counts.fills, &self.counts.leases)?;
+        let pushed = pushed_lines(alloc, &self.counts.pushed)?;
+        format!(in alloc; "{puts}{fills}{pushed}")
+    }
+
+    /// What upkeep did, what is left, and what the callers found.
+    fn last_part(&self, alloc: Global) -> Result<String, AllocError>
+        ensures { IfOk result (λ text. string_bytes text ≡ last_part self.now) }
+    {
+        let pages = pages_lines(alloc, &self.counts.steps)?;
+        let moves = moves_lines(alloc, &self.counts.steps)?;
+        let upkeep = upkeep_lines(alloc, &self.counts.upkeep)?;
+        let last = self.last_lines(alloc)?;
+        format!(in alloc; "{pages}{moves}{upkeep}{last}")
+    }
+
+    /// Removals, what is left at the end, and what the callers found.
     fn last_lines(&self, alloc: Global) -> Result<String, AllocError>
         ensures { IfOk result (λ text. string_bytes text ≡ last_lines self.now.counts.removals
             self.now.memory_objects self.now.log_records self.now.refused self.now.wrong_hits) }
@@ -80,6 +92,26 @@ impl Report {
             self.counts.removals, self.memory_objects, self.log_records, self.refused, self.wrong_hits
         )
     }
+}
+
+/// How many operations, and in what time.
+fn time_lines(alloc: Global, operations: u64, milliseconds: u64) -> Result<String, AllocError>
+    ensures { IfOk result (λ text. string_bytes text ≡ time_lines operations milliseconds) }
+{
+    let seconds = milliseconds / 1000;
+    let tenths = milliseconds % 1000 / 100;
+    let hundredths = milliseconds % 1000 / 10 % 10;
+    let thousandths = milliseconds % 1000 % 10;
+    format!(in alloc;
+        "operations {operations}\nseconds {seconds}.{tenths}{hundredths}{thousandths}\n"
+    )
+}
+
+/// How many a second.
+fn rate_line(alloc: Global, rate: u64) -> Result<String, AllocError>
+    ensures { IfOk result (λ text. string_bytes text ≡ rate_line rate) }
+{
+    format!(in alloc; "operations-a-second {rate}\n")
 }
 
 /// How puts were answered.
@@ -104,13 +136,23 @@ fn fills_lines(alloc: Global, fills: &PutCounts, leases: &LeaseCounts) -> Result
     )
 }
 
-/// How gets were answered.
-fn gets_lines(alloc: Global, gets: &GetCounts) -> Result<String, AllocError>
-    ensures { IfOk result (λ text. string_bytes text ≡ gets_lines gets.now) }
+/// How gets hit.
+fn hits_lines(alloc: Global, gets: &GetCounts) -> Result<String, AllocError>
+    ensures { IfOk result (λ text. string_bytes text ≡ hits_lines gets.now) }
 {
     format!(in alloc;
-        "hits-memory {}\nhits-log {}\nhits-set {}\nmisses-absent {}\nmisses-expired {}\nmisses-fault {}\nmisses-damaged {}\n",
-        gets.memory_hits, gets.log_hits, gets.set_hits, gets.absent, gets.expired, gets.faults, gets.damaged
+        "hits-memory {}\nhits-log {}\nhits-set {}\n",
+        gets.memory_hits, gets.log_hits, gets.set_hits
+    )
+}
+
+/// How gets missed.
+fn misses_lines(alloc: Global, gets: &GetCounts) -> Result<String, AllocError>
+    ensures { IfOk result (λ text. string_bytes text ≡ misses_lines gets.now) }
+{
+    format!(in alloc;
+        "misses-absent {}\nmisses-expired {}\nmisses-fault {}\nmisses-damaged {}\n",
+        gets.absent, gets.expired, gets.faults, gets.damaged
     )
 }
 
@@ -124,13 +166,23 @@ fn pushed_lines(alloc: Global, pushed: &PushedCounts) -> Result<String, AllocErr
     )
 }
 
-/// What flushes and moves did.
-fn steps_lines(alloc: Global, steps: &StepCounts) -> Result<String, AllocError>
-    ensures { IfOk result (λ text. string_bytes text ≡ steps_lines steps.now) }
+/// Which pages were written, and which not.
+fn pages_lines(alloc: Global, steps: &StepCounts) -> Result<String, AllocError>
+    ensures { IfOk result (λ text. string_bytes text ≡ pages_lines steps.now) }
 {
     format!(in alloc;
-        "pages-written {}\npages-lost {}\nsets-written {}\nsets-forgotten {}\nsegments-freed {}\nmoves-readmitted {}\nmoves-dropped {}\nmoves-refused {}\n",
-        steps.pages_written, steps.pages_lost, steps.sets_written, steps.sets_forgotten, steps.segments_freed, steps.readmitted, steps.dropped, steps.out_of_memory
+        "pages-written {}\npages-lost {}\nsets-written {}\nsets-forgotten {}\n",
+        steps.pages_written, steps.pages_lost, steps.sets_written, steps.sets_forgotten
+    )
+}
+
+/// What moves did beside that.
+fn moves_lines(alloc: Global, steps: &StepCounts) -> Result<String, AllocError>
+    ensures { IfOk result (λ text. string_bytes text ≡ moves_lines steps.now) }
+{
+    format!(in alloc;
+        "segments-freed {}\nmoves-readmitted {}\nmoves-dropped {}\nmoves-refused {}\n",
+        steps.segments_freed, steps.readmitted, steps.dropped, steps.out_of_memory
     )
 }
 

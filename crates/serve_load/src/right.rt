@@ -1,6 +1,6 @@
 // What a hit has to be.
 ghost use Rattle.std.specs.Prelude.{◌≡◌, ◌↔◌, IsTrue, length};
-ghost use Rattle.serve_load.specs.Objects.{repeated};
+ghost use Rattle.serve_load.specs.Objects.{repeated, value_of};
 ghost use Rattle.serve_load.specs.Words.{IsRight};
 
 use crate::objects::{expires_of, word};
@@ -21,9 +21,20 @@ pub(crate) fn is_right(
         return false;
     }
     let number = known - 1;
-    bytes.len() == load.value_bytes as usize
-        && repeats(&word(key, number), bytes)
-        && moment < expires_of(load, number)
+    if !is_value(load, key, number, bytes) {
+        return false;
+    }
+    moment < expires_of(load, number)
+}
+
+/// Whether bytes are the value that the operation with this number puts for a key.
+fn is_value(load: &ServedLoad, key: u32, number: u32, bytes: &[u8]) -> bool
+    ensures { IsTrue result ↔ (bytes.now ≡ value_of load.now.value_bytes key number) }
+{
+    if bytes.len() != load.value_bytes as usize {
+        return false;
+    }
+    repeats(&word(key, number), bytes)
 }
 
 /// Whether bytes are a word, over and over, cut where they end.

@@ -3,7 +3,7 @@ use Rattle.std.proofs.Common.{IsSome, None, subst}
 use Rattle.clap.specs.Words.{found_of, rows_of}
 use Rattle.load.specs.Settings.{served_settings}
 use Rattle.command_line.specs.CommandLine.{Wanted}
-use Rattle.command_line.proofs.FoundLaws.{admitted, asks_served, no_served_numbers, no_served_sizes}
+use Rattle.command_line.proofs.FoundLaws.{admitted, no_served_sizes}
 use Rattle.command_line.proofs.asked_load.serve_line.Goals as goal
 
 pub served_with-requires : goal.served_with-requires
