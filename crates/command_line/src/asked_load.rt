@@ -137,12 +137,7 @@ pub fn serve_line<'a>(alloc: Global, found: &ArgMatches<'a>) -> Result<Line, Lin
     match sizes_of(found) {
         Ok(sizes) => {
             let folder = folder_of(alloc, found)?;
-            Ok(Line::Serve(served_with(
-                &numbers,
-                sizes.size,
-                sizes.memory_bytes,
-                folder,
-            )))
+            Ok(Line::Serve(served_with(&numbers, sizes.size, sizes.memory_bytes, folder)))
         }
         Err(size) => Err(no_bytes(alloc, size)),
     }

@@ -23,7 +23,7 @@ last_part r =
     ++ last_lines r.counts.removals r.memory_objects r.log_records r.refused r.wrong_hits))
 
 -- the lines of all numbers, and the last one
-abbrev pub report_of : Report → List ℕ
+unfoldable pub report_of : Report → List ℕ
 report_of r = first_part r ++ (middle_part r ++ (last_part r ++ last_line))
 
 -- the callers made all operations of the load, or a hit was wrong and they made some

@@ -1,5 +1,6 @@
 // The threads of a load.
-ghost use Rattle.std.specs.Prelude.{◌≡◌, All, length};
+ghost use Rattle.std.specs.Prelude.{◌≡◌, ◌<◌, ◌*◌, All, length};
+ghost use Rattle.service_cache.specs.Serving.{lanes_of};
 
 use crate::caller::{Caller, Tally};
 use crate::worker::work;
@@ -35,7 +36,8 @@ pub(crate) fn run_crew<
     to: &Sender<Tally>,
     err: &mut E,
 )
-    requires { All (λ c. length c.words.items ≡ load.now.keys) callers.items }
+    requires keys { All (λ c. length c.words.items ≡ load.now.keys) callers.items }
+    requires lanes { 0 < lanes_of cache.now }
 {
     let running = AtomicU64::new(callers.len() as u64);
     let running = &running;
@@ -47,10 +49,15 @@ pub(crate) fn run_crew<
         thread::scope_env(),
         rt,
         |scope|
-            requires { All (λ c. length c.words.items ≡ load.now.keys) callers.items }
+            requires keys { All (λ c. length c.words.items ≡ load.now.keys) callers.items }
+            requires lanes { 0 < lanes_of cache.now }
         {
             for worker in 0..load.workers {
-                let _ = scope.spawn(move || work(rt, cache, worker, running));
+                let _ = scope.spawn(
+                    move ||
+                        requires { 0 < lanes_of cache.now }
+                    { work(rt, cache, worker, running) },
+                );
             }
             while let Some(caller) = callers.pop() {
                 let started = scope.spawn(
@@ -78,5 +85,3 @@ pub(crate) fn operations(load: &ServedLoad) -> u64
 {
     u64::from(load.callers) * u64::from(load.operations)
 }
-
-ghost use Rattle.std.specs.Prelude.{◌*◌};

@@ -1,5 +1,6 @@
 // What the threads of a load made.
-ghost use Rattle.std.specs.Prelude.{◌≡◌, ◌≤◌, ◌*◌, All, IfErr, IfOk, length};
+ghost use Rattle.std.specs.Prelude.{◌≡◌, ◌≤◌, ◌<◌, ◌*◌, All, IfErr, IfOk, length};
+ghost use Rattle.service_cache.specs.Serving.{lanes_of};
 ghost use Rattle.serve_load.specs.Ends.{IsFailure};
 ghost use Rattle.serve_load.specs.Reports.{IsMade};
 
@@ -17,6 +18,7 @@ use policy_laws::EvictionPolicy;
 use service_cache::ServiceCache;
 use service_lane::Counts;
 use std::alloc::{AllocError, Global};
+use std::io;
 use std::io::{IsTerminal, Write};
 use std::sync::Wait;
 use std::thread::Threads;
@@ -46,6 +48,7 @@ pub(crate) fn make<
     cache: &ServiceCache<D, P, PAGE>,
     err: &mut E,
 ) -> Result<Report, Ended>
+    requires { 0 < lanes_of cache.now }
     ensures made { IfOk result (λ report. IsMade load.now report) }
     ensures refused { IfErr result (λ ended. IsFailure ended.end) }
 {
@@ -89,8 +92,6 @@ fn milliseconds_since<R: Clock>(rt: &R, start: &Instant) -> io::Result<u64> {
     Ok(u64::try_from(taken.as_millis()).unwrap_or(u64::MAX))
 }
 
-use std::io;
-
 /// What the callers that ended did together. One that had no thread left nothing.
 fn sums_of<R: Wait>(rt: &R, load: &ServedLoad, from: &Receiver<Tally>) -> Sums
     ensures { result.operations ≤ load.now.callers * load.now.operations }
@@ -118,7 +119,8 @@ fn report_of<D: PageDevice<PAGE>, P: EvictionPolicy + Drop, const PAGE: usize, R
     sums: &Sums,
     milliseconds: u64,
 ) -> Report
-    requires { sums.now.operations ≤ 64000000000 }
+    requires operations { sums.now.operations ≤ 64000000000 }
+    requires lanes { 0 < lanes_of cache.now }
     ensures operations { result.operations ≡ sums.now.operations }
     ensures wrong { result.wrong_hits ≡ sums.now.wrong_hits }
 {

@@ -28,7 +28,8 @@ pub struct Report {
 }
 
 /// The last line: what was judged, and what was not.
-const LAST: &str = "no history was recorded, so nothing was judged beyond each caller's check of the hits of its own keys\n";
+const LAST: &str =
+    "no history was recorded, so nothing was judged beyond each caller's check of the hits of its own keys\n";
 
 impl Report {
     ghost use Rattle.serve_load.specs.Reports.{first_part, last_part, middle_part, report_of};
@@ -89,7 +90,11 @@ impl Report {
     {
         format!(in alloc;
             "removals {}\nmemory-objects {}\nlog-records {}\nrefused {}\nwrong-hits {}\n",
-            self.counts.removals, self.memory_objects, self.log_records, self.refused, self.wrong_hits
+            self.counts.removals,
+            self.memory_objects,
+            self.log_records,
+            self.refused,
+            self.wrong_hits
         )
     }
 }

@@ -8,13 +8,7 @@ use load::ServedLoad;
 
 /// Whether a caller that knows this word of a key may hit these bytes at this moment: the word is that of an operation, the bytes
 /// are its value, and they are not expired.
-pub(crate) fn is_right(
-    load: &ServedLoad,
-    key: u32,
-    known: u32,
-    moment: u64,
-    bytes: &[u8],
-) -> bool
+pub(crate) fn is_right(load: &ServedLoad, key: u32, known: u32, moment: u64, bytes: &[u8]) -> bool
     ensures { IsTrue result ↔ IsRight load.now key known moment bytes.now }
 {
     if known == 0 {

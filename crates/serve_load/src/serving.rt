@@ -1,5 +1,6 @@
 // A load, from what it is asked for to its status.
 ghost use Rattle.std.specs.Prelude.{◌≡◌, ◌≢◌, ◌↔◌, ◌⊎◌, ◌<◌, ◌+◌, IfErr, IfOk};
+ghost use Rattle.service_cache.specs.Serving.{lanes_of};
 ghost use Rattle.serve_load.specs.Ends.{IsFailure, status_of};
 ghost use Rattle.serve_load.specs.Serving.{IsServed, IsServedOver, IsSaid, IsRefusedFirst, WroteReport};
 
@@ -62,14 +63,7 @@ pub fn serve_over<
     R: Threads + Wait + Sync + AllocGlobal + Clock + RandomSource,
     O: Write,
     E: Write + IsTerminal,
->(
-    rt: &R,
-    load: &ServedLoad,
-    form: &Form,
-    devices: Vec<D>,
-    out: &mut O,
-    err: &mut E,
-) -> u8
+>(rt: &R, load: &ServedLoad, form: &Form, devices: Vec<D>, out: &mut O, err: &mut E) -> u8
     ensures { IsServedOver load.now (O.contents out.old) (O.contents out.new) result }
 {
     let ended = over(rt, load, form, devices, out, err);
@@ -130,14 +124,7 @@ fn over<
     R: Threads + Wait + Sync + AllocGlobal + Clock + RandomSource,
     O: Write,
     E: Write + IsTerminal,
->(
-    rt: &R,
-    load: &ServedLoad,
-    form: &Form,
-    devices: Vec<D>,
-    out: &mut O,
-    err: &mut E,
-) -> Ended
+>(rt: &R, load: &ServedLoad, form: &Form, devices: Vec<D>, out: &mut O, err: &mut E) -> Ended
     ensures late { IsLate result.end }
     ensures wrote { WroteReport load.now (O.contents out.old) (O.contents out.new) result.end }
 {
@@ -162,7 +149,9 @@ fn open<D: PageDevice<PAGE>>(
     form: &Form,
     devices: Vec<D>,
     seed: RandomSeed,
-) -> Result<Cache<D>, AllocError> {
+) -> Result<Cache<D>, AllocError>
+    ensures { IfOk result (λ cache. 0 < lanes_of cache) }
+{
     match ServiceCache::open(
         alloc,
         &config_of(&form.layout),

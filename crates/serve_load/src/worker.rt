@@ -23,7 +23,9 @@ pub(crate) fn work<D: PageDevice<PAGE>, P: EvictionPolicy + Drop, const PAGE: us
     cache: &ServiceCache<D, P, PAGE>,
     worker: u32,
     running: &AtomicU64,
-) {
+)
+    requires { 0 < lanes_of cache.now }
+{
     let lanes = cache.lanes();
     let mut lane = worker % lanes;
     let mut idle = 0;
@@ -32,11 +34,7 @@ pub(crate) fn work<D: PageDevice<PAGE>, P: EvictionPolicy + Drop, const PAGE: us
         if callers == 0 {
             return;
         }
-        idle = if tend(rt, cache, lane) {
-            0
-        } else {
-            idle + 1
-        };
+        idle = if tend(rt, cache, lane) { 0 } else { idle + 1 };
         if idle == lanes {
             running.park_timeout(
                 rt,

@@ -66,7 +66,8 @@ pub fn load_of<'a>(alloc: Global, words: &'a [&'a str]) -> Option<ServedLoad> {
 }
 
 /// The last lines of a load that met no wrong hit.
-const RIGHT: &[u8] = b"\nrefused 0\nwrong-hits 0\nno history was recorded, so nothing was judged beyond each caller's check of the hits of its own keys\n";
+const RIGHT: &[u8] =
+    b"\nrefused 0\nwrong-hits 0\nno history was recorded, so nothing was judged beyond each caller's check of the hits of its own keys\n";
 
 /// Whether a load made so many operations and met no wrong hit: its report says so, and nothing went to the other output.
 fn is_right(ran: &Ran, operations: &[u8]) -> bool {
@@ -204,6 +205,8 @@ fn a_page_that_goes_back_is_found_as_a_wrong_hit(rt: HostRuntime) -> Result<(), 
     let devices = stale_devices(rt.alloc(), &form)?;
     let ran = run_over(&rt, &load, &form, devices);
     assert!(rt; ran.status == 1 && ran.err.as_slice() == b"a hit was wrong\n".as_slice());
-    assert!(rt; ran.out.as_slice().starts_with(b"operations ") && !ran.out.as_slice().ends_with(RIGHT));
+    assert!(rt;
+        ran.out.as_slice().starts_with(b"operations ") && !ran.out.as_slice().ends_with(RIGHT)
+    );
     Ok(())
 }

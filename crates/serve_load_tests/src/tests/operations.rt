@@ -27,7 +27,10 @@ fn operations_are_those_of_the_words(rt: HostRuntime) -> Result<(), Fail> {
     let put = load_with(rt.alloc(), "82", "1").ok_or("a load")?;
     assert_eq!(rt; first_of(&put), (ServedOperation::Put(97), 0xba1d_3330));
     let removal = load_with(rt.alloc(), "83", "1").ok_or("a load")?;
-    assert_eq!(rt; first_of(&removal), (ServedOperation::Remove(97), 0xba1d_3330));
+    assert_eq!(rt;
+        first_of(&removal),
+        (ServedOperation::Remove(97), 0xba1d_3330)
+    );
     let get = load_with(rt.alloc(), "84", "0").ok_or("a load")?;
     assert_eq!(rt; first_of(&get), (ServedOperation::Get(97), 0xba1d_3330));
     Ok(())

@@ -116,7 +116,13 @@ fn sizes_are_those_of_their_options(rt: HostRuntime) -> Result<(), Fail> {
     assert!(rt;
         gives_sizes(
             alloc,
-            &["k", "serve-load", "--size", "1125899906842624", "--memory-bytes=0"],
+            &[
+                "k",
+                "serve-load",
+                "--size",
+                "1125899906842624",
+                "--memory-bytes=0"
+            ],
             Some(1125899906842624),
             Some(0)
         )

@@ -11,7 +11,7 @@ pub returns-then-bytes-load : goal.returns-then-bytes-load
 returns-then-bytes-load c = (
   λ h. absurd cc,
   λ e.
-    let same = ap length e in
-    let long = length-repeated (word_of c.args.key c.args.number) c.args.load.now.value_bytes (eight c.args.key c.args.number) in
-    absurd (omega (arith, same, long)),
+      let same = ap length e in
+      let long = length-repeated (word_of c.args.key c.args.number) c.args.load.now.value_bytes (eight c.args.key c.args.number) in
+      absurd (omega (arith, same, long)),
 )
