@@ -1,10 +1,11 @@
-//! The program: scripts of a cache answered and judged, traces judged, and loads run.
+//! The program: scripts of a cache answered and judged, traces judged, and loads run, recorded and judged or of a cache that serves.
 #![tactic(auto)]
 
 use command_line::{
     Ended, Ending, Line, LineFault, RandomSeed, answer_script, asked, check_file, tell_help,
 };
 use load_run::run_load;
+use serve_load::serve_load;
 use std::io;
 use std::io::BufWriter;
 use std::process::ExitCode;
@@ -20,6 +21,9 @@ fn main(rt: HostRuntime) -> ExitCode {
         Ok(Line::Check(file)) => check_file(&rt, file, &mut output),
         Ok(Line::Run(load)) => {
             return ExitCode::from(run_load(&rt, &load, &mut output, &mut rt.stderr()));
+        }
+        Ok(Line::Serve(load)) => {
+            return ExitCode::from(serve_load(&rt, &load, &mut output, &mut rt.stderr()));
         }
         Err(LineFault::Usage(text)) => {
             let _ = eprint!(rt; "{text}");

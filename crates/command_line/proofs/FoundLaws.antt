@@ -1,19 +1,22 @@
 -- What was found for an argument, by the rows of what was found.
-use Rattle.std.proofs.Common.{◌≡◌, ◌∙◌, ◌<◌, ◌&&◌, ℕ, Bool, true, false, List, [], ◌∷◌, Option, Some, None, ap, arith, codes, inl, inr, zero, suc, if◌then◌else◌, is_some, length, map, option_and_then, option_map, refl, subst, sym, unwrap_or}
+use Rattle.std.proofs.Common.{◌≡◌, ◌∙◌, ◌<◌, ◌&&◌, ℕ, Bool, true, false, List, [], ◌∷◌, Option, Some, None, ap, ap₂, arith, codes, inl, inr, zero, suc, if◌then◌else◌, is_some, length, map, option_and_then, option_map, refl, subst, sym, unwrap_or}
 use Rattle.std.proofs.lemmas.Bool.{cases_Bool}
 use Rattle.std.proofs.Math.ListN.{get_or}
 use Rattle.std.specs.List.{list_all}
 use Rattle.load.specs.declared.load.Load.{Load}
-use Rattle.load.specs.Asked.{HasNumbers, number_of}
-use Rattle.load.proofs.Ranges.{each_number}
-use Rattle.command_line.specs.declared.line.Line.TheVariants.{Run}
+use Rattle.load.specs.Asked.{numbers_of, served_numbers_of}
+use Rattle.load.specs.Sizes.{name_of}
+use Rattle.load.specs.declared.served_load.ServedLoad.{ServedLoad}
+use Rattle.load.specs.declared.size_setting.SizeSetting.{SizeSetting}
+use Rattle.load.specs.declared.size_setting.SizeSetting.TheVariants.{Size, MemoryBytes}
+use Rattle.command_line.specs.declared.line.Line.TheVariants.{Run, Serve}
 use Rattle.clap.specs.Words.{Row, Text, first_of, first_value, rows_of}
 use Rattle.clap.specs.declared.parser.matches.Found.{Found}
 use Rattle.clap.proofs.WalkLemmas.{first_value-rows}
 use Rattle.load.specs.declared.setting.Setting.{Setting}
-use Rattle.load.specs.declared.setting.Setting.TheVariants.{Lanes, Sets, Memory, Segments, SegmentPages, Entries, Threshold, Admit, Callers, Operations, Keys, ValueBytes, Gets, Removes, Workers, Seed, Ttl}
-use Rattle.load.specs.Settings.{AreAdmitted, is_admitted, is_decimal, number_at, number_in, row_of, settings, value_of_text}
-use Rattle.command_line.specs.CommandLine.{Loaded, has_numbers, load_wanted, number_found, wanted_of}
+use Rattle.load.specs.declared.setting.Setting.TheVariants.{Lanes}
+use Rattle.load.specs.Settings.{AreAdmitted, bytes_in, is_admitted, is_decimal, number_in, row_of, served_settings, settings, value_of_text}
+use Rattle.command_line.specs.CommandLine.{Loaded, Served, Wanted, bytes_found, bytes_given, has_numbers, has_sizes, load_wanted, number_found, numbers_found, served_wanted, wanted_of}
 
 -- a text that was found for a name is that of the name's rows
 pub found_text : (found : Found) (id name : Text) (text : Option Text) → id ≡ name → text ≡ first_value found id → text ≡ first_of name (rows_of found)
@@ -23,31 +26,12 @@ found_text found id name text same is = is ∙ first_value-rows found id ∙ ap 
 pub found_number : (found : Found) (setting : Setting) (id : Text) (text : Option Text) (number : Option ℕ) → id ≡ (row_of setting).name → text ≡ first_value found id → number ≡ option_and_then (number_in setting) text → number ≡ number_found (rows_of found) setting
 found_number found setting id text number same is by = by ∙ ap (option_and_then (number_in setting)) (found_text found id (row_of setting).name text same is)
 
-at_map : (numbers : List ℕ) (i : ℕ) → get_or (map Some numbers) i (Some 0) ≡ Some (get_or numbers i 0)
-at_map [] zero = refl
-at_map [] (suc i) = refl
-at_map (n ∷ numbers) zero = refl
-at_map (n ∷ numbers) (suc i) = at_map numbers i
-
--- the number of each setting, of a list with one for each
-each_found : (f : Setting → Option ℕ) (numbers : List ℕ) → map f settings ≡ map Some numbers → (setting : Setting) → f setting ≡ Some (number_at numbers setting)
-each_found f numbers e Lanes = ap (λ xs. get_or xs 0 (Some 0)) e ∙ at_map numbers 0
-each_found f numbers e Sets = ap (λ xs. get_or xs 1 (Some 0)) e ∙ at_map numbers 1
-each_found f numbers e Memory = ap (λ xs. get_or xs 2 (Some 0)) e ∙ at_map numbers 2
-each_found f numbers e Segments = ap (λ xs. get_or xs 3 (Some 0)) e ∙ at_map numbers 3
-each_found f numbers e SegmentPages = ap (λ xs. get_or xs 4 (Some 0)) e ∙ at_map numbers 4
-each_found f numbers e Entries = ap (λ xs. get_or xs 5 (Some 0)) e ∙ at_map numbers 5
-each_found f numbers e Threshold = ap (λ xs. get_or xs 6 (Some 0)) e ∙ at_map numbers 6
-each_found f numbers e Admit = ap (λ xs. get_or xs 7 (Some 0)) e ∙ at_map numbers 7
-each_found f numbers e Callers = ap (λ xs. get_or xs 8 (Some 0)) e ∙ at_map numbers 8
-each_found f numbers e Operations = ap (λ xs. get_or xs 9 (Some 0)) e ∙ at_map numbers 9
-each_found f numbers e Keys = ap (λ xs. get_or xs 10 (Some 0)) e ∙ at_map numbers 10
-each_found f numbers e ValueBytes = ap (λ xs. get_or xs 11 (Some 0)) e ∙ at_map numbers 11
-each_found f numbers e Gets = ap (λ xs. get_or xs 12 (Some 0)) e ∙ at_map numbers 12
-each_found f numbers e Removes = ap (λ xs. get_or xs 13 (Some 0)) e ∙ at_map numbers 13
-each_found f numbers e Workers = ap (λ xs. get_or xs 14 (Some 0)) e ∙ at_map numbers 14
-each_found f numbers e Seed = ap (λ xs. get_or xs 15 (Some 0)) e ∙ at_map numbers 15
-each_found f numbers e Ttl = ap (λ xs. get_or xs 16 (Some 0)) e ∙ at_map numbers 16
+-- what was found for the setting at a place is the number there
+found_at : (f : Setting → Option ℕ) (settings : List Setting) (numbers : List ℕ) → map f settings ≡ map Some numbers → (place : ℕ) → place < length settings → f (get_or settings place Lanes) ≡ Some (get_or numbers place 0)
+found_at f [] numbers e place less = absurd (omega arith)
+found_at f (s ∷ settings) [] e place less = absurd cc
+found_at f (s ∷ settings) (n ∷ numbers) e zero less = cc
+found_at f (s ∷ settings) (n ∷ numbers) e (suc place) less = let rest : map f settings ≡ map Some numbers = cc in found_at f settings numbers rest place (omega arith)
 
 both : (a b : Bool) → (a && b) ≡ true → (a ≡ true) × (b ≡ true)
 both true b h = (refl, h)
@@ -64,23 +48,53 @@ in_range setting None n e = absurd cc
 in_range setting (Some text) n e = by_test setting text n (is_decimal text && is_admitted setting (value_of_text text)) refl e
 
 -- the numbers that were found are in the ranges of their settings
-pub admitted : (rows : List Row) (numbers : List ℕ) → map (number_found rows) settings ≡ map Some numbers → AreAdmitted numbers
-admitted rows numbers e = λ setting. in_range setting (first_of (row_of setting).name rows) (number_at numbers setting) (each_found (number_found rows) numbers e setting)
+pub admitted : (settings : List Setting) (rows : List Row) (numbers : List ℕ) → map (number_found rows) settings ≡ map Some numbers → AreAdmitted settings numbers
+admitted settings rows numbers e = λ place less. in_range (get_or settings place Lanes) (first_of (row_of (get_or settings place Lanes)).name rows) (get_or numbers place 0) (found_at (number_found rows) settings numbers e place less)
 
-all_some : (numbers : List ℕ) → list_all is_some (map Some numbers) ≡ true
-all_some [] = refl
-all_some (n ∷ numbers) = all_some numbers
+or_zero : (f : Setting → Option ℕ) (settings : List Setting) (numbers : List ℕ) → map f settings ≡ map Some numbers → map (λ setting. unwrap_or (f setting) 0) settings ≡ numbers
+or_zero f [] [] e = refl
+or_zero f [] (n ∷ numbers) e = absurd cc
+or_zero f (s ∷ settings) [] e = absurd cc
+or_zero f (s ∷ settings) (n ∷ numbers) e =
+    let one : f s ≡ Some n = cc in
+    let rest : map f settings ≡ map Some numbers = cc in
+    ap₂ (λ m ms. m ∷ ms) (ap (λ o. unwrap_or o 0) one) (or_zero f settings numbers rest)
+
+all_found : (f : Setting → Option ℕ) (settings : List Setting) (numbers : List ℕ) → map f settings ≡ map Some numbers → list_all (λ setting. is_some (f setting)) settings ≡ true
+all_found f [] numbers e = refl
+all_found f (s ∷ settings) [] e = absurd cc
+all_found f (s ∷ settings) (n ∷ numbers) e =
+    let one : f s ≡ Some n = cc in
+    let rest : map f settings ≡ map Some numbers = cc in
+    rw one (all_found f settings numbers rest)
 
 -- the load with the numbers that were found is the one that the rows ask for
-pub asks : (rows : List Row) (load : Load) (numbers : List ℕ) (folder : Option Text) (trace : Text) → map (number_found rows) settings ≡ map Some numbers → HasNumbers load numbers → load.device ≡ folder → folder ≡ first_of (codes "device") rows → load.trace ≡ trace → Some trace ≡ first_of (codes "trace") rows → load_wanted rows ≡ Some (wanted_of (Run load))
+pub asks : (rows : List Row) (load : Load) (numbers : List ℕ) (folder : Option Text) (trace : Text) → map (number_found rows) settings ≡ map Some numbers → numbers_of load ≡ numbers → load.device ≡ folder → folder ≡ first_of (codes "device") rows → load.trace ≡ trace → Some trace ≡ first_of (codes "trace") rows → load_wanted rows ≡ Some (wanted_of (Run load))
 asks rows load numbers folder trace e has is_device found_device is_trace found =
-    let given : has_numbers rows ≡ true = ap (list_all is_some) e ∙ all_some numbers in
-    let each : (setting : Setting) → unwrap_or (number_found rows setting) 0 ≡ number_of load setting =
-    λ setting. ap (λ o. unwrap_or o 0) (each_found (number_found rows) numbers e setting) ∙ sym (each_number load numbers has setting) in
+    let given : has_numbers settings rows ≡ true = all_found (number_found rows) settings numbers e in
+    let all : numbers_found settings rows ≡ numbers_of load = or_zero (number_found rows) settings numbers e ∙ sym has in
     let device : first_of (codes "device") rows ≡ load.device = sym (is_device ∙ found_device) in
-    let loaded : Loaded (λ setting. unwrap_or (number_found rows setting) 0) (first_of (codes "device") rows) trace ≡ wanted_of (Run load) =
-    (λ i. Loaded (λ setting. each setting i) (device i) (sym is_trace i)) in
-    rw given (ap (option_map (Loaded (λ setting. unwrap_or (number_found rows setting) 0) (first_of (codes "device") rows))) (sym found) ∙ ap Some loaded)
+    let loaded : Loaded (numbers_found settings rows) (first_of (codes "device") rows) trace ≡ wanted_of (Run load) =
+    (λ i. Loaded (all i) (device i) (sym is_trace i)) in
+    rw given (ap (option_map (Loaded (numbers_found settings rows) (first_of (codes "device") rows))) (sym found) ∙ ap Some loaded)
+
+served_if : (a b : Bool) → a ≡ true → b ≡ true → (w : Wanted) → (if a && b then Some w else None) ≡ Some w
+served_if true true is_a is_b w = refl
+served_if true false is_a is_b w = absurd cc
+served_if false b is_a is_b w = absurd cc
+
+-- and so is the load of a cache that serves
+pub asks_served : (rows : List Row) (load : ServedLoad) (numbers : List ℕ) (size memory : Option ℕ) (folder : Option Text) → map (number_found rows) served_settings ≡ map Some numbers → bytes_found rows Size ≡ Some size → bytes_found rows MemoryBytes ≡ Some memory → served_numbers_of load ≡ numbers → load.size ≡ size → load.memory_bytes ≡ memory → load.device ≡ folder → folder ≡ first_of (codes "device") rows → served_wanted rows ≡ Some (wanted_of (Serve load))
+asks_served rows load numbers size memory folder e found_size found_memory has is_size is_memory is_device found_device =
+    let given : has_numbers served_settings rows ≡ true = all_found (number_found rows) served_settings numbers e in
+    let sized : has_sizes rows ≡ true = rw (found_size, found_memory) refl in
+    let all : numbers_found served_settings rows ≡ served_numbers_of load = or_zero (number_found rows) served_settings numbers e ∙ sym has in
+    let of_size : unwrap_or (bytes_found rows Size) None ≡ load.size = ap (λ o. unwrap_or o None) found_size ∙ sym is_size in
+    let of_memory : unwrap_or (bytes_found rows MemoryBytes) None ≡ load.memory_bytes = ap (λ o. unwrap_or o None) found_memory ∙ sym is_memory in
+    let device : first_of (codes "device") rows ≡ load.device = sym (is_device ∙ found_device) in
+    let served : Served (numbers_found served_settings rows) (unwrap_or (bytes_found rows Size) None) (unwrap_or (bytes_found rows MemoryBytes) None) (first_of (codes "device") rows) ≡ wanted_of (Serve load) =
+    (λ i. Served (all i) (of_size i) (of_memory i) (device i)) in
+    served_if _ _ given sized _ ∙ ap Some served
 
 all_at : {X : Type 0} (p : X → Bool) (xs : List X) (i : ℕ) (d : X) → i < length xs → list_all p xs ≡ true → p (get_or xs i d) ≡ true
 all_at {X} p [] i d less h = absurd (omega arith)
@@ -88,8 +102,8 @@ all_at {X} p (x ∷ xs) zero d less h = (both (p x) (list_all p xs) h).0
 all_at {X} p (x ∷ xs) (suc i) d less h = all_at p xs i d (omega arith) (both (p x) (list_all p xs) h).1
 
 -- a setting with no number, and the numbers are not all there
-pub lacks : (rows : List Row) (place : ℕ) → place < 17 → number_found rows (get_or settings place Lanes) ≡ None → has_numbers rows ≡ false
-lacks rows place less none = elim (cases_Bool (has_numbers rows)) [
+pub lacks : (settings : List Setting) (rows : List Row) (place : ℕ) → place < length settings → number_found rows (get_or settings place Lanes) ≡ None → has_numbers settings rows ≡ false
+lacks settings rows place less none = elim (cases_Bool (has_numbers settings rows)) [
   | inl all ↦
       let some = all_at (λ setting. is_some (number_found rows setting)) settings place Lanes less all in
       let bad : false ≡ true = ap is_some (sym none) ∙ some in absurd cc
@@ -97,11 +111,40 @@ lacks rows place less none = elim (cases_Bool (has_numbers rows)) [
 ]
 
 -- no load is asked for where a number or the file of the trace is missing
-pub no_numbers : (rows : List Row) → has_numbers rows ≡ false → load_wanted rows ≡ None
+pub no_numbers : (rows : List Row) → has_numbers settings rows ≡ false → load_wanted rows ≡ None
 no_numbers rows h = rw h refl
 
 pub no_trace : (rows : List Row) → None ≡ first_of (codes "trace") rows → load_wanted rows ≡ None
-no_trace rows none = elim (cases_Bool (has_numbers rows)) [
+no_trace rows none = elim (cases_Bool (has_numbers settings rows)) [
   | inl all ↦ rw (all, ← none) refl
   | inr other ↦ rw other refl
 ]
+
+-- and none of a cache that serves where a number is missing, or that of a size that is given
+pub no_served_numbers : (rows : List Row) → has_numbers served_settings rows ≡ false → served_wanted rows ≡ None
+no_served_numbers rows h = rw h refl
+
+no_both : (b : Bool) (w : Wanted) → (if b && false then Some w else None) ≡ None
+no_both true w = refl
+no_both false w = refl
+
+pub no_served_sizes : (rows : List Row) → has_sizes rows ≡ false → served_wanted rows ≡ None
+no_served_sizes rows h = rw h (no_both (has_numbers served_settings rows) _)
+
+-- the bytes that a text gives a size are those found
+pub given_bytes : (found : Found) (size : SizeSetting) (id text : Text) (bytes : Option ℕ) → id ≡ name_of size → Some text ≡ first_value found id → bytes ≡ bytes_in text → bytes_found (rows_of found) size ≡ option_map Some bytes
+given_bytes found size id text bytes same is by = ap bytes_given (sym (found_text found id (name_of size) (Some text) same is)) ∙ ap (option_map Some) (sym by)
+
+pub no_bytes_given : (found : Found) (size : SizeSetting) (id : Text) → id ≡ name_of size → None ≡ first_value found id → bytes_found (rows_of found) size ≡ Some None
+no_bytes_given found size id same is = ap bytes_given (sym (found_text found id (name_of size) None same is))
+
+no_more : (b : Bool) → (b && false) ≡ false
+no_more true = refl
+no_more false = refl
+
+-- where one of the sizes has no number, not all have
+pub lacks_first : (rows : List Row) → bytes_found rows Size ≡ None → has_sizes rows ≡ false
+lacks_first rows none = rw none refl
+
+pub lacks_second : (rows : List Row) → bytes_found rows MemoryBytes ≡ None → has_sizes rows ≡ false
+lacks_second rows none = rw none (no_more (is_some (bytes_found rows Size)))

@@ -1,15 +1,18 @@
 -- The program's command line: what it takes, and what its words ask for.
-use Rattle.std.specs.Prelude.{◌≡◌, ◌≢◌, ◌⊎◌, ℕ, Bool, List, [], ◌∷◌, Option, Some, None, codes, fold, is_some, option_and_then, option_map, true, unwrap_or, if◌then◌else◌}
+use Rattle.std.specs.Prelude.{◌≡◌, ◌≢◌, ◌⊎◌, ◌&&◌, ℕ, Bool, List, [], ◌∷◌, Option, Some, None, codes, fold, is_some, map, option_and_then, option_map, true, unwrap_or, if◌then◌else◌}
 use Rattle.std.specs.List.{list_all}
 use Rattle.std.specs.Str.{bytes_eq}
 use Rattle.clap.specs.Words.{App, IsAmong, Kinds, Row, Rule, Text, first_of, new_app, new_rule, subcommand_of, with_rule, with_subcommand}
 use Rattle.clap.specs.declared.error.kind.ErrorKind.{ErrorKind}
 use Rattle.clap.specs.declared.error.kind.ErrorKind.TheVariants.{DisplayHelp, DisplayVersion}
-use Rattle.load.specs.Asked.{number_of}
-use Rattle.load.specs.Settings.{number_in, row_of, settings}
+use Rattle.load.specs.Asked.{numbers_of, served_numbers_of}
+use Rattle.load.specs.Settings.{bytes_in, number_in, row_of, served_settings, settings}
+use Rattle.load.specs.Sizes.{name_of}
 use Rattle.load.specs.declared.setting.Setting.{Setting}
+use Rattle.load.specs.declared.size_setting.SizeSetting.{SizeSetting}
+use Rattle.load.specs.declared.size_setting.SizeSetting.TheVariants.{Size, MemoryBytes}
 use Rattle.command_line.specs.declared.line.Line.{Line}
-use Rattle.command_line.specs.declared.line.Line.TheVariants.{Script, Check, Run}
+use Rattle.command_line.specs.declared.line.Line.TheVariants.{Script, Check, Run, Serve}
 use Rattle.command_line.specs.declared.line_fault.LineFault.{LineFault}
 use Rattle.command_line.specs.declared.line_fault.LineFault.TheVariants.{Usage, Help, OutOfMemory}
 
@@ -26,6 +29,10 @@ option_rule setting = record (new_rule (row_of setting).name) { long = Some (row
 -- the folder of the lanes' files
 abbrev pub device_rule : Rule
 device_rule = record (new_rule (codes "device")) { long = Some (codes "device"); value_names = 1 }
+
+-- the option of a size: its name, and one value
+abbrev pub size_rule : SizeSetting → Rule
+size_rule size = record (new_rule (name_of size)) { long = Some (name_of size); value_names = 1 }
 
 -- the file that the trace of a run is written to
 abbrev pub trace_rule : Rule
@@ -47,42 +54,75 @@ with_option command setting = with_rule command (option_rule setting)
 abbrev pub run_command : App
 run_command = with_rule (with_rule (fold with_option (new_app (codes "run")) settings) device_rule) trace_rule
 
+-- serve-load, with an option for each of its settings and sizes, and one for the folder of the lanes' files
+abbrev pub serve_command : App
+serve_command =
+    with_rule (with_rule (with_rule (fold with_option (new_app (codes "serve-load")) served_settings) (size_rule Size)) (size_rule MemoryBytes)) device_rule
+
 -- the program, of which one subcommand has to be named
 abbrev pub program_top : App
 program_top = record { top = record (new_app (codes "kangaroo")).top { subcommand_required = true; has_version = true }; subs = [] }
 
 -- the program with its subcommands
 abbrev pub program : App
-program = with_subcommand (with_subcommand (with_subcommand program_top script_command.top) check_command.top) run_command.top
+program = with_subcommand (with_subcommand (with_subcommand (with_subcommand program_top script_command.top) check_command.top) run_command.top) serve_command.top
 
 -- ---- what its words ask for
 
--- that a script is answered, that the trace in a file of this name is judged, or that a load with these numbers is run, over files
--- of this folder or in memory where there is none, and its trace written to a file of this name
+-- that a script is answered, that the trace in a file of this name is judged, or that a load with these numbers, one for each of its
+-- settings in their order, is run, over files of this folder or in memory where there is none, and its trace written to a file of
+-- this name; or that a load of a cache that serves is run with such numbers, for so many bytes of flash and of memory where they are
+-- given, over files of this folder or in memory where there is none
 pub data Wanted : Type 0 where
   Replies : Wanted
   Judgement : Text → Wanted
-  Loaded : (Setting → ℕ) → Option Text → Text → Wanted
+  Loaded : List ℕ → Option Text → Text → Wanted
+  Served : List ℕ → Option ℕ → Option ℕ → Option Text → Wanted
 
 -- what a line asks for
 abbrev pub wanted_of : Line → Wanted
 wanted_of Script = Replies
 wanted_of (Check file) = Judgement file
-wanted_of (Run load) = Loaded (number_of load) load.device load.trace
+wanted_of (Run load) = Loaded (numbers_of load) load.device load.trace
+wanted_of (Serve load) = Served (served_numbers_of load) load.size load.memory_bytes load.device
 
 -- the number of a setting, by what was found for its option: none where that is no number in its range
 abbrev pub number_found : List Row → Setting → Option ℕ
 number_found rows setting = option_and_then (number_in setting) (first_of (row_of setting).name rows)
 
--- each setting has a number
-abbrev pub has_numbers : List Row → Bool
-has_numbers rows = list_all (λ setting. is_some (number_found rows setting)) settings
+-- each of the settings has a number
+abbrev pub has_numbers : List Setting → List Row → Bool
+has_numbers settings rows = list_all (λ setting. is_some (number_found rows setting)) settings
+
+-- the numbers of the settings
+abbrev pub numbers_found : List Setting → List Row → List ℕ
+numbers_found settings rows = map (λ setting. unwrap_or (number_found rows setting) 0) settings
+
+-- the bytes of a size, by what was found for its option: the size is not given where nothing was found, and there is nothing where
+-- that is no number in its range
+abbrev pub bytes_given : Option Text → Option (Option ℕ)
+bytes_given None = Some None
+bytes_given (Some text) = option_map Some (bytes_in text)
+
+abbrev pub bytes_found : List Row → SizeSetting → Option (Option ℕ)
+bytes_found rows size = bytes_given (first_of (name_of size) rows)
+
+-- each size that is given has a number in its range
+abbrev pub has_sizes : List Row → Bool
+has_sizes rows = is_some (bytes_found rows Size) && is_some (bytes_found rows MemoryBytes)
 
 -- the load that was found, where each setting has a number
 abbrev pub load_wanted : List Row → Option Wanted
 load_wanted rows =
-    if has_numbers rows
-    then option_map (Loaded (λ setting. unwrap_or (number_found rows setting) 0) (first_of (codes "device") rows)) (first_of (codes "trace") rows)
+    if has_numbers settings rows
+    then option_map (Loaded (numbers_found settings rows) (first_of (codes "device") rows)) (first_of (codes "trace") rows)
+    else None
+
+-- the load of a cache that serves that was found, where each setting and each size that is given has a number
+abbrev pub served_wanted : List Row → Option Wanted
+served_wanted rows =
+    if has_numbers served_settings rows && has_sizes rows
+    then Some (Served (numbers_found served_settings rows) (unwrap_or (bytes_found rows Size) None) (unwrap_or (bytes_found rows MemoryBytes) None) (first_of (codes "device") rows))
     else None
 
 -- what a subcommand asks for, by its name and what was found for its arguments
@@ -90,7 +130,8 @@ abbrev pub wanted_by : Text × List Row → Option Wanted
 wanted_by (name, rows) =
     if bytes_eq name (codes "check") then option_map Judgement (first_of (codes "FILE") rows)
     else (if bytes_eq name (codes "run") then load_wanted rows
-    else Some Replies)
+    else (if bytes_eq name (codes "serve-load") then served_wanted rows
+    else Some Replies))
 
 -- what the program's words ask for, where they ask for something
 abbrev pub wanted_by_words : List Text → Option Wanted

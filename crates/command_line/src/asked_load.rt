@@ -1,14 +1,13 @@
 // What was found for the arguments of a subcommand.
-ghost use Rattle.std.specs.Prelude.{◌≡◌, IfOk, IfErr, OnErr, IsSome, false, Some, None, codes, option_map, map};
+ghost use Rattle.std.specs.Prelude.{◌≡◌, ◌≤◌, IfOk, IfErr, OnErr, IsSome, false, Some, None, codes, option_map, map};
 ghost use Rattle.clap.specs.Words.{first_of, found_of, rows_of};
-ghost use Rattle.load.specs.Settings.{settings};
-ghost use Rattle.command_line.specs.CommandLine.{Judgement, has_numbers, load_wanted, number_found, wanted_of, IsUsage};
+ghost use Rattle.command_line.specs.CommandLine.{Judgement, bytes_found, has_numbers, has_sizes, load_wanted, number_found, served_wanted, wanted_of, IsUsage};
 
 use crate::line::Line;
 use crate::line_fault::LineFault;
-use crate::telling::{no_number, usage};
+use crate::telling::{Loading, no_bytes, no_number, usage};
 use clap::ArgMatches;
-use load::{FileName, SETTINGS, Setting, load_with};
+use load::{FileName, SERVED_SETTINGS, SETTINGS, Setting, SizeSetting, load_with, served_with};
 use std::alloc::{AllocError, Global};
 
 /// What `check` asks for.
@@ -35,22 +34,40 @@ fn number_of<'a>(found: &ArgMatches<'a>, setting: Setting) -> Option<u32>
     }
 }
 
-/// The number of each setting, or the first setting that has none.
-fn numbers_of<'a>(found: &ArgMatches<'a>) -> Result<[u32; 17], Setting>
+/// The number of each of these settings, or the first of them that has none.
+fn numbers_of<'a, const N: usize>(
+    found: &ArgMatches<'a>,
+    settings: &[Setting; N],
+) -> Result<[u32; N], Setting>
+    requires { N ≤ 64 }
     ensures numbers { IfOk result (λ numbers.
-        map (number_found (rows_of (found_of found.now))) settings ≡ map Some numbers) }
+        map (number_found (rows_of (found_of found.now))) settings.now ≡ map Some numbers) }
     ensures none { IfErr result (λ setting.
         number_found (rows_of (found_of found.now)) setting ≡ None) }
-    ensures lacks { OnErr result (has_numbers (rows_of (found_of found.now)) ≡ false) }
+    ensures lacks { OnErr result (has_numbers settings.now (rows_of (found_of found.now)) ≡ false) }
 {
-    let mut numbers = [0; 17];
-    for place in 0..17usize {
-        match number_of(found, SETTINGS[place]) {
+    let mut numbers = [0; N];
+    for place in 0..N {
+        match number_of(found, settings[place]) {
             Some(number) => numbers[place] = number,
-            None => return Err(SETTINGS[place]),
+            None => return Err(settings[place]),
         }
     }
     Ok(numbers)
+}
+
+/// The bytes of a size, where they are given; an error where what was found for it is no number in its range.
+fn bytes_of<'a>(found: &ArgMatches<'a>, size: SizeSetting) -> Result<Option<u64>, SizeSetting>
+    ensures given { IfOk result (λ bytes. bytes_found (rows_of (found_of found.now)) size ≡ Some bytes) }
+    ensures none { OnErr result (bytes_found (rows_of (found_of found.now)) size ≡ None) }
+{
+    match found.get_str(size.name()) {
+        Some(text) => match size.bytes(text) {
+            Some(bytes) => Ok(Some(bytes)),
+            None => Err(size),
+        },
+        None => Ok(None),
+    }
 }
 
 /// The folder that was found; none where none is given.
@@ -76,12 +93,52 @@ pub fn run_line<'a>(alloc: Global, found: &ArgMatches<'a>) -> Result<Line, LineF
     let Some(trace) = found.get_str("trace") else {
         return Err(usage(alloc, "no trace\n"));
     };
-    match numbers_of(found) {
+    match numbers_of(found, &SETTINGS) {
         Ok(numbers) => {
             let folder = folder_of(alloc, found)?;
             let file = FileName::new(alloc, trace)?;
             Ok(Line::Run(load_with(&numbers, folder, file)))
         }
-        Err(setting) => Err(no_number(alloc, setting)),
+        Err(setting) => Err(no_number(alloc, Loading::Run, setting)),
+    }
+}
+
+/// The sizes that were found.
+#[derive(Clone, Copy)]
+struct Sizes {
+    size: Option<u64>,
+    memory_bytes: Option<u64>,
+}
+
+/// The sizes that were found, or the first of them that has no number in its range.
+fn sizes_of<'a>(found: &ArgMatches<'a>) -> Result<Sizes, SizeSetting>
+    ensures size { IfOk result (λ sizes.
+        bytes_found (rows_of (found_of found.now)) SizeSetting.Size ≡ Some sizes.size) }
+    ensures memory { IfOk result (λ sizes.
+        bytes_found (rows_of (found_of found.now)) SizeSetting.MemoryBytes ≡ Some sizes.memory_bytes) }
+    ensures lacks { OnErr result (has_sizes (rows_of (found_of found.now)) ≡ false) }
+{
+    let size = bytes_of(found, SizeSetting::Size)?;
+    let memory_bytes = bytes_of(found, SizeSetting::MemoryBytes)?;
+    Ok(Sizes { size, memory_bytes })
+}
+
+/// What `serve-load` asks for.
+pub fn serve_line<'a>(alloc: Global, found: &ArgMatches<'a>) -> Result<Line, LineFault>
+    ensures named { IfOk result (λ line. served_wanted (rows_of (found_of found.now)) ≡ Some (wanted_of line)) }
+    ensures refused { IfErr result (λ fault. IsUsage fault) }
+    ensures taken { IsSome (served_wanted (rows_of (found_of found.now)))
+        → IfErr result (λ fault. fault ≡ LineFault.OutOfMemory) }
+{
+    let numbers = match numbers_of(found, &SERVED_SETTINGS) {
+        Ok(numbers) => numbers,
+        Err(setting) => return Err(no_number(alloc, Loading::Serve, setting)),
+    };
+    match sizes_of(found) {
+        Ok(sizes) => {
+            let folder = folder_of(alloc, found)?;
+            Ok(Line::Serve(served_with(&numbers, sizes.size, sizes.memory_bytes, folder)))
+        }
+        Err(size) => Err(no_bytes(alloc, size)),
     }
 }

@@ -1,5 +1,5 @@
 // What the command line asks for.
-use load::{FileName, Load};
+use load::{FileName, Load, ServedLoad};
 
 /// What the words of the command line ask for.
 #[derive(Debug, Drop)]
@@ -10,4 +10,6 @@ pub enum Line {
     Check(FileName),
     /// This load is to be run.
     Run(Load),
+    /// This load of a cache that serves is to be run.
+    Serve(ServedLoad),
 }

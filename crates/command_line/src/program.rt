@@ -1,10 +1,10 @@
 // The program's command line, as `clap` reads it.
 ghost use Rattle.std.specs.Prelude.{◌≡◌, IfOk, false};
 ghost use Rattle.clap.specs.Words.{app_of, rule_of};
-ghost use Rattle.command_line.specs.CommandLine.{check_command, device_rule, file_rule, option_rule, program, run_command, script_command, trace_rule};
+ghost use Rattle.command_line.specs.CommandLine.{check_command, device_rule, file_rule, option_rule, program, run_command, script_command, serve_command, size_rule, trace_rule};
 
 use clap::{Arg, Command};
-use load::{SETTINGS, Setting};
+use load::{SERVED_SETTINGS, SETTINGS, Setting, SizeSetting};
 use std::alloc::{AllocError, Global};
 
 /// What the program calls itself, however it was started.
@@ -24,7 +24,8 @@ pub fn program<'a>(alloc: Global) -> Result<Command<'a>, AllocError>
         .subcommand_required(true)
         .subcommand(script(alloc))?;
     let kangaroo = kangaroo.subcommand(check(alloc)?)?;
-    kangaroo.subcommand(run(alloc)?)
+    let kangaroo = kangaroo.subcommand(run(alloc)?)?;
+    kangaroo.subcommand(serve(alloc)?)
 }
 
 /// The subcommand `script`.
@@ -64,6 +65,34 @@ pub fn run<'a>(alloc: Global) -> Result<Command<'a>, AllocError>
     }
     let over_files = run.arg(device(alloc))?;
     over_files.arg(trace(alloc))
+}
+
+/// The subcommand `serve-load`.
+pub fn serve<'a>(alloc: Global) -> Result<Command<'a>, AllocError>
+    ensures { IfOk result (λ c. app_of c ≡ serve_command) }
+{
+    let mut serve = Command::new(alloc, "serve-load").about(
+        "Runs threads on a cache that serves, each of which checks the hits of its own keys; nothing is recorded",
+    );
+    for setting in &SERVED_SETTINGS {
+        serve = serve.arg(option(alloc, *setting))?;
+    }
+    let sized = serve.arg(size(alloc, SizeSetting::Size))?;
+    let sized = sized.arg(size(alloc, SizeSetting::MemoryBytes))?;
+    sized.arg(device(alloc))
+}
+
+/// The option of a size.
+fn size<'a>(alloc: Global, size: SizeSetting) -> Arg<'a>
+    ensures rule { rule_of result ≡ size_rule size }
+    ensures local { result.global ≡ false }
+{
+    let name: &'a str = size.name();
+    let meaning: &'a str = size.meaning();
+    Arg::new(alloc, name)
+        .long(name)
+        .value_name("BYTES")
+        .help(meaning)
 }
 
 /// The option of a setting.

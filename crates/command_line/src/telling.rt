@@ -4,9 +4,9 @@ ghost use Rattle.clap.specs.Words.{kind_of};
 ghost use Rattle.command_line.specs.CommandLine.{IsToldOf, IsUsage};
 
 use crate::line_fault::LineFault;
-use crate::program::run;
+use crate::program::{run, serve};
 use clap::error::ErrorKind;
-use load::Setting;
+use load::{Setting, SizeSetting};
 use std::alloc::{AllocError, Global};
 
 /// What a refused command line tells.
@@ -40,11 +40,32 @@ pub fn usage(alloc: Global, text: &str) -> LineFault
     }
 }
 
+/// What a subcommand loads.
+#[derive(Clone, Copy, Debug, PartialEq, Eq)]
+pub enum Loading {
+    /// `run`.
+    Run,
+    /// `serve-load`.
+    Serve,
+}
+
 /// What is told where the number that was given for a setting is none, or out of its range.
-pub fn no_number(alloc: Global, setting: Setting) -> LineFault
+pub fn no_number(alloc: Global, loading: Loading, setting: Setting) -> LineFault
     ensures { IsUsage result }
 {
-    match no_number_error(alloc, setting) {
+    let least = u64::from(setting.least());
+    let greatest = u64::from(setting.greatest());
+    match range_error(alloc, loading, setting.name(), least, greatest) {
+        Ok(error) => usage_of(alloc, &error),
+        Err(_) => LineFault::OutOfMemory,
+    }
+}
+
+/// What is told where the number that was given for a size is none, or out of its range.
+pub fn no_bytes(alloc: Global, size: SizeSetting) -> LineFault
+    ensures { IsUsage result }
+{
+    match range_error(alloc, Loading::Serve, size.name(), 0, SizeSetting::MOST) {
         Ok(error) => usage_of(alloc, &error),
         Err(_) => LineFault::OutOfMemory,
     }
@@ -60,14 +81,18 @@ fn usage_of(alloc: Global, error: &clap::Error) -> LineFault
     }
 }
 
-/// The same, as `clap` words it.
-fn no_number_error(alloc: Global, setting: Setting) -> Result<clap::Error, AllocError> {
-    let mut command = run(alloc)?.bin_name("kangaroo run")?;
-    let message = format!(in alloc;
-        "--{} takes a number from {} to {}",
-        setting.name(),
-        setting.least(),
-        setting.greatest()
-    )?;
+/// That an option takes a number of a range, as `clap` words it.
+fn range_error(
+    alloc: Global,
+    loading: Loading,
+    name: &str,
+    least: u64,
+    greatest: u64,
+) -> Result<clap::Error, AllocError> {
+    let mut command = match loading {
+        Loading::Run => run(alloc)?.bin_name("kangaroo run")?,
+        Loading::Serve => serve(alloc)?.bin_name("kangaroo serve-load")?,
+    };
+    let message = format!(in alloc; "--{name} takes a number from {least} to {greatest}")?;
     command.error(ErrorKind::ValueValidation, message.as_str())
 }

@@ -1,15 +1,15 @@
 -- What the test of a setting's range says, and what the parse of a text says of the number that it writes.
-use Rattle.std.proofs.Common.{◌≡◌, ◌<◌, ◌≤◌, ◌^◌, ℕ, Bool, true, false, ◌&&◌, List, [], ◌∷◌, length, Some, None, nat_le, nat_lt, refl, sym, ap, ◌∙◌, arith}
+use Rattle.std.proofs.Common.{◌≡◌, ◌<◌, ◌≤◌, ◌+◌, ◌++◌, ◌^◌, ℕ, zero, suc, Bool, true, false, ◌&&◌, List, [], ◌∷◌, length, Some, None, nat_le, nat_lt, refl, sym, ap, ◌∙◌, arith, drop, drop-cons, get_or, length-append, subst, if◌then◌else◌}
+use Rattle.std.proofs.Math.ListN.{get_or-append}
 use Rattle.std.proofs.lemmas.Grind.{common_steps}
+use Rattle.std.proofs.lemmas.List.{drop_all}
 use borrow.Author.Tests.{lt-ltb, ltb-true}
 use Rattle.std.specs.Char.{digit_value}
 use Rattle.std.specs.List.{list_all}
 use Rattle.std.specs.Str.Parse.{AllDigits, IsNumeral, digits_value, without_leading_plus}
 use Rattle.load.specs.declared.setting.Setting.{Setting}
-use Rattle.load.specs.declared.setting.Setting.TheVariants.{Lanes, Sets, Memory, Segments, SegmentPages, Entries, Threshold, Admit, Callers, Operations, Keys, ValueBytes, Gets, Removes, Workers, Seed, Ttl}
-use Rattle.load.specs.declared.load.Load.{Load}
-use Rattle.load.specs.Asked.{HasNumbers, number_of}
-use Rattle.load.specs.Settings.{AreAdmitted, is_admitted, is_decimal, number_at, number_in, row_of, value_of_text}
+use Rattle.load.specs.declared.setting.Setting.TheVariants.{Lanes, Sets, Memory, Segments, SegmentPages, Entries, Threshold, Admit, Callers, Operations, Keys, ValueBytes, Gets, Removes, Workers, Seed, Ttl, Shards, Leases, ServedOperations, ServedKeys, ServedValueBytes, ServedTtl}
+use Rattle.load.specs.Settings.{AreAdmitted, is_admitted, is_decimal, most_bytes, row_of, value_of_text}
 
 both : (a b : Bool) → (a && b) ≡ true → (a ≡ true) × (b ≡ true)
 both true b h = (refl, h)
@@ -40,6 +40,12 @@ small Removes = omega arith
 small Workers = omega arith
 small Seed = omega arith
 small Ttl = omega arith
+small Shards = omega arith
+small Leases = omega arith
+small ServedOperations = omega arith
+small ServedKeys = omega arith
+small ServedValueBytes = omega arith
+small ServedTtl = omega arith
 
 digits : (ds : List ℕ) → AllDigits 10 ds → list_all (λ c. nat_lt (digit_value c) 10) ds ≡ true
 digits [] h = refl
@@ -57,56 +63,60 @@ numeral text h = rw (lt-ltb 0 (length (without_leading_plus text)) h.0) (digits 
 unnumeral : (text : List ℕ) → is_decimal text ≡ true → IsNumeral 10 (without_leading_plus text)
 unnumeral text h = let parts = both (nat_lt 0 (length (without_leading_plus text))) _ h in (ltb-true _ _ parts.0, undigits _ parts.1)
 
--- a number that was read is the setting's where it may be it
-pub read : (setting : Setting) (text : List ℕ) (n : ℕ) → (IsNumeral 10 (without_leading_plus text) × (digits_value 10 (without_leading_plus text) < 2 ^ 32)) × (n ≡ value_of_text text) → is_admitted setting n ≡ true → Some n ≡ number_in setting text
-read setting text n h in_range =
-    let decimal = numeral text h.0.0 in
-    let is : n ≡ value_of_text text = h.1 in
-    let in_range' : is_admitted setting (value_of_text text) ≡ true = ap (is_admitted setting) (sym is) ∙ in_range in
-    rw (decimal, in_range') (ap Some is)
+module _ (test : ℕ → Bool) (most : ℕ) (text : List ℕ) where
+  -- a number that was read is given where it passes
+  pub read : (n : ℕ) → (IsNumeral 10 (without_leading_plus text) × (digits_value 10 (without_leading_plus text) < most)) × (n ≡ value_of_text text) → test n ≡ true → Some n ≡ (if is_decimal text && test (value_of_text text) then Some (value_of_text text) else None)
+  read n h passes =
+      let decimal = numeral text h.0.0 in
+      let is : n ≡ value_of_text text = h.1 in
+      let passes' : test (value_of_text text) ≡ true = ap test (sym is) ∙ passes in
+      rw (decimal, passes') (ap Some is)
 
--- and no number where it may not
-pub out : (setting : Setting) (text : List ℕ) (n : ℕ) → (IsNumeral 10 (without_leading_plus text) × (digits_value 10 (without_leading_plus text) < 2 ^ 32)) × (n ≡ value_of_text text) → is_admitted setting n ≡ false → None ≡ number_in setting text
-out setting text n h not_in =
-    let decimal = numeral text h.0.0 in
-    let is : n ≡ value_of_text text = h.1 in
-    let not_in' : is_admitted setting (value_of_text text) ≡ false = ap (is_admitted setting) (sym is) ∙ not_in in
-    rw (decimal, not_in') refl
+  -- and none where it does not
+  pub out : (n : ℕ) → (IsNumeral 10 (without_leading_plus text) × (digits_value 10 (without_leading_plus text) < most)) × (n ≡ value_of_text text) → test n ≡ false → None ≡ (if is_decimal text && test (value_of_text text) then Some (value_of_text text) else None)
+  out n h fails =
+      let decimal = numeral text h.0.0 in
+      let is : n ≡ value_of_text text = h.1 in
+      let fails' : test (value_of_text text) ≡ false = ap test (sym is) ∙ fails in
+      rw (decimal, fails') refl
 
-refused_by : (setting : Setting) (text : List ℕ) (d a : Bool) → is_decimal text ≡ d → is_admitted setting (value_of_text text) ≡ a → (d ≡ true → a ≡ true → ⊥) → None ≡ number_in setting text
-refused_by setting text true true is_d is_a never = absurd (never refl refl)
-refused_by setting text true false is_d is_a never = rw (is_d, is_a) refl
-refused_by setting text false true is_d is_a never = rw is_d refl
-refused_by setting text false false is_d is_a never = rw is_d refl
+  refused_by : (d a : Bool) → is_decimal text ≡ d → test (value_of_text text) ≡ a → (d ≡ true → a ≡ true → ⊥) → None ≡ (if is_decimal text && test (value_of_text text) then Some (value_of_text text) else None)
+  refused_by true true is_d is_a never = absurd (never refl refl)
+  refused_by true false is_d is_a never = rw (is_d, is_a) refl
+  refused_by false true is_d is_a never = rw is_d refl
+  refused_by false false is_d is_a never = rw is_d refl
 
--- a text that is not read gives no setting a number
-pub unread : (setting : Setting) (text : List ℕ) → ¬ (IsNumeral 10 (without_leading_plus text) × (digits_value 10 (without_leading_plus text) < 2 ^ 32)) → None ≡ number_in setting text
-unread setting text h =
-    refused_by setting text _ _ refl refl (λ d a.
-    let most = greatest (row_of setting).least (row_of setting).greatest (value_of_text text) a in
+  -- a text that is not read gives none, where what passes could be read
+  pub unread : ((n : ℕ) → test n ≡ true → n < most) → ¬ (IsNumeral 10 (without_leading_plus text) × (digits_value 10 (without_leading_plus text) < most)) → None ≡ (if is_decimal text && test (value_of_text text) then Some (value_of_text text) else None)
+  unread small h = refused_by _ _ refl refl (λ d a. h (unnumeral text d, small (value_of_text text) a))
+
+-- what a setting may be is a number of 32 bits
+pub small_number : (setting : Setting) (n : ℕ) → is_admitted setting n ≡ true → n < 2 ^ 32
+small_number setting n a =
+    let most = greatest (row_of setting).least (row_of setting).greatest n a in
     let few = small setting in
-    h (unnumeral text d, omega (arith, most, few)))
+    omega (arith, most, few)
 
--- the number of a setting is in its range
-pub within : (numbers : List ℕ) (setting : Setting) → AreAdmitted numbers → ((row_of setting).least ≤ number_at numbers setting) × (number_at numbers setting ≤ (row_of setting).greatest)
-within numbers setting h = (least _ _ _ (h setting), greatest _ _ _ (h setting))
+-- and what a size may be is one of 64
+pub small_bytes : (n : ℕ) → nat_le n most_bytes ≡ true → n < 2 ^ 64
+small_bytes n a = let most : n ≤ most_bytes = grind (arith, common_steps) in omega (arith, most)
 
--- the number of each setting is that of its place
-pub each_number : (load : Load) (numbers : List ℕ) → HasNumbers load numbers → (setting : Setting) → number_of load setting ≡ number_at numbers setting
-each_number load numbers h Lanes = h.layout.lanes
-each_number load numbers h Sets = h.layout.sets
-each_number load numbers h Memory = h.layout.memory
-each_number load numbers h Segments = h.layout.segments
-each_number load numbers h SegmentPages = h.layout.segment_pages
-each_number load numbers h Entries = h.layout.entries
-each_number load numbers h Threshold = h.layout.threshold
-each_number load numbers h Admit = h.layout.admit
-each_number load numbers h Callers = h.callers
-each_number load numbers h Operations = h.operations
-each_number load numbers h Keys = h.keys
-each_number load numbers h ValueBytes = h.value_bytes
-each_number load numbers h Gets = h.gets
-each_number load numbers h Removes = h.removes
-each_number load numbers h Workers = h.workers
-each_number load numbers h Seed = h.seed
-each_number load numbers h Ttl = h.ttl
+-- the number at each place is in the range of the setting there
+pub within : (settings : List Setting) (numbers : List ℕ) → AreAdmitted settings numbers → (place : ℕ) → place < length settings → ((row_of (get_or settings place Lanes)).least ≤ get_or numbers place 0) × (get_or numbers place 0 ≤ (row_of (get_or settings place Lanes)).greatest)
+within settings numbers h place less = (least _ _ _ (h place less), greatest _ _ _ (h place less))
+
+-- numbers that are admitted for settings are admitted for those in front
+pub in_front : (front rest : List Setting) (numbers : List ℕ) → AreAdmitted (front ++ rest) numbers → AreAdmitted front numbers
+in_front front rest numbers h = λ place less.
+    let all : place < length (front ++ rest) = omega (arith, length-append front rest, less) in
+    subst (λ (s : Setting). is_admitted s (get_or numbers place 0) ≡ true) (get_or-append front rest Lanes place less) (h place all)
+
+-- the numbers at so many places from one on
+abbrev pub places : List ℕ → ℕ → ℕ → List ℕ
+places xs start zero = []
+places xs start (suc count) = get_or xs start 0 ∷ places xs (suc start) count
+
+-- a list is what lies at its places
+pub placed : (xs : List ℕ) (start count : ℕ) → start + count ≡ length xs → drop start xs ≡ places xs start count
+placed xs start zero e = drop_all start xs (omega arith)
+placed xs start (suc count) e = drop-cons xs start 0 (omega arith) ∙ ap (λ rest. get_or xs start 0 ∷ rest) (placed xs (suc start) count (omega arith))

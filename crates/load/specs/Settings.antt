@@ -1,10 +1,10 @@
 -- The numbers of a load: the name of each, the word for it where none is given, and the least and the greatest that it may be.
-use Rattle.std.specs.Prelude.{◌≡◌, ℕ, Bool, true, ◌&&◌, List, [], ◌∷◌, length, Option, Some, None, codes, nat_le, nat_lt, slice_index, if◌then◌else◌}
+use Rattle.std.specs.Prelude.{◌≡◌, ℕ, Bool, true, ◌&&◌, List, [], ◌∷◌, length, Option, Some, None, codes, nat_le, nat_lt, ◌<◌, ◌^◌, slice_index, slice_index_or, if◌then◌else◌}
 use Rattle.std.specs.Char.{digit_value}
 use Rattle.std.specs.List.{list_all}
 use Rattle.std.specs.Str.Parse.{digits_value, without_leading_plus}
 use Rattle.load.specs.declared.setting.Setting.{Setting}
-use Rattle.load.specs.declared.setting.Setting.TheVariants.{Lanes, Sets, Memory, Segments, SegmentPages, Entries, Threshold, Admit, Callers, Operations, Keys, ValueBytes, Gets, Removes, Workers, Seed, Ttl}
+use Rattle.load.specs.declared.setting.Setting.TheVariants.{Lanes, Sets, Memory, Segments, SegmentPages, Entries, Threshold, Admit, Callers, Operations, Keys, ValueBytes, Gets, Removes, Workers, Seed, Ttl, Shards, Leases, ServedOperations, ServedKeys, ServedValueBytes, ServedTtl}
 
 -- a row of the table
 pub record Row : Type 0 where
@@ -35,6 +35,12 @@ row_of Removes = row (codes "removes") (codes "5") 0 100
 row_of Workers = row (codes "workers") (codes "2") 1 16
 row_of Seed = row (codes "seed") (codes "1") 0 4294967295
 row_of Ttl = row (codes "ttl") (codes "0") 0 1000000
+row_of Shards = row (codes "shards") (codes "1") 1 1024
+row_of Leases = row (codes "leases") (codes "0") 0 1048576
+row_of ServedOperations = row (codes "operations") (codes "1000000") 1 1000000000
+row_of ServedKeys = row (codes "keys") (codes "1000") 1 100000000
+row_of ServedValueBytes = row (codes "value-bytes") (codes "100") 8 2048
+row_of ServedTtl = row (codes "ttl") (codes "0") 0 1000000000
 
 -- the number is in the setting's range
 abbrev pub is_admitted : Setting → ℕ → Bool
@@ -52,34 +58,26 @@ value_of_text text = digits_value 10 (without_leading_plus text)
 abbrev pub number_in : Setting → List ℕ → Option ℕ
 number_in setting text = if is_decimal text && is_admitted setting (value_of_text text) then Some (value_of_text text) else None
 
--- the settings in their order
+-- the settings of a run in their order
 abbrev pub settings : List Setting
 settings = Lanes ∷ Sets ∷ Memory ∷ Segments ∷ SegmentPages ∷ Entries ∷ Threshold ∷ Admit ∷ Callers ∷ Operations ∷ Keys ∷ ValueBytes ∷ Gets ∷ Removes ∷ Workers ∷ Seed ∷ Ttl ∷ []
 
--- the place of a setting in that order
-abbrev pub place_of : Setting → ℕ
-place_of Lanes = 0
-place_of Sets = 1
-place_of Memory = 2
-place_of Segments = 3
-place_of SegmentPages = 4
-place_of Entries = 5
-place_of Threshold = 6
-place_of Admit = 7
-place_of Callers = 8
-place_of Operations = 9
-place_of Keys = 10
-place_of ValueBytes = 11
-place_of Gets = 12
-place_of Removes = 13
-place_of Workers = 14
-place_of Seed = 15
-place_of Ttl = 16
+-- the settings of a load of a cache that serves
+abbrev pub served_settings : List Setting
+served_settings = Lanes ∷ Sets ∷ Memory ∷ Segments ∷ SegmentPages ∷ Entries ∷ Threshold ∷ Admit ∷ Callers ∷ ServedOperations ∷ ServedKeys ∷ ServedValueBytes ∷ Gets ∷ Removes ∷ Workers ∷ Seed ∷ ServedTtl ∷ Shards ∷ Leases ∷ []
 
--- the number of a setting, of a list with one for each in their order
-abbrev pub number_at : List ℕ → Setting → ℕ
-number_at numbers setting = slice_index numbers (place_of setting)
+-- the settings of the cache itself, which come first in both
+abbrev pub layout_settings : List Setting
+layout_settings = Lanes ∷ Sets ∷ Memory ∷ Segments ∷ SegmentPages ∷ Entries ∷ Threshold ∷ Admit ∷ []
 
--- each of the numbers is in the range of its setting
-abbrev pub AreAdmitted : List ℕ → Type 0
-AreAdmitted numbers = (setting : Setting) → is_admitted setting (number_at numbers setting) ≡ true
+-- each of the numbers is in the range of the setting at its place
+abbrev pub AreAdmitted : List Setting → List ℕ → Type 0
+AreAdmitted settings numbers = (place : ℕ) → place < length settings → is_admitted (slice_index_or settings place Lanes) (slice_index numbers place) ≡ true
+
+-- the most bytes that a size may be
+abbrev pub most_bytes : ℕ
+most_bytes = 2 ^ 50
+
+-- the bytes that a text gives a size, where it writes a number of them that a size may be
+abbrev pub bytes_in : List ℕ → Option ℕ
+bytes_in text = if is_decimal text && nat_le (value_of_text text) most_bytes then Some (value_of_text text) else None

@@ -1,14 +1,22 @@
-//! What a run asks of the cache: the settings of a load, and the operations of its callers.
+//! What a load asks of a cache: its settings, and the operations of its callers.
 #![tactic(auto)]
 
 mod file_name;
+mod layouts;
 mod load;
 mod numbers;
 mod operations;
+mod served_load;
+mod served_operation;
 mod setting;
+mod size_setting;
 
 pub use file_name::FileName;
+pub use layouts::{config_of, pages_of};
 pub use load::Load;
-pub use numbers::load_with;
+pub use numbers::{load_with, served_with};
 pub use operations::next_operation;
-pub use setting::{SETTINGS, Setting};
+pub use served_load::ServedLoad;
+pub use served_operation::ServedOperation;
+pub use setting::{SERVED_SETTINGS, SETTINGS, Setting};
+pub use size_setting::SizeSetting;

@@ -1,15 +1,17 @@
 // The load with a number for each setting.
-ghost use Rattle.std.specs.Prelude.{◌≡◌};
-ghost use Rattle.load.specs.Settings.{AreAdmitted};
-ghost use Rattle.load.specs.Asked.{HasNumbers, IsLayoutOf};
+ghost use Rattle.std.specs.Prelude.{◌≡◌, ◌≤◌, length};
+ghost use Rattle.load.specs.Settings.{AreAdmitted, served_settings, settings};
+ghost use Rattle.load.specs.Asked.{IsLayoutOf, numbers_of, served_numbers_of};
 
 use crate::file_name::FileName;
 use crate::load::Load;
+use crate::served_load::ServedLoad;
 use record_pages::Layout;
 
-/// The cache with these numbers, one for each of `SETTINGS` in their order.
-fn layout_with(numbers: &[u32; 17]) -> Layout
-    requires { AreAdmitted numbers.now }
+/// The cache with the first eight of these numbers, in the order of the settings.
+fn layout_with(numbers: &[u32]) -> Layout
+    requires enough { 8 ≤ length numbers.now }
+    requires admitted { AreAdmitted layout_settings numbers.now }
     ensures { IsLayoutOf result numbers.now }
 {
     Layout {
@@ -24,11 +26,13 @@ fn layout_with(numbers: &[u32; 17]) -> Layout
     }
 }
 
+ghost use Rattle.load.specs.Settings.{layout_settings};
+
 /// The load with these numbers, one for each of `SETTINGS` in their order, whose devices are files of this
 /// folder, or in memory where there is none, and which writes its trace to this file.
 pub fn load_with(numbers: &[u32; 17], device: Option<FileName>, trace: FileName) -> Load
-    requires { AreAdmitted numbers.now }
-    ensures numbers { HasNumbers result numbers.now }
+    requires { AreAdmitted settings numbers.now }
+    ensures numbers { numbers_of result ≡ numbers.now }
     ensures device { result.device ≡ device }
     ensures trace { result.trace ≡ trace }
 {
@@ -45,5 +49,38 @@ pub fn load_with(numbers: &[u32; 17], device: Option<FileName>, trace: FileName)
         ttl: numbers[16],
         device,
         trace,
+    }
+}
+
+/// The load of a cache that serves with these numbers, one for each of `SERVED_SETTINGS` in their order, made for so many bytes
+/// of flash and of memory where they are given, whose devices are files of this folder, or in memory where there is none.
+pub fn served_with(
+    numbers: &[u32; 19],
+    size: Option<u64>,
+    memory_bytes: Option<u64>,
+    device: Option<FileName>,
+) -> ServedLoad
+    requires { AreAdmitted served_settings numbers.now }
+    ensures numbers { served_numbers_of result ≡ numbers.now }
+    ensures size { result.size ≡ size }
+    ensures memory { result.memory_bytes ≡ memory_bytes }
+    ensures device { result.device ≡ device }
+{
+    ServedLoad {
+        layout: layout_with(numbers),
+        callers: numbers[8],
+        operations: numbers[9],
+        keys: numbers[10],
+        value_bytes: numbers[11],
+        gets: numbers[12],
+        removes: numbers[13],
+        workers: numbers[14],
+        seed: numbers[15],
+        ttl: numbers[16],
+        shards: numbers[17],
+        leases: numbers[18],
+        size,
+        memory_bytes,
+        device,
     }
 }

@@ -39,9 +39,21 @@ pub enum Setting {
     Seed,
     /// Operations of its caller after which a put expires; 0 for never.
     Ttl,
+    /// Groups of as many lanes, of a load of a cache that serves. So are those below.
+    Shards,
+    /// Slots of each lane for leases; 0 for no leases.
+    Leases,
+    /// Operations of each caller.
+    ServedOperations,
+    /// Keys that each caller has for itself.
+    ServedKeys,
+    /// Bytes of each value.
+    ServedValueBytes,
+    /// Operations of its caller after which a put expires; 0 for never.
+    ServedTtl,
 }
 
-/// The settings in their order.
+/// The settings of a run in their order.
 pub const SETTINGS: [Setting; 17] = [
     Setting::Lanes,
     Setting::Sets,
@@ -62,6 +74,29 @@ pub const SETTINGS: [Setting; 17] = [
     Setting::Ttl,
 ];
 
+/// The settings of a load of a cache that serves, in their order.
+pub const SERVED_SETTINGS: [Setting; 19] = [
+    Setting::Lanes,
+    Setting::Sets,
+    Setting::Memory,
+    Setting::Segments,
+    Setting::SegmentPages,
+    Setting::Entries,
+    Setting::Threshold,
+    Setting::Admit,
+    Setting::Callers,
+    Setting::ServedOperations,
+    Setting::ServedKeys,
+    Setting::ServedValueBytes,
+    Setting::Gets,
+    Setting::Removes,
+    Setting::Workers,
+    Setting::Seed,
+    Setting::ServedTtl,
+    Setting::Shards,
+    Setting::Leases,
+];
+
 impl Setting {
     /// The name of its option, without the two dashes.
     pub fn name(self) -> &'static str
@@ -77,14 +112,16 @@ impl Setting {
             Setting::Threshold => "threshold",
             Setting::Admit => "admit",
             Setting::Callers => "callers",
-            Setting::Operations => "operations",
-            Setting::Keys => "keys",
-            Setting::ValueBytes => "value-bytes",
+            Setting::Operations | Setting::ServedOperations => "operations",
+            Setting::Keys | Setting::ServedKeys => "keys",
+            Setting::ValueBytes | Setting::ServedValueBytes => "value-bytes",
             Setting::Gets => "gets",
             Setting::Removes => "removes",
             Setting::Workers => "workers",
             Setting::Seed => "seed",
-            Setting::Ttl => "ttl",
+            Setting::Ttl | Setting::ServedTtl => "ttl",
+            Setting::Shards => "shards",
+            Setting::Leases => "leases",
         }
     }
 
@@ -110,6 +147,14 @@ impl Setting {
             Setting::Ttl => {
                 "Operations of its caller after which a put expires, 0 to 1000000; 0 for never"
             }
+            Setting::Shards => "Groups of as many lanes, 1 to 1024",
+            Setting::Leases => "Slots of each lane for leases, 0 to 1048576; 0 for no leases",
+            Setting::ServedOperations => "Operations of each caller, 1 to 1000000000",
+            Setting::ServedKeys => "Keys of each caller, 1 to 100000000",
+            Setting::ServedValueBytes => "Bytes of each value, 8 to 2048",
+            Setting::ServedTtl => {
+                "Operations of its caller after which a put expires, 0 to 1000000000; 0 for never"
+            }
         }
     }
 
@@ -124,8 +169,11 @@ impl Setting {
             | Setting::Gets
             | Setting::Removes
             | Setting::Seed
-            | Setting::Ttl => 0,
+            | Setting::Ttl
+            | Setting::Leases
+            | Setting::ServedTtl => 0,
             Setting::Segments => 2,
+            Setting::ServedValueBytes => 8,
             _ => 1,
         }
     }
@@ -140,10 +188,13 @@ impl Setting {
             Setting::SegmentPages | Setting::Callers => 64,
             Setting::Gets | Setting::Removes => 100,
             Setting::Segments => 256,
-            Setting::ValueBytes => 2048,
+            Setting::Shards => 1024,
+            Setting::ValueBytes | Setting::ServedValueBytes => 2048,
             Setting::Sets | Setting::Admit => 65536,
             Setting::Operations | Setting::Keys | Setting::Ttl => 1000000,
-            Setting::Memory | Setting::Entries => 1048576,
+            Setting::Memory | Setting::Entries | Setting::Leases => 1048576,
+            Setting::ServedKeys => 100000000,
+            Setting::ServedOperations | Setting::ServedTtl => 1000000000,
             Setting::Seed => 4294967295,
         }
     }
@@ -160,12 +211,13 @@ impl Setting {
             Setting::Threshold | Setting::Workers => "2",
             Setting::Admit => "65536",
             Setting::Operations => "10000",
-            Setting::Keys => "1000",
-            Setting::ValueBytes => "100",
+            Setting::ServedOperations => "1000000",
+            Setting::Keys | Setting::ServedKeys => "1000",
+            Setting::ValueBytes | Setting::ServedValueBytes => "100",
             Setting::Gets => "70",
             Setting::Removes => "5",
-            Setting::Seed => "1",
-            Setting::Ttl => "0",
+            Setting::Seed | Setting::Shards => "1",
+            Setting::Ttl | Setting::ServedTtl | Setting::Leases => "0",
         }
     }
 

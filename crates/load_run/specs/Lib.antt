@@ -1,6 +1,5 @@
 pub mod Calls
 pub mod Ends
-pub mod Files
 pub mod Runs
 pub mod Summaries
 pub mod Wholes

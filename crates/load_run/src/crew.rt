@@ -2,8 +2,9 @@
 ghost use Rattle.std.specs.Prelude.{◌≡◌, ◌<◌, All};
 
 use crate::caller::start_caller;
-use crate::watching::watch;
+use crate::telling::operations;
 use crate::worker::work;
+use call_watch::watch;
 use crossbeam_channel::Sender;
 use load::Load;
 use page_device::PageDevice;
@@ -73,7 +74,7 @@ pub fn run_crew<
                     running.fetch_sub(1, Ordering::SeqCst);
                 }
             }
-            watch(rt, load, running, made, err);
+            watch(rt, operations(load), running, made, err);
         },
     );
 }

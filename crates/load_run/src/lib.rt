@@ -12,7 +12,7 @@ mod run;
 mod run_end;
 mod shared;
 mod summary;
-mod watching;
+mod telling;
 mod worker;
 
 pub use hits::hits_of;

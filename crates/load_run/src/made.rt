@@ -6,7 +6,7 @@ ghost use Rattle.load_run.specs.Wholes.{IsWhole, is_short};
 
 use crate::crew::run_crew;
 use crate::run_end::RunEnd;
-use crate::watching::tell_step;
+use crate::telling::tell_step;
 use crossbeam_channel::{Receiver, bounded};
 use load::Load;
 use page_device::PageDevice;

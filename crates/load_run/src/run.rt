@@ -11,12 +11,13 @@ use crate::hits::hits_of;
 use crate::in_files::in_files;
 use crate::made::{Made, make_history};
 use crate::run_end::RunEnd;
-use crate::shared::{PAGE, in_memory, open};
+use crate::shared::{PAGE, open};
 use crate::summary::Summary;
-use crate::watching::tell_step;
+use crate::telling::tell_step;
 use certificate_checker::check_with_hasher;
 use key_hash::RandomSeed;
-use load::{FileName, Load};
+use lane_files::{lanes_in_memory, taken_places};
+use load::{FileName, Load, pages_of};
 use page_device::PageDevice;
 use std::alloc::{AllocError, Global};
 use std::fs::{File, OpenOptions};
@@ -54,16 +55,6 @@ pub fn run_load<
     ended.end.status()
 }
 
-/// Opens what holds nothing as often as there are standard streams. Where one of these is closed, the next file that is opened
-/// takes its place, and what is written to the stream would go to the trace or to a lane's file; now it goes nowhere.
-fn taken_places<R: Files>(rt: &R) -> [io::Result<R::File>; 3] {
-    [
-        fs::open(rt, "/dev/null"),
-        fs::open(rt, "/dev/null"),
-        fs::open(rt, "/dev/null"),
-    ]
-}
-
 /// Writes the line of an end, where it has one, and what failed. What `err` refuses is not told.
 fn tell<E: Write>(err: &mut E, load: &Load, ended: &Ended) {
     let _ = ended.end.tell(err);
@@ -95,7 +86,7 @@ fn run_to_end<
             Ok(devices) => run_over(rt, load, devices, out, err),
             Err(ended) => ended,
         },
-        None => match in_memory(rt.alloc(), &load.layout) {
+        None => match lanes_in_memory(rt.alloc(), load.layout.lanes, pages_of(&load.layout)) {
             Ok(devices) => run_over(rt, load, devices, out, err),
             Err(_) => Ended::plain(RunEnd::OutOfMemory),
         },

@@ -1,9 +1,8 @@
 // The cache that a run's threads share.
-ghost use Rattle.std.specs.Prelude.{◌≡◌, ◌*◌, ◌+◌, All, IfOk, length};
+ghost use Rattle.std.specs.Prelude.{◌≡◌, All, IfOk, length};
 
-use load::Load;
-use page_device::{MemoryDevice, PageDevice};
-use record_pages::{Config, Layout};
+use load::{Load, config_of};
+use page_device::PageDevice;
 use rriparoo::Rriparoo;
 use shared_cache::{Pass, SharedCache};
 use std::alloc::{AllocError, Global};
@@ -37,40 +36,3 @@ pub fn open<D: PageDevice<PAGE>>(
         Err(_) => Err(AllocError),
     }
 }
-
-/// The pages of each lane's device.
-pub fn pages_of(layout: &Layout) -> u32
-    ensures { result ≡ layout.now.sets + layout.now.segments * layout.now.segment_pages }
-{
-    layout.sets + layout.segments * layout.segment_pages
-}
-
-/// A device in memory for each lane.
-pub fn in_memory(alloc: Global, layout: &Layout) -> Result<Vec<MemoryDevice<PAGE>>, AllocError>
-    ensures { IfOk result (λ devices. length devices.items ≡ layout.now.lanes) }
-{
-    let pages = pages_of(layout);
-    let mut devices = Vec::with_capacity(alloc, layout.lanes as usize)?;
-    for _ in 0..layout.lanes {
-        devices.push(MemoryDevice::new(alloc, pages)?)?;
-    }
-    Ok(devices)
-}
-
-/// The configuration with these numbers.
-fn config_of(layout: &Layout) -> Config
-    ensures { HasNumbersOf layout.now result }
-{
-    Config {
-        lanes: layout.lanes,
-        sets: layout.sets,
-        memory: layout.memory,
-        segments: layout.segments,
-        segment_pages: layout.segment_pages,
-        entries: layout.entries,
-        threshold: layout.threshold,
-        admit: layout.admit,
-    }
-}
-
-ghost use Rattle.record_pages.specs.Asked.{HasNumbersOf};

@@ -34,6 +34,8 @@ fn number_of(load: &Load, setting: Setting) -> u32 {
         Setting::Workers => load.workers,
         Setting::Seed => load.seed,
         Setting::Ttl => load.ttl,
+        // Those of a load of a cache that serves.
+        _ => 0,
     }
 }
 

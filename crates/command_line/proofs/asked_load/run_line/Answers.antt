@@ -2,11 +2,12 @@
 use Rattle.std.proofs.Common.{◌∙◌, codes, IsSome, Some, None, refl, subst}
 use Rattle.clap.specs.Words.{found_of, rows_of}
 use Rattle.command_line.specs.CommandLine.{Wanted}
+use Rattle.load.specs.Settings.{settings}
 use Rattle.command_line.proofs.FoundLaws.{admitted, asks, found_text, no_numbers, no_trace}
 use Rattle.command_line.proofs.asked_load.run_line.Goals as goal
 
 pub load_with-requires : goal.load_with-requires
-load_with-requires c = admitted (rows_of (found_of c.args.found.now)) c.in-Ok.numbers c.in-Ok.ensures.numbers
+load_with-requires c = admitted settings (rows_of (found_of c.args.found.now)) c.in-Ok.numbers c.in-Ok.ensures.numbers
 
 pub returns-in_ok-file-in-Ok-clause-named : goal.returns-in_ok-file-in-Ok-clause-named
 returns-in_ok-file-in-Ok-clause-named c =

@@ -1,4 +1,4 @@
--- The files that a run's devices are in.
+-- The files that the devices of lanes are in.
 use Rattle.std.specs.Prelude.{ℕ, List, [], ◌∷◌, ◌++◌, codes}
 use Rattle.std.specs.Fmt.{decimal}
 

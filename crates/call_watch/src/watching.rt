@@ -1,5 +1,4 @@
 // What a user sees of a run that takes a while.
-use load::Load;
 use std::io::{IsTerminal, Write};
 use std::sync::Wait;
 use std::sync::atomic::{AtomicU64, Ordering};
@@ -15,14 +14,12 @@ const SOON: u32 = 2;
 /// How many looks lie between two lines.
 const LATER: u32 = 10;
 
-/// The fewest operations of a load of which it is told what is done behind its calls.
-const LONG: u64 = 100_000;
-
-/// Tells how many calls were made, by the thousand and at most twice a second, where `err` is a terminal, until all callers
-/// have ended. Each line is written over the one before, and the last one stays. What `err` refuses is not told.
+/// Tells how many of all calls were made, as they are counted in `made`, at most twice a second, where `err` is a terminal,
+/// until no caller is running. Each line is written over the one before, and the last one stays. What `err` refuses is not
+/// told.
 pub fn watch<R: Wait + Clock, E: Write + IsTerminal>(
     rt: &R,
-    load: &Load,
+    all: u64,
     running: &AtomicU64,
     made: &AtomicU64,
     err: &mut E,
@@ -30,7 +27,6 @@ pub fn watch<R: Wait + Clock, E: Write + IsTerminal>(
     if !err.is_terminal() {
         return;
     }
-    let all = operations(load);
     let mut told = false;
     let mut looks = SOON;
     for _ in rt.forever() {
@@ -46,21 +42,6 @@ pub fn watch<R: Wait + Clock, E: Write + IsTerminal>(
     if told {
         let _ = err.write_all(b"\n");
     }
-}
-
-/// All operations of a load.
-fn operations(load: &Load) -> u64 {
-    u64::from(load.callers) * u64::from(load.operations)
-}
-
-/// Tells what is done now of a load whose callers have ended, where `err` is a terminal and the load is long. What `err`
-/// refuses is not told.
-pub fn tell_step<E: Write + IsTerminal>(err: &mut E, load: &Load, step: &str) {
-    if operations(load) < LONG || !err.is_terminal() {
-        return;
-    }
-    let _ = write!(err, "{step}\n");
-    let _ = err.flush();
 }
 
 /// Whether all callers have ended, within so many looks.

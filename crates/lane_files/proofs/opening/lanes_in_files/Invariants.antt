@@ -1,6 +1,6 @@
 -- As many devices as lanes so far.
 use Rattle.std.proofs.Common.{◌≡◌, length}
-use Rattle.load_run.proofs.in_files.in_files.Given as goal
+use Rattle.lane_files.proofs.opening.lanes_in_files.Given as goal
 
 abbrev pub invariant-loop-lane : goal.invariant-loop-lane
 invariant-loop-lane g l = length l.devices.items ≡ l.lane

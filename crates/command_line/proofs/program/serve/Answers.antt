@@ -1,0 +1,31 @@
+-- One option more for one setting more, and those of the sizes and of the folder behind them.
+use Rattle.std.proofs.Common.{◌≡◌, ◌∙◌, ap, ap₂, codes, fold, sym, take}
+use Rattle.std.proofs.lemmas.List.{take_all}
+use Rattle.std.proofs.lemmas.List.Sums.{fold_more}
+use Rattle.std.proofs.lemmas.Result.{IfOk-weaker}
+use Rattle.clap.specs.Words.{app_of, new_app, with_rule}
+use Rattle.load.specs.declared.setting.Setting.TheVariants.{Lanes}
+use Rattle.load.specs.declared.size_setting.SizeSetting.TheVariants.{MemoryBytes, Size}
+use Rattle.load.specs.Settings.{served_settings}
+use Rattle.command_line.specs.CommandLine.{size_rule, with_option}
+use Rattle.command_line.proofs.program.serve.Goals as goal
+
+pub loop-setting-init : goal.loop-setting-init
+loop-setting-init c = rw c.about-serve.ensures c.new.ensures.app
+
+pub loop-setting-preserved : goal.loop-setting-preserved
+loop-setting-preserved c =
+    c.in_ok-serve.ensures.shape c.option.ensures.local
+    ∙ ap₂ with_rule c.loop-setting.invariant c.option.ensures.rule
+    ∙ sym (fold_more with_option (new_app (codes "serve-load")) served_settings c.loop-setting.setting-index Lanes c.loop-setting-test.true)
+
+pub returns : goal.returns
+returns c =
+    let all : take c.loop-setting.setting-index served_settings ≡ served_settings = take_all c.loop-setting.setting-index served_settings c.loop-setting-test.false in
+    let options : app_of c.loop-setting.serve ≡ fold with_option (new_app (codes "serve-load")) served_settings =
+    c.loop-setting.invariant ∙ ap (fold with_option (new_app (codes "serve-load"))) all in
+    let one : app_of c.in_ok-sized.sized ≡ with_rule (fold with_option (new_app (codes "serve-load")) served_settings) (size_rule Size) =
+    c.in_ok-sized.ensures.shape c.size.ensures.local ∙ ap₂ with_rule options c.size.ensures.rule in
+    let two : app_of c.in_ok-sized-2.sized ≡ with_rule (with_rule (fold with_option (new_app (codes "serve-load")) served_settings) (size_rule Size)) (size_rule MemoryBytes) =
+    c.in_ok-sized-2.ensures.shape c.size-2.ensures.local ∙ ap₂ with_rule one c.size-2.ensures.rule in
+    IfOk-weaker c.arg-4.result _ _ (λ r h. h.shape c.device.ensures.local ∙ ap₂ with_rule two c.device.ensures.rule) c.arg-4.ensures

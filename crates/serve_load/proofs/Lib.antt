@@ -1,0 +1,2 @@
+pub mod Repeating
+pub mod Saying

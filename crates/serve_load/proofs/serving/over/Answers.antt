@@ -1,0 +1,6 @@
+-- What was written is the report on what was made.
+use Rattle.serve_load.proofs.Saying.{said_report}
+use Rattle.serve_load.proofs.serving.over.Goals as goal
+
+pub returns-in-Ok-make-clause-wrote : goal.returns-in-Ok-make-clause-wrote
+returns-in-Ok-make-clause-wrote g c = said_report c.args.load.now c.in-Ok-make.report _ _ c.write_report.result.end c.in-Ok-make.ensures.made c.write_report.ensures

@@ -1,0 +1,10 @@
+pub mod Objects
+pub mod Words
+pub mod Calls
+pub mod Wanting
+pub mod Forms
+pub mod Totals
+pub mod Lines
+pub mod Reports
+pub mod Ends
+pub mod Serving

@@ -1,0 +1,77 @@
+-- What a load wrote, by how it ended.
+use Rattle.std.specs.Prelude.{◌≡◌, ◌⊎◌, ◌<◌, ◌+◌, ℕ, List, Option, IsNone, IsSome}
+use Rattle.std.specs.Io.KnownBytes.{Appends, Keeps}
+use Rattle.load.specs.declared.served_load.ServedLoad.{ServedLoad}
+use Rattle.serve_load.specs.declared.report.Report.{Report}
+use Rattle.serve_load.specs.declared.serve_end.ServeEnd.{ServeEnd}
+use Rattle.serve_load.specs.declared.serve_end.ServeEnd.TheVariants as ends
+use Rattle.serve_load.specs.Ends.{end_of_wrong_hits, status_of}
+use Rattle.serve_load.specs.Wanting.{RefusesSize}
+use Rattle.serve_load.specs.Reports.{IsMade, report_of}
+
+-- the text of a report was written, whose operations fit the load, and the load ended as its wrong hits say
+pub record IsTold (load : ServedLoad) (old new : Option (List ℕ)) (end : ServeEnd) : Type 0 where
+  pub report : Report
+  pub made : IsMade load report
+  pub wrote : Appends old new (report_of report)
+  pub ended : end ≡ end_of_wrong_hits report.wrong_hits
+
+-- what was written where a load ended so: a report where its callers ended, else nothing, and where a file, the output or the clock
+-- failed nothing is said
+abbrev pub WroteReport : ServedLoad → Option (List ℕ) → Option (List ℕ) → ServeEnd → Type 0
+WroteReport load old new ends.Right = IsTold load old new ends.Right
+WroteReport load old new ends.WrongHit = IsTold load old new ends.WrongHit
+WroteReport load old new ends.SharesExceed = Keeps old new
+WroteReport load old new ends.NoSize = Keeps old new
+WroteReport load old new (ends.Size fault) = Keeps old new
+WroteReport load old new ends.OutOfMemory = Keeps old new
+WroteReport load old new ends.FileFault = Unit {0}
+
+-- the report was written, or memory was refused and nothing was, or the output failed
+abbrev pub IsSaid : Report → Option (List ℕ) → Option (List ℕ) → ServeEnd → Type 0
+IsSaid report old new end =
+    (Appends old new (report_of report) × (end ≡ end_of_wrong_hits report.wrong_hits))
+    ⊎ ((end ≡ ends.OutOfMemory) × Keeps old new)
+    ⊎ (end ≡ ends.FileFault)
+
+-- gets and removes exceed 100
+abbrev pub Exceeds : ServedLoad → Type 0
+Exceeds load = 100 < load.gets + load.removes
+
+-- bytes of memory are given and no size
+abbrev pub LacksSize : ServedLoad → Type 0
+LacksSize load = IsNone load.size × IsSome load.memory_bytes
+
+-- each refusal before anything is opened comes for its reason, and where none came, there was no reason for the first two
+abbrev pub IsRefusedFirst : ServedLoad → ServeEnd → Type 0
+IsRefusedFirst load ends.SharesExceed = Exceeds load
+IsRefusedFirst load ends.NoSize = (¬ Exceeds load) × LacksSize load
+IsRefusedFirst load (ends.Size fault) = (¬ Exceeds load) × (¬ LacksSize load) × RefusesSize load load.size fault
+IsRefusedFirst load ends.Right = (¬ Exceeds load) × (¬ LacksSize load)
+IsRefusedFirst load ends.WrongHit = (¬ Exceeds load) × (¬ LacksSize load)
+IsRefusedFirst load ends.OutOfMemory = (¬ Exceeds load) × (¬ LacksSize load)
+IsRefusedFirst load ends.FileFault = (¬ Exceeds load) × (¬ LacksSize load)
+
+-- nothing was refused before anything was opened
+abbrev pub IsLate : ServeEnd → Type 0
+IsLate ends.Right = Unit {0}
+IsLate ends.WrongHit = Unit {0}
+IsLate ends.OutOfMemory = Unit {0}
+IsLate ends.FileFault = Unit {0}
+IsLate ends.SharesExceed = ⊥
+IsLate ends.NoSize = ⊥
+IsLate (ends.Size fault) = ⊥
+
+-- a load over devices that were there ended with this status
+pub record IsServedOver (load : ServedLoad) (old new : Option (List ℕ)) (status : ℕ) : Type 0 where
+  pub end : ServeEnd
+  pub status_is : status ≡ status_of end
+  pub late : IsLate end
+  pub wrote : WroteReport load old new end
+
+-- a load ended with this status
+pub record IsServed (load : ServedLoad) (old new : Option (List ℕ)) (status : ℕ) : Type 0 where
+  pub end : ServeEnd
+  pub status_is : status ≡ status_of end
+  pub first : IsRefusedFirst load end
+  pub wrote : WroteReport load old new end

@@ -1,0 +1,294 @@
+// A caller of a load.
+ghost use Rattle.std.specs.Prelude.{◌≡◌, ◌<◌, ◌≤◌, ◌+◌, IfOk, length};
+ghost use Rattle.load.specs.Operations.{past};
+ghost use Rattle.load.specs.Served.{served_next_of};
+ghost use Rattle.serve_load.specs.Calls.{IsEnded};
+ghost use Rattle.serve_load.specs.Words.{Fills, Knows, Sets, word_after_put};
+
+use crate::objects::{expires_of, key, key_bytes, moment_of, value};
+use crate::right::is_right;
+use crate::words::{Step, step_of_fill, word_after_fill};
+use load::{ServedLoad, ServedOperation};
+use mover::Seen;
+use page_device::PageDevice;
+use policy_laws::EvictionPolicy;
+use rand_pcg::Lcg64Xsh32;
+use service_cache::{LookedUp, ServiceCache};
+use service_lane::Lease;
+use std::alloc::{AllocError, Global};
+use std::sync::Wait;
+use std::sync::atomic::{AtomicU64, Ordering};
+use value_buffer::ValueBuffer;
+
+/// A caller: its number, the generator of its random words, and what it knows of its keys, a word for each.
+#[derive(Drop)]
+pub(crate) struct Caller {
+    pub(crate) number: u16,
+    pub(crate) generator: Lcg64Xsh32,
+    pub(crate) words: Vec<u32>,
+}
+
+/// How a caller ended.
+#[derive(Clone, Copy, Debug, PartialEq, Eq)]
+pub(crate) struct Tally {
+    /// Operations that it made.
+    pub(crate) operations: u32,
+    /// Those of them that were refused memory.
+    pub(crate) refused: u32,
+    /// Hits that were not right: it stops at the first.
+    pub(crate) wrong_hits: u32,
+}
+
+impl Caller {
+    /// The caller with this number, whose keys have no values.
+    pub(crate) fn new(alloc: Global, load: &ServedLoad, number: u16) -> Result<Caller, AllocError>
+        ensures { IfOk result (λ caller. length caller.words.items ≡ load.now.keys) }
+    {
+        Ok(Caller {
+            number,
+            generator: Lcg64Xsh32::new(u64::from(load.seed), u64::from(number)),
+            words: vec![in alloc; 0u32; load.keys as usize]?,
+        })
+    }
+
+    /// Makes its operations, until all are made, a hit is not right, or the load is halted; and halts the load at such a hit.
+    /// They are counted by the thousand.
+    pub(crate) fn make_all<
+        D: PageDevice<PAGE>,
+        P: EvictionPolicy + Drop,
+        const PAGE: usize,
+        R: Wait,
+    >(
+        mut self,
+        rt: &R,
+        alloc: Global,
+        cache: &ServiceCache<D, P, PAGE>,
+        load: &ServedLoad,
+        made: &AtomicU64,
+        halted: &AtomicU64,
+    ) -> Tally
+        requires { length self.words.items ≡ load.now.keys }
+        ensures { IsEnded load.now result }
+    {
+        let mut found = ValueBuffer::empty();
+        let mut refused = 0;
+        for number in 0..load.operations {
+            if halted.load(Ordering::SeqCst) != 0 {
+                return Tally {
+                    operations: number,
+                    refused,
+                    wrong_hits: 0,
+                };
+            }
+            match self.make_next(rt, alloc, cache, load, number, &mut found) {
+                Step::Done => {}
+                Step::Refused => refused += 1,
+                Step::WrongHit => {
+                    halted.store(1, Ordering::SeqCst);
+                    return Tally {
+                        operations: number + 1,
+                        refused,
+                        wrong_hits: 1,
+                    };
+                }
+            }
+            count(made, number);
+        }
+        Tally {
+            operations: load.operations,
+            refused,
+            wrong_hits: 0,
+        }
+    }
+
+    /// Makes its operation with this number.
+    fn make_next<D: PageDevice<PAGE>, P: EvictionPolicy + Drop, const PAGE: usize, R: Wait>(
+        &mut self,
+        rt: &R,
+        alloc: Global,
+        cache: &ServiceCache<D, P, PAGE>,
+        load: &ServedLoad,
+        number: u32,
+        found: &mut ValueBuffer,
+    ) -> Step
+        requires keys { length self.old.words.items ≡ load.now.keys }
+        requires number { number < 4294967295 }
+        ensures words { Knows load.now (served_next_of load.now self.old.generator) number result
+            self.old.words.items self.new.words.items }
+        ensures generator { self.new.generator ≡ past (past self.old.generator) }
+        ensures keys { length self.new.words.items ≡ load.now.keys }
+    {
+        match ServedOperation::next(&mut self.generator, load) {
+            ServedOperation::Get(key) => {
+                if load.leases == 0 {
+                    self.get(rt, cache, load, key, number, found)
+                } else {
+                    self.get_or_fill(rt, alloc, cache, load, key, number, found)
+                }
+            }
+            ServedOperation::Remove(key) => self.remove(rt, cache, key),
+            ServedOperation::Put(key) => self.put(rt, alloc, cache, load, key, number),
+        }
+    }
+
+    /// Looks a key up, and says whether a hit was right.
+    fn get<D: PageDevice<PAGE>, P: EvictionPolicy + Drop, const PAGE: usize, R: Wait>(
+        &self,
+        rt: &R,
+        cache: &ServiceCache<D, P, PAGE>,
+        load: &ServedLoad,
+        key: u32,
+        number: u32,
+        found: &mut ValueBuffer,
+    ) -> Step
+        requires { key < length self.now.words.items }
+    {
+        let moment = moment_of(load, number);
+        match cache.get(rt, &key_bytes(self.number, key), moment, found) {
+            Ok(Seen::Hit(_)) => self.step_of_hit(load, key, moment, found.bytes()),
+            Ok(Seen::Miss(_)) => Step::Done,
+            Err(_) => Step::Refused,
+        }
+    }
+
+    /// Looks a key up, and fills it by the lease of a miss.
+    fn get_or_fill<D: PageDevice<PAGE>, P: EvictionPolicy + Drop, const PAGE: usize, R: Wait>(
+        &mut self,
+        rt: &R,
+        alloc: Global,
+        cache: &ServiceCache<D, P, PAGE>,
+        load: &ServedLoad,
+        key: u32,
+        number: u32,
+        found: &mut ValueBuffer,
+    ) -> Step
+        requires key { key < length self.old.words.items }
+        requires number { number < 4294967295 }
+        ensures words { Fills self.old.words.items self.new.words.items key number }
+        ensures generator { self.new.generator ≡ self.old.generator }
+    {
+        let moment = moment_of(load, number);
+        match cache.get_or_lease(rt, &key_bytes(self.number, key), moment, found) {
+            Ok(LookedUp::Hit(_)) => self.step_of_hit(load, key, moment, found.bytes()),
+            Ok(LookedUp::Miss(_, lease)) => self.fill(rt, alloc, cache, load, lease, key, number),
+            Err(_) => Step::Refused,
+        }
+    }
+
+    /// How a get went that hit these bytes.
+    fn step_of_hit(&self, load: &ServedLoad, key: u32, moment: u64, bytes: &[u8]) -> Step
+        requires { key < length self.now.words.items }
+        ensures { JudgesHit load.now key (slice_index self.now.words.items key) moment bytes.now result }
+    {
+        if is_right(load, key, self.words[key as usize], moment, bytes) {
+            Step::Done
+        } else {
+            Step::WrongHit
+        }
+    }
+
+    /// Fills a key by a lease, with the value of the operation of this number.
+    fn fill<D: PageDevice<PAGE>, P: EvictionPolicy + Drop, const PAGE: usize, R: Wait>(
+        &mut self,
+        rt: &R,
+        alloc: Global,
+        cache: &ServiceCache<D, P, PAGE>,
+        load: &ServedLoad,
+        lease: Lease,
+        key: u32,
+        number: u32,
+    ) -> Step
+        requires key { key < length self.old.words.items }
+        requires number { number < 4294967295 }
+        ensures words { Fills self.old.words.items self.new.words.items key number }
+        ensures generator { self.new.generator ≡ self.old.generator }
+    {
+        let Ok((name, value)) = object(alloc, load, self.number, key, number) else {
+            return Step::Refused;
+        };
+        let filled = cache.fill(rt, lease, name, value, expires_of(load, number));
+        let known = &mut self.words[key as usize];
+        *known = word_after_fill(filled, *known, number);
+        step_of_fill(filled)
+    }
+
+    /// Puts the value of the operation with this number, or removes the key where that is refused.
+    fn put<D: PageDevice<PAGE>, P: EvictionPolicy + Drop, const PAGE: usize, R: Wait>(
+        &mut self,
+        rt: &R,
+        alloc: Global,
+        cache: &ServiceCache<D, P, PAGE>,
+        load: &ServedLoad,
+        key: u32,
+        number: u32,
+    ) -> Step
+        requires key { key < length self.old.words.items }
+        requires number { number < 4294967295 }
+        ensures words { Sets self.old.words.items self.new.words.items key (word_after_put result number) }
+        ensures generator { self.new.generator ≡ self.old.generator }
+    {
+        let Ok((name, value)) = object(alloc, load, self.number, key, number) else {
+            let _removed = self.remove(rt, cache, key);
+            return Step::Refused;
+        };
+        match cache.put_or_remove(rt, name, value, expires_of(load, number)) {
+            Ok(_) => {
+                self.words[key as usize] = number + 1;
+                Step::Done
+            }
+            Err(_) => {
+                self.words[key as usize] = 0;
+                Step::Refused
+            }
+        }
+    }
+
+    /// Removes a key.
+    fn remove<D: PageDevice<PAGE>, P: EvictionPolicy + Drop, const PAGE: usize, R: Wait>(
+        &mut self,
+        rt: &R,
+        cache: &ServiceCache<D, P, PAGE>,
+        key: u32,
+    ) -> Step
+        requires { key < length self.old.words.items }
+        ensures words { Sets self.old.words.items self.new.words.items key 0 }
+        ensures generator { self.new.generator ≡ self.old.generator }
+    {
+        let removed = cache.remove(rt, &key_bytes(self.number, key));
+        self.words[key as usize] = 0;
+        match removed {
+            Ok(()) => Step::Done,
+            Err(_) => Step::Refused,
+        }
+    }
+}
+
+ghost use Rattle.std.specs.Prelude.{slice_index};
+ghost use Rattle.serve_load.specs.Words.{JudgesHit};
+
+/// A caller's key, and the value that its operation with this number puts for it.
+fn object(
+    alloc: Global,
+    load: &ServedLoad,
+    caller: u16,
+    number_of_key: u32,
+    number: u32,
+) -> Result<(Key, Value), AllocError>
+    ensures { IfOk result (λ made. (made.0 ≡ key_of caller number_of_key)
+        × (made.1 ≡ value_of load.now.value_bytes number_of_key number)) }
+{
+    let key = key(alloc, caller, number_of_key)?;
+    let value = value(alloc, load, number_of_key, number)?;
+    Ok((key, value))
+}
+
+ghost use Rattle.serve_load.specs.Objects.{key_of, value_of};
+
+use record_pages::{Key, Value};
+
+/// Counts a thousand operations more where the one with this number is the last of a thousand.
+fn count(made: &AtomicU64, number: u32) {
+    if number % 1000 == 999 {
+        made.fetch_add(1000, Ordering::SeqCst);
+    }
+}

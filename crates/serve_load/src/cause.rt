@@ -1,0 +1,29 @@
+// What failed of a load, where the system did.
+use file_device::FileOpenFault;
+use std::io;
+use std::io::Write;
+
+/// What failed of a load.
+#[derive(Debug, Drop)]
+pub(crate) enum Cause {
+    /// The file of a lane's device, of this name, was not opened, for this reason.
+    Device(String, FileOpenFault),
+    /// The output did not take the report.
+    Output,
+    /// The system gave no random numbers, for this reason.
+    Random(io::Error),
+    /// The system did not tell the time, for this reason.
+    Clock(io::Error),
+}
+
+impl Cause {
+    /// Tells it in a line, which names the file that failed, where one did. What `err` refuses is not told.
+    pub(crate) fn tell<E: Write>(&self, err: &mut E) {
+        let _ = match self {
+            Cause::Device(path, fault) => write!(err, "{}: {fault}\n", path.as_str()),
+            Cause::Output => write!(err, "the report was not written whole\n"),
+            Cause::Random(error) => write!(err, "no random numbers: {error}\n"),
+            Cause::Clock(error) => write!(err, "no time: {error}\n"),
+        };
+    }
+}

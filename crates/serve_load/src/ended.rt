@@ -1,0 +1,43 @@
+// How a load ended, with what failed.
+ghost use Rattle.std.specs.Prelude.{◌≡◌};
+
+use crate::cause::Cause;
+use crate::serve_end::ServeEnd;
+use std::io::Write;
+
+/// How a load ended, and what failed, where the system did.
+#[derive(Debug, Drop)]
+pub(crate) struct Ended {
+    pub(crate) end: ServeEnd,
+    pub(crate) cause: Option<Cause>,
+}
+
+impl Ended {
+    /// A load that ended so, with nothing more to tell.
+    pub(crate) fn plain(end: ServeEnd) -> Ended
+        ensures { result.end ≡ end }
+    {
+        Ended { end, cause: None }
+    }
+
+    /// A load of which this failed.
+    pub(crate) fn failed(cause: Cause) -> Ended
+        ensures { result.end ≡ ServeEnd.FileFault }
+    {
+        Ended {
+            end: ServeEnd::FileFault,
+            cause: Some(cause),
+        }
+    }
+
+    /// Writes the line of the end, where it has one, and what failed. What `err` refuses is not told.
+    pub(crate) fn tell<E: Write>(&self, err: &mut E) {
+        if let Some(message) = self.end.message() {
+            let _ = write!(err, "{message}\n");
+        }
+        if let Some(cause) = &self.cause {
+            cause.tell(err);
+        }
+        let _ = err.flush();
+    }
+}

@@ -1,0 +1,66 @@
+// What a load's cache is made of.
+ghost use Rattle.std.specs.Prelude.{◌≡◌, ◌≤◌, ◌*◌, ◌+◌, IfErr, IfOk};
+ghost use Rattle.serve_load.specs.Wanting.{RefusesSize};
+
+use crate::sized::sized_form;
+use cache_sizes::SizeFault;
+use load::{ServedLoad, pages_of};
+use record_pages::Layout;
+
+/// What a load's cache is made of.
+#[derive(Clone, Copy, Debug, PartialEq, Eq)]
+pub struct Form {
+    /// The numbers of each shard.
+    pub layout: Layout,
+    /// Groups of as many lanes, 1 to 1,024.
+    pub shards: u32,
+    /// Slots of each lane for leases, 1 to 1,048,576: one where the load has none, which nobody uses.
+    pub lease_slots: u32,
+    ghost shards_range: { (1 ≤ shards) × (shards ≤ 1024) },
+    ghost lease_slots_range: { (1 ≤ lease_slots) × (lease_slots ≤ 1048576) },
+}
+
+impl Form {
+    ghost use Rattle.serve_load.specs.Forms.{IsFormOf};
+
+    /// The form of a load: that of its numbers, or the one for its size, where it has one. With a size, memory that is not given
+    /// is an eighth of it, an object has as many bytes as a key and a value of the load, and the threads are the callers.
+    ///
+    /// The refusals are those of `Shape::of`.
+    pub fn of(load: &ServedLoad) -> Result<Form, SizeFault>
+        ensures formed { IfOk result (λ form. IsFormOf load.now load.now.size form) }
+        ensures refused { IfErr result (λ fault. RefusesSize load.now load.now.size fault) }
+    {
+        let lease_slots = load.leases.max(1);
+        match load.size {
+            None => Ok(Form {
+                layout: load.layout,
+                shards: load.shards,
+                lease_slots,
+            }),
+            Some(size) => match sized_form(load, size) {
+                Ok(sized) => Ok(Form {
+                    layout: sized.layout,
+                    shards: sized.shards,
+                    lease_slots,
+                }),
+                Err(fault) => Err(fault),
+            },
+        }
+    }
+
+    /// Lanes of all shards.
+    pub fn lanes(&self) -> u32
+        ensures { result ≡ self.now.shards * self.now.layout.lanes }
+    {
+        self.shards * self.layout.lanes
+    }
+
+    /// Pages of each lane's device.
+    pub fn pages(&self) -> u32
+        ensures { result ≡ self.now.layout.sets
+            + self.now.layout.segments * self.now.layout.segment_pages }
+    {
+        pages_of(&self.layout)
+    }
+}

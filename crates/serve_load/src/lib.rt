@@ -1,0 +1,25 @@
+//! A load of a cache that serves: its callers and workers in threads on one cache, what its callers know of their keys, and what
+//! is told of it.
+#![tactic(auto)]
+
+mod caller;
+mod cause;
+mod crew;
+mod ended;
+mod form;
+mod made;
+mod objects;
+mod report;
+mod right;
+mod serve_end;
+mod serving;
+mod sized;
+mod totals;
+mod words;
+mod worker;
+
+pub use form::Form;
+pub use objects::KEY_BYTES;
+pub use report::Report;
+pub use serve_end::ServeEnd;
+pub use serving::{serve_load, serve_over};

@@ -1,0 +1,47 @@
+// What a hit has to be.
+ghost use Rattle.std.specs.Prelude.{◌≡◌, ◌↔◌, IsTrue, length};
+ghost use Rattle.serve_load.specs.Objects.{repeated, value_of};
+ghost use Rattle.serve_load.specs.Words.{IsRight};
+
+use crate::objects::{expires_of, word};
+use load::ServedLoad;
+
+/// Whether a caller that knows this word of a key may hit these bytes at this moment: the word is that of an operation, the bytes
+/// are its value, and they are not expired.
+pub(crate) fn is_right(load: &ServedLoad, key: u32, known: u32, moment: u64, bytes: &[u8]) -> bool
+    ensures { IsTrue result ↔ IsRight load.now key known moment bytes.now }
+{
+    if known == 0 {
+        return false;
+    }
+    let number = known - 1;
+    if !is_value(load, key, number, bytes) {
+        return false;
+    }
+    moment < expires_of(load, number)
+}
+
+/// Whether bytes are the value that the operation with this number puts for a key.
+fn is_value(load: &ServedLoad, key: u32, number: u32, bytes: &[u8]) -> bool
+    ensures { IsTrue result ↔ (bytes.now ≡ value_of load.now.value_bytes key number) }
+{
+    if bytes.len() != load.value_bytes as usize {
+        return false;
+    }
+    repeats(&word(key, number), bytes)
+}
+
+/// Whether bytes are a word, over and over, cut where they end.
+fn repeats(word: &[u8; 8], bytes: &[u8]) -> bool
+    ensures { IsTrue result ↔ (bytes.now ≡ repeated word.now (length bytes.now)) }
+{
+    let mut rest = bytes;
+    while rest.len() >= 8 {
+        let (front, back) = rest.split_at(8);
+        if front != word.as_slice() {
+            return false;
+        }
+        rest = back;
+    }
+    rest == &word[..rest.len()]
+}

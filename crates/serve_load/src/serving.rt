@@ -1,0 +1,185 @@
+// A load, from what it is asked for to its status.
+ghost use Rattle.std.specs.Prelude.{◌≡◌, ◌≢◌, ◌↔◌, ◌⊎◌, ◌<◌, ◌+◌, IfErr, IfOk};
+ghost use Rattle.service_cache.specs.Serving.{lanes_of};
+ghost use Rattle.serve_load.specs.Ends.{IsFailure, status_of};
+ghost use Rattle.serve_load.specs.Serving.{IsServed, IsServedOver, IsSaid, IsRefusedFirst, WroteReport};
+
+use crate::cause::Cause;
+use crate::ended::Ended;
+use crate::form::Form;
+use crate::made::make;
+use crate::report::Report;
+use crate::serve_end::ServeEnd;
+use file_device::FileDevice;
+use key_hash::RandomSeed;
+use lane_files::{LaneFileFault, lanes_in_files, lanes_in_memory, taken_places};
+use load::{FileName, ServedLoad, config_of};
+use page_device::PageDevice;
+use rriparoo::Rriparoo;
+use service_cache::ServiceCache;
+use std::alloc::{AllocError, Global};
+use std::fs::File;
+use std::io::{IsTerminal, Write};
+use std::random::RandomSource;
+use std::rt::Files;
+use std::sync::Wait;
+use std::thread::Threads;
+use std::time::Clock;
+
+/// The page size of a load, in bytes.
+const PAGE: usize = 4096;
+
+/// The cache of a load over such devices.
+type Cache<D> = ServiceCache<D, Rriparoo, PAGE>;
+
+/// Runs a load of a cache that serves, and answers the status that the program ends with.
+///
+/// Each lane has a device: in memory, or in a file of the load's folder, `lane-0.dev` and so on over all shards, which is made
+/// where it is absent and stays when the load is over. A page of a file that can't be read or written is a page of the cache that
+/// failed, and ends nothing.
+///
+/// Each caller has a thread, a generator and keys of its own, and knows what each of its keys has; a hit of anything else is
+/// wrong, and ends it and the load. The workers do the upkeep beside them. Then the report is written to `out`. What went wrong
+/// is told to `err`, in a line, and where the system failed in a second one, with its cause. Where `err` is a terminal it is told
+/// too how many operations were made, at most twice a second while they are. No history is recorded, so memory does not grow by
+/// the operations.
+pub fn serve_load<
+    R: Threads + Wait + Sync + AllocGlobal + Files<File = File> + Clock + RandomSource,
+    O: Write,
+    E: Write + IsTerminal,
+>(rt: &R, load: &ServedLoad, out: &mut O, err: &mut E) -> u8
+    ensures { IsServed load.now (O.contents out.old) (O.contents out.new) result }
+{
+    let _places = taken_places(rt);
+    let ended = serve_to_end(rt, load, out, err);
+    ended.tell(err);
+    ended.end.status()
+}
+
+/// Runs a load over devices that the caller has, one for each lane of a form, and answers the status that the program ends with.
+/// Which of the load's numbers the form has is the caller's affair; gets and removes may exceed 100 per cent, and count up to that.
+pub fn serve_over<
+    D: PageDevice<PAGE> + Send,
+    R: Threads + Wait + Sync + AllocGlobal + Clock + RandomSource,
+    O: Write,
+    E: Write + IsTerminal,
+>(rt: &R, load: &ServedLoad, form: &Form, devices: Vec<D>, out: &mut O, err: &mut E) -> u8
+    ensures { IsServedOver load.now (O.contents out.old) (O.contents out.new) result }
+{
+    let ended = over(rt, load, form, devices, out, err);
+    ended.tell(err);
+    ended.end.status()
+}
+
+/// Runs a load, and answers how it ended.
+fn serve_to_end<
+    R: Threads + Wait + Sync + AllocGlobal + Files<File = File> + Clock + RandomSource,
+    O: Write,
+    E: Write + IsTerminal,
+>(rt: &R, load: &ServedLoad, out: &mut O, err: &mut E) -> Ended
+    ensures first { IsRefusedFirst load.now result.end }
+    ensures wrote { WroteReport load.now (O.contents out.old) (O.contents out.new) result.end }
+{
+    if load.gets + load.removes > 100 {
+        return Ended::plain(ServeEnd::SharesExceed);
+    }
+    if load.size.is_none() && load.memory_bytes.is_some() {
+        return Ended::plain(ServeEnd::NoSize);
+    }
+    let form = match Form::of(load) {
+        Ok(form) => form,
+        Err(fault) => return Ended::plain(ServeEnd::Size(fault)),
+    };
+    match &load.device {
+        Some(folder) => match in_files(rt, rt.alloc(), &form, folder) {
+            Ok(devices) => over(rt, load, &form, devices, out, err),
+            Err(ended) => ended,
+        },
+        None => match lanes_in_memory(rt.alloc(), form.lanes(), form.pages()) {
+            Ok(devices) => over(rt, load, &form, devices, out, err),
+            Err(_) => Ended::plain(ServeEnd::OutOfMemory),
+        },
+    }
+}
+
+/// A device in a file of this folder for each lane of a form.
+fn in_files<R: Files<File = File>>(
+    rt: &R,
+    alloc: Global,
+    form: &Form,
+    folder: &FileName,
+) -> Result<Vec<FileDevice<PAGE>>, Ended>
+    ensures { IfErr result (λ ended. IsFailure ended.end) }
+{
+    match lanes_in_files(rt, alloc, folder.as_str(), form.lanes(), form.pages()) {
+        Ok(devices) => Ok(devices),
+        Err(LaneFileFault::OutOfMemory) => Err(Ended::plain(ServeEnd::OutOfMemory)),
+        Err(LaneFileFault::Unopened(path, fault)) => Err(Ended::failed(Cause::Device(path, fault))),
+    }
+}
+
+/// Runs a load over its devices, and answers how it ended.
+fn over<
+    D: PageDevice<PAGE> + Send,
+    R: Threads + Wait + Sync + AllocGlobal + Clock + RandomSource,
+    O: Write,
+    E: Write + IsTerminal,
+>(rt: &R, load: &ServedLoad, form: &Form, devices: Vec<D>, out: &mut O, err: &mut E) -> Ended
+    ensures late { IsLate result.end }
+    ensures wrote { WroteReport load.now (O.contents out.old) (O.contents out.new) result.end }
+{
+    let seed = match RandomSeed::draw(rt) {
+        Ok(seed) => seed,
+        Err(error) => return Ended::failed(Cause::Random(error)),
+    };
+    let Ok(cache) = open(rt.alloc(), form, devices, seed) else {
+        return Ended::plain(ServeEnd::OutOfMemory);
+    };
+    match make(rt, rt.alloc(), load, &cache, err) {
+        Ok(report) => write_report(rt.alloc(), &report, out),
+        Err(ended) => ended,
+    }
+}
+
+ghost use Rattle.serve_load.specs.Serving.{IsLate};
+
+/// A cache of a form over its devices.
+fn open<D: PageDevice<PAGE>>(
+    alloc: Global,
+    form: &Form,
+    devices: Vec<D>,
+    seed: RandomSeed,
+) -> Result<Cache<D>, AllocError>
+    ensures { IfOk result (λ cache. 0 < lanes_of cache) }
+{
+    match ServiceCache::open(
+        alloc,
+        &config_of(&form.layout),
+        form.shards,
+        form.lease_slots,
+        devices,
+        Rriparoo,
+        seed,
+    ) {
+        Ok(cache) => Ok(cache),
+        // The numbers of a form are in their ranges, and there is a device for each lane with pages enough, so nothing but
+        // memory is refused.
+        Err(_) => Err(AllocError),
+    }
+}
+
+/// Writes a report, and answers how the load ended.
+fn write_report<O: Write>(alloc: Global, report: &Report, out: &mut O) -> Ended
+    ensures { IsSaid report.now (O.contents out.old) (O.contents out.new) result.end }
+{
+    let Ok(text) = report.text(alloc) else {
+        return Ended::plain(ServeEnd::OutOfMemory);
+    };
+    if out.write_all(text.as_bytes()).is_err() {
+        return Ended::failed(Cause::Output);
+    }
+    if out.flush().is_err() {
+        return Ended::failed(Cause::Output);
+    }
+    Ended::plain(ServeEnd::of_wrong_hits(report.wrong_hits))
+}

@@ -1,0 +1,42 @@
+// What a caller knows of its keys.
+ghost use Rattle.std.specs.Prelude.{◌≡◌};
+ghost use Rattle.serve_load.specs.Words.{step_of_fill, word_after_fill};
+
+use record_pages::PutFault;
+use service_lane::Filled;
+
+/// How a call of a caller went.
+#[derive(Clone, Copy, Debug, PartialEq, Eq)]
+pub(crate) enum Step {
+    /// It was answered, and a hit was right.
+    Done,
+    /// Memory was refused, and nothing was stored.
+    Refused,
+    /// A hit was not right.
+    WrongHit,
+}
+
+/// What a caller knows of a key behind its fill in the operation with this number, where it knew this before.
+///
+/// A word of a key is 0 where the key has no value, and else 1 more than the number of the operation that put it.
+pub(crate) fn word_after_fill(filled: Result<Filled, PutFault>, known: u32, number: u32) -> u32
+    requires { number < 4294967295 }
+    ensures { result ≡ word_after_fill filled known number }
+{
+    match filled {
+        Ok(Filled::Stored(_)) => number + 1,
+        Ok(Filled::Stale) | Err(_) => known,
+    }
+}
+
+/// How a fill went.
+pub(crate) fn step_of_fill(filled: Result<Filled, PutFault>) -> Step
+    ensures { result ≡ step_of_fill filled }
+{
+    match filled {
+        Ok(_) => Step::Done,
+        Err(_) => Step::Refused,
+    }
+}
+
+ghost use Rattle.std.specs.Prelude.{◌<◌};

@@ -1,0 +1,79 @@
+// A worker of a load.
+ghost use Rattle.std.specs.Prelude.{◌≡◌, ◌<◌, ◌+◌, ◌%◌};
+ghost use Rattle.service_cache.specs.Serving.{lanes_of};
+
+use page_device::PageDevice;
+use policy_laws::EvictionPolicy;
+use service_cache::ServiceCache;
+use service_lane::Upkept;
+use std::sync::Wait;
+use std::sync::atomic::{AtomicU64, Ordering};
+use std::time::Duration;
+
+/// How long a worker waits, at the most, that found nothing to do in any lane, in microseconds.
+const NAP: u64 = 50;
+
+/// How many steps a worker does in a lane before it goes on to the next.
+const STEPS: u32 = 16;
+
+/// Does the upkeep of each lane in turn, beginning with the one of the worker's number, until all callers ended. Where there was
+/// nothing to do in as many lanes as there are, one after the other, it leaves their locks alone for a while.
+pub(crate) fn work<D: PageDevice<PAGE>, P: EvictionPolicy + Drop, const PAGE: usize, R: Wait>(
+    rt: &R,
+    cache: &ServiceCache<D, P, PAGE>,
+    worker: u32,
+    running: &AtomicU64,
+)
+    requires { 0 < lanes_of cache.now }
+{
+    let lanes = cache.lanes();
+    let mut lane = worker % lanes;
+    let mut idle = 0;
+    for _ in rt.forever() {
+        let callers = running.load(Ordering::SeqCst);
+        if callers == 0 {
+            return;
+        }
+        idle = if tend(rt, cache, lane) { 0 } else { idle + 1 };
+        if idle == lanes {
+            running.park_timeout(
+                rt,
+                (callers & 0xffff_ffff) as u32,
+                Duration::from_micros(NAP),
+            );
+            idle = 0;
+        }
+        lane = lane_after(lane, lanes);
+    }
+}
+
+/// The lane after this one, in turn.
+fn lane_after(lane: u32, lanes: u32) -> u32
+    requires { lane < lanes }
+    ensures next { result ≡ (lane + 1) % lanes }
+    ensures within { result < lanes }
+{
+    if lane + 1 < lanes { lane + 1 } else { 0 }
+}
+
+/// Does what is due in a lane, up to so many steps, or to one that is refused memory. Whether a step was done.
+fn tend<D: PageDevice<PAGE>, P: EvictionPolicy + Drop, const PAGE: usize, R: Wait>(
+    rt: &R,
+    cache: &ServiceCache<D, P, PAGE>,
+    lane: u32,
+) -> bool
+    requires { lane < lanes_of cache.now }
+{
+    let mut tended = false;
+    for _ in 0..STEPS {
+        let step = cache.upkeep_step(rt, lane);
+        match step.did {
+            Upkept::Idle | Upkept::OutOfMemory => return tended,
+            Upkept::Flushed(_) | Upkept::Moved(_) => tended = true,
+        }
+        if !step.is_due {
+            return true;
+        }
+    }
+    tended
+}

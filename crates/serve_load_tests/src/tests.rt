@@ -1,0 +1,7 @@
+//! Loads of a cache that serves.
+mod ends;
+mod loads;
+mod operations;
+mod options;
+mod reports;
+mod screen;

@@ -1,0 +1,212 @@
+//! Loads with fixed seeds, whose schedules differ and whose ends do not.
+use super::screen::Screen;
+use command_line::{Line, parse_line};
+use load::ServedLoad;
+use page_device::PageDevice;
+use serve_load::{Form, serve_load, serve_over};
+use stale_device::StaleDevice;
+use std::alloc::Global;
+use std::fs;
+use std::random::RandomSource;
+use std::rt::Files;
+use std::sync::Wait;
+use std::test::Fail;
+use std::thread::Threads;
+use std::time::Clock;
+
+/// What a load ended with and wrote.
+#[derive(Drop)]
+pub struct Ran {
+    pub status: u8,
+    pub out: Vec<u8>,
+    pub err: Vec<u8>,
+}
+
+/// Runs a load.
+pub fn run_of<
+    R: Threads + Wait + Sync + AllocGlobal + Files<File = fs::File> + Clock + RandomSource,
+>(rt: &R, load: &ServedLoad) -> Ran {
+    let mut out: Vec<u8> = Vec::new(rt.alloc());
+    let mut screen = Screen {
+        bytes: Vec::new(rt.alloc()),
+        is_terminal: false,
+    };
+    let status = serve_load(rt, load, &mut out, &mut screen);
+    Ran {
+        status,
+        out,
+        err: screen.bytes,
+    }
+}
+
+/// Runs a load over these devices.
+fn run_over<
+    D: PageDevice<4096> + Send,
+    R: Threads + Wait + Sync + AllocGlobal + Clock + RandomSource,
+>(rt: &R, load: &ServedLoad, form: &Form, devices: Vec<D>) -> Ran {
+    let mut out: Vec<u8> = Vec::new(rt.alloc());
+    let mut screen = Screen {
+        bytes: Vec::new(rt.alloc()),
+        is_terminal: false,
+    };
+    let status = serve_over(rt, load, form, devices, &mut out, &mut screen);
+    Ran {
+        status,
+        out,
+        err: screen.bytes,
+    }
+}
+
+/// The load that words ask for.
+pub fn load_of<'a>(alloc: Global, words: &'a [&'a str]) -> Option<ServedLoad> {
+    match parse_line(alloc, words) {
+        Ok(Line::Serve(load)) => Some(load),
+        _ => None,
+    }
+}
+
+/// The last lines of a load that met no wrong hit.
+const RIGHT: &[u8] =
+    b"\nrefused 0\nwrong-hits 0\nno history was recorded, so nothing was judged beyond each caller's check of the hits of its own keys\n";
+
+/// Whether a load made so many operations and met no wrong hit: its report says so, and nothing went to the other output.
+fn is_right(ran: &Ran, operations: &[u8]) -> bool {
+    ran.status == 0
+        && ran.err.is_empty()
+        && ran.out.as_slice().starts_with(operations)
+        && ran.out.as_slice().ends_with(RIGHT)
+}
+
+/// Two shards of small lanes, which hold a small part of the keys.
+const SMALL: &[&str] = &[
+    "k",
+    "serve-load",
+    "--shards",
+    "2",
+    "--lanes",
+    "2",
+    "--sets",
+    "3",
+    "--memory",
+    "4",
+    "--segments",
+    "3",
+    "--segment-pages",
+    "1",
+    "--callers",
+    "3",
+    "--operations",
+    "4000",
+    "--keys",
+    "200",
+];
+
+#[test]
+fn a_load_of_small_lanes_meets_no_wrong_hit(rt: HostRuntime) -> Result<(), Fail> {
+    let load = load_of(rt.alloc(), SMALL).ok_or("a load")?;
+    assert!(rt; is_right(&run_of(&rt, &load), b"operations 12000\nseconds "));
+    Ok(())
+}
+
+/// The same with leases and puts that expire.
+const LEASED: &[&str] = &[
+    "k",
+    "serve-load",
+    "--lanes",
+    "2",
+    "--sets",
+    "3",
+    "--memory",
+    "4",
+    "--leases",
+    "8",
+    "--ttl",
+    "500",
+    "--callers",
+    "3",
+    "--operations",
+    "4000",
+    "--keys",
+    "200",
+    "--value-bytes",
+    "9",
+];
+
+#[test]
+fn a_load_with_leases_and_expiry_meets_no_wrong_hit(rt: HostRuntime) -> Result<(), Fail> {
+    let load = load_of(rt.alloc(), LEASED).ok_or("a load")?;
+    assert!(rt; is_right(&run_of(&rt, &load), b"operations 12000\nseconds "));
+    Ok(())
+}
+
+/// A cache of a size, in files.
+const SIZED: &[&str] = &[
+    "k",
+    "serve-load",
+    "--size",
+    "4194304",
+    "--device",
+    "sized.devices",
+    "--callers",
+    "2",
+    "--operations",
+    "2000",
+];
+
+#[test]
+fn a_load_of_a_size_over_files_meets_no_wrong_hit_and_leaves_them(
+    rt: HostRuntime,
+) -> Result<(), Fail> {
+    let _ = fs::remove_dir_all(&rt, "sized.devices");
+    fs::create_dir(&rt, "sized.devices")?;
+    let load = load_of(rt.alloc(), SIZED).ok_or("a load")?;
+    assert!(rt; is_right(&run_of(&rt, &load), b"operations 4000\nseconds "));
+    assert!(rt; fs::metadata(&rt, "sized.devices/lane-0.dev")?.is_file());
+    Ok(fs::remove_dir_all(&rt, "sized.devices")?)
+}
+
+/// One lane of one set, which most hits come from.
+const STALE: &[&str] = &[
+    "k",
+    "serve-load",
+    "--lanes",
+    "1",
+    "--sets",
+    "1",
+    "--memory",
+    "1",
+    "--segments",
+    "2",
+    "--segment-pages",
+    "1",
+    "--threshold",
+    "1",
+    "--callers",
+    "1",
+    "--operations",
+    "100000",
+    "--keys",
+    "60",
+    "--gets",
+    "50",
+];
+
+/// A device whose first page goes back to what it was before its last write.
+fn stale_devices(alloc: Global, form: &Form) -> Result<Vec<StaleDevice<4096>>, Fail> {
+    let mut devices = Vec::new(alloc);
+    devices.push(StaleDevice::new(alloc, form.pages(), 0, 4)?)?;
+    Ok(devices)
+}
+
+#[test]
+fn a_page_that_goes_back_is_found_as_a_wrong_hit(rt: HostRuntime) -> Result<(), Fail> {
+    let load = load_of(rt.alloc(), STALE).ok_or("a load")?;
+    let form = Form::of(&load)?;
+    let devices = stale_devices(rt.alloc(), &form)?;
+    let ran = run_over(&rt, &load, &form, devices);
+    assert!(rt; ran.status == 1 && ran.err.as_slice() == b"a hit was wrong\n".as_slice());
+    assert!(rt;
+        ran.out.as_slice().starts_with(b"operations ") && !ran.out.as_slice().ends_with(RIGHT)
+    );
+    Ok(())
+}

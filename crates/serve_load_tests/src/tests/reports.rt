@@ -1,0 +1,112 @@
+//! The report of a load.
+use serve_load::Report;
+use service_lane::{
+    Counts, GetCounts, LeaseCounts, PushedCounts, PutCounts, StepCounts, UpkeepCounts,
+};
+use std::test::Fail;
+
+/// A report in which each number is another one.
+const REPORT: Report = Report {
+    operations: 4500,
+    refused: 44,
+    wrong_hits: 1,
+    milliseconds: 2007,
+    counts: Counts {
+        gets: GetCounts {
+            memory_hits: 1,
+            log_hits: 2,
+            set_hits: 3,
+            absent: 4,
+            expired: 5,
+            faults: 6,
+            damaged: 7,
+        },
+        puts: PutCounts {
+            stored: 8,
+            bytes: 9,
+            too_large: 0,
+            out_of_memory: 10,
+        },
+        fills: PutCounts {
+            stored: 12,
+            bytes: 13,
+            too_large: 0,
+            out_of_memory: 14,
+        },
+        leases: LeaseCounts {
+            given: 11,
+            stale: 15,
+        },
+        removals: 33,
+        pushed: PushedCounts {
+            declined: 16,
+            logged: 17,
+            log_full: 18,
+            index_full: 19,
+        },
+        steps: StepCounts {
+            sealed: 20,
+            pages_written: 21,
+            pages_lost: 22,
+            sets_written: 23,
+            sets_forgotten: 24,
+            segments_freed: 25,
+            readmitted: 26,
+            dropped: 27,
+            out_of_memory: 28,
+        },
+        upkeep: UpkeepCounts {
+            steps: 29,
+            in_help: 30,
+        },
+    },
+    memory_objects: 31,
+    log_records: 32,
+};
+
+/// Its text: 4,500 operations in 2.007 seconds are 2,242 a second.
+const TEXT: &str = "operations 4500
+seconds 2.007
+operations-a-second 2242
+hits-memory 1
+hits-log 2
+hits-set 3
+misses-absent 4
+misses-expired 5
+misses-fault 6
+misses-damaged 7
+puts-stored 8
+puts-bytes 9
+puts-refused 10
+leases 11
+fills-stored 12
+fills-bytes 13
+fills-refused 14
+fills-stale 15
+pushed-declined 16
+pushed-logged 17
+pushed-log-full 18
+pushed-index-full 19
+pages-written 21
+pages-lost 22
+sets-written 23
+sets-forgotten 24
+segments-freed 25
+moves-readmitted 26
+moves-dropped 27
+moves-refused 28
+upkeep-steps 29
+upkeep-in-help 30
+removals 33
+memory-objects 31
+log-records 32
+refused 44
+wrong-hits 1
+no history was recorded, so nothing was judged beyond each caller's check of the hits of its own keys
+";
+
+#[test]
+fn a_report_has_a_line_for_each_number(rt: HostRuntime) -> Result<(), Fail> {
+    assert_eq!(rt; REPORT.text(rt.alloc())?.as_str(), TEXT);
+    Ok(())
+}
