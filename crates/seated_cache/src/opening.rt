@@ -1,5 +1,5 @@
 // The parts of a new cache.
-ghost use Rattle.std.specs.Prelude.{◌≡◌, [], IfOk, length};
+ghost use Rattle.std.specs.Prelude.{◌≡◌, ◌<◌, ◌^◌, [], IfOk, length};
 
 use crate::guarded::Guarded;
 use crossbeam_utils::CachePadded;
@@ -31,6 +31,7 @@ pub(crate) fn lanes_over<D: PageDevice<PAGE>, const PAGE: usize, L: KeyLanes, J:
 ) -> Result<Vec<Locked<D, PAGE, L, J>>, AllocError>
     requires first { book ≡ 0 }
     requires one_each { length devices.items ≡ L.lanes }
+    requires few { length devices.items < 2 ^ 32 }
     ensures { IfOk result (λ lanes. length lanes.items ≡ length devices.items) }
 {
     let count = devices.len();

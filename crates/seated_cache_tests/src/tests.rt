@@ -1,6 +1,8 @@
 //! Two threads call a cache, each with a seat; whoever has seen what both have seen gets the latest value.
-ghost use Rattle.std.specs.Prelude.{◌≡◌, IfOk, IfSome, OnOk, length};
+ghost use Rattle.std.specs.Prelude.{◌≡◌, [], ◌∷◌, IfOk, IfSome, IsTrue, true, length};
+ghost use Rattle.certificate_checker.specs.Deeds.{Deed};
 ghost use Rattle.mover.specs.Get.{answer_of};
+ghost use Rattle.service_lane.specs.Asked.{IsLiveHit};
 ghost use Rattle.seated_lane.specs.Seated.{put_of};
 ghost use Rattle.seated_cache.specs.Sorted.{SortsBy};
 ghost use Rattle.seated_cache_tests.specs.Standing.{Stands};
@@ -41,6 +43,14 @@ type Cache<L, J> = SeatedCache<MemoryDevice<256>, Rriparoo, 256, L, J>;
 struct Object {
     key: Key,
     value: Value,
+}
+
+// What the last look-up gave, and the seat that it was made with.
+#[derive(Drop)]
+struct Last<L: KeyLanes, J: Naming> {
+    seat: Seat<L, J>,
+    seen: Seen,
+    found: ValueBuffer,
 }
 
 // An object of this key.
@@ -109,14 +119,28 @@ fn found_by_both<L: KeyLanes + Send + Sync, J: Naming + Send + Sync, R: Threads 
         seed,
         book.named::<J>(),
     )?;
-    let mut found = ValueBuffer::empty();
-    match seen_by_both(rt, &cache, first, second) {
-        Some(mut seat) => Ok(
-            cache.get(rt, &mut seat, b"ax", 0, &mut found) == Ok(Seen::Hit(Tier::Memory))
-                && found.bytes() == b"one".as_slice(),
+    match last_of_both(rt, &cache, first, second) {
+        Some(last) => Ok(
+            last.seen == Seen::Hit(Tier::Memory) && last.found.bytes() == b"one".as_slice(),
         ),
         None => Ok(false),
     }
+}
+
+// Each thread puts its object. Who has seen what both have seen has seen both puts; and what he hits is his key's latest value in
+// what he has seen.
+fn last_of_both<L: KeyLanes + Send + Sync, J: Naming + Send + Sync, R: Threads + Wait + Sync>(
+    rt: &R,
+    cache: &Cache<L, J>,
+    first: Object,
+    second: Object,
+) -> Option<Last<L, J>>
+    ensures first { IfSome result (λ last. Stands (put_of first.key first.value 18446744073709551615) last.seat) }
+    ensures second { IfSome result (λ last. Stands (put_of second.key second.value 18446744073709551615) last.seat) }
+    ensures live { IfSome result (λ last. IsLiveHit (IsTrue true) last.seat (97 ∷ 120 ∷ []) 0 (answer_of last.seen last.found)) }
+{
+    let seat = seen_by_both(rt, cache, first, second)?;
+    get_in(rt, cache, seat, b"ax")
 }
 
 // Each thread puts its object. Who has seen what both have seen has seen both puts.
@@ -154,6 +178,23 @@ fn put_in<L: KeyLanes, J: Naming, R: Wait>(
     let mut seat = cache.seat();
     match cache.put(rt, &mut seat, object.key, object.value, NEVER) {
         Ok(_) => Some(seat),
+        Err(_) => None,
+    }
+}
+
+// Looks a key up.
+fn get_in<L: KeyLanes, J: Naming, R: Wait>(
+    rt: &R,
+    cache: &Cache<L, J>,
+    mut seat: Seat<L, J>,
+    key: &[u8],
+) -> Option<Last<L, J>>
+    ensures live { IfSome result (λ last. IsLiveHit (IsTrue true) last.seat key.now 0 (answer_of last.seen last.found)) }
+    ensures kept { (deed : Deed) → Stands deed seat → IfSome result (λ last. Stands deed last.seat) }
+{
+    let mut found = ValueBuffer::empty();
+    match cache.get(rt, &mut seat, key, 0, &mut found) {
+        Ok(seen) => Some(Last { seat, seen, found }),
         Err(_) => None,
     }
 }

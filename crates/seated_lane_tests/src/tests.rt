@@ -1,6 +1,6 @@
 //! Two threads call a lane under a lock, each with a seat; whoever has seen what both have seen gets the latest value.
 ghost use Rattle.std.specs.Prelude.{◌≡◌, [], ◌∷◌, IfOk, IfSome, IsTrue, true};
-ghost use mathlib.Core.List.{IsPrefix};
+ghost use Rattle.certificate_checker.specs.Deeds.{Deed};
 ghost use Rattle.mover.specs.Get.{answer_of};
 ghost use Rattle.trace_file.specs.declared.act.Act.{Act};
 ghost use Rattle.service_lane.specs.Asked.{IsLiveHit};
@@ -115,20 +115,36 @@ fn last_of_both<J: Naming + Send + Sync, R: Threads + Wait + Sync>(
     ensures live { IfSome result (λ last. IsLiveHit (IsTrue true) last.seat (97 ∷ 120 ∷ []) 0 (answer_of last.seen last.found)) }
 {
     let mut book = book.named::<J>();
-    let (one, two) = (book.seat(), book.seat());
+    let seat = book.seat();
     let lane = Mutex::new(SeatedLane::new(lane, book.register()));
+    let seat = seen_by_both(rt, &lane, seat, first, second)?;
+    get_in(rt, &lane, seat, b"ax")
+}
+
+// Each thread puts its object. Who has seen what both have seen has seen both puts.
+fn seen_by_both<J: Naming + Send + Sync, R: Threads + Wait + Sync>(
+    rt: &R,
+    lane: &Mutex<Lane<J>>,
+    seat: Seat<OneLane, J>,
+    first: Object,
+    second: Object,
+) -> Option<Seat<OneLane, J>>
+    ensures first { IfSome result (λ seat. Stands (put_of first.key first.value 18446744073709551615) seat) }
+    ensures second { IfSome result (λ seat. Stands (put_of second.key second.value 18446744073709551615) seat) }
+{
+    let other = seat.again();
     let (one, two) = join(
         rt,
         || -> Option<Seat<OneLane, J>>
             ensures { IfSome result (λ seat. Stands (put_of first.key first.value 18446744073709551615) seat) }
-        { put_in(rt, &lane, one, first) },
+        { put_in(rt, lane, seat, first) },
         || -> Option<Seat<OneLane, J>>
             ensures { IfSome result (λ seat. Stands (put_of second.key second.value 18446744073709551615) seat) }
-        { put_in(rt, &lane, two, second) },
+        { put_in(rt, lane, other, second) },
     );
     let mut seat = one?;
     seat.learn(&two?);
-    get_in(rt, &lane, seat, b"ax")
+    Some(seat)
 }
 
 // Puts an object.
@@ -156,7 +172,7 @@ fn get_in<J: Naming>(
     key: &[u8],
 ) -> Option<Last<J>>
     ensures live { IfSome result (λ last. IsLiveHit (IsTrue true) last.seat key.now 0 (answer_of last.seen last.found)) }
-    ensures seen { IfSome result (λ last. IsPrefix seat last.seat) }
+    ensures seen { (deed : Deed) → Stands deed seat → IfSome result (λ last. Stands deed last.seat) }
 {
     let mut held = lane.lock(rt);
     let _number = held.number();
