@@ -1,0 +1,146 @@
+// A cache that serves callers with seats.
+ghost use Rattle.std.specs.Prelude.{◌≡◌, [], IfOk, IfErr, OnOk, length};
+ghost use Rattle.record_pages.specs.Asked.{HasNumbersOf};
+ghost use Rattle.service_cache.specs.Serving.{CanOpen, RefusesOpening, lanes_of};
+ghost use Rattle.seated_cache.specs.Sorted.{SortsBy};
+
+use crate::opening::{Locked, lanes_over};
+use deed_book::{KeyLanes, NamedBook, Naming, Seat};
+use key_hash::RandomSeed;
+use lane_devices::is_one_too_small;
+use page_device::PageDevice;
+use policy_laws::EvictionPolicy;
+use record_pages::{Config, Layout};
+use service_cache::{MAX_SHARDS, OpenServiceFault};
+use std::alloc::Global;
+use std::hash::BuildHasher;
+use std::marker::Model;
+
+mod calls;
+mod tending;
+
+/// A cache that serves: its lanes, each under a lock of its own with its register in the book of the cache, and the policy of
+/// their moves. Nothing is recorded, so it may serve for years.
+///
+/// It has shards, lanes and a seed as a `ServiceCache` has them.
+#[derive(Drop)]
+pub struct SeatedCache<
+    D: PageDevice<PAGE>,
+    P: EvictionPolicy + Drop,
+    const PAGE: usize,
+    L: KeyLanes,
+    J: Naming,
+> {
+    layout: Layout,
+    shards: u32,
+    seed: RandomSeed,
+    policy: P,
+    // Each lane stands on cache lines of its own, apart from its lock and the other lanes.
+    lanes: Vec<Locked<D, PAGE, L, J>>,
+    start: Seat<L, J>,
+}
+
+impl<D: PageDevice<PAGE>, P: EvictionPolicy + Drop, const PAGE: usize, L: KeyLanes, J: Naming> Model
+    for SeatedCache<D, P, PAGE, L, J> {
+    ghost use Rattle.std.specs.Prelude.{◌≡◌, [], length};
+    ghost use Rattle.service_cache.specs.Serving.{Shape, IsServing};
+    ghost use Rattle.seated_cache.specs.Sorted.{SortsBy};
+
+    ghost Value = { Shape };
+
+    ghost view = { λ c. record { layout = c.layout; shards = c.shards } };
+
+    ghost invariant = { λ c. IsServing (record { layout = c.layout; shards = c.shards })
+        (length c.lanes.items) × SortsBy L.lanes L.lane_of c.seed (length c.lanes.items) × (c.start ≡ []) };
+}
+
+impl<
+    D: PageDevice<PAGE>,
+    P: EvictionPolicy + Drop,
+    const PAGE: usize,
+    L: KeyLanes,
+    J: Naming,
+> SeatedCache<D, P, PAGE, L, J> {
+    /// A cache of so many shards of this configuration, with empty lanes, one over each device, and a book with no write.
+    /// Its refusals are those of `ServiceCache::open`; devices, policy and book are dropped with each.
+    pub fn open(
+        alloc: Global,
+        config: &Config,
+        shards: u32,
+        lease_slots: u32,
+        devices: Vec<D>,
+        policy: P,
+        seed: RandomSeed,
+        book: NamedBook<L, J>,
+    ) -> Result<Self, OpenServiceFault>
+        requires first { book ≡ 0 }
+        requires sorted { SortsBy L.lanes L.lane_of seed (length devices.items) }
+        ensures numbers { IfOk result (λ cache. HasNumbersOf cache.layout config.now
+            × (cache.shards ≡ shards)) }
+        ensures serves { OnOk result (CanOpen PAGE D.page_count config.now shards lease_slots devices.items) }
+        ensures refused { IfErr result
+            (RefusesOpening PAGE D.page_count config.now shards lease_slots devices.items) }
+    {
+        let layout = match config.check() {
+            Ok(layout) => layout,
+            Err(fault) => return Err(OpenServiceFault::ConfigFault(fault.field)),
+        };
+        if shards == 0 || shards > MAX_SHARDS {
+            return Err(OpenServiceFault::Shards);
+        }
+        if devices.len() != (shards * layout.lanes) as usize {
+            return Err(OpenServiceFault::DeviceCount);
+        }
+        if lease_slots == 0 {
+            return Err(OpenServiceFault::NoLeaseSlots);
+        }
+        if PAGE < 256 || PAGE > 4096 {
+            return Err(OpenServiceFault::WrongPage);
+        }
+        let pages = layout.sets + layout.segments * layout.segment_pages;
+        if is_one_too_small(pages, devices.as_slice()) {
+            return Err(OpenServiceFault::DeviceTooSmall);
+        }
+        let start = book.seat();
+        let Ok(lanes) = lanes_over(alloc, config, lease_slots, devices, seed, book) else {
+            return Err(OpenServiceFault::OutOfMemory);
+        };
+        Ok(SeatedCache {
+            layout,
+            shards,
+            seed,
+            policy,
+            lanes,
+            start,
+        })
+    }
+
+    /// How many lanes it has, those of all shards.
+    pub fn lanes(&self) -> u32
+        ensures { result ≡ lanes_of self.now }
+    {
+        self.shards * self.layout.lanes
+    }
+
+    /// The numbers of each shard.
+    pub fn layout(&self) -> Layout
+        ensures { result ≡ self.now.layout }
+    {
+        self.layout
+    }
+
+    /// A seat that has seen nothing.
+    pub fn seat(&self) -> Seat<L, J>
+        ensures { result ≡ [] }
+    {
+        self.start.again()
+    }
+
+    // The number of the lane of a key, and its lock.
+    fn lane(&self, key: &[u8]) -> (usize, &Locked<D, PAGE, L, J>)
+        ensures { result.0 ≡ L.lane_of key.now }
+    {
+        let number = (self.seed.hash_one(key) % self.lanes.len() as u64) as usize;
+        (number, &self.lanes[number])
+    }
+}

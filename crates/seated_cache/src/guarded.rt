@@ -1,0 +1,96 @@
+// What the lock of a lane keeps.
+ghost use Rattle.std.specs.Prelude.{◌≡◌, ◌<◌, IfOk, IfErr, OnOk, OnErr, IsErrOf, IsTrue};
+ghost use mathlib.Core.List.{IsPrefix};
+ghost use Rattle.record_pages.specs.Sizes.{object_size, room};
+ghost use Rattle.record_pages.specs.declared.put_fault.PutFault.{PutFault};
+ghost use Rattle.service_lane.specs.Asked.{IsLiveHit};
+ghost use Rattle.seated_lane.specs.Seated.{RefusesCall, put_of};
+ghost use Rattle.seated_lane.specs.declared.seat_fault.SeatPutFault.{SeatPutFault};
+ghost use Rattle.seated_cache.specs.Calls.{looked_up, AddsBehind, FillAdds, RefusedPutAdds};
+
+use deed_book::{KeyLanes, Naming, Seat};
+use lane_devices::Boxed;
+use mover::Seen;
+use page_device::PageDevice;
+use policy_laws::EvictionPolicy;
+use rand_core::utils::NextWord;
+use rand_pcg::Lcg64Xsh32;
+use record_pages::{Key, Pushed, Value};
+use seated_lane::{SeatFault, SeatPutFault, SeatedLane};
+use service_cache::LookedUp;
+use service_lane::{Filled, Lease};
+use value_buffer::ValueBuffer;
+
+/// What the lock of a lane keeps: the lane with its register, and the generator of its words of admission.
+#[derive(Drop)]
+pub(crate) struct Guarded<D: PageDevice<PAGE>, const PAGE: usize, L: KeyLanes, J: Naming> {
+    pub(crate) lane: SeatedLane<Boxed<D>, PAGE, L, J>,
+    pub(crate) words: Lcg64Xsh32,
+}
+
+impl<D: PageDevice<PAGE>, const PAGE: usize, L: KeyLanes, J: Naming> Guarded<D, PAGE, L, J> {
+    /// Looks a key of the lane up, and leases it at a miss.
+    pub(crate) fn get_or_lease(
+        &mut self,
+        seat: &mut Seat<L, J>,
+        key: &[u8],
+        moment: u64,
+        found: &mut ValueBuffer,
+    ) -> Result<LookedUp, SeatFault>
+        requires { L.lane_of key.now ≡ self.old.lane.register.number }
+        ensures live { IfOk result (λ seen. IsLiveHit (IsTrue (D.honest self.old.lane.serving.store.device))
+            seat.new key.now moment (looked_up seen found.new)) }
+        ensures seen { IsPrefix seat.old seat.new }
+        ensures cause { IfErr result (λ fault. RefusesCall key.now fault) }
+        ensures refused { OnErr result (found.new ≡ found.old) }
+    {
+        match self.lane.get(seat, key, moment, found)? {
+            Seen::Hit(tier) => Ok(LookedUp::Hit(tier)),
+            Seen::Miss(cause) => Ok(LookedUp::Miss(cause, self.lane.lease(key))),
+        }
+    }
+
+    /// Puts a value of a key of the lane, and helps for the room that it took.
+    pub(crate) fn put<P: EvictionPolicy>(
+        &mut self,
+        policy: &P,
+        seat: &mut Seat<L, J>,
+        key: Key,
+        value: Value,
+        expires: u64,
+    ) -> Result<Pushed, SeatPutFault>
+        requires { L.lane_of key ≡ self.old.lane.register.number }
+        ensures entered { OnOk result (AddsBehind seat.old (put_of key value expires) seat.new) }
+        ensures large { IsErrOf result (SeatPutFault.Put PutFault.TooLarge) → room PAGE < object_size key value }
+        ensures refused { IfErr result (λ fault. RefusedPutAdds seat.old (put_of key value expires) fault
+            seat.new) }
+    {
+        let word = self.words.next_word();
+        let pushed = self.lane.put(seat, key, value, word, expires)?;
+        let _helped = self.lane.help(policy);
+        Ok(pushed)
+    }
+
+    /// Fills a key of the lane by a lease, and helps for the room that it took.
+    pub(crate) fn fill<P: EvictionPolicy>(
+        &mut self,
+        policy: &P,
+        seat: &mut Seat<L, J>,
+        lease: Lease,
+        key: Key,
+        value: Value,
+        expires: u64,
+    ) -> Result<Filled, SeatPutFault>
+        requires { L.lane_of key ≡ self.old.lane.register.number }
+        ensures entered { IfOk result (λ filled. FillAdds seat.old (put_of key value expires) filled
+            seat.new) }
+        ensures refused { OnErr result (seat.new ≡ seat.old) }
+    {
+        let word = self.words.next_word();
+        let filled = self.lane.fill(seat, lease, key, value, word, expires)?;
+        if filled != Filled::Stale {
+            let _helped = self.lane.help(policy);
+        }
+        Ok(filled)
+    }
+}

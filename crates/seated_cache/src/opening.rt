@@ -1,0 +1,74 @@
+// The parts of a new cache.
+ghost use Rattle.std.specs.Prelude.{◌≡◌, ◌<◌, ◌^◌, [], IfOk, length};
+
+use crate::guarded::Guarded;
+use crossbeam_utils::CachePadded;
+use deed_book::{KeyLanes, NamedBook, Naming};
+use key_hash::RandomSeed;
+use lane_devices::Boxed;
+use page_device::PageDevice;
+use rand_pcg::Lcg64Xsh32;
+use record_pages::Config;
+use seated_lane::SeatedLane;
+use service_lane::ServiceLane;
+use std::alloc::{AllocError, Global};
+use std::collections::VecDeque;
+use std::hash::BuildHasher;
+use std::sync::Mutex;
+
+/// A lane with its register under its lock, on cache lines of its own.
+pub(crate) type Locked<D, const PAGE: usize, L, J> = Mutex<CachePadded<Guarded<D, PAGE, L, J>>>;
+
+/// An empty lane over each device, with the next register of the book, under its lock. Words of admission come from generators
+/// that the seed starts.
+pub(crate) fn lanes_over<D: PageDevice<PAGE>, const PAGE: usize, L: KeyLanes, J: Naming>(
+    alloc: Global,
+    config: &Config,
+    lease_slots: u32,
+    devices: Vec<D>,
+    seed: RandomSeed,
+    mut book: NamedBook<L, J>,
+) -> Result<Vec<Locked<D, PAGE, L, J>>, AllocError>
+    requires first { book ≡ 0 }
+    requires one_each { length devices.items ≡ L.lanes }
+    requires few { length devices.items < 2 ^ 32 }
+    ensures { IfOk result (λ lanes. length lanes.items ≡ length devices.items) }
+{
+    let count = devices.len();
+    let mut lanes = Vec::with_capacity(alloc, count)?;
+    let mut devices = VecDeque::from(devices);
+    for number in 0..count {
+        let Some(device) = devices.pop_front() else {
+            unreachable!()
+        };
+        let words = Lcg64Xsh32::new(seed.hash_one(number as u64), number as u64);
+        let lane = lane_over(
+            alloc,
+            config,
+            lease_slots,
+            device,
+            seed.derive(number as u32),
+        )?;
+        let lane = SeatedLane::new(lane, book.register());
+        lanes.push(Mutex::new(CachePadded::new(Guarded { lane, words })))?;
+    }
+    Ok(lanes)
+}
+
+// An empty lane over a device.
+fn lane_over<D: PageDevice<PAGE>, const PAGE: usize>(
+    alloc: Global,
+    config: &Config,
+    lease_slots: u32,
+    device: D,
+    seed: RandomSeed,
+) -> Result<ServiceLane<Boxed<D>, PAGE>, AllocError>
+    ensures { IfOk result (λ lane. lane.deeds ≡ []) }
+{
+    let boxed = Boxed::new(alloc, device)?;
+    match ServiceLane::open(alloc, config, lease_slots, boxed, seed) {
+        Ok(lane) => Ok(lane),
+        // Nothing but memory can be refused here.
+        Err(_) => Err(AllocError),
+    }
+}

@@ -1,0 +1,5 @@
+//! Tests of a cache with seats, through its public calls.
+#![tactic(auto)]
+
+#[cfg(test)]
+mod tests;

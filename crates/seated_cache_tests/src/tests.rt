@@ -1,0 +1,200 @@
+//! Two threads call a cache, each with a seat; whoever has seen what both have seen gets the latest value.
+ghost use Rattle.std.specs.Prelude.{◌≡◌, [], ◌∷◌, IfOk, IfSome, IsTrue, true, length};
+ghost use Rattle.certificate_checker.specs.Deeds.{Deed};
+ghost use Rattle.mover.specs.Get.{answer_of};
+ghost use Rattle.service_lane.specs.Asked.{IsLiveHit};
+ghost use Rattle.seated_lane.specs.Seated.{put_of};
+ghost use Rattle.seated_cache.specs.Sorted.{SortsBy};
+ghost use Rattle.seated_cache_tests.specs.Standing.{Stands};
+
+use deed_book::{KeyLanes, Naming, NewBook, Seat};
+use key_hash::RandomSeed;
+use mover::Seen;
+use page_device::MemoryDevice;
+use record_pages::{Config, Key, NEVER, Tier, Value};
+use rriparoo::Rriparoo;
+use seated_cache::SeatedCache;
+use std::alloc::Global;
+use std::marker::Brand;
+use std::sync::Wait;
+use std::test::*;
+use std::thread::{Threads, join};
+use value_buffer::ValueBuffer;
+
+// Two lanes of three sets, in which all is small.
+const SMALL: Config = Config {
+    lanes: 2,
+    sets: 3,
+    memory: 4,
+    segments: 2,
+    segment_pages: 1,
+    entries: 16,
+    threshold: 1,
+    admit: 65536,
+};
+
+// How many lanes two shards have.
+const LANES: u32 = 4;
+
+type Cache<L, J> = SeatedCache<MemoryDevice<256>, Rriparoo, 256, L, J>;
+
+// An object that a thread puts.
+#[derive(Drop)]
+struct Object {
+    key: Key,
+    value: Value,
+}
+
+// What the last look-up gave, and the seat that it was made with.
+#[derive(Drop)]
+struct Last<L: KeyLanes, J: Naming> {
+    seat: Seat<L, J>,
+    seen: Seen,
+    found: ValueBuffer,
+}
+
+// An object of this key.
+fn object_of(alloc: Global, name: &[u8], bytes: &[u8]) -> Result<Object, Fail> {
+    Ok(Object {
+        key: Key::new(alloc, name)?,
+        value: Value::new(alloc, bytes)?,
+    })
+}
+
+// A device for each lane.
+fn devices_for(alloc: Global, lanes: u32) -> Result<Vec<MemoryDevice<256>>, Fail>
+    ensures { IfOk result (λ devices. length devices.items ≡ lanes) }
+{
+    let mut devices = Vec::new(alloc);
+    for _ in 0..lanes {
+        devices.push(MemoryDevice::new(alloc, 5)?)?;
+    }
+    Ok(devices)
+}
+
+#[test]
+fn two_callers_of_a_cache(rt: HostRuntime) -> Result<(), Fail> {
+    let seed = RandomSeed::draw(&rt)?;
+    let first = object_of(rt.alloc(), b"ax", b"one")?;
+    let second = object_of(rt.alloc(), b"by", b"two")?;
+    let found = sorted::<Brand, _>(&rt, rt.alloc(), seed, first, second)?;
+    assert!(rt; found);
+    Ok(())
+}
+
+// Opens a book for a cache whose keys are sorted by this seed, and has two threads call the cache.
+fn sorted<L: KeyLanes + Send + Sync, R: Threads + Wait + Sync>(
+    rt: &R,
+    alloc: Global,
+    seed: RandomSeed,
+    first: Object,
+    second: Object,
+) -> Result<bool, Fail>
+    requires { SortsBy L.lanes L.lane_of seed 4 }
+{
+    let book = NewBook::<L>::open(LANES as usize);
+    found_by_both::<L, Brand, R>(rt, alloc, seed, book, first, second)
+}
+
+// Whether who has seen what both threads have seen finds the value of the first in memory.
+fn found_by_both<L: KeyLanes + Send + Sync, J: Naming + Send + Sync, R: Threads + Wait + Sync>(
+    rt: &R,
+    alloc: Global,
+    seed: RandomSeed,
+    book: NewBook<L>,
+    first: Object,
+    second: Object,
+) -> Result<bool, Fail>
+    requires sorted { SortsBy L.lanes L.lane_of seed 4 }
+    requires book { book ≡ J.book }
+{
+    let devices = devices_for(alloc, LANES)?;
+    let cache = Cache::<L, J>::open(
+        alloc,
+        &SMALL,
+        2,
+        8,
+        devices,
+        Rriparoo,
+        seed,
+        book.named::<J>(),
+    )?;
+    match last_of_both(rt, &cache, first, second) {
+        Some(last) => Ok(
+            last.seen == Seen::Hit(Tier::Memory) && last.found.bytes() == b"one".as_slice(),
+        ),
+        None => Ok(false),
+    }
+}
+
+// Each thread puts its object. Who has seen what both have seen has seen both puts; and what he hits is his key's latest value in
+// what he has seen.
+fn last_of_both<L: KeyLanes + Send + Sync, J: Naming + Send + Sync, R: Threads + Wait + Sync>(
+    rt: &R,
+    cache: &Cache<L, J>,
+    first: Object,
+    second: Object,
+) -> Option<Last<L, J>>
+    ensures first { IfSome result (λ last. Stands (put_of first.key first.value 18446744073709551615) last.seat) }
+    ensures second { IfSome result (λ last. Stands (put_of second.key second.value 18446744073709551615) last.seat) }
+    ensures live { IfSome result (λ last. IsLiveHit (IsTrue true) last.seat (97 ∷ 120 ∷ []) 0 (answer_of last.seen last.found)) }
+{
+    let seat = seen_by_both(rt, cache, first, second)?;
+    get_in(rt, cache, seat, b"ax")
+}
+
+// Each thread puts its object. Who has seen what both have seen has seen both puts.
+fn seen_by_both<L: KeyLanes + Send + Sync, J: Naming + Send + Sync, R: Threads + Wait + Sync>(
+    rt: &R,
+    cache: &Cache<L, J>,
+    first: Object,
+    second: Object,
+) -> Option<Seat<L, J>>
+    ensures first { IfSome result (λ seat. Stands (put_of first.key first.value 18446744073709551615) seat) }
+    ensures second { IfSome result (λ seat. Stands (put_of second.key second.value 18446744073709551615) seat) }
+{
+    let (one, two) = join(
+        rt,
+        || -> Option<Seat<L, J>>
+            ensures { IfSome result (λ seat. Stands (put_of first.key first.value 18446744073709551615) seat) }
+        { put_in(rt, cache, first) },
+        || -> Option<Seat<L, J>>
+            ensures { IfSome result (λ seat. Stands (put_of second.key second.value 18446744073709551615) seat) }
+        { put_in(rt, cache, second) },
+    );
+    let mut seat = one?;
+    seat.learn(&two?);
+    Some(seat)
+}
+
+// Puts an object.
+fn put_in<L: KeyLanes, J: Naming, R: Wait>(
+    rt: &R,
+    cache: &Cache<L, J>,
+    object: Object,
+) -> Option<Seat<L, J>>
+    ensures { IfSome result (λ seat. Stands (put_of object.key object.value 18446744073709551615) seat) }
+{
+    let mut seat = cache.seat();
+    match cache.put(rt, &mut seat, object.key, object.value, NEVER) {
+        Ok(_) => Some(seat),
+        Err(_) => None,
+    }
+}
+
+// Looks a key up.
+fn get_in<L: KeyLanes, J: Naming, R: Wait>(
+    rt: &R,
+    cache: &Cache<L, J>,
+    mut seat: Seat<L, J>,
+    key: &[u8],
+) -> Option<Last<L, J>>
+    ensures live { IfSome result (λ last. IsLiveHit (IsTrue true) last.seat key.now 0 (answer_of last.seen last.found)) }
+    ensures kept { (deed : Deed) → Stands deed seat → IfSome result (λ last. Stands deed last.seat) }
+{
+    let mut found = ValueBuffer::empty();
+    match cache.get(rt, &mut seat, key, 0, &mut found) {
+        Ok(seen) => Some(Last { seat, seen, found }),
+        Err(_) => None,
+    }
+}

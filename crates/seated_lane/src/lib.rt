@@ -1,0 +1,10 @@
+//! A lane that serves, whose contracts speak of hits through a lock: each caller has a seat, which says what he has seen of one list of
+//! all writes. The list is there in proofs alone.
+#![tactic(auto)]
+
+mod key_copy;
+mod lane;
+mod seat_fault;
+
+pub use lane::SeatedLane;
+pub use seat_fault::{SeatFault, SeatPutFault};
