@@ -5,9 +5,9 @@ use Rattle.std.specs.Int.{w16, w32, to_be_bytes}
 use Rattle.record_pages.specs.Expiry.{never}
 use Rattle.load.specs.declared.served_load.ServedLoad.{ServedLoad}
 
--- a key: its caller, and its number, in ten bytes
+-- a key: its caller, its number, and four zeros
 abbrev pub key_of : ℕ → ℕ → List ℕ
-key_of caller key = to_be_bytes w16 caller ++ (0 ∷ 0 ∷ 0 ∷ 0 ∷ [] ++ to_be_bytes w32 key)
+key_of caller key = to_be_bytes w16 caller ++ (to_be_bytes w32 key ++ 0 ∷ 0 ∷ 0 ∷ 0 ∷ [])
 
 -- what a value repeats: the number of its key, and of the operation that put it
 abbrev pub word_of : ℕ → ℕ → List ℕ

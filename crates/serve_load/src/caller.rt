@@ -1,9 +1,10 @@
 // A caller of a load.
-ghost use Rattle.std.specs.Prelude.{◌≡◌, ◌<◌, ◌≤◌, ◌+◌, IfOk, length};
+ghost use Rattle.std.specs.Prelude.{◌≡◌, ◌<◌, ◌≤◌, ◌+◌, IfOk, length, slice_index};
 ghost use Rattle.load.specs.Operations.{past};
 ghost use Rattle.load.specs.Served.{served_next_of};
 ghost use Rattle.serve_load.specs.Calls.{IsEnded};
-ghost use Rattle.serve_load.specs.Words.{Fills, Knows, Sets, word_after_put};
+ghost use Rattle.serve_load.specs.Words.{Fills, JudgesHit, Knows, Sets, word_after_put};
+ghost use Rattle.serve_load.specs.Objects.{key_of, value_of};
 
 use crate::objects::{expires_of, key, key_bytes, moment_of, value};
 use crate::right::is_right;
@@ -13,6 +14,7 @@ use mover::Seen;
 use page_device::PageDevice;
 use policy_laws::EvictionPolicy;
 use rand_pcg::Lcg64Xsh32;
+use record_pages::{Key, Value};
 use service_cache::{LookedUp, ServiceCache};
 use service_lane::Lease;
 use std::alloc::{AllocError, Global};
@@ -263,9 +265,6 @@ impl Caller {
     }
 }
 
-ghost use Rattle.std.specs.Prelude.{slice_index};
-ghost use Rattle.serve_load.specs.Words.{JudgesHit};
-
 /// A caller's key, and the value that its operation with this number puts for it.
 fn object(
     alloc: Global,
@@ -281,10 +280,6 @@ fn object(
     let value = value(alloc, load, number_of_key, number)?;
     Ok((key, value))
 }
-
-ghost use Rattle.serve_load.specs.Objects.{key_of, value_of};
-
-use record_pages::{Key, Value};
 
 /// Counts a thousand operations more where the one with this number is the last of a thousand.
 fn count(made: &AtomicU64, number: u32) {

@@ -9,13 +9,14 @@ use std::alloc::{AllocError, Global};
 /// The bytes of each key.
 pub const KEY_BYTES: u32 = 10;
 
-/// The bytes of a caller's key with this number.
+/// The bytes of a caller's key with this number. The number does not stand last: the hash by which a lane places keys takes the
+/// last byte into its high bits but a little, so that keys which differ there alone would have one tag.
 pub(crate) fn key_bytes(caller: u16, key: u32) -> [u8; 10]
     ensures { result ≡ key_of caller key }
 {
     let [a, b] = caller.to_be_bytes();
     let [c, d, e, f] = key.to_be_bytes();
-    [a, b, 0, 0, 0, 0, c, d, e, f]
+    [a, b, c, d, e, f, 0, 0, 0, 0]
 }
 
 /// A caller's key with this number.

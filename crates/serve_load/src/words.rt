@@ -1,5 +1,5 @@
 // What a caller knows of its keys.
-ghost use Rattle.std.specs.Prelude.{◌≡◌};
+ghost use Rattle.std.specs.Prelude.{◌≡◌, ◌<◌};
 ghost use Rattle.serve_load.specs.Words.{step_of_fill, word_after_fill};
 
 use record_pages::PutFault;
@@ -38,5 +38,3 @@ pub(crate) fn step_of_fill(filled: Result<Filled, PutFault>) -> Step
         Err(_) => Step::Refused,
     }
 }
-
-ghost use Rattle.std.specs.Prelude.{◌<◌};
