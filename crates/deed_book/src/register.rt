@@ -1,5 +1,5 @@
 // A lane's register in a book.
-ghost use Rattle.std.specs.Prelude.{◌≡◌, ◌<◌, [], IfOk, OnOk, OnErr, length};
+ghost use Rattle.std.specs.Prelude.{◌≡◌, ◌<◌, [], OnOk, OnErr};
 ghost use mathlib.Core.List.{IsPrefix};
 ghost use Rattle.trace_file.specs.declared.act.Act.{Act};
 ghost use Rattle.deed_book.specs.Rules.{head_of};
@@ -10,7 +10,7 @@ use crate::lanes::{KeyLanes, Naming};
 use crate::rule::{Enter, Law, Look, Nothing};
 use crate::seat::Seat;
 use crate::written::Written;
-use logbook::{Offer, Seen, Word};
+use logbook::{Seen, Word};
 use record_pages::{Key, Value};
 use std::marker::{Model, PhantomData};
 use thiserror::Error;

@@ -1,13 +1,11 @@
 //! Two threads enter writes of one lane, and both stand in one list.
-ghost use Rattle.std.specs.Prelude.{◌≡◌, [], IfOk, IfSome};
-ghost use mathlib.Core.List.{IsPrefix};
+ghost use Rattle.std.specs.Prelude.{◌≡◌, IfSome};
 ghost use Rattle.trace_file.specs.declared.act.Act.{Act};
 ghost use Rattle.deed_book_tests.specs.Standing.{Stands};
 
-use deed_book::{KeyLanes, Naming, NewBook, OneLane, Register, Seat};
+use deed_book::{Naming, NewBook, OneLane, Register, Seat};
 use record_pages::{Key, Value};
 use std::marker::Brand;
-use std::process::Abort;
 use std::sync::{Mutex, Wait};
 use std::test::*;
 use std::thread::{Threads, join};

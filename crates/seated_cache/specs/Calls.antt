@@ -22,6 +22,11 @@ abbrev pub looked_up : LookedUp → List ℕ → Answer
 looked_up (Hit tier) value = answers.Hit value tier
 looked_up (Miss cause lease) value = answers.Miss cause
 
+-- a look-up that found no value
+abbrev pub HasNoHit : LookedUp → Type 0
+HasNoHit (Hit tier) = ⊥
+HasNoHit (Miss cause lease) = Unit {0}
+
 -- a write stands behind all that the seat had seen, and is the last that it has seen now
 pub record AddsBehind (seat_old : List Deed) (write : Deed) (seat_new : List Deed) : Type 0 where
   pub before : List Deed

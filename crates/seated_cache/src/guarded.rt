@@ -6,7 +6,7 @@ ghost use Rattle.record_pages.specs.declared.put_fault.PutFault.{PutFault};
 ghost use Rattle.service_lane.specs.Asked.{IsLiveHit};
 ghost use Rattle.seated_lane.specs.Seated.{RefusesCall, put_of};
 ghost use Rattle.seated_lane.specs.declared.seat_fault.SeatPutFault.{SeatPutFault};
-ghost use Rattle.seated_cache.specs.Calls.{looked_up, AddsBehind, FillAdds, RefusedPutAdds};
+ghost use Rattle.seated_cache.specs.Calls.{HasNoHit, looked_up, AddsBehind, FillAdds, RefusedPutAdds};
 
 use deed_book::{KeyLanes, Naming, Seat};
 use lane_devices::Boxed;
@@ -41,6 +41,7 @@ impl<D: PageDevice<PAGE>, const PAGE: usize, L: KeyLanes, J: Naming> Guarded<D, 
         ensures live { IfOk result (λ seen. IsLiveHit (IsTrue (D.honest self.old.lane.serving.store.device))
             seat.new key.now moment (looked_up seen found.new)) }
         ensures seen { IsPrefix seat.old seat.new }
+        ensures untouched { IfOk result (λ looked. HasNoHit looked → found.new ≡ found.old) }
         ensures cause { IfErr result (λ fault. RefusesCall key.now fault) }
         ensures refused { OnErr result (found.new ≡ found.old) }
     {
@@ -84,6 +85,7 @@ impl<D: PageDevice<PAGE>, const PAGE: usize, L: KeyLanes, J: Naming> Guarded<D, 
         requires { L.lane_of key ≡ self.old.lane.register.number }
         ensures entered { IfOk result (λ filled. FillAdds seat.old (put_of key value expires) filled
             seat.new) }
+        ensures large { IsErrOf result (SeatPutFault.Put PutFault.TooLarge) → room PAGE < object_size key value }
         ensures refused { OnErr result (seat.new ≡ seat.old) }
     {
         let word = self.words.next_word();

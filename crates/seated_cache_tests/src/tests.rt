@@ -14,6 +14,7 @@ use page_device::MemoryDevice;
 use record_pages::{Config, Key, NEVER, Tier, Value};
 use rriparoo::Rriparoo;
 use seated_cache::SeatedCache;
+use seated_lane::{SeatFault, SeatPutFault};
 use std::alloc::Global;
 use std::marker::Brand;
 use std::sync::Wait;
@@ -32,6 +33,9 @@ const SMALL: Config = Config {
     threshold: 1,
     admit: 65536,
 };
+
+// How often each thread puts a key, looks it up, and now and then removes it.
+const CALLS: u32 = 2_000;
 
 // How many lanes two shards have.
 const LANES: u32 = 4;
@@ -80,6 +84,90 @@ fn two_callers_of_a_cache(rt: HostRuntime) -> Result<(), Fail> {
     let found = sorted::<Brand, _>(&rt, rt.alloc(), seed, first, second)?;
     assert!(rt; found);
     Ok(())
+}
+
+#[test]
+fn no_call_is_refused_by_the_book(rt: HostRuntime) -> Result<(), Fail> {
+    let seed = RandomSeed::draw(&rt)?;
+    let refused = refused_in::<Brand, _>(&rt, rt.alloc(), seed)?;
+    assert_eq!(rt; refused, 0);
+    Ok(())
+}
+
+// How many calls the book refuses, of those that two threads make of a cache whose keys are sorted by this seed.
+fn refused_in<L: KeyLanes + Send + Sync, R: Threads + Wait + Sync>(
+    rt: &R,
+    alloc: Global,
+    seed: RandomSeed,
+) -> Result<u32, Fail>
+    requires { SortsBy L.lanes L.lane_of seed 4 }
+{
+    let book = NewBook::<L>::open(LANES as usize);
+    refused_under::<L, Brand, R>(rt, alloc, seed, book)
+}
+
+fn refused_under<L: KeyLanes + Send + Sync, J: Naming + Send + Sync, R: Threads + Wait + Sync>(
+    rt: &R,
+    alloc: Global,
+    seed: RandomSeed,
+    book: NewBook<L>,
+) -> Result<u32, Fail>
+    requires sorted { SortsBy L.lanes L.lane_of seed 4 }
+    requires book { book ≡ J.book }
+{
+    let devices = devices_for(alloc, LANES)?;
+    let book = book.named::<J>();
+    let cache = Cache::<L, J>::open(alloc, &SMALL, 2, 8, devices, Rriparoo, seed, book)?;
+    let (one, two) = join(
+        rt,
+        || refused_calls(rt, alloc, &cache),
+        || refused_calls(rt, alloc, &cache),
+    );
+    Ok(one.wrapping_add(two))
+}
+
+// Puts, looks up and removes keys that the other thread writes too: how many of these calls the book refused.
+fn refused_calls<L: KeyLanes, J: Naming, R: Wait>(
+    rt: &R,
+    alloc: Global,
+    cache: &Cache<L, J>,
+) -> u32 {
+    let mut seat = cache.seat();
+    let mut found = ValueBuffer::empty();
+    let mut refused: u32 = 0;
+    for number in 0..CALLS {
+        let name = [b'k', (number % 8) as u8];
+        refused = refused.wrapping_add(put_refused(rt, alloc, cache, &mut seat, &name));
+        if let Err(SeatFault::Book(_)) = cache.get(rt, &mut seat, &name, 0, &mut found) {
+            refused = refused.wrapping_add(1);
+        }
+        if number % 16 == 0
+            && let Err(SeatFault::Book(_)) = cache.remove(rt, &mut seat, &name)
+        {
+            refused = refused.wrapping_add(1);
+        }
+    }
+    refused
+}
+
+// Puts a value of a key: 1 where the book refuses that.
+fn put_refused<L: KeyLanes, J: Naming, R: Wait>(
+    rt: &R,
+    alloc: Global,
+    cache: &Cache<L, J>,
+    seat: &mut Seat<L, J>,
+    name: &[u8],
+) -> u32 {
+    let Ok(key) = Key::new(alloc, name) else {
+        return 0;
+    };
+    let Ok(value) = Value::new(alloc, name) else {
+        return 0;
+    };
+    match cache.put(rt, seat, key, value, NEVER) {
+        Err(SeatPutFault::Book(_)) => 1,
+        _ => 0,
+    }
 }
 
 // Opens a book for a cache whose keys are sorted by this seed, and has two threads call the cache.

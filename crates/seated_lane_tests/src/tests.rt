@@ -2,7 +2,6 @@
 ghost use Rattle.std.specs.Prelude.{◌≡◌, [], ◌∷◌, IfOk, IfSome, IsTrue, true};
 ghost use Rattle.certificate_checker.specs.Deeds.{Deed};
 ghost use Rattle.mover.specs.Get.{answer_of};
-ghost use Rattle.trace_file.specs.declared.act.Act.{Act};
 ghost use Rattle.service_lane.specs.Asked.{IsLiveHit};
 ghost use Rattle.seated_lane.specs.Seated.{put_of};
 ghost use Rattle.seated_lane_tests.specs.Standing.{Stands};

@@ -8,7 +8,7 @@ ghost use Rattle.service_lane.specs.Asked.{IsMiss};
 ghost use Rattle.trace_file.specs.declared.act.Act.{Act};
 ghost use Rattle.seated_lane.specs.Seated.{RefusesCall, put_of};
 ghost use Rattle.seated_lane.specs.declared.seat_fault.SeatPutFault.{SeatPutFault};
-ghost use Rattle.seated_cache.specs.Calls.{IsHit, looked_up, AddsBehind, FillAdds, RefusedPutAdds};
+ghost use Rattle.seated_cache.specs.Calls.{HasNoHit, IsHit, looked_up, AddsBehind, FillAdds, RefusedPutAdds};
 
 use super::SeatedCache;
 use deed_book::{EntryFault, KeyLanes, Naming, Seat};
@@ -61,7 +61,7 @@ impl<
     }
 
     /// Looks a key up as `get` does, and leases it at a miss, in the same hold of its lane: for a fill by what is read elsewhere
-    /// then. No memory is taken.
+    /// then. At a miss the buffer is as it was. No memory is taken.
     pub fn get_or_lease<R: Wait>(
         &self,
         rt: &R,
@@ -73,6 +73,7 @@ impl<
         ensures live { IfOk result (λ seen. IsHit D.honest seat.new key.now moment
             (looked_up seen found.new)) }
         ensures seen { IsPrefix seat.old seat.new }
+        ensures untouched { IfOk result (λ looked. HasNoHit looked → found.new ≡ found.old) }
         ensures cause { IfErr result (λ fault. RefusesCall key.now fault) }
         ensures refused { OnErr result (found.new ≡ found.old) }
     {
@@ -126,6 +127,9 @@ impl<
     ) -> Result<Filled, SeatPutFault>
         ensures entered { IfOk result (λ filled. FillAdds seat.old (put_of key value expires) filled
             seat.new) }
+
+        // When it is refused, and what that leaves.
+        ensures large { IsErrOf result (SeatPutFault.Put PutFault.TooLarge) → room PAGE < object_size key value }
         ensures refused { OnErr result (seat.new ≡ seat.old) }
     {
         let (number, lane) = self.lane(key.bytes());

@@ -87,6 +87,9 @@ impl<D: PageDevice<PAGE>, const PAGE: usize, L: KeyLanes, J: Naming> SeatedLane<
             self.new.serving filled) }
         ensures entered { IfOk result (λ filled. FillEnters L.lane_of (put_of key value expires) filled
             self.old.register seat.old self.new.register seat.new) }
+
+        // When it is refused, and what that leaves.
+        ensures large { IsErrOf result (SeatPutFault.Put PutFault.TooLarge) → room PAGE < object_size key value }
         ensures refused { IfErr result (λ fault. FillRefusalLeaves PAGE D.held key value expires word
             lease.writes fault self.old seat.old self.new seat.new) }
     {
