@@ -1,4 +1,6 @@
 // What a user sees of a run whose callers have ended.
+ghost use Rattle.std.specs.Prelude.{◌≡◌, ◌*◌};
+
 use load::Load;
 use std::io::{IsTerminal, Write};
 
@@ -6,7 +8,9 @@ use std::io::{IsTerminal, Write};
 const LONG: u64 = 100_000;
 
 /// All operations of a load.
-pub fn operations(load: &Load) -> u64 {
+pub fn operations(load: &Load) -> u64
+    ensures { result ≡ load.now.callers * load.now.operations }
+{
     u64::from(load.callers) * u64::from(load.operations)
 }
 

@@ -1,7 +1,11 @@
-//! Callers in threads of their own, with and without upkeep by another thread.
+//! Callers in threads of their own, with and without upkeep by another thread, over memory, over devices that fail and over files.
 use super::caller::{NONE, Tally, calls, sum};
 use super::*;
+use file_device::FileDevice;
 use key_hash::RandomSeed;
+use page_device::FuseDevice;
+use std::fs::File;
+use std::rt::Files;
 use std::sync::atomic::{AtomicU64, Ordering};
 use std::thread::{Threads, join, map_indices};
 
@@ -10,14 +14,42 @@ const CALLERS: usize = 4;
 
 const CALLS: u32 = 12_500;
 
+type Over<D> = ServiceCache<D, Rriparoo, 256>;
+
 // A cache of two shards of two lanes.
-fn opened(alloc: Global, seed: RandomSeed) -> Result<Cache, Fail> {
-    let devices = so_many(alloc, 4, PAGES)?;
-    Ok(Cache::open(alloc, &SMALL, 2, 64, devices, Rriparoo, seed)?)
+fn over<D: PageDevice<256>>(
+    alloc: Global,
+    devices: Vec<D>,
+    seed: RandomSeed,
+) -> Result<Over<D>, OpenServiceFault> {
+    ServiceCache::open(alloc, &SMALL, 2, 64, devices, Rriparoo, seed)
+}
+
+// Devices of which two refuse one call, and two all calls from one on.
+fn fuses(alloc: Global) -> Result<Vec<FuseDevice<MemoryDevice<256>>>, Fail> {
+    let mut devices = Vec::new(alloc);
+    devices.push(FuseDevice::one(MemoryDevice::new(alloc, PAGES)?, 40))?;
+    devices.push(FuseDevice::from(MemoryDevice::new(alloc, PAGES)?, 4_001))?;
+    devices.push(FuseDevice::one(MemoryDevice::new(alloc, PAGES)?, 2_003))?;
+    devices.push(FuseDevice::from(MemoryDevice::new(alloc, PAGES)?, 0))?;
+    Ok(devices)
+}
+
+// A device in a file for each lane.
+fn files<R: Files<File = File>>(rt: &R, alloc: Global) -> Result<Vec<FileDevice<256>>, Fail> {
+    let mut devices = Vec::new(alloc);
+    for path in ["a.lane", "b.lane", "c.lane", "d.lane"] {
+        devices.push(FileDevice::open(rt, path, PAGES)?)?;
+    }
+    Ok(devices)
 }
 
 // Makes the calls of all callers, each in a thread of its own; none where there was no memory or no thread.
-fn all_calls<R: Threads + Wait + Sync>(rt: &R, alloc: Global, cache: &Cache) -> Option<Tally> {
+fn all_calls<D, R>(rt: &R, alloc: Global, cache: &Over<D>) -> Option<Tally>
+where
+    D: PageDevice<256> + Send,
+    R: Threads + Wait + Sync,
+{
     let made = map_indices(
         rt,
         alloc,
@@ -35,7 +67,7 @@ fn all_calls<R: Threads + Wait + Sync>(rt: &R, alloc: Global, cache: &Cache) -> 
 }
 
 // Does what is due in each lane, until it is told that the callers have ended.
-fn tend<R: Wait>(rt: &R, cache: &Cache, ended: &AtomicU64) {
+fn tend<D: PageDevice<256>, R: Wait>(rt: &R, cache: &Over<D>, ended: &AtomicU64) {
     for _ in rt.forever() {
         if ended.load(Ordering::SeqCst) != 0 {
             return;
@@ -47,7 +79,11 @@ fn tend<R: Wait>(rt: &R, cache: &Cache, ended: &AtomicU64) {
 }
 
 // The calls of all callers, beside a thread that tends the cache.
-fn tended_calls<R: Threads + Wait + Sync>(rt: &R, alloc: Global, cache: &Cache) -> Option<Tally> {
+fn tended_calls<D, R>(rt: &R, alloc: Global, cache: &Over<D>) -> Option<Tally>
+where
+    D: PageDevice<256> + Send,
+    R: Threads + Wait + Sync,
+{
     let ended = AtomicU64::new(0);
     let ended = &ended;
     let (made, _) = join(
@@ -62,20 +98,40 @@ fn tended_calls<R: Threads + Wait + Sync>(rt: &R, alloc: Global, cache: &Cache) 
     made
 }
 
+// Whether all calls were made, none refused, and no hit was wrong.
+fn is_right(made: Option<Tally>) -> bool {
+    let all = made.unwrap_or(NONE);
+    all.wrong == 0 && all.refused == 0 && all.hits > 0
+}
+
 #[test]
 fn no_hit_of_threads_is_old(rt: HostRuntime) -> Result<(), Fail> {
-    let cache = opened(rt.alloc(), RandomSeed::draw(&rt)?)?;
-    let all = all_calls(&rt, rt.alloc(), &cache).unwrap_or(NONE);
-    assert_eq!(rt; (all.wrong, all.refused), (0, 0));
-    assert!(rt; all.hits > 0);
+    let devices = so_many(rt.alloc(), 4, PAGES)?;
+    let cache = over(rt.alloc(), devices, RandomSeed::draw(&rt)?)?;
+    assert!(rt; is_right(all_calls(&rt, rt.alloc(), &cache)));
     Ok(())
 }
 
 #[test]
 fn no_hit_of_threads_is_old_beside_upkeep(rt: HostRuntime) -> Result<(), Fail> {
-    let cache = opened(rt.alloc(), RandomSeed::draw(&rt)?)?;
-    let all = tended_calls(&rt, rt.alloc(), &cache).unwrap_or(NONE);
-    assert_eq!(rt; (all.wrong, all.refused), (0, 0));
-    assert!(rt; all.hits > 0);
+    let devices = so_many(rt.alloc(), 4, PAGES)?;
+    let cache = over(rt.alloc(), devices, RandomSeed::draw(&rt)?)?;
+    assert!(rt; is_right(tended_calls(&rt, rt.alloc(), &cache)));
+    Ok(())
+}
+
+#[test]
+fn no_hit_of_threads_is_old_over_fuses(rt: HostRuntime) -> Result<(), Fail> {
+    let devices = fuses(rt.alloc())?;
+    let cache = over(rt.alloc(), devices, RandomSeed::draw(&rt)?)?;
+    assert!(rt; is_right(tended_calls(&rt, rt.alloc(), &cache)));
+    Ok(())
+}
+
+#[test]
+fn no_hit_of_threads_is_old_over_files(rt: HostRuntime) -> Result<(), Fail> {
+    let devices = files(&rt, rt.alloc())?;
+    let cache = over(rt.alloc(), devices, RandomSeed::draw(&rt)?)?;
+    assert!(rt; is_right(tended_calls(&rt, rt.alloc(), &cache)));
     Ok(())
 }
