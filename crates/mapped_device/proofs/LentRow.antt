@@ -16,14 +16,17 @@ use prog.Routine.{Routine}
 use contract.Monad.{Fun, fact, fact_i}
 use contract.BorrowLft.{◌⊑◌, ⊑_refl}
 use types.Logic.{Logic, sem}
-use types.Kit.{Goal, Seq, Item, ‵, raw, given, ◌$◌, ◌∵◌, !, qed, move, drop, use0, use1, join, learn, rewrite, fsplit, fjoin, fpick, feq_l, feq_i, flt_l, flt_i, done}
-use denote.RattleType.{RattleType}
+use types.Kit.{Goal, Seq, Item, ‵, raw, given, ◌$◌, ◌∵◌, !, qed, move, drop, use0, use1, join, learn, rewrite, fsplit, fjoin, fpick, feq_l, feq_i, flt_l, flt_i, fpack, Step, step, done}
+use denote.RattleType.{RattleType, Valss}
 use denote.Array.{Array}
 use denote.Index.{row}
 use denote.Memory.{part_at}
 use denote.Param.Laws.{Laws}
 use denote.RawPtr.{Ptr, block_ptr, ptr_val, lies_at, in_a_block}
 use denote.Steps.{nothing}
+use denote.Struct.Owning.{shape}
+use denote.Struct.Struct.{within}
+use Rattle.std.specs.Mem.{type_size}
 use Rattle.std_alloc.specs.Vec.Ownership.{owns_if, has_block, lodged}
 use Rattle.std.specs.Allocator.{block_with_items}
 use Rattle.std_alloc.proofs.OfLodged.{lodging}
@@ -47,18 +50,33 @@ module _ (Y : RattleType) (L : Laws Y) where
   abbrev pub array : ℕ → List Y.Denot → ℕ → ℕ → Fml
   array n xs b o = part_at (Array (R E) n) full_share xs b o
 
-module _ (Y : RattleType) (L : Laws Y) {M : Type 1} {𝓤 : Ura M} {𝓛 : Logic 𝓤} {K : Type 0} {Γ : List (Item 𝓤)} {G : Goal 𝓤 𝓛.H} where
+module _ (R' : RattleType) {M : Type 1} {𝓤 : Ura M} {𝓛 : Logic 𝓤} {K : Type 0} {Γ : List (Item 𝓤)} {G : Goal 𝓤 𝓛.H} where
   -- a `Lent` is its two words and the array behind them
-  pub lent_had : K → (d : (Row Y L).Denot) (vs : List Val)
-      → ((b o : ℕ) → vs ≡ lent_val (block_ptr b o) d.count ∷ [] → d.count < 2 ^ 32 → d.count * sz (E Y L) < 2 ^ 63 → length d.values ≡ d.count
-      → Seq K 𝓛 (‵ (array Y L d.count d.values b o) ∷ Γ) G)
-      → Seq K 𝓛 (‵ ((Row Y L).own_val d vs) ∷ Γ) G
+  pub lent_had : K → (d : (Lent.the_row R').Denot) (vs : List Val)
+      → ((b o : ℕ) → vs ≡ lent_val (block_ptr b o) d.count ∷ [] → d.count < 2 ^ 32 → d.count * type_size R' < 2 ^ 63
+      → Seq K 𝓛 (‵ (part_at (Array R' d.count) full_share d.values b o) ∷ Γ) G)
+      → Seq K 𝓛 (‵ ((Lent.the_row R').own_val d vs) ∷ Γ) G
   lent_had t d vs k =
       fsplit t $ fpick t (λ vss. fsplit t $ feq_l t (λ all. fsplit t $ feq_l t (λ e₀. fsplit t $ fsplit t $ feq_l t (λ e₁. flt_l t (λ fn. drop t $ fsplit t $ flt_l t (λ fit.
-      in_a_block t d.at (λ p. lies_at (Array (R (E Y L)) d.count) full_share p d.values) (id⊢ 𝓤 _) (λ b o e.
-      use1 𝓛 (given (length d.values ≡ d.count) (‵ (row (R (E Y L)) full_share d.values b o))) (apart (E Y L) 𝓛 full_share d.count d.values b o) $ learn t (λ long.
-      use1 𝓛 (‵ (array Y L d.count d.values b o)) (whole (E Y L) 𝓛 full_share d.count d.values b o long) $
-      k b o (all ∙ ((λ i. vstruct (of_list (e₀ i ++ (e₁ i ++ []))) ∷ []) ∙ ap (λ (p : Ptr). lent_val p d.count ∷ []) e)) fn fit long))))))))
+      in_a_block t d.at (λ p. lies_at (Array R' d.count) full_share p d.values) (id⊢ 𝓤 _) (λ b o e.
+      k b o (all ∙ ((λ i. vstruct (of_list (e₀ i ++ (e₁ i ++ []))) ∷ []) ∙ ap (λ (p : Ptr). lent_val p d.count ∷ []) e)) fn fit)))))))
+
+  pub lent_made : K → (b o n : ℕ) (xs : List R'.Denot) → n < 2 ^ 32 → n * type_size R' < 2 ^ 63
+      → Step K 𝓛 (‵ ((Lent.the_row R').own_val (record { at = block_ptr b o; count = n; values = xs }) (lent_val (block_ptr b o) n ∷ [])) ∷ Γ) G
+      (‵ (part_at (Array R' n) full_share xs b o) ∷ Γ) G
+  lent_made t b o n xs fn fit = step (λ s.
+      let w : Val = lent_val (block_ptr b o) n in
+      flt_i t (n * type_size R') (2 ^ 63) fit $ fjoin t $
+      nothing t $ flt_i t n (2 ^ 32) fn $ feq_i t (List Val) (vint w32 n ∷ []) (vint w32 n ∷ []) refl $ fjoin t $ fjoin t $
+      feq_i t (List Val) (vptr b o ∷ []) (vptr b o ∷ []) refl $ fjoin t $ feq_i t (List Val) (w ∷ []) (w ∷ []) refl $ fjoin t $
+      fpack t (Valss (shape (Lent.the_type R')).fields) (within (shape (Lent.the_type R')) (block_ptr b o, (n, tt)) (w ∷ [])) (vptr b o ∷ [], (vint w32 n ∷ [], tt)) $ fjoin t $ s)
+
+module _ (Y : RattleType) (L : Laws Y) {M : Type 1} {𝓤 : Ura M} {𝓛 : Logic 𝓤} {K : Type 0} {Γ : List (Item 𝓤)} {G : Goal 𝓤 𝓛.H} where
+  -- an array has as many values as its type says
+  pub counted : K → (b o n : ℕ) (xs : List Y.Denot) → (length xs ≡ n → Seq K 𝓛 (‵ (array Y L n xs b o) ∷ Γ) G) → Seq K 𝓛 (‵ (array Y L n xs b o) ∷ Γ) G
+  counted t b o n xs k =
+      use1 𝓛 (given (length xs ≡ n) (‵ (row (R (E Y L)) full_share xs b o))) (apart (E Y L) 𝓛 full_share n xs b o) $ learn t (λ long.
+      use1 𝓛 (‵ (array Y L n xs b o)) (whole (E Y L) 𝓛 full_share n xs b o long) $ k long)
 
 module _ (Y : RattleType) (L : Laws Y) {M : Type 1} {𝓤 : Ura M} (𝓛 : Logic 𝓤) (b o n : ℕ) (xs : List Y.Denot) where
   abbrev from : ℕ

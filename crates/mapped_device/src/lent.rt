@@ -13,8 +13,8 @@ use std_alloc::vec::{Lodged, Vec as AnyVec, lodge};
 #[repr(C)]
 #[derive(Drop)]
 pub struct Lent<T> {
-    at: *mut T,
-    count: u32,
+    pub(crate) at: *mut T,
+    pub(crate) count: u32,
     pub ghost values: { List T },
 }
 

@@ -10,6 +10,8 @@
 
 mod device;
 mod lent;
+mod lent_pages;
 
 pub use device::MappedDevice;
 pub use lent::Lent;
+pub use lent_pages::LentPages;

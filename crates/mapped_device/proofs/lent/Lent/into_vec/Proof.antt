@@ -42,7 +42,7 @@ use Rattle.std_alloc.specs.declared.vec.Vec.{Vec}
 use Rattle.std_alloc.specs.declared.vec.lodged.Lodged.{Lodged}
 use Rattle.std_collections.proofs.TreeMemory.Lodging.{row_laws, lodge_key, tells, Good, Lodges, at_lodge, Lodged_as, lodge_gives}
 use Rattle.std_collections.proofs.TreeMemory.Lodging as Lodging
-use Rattle.mapped_device.proofs.LentRow.{E, Row, lent_val, lent_had, lodge_goes}
+use Rattle.mapped_device.proofs.LentRow.{E, Row, lent_val, lent_had, counted, lodge_goes}
 use Rattle.mapped_device.specs.contracts.lent.Lent.into_vec.Key.{name as #self}
 use Rattle.mapped_device.proofs.lent.Lent.into_vec.Statement as stated
 use Rattle.mapped_device.proofs.lent.Lent.into_vec.Code as code
@@ -78,7 +78,7 @@ module _ (Y : RattleType) (L : Laws Y) where
         let Post : Val → SProp 𝓤 = (walk_of 𝓛 ended stayed (spec 𝓛)).post z in
         let Run : List Val → SProp 𝓤 = λ vs. WpFn 𝓤 H 𝓣.C 𝓣.Λ fn' vs Post in
         qed 𝓛 ((‵ ftrue ⊛ ‵ (fsep ((Row Y L).own_val d z.0.4.0) ftrue)) ∷ raw (emp 𝓤) ∷ []) ∵ split ! $ drop ! $ fsplit ! $
-        lent_had Y L ! d z.0.4.0 (λ b o e fn fit long. keep ! (0 ∷ []) $
+        lent_had (R (E Y L)) ! d z.0.4.0 (λ b o e fn fit. keep ! (0 ∷ []) $ counted Y L ! b o n xs (λ long.
         let us : List Val = lent_val (block_ptr b o) n ∷ [] in
         let wide : n < 2 ^ 64 = omega arith in
         let y = at_lodge Y 𝓛 at_mem run b o n n xs in
@@ -98,7 +98,7 @@ module _ (Y : RattleType) (L : Laws Y) where
         sets ! (of_opd ! (get ! refl)) refl good' $ returns ! (look_at ! 0 refl) $ free_all ! refl $
         let few : length r.items < 2 ^ 32 = subst (λ (k : ℕ). k < 2 ^ 32) (sym (ap length is.0 ∙ long)) fn in
         suffices ! _ (ends_at 𝓛 ended stayed (spec 𝓛) z u r (tt, tt) (tt, tt)) $ says ! (is.0, few) $
-        nothing ! $ nothing ! $ fjoin ! $ join ! $ nothing ! $ join ! $ done !))))))
+        nothing ! $ nothing ! $ fjoin ! $ join ! $ nothing ! $ join ! $ done !)))))))
 
     meets : Meets 𝓛 ended.signature (WpFn 𝓤 H 𝓣.C 𝓣.Λ fn') (closing 𝓛 ended (spec 𝓛))
     meets = walk_Meets 𝓛 ended stayed (Goes-dropped 𝓛 0 (plain (λ _. Row Y L)) no (λ κs x f. refl), tt) (spec 𝓛) (WpFn 𝓤 H 𝓣.C 𝓣.Λ fn') (WpFn-mono 𝓤 H 𝓛.laws 𝓣 fn') walk
