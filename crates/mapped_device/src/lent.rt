@@ -5,12 +5,7 @@ ghost use Rattle.mapped_device.specs.Lent.{lent_values};
 use std::marker::Model;
 use std_alloc::vec::{Lodged, Vec as AnyVec, lodge};
 
-/// Values side by side in memory that its maker lends. Nobody else reads or writes it while it is lent.
-///
-/// C hands it over as `struct { void *at; uint32_t count; }`, and owes what `also_owns` says: `at` is not null, also
-/// where there are none, and `count` values lie from there on, in fewer than 2^63 bytes. For arrays of bytes any
-/// bytes serve.
-#[repr(C)]
+/// Values side by side in memory that somebody made and lends. Its drop forgets them, and frees nothing.
 #[derive(Drop)]
 pub struct Lent<T> {
     pub(crate) at: *mut T,

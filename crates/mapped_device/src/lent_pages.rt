@@ -7,10 +7,11 @@ ghost use Rattle.mapped_device.specs.Lent.{lent_values};
 use crate::lent::Lent;
 use std::marker::Model;
 
-/// Pages of 4,096 bytes that C lends, by value: `struct { uint8_t *at; uint32_t count; }`. An export takes it as it is.
+/// Pages of 4,096 bytes in memory that C lends. An export takes it by value, and C passes
+/// `struct { uint8_t *at; uint32_t count; }`.
 ///
-/// C owes what `also_owns` says: `at` is not null, also where there are no pages, `count` pages lie from there on, and
-/// nobody else reads or writes them until what was made of them is dropped. Any bytes serve.
+/// What C owes, and nothing checks: `at` is not null, also where there are no pages; `count` pages lie from there on,
+/// with any bytes; and nobody else reads or writes them until what was made of them is dropped.
 #[repr(C)]
 #[derive(Drop)]
 pub struct LentPages {

@@ -1,11 +1,11 @@
-//! A device of pages over memory that its maker lends, as a C library does that maps files into memory.
+//! A device of pages over memory that its maker lends, as a C program does that maps files into memory.
 //!
-//! The device owns the pages from its making to its drop. It takes no memory of its own and frees none: at its drop
-//! the pages are the maker's again, who unmaps them.
+//! The device owns the pages from its making to its drop. It takes no memory and frees none: at its drop the pages are
+//! the maker's again, who unmaps them.
 //!
 //! What is proved has one premise: the memory keeps what was written to it, and nobody else writes it meanwhile. So a
-//! read is exact and no call fails. A disk error at a page of a mapped file is a signal of the system, and no
-//! `DeviceFault`.
+//! read gives what was last written, and no call fails. A disk error at a page of a mapped file is a signal of the
+//! system, and no `DeviceFault`.
 #![tactic(auto)]
 
 mod device;
