@@ -103,6 +103,13 @@ static int size_file(int file, size_t bytes, bool is_sparse) {
     return done;
 }
 
+/* Takes a file's blocks from it, which a reservation that was refused may have left. */
+static void give_blocks_back(int file) {
+    int cause = errno;
+    if (ftruncate(file, 0) != 0) errno = cause;
+    errno = cause;
+}
+
 /* Maps a file. Pages are asked for one at a time, so the system is not to read ahead. A forked child does not get the
  * mapping, so it can't write the parent's cache. */
 static int map_file(int file, size_t bytes, mapping *to) {
@@ -123,9 +130,18 @@ kangaroo_status map_lane_file(int folder, uint32_t number, size_t bytes, bool is
     name_of_lane_file(number, name);
     int file = open_file(folder, name);
     if (file < 0) return refused_by_system();
-    if (size_file(file, bytes, is_sparse) != 0 || map_file(file, bytes, to) != 0) return refused_with(file);
-    close(file); /* the mapping stays */
-    return KANGAROO_OK;
+    if (size_file(file, bytes, is_sparse) == 0 && map_file(file, bytes, to) == 0) {
+        close(file); /* the mapping stays */
+        return KANGAROO_OK;
+    }
+    give_blocks_back(file);
+    return refused_with(file);
+}
+
+void remove_lane_file(int folder, uint32_t number) {
+    char name[NAME_BYTES];
+    name_of_lane_file(number, name);
+    unlinkat(folder, name, 0);
 }
 
 void unmap(mapping *file) {

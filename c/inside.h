@@ -65,6 +65,7 @@ void write_struct(void *to, size_t to_bytes, const void *from, size_t known_byte
 kangaroo_status lock_folder(int folder, int *lock_file);
 kangaroo_status remove_files_from(int folder, uint32_t first);
 kangaroo_status map_lane_file(int folder, uint32_t number, size_t bytes, bool is_sparse, mapping *to);
+void remove_lane_file(int folder, uint32_t number);
 kangaroo_status refused_by_system(void);
 void unmap(mapping *file);
 

@@ -97,15 +97,20 @@ static kangaroo_status open_lanes(kangaroo_cache *cache, const plan *by, int fol
     return status;
 }
 
-/* Opens the lanes over the folder's files, and starts the threads. Where one is refused no file of a lane stays: a disk
- * that was too small is not left full. */
+/* A disk that was too small for all lanes is not left full. */
+static void remove_files(kangaroo_cache *cache, int folder) {
+    for (uint32_t i = 0; i < cache->lane_count; i++)
+        if (cache->lanes[i].file.at != NULL) remove_lane_file(folder, i);
+}
+
+/* Opens the lanes over the folder's files, and starts the threads. */
 static kangaroo_status fill_cache(kangaroo_cache *cache, const plan *by, const char *path) {
     int folder = open(path, O_RDONLY | O_DIRECTORY | O_CLOEXEC);
     if (folder < 0) return refused_by_system();
     kangaroo_status status = open_lanes(cache, by, folder);
     if (status == KANGAROO_OK) status = threads_start(cache, by->upkeep_threads);
     int cause = errno;
-    if (status != KANGAROO_OK && cache->lock_file != FOLDER_CLOSED) remove_files_from(folder, 0);
+    if (status != KANGAROO_OK) remove_files(cache, folder);
     close(folder);
     errno = cause;
     return status;
