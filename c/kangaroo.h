@@ -26,7 +26,8 @@
  *   upkeep steps that hold this lane, and these may be waiting for the device. No fairness and no time is promised.
  * Stack. A call needs less than 128 KiB of it. No call needs more memory than its comment says.
  * Cancellation. No call is a cancellation point: it is made with cancellation disabled, so pthread_cancel acts behind
- *   it. A call must not be left by longjmp, by an exception or by pthread_exit from a signal handler.
+ *   it. A thread whose cancellation is asynchronous may make no call. A call must not be left by longjmp, by an exception
+ *   or by pthread_exit from a signal handler.
  * Signals. No function may be called from a signal handler. The library installs no handler. Its threads have all
  *   signals blocked but SIGBUS, SIGFPE, SIGILL and SIGSEGV, so your handlers run in your threads.
  * Fork. After fork an open cache belongs to the parent alone. In the child each call on it, kangaroo_close too, answers
