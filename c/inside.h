@@ -23,12 +23,18 @@ typedef struct mapping {
     size_t bytes;
 } mapping;
 
+/* How often a lane gave an answer that it does not count itself. */
+typedef struct answer_counts {
+    uint64_t short_buffers, put_too_large, put_no_memory;
+} answer_counts;
+
 /* A lane and its lock, on cache lines of their own. What stands behind the lock belongs to who holds it. */
 typedef struct guarded_lane {
     alignas(LANE_ALIGNMENT) pthread_mutex_t lock;
     kl_lane lane;
     bool is_queued; /* the lane waits for an upkeep thread, or one is at it */
     mapping file;
+    answer_counts answers;
 } guarded_lane;
 
 /* Numbers of lanes in the order in which they became due: a ring with room for every lane, each at most once in it. */

@@ -68,9 +68,15 @@ static hold hold_lane(kangaroo_cache *cache, uint32_t number) {
     return of;
 }
 
-static void release(hold *of) {
+/* Counts the answers that a lane does not count itself, and lets go of it. */
+static kangaroo_status release(hold *of, int32_t answer) {
+    answer_counts *counts = &of->lane->answers;
+    counts->short_buffers += answer == KANGAROO_SHORT_BUFFER;
+    counts->put_too_large += answer == KANGAROO_TOO_LARGE;
+    counts->put_no_memory += answer == KANGAROO_NO_MEMORY;
     pthread_mutex_unlock(&of->lane->lock);
     pthread_setcancelstate(of->cancel_state, NULL);
+    return (kangaroo_status)answer;
 }
 
 /* -------------------------------------------------------------------------------------------------------------- get */
@@ -90,14 +96,13 @@ static void take_buffer(get_call *call, void *buffer, size_t size) {
 
 static void write_hit(kangaroo_hit *to, const kl_hit *from) {
     if (to == NULL) return;
-    *to = (kangaroo_hit){.expires = from->expires, .length = (size_t)from->length, .tier = from->tier};
+    *to = (kangaroo_hit){.length = (size_t)from->length, .tier = from->tier};
 }
 
 static kangaroo_status get_held(kangaroo_cache *cache, const key_copy *key, const get_call *call, kl_hit *hit) {
     hold held = hold_lane(cache, key->place.lane);
-    int32_t status = kl_get(&held.lane->lane, key->bytes, key->length, call->moment, call->into, call->into_length, hit);
-    release(&held);
-    return (kangaroo_status)status;
+    int32_t answer = kl_get(&held.lane->lane, key->bytes, key->length, call->moment, call->into, call->into_length, hit);
+    return release(&held, answer);
 }
 
 kangaroo_status kangaroo_get(kangaroo_cache *cache, const void *key, size_t key_length, uint64_t moment, void *buffer,
@@ -153,8 +158,7 @@ static kangaroo_status get_or_lease_held(kangaroo_cache *cache, const key_copy *
     hold held = hold_lane(cache, key->place.lane);
     int32_t answer = kl_get_or_lease(&held.lane->lane, key->bytes, key->length, call->moment, call->into,
                                      call->into_length, hit, &writes);
-    release(&held);
-    kangaroo_status status = (kangaroo_status)answer;
+    kangaroo_status status = release(&held, answer);
     if (is_miss(status)) *lease = lease_of(cache, key, writes);
     return status;
 }
@@ -205,10 +209,9 @@ static kangaroo_status put_by(put_of_lane *put, kangaroo_cache *cache, const voi
     if (!are_bytes(value, value_length)) return KANGAROO_WRONG_ARGUMENT;
     value_bytes taken = take_value(value, value_length);
     hold held = hold_lane(cache, copy.place.lane);
-    status = (kangaroo_status)put(&held.lane->lane, copy.bytes, copy.length, taken.at, taken.length, expires);
+    int32_t answer = put(&held.lane->lane, copy.bytes, copy.length, taken.at, taken.length, expires);
     hand_over_if_due(cache, copy.place.lane);
-    release(&held);
-    return status;
+    return release(&held, answer);
 }
 
 kangaroo_status kangaroo_put(kangaroo_cache *cache, const void *key, size_t key_length, const void *value,
@@ -237,10 +240,10 @@ kangaroo_status kangaroo_fill(kangaroo_cache *cache, kangaroo_lease *lease, cons
     if (!is_lease_of(lease, cache, &copy)) return refuse_lease(cache, lease);
     value_bytes taken = take_value(value, value_length);
     hold held = hold_lane(cache, copy.place.lane);
-    status = (kangaroo_status)kl_fill(&held.lane->lane, lease->opaque[LEASE_WRITES], copy.bytes, copy.length, taken.at,
-                                      taken.length, expires);
+    int32_t answer = kl_fill(&held.lane->lane, lease->opaque[LEASE_WRITES], copy.bytes, copy.length, taken.at,
+                             taken.length, expires);
     hand_over_if_due(cache, copy.place.lane);
-    release(&held);
+    status = release(&held, answer);
     if (status >= 0) *lease = (kangaroo_lease){{0}};
     return status;
 }
@@ -250,9 +253,7 @@ kangaroo_status kangaroo_remove(kangaroo_cache *cache, const void *key, size_t k
     kangaroo_status status = take_key(cache, key, key_length, &copy);
     if (status != KANGAROO_OK) return status;
     hold held = hold_lane(cache, copy.place.lane);
-    status = (kangaroo_status)kl_remove(&held.lane->lane, copy.bytes, copy.length);
-    release(&held);
-    return status;
+    return release(&held, kl_remove(&held.lane->lane, copy.bytes, copy.length));
 }
 
 /* ---------------------------------------------------------------------------------------------- upkeep and counters */
@@ -261,7 +262,7 @@ static kl_step step_held(kangaroo_cache *cache, uint32_t number) {
     kl_step step = {0};
     hold held = hold_lane(cache, number);
     kl_upkeep_step(&held.lane->lane, &step);
-    release(&held);
+    release(&held, KANGAROO_OK);
     return step;
 }
 
@@ -289,29 +290,42 @@ kangaroo_status kangaroo_upkeep(kangaroo_cache *cache, uint32_t steps, uint32_t 
     return status;
 }
 
-/* The counters of a lane are those of a cache but the last two, which are counted here. */
+/* The counters of a cache begin with those of a lane. The others are counted here. */
 enum { LANE_COUNTERS = sizeof(kl_counters) / sizeof(uint64_t) };
-_Static_assert(offsetof(kangaroo_counters, leases_dropped) == sizeof(kl_counters), "the lane's counters come first");
+_Static_assert(offsetof(kangaroo_counters, short_buffers) == sizeof(kl_counters), "the lane's counters come first");
+_Static_assert(offsetof(kangaroo_counters, puts) == offsetof(kl_counters, puts), "in one order");
+_Static_assert(offsetof(kangaroo_counters, bytes_put) == offsetof(kl_counters, bytes_put), "in one order");
 
-static void add_lane(kangaroo_cache *cache, uint32_t number, uint64_t sums[LANE_COUNTERS]) {
+/* What a lane counts, and what is counted of it here, at one moment. */
+static kl_counters count_held(kangaroo_cache *cache, uint32_t number, answer_counts *answers) {
     kl_counters counted;
-    uint64_t numbers[LANE_COUNTERS];
     memset(&counted, 0, sizeof counted);
     hold held = hold_lane(cache, number);
     kl_count(&held.lane->lane, &counted);
-    release(&held);
+    *answers = held.lane->answers;
+    release(&held, KANGAROO_OK);
+    return counted;
+}
+
+static void add_lane(kangaroo_cache *cache, uint32_t number, kangaroo_counters *to) {
+    answer_counts answers;
+    uint64_t sums[LANE_COUNTERS], numbers[LANE_COUNTERS];
+    kl_counters counted = count_held(cache, number, &answers);
     memcpy(numbers, &counted, sizeof numbers);
+    memcpy(sums, to, sizeof sums);
     for (size_t i = 0; i < LANE_COUNTERS; i++) sums[i] += numbers[i];
+    memcpy(to, sums, sizeof sums);
+    to->short_buffers += answers.short_buffers;
+    to->put_too_large += answers.put_too_large;
+    to->put_no_memory += answers.put_no_memory;
 }
 
 kangaroo_status kangaroo_counters_read(kangaroo_cache *cache, kangaroo_counters *counters, size_t size) {
-    uint64_t sums[LANE_COUNTERS] = {0};
     kangaroo_counters all = {0};
     kangaroo_status status = test_cache(cache);
     if (status != KANGAROO_OK) return status;
     if (counters == NULL || size < sizeof(uint64_t) || size > STRUCT_BYTES_MAX) return KANGAROO_WRONG_ARGUMENT;
-    for (uint32_t i = 0; i < cache->lane_count; i++) add_lane(cache, i, sums);
-    memcpy(&all, sums, sizeof sums);
+    for (uint32_t i = 0; i < cache->lane_count; i++) add_lane(cache, i, &all);
     all.leases_dropped = atomic_load_explicit(&cache->leases_dropped, memory_order_relaxed);
     all.fills_wrong_lease = atomic_load_explicit(&cache->fills_wrong_lease, memory_order_relaxed);
     write_struct(counters, size, &all, sizeof all);

@@ -232,10 +232,9 @@ KANGAROO_API kangaroo_status kangaroo_close(kangaroo_cache *cache);
 
 /* What a get found. The struct does not grow. */
 typedef struct kangaroo_hit {
-    uint64_t expires;     /* the value's expiry, as it was put */
     size_t length;        /* the value's length in bytes */
     uint32_t tier;        /* one of KANGAROO_TIER_.. */
-    uint32_t reserved[3]; /* 0 */
+    uint32_t reserved[5]; /* 0 */
 } kangaroo_hit;
 
 /* Gets the value of a key, if it is live at a moment: moment < expires, or expires is KANGAROO_NEVER.
@@ -365,23 +364,23 @@ KANGAROO_API kangaroo_status kangaroo_upkeep(kangaroo_cache *cache, uint32_t ste
 typedef struct kangaroo_counters {
     uint64_t memory_hits, log_hits, set_hits;      /* hits by tier, with those that a buffer was too short for */
     uint64_t absent, expired, unreadable, damaged; /* misses by cause */
-    uint64_t short_buffers;
-    uint64_t puts;                         /* that were stored */
-    uint64_t put_too_large, put_no_memory; /* puts and fills that were refused */
-    uint64_t removes;                      /* by kangaroo_remove, and by a refused kangaroo_put_or_remove */
+    uint64_t puts;                                 /* that were stored */
+    uint64_t removes; /* by kangaroo_remove, and by a refused kangaroo_put_or_remove */
     uint64_t leases_given;
     uint64_t fills_stored;         /* not counted in puts */
     uint64_t fills_stale;          /* a key of the slot was written since the miss */
     uint64_t declined, logged;     /* objects that left memory: not admitted, and so lost; in the log */
     uint64_t log_full, index_full; /* and lost, since the log or its index was full */
     uint64_t log_pages_written, set_pages_written, pages_read;
-    uint64_t log_pages_lost, sets_forgotten; /* by a failed read or write */
+    uint64_t log_pages_lost, sets_forgotten; /* by a failed read or write: 0 where files are mapped */
     uint64_t readmitted, dropped;            /* objects at the log's end: entered it anew; lost */
     uint64_t segments_freed;
     uint64_t upkeep_steps, put_steps; /* steps by threads and kangaroo_upkeep; by puts and fills */
     uint64_t upkeep_no_memory;        /* moves that were refused memory */
     uint64_t bytes_put;               /* keys and values of puts and fills that were stored */
-    uint64_t memory_objects_now, log_objects_now, segments_now;
+    uint64_t memory_objects_now, log_objects_now, segments_now; /* of the present */
+    uint64_t short_buffers;                                     /* hits that were not copied */
+    uint64_t put_too_large, put_no_memory;                      /* puts and fills that were refused */
     uint64_t leases_dropped;
     uint64_t fills_wrong_lease; /* KANGAROO_STALE for no lease, or one of another key or cache */
 } kangaroo_counters;

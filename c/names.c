@@ -39,11 +39,11 @@ uint32_t kangaroo_version(void) {
 }
 
 static const char *const counter_names[] = {
-    "memory_hits", "log_hits", "set_hits", "absent", "expired", "unreadable", "damaged", "short_buffers", "puts",
-    "put_too_large", "put_no_memory", "removes", "leases_given", "fills_stored", "fills_stale", "declined", "logged",
-    "log_full", "index_full", "log_pages_written", "set_pages_written", "pages_read", "log_pages_lost",
-    "sets_forgotten", "readmitted", "dropped", "segments_freed", "upkeep_steps", "put_steps", "upkeep_no_memory",
-    "bytes_put", "memory_objects_now", "log_objects_now", "segments_now", "leases_dropped", "fills_wrong_lease",
+    "memory_hits", "log_hits", "set_hits", "absent", "expired", "unreadable", "damaged", "puts", "removes",
+    "leases_given", "fills_stored", "fills_stale", "declined", "logged", "log_full", "index_full", "log_pages_written",
+    "set_pages_written", "pages_read", "log_pages_lost", "sets_forgotten", "readmitted", "dropped", "segments_freed",
+    "upkeep_steps", "put_steps", "upkeep_no_memory", "bytes_put", "memory_objects_now", "log_objects_now",
+    "segments_now", "short_buffers", "put_too_large", "put_no_memory", "leases_dropped", "fills_wrong_lease",
 };
 
 enum { COUNTERS = sizeof counter_names / sizeof counter_names[0] };

@@ -7,13 +7,13 @@ static void shows_answers(kangaroo_cache *cache) {
     char value[KANGAROO_VALUE_MAX];
     kangaroo_hit hit;
     expect_status(kangaroo_get(cache, "a", 1, 0, value, sizeof value, &hit), KANGAROO_ABSENT, "a get of no value");
-    expect(hit.length == 0 && hit.tier == KANGAROO_TIER_NONE && hit.expires == 0, "zeros at a miss");
+    expect(hit.length == 0 && hit.tier == KANGAROO_TIER_NONE, "zeros at a miss");
     expect_status(kangaroo_put(cache, "a", 1, "pear", 4, 10), KANGAROO_OK, "a put");
     expect_status(kangaroo_get(cache, "a", 1, 9, value, sizeof value, &hit), KANGAROO_OK, "a get in time");
-    expect(hit.length == 4 && hit.expires == 10 && hit.tier == KANGAROO_TIER_MEMORY, "the hit's numbers");
+    expect(hit.length == 4 && hit.tier == KANGAROO_TIER_MEMORY, "the hit's numbers");
     expect(memcmp(value, "pear", 4) == 0, "the value");
     expect_status(kangaroo_get(cache, "a", 1, 10, value, sizeof value, &hit), KANGAROO_EXPIRED, "a get too late");
-    expect(hit.length == 0 && hit.expires == 0, "zeros at an expired value");
+    expect(hit.length == 0 && hit.tier == 0, "zeros at an expired value");
     expect_status(kangaroo_get(cache, "a", 1, 9, value, 3, &hit), KANGAROO_SHORT_BUFFER, "a get into 3 bytes");
     expect(hit.length == 4 && hit.tier == KANGAROO_TIER_MEMORY, "the length that is needed");
     expect_status(kangaroo_remove(cache, "a", 1), KANGAROO_OK, "a removal");
