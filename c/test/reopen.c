@@ -21,11 +21,9 @@ int main(void) {
     long now = own_memory();
     show("%d times: own memory %ld KiB before, %ld behind; %d descriptors, %ld threads", rounds, memory, now,
          open_descriptors(), number_of_process("/proc/self/status", "Threads"));
-    expect(is_quick() || now <= memory + 256, "memory is flat");
+    expect(is_sanitized() || now <= memory + 256, "memory is flat");
     expect(open_descriptors() == descriptors, "descriptors too");
-#if !defined(__SANITIZE_THREAD__)
-    expect(number_of_process("/proc/self/status", "Threads") == 1, "no thread is left");
-#endif
+    expect(is_sanitized() || number_of_process("/proc/self/status", "Threads") == 1, "no thread is left");
     remove_folder(folder);
     return 0;
 }

@@ -35,7 +35,7 @@ static void shows_own_threads(const char *folder) {
     show("%d signals to a process with 8 upkeep threads: all came to its own thread", (int)delivered);
 }
 
-/* Writes to a mapped file behind its end, and ends with the number of the signal. */
+/* The number of the signal that ends a child which runs this, or 0. */
 static int signal_of(void (*run)(const char *), const char *folder) {
     int status = 0;
     pid_t child = fork();
@@ -74,19 +74,23 @@ static void fill_the_disk(const char *folder) {
     put_many(open_with(&options, folder));
 }
 
+static void shows_bus_errors(const char *folder) {
+    expect(signal_of(cut_the_files, folder) == SIGBUS, "a file that is cut under an open cache");
+    show("a file that is cut under an open cache is a SIGBUS");
+    if (mount("none", folder, "tmpfs", 0, "size=200k") != 0) {
+        show("no small disk can be mounted here: a full disk under a sparse cache is not shown");
+        return;
+    }
+    expect(signal_of(fill_the_disk, folder) == SIGBUS, "a full disk under a sparse cache");
+    umount(folder);
+    show("a full disk under a sparse cache is a SIGBUS");
+}
+
 int main(void) {
     char folder[PATH_BYTES];
     make_folder(folder);
     shows_own_threads(folder);
-#if !defined(__SANITIZE_ADDRESS__) && !defined(__SANITIZE_THREAD__)
-    expect(signal_of(cut_the_files, folder) == SIGBUS, "a file that is cut under an open cache");
-    show("a file that is cut under an open cache is a SIGBUS");
-    if (mount("none", folder, "tmpfs", 0, "size=200k") == 0) {
-        expect(signal_of(fill_the_disk, folder) == SIGBUS, "a full disk under a sparse cache");
-        umount(folder);
-        show("a full disk under a sparse cache is a SIGBUS");
-    } else show("no small disk can be mounted here: not shown");
-#endif
+    if (!is_sanitized()) shows_bus_errors(folder);
     remove_folder(folder);
     return 0;
 }

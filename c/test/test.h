@@ -60,6 +60,15 @@ __attribute__((unused)) static bool is_quick(void) {
     return word != NULL && word[0] != 0 && word[0] != '0';
 }
 
+/* Whether a sanitizer runs: it takes memory and threads of its own, and catches signals. */
+__attribute__((unused)) static bool is_sanitized(void) {
+#ifdef SANITIZED
+    return true;
+#else
+    return false;
+#endif
+}
+
 /* Makes a new folder; TMPDIR says where. */
 __attribute__((unused)) static void make_folder(char path[PATH_BYTES]) {
     const char *at = getenv("TMPDIR");
