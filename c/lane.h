@@ -83,12 +83,16 @@ uint32_t kl_test_shape(const kl_shape *shape);
 /* Sizes of a shape: all zeros for one that kl_test_shape does not find right. */
 void kl_sizes_of(const kl_shape *shape, uint32_t object_bytes, kl_sizes *to);
 
-/* Opens an empty lane over `pages` pages of 4,096 bytes at `memory`, which is the lane's until kl_close: nobody else
- * reads or writes it. `number` is the lane's, for its own random words. *to must be without a lane. 0, or
- * KANGAROO_WRONG_OPTIONS (the shape, or too few pages), or KANGAROO_NO_MEMORY; then *to is as it was, and the memory is
- * the caller's. */
-int32_t kl_open(const kl_shape *shape, const kl_seed *seed, uint32_t number, uint8_t *memory, uint32_t pages,
-                kl_lane *to);
+/* Pages of 4,096 bytes that are lent; at is not NULL, also where there are none. */
+typedef struct kl_pages {
+    uint8_t *at;
+    uint32_t count;
+} kl_pages;
+
+/* Opens an empty lane over pages, which are the lane's until kl_close: nobody else reads or writes them. `number` is the
+ * lane's, for its own random words. *to must be without a lane. 0, or KANGAROO_WRONG_OPTIONS (the shape, or too few
+ * pages), or KANGAROO_NO_MEMORY; then *to is as it was, and the pages are the caller's. */
+int32_t kl_open(const kl_shape *shape, const kl_seed *seed, uint32_t number, kl_pages pages, kl_lane *to);
 
 /* Closes a lane. *lane becomes {NULL}; all memory that it took is given back, and the pages are the caller's. */
 void kl_close(kl_lane *lane);

@@ -86,8 +86,8 @@ static kangaroo_status open_lane(kangaroo_cache *cache, const plan *by, int fold
     guarded_lane *lane = &cache->lanes[number];
     kangaroo_status status = map_lane_file(folder, number, by->lane_bytes, by->is_sparse, &lane->file);
     if (status != KANGAROO_OK) return status;
-    uint32_t pages = (uint32_t)(by->lane_bytes / PAGE_BYTES);
-    return (kangaroo_status)kl_open(&by->shape, &cache->seed, number, lane->file.at, pages, &lane->lane);
+    kl_pages pages = {lane->file.at, (uint32_t)(by->lane_bytes / PAGE_BYTES)};
+    return (kangaroo_status)kl_open(&by->shape, &cache->seed, number, pages, &lane->lane);
 }
 
 static kangaroo_status open_lanes(kangaroo_cache *cache, const plan *by, int folder) {
