@@ -67,7 +67,7 @@ kangaroo_status read_options(const kangaroo_options *from, kangaroo_options *to,
 /* Writes the front of a struct, and zeros behind what this version knows. */
 void write_struct(void *to, size_t to_bytes, const void *from, size_t known_bytes);
 
-/* folder.c: files. Each answers KANGAROO_OK, or KANGAROO_IN_USE, or KANGAROO_NO_MEMORY, or KANGAROO_SYSTEM with errno. */
+/* folder.c: files. What can be refused answers KANGAROO_IN_USE, KANGAROO_NO_MEMORY, or KANGAROO_SYSTEM with errno. */
 kangaroo_status lock_folder(int folder, int *lock_file);
 kangaroo_status remove_files_from(int folder, uint32_t first);
 kangaroo_status map_lane_file(int folder, uint32_t number, size_t bytes, bool is_sparse, mapping *to);

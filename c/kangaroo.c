@@ -101,7 +101,8 @@ static void write_hit(kangaroo_hit *to, const kl_hit *from) {
 
 static kangaroo_status get_held(kangaroo_cache *cache, const key_copy *key, const get_call *call, kl_hit *hit) {
     hold held = hold_lane(cache, key->place.lane);
-    int32_t answer = kl_get(&held.lane->lane, key->bytes, key->length, call->moment, call->into, call->into_length, hit);
+    int32_t answer =
+        kl_get(&held.lane->lane, key->bytes, key->length, call->moment, call->into, call->into_length, hit);
     return release(&held, answer);
 }
 
@@ -135,8 +136,8 @@ static kangaroo_lease lease_of(const kangaroo_cache *cache, const key_copy *key,
     return lease;
 }
 
-/* Whether a lease is of this cache, and of this key or one with the same hash. The lane needs no belief in that: what it
- * promises of a fill holds for any number of writes. */
+/* Whether a lease is of this cache, and of this key or one with the same hash. The lane needs no belief in that: what
+ * it promises of a fill holds for any number of writes. */
 static bool is_lease_of(const kangaroo_lease *lease, const kangaroo_cache *cache, const key_copy *key) {
     kangaroo_lease right = lease_of(cache, key, lease->opaque[LEASE_WRITES]);
     return memcmp(lease, &right, sizeof right) == 0;

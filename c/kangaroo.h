@@ -11,8 +11,8 @@
  *   and keeps no pointer to them. It hands out nothing that you have to free, but the handle of an open cache, which
  *   kangaroo_close takes back. Strings that it returns are static.
  * Pointers. They may have any alignment that their C type allows; keys, values and buffers any at all. A key, value or
- *   buffer may be NULL where its length is 0. What one call writes must not overlap what else it writes, or the value or
- *   struct that it reads; a key is copied first, and may lie in the buffer. No other thread may change what the call
+ *   buffer may be NULL where its length is 0. What one call writes must not overlap what else it writes, or the value
+ *   or struct that it reads; a key is copied first, and may lie in the buffer. No other thread may change what the call
  *   reads. `cache` must be a handle from kangaroo_open that was not closed.
  * Statuses. 0 is done. Above 0: an answer that a cache may always give, no fault of the caller. Below 0: refused. After
  *   any get that is not KANGAROO_OK ask your database. A later 1.x may return numbers that this header does not name:
@@ -26,13 +26,14 @@
  *   upkeep steps that hold this lane, and these may be waiting for the device. No fairness and no time is promised.
  * Stack. A call needs less than 128 KiB of it. No call needs more memory than its comment says.
  * Cancellation. No call is a cancellation point: it is made with cancellation disabled, so pthread_cancel acts behind
- *   it. A thread whose cancellation is asynchronous may make no call. A call must not be left by longjmp, by an exception
- *   or by pthread_exit from a signal handler.
+ *   it. A thread whose cancellation is asynchronous may make no call. A call must not be left by longjmp, by an
+ *   exception or by pthread_exit from a signal handler.
  * Signals. No function may be called from a signal handler. The library installs no handler. Its threads have all
  *   signals blocked but SIGBUS, SIGFPE, SIGILL and SIGSEGV, so your handlers run in your threads.
  * Fork. After fork an open cache belongs to the parent alone. In the child each call on it, kangaroo_close too, answers
- *   KANGAROO_FORKED and does nothing; its memory and its descriptor stay until exec or exit. To use a cache in children,
- *   open one in each, in a folder of its own. exec closes the descriptor. The child of a vfork may make no call.
+ *   KANGAROO_FORKED and does nothing; its memory and its descriptor stay until exec or exit. To use a cache in
+ *   children, open one in each, in a folder of its own. exec closes the descriptor. The child of a vfork may make no
+ *   call.
  * Processes. One cache has a folder at a time, by a lock on a file in it. Other processes that write to the same
  *   database are unknown to the cache: give values an expiry, or tell this process of each write.
  * Storage that fails. Files are mapped into memory. A disk error at a read of a mapped page is the signal SIGBUS and no
@@ -172,7 +173,8 @@ typedef struct kangaroo_sizes {
 /* Writes the defaults. `size` is sizeof(kangaroo_options): no more bytes are written, and where the library knows fewer
  * fields the rest is 0. Never blocks.
  *   KANGAROO_OK
- *   KANGAROO_WRONG_ARGUMENT: options is NULL, or size is below that of version 1.0 or above 4,096; nothing is written */
+ *   KANGAROO_WRONG_ARGUMENT: options is NULL, or size is below that of version 1.0 or above 4,096; then nothing is
+ *     written */
 KANGAROO_API kangaroo_status kangaroo_options_init(kangaroo_options *options, size_t size);
 
 /* Tests options as kangaroo_open does, and puts into each field that is 0 for "worked out" the number that open would

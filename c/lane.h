@@ -1,8 +1,8 @@
 /* lane.h: the exports of the proved part, libkangaroo_c.a. Not installed.
  *
- * A lane is one part of a cache. It is given to one call at a time: kangaroo.c has a lock a lane. Keys have 1 to 255
- * bytes, and a buffer or value no more than can be; a pointer to bytes is never NULL, also at length 0, and no two things
- * that are handed to one call overlap where one of them is written. Statuses are the numbers of kangaroo_status. */
+ * A lane is one part of a cache. It is given to one call at a time: kangaroo.c has a lock a lane. A pointer to bytes is
+ * never NULL, also at length 0, and no two things that are handed to one call overlap where one of them is written.
+ * Statuses are the numbers of kangaroo_status. */
 #ifndef KANGAROO_LANE_H
 #define KANGAROO_LANE_H
 
@@ -89,8 +89,8 @@ typedef struct kl_pages {
     uint32_t count;
 } kl_pages;
 
-/* Opens an empty lane over pages, which are the lane's until kl_close: nobody else reads or writes them. `number` is the
- * lane's, for its own random words. *to must be without a lane. 0, or KANGAROO_WRONG_OPTIONS (the shape, or too few
+/* Opens an empty lane over pages, which are the lane's until kl_close: nobody else reads or writes them. `number` is
+ * the lane's, for its own random words. *to must be without a lane. 0, or KANGAROO_WRONG_OPTIONS (the shape, or too few
  * pages), or KANGAROO_NO_MEMORY; then *to is as it was, and the pages are the caller's. */
 int32_t kl_open(const kl_shape *shape, const kl_seed *seed, uint32_t number, kl_pages pages, kl_lane *to);
 

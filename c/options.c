@@ -1,5 +1,5 @@
-/* Options and sizes. What the cache can be is decided by the proved part; here are the structs' sizes, the defaults, and
- * what is C's own: flags and upkeep threads. */
+/* Options and sizes. What the cache can be is decided by the proved part; here are the structs' sizes, the defaults,
+ * and what is C's own: flags and upkeep threads. */
 #include "inside.h"
 #include <string.h>
 #include <unistd.h>

@@ -1,8 +1,8 @@
 /* bench FOLDER [OPERATIONS]: what calls take, through the header, with values of 100 bytes over files in a folder.
  *
- * First one thread: nanoseconds of a get by the tier that has the value, of a get of nothing, of a put and of a removal.
- * Then operations a second of 1, 2 and 4 threads: gets alone, and 70 gets, 28 puts and 2 removals of 100. Then the
- * process's own memory before and behind the last of them. */
+ * First one thread: nanoseconds of a get by the tier that has the value, of a get of nothing, of a put and of a
+ * removal. Then operations a second of 1, 2 and 4 threads: gets alone, and 70 gets, 28 puts and 2 removals of 100. Then
+ * the process's own memory before and behind ten times as many operations. */
 #define _GNU_SOURCE
 #include "kangaroo.h"
 #include <inttypes.h>

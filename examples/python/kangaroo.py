@@ -99,7 +99,7 @@ class Cache:
         return buffer.raw[: hit.length] if status == OK else None
 
     def put(self, key, value, expires=NEVER):
-        """Puts a value. Where that is refused for its size or for memory the key has no value; returns whether it has."""
+        """Puts a value, and returns True; where its size or want of memory refuses it, the key has no value any more."""
         status = LIBRARY.kangaroo_put_or_remove(self.handle, key, len(key), value, len(value), expires)
         return status not in (TOO_LARGE, NO_MEMORY) and tested(status) == OK
 
