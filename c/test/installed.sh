@@ -1,16 +1,11 @@
-# installed.sh OUT: installs into a new folder, and builds a short program from the header alone, as C11 and C++17, against
-# the shared library and the static one.
+# installed.sh: installs into a new folder, and builds a short program from the header alone, as C11 and C++17, against the
+# shared library and the static one.
 set -e
-out=$1
 folder=$(mktemp -d)
 trap 'rm -rf "$folder"' EXIT
 test/need pkg-config "${CXX:-c++}" || exit 77
 
-mkdir -p "$folder/prefix/include" "$folder/prefix/lib/pkgconfig"
-cp kangaroo.h "$folder/prefix/include"
-cp "$out/libkangaroo.a" "$out/libkangaroo.so.1" "$folder/prefix/lib"
-ln -s libkangaroo.so.1 "$folder/prefix/lib/libkangaroo.so"
-sed -e "s|@PREFIX@|$folder/prefix|" -e 's|@VERSION@|1.0.0|' kangaroo.pc.in >"$folder/prefix/lib/pkgconfig/kangaroo.pc"
+${MAKE:-make} -s install PREFIX="$folder/prefix" LANE="$LANE" 2>/dev/null
 cat >"$folder/ten.c" <<'END'
 #include <kangaroo.h>
 int main(int count, char **words) {
