@@ -1,0 +1,89 @@
+/* inside.h: what the C files of the library share. Not installed, and no symbol of it is seen from outside. */
+#ifndef KANGAROO_INSIDE_H
+#define KANGAROO_INSIDE_H
+
+#include "kangaroo.h"
+#include "lane.h"
+#include <pthread.h>
+#include <stdalign.h>
+#include <stdatomic.h>
+#include <stdbool.h>
+
+enum {
+    PAGE_BYTES = 4096,
+    LANE_ALIGNMENT = 128,        /* two cache lines: processors fetch them in pairs */
+    STRUCT_BYTES_MAX = 4096,     /* no struct with a size is so long */
+    UPKEEP_THREADS_MAX = 16,
+    FOLDER_CLOSED = -1
+};
+
+/* The mapped file of a lane. */
+typedef struct mapping {
+    uint8_t *at;
+    size_t bytes;
+} mapping;
+
+/* How often a lane gave an answer that it does not count itself. */
+typedef struct answer_counts {
+    uint64_t short_buffers, put_too_large, put_no_memory;
+} answer_counts;
+
+/* A lane and its lock, on cache lines of their own. What stands behind the lock belongs to who holds it. */
+typedef struct guarded_lane {
+    alignas(LANE_ALIGNMENT) pthread_mutex_t lock;
+    kl_lane lane;
+    bool is_queued; /* the lane waits for an upkeep thread, or one is at it */
+    mapping file;
+    answer_counts answers;
+} guarded_lane;
+
+/* Numbers of lanes in the order in which they became due: a ring with room for every lane, each at most once in it. */
+typedef struct due_queue {
+    pthread_mutex_t lock; /* taken behind a lane's lock, and no lock is taken behind it */
+    pthread_cond_t is_wanted;
+    uint32_t *numbers;
+    uint32_t room, first, count;
+    bool is_stopping;
+} due_queue;
+
+struct kangaroo_cache {
+    uint8_t *own_page; /* a page that the system fills with zeros in a forked child; else its first byte is 1 */
+    uint64_t number;   /* random: leases of this cache have it */
+    kl_seed seed;
+    uint32_t lane_count;
+    guarded_lane *lanes;
+    int lock_file;
+    due_queue due;
+    uint32_t thread_count;
+    pthread_t threads[UPKEEP_THREADS_MAX];
+    atomic_uint next_upkeep; /* the lane at which the next kangaroo_upkeep begins */
+    atomic_uint_least64_t leases_dropped, fills_wrong_lease;
+};
+
+/* options.c: the shape of the options, or why there is none. The options are resolved where it is KANGAROO_OK. */
+kangaroo_status resolve_options(kangaroo_options *options, kl_shape *shape, const char **field);
+/* Copies options of any version into those of this one. */
+kangaroo_status read_options(const kangaroo_options *from, kangaroo_options *to, const char **field);
+/* Writes the front of a struct, and zeros behind what this version knows. */
+void write_struct(void *to, size_t to_bytes, const void *from, size_t known_bytes);
+
+/* folder.c: files. What can be refused answers KANGAROO_IN_USE, KANGAROO_NO_MEMORY, or KANGAROO_SYSTEM with errno. */
+kangaroo_status lock_folder(int folder, int *lock_file);
+kangaroo_status remove_files_from(int folder, uint32_t first);
+kangaroo_status map_lane_file(int folder, uint32_t number, size_t bytes, bool is_sparse, mapping *to);
+void remove_lane_file(int folder, uint32_t number);
+kangaroo_status refused_by_system(void);
+void unmap(mapping *file);
+
+/* tending.c: the upkeep threads, and the queue of lanes that they wait for. */
+kangaroo_status queue_open(due_queue *queue, uint32_t lane_count);
+void queue_close(due_queue *queue);
+kangaroo_status threads_start(kangaroo_cache *cache, uint32_t count);
+void threads_stop(kangaroo_cache *cache);
+/* Hands a lane to the threads where it is due; the lane's lock is held. */
+void hand_over_if_due(kangaroo_cache *cache, uint32_t number);
+
+/* random.c: random bytes of the system. */
+kangaroo_status draw_random(void *to, size_t bytes);
+
+#endif
