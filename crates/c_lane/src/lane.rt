@@ -1,0 +1,98 @@
+// A lane for callers in C.
+ghost use Rattle.std.specs.Prelude.{◌≡◌, ◌≤◌, length, IfOk, IfErr};
+ghost use Rattle.c_lane.specs.Opening.{Opens, RefusesOpening};
+
+use crate::counters::Counters;
+use crate::device::Device;
+use crate::lane_shape::LaneShape;
+use crate::seed::Seed;
+use crate::status::Status;
+use lane_devices::Counted;
+use mover::OpenFault;
+use rand_pcg::Lcg64Xsh32;
+use service_lane::{OpenLaneFault, ServiceLane};
+use std::alloc::Global;
+use std::marker::Model;
+
+mod get;
+mod put;
+mod tend;
+
+/// A lane of a cache, with the generator of its words of admission.
+///
+/// What it promises is said of the list of all that it was asked and answered since it was opened, which proofs alone see: a hit
+/// is its key's latest value in that list not since removed, and live at the moment that the get brought.
+#[derive(Drop)]
+pub struct CLane {
+    lane: ServiceLane<Counted<Device>, 4096>,
+    words: Lcg64Xsh32,
+}
+
+impl Model for CLane {
+    ghost use Rattle.std.specs.Coded.{codes};
+    ghost use Rattle.kset.specs.Sets.{sets_code};
+    ghost use Rattle.c_lane.specs.Lane.{LaneState};
+
+    ghost Value = { LaneState };
+
+    ghost coded = { Prim.hlevel (codes, sets_code) };
+
+    ghost view = { λ l. record { serving = l.lane; words = l.words } };
+}
+
+impl CLane {
+    ghost use Rattle.c_lane.specs.Counting.{counters_of};
+
+    /// An empty lane over a device. `WrongOptions` comes where the shape has a number out of its range or the device has too few
+    /// pages for it, `NoMemory` where memory was refused; the device is dropped with both.
+    ///
+    /// The number is the lane's among those of the cache: it and the seed start the generator of its words, and seed its table.
+    pub fn open(
+        alloc: Global,
+        shape: &LaneShape,
+        seed: &Seed,
+        number: u32,
+        device: Device,
+    ) -> Result<CLane, Status>
+        ensures opened { IfOk result (Opens shape.now seed.now number device) }
+        ensures refused { IfErr result (RefusesOpening shape.now (length device)) }
+    {
+        let Ok(parts) = shape.check() else {
+            return Err(Status::WrongOptions);
+        };
+        let config = parts.config(shape.threshold, shape.admit);
+        let seed = seed.random();
+        let words = words_of(seed, number);
+        let counted = Counted::new(device);
+        let table_seed = seed.derive(number);
+        match ServiceLane::open(alloc, &config, shape.lease_slots, counted, table_seed) {
+            Ok(lane) => Ok(CLane { lane, words }),
+            Err(OpenLaneFault::Store(OpenFault::OutOfMemory)) => Err(Status::NoMemory),
+            Err(_) => Err(Status::WrongOptions),
+        }
+    }
+
+    /// How often it did what since it was opened, and what it holds now.
+    pub fn counters(&self) -> Counters
+        ensures { result ≡ counters_of self.now }
+    {
+        Counters::of(
+            &self.lane.counts(),
+            &self.lane.device().counts(),
+            &self.lane.log_usage(),
+            self.lane.memory_len(),
+        )
+    }
+}
+
+ghost use Rattle.c_lane.specs.Opening.{words_for};
+
+use key_hash::RandomSeed;
+use std::hash::BuildHasher;
+
+// The generator of the words of a lane.
+fn words_of(seed: RandomSeed, number: u32) -> Lcg64Xsh32
+    ensures { result ≡ words_for seed number }
+{
+    Lcg64Xsh32::new(seed.hash_one(u64::from(number)), u64::from(number))
+}

@@ -1,0 +1,169 @@
+// Opening and closing a lane, and its calls.
+ghost use Rattle.std.specs.Prelude.{◌≡◌, ◌≤◌, ℤ, pos, Some, None, IfSome, length};
+ghost use Rattle.record_pages.specs.Bounded.{IsKey};
+ghost use Rattle.c_lane.specs.Getting.{Answers, AnswersOrLeases, RefusesGet};
+ghost use Rattle.c_lane.specs.Putting.{PutLeaves, PutOrRemoveLeaves, FillLeaves, RemoveLeaves};
+ghost use Rattle.kangaroo_c.specs.Telling.{IsFull, Tells};
+
+use crate::handle::Handle;
+use crate::keeping::{filled, taken};
+use c_lane::{CLane, Device, Hit, LaneShape, Seed, Status};
+use std::alloc::Global;
+
+/// Opens an empty lane over so many pages.
+#[unsafe(no_mangle)]
+pub extern "C" fn kl_open(
+    alloc: Global,
+    shape: &LaneShape,
+    seed: &Seed,
+    number: u32,
+    memory: *mut u8,
+    pages: u32,
+    to: &mut Handle,
+) -> i32 {
+    let _ = memory;
+    let Ok(device) = Device::new(alloc, pages) else {
+        return Status::NoMemory.number();
+    };
+    match CLane::open(alloc, shape, seed, number, device) {
+        Ok(lane) => match Box::new(alloc, lane) {
+            Ok(lane) => {
+                filled(to, lane);
+                Status::Done.number()
+            }
+            Err(_) => Status::NoMemory.number(),
+        },
+        Err(status) => status.number(),
+    }
+}
+
+/// Closes a lane: all memory that it took is given back.
+#[unsafe(no_mangle)]
+pub extern "C" fn kl_close(alloc: Global, lane: &mut Handle)
+    requires { IsFull lane.old.lane }
+    ensures { lane.new.lane ≡ None }
+{
+    drop(taken(alloc, lane));
+}
+
+/// Looks a key up.
+#[unsafe(no_mangle)]
+pub extern "C" fn kl_get(
+    alloc: Global,
+    lane: &mut Handle,
+    key: &[u8],
+    moment: u64,
+    into: &mut [u8],
+    hit: &mut Hit,
+) -> i32
+    requires { IsFull lane.old.lane }
+    ensures answered { IsKey key.now → Tells
+        (λ status old new. Answers key.now moment into.old old status new into.new hit.new)
+        result lane.old.lane lane.new.lane }
+    ensures wrong_key { (IsKey key.now → ⊥) → Tells
+        (λ status old new. RefusesGet into.old old status new into.new hit.new)
+        result lane.old.lane lane.new.lane }
+{
+    let mut kept = taken(alloc, lane);
+    let status = kept.get(key, moment, into, hit);
+    filled(lane, kept);
+    status.number()
+}
+
+/// Looks a key up, and leases it at a miss.
+#[unsafe(no_mangle)]
+pub extern "C" fn kl_get_or_lease(
+    alloc: Global,
+    lane: &mut Handle,
+    key: &[u8],
+    moment: u64,
+    into: &mut [u8],
+    hit: &mut Hit,
+    writes: &mut u64,
+) -> i32
+    requires { IsFull lane.old.lane }
+    ensures answered { IsKey key.now → Tells
+        (λ status old new. AnswersOrLeases key.now moment into.old writes.old old
+        status new into.new hit.new writes.new)
+        result lane.old.lane lane.new.lane }
+    ensures wrong_key { (IsKey key.now → ⊥) → Tells
+        (λ status old new. RefusesGet into.old old status new into.new hit.new)
+        result lane.old.lane lane.new.lane }
+    ensures no_lease { (IsKey key.now → ⊥) → writes.new ≡ writes.old }
+{
+    let mut kept = taken(alloc, lane);
+    let status = kept.get_or_lease(key, moment, into, hit, writes);
+    filled(lane, kept);
+    status.number()
+}
+
+/// Puts a value.
+#[unsafe(no_mangle)]
+pub extern "C" fn kl_put(
+    alloc: Global,
+    lane: &mut Handle,
+    key: &[u8],
+    value: &[u8],
+    expires: u64,
+) -> i32
+    requires { IsFull lane.old.lane }
+    ensures { Tells (λ status old new. PutLeaves key.now value.now expires old status new)
+        result lane.old.lane lane.new.lane }
+{
+    let mut kept = taken(alloc, lane);
+    let status = kept.put(alloc, key, value, expires);
+    filled(lane, kept);
+    status.number()
+}
+
+/// Puts a value, or removes the key where the put is refused.
+#[unsafe(no_mangle)]
+pub extern "C" fn kl_put_or_remove(
+    alloc: Global,
+    lane: &mut Handle,
+    key: &[u8],
+    value: &[u8],
+    expires: u64,
+) -> i32
+    requires { IsFull lane.old.lane }
+    ensures { Tells (λ status old new. PutOrRemoveLeaves key.now value.now expires old status new)
+        result lane.old.lane lane.new.lane }
+{
+    let mut kept = taken(alloc, lane);
+    let status = kept.put_or_remove(alloc, key, value, expires);
+    filled(lane, kept);
+    status.number()
+}
+
+/// Puts a value by a lease.
+#[unsafe(no_mangle)]
+pub extern "C" fn kl_fill(
+    alloc: Global,
+    lane: &mut Handle,
+    writes: u64,
+    key: &[u8],
+    value: &[u8],
+    expires: u64,
+) -> i32
+    requires { IsFull lane.old.lane }
+    ensures { Tells (λ status old new. FillLeaves writes key.now value.now expires old status new)
+        result lane.old.lane lane.new.lane }
+{
+    let mut kept = taken(alloc, lane);
+    let status = kept.fill(alloc, writes, key, value, expires);
+    filled(lane, kept);
+    status.number()
+}
+
+/// Removes a key.
+#[unsafe(no_mangle)]
+pub extern "C" fn kl_remove(alloc: Global, lane: &mut Handle, key: &[u8]) -> i32
+    requires { IsFull lane.old.lane }
+    ensures { Tells (λ status old new. RemoveLeaves key.now old status new)
+        result lane.old.lane lane.new.lane }
+{
+    let mut kept = taken(alloc, lane);
+    let status = kept.remove(key);
+    filled(lane, kept);
+    status.number()
+}
