@@ -1,0 +1,2 @@
+mod Feeding
+mod Keys

@@ -44,7 +44,7 @@ counters_with counts device usage memory_objects = record {
 }
 
 -- the counters of a lane
-abbrev pub counters_of : LaneState → Counters
+abbrev pub counters_of : {D : Type 0} → LaneState D → Counters
 counters_of lane =
     let s = lane.serving in
     counters_with s.counts s.store.device.counts (usage_of s.store.log) (length s.store.memory.pairs)

@@ -10,7 +10,8 @@ use Rattle.service_lane.specs.Counting.{with_given}
 use Rattle.c_lane.specs.declared.hit.Hit.{Hit as Told}
 use Rattle.c_lane.specs.declared.status.Status.{Status}
 use Rattle.c_lane.specs.declared.status.Status.TheVariants as statuses
-use Rattle.c_lane.specs.Lane.{LaneState, LaneDevice, page_bytes, is_honest, failures_of, held_by}
+use Rattle.lane_devices.specs.Counting.{CountedDevice}
+use Rattle.c_lane.specs.Lane.{LaneState, Laws, page_bytes, honest_in, failures_in, held_in}
 use Rattle.c_lane.specs.Statuses.{status_of_miss}
 use Rattle.c_lane.specs.Copying.{copy_status, copied_into}
 
@@ -50,33 +51,33 @@ pub record TellsAnswer (answer : Answer) (buffer : List ℕ) (status : Status) (
   pub hit_is : hit ≡ hit_of answer
 
 -- the lane answered a get so
-abbrev pub LaneGets : List ℕ → ℕ → Answer → Serving LaneDevice → Serving LaneDevice → Type 0
-LaneGets key moment answer old new = Gets page_bytes is_honest failures_of held_by key moment answer old new
+abbrev pub LaneGets : {D : Type 0} → Laws D → List ℕ → ℕ → Answer → Serving (CountedDevice D) → Serving (CountedDevice D) → Type 0
+LaneGets laws key moment answer old new = Gets page_bytes (honest_in laws) (failures_in laws) (held_in laws) key moment answer old new
 
 -- A get: the lane answered it, and the answer was told.
-pub record Answers (key : List ℕ) (moment : ℕ) (buffer : List ℕ) (old : LaneState) (status : Status) (new : LaneState) (into : List ℕ) (hit : Told) : Type 0 where
+pub record Answers {D : Type 0} (laws : Laws D) (key : List ℕ) (moment : ℕ) (buffer : List ℕ) (old : LaneState D) (status : Status) (new : LaneState D) (into : List ℕ) (hit : Told) : Type 0 where
   pub answer : Answer
-  pub gets : LaneGets key moment answer old.serving new.serving
+  pub gets : LaneGets laws key moment answer old.serving new.serving
   pub words : new.words ≡ old.words
   pub tells : TellsAnswer answer buffer status into hit
 
 -- what comes behind an answer: at a miss a lease, which is counted; at a hit nothing
-abbrev pub LeasedAfter : Answer → List ℕ → ℕ → Serving LaneDevice → Serving LaneDevice → ℕ → Type 0
+abbrev pub LeasedAfter : {D : Type 0} → Answer → List ℕ → ℕ → Serving (CountedDevice D) → Serving (CountedDevice D) → ℕ → Type 0
 LeasedAfter (Hit value tier) key writes between new lease = (new ≡ between) × (lease ≡ writes)
 LeasedAfter (Miss cause) key writes between new lease =
     (new ≡ record between { counts = record between.counts { leases = with_given between.counts.leases } }) × (lease ≡ writes_for between.slots key)
 
 -- A get that leases its key at a miss.
-pub record AnswersOrLeases (key : List ℕ) (moment : ℕ) (buffer : List ℕ) (writes : ℕ) (old : LaneState) (status : Status) (new : LaneState) (into : List ℕ) (hit : Told) (lease : ℕ) : Type 0 where
+pub record AnswersOrLeases {D : Type 0} (laws : Laws D) (key : List ℕ) (moment : ℕ) (buffer : List ℕ) (writes : ℕ) (old : LaneState D) (status : Status) (new : LaneState D) (into : List ℕ) (hit : Told) (lease : ℕ) : Type 0 where
   pub answer : Answer
-  pub between : Serving LaneDevice
-  pub gets : LaneGets key moment answer old.serving between
+  pub between : Serving (CountedDevice D)
+  pub gets : LaneGets laws key moment answer old.serving between
   pub leased : LeasedAfter answer key writes between new.serving lease
   pub words : new.words ≡ old.words
   pub tells : TellsAnswer answer buffer status into hit
 
 -- a get of what is no key: nothing changes, and no hit is told
-pub record RefusesGet (buffer : List ℕ) (old : LaneState) (status : Status) (new : LaneState) (into : List ℕ) (hit : Told) : Type 0 where
+pub record RefusesGet {D : Type 0} (buffer : List ℕ) (old : LaneState D) (status : Status) (new : LaneState D) (into : List ℕ) (hit : Told) : Type 0 where
   pub status_is : status ≡ statuses.WrongKey
   pub lane_is : new ≡ old
   pub into_is : into ≡ buffer

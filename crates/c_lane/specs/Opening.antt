@@ -1,7 +1,6 @@
 -- When a lane opens, and what it is then.
-use Rattle.std.specs.Prelude.{◌≡◌, ◌<◌, ℕ, ◌+◌, ◌*◌, List, [], None, replicate}
+use Rattle.std.specs.Prelude.{◌≡◌, ◌<◌, ℕ, ◌+◌, ◌*◌, [], None, fold, replicate}
 use Rattle.std.specs.Hash as fed
-use Rattle.std.specs.Prelude.{fold}
 use Rattle.record_pages.specs.declared.layout.Layout.{Layout}
 use Rattle.lane_devices.specs.Counting.{no_device_counts}
 use Rattle.key_hash.specs.declared.random_seed.RandomSeed.{RandomSeed}
@@ -34,12 +33,12 @@ pub record IsLayoutOf (s : LaneShape) (layout : Layout) : Type 0 where
 unfoldable pub words_for : RandomSeed → ℕ → Lcg
 words_for seed number = lcg.started 64 multiplier_64 (fold written (started seed) (fed.u64 number)).state (increment_of 64 number)
 
--- a lane was opened over these pages: it is empty, nothing was asked of it, and its pages are as they were
-pub record Opens (s : LaneShape) (seed : Seed) (number : ℕ) (pages : List (List ℕ)) (lane : LaneState) : Type 0 where
+-- a lane was opened over this device: it is empty, nothing was asked of it, and the device is as it was
+pub record Opens {D : Type 0} (s : LaneShape) (seed : Seed) (number : ℕ) (device : D) (lane : LaneState D) : Type 0 where
   pub layout : Layout
   pub numbers : IsLayoutOf s layout
   pub serving : lane.serving ≡ record {
-    store = opening layout (record { device = pages; counts = no_device_counts });
+    store = opening layout (record { device = device; counts = no_device_counts });
     deeds = [];
     slots = replicate s.lease_slots 0;
     counts = no_counts;

@@ -71,7 +71,10 @@ fn read(alloc: Global, bytes: &[u8]) -> Result<Trace, TraceFault>
         → outcome_of bytes.now ≡ Err fault) }
 {
     let mut reader = TraceReader::new(alloc);
-    reader.feed(bytes)?;
+    match reader.feed(bytes) {
+        Ok(()) => {}
+        Err(fault) => return Err(fault),
+    }
     match reader.finish() {
         Ok(trace) => Ok(trace),
         Err(fault) => Err(fault),

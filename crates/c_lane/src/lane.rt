@@ -1,14 +1,14 @@
 // A lane for callers in C.
-ghost use Rattle.std.specs.Prelude.{◌≡◌, ◌≤◌, length, IfOk, IfErr};
+ghost use Rattle.std.specs.Prelude.{◌≡◌, IfOk, IfErr};
 ghost use Rattle.c_lane.specs.Opening.{Opens, RefusesOpening};
 
 use crate::counters::Counters;
-use crate::device::Device;
 use crate::lane_shape::LaneShape;
 use crate::seed::Seed;
 use crate::status::Status;
 use lane_devices::Counted;
 use mover::OpenFault;
+use page_device::PageDevice;
 use rand_pcg::Lcg64Xsh32;
 use service_lane::{OpenLaneFault, ServiceLane};
 use std::alloc::Global;
@@ -23,24 +23,24 @@ mod tend;
 /// What it promises is said of the list of all that it was asked and answered since it was opened, which proofs alone see: a hit
 /// is its key's latest value in that list not since removed, and live at the moment that the get brought.
 #[derive(Drop)]
-pub struct CLane {
-    lane: ServiceLane<Counted<Device>, 4096>,
+pub struct CLane<D: PageDevice<4096>> {
+    lane: ServiceLane<Counted<D>, 4096>,
     words: Lcg64Xsh32,
 }
 
-impl Model for CLane {
+impl<D: PageDevice<4096>> Model for CLane<D> {
     ghost use Rattle.std.specs.Coded.{codes};
     ghost use Rattle.kset.specs.Sets.{sets_code};
     ghost use Rattle.c_lane.specs.Lane.{LaneState};
 
-    ghost Value = { LaneState };
+    ghost Value = { LaneState D };
 
     ghost coded = { Prim.hlevel (codes, sets_code) };
 
     ghost view = { λ l. record { serving = l.lane; words = l.words } };
 }
 
-impl CLane {
+impl<D: PageDevice<4096>> CLane<D> {
     ghost use Rattle.c_lane.specs.Counting.{counters_of};
 
     /// An empty lane over a device. `WrongOptions` comes where the shape has a number out of its range or the device has too few
@@ -52,10 +52,10 @@ impl CLane {
         shape: &LaneShape,
         seed: &Seed,
         number: u32,
-        device: Device,
-    ) -> Result<CLane, Status>
+        device: D,
+    ) -> Result<Self, Status>
         ensures opened { IfOk result (Opens shape.now seed.now number device) }
-        ensures refused { IfErr result (RefusesOpening shape.now (length device)) }
+        ensures refused { IfErr result (RefusesOpening shape.now (D.page_count device)) }
     {
         let Ok(parts) = shape.check() else {
             return Err(Status::WrongOptions);

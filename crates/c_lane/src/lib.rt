@@ -4,7 +4,6 @@
 
 mod copying;
 mod counters;
-mod device;
 mod hit;
 mod judging;
 mod lane;
@@ -19,7 +18,6 @@ mod step;
 mod wanted;
 
 pub use counters::Counters;
-pub use device::Device;
 pub use hit::Hit;
 pub use judging::judge_trace;
 pub use lane::CLane;

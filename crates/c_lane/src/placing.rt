@@ -17,6 +17,7 @@ pub struct Place {
 }
 
 /// Where a key is, in a cache of so many lanes with this seed: a function of these three.
+#[tactic(auto, unfolding(crate::specs::Placing::place_in))]
 pub fn place_of(seed: &Seed, lanes: u32, key: &[u8]) -> Place
     requires { 1 ≤ lanes }
     ensures place { result ≡ place_in seed.now lanes key.now }
@@ -30,6 +31,7 @@ pub fn place_of(seed: &Seed, lanes: u32, key: &[u8]) -> Place
 }
 
 // The hash of bytes.
+#[tactic(auto, unfolding(crate::specs::Placing::hash_of))]
 fn hash_of(seed: RandomSeed, bytes: &[u8]) -> u64
     ensures { result ≡ hash_of seed bytes.now }
 {

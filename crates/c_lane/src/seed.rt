@@ -17,6 +17,7 @@ pub struct Seed {
 
 impl Seed {
     // The seed of tables that is made of them.
+    #[tactic(auto, unfolding(crate::specs::Placing::seed_of))]
     pub(crate) fn random(&self) -> RandomSeed
         ensures { result ≡ seed_of self.now }
     {

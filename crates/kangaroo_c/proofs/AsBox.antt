@@ -6,8 +6,8 @@ use Rattle.std_alloc.proofs.BoxSteps.Form.{Bx}
 use Rattle.std_heap.specs.contracts.Global as Heap
 use Rattle.std_heap.specs.contracts.GlobalAllocator.TheImpl.{ghosts, dict}
 use Rattle.std_heap.proofs.Global.TheLaws as heap
-use Rattle.c_lane.specs.contracts.lane.CLane as Cache
-use Rattle.c_lane.proofs.lane.CLane.TheLaws as cache
+use Rattle.kangaroo_c.specs.contracts.kept_lane.KeptLane as Cache
+use Rattle.kangaroo_c.proofs.kept_lane.KeptLane.TheLaws as cache
 use Rattle.kangaroo_c.specs.contracts.parts.Parts as Parts
 use Rattle.kangaroo_c.specs.contracts.handle.Handle as Handle
 

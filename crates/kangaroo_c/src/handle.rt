@@ -1,12 +1,12 @@
 // A lane as C sees it: a pointer to a value of a type that C does not know, or none.
 ghost use Rattle.std.specs.Prelude.{◌≡◌, Option, Some, None};
-ghost use Rattle.c_lane.specs.Lane.{LaneState};
+ghost use Rattle.kangaroo_c.specs.declared.kept_lane.KeptLane.{KeptLane};
 ghost use Rattle.kangaroo_c.specs.Held.{held};
 ghost use Rattle.std.specs.Coded.{codes};
 ghost use Rattle.kset.specs.Sets.{sets_code};
 
+use crate::kept_lane::KeptLane;
 use crate::parts::Parts;
-use c_lane::CLane;
 
 use std::alloc::Global;
 use std::marker::Model;
@@ -17,7 +17,7 @@ use std::marker::Model;
 pub struct Handle {
     ptr: *mut u8,
     alloc: Global,
-    pub ghost lane: { Option LaneState } by { Prim.hlevel (codes, sets_code) },
+    pub ghost lane: { Option KeptLane } by { Prim.hlevel (codes, sets_code) },
 }
 
 impl Model for Handle {
@@ -36,7 +36,7 @@ impl Handle {
     }
 
     /// A place with this lane.
-    pub fn of_parts(parts: Parts<CLane, Global>) -> Handle
+    pub fn of_parts(parts: Parts<KeptLane, Global>) -> Handle
         ensures { result.lane ≡ Some parts.value }
     {
         let Parts { ptr: raw, alloc } = parts;
@@ -45,12 +45,12 @@ impl Handle {
     }
 
     /// The lane of a place that has one.
-    pub fn into_parts(self) -> Parts<CLane, Global>
-        requires { (m : LaneState) × (self.lane ≡ Some m) }
+    pub fn into_parts(self) -> Parts<KeptLane, Global>
+        requires { (m : KeptLane) × (self.lane ≡ Some m) }
         ensures { self.lane ≡ Some result.value }
     {
         let Handle { ptr: raw, alloc } = self;
-        let ptr = raw as *mut CLane;
+        let ptr = raw as *mut KeptLane;
         Parts { ptr, alloc }
     }
 }

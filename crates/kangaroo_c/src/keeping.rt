@@ -1,16 +1,16 @@
 // A lane is taken out of its place for a call, and put back.
 ghost use Rattle.std.specs.Prelude.{◌≡◌, Some, None};
-ghost use Rattle.c_lane.specs.Lane.{LaneState};
+ghost use Rattle.kangaroo_c.specs.Telling.{IsFull};
 
 use crate::handle::Handle;
+use crate::kept_lane::KeptLane;
 use crate::parts::Parts;
-use c_lane::CLane;
 use std::alloc::Global;
 use std::mem::replace;
 
 // The lane of a place, which is empty then.
-pub(crate) fn taken(alloc: Global, place: &mut Handle) -> Box<CLane>
-    requires { (m : LaneState) × (place.old.lane ≡ Some m) }
+pub(crate) fn taken(alloc: Global, place: &mut Handle) -> Box<KeptLane>
+    requires { IsFull place.old.lane }
     ensures value { place.old.lane ≡ Some result.value }
     ensures left { place.new.lane ≡ None }
 {
@@ -18,7 +18,7 @@ pub(crate) fn taken(alloc: Global, place: &mut Handle) -> Box<CLane>
 }
 
 // Puts a lane into a place.
-pub(crate) fn filled(place: &mut Handle, lane: Box<CLane>)
+pub(crate) fn filled(place: &mut Handle, lane: Box<KeptLane>)
     ensures { place.new.lane ≡ Some lane.value }
 {
     *place = Handle::of_parts(Parts::of(lane));

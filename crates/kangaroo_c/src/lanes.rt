@@ -3,11 +3,12 @@ ghost use Rattle.std.specs.Prelude.{◌≡◌, ◌≤◌, ℤ, pos, Some, None, 
 ghost use Rattle.record_pages.specs.Bounded.{IsKey};
 ghost use Rattle.c_lane.specs.Getting.{Answers, AnswersOrLeases, RefusesGet};
 ghost use Rattle.c_lane.specs.Putting.{PutLeaves, PutOrRemoveLeaves, FillLeaves, RemoveLeaves};
-ghost use Rattle.kangaroo_c.specs.Telling.{IsFull, Tells};
+ghost use Rattle.kangaroo_c.specs.Telling.{IsFull, Tells, page_laws};
 
 use crate::handle::Handle;
 use crate::keeping::{filled, taken};
-use c_lane::{CLane, Device, Hit, LaneShape, Seed, Status};
+use crate::kept_lane::{Device, KeptLane};
+use c_lane::{CLane, Hit, LaneShape, Seed, Status};
 use std::alloc::Global;
 
 /// Opens an empty lane over so many pages.
@@ -26,7 +27,7 @@ pub extern "C" fn kl_open(
         return Status::NoMemory.number();
     };
     match CLane::open(alloc, shape, seed, number, device) {
-        Ok(lane) => match Box::new(alloc, lane) {
+        Ok(lane) => match Box::new(alloc, KeptLane { lane }) {
             Ok(lane) => {
                 filled(to, lane);
                 Status::Done.number()
@@ -58,14 +59,14 @@ pub extern "C" fn kl_get(
 ) -> i32
     requires { IsFull lane.old.lane }
     ensures answered { IsKey key.now → Tells
-        (λ status old new. Answers key.now moment into.old old status new into.new hit.new)
+        (λ status old new. Answers page_laws key.now moment into.old old status new into.new hit.new)
         result lane.old.lane lane.new.lane }
     ensures wrong_key { (IsKey key.now → ⊥) → Tells
         (λ status old new. RefusesGet into.old old status new into.new hit.new)
         result lane.old.lane lane.new.lane }
 {
     let mut kept = taken(alloc, lane);
-    let status = kept.get(key, moment, into, hit);
+    let status = kept.lane.get(key, moment, into, hit);
     filled(lane, kept);
     status.number()
 }
@@ -83,7 +84,7 @@ pub extern "C" fn kl_get_or_lease(
 ) -> i32
     requires { IsFull lane.old.lane }
     ensures answered { IsKey key.now → Tells
-        (λ status old new. AnswersOrLeases key.now moment into.old writes.old old
+        (λ status old new. AnswersOrLeases page_laws key.now moment into.old writes.old old
         status new into.new hit.new writes.new)
         result lane.old.lane lane.new.lane }
     ensures wrong_key { (IsKey key.now → ⊥) → Tells
@@ -92,7 +93,7 @@ pub extern "C" fn kl_get_or_lease(
     ensures no_lease { (IsKey key.now → ⊥) → writes.new ≡ writes.old }
 {
     let mut kept = taken(alloc, lane);
-    let status = kept.get_or_lease(key, moment, into, hit, writes);
+    let status = kept.lane.get_or_lease(key, moment, into, hit, writes);
     filled(lane, kept);
     status.number()
 }
@@ -107,11 +108,11 @@ pub extern "C" fn kl_put(
     expires: u64,
 ) -> i32
     requires { IsFull lane.old.lane }
-    ensures { Tells (λ status old new. PutLeaves key.now value.now expires old status new)
+    ensures { Tells (λ status old new. PutLeaves page_laws key.now value.now expires old status new)
         result lane.old.lane lane.new.lane }
 {
     let mut kept = taken(alloc, lane);
-    let status = kept.put(alloc, key, value, expires);
+    let status = kept.lane.put(alloc, key, value, expires);
     filled(lane, kept);
     status.number()
 }
@@ -126,11 +127,11 @@ pub extern "C" fn kl_put_or_remove(
     expires: u64,
 ) -> i32
     requires { IsFull lane.old.lane }
-    ensures { Tells (λ status old new. PutOrRemoveLeaves key.now value.now expires old status new)
+    ensures { Tells (λ status old new. PutOrRemoveLeaves page_laws key.now value.now expires old status new)
         result lane.old.lane lane.new.lane }
 {
     let mut kept = taken(alloc, lane);
-    let status = kept.put_or_remove(alloc, key, value, expires);
+    let status = kept.lane.put_or_remove(alloc, key, value, expires);
     filled(lane, kept);
     status.number()
 }
@@ -146,11 +147,11 @@ pub extern "C" fn kl_fill(
     expires: u64,
 ) -> i32
     requires { IsFull lane.old.lane }
-    ensures { Tells (λ status old new. FillLeaves writes key.now value.now expires old status new)
+    ensures { Tells (λ status old new. FillLeaves page_laws writes key.now value.now expires old status new)
         result lane.old.lane lane.new.lane }
 {
     let mut kept = taken(alloc, lane);
-    let status = kept.fill(alloc, writes, key, value, expires);
+    let status = kept.lane.fill(alloc, writes, key, value, expires);
     filled(lane, kept);
     status.number()
 }
@@ -159,11 +160,11 @@ pub extern "C" fn kl_fill(
 #[unsafe(no_mangle)]
 pub extern "C" fn kl_remove(alloc: Global, lane: &mut Handle, key: &[u8]) -> i32
     requires { IsFull lane.old.lane }
-    ensures { Tells (λ status old new. RemoveLeaves key.now old status new)
+    ensures { Tells (λ status old new. RemoveLeaves page_laws key.now old status new)
         result lane.old.lane lane.new.lane }
 {
     let mut kept = taken(alloc, lane);
-    let status = kept.remove(key);
+    let status = kept.lane.remove(key);
     filled(lane, kept);
     status.number()
 }

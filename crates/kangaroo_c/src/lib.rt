@@ -7,6 +7,7 @@
 
 mod handle;
 mod keeping;
+mod kept_lane;
 mod lanes;
 mod parts;
 mod sizes;

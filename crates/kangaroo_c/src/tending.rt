@@ -4,7 +4,7 @@ ghost use Rattle.std.specs.Int.{from_bool};
 ghost use Rattle.service_lane.specs.Upkeep.{due_in};
 ghost use Rattle.c_lane.specs.Counting.{counters_of};
 ghost use Rattle.c_lane.specs.Tending.{Tends};
-ghost use Rattle.kangaroo_c.specs.Telling.{IsFull, OnLanes};
+ghost use Rattle.kangaroo_c.specs.Telling.{IsFull, OnLanes, page_laws};
 
 use crate::handle::Handle;
 use crate::keeping::{filled, taken};
@@ -15,10 +15,10 @@ use std::alloc::Global;
 #[unsafe(no_mangle)]
 pub extern "C" fn kl_upkeep_step(alloc: Global, lane: &mut Handle, to: &mut Step)
     requires { IsFull lane.old.lane }
-    ensures { OnLanes (λ old new. Tends old to.new new) lane.old.lane lane.new.lane }
+    ensures { OnLanes (λ old new. Tends page_laws old to.new new) lane.old.lane lane.new.lane }
 {
     let mut kept = taken(alloc, lane);
-    *to = kept.upkeep_step();
+    *to = kept.lane.upkeep_step();
     filled(lane, kept);
 }
 
@@ -29,7 +29,7 @@ pub extern "C" fn kl_count(alloc: Global, lane: &mut Handle, to: &mut Counters)
     ensures { OnLanes (λ old new. (to.new ≡ counters_of old) × (new ≡ old)) lane.old.lane lane.new.lane }
 {
     let kept = taken(alloc, lane);
-    *to = kept.counters();
+    *to = kept.lane.counters();
     filled(lane, kept);
 }
 
@@ -41,7 +41,7 @@ pub extern "C" fn kl_is_due(alloc: Global, lane: &mut Handle) -> u32
         lane.old.lane lane.new.lane }
 {
     let kept = taken(alloc, lane);
-    let is_due = kept.is_due();
+    let is_due = kept.lane.is_due();
     filled(lane, kept);
     u32::from(is_due)
 }

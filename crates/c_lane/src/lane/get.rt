@@ -2,6 +2,7 @@
 ghost use Rattle.std.specs.Prelude.{◌≡◌, ◌≤◌, length};
 ghost use Rattle.record_pages.specs.Bounded.{IsKey};
 ghost use Rattle.mover.specs.Get.{answer_of};
+ghost use Rattle.c_lane.specs.Lane.{laws_of};
 ghost use Rattle.c_lane.specs.Getting.{Answers, AnswersOrLeases, RefusesGet, TellsAnswer};
 
 use super::CLane;
@@ -9,9 +10,10 @@ use crate::copying::copied;
 use crate::hit::Hit;
 use crate::status::Status;
 use mover::Seen;
+use page_device::PageDevice;
 use value_buffer::ValueBuffer;
 
-impl CLane {
+impl<D: PageDevice<4096>> CLane<D> {
     /// Looks a key up. At `Done` its value stands at the front of the buffer, the rest of which is as it was; at any other status
     /// the whole buffer is. A miss is `Absent`, `Expired`, `Unreadable` or `Damaged`; `ShortBuffer` is a hit whose value is longer
     /// than the buffer. The hit is told at `Done` and `ShortBuffer`, and is all zeros else. `WrongKey` changes nothing. No memory
@@ -20,7 +22,7 @@ impl CLane {
     /// The moment is the caller's, in the unit in which puts say when they expire.
     pub fn get(&mut self, key: &[u8], moment: u64, into: &mut [u8], hit: &mut Hit) -> Status
         ensures answered { IsKey key.now →
-            Answers key.now moment into.old self.old result self.new into.new hit.new }
+            Answers (laws_of D.honest D.failures D.held) key.now moment into.old self.old result self.new into.new hit.new }
         ensures wrong_key { (IsKey key.now → ⊥) →
             RefusesGet into.old self.old result self.new into.new hit.new }
     {
@@ -44,7 +46,7 @@ impl CLane {
         hit: &mut Hit,
         writes: &mut u64,
     ) -> Status
-        ensures answered { IsKey key.now → AnswersOrLeases key.now moment into.old writes.old self.old
+        ensures answered { IsKey key.now → AnswersOrLeases (laws_of D.honest D.failures D.held) key.now moment into.old writes.old self.old
             result self.new into.new hit.new writes.new }
         ensures wrong_key { (IsKey key.now → ⊥) →
             RefusesGet into.old self.old result self.new into.new hit.new }

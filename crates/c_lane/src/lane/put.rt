@@ -2,18 +2,20 @@
 ghost use Rattle.std.specs.Prelude.{◌≡◌, ◌<◌, ◌≤◌, ◌↔◌, length};
 ghost use Rattle.record_pages.specs.Bounded.{IsKey};
 ghost use Rattle.service_lane.specs.Leases.{HoldsLease};
+ghost use Rattle.c_lane.specs.Lane.{laws_of};
 ghost use Rattle.c_lane.specs.Putting.{PutLeaves, PutOrRemoveLeaves, FillLeaves, RemoveLeaves};
 
 use super::CLane;
 use crate::object::Object;
 use crate::status::Status;
+use page_device::PageDevice;
 use rand_core::utils::NextWord;
 use record_pages::PutFault;
 use rriparoo::Rriparoo;
 use service_lane::{Filled, Lease};
 use std::alloc::Global;
 
-impl CLane {
+impl<D: PageDevice<4096>> CLane<D> {
     /// Puts a value, and helps for the room that it took. It expires at the moment `expires`, or never where that is 2^64 - 1.
     /// **A put that is refused leaves the older value of the key, and later gets hit it.** `WrongKey`, `TooLarge` and `NoMemory`
     /// change nothing but counters and the next word of admission.
@@ -21,7 +23,7 @@ impl CLane {
         ensures wrong_key { (result ≡ Status.WrongKey) ↔ (IsKey key.now → ⊥) }
         ensures too_large { (result ≡ Status.TooLarge)
             ↔ (IsKey key.now × (2048 < length value.now)) }
-        ensures leaves { PutLeaves key.now value.now expires self.old result self.new }
+        ensures leaves { PutLeaves (laws_of D.honest D.failures D.held) key.now value.now expires self.old result self.new }
     {
         let object = match Object::new(alloc, key, value) {
             Ok(object) => object,
@@ -39,17 +41,11 @@ impl CLane {
 
     /// Puts a value as `put` does, or removes the key where the put is refused by `TooLarge` or `NoMemory`: an older value is hit
     /// no more either way.
-    pub fn put_or_remove(
-        &mut self,
-        alloc: Global,
-        key: &[u8],
-        value: &[u8],
-        expires: u64,
-    ) -> Status
+    pub fn put_or_remove(&mut self, alloc: Global, key: &[u8], value: &[u8], expires: u64) -> Status
         ensures wrong_key { (result ≡ Status.WrongKey) ↔ (IsKey key.now → ⊥) }
         ensures too_large { (result ≡ Status.TooLarge)
             ↔ (IsKey key.now × (2048 < length value.now)) }
-        ensures leaves { PutOrRemoveLeaves key.now value.now expires self.old result self.new }
+        ensures leaves { PutOrRemoveLeaves (laws_of D.honest D.failures D.held) key.now value.now expires self.old result self.new }
     {
         let status = self.put(alloc, key, value, expires);
         if status == Status::TooLarge || status == Status::NoMemory {
@@ -72,7 +68,7 @@ impl CLane {
         ensures wrong_key { (result ≡ Status.WrongKey) ↔ (IsKey key.now → ⊥) }
         ensures too_large { (result ≡ Status.TooLarge)
             ↔ (IsKey key.now × (2048 < length value.now)) }
-        ensures leaves { FillLeaves writes key.now value.now expires self.old result self.new }
+        ensures leaves { FillLeaves (laws_of D.honest D.failures D.held) writes key.now value.now expires self.old result self.new }
     {
         let object = match Object::new(alloc, key, value) {
             Ok(object) => object,
@@ -80,7 +76,10 @@ impl CLane {
         };
         let word = self.words.next_word();
         let lease = Lease { writes };
-        match self.lane.fill(lease, object.key, object.value, word, expires) {
+        match self
+            .lane
+            .fill(lease, object.key, object.value, word, expires)
+        {
             Ok(Filled::Stored(_)) => {
                 let _helped = self.lane.help(&Rriparoo);
                 Status::Done
@@ -94,7 +93,7 @@ impl CLane {
     /// `WrongKey` alone, which changes nothing.
     pub fn remove(&mut self, key: &[u8]) -> Status
         ensures wrong_key { (result ≡ Status.WrongKey) ↔ (IsKey key.now → ⊥) }
-        ensures leaves { RemoveLeaves key.now self.old result self.new }
+        ensures leaves { RemoveLeaves (laws_of D.honest D.failures D.held) key.now self.old result self.new }
     {
         match self.lane.remove(key) {
             Ok(()) => Status::Done,

@@ -11,13 +11,13 @@ use Rattle.std.specs.Prelude.{Option, Some, None}
 use Rattle.std.specs.Global.{Global}
 use Rattle.std_alloc.proofs.SendSync.{quiet, lies}
 use Rattle.std_heap.proofs.Global.TheSendSync as handle
-use Rattle.c_lane.specs.Lane.{LaneState}
-use Rattle.c_lane.specs.contracts.lane.CLane as Cache
-use Rattle.c_lane.proofs.lane.CLane.TheSendSync.{the_send as cache}
+use Rattle.kangaroo_c.specs.declared.kept_lane.KeptLane.{KeptLane}
+use Rattle.kangaroo_c.specs.contracts.kept_lane.KeptLane as Cache
+use Rattle.kangaroo_c.proofs.kept_lane.KeptLane.TheSendSync.{the_send as cache}
 use Rattle.kangaroo_c.specs.Held.{held}
 use Rattle.kangaroo_c.specs.contracts.handle.Handle.{the_row, the_type}
 
-keyless : (a : Global) (p : Ptr) (c : Option LaneState) → Keyless (held a p c)
+keyless : (a : Global) (p : Ptr) (c : Option KeptLane) → Keyless (held a p c)
 keyless a p None = tt
 keyless a p (Some m) = (lies Cache.the_row cache p m, heap.frees.frees a (raw (lone Cache.the_row.mir)) p)
 

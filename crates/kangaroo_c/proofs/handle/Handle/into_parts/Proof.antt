@@ -22,7 +22,7 @@ use denote.Steps.{heard}
 use types.Kit.{rewrite}
 use mathlib.Core.Path.{◌≡◌}
 use Rattle.std.specs.Prelude.{Option, Some}
-use Rattle.c_lane.specs.Lane.{LaneState}
+use Rattle.kangaroo_c.specs.declared.kept_lane.KeptLane.{KeptLane}
 use Rattle.kangaroo_c.specs.contracts.handle.Handle as Handle
 use denote.Signature.{type_at}
 use denote.Steps.{nothing}
@@ -48,12 +48,12 @@ module _ {M : Type 1} {𝓤 : Ura M} (𝓛 : Logic 𝓤) (at_mem : Memory → SP
   walk z =
       let Post = (walk_of 𝓛 F.ended stayed (F.clauses 𝓛 at_mem run)).post z in
       let To = type_at (F.signature).result tt in
-      let Known : Type 0 = (m : LaneState) × (z.0.3.0.lane ≡ Some m) in
+      let Known : Type 0 = (m : KeptLane) × (z.0.3.0.lane ≡ Some m) in
       qed 𝓛 ((‵ ftrue ⊛ ‵ (fsep (Handle.the_row.own_val z.0.3.0 z.0.4.0) ftrue)) ∷ raw (fact 𝓤 Known) ∷ []) ∵ move ! (1 ∷ []) $ heard ! Known (λ known.
       let v : D E = record { ptr = z.0.3.0.ptr; alloc = z.0.3.0.alloc; value = known.0 } in
       let made : To.Denot = record { ptr = v.ptr; alloc = v.alloc; value = v.value } in
       split ! $ drop ! $ fsplit ! $
-      rewrite ! 0 (λ (c : Option LaneState). ‵ (Handle.the_row.own_val (record { ptr = z.0.3.0.ptr; alloc = z.0.3.0.alloc; lane = c }) z.0.4.0)) known.1 refl $
+      rewrite ! 0 (λ (c : Option KeptLane). ‵ (Handle.the_row.own_val (record { ptr = z.0.3.0.ptr; alloc = z.0.3.0.alloc; lane = c }) z.0.4.0)) known.1 refl $
       use1 𝓛 (‵ ((B E).own_val v z.0.4.0)) (id⊢ 𝓤 _) $
       box_out E ! v z.0.4.0 (λ b o hv e ws fa. box_in E ! v b o v.value e refl $ use1 𝓛 (‵ (To.own_val made (word E hv b o ∷ []))) (id⊢ 𝓤 _) $ move ! (1 ∷ []) $ drop ! $
       let w = word E hv b o in
