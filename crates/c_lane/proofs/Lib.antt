@@ -1,2 +1,5 @@
 mod Feeding
 mod Keys
+mod Getting
+mod Putting
+mod Opening

@@ -1,6 +1,6 @@
 // A lane for callers in C.
-ghost use Rattle.std.specs.Prelude.{◌≡◌, IfOk, IfErr};
-ghost use Rattle.c_lane.specs.Opening.{Opens, RefusesOpening};
+ghost use Rattle.std.specs.Prelude.{◌≡◌, IfOk, IfErr, OnOk};
+ghost use Rattle.c_lane.specs.Opening.{Opens, CanOpen, RefusesOpening};
 
 use crate::counters::Counters;
 use crate::lane_shape::LaneShape;
@@ -55,6 +55,7 @@ impl<D: PageDevice<4096>> CLane<D> {
         device: D,
     ) -> Result<Self, Status>
         ensures opened { IfOk result (Opens shape.now seed.now number device) }
+        ensures can { OnOk result (CanOpen shape.now (D.page_count device)) }
         ensures refused { IfErr result (RefusesOpening shape.now (D.page_count device)) }
     {
         let Ok(parts) = shape.check() else {

@@ -1,8 +1,12 @@
 -- What an export does to the lane of a place, and the number that it answers.
-use Rattle.std.specs.Prelude.{◌≡◌, ℕ, ℤ, List, Option, Some, None, true, slice_get}
+use Rattle.std.specs.Prelude.{◌≡◌, ℕ, ℤ, List, length, Option, Some, None, true, slice_get}
 use Rattle.c_lane.specs.declared.status.Status.{Status}
+use Rattle.c_lane.specs.declared.status.Status.TheVariants as statuses
+use Rattle.c_lane.specs.declared.lane_shape.LaneShape.{LaneShape}
+use Rattle.c_lane.specs.declared.seed.Seed.{Seed}
 use Rattle.c_lane.specs.Judging.{JudgesTrace}
 use Rattle.c_lane.specs.Lane.{LaneState, Laws, laws_of}
+use Rattle.c_lane.specs.Opening.{Opens, CanOpen, RefusesOpening}
 use Rattle.c_lane.specs.Statuses.{number_of}
 use Rattle.kangaroo_c.specs.declared.kept_lane.KeptLane.{KeptLane}
 
@@ -36,3 +40,32 @@ pub record IsJudgedBy (bytes buffer : List ℕ) (number : ℤ) (into : List ℕ)
   pub status : Status
   pub number_is : number ≡ number_of status
   pub judges : JudgesTrace bytes buffer status into len
+
+-- a lane was put into a place; or memory was refused, and the place is as it was
+abbrev pub IsPut : PagesLane → Option KeptLane → Status → Option KeptLane → Type 0
+IsPut lane old statuses.Done new = new ≡ Some (record { lane = lane })
+IsPut lane old statuses.NoMemory new = new ≡ old
+IsPut lane old status new = ⊥
+
+-- a lane was opened in a place
+pub record OpensIn (shape : LaneShape) (seed : Seed) (number : ℕ) (pages : List (List ℕ)) (place : Option KeptLane) : Type 0 where
+  pub kept : KeptLane
+  pub is : place ≡ Some kept
+  pub can : CanOpen shape (length pages)
+  pub opens : Opens shape seed number pages kept.lane
+
+-- no lane was opened, with this status, and the place is empty
+pub record RefusesIn (shape : LaneShape) (pages : ℕ) (status : Status) (place : Option KeptLane) : Type 0 where
+  pub why : RefusesOpening shape pages status
+  pub is : place ≡ None
+
+-- what an opening in an empty place leaves, by its status
+abbrev pub OpensBy : LaneShape → Seed → ℕ → List (List ℕ) → Status → Option KeptLane → Type 0
+OpensBy shape seed number pages statuses.Done place = OpensIn shape seed number pages place
+OpensBy shape seed number pages status place = RefusesIn shape (length pages) status place
+
+-- the number is that of the status of an opening
+pub record TellsOpening (shape : LaneShape) (seed : Seed) (number : ℕ) (pages : List (List ℕ)) (answer : ℤ) (place : Option KeptLane) : Type 0 where
+  pub status : Status
+  pub answer_is : answer ≡ number_of status
+  pub does_it : OpensBy shape seed number pages status place

@@ -7,7 +7,6 @@ ghost use Rattle.kset.specs.Sets.{sets_code};
 
 use crate::kept_lane::KeptLane;
 use crate::parts::Parts;
-
 use std::alloc::Global;
 use std::marker::Model;
 

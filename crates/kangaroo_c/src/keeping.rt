@@ -5,6 +5,8 @@ ghost use Rattle.kangaroo_c.specs.Telling.{IsFull};
 use crate::handle::Handle;
 use crate::kept_lane::KeptLane;
 use crate::parts::Parts;
+use c_lane::{CLane, Status};
+use mapped_device::MappedDevice;
 use std::alloc::Global;
 use std::mem::replace;
 
@@ -22,4 +24,19 @@ pub(crate) fn filled(place: &mut Handle, lane: Box<KeptLane>)
     ensures { place.new.lane ≡ Some lane.value }
 {
     *place = Handle::of_parts(Parts::of(lane));
+}
+
+ghost use Rattle.kangaroo_c.specs.Telling.{IsPut};
+
+// Puts a lane into memory of its own, and that into a place; `NoMemory` where it was refused.
+pub(crate) fn put_in(alloc: Global, lane: CLane<MappedDevice<4096>>, place: &mut Handle) -> Status
+    ensures { IsPut lane place.old.lane result place.new.lane }
+{
+    match Box::new(alloc, KeptLane { lane }) {
+        Ok(kept) => {
+            filled(place, kept);
+            Status::Done
+        }
+        Err(_) => Status::NoMemory,
+    }
 }

@@ -1,39 +1,33 @@
 // Opening and closing a lane, and its calls.
-ghost use Rattle.std.specs.Prelude.{◌≡◌, ◌≤◌, ℤ, pos, Some, None, IfSome, length};
+ghost use Rattle.std.specs.Prelude.{◌≡◌, None};
 ghost use Rattle.record_pages.specs.Bounded.{IsKey};
 ghost use Rattle.c_lane.specs.Getting.{Answers, AnswersOrLeases, RefusesGet};
 ghost use Rattle.c_lane.specs.Putting.{PutLeaves, PutOrRemoveLeaves, FillLeaves, RemoveLeaves};
-ghost use Rattle.kangaroo_c.specs.Telling.{IsFull, Tells, page_laws};
+ghost use Rattle.kangaroo_c.specs.Telling.{IsFull, Tells, TellsOpening, page_laws};
 
 use crate::handle::Handle;
-use crate::keeping::{filled, taken};
-use crate::kept_lane::{Device, KeptLane};
-use c_lane::{CLane, Hit, LaneShape, Seed, Status};
+use crate::keeping::{filled, put_in, taken};
+use c_lane::{CLane, Hit, LaneShape, Seed};
+use mapped_device::{LentPages, MappedDevice};
 use std::alloc::Global;
 
-/// Opens an empty lane over so many pages.
+/// Opens an empty lane over pages that C lends, and puts it into an empty place; or leaves the place empty, and the pages are C's
+/// again.
 #[unsafe(no_mangle)]
 pub extern "C" fn kl_open(
     alloc: Global,
     shape: &LaneShape,
     seed: &Seed,
     number: u32,
-    memory: *mut u8,
-    pages: u32,
+    pages: LentPages,
     to: &mut Handle,
-) -> i32 {
-    let _ = memory;
-    let Ok(device) = Device::new(alloc, pages) else {
-        return Status::NoMemory.number();
-    };
+) -> i32
+    requires { to.old.lane ≡ None }
+    ensures { TellsOpening shape.now seed.now number pages.pages result to.new.lane }
+{
+    let device = MappedDevice::new(pages.into_lent());
     match CLane::open(alloc, shape, seed, number, device) {
-        Ok(lane) => match Box::new(alloc, KeptLane { lane }) {
-            Ok(lane) => {
-                filled(to, lane);
-                Status::Done.number()
-            }
-            Err(_) => Status::NoMemory.number(),
-        },
+        Ok(lane) => put_in(alloc, lane, to).number(),
         Err(status) => status.number(),
     }
 }
