@@ -1,5 +1,5 @@
 mod Feeding
-mod Keys
 mod Getting
 mod Putting
+mod Tending
 mod Opening

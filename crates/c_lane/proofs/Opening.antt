@@ -1,47 +1,33 @@
--- When a lane opens for callers in C.
-use Rattle.std.proofs.Common.{◌≡◌, ◌≢◌, ℕ, ◌+◌, ◌*◌, ◌<◌, ◌≤◌, Option, Some, None, refl, sym, ap, subst, ◌∙◌, arith}
+-- What a lane is that was opened for callers in C.
+use Rattle.std.proofs.Common.{◌≡◌, ℕ, ◌+◌, ◌*◌, ◌<◌, List, [], None, ap, sym, subst, ◌∙◌}
+use Rattle.std.specs.Prelude.{replicate}
 use Rattle.record_pages.specs.Asked.{HasNumbersOf}
-use Rattle.record_pages.specs.Sizes.{IsPageSize}
-use Rattle.record_pages.specs.Table.{first_faulty}
 use Rattle.record_pages.specs.declared.config.Config.{Config}
 use Rattle.record_pages.specs.declared.layout.Layout.{Layout}
+use Rattle.key_hash.specs.declared.random_seed.RandomSeed.{RandomSeed}
 use Rattle.cache_sizes.specs.declared.shape.Shape.{Shape}
-use Rattle.cache_sizes.specs.Shapes.{config_of}
-use Rattle.mover.specs.Opening.{CanServe}
-use Rattle.mover.specs.Store.{IsTooSmall}
-use Rattle.mover.specs.declared.open_fault.OpenFault.{OpenFault}
-use Rattle.mover.specs.declared.open_fault.OpenFault.TheVariants as store_faults
-use Rattle.service_lane.specs.Serving.{RefusesLane}
-use Rattle.service_lane.specs.declared.open_lane_fault.OpenLaneFault.{OpenLaneFault}
-use Rattle.service_lane.specs.declared.open_lane_fault.OpenLaneFault.TheVariants as lane_faults
+use Rattle.cache_sizes.specs.Shapes.{config_of, file_pages_of}
+use Rattle.lane_devices.specs.Counting.{CountedDevice, no_device_counts}
+use Rattle.rand_pcg.specs.Lcg.{Lcg}
+use Rattle.mover.specs.Store.{opening}
+use Rattle.service_lane.specs.Counting.{no_counts}
+use Rattle.service_lane.specs.Serving.{Serving}
 use Rattle.c_lane.specs.declared.lane_shape.LaneShape.{LaneShape}
-use Rattle.c_lane.specs.declared.shape_field.ShapeField.{ShapeField}
-use Rattle.c_lane.specs.declared.status.Status.TheVariants.{WrongOptions, NoMemory}
-use Rattle.c_lane.specs.Lane.{page_bytes}
-use Rattle.c_lane.specs.Opening.{CanOpen, IsLayoutOf, RefusesOpening}
+use Rattle.c_lane.specs.declared.seed.Seed.{Seed}
+use Rattle.c_lane.specs.Opening.{CanOpen, IsLayoutOf, Opens, words_for}
+use Rattle.c_lane.specs.Placing.{seed_of}
 use Rattle.c_lane.specs.Shapes.{first_faulty_field, HasPartsOf}
 
--- no lane of a shape with a faulty field can be opened
-pub faulty_is_closed : (s : LaneShape) (pages : ℕ) (field : ShapeField) → first_faulty_field s ≡ Some field → ¬ CanOpen s pages
-faulty_is_closed s pages field faulty can = absurd (cc (faulty, can.numbers))
-
-module _ (s : LaneShape) (shape : Shape) (pages : ℕ) (faultless : first_faulty_field s ≡ None) (parts : HasPartsOf shape s) where
-  -- the pages that the configuration asks for are those of the shape
-  asked : shape.sets + shape.segments * shape.segment_pages ≡ s.sets + s.segments * s.segment_pages
-  asked =
+module _ (s : LaneShape) (shape : Shape) (parts : HasPartsOf shape s) where
+  -- the pages of its parts are those of the shape
+  pub pages_asked : file_pages_of shape ≡ s.sets + s.segments * s.segment_pages
+  pages_asked =
       ap (λ n. n + shape.segments * shape.segment_pages) parts.sets
       ∙ ap (λ n. s.sets + n * shape.segment_pages) parts.segments
       ∙ ap (λ n. s.sets + s.segments * n) parts.segment_pages
 
-  -- a lane that serves so many pages can be opened
-  pub can_open : CanServe page_bytes (config_of shape s.threshold s.admit) pages → CanOpen s pages
-  can_open can = record {
-    numbers = faultless;
-    enough = λ few. can.large (subst (λ (n : ℕ). pages < n) (sym asked) few);
-  }
-
   -- the layout that a lane was opened with is the shape's
-  pub layout_of : (layout : Layout) → HasNumbersOf layout (config_of shape s.threshold s.admit) → IsLayoutOf s layout
+  layout_of : (layout : Layout) → HasNumbersOf layout (config_of shape s.threshold s.admit) → IsLayoutOf s layout
   layout_of layout has = record {
     lanes = has.lanes ∙ parts.lanes;
     sets = has.sets ∙ parts.sets;
@@ -53,12 +39,17 @@ module _ (s : LaneShape) (shape : Shape) (pages : ℕ) (faultless : first_faulty
     admit = has.admit;
   }
 
-  -- a lane that was refused, but for want of memory, can't be opened
-  pub closed : (config : Config) → config ≡ config_of shape s.threshold s.admit → first_faulty config ≡ None → 1 ≤ s.lease_slots →
-      (fault : OpenLaneFault) → fault ≢ lane_faults.Store store_faults.OutOfMemory → RefusesLane page_bytes config s.lease_slots pages fault → ¬ CanOpen s pages
-  closed config config_is numbers slots lane_faults.NoLeaseSlots other none can = omega (arith, slots, none)
-  closed config config_is numbers slots (lane_faults.Store (store_faults.ConfigFault field)) other (some, faulty) can = absurd (cc (faulty, numbers))
-  closed config config_is numbers slots (lane_faults.Store store_faults.WrongPage) other (some, no_config, no_page) can = no_page (omega arith, omega arith)
-  closed config config_is numbers slots (lane_faults.Store store_faults.DeviceTooSmall) other (some, no_config, page, small) can =
-      can.enough (subst (λ (n : ℕ). pages < n) asked (subst (λ (c : Config). IsTooSmall c pages) config_is small))
-  closed config config_is numbers slots (lane_faults.Store store_faults.OutOfMemory) other refused can = absurd (other refl)
+  -- what the lane below was opened as, is what is promised
+  pub opens : {D : Type 0} (seed : Seed) (number : ℕ) (device boxed : D) (counted : CountedDevice D) (config : Config) (random : RandomSeed) (words : Lcg) (serving : Serving (CountedDevice D)) →
+      config ≡ config_of shape s.threshold s.admit → boxed ≡ device → counted ≡ record { device = boxed; counts = no_device_counts } →
+      random ≡ seed_of seed → words ≡ words_for random number →
+      HasNumbersOf serving.store.layout config × (serving ≡ record { store = opening serving.store.layout counted; deeds = []; slots = replicate s.lease_slots 0; counts = no_counts }) →
+      Opens s seed number device (record { serving = serving; words = words })
+  opens {D} seed number device boxed counted config random words serving config_is boxed_is counted_is random_is words_is opened = record {
+    layout = serving.store.layout;
+    numbers = layout_of serving.store.layout (subst (λ (c : Config). HasNumbersOf serving.store.layout c) config_is opened.0);
+    serving =
+        opened.1
+        ∙ ap (λ (d : CountedDevice D). record { store = opening serving.store.layout d; deeds = []; slots = replicate s.lease_slots 0; counts = no_counts }) (counted_is ∙ ap (λ (d : D). record { device = d; counts = no_device_counts }) boxed_is);
+    words = words_is ∙ ap (λ (r : RandomSeed). words_for r number) random_is;
+  }

@@ -6,11 +6,10 @@ use crate::counters::Counters;
 use crate::lane_shape::LaneShape;
 use crate::seed::Seed;
 use crate::status::Status;
-use lane_devices::Counted;
-use mover::OpenFault;
+use lane_devices::{Boxed, Counted};
 use page_device::PageDevice;
 use rand_pcg::Lcg64Xsh32;
-use service_lane::{OpenLaneFault, ServiceLane};
+use service_lane::ServiceLane;
 use std::alloc::Global;
 use std::marker::Model;
 
@@ -24,7 +23,8 @@ mod tend;
 /// is its key's latest value in that list not since removed, and live at the moment that the get brought.
 #[derive(Drop)]
 pub struct CLane<D: PageDevice<4096>> {
-    lane: ServiceLane<Counted<D>, 4096>,
+    // The device lies in memory of its own, so that the lane's size is known whatever the device.
+    lane: ServiceLane<Counted<Boxed<D>>, 4096>,
     words: Lcg64Xsh32,
 }
 
@@ -58,18 +58,21 @@ impl<D: PageDevice<4096>> CLane<D> {
         ensures can { OnOk result (CanOpen shape.now (D.page_count device)) }
         ensures refused { IfErr result (RefusesOpening shape.now (D.page_count device)) }
     {
-        let Ok(parts) = shape.check() else {
+        let Some(parts) = fitting(shape, device.pages()) else {
             return Err(Status::WrongOptions);
         };
         let config = parts.config(shape.threshold, shape.admit);
         let seed = seed.random();
         let words = words_of(seed, number);
-        let counted = Counted::new(device);
+        let Ok(boxed) = Boxed::new(alloc, device) else {
+            return Err(Status::NoMemory);
+        };
+        let counted = Counted::new(boxed);
         let table_seed = seed.derive(number);
         match ServiceLane::open(alloc, &config, shape.lease_slots, counted, table_seed) {
             Ok(lane) => Ok(CLane { lane, words }),
-            Err(OpenLaneFault::Store(OpenFault::OutOfMemory)) => Err(Status::NoMemory),
-            Err(_) => Err(Status::WrongOptions),
+            // Nothing but memory can be refused here.
+            Err(_) => Err(Status::NoMemory),
         }
     }
 
@@ -86,12 +89,30 @@ impl<D: PageDevice<4096>> CLane<D> {
     }
 }
 
+ghost use Rattle.std.specs.Prelude.{MatchOption};
 ghost use Rattle.c_lane.specs.Opening.{words_for};
+ghost use Rattle.c_lane.specs.Shapes.{HasPartsOf};
 
+use cache_sizes::Shape;
 use key_hash::RandomSeed;
 use std::hash::BuildHasher;
 
+// The parts of a shape, where each is in its range and so many pages are enough for a lane.
+fn fitting(shape: &LaneShape, pages: u32) -> Option<Shape>
+    ensures { MatchOption result (¬ CanOpen shape.now pages)
+        (λ parts. CanOpen shape.now pages × HasPartsOf parts shape.now) }
+{
+    let Ok(parts) = shape.check() else {
+        return None;
+    };
+    if u64::from(pages) < parts.file_pages() {
+        return None;
+    }
+    Some(parts)
+}
+
 // The generator of the words of a lane.
+#[tactic(auto, unfolding(crate::specs::Opening::words_for))]
 fn words_of(seed: RandomSeed, number: u32) -> Lcg64Xsh32
     ensures { result ≡ words_for seed number }
 {

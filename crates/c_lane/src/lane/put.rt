@@ -3,7 +3,7 @@ ghost use Rattle.std.specs.Prelude.{◌≡◌, ◌<◌, ◌≤◌, ◌↔◌, le
 ghost use Rattle.record_pages.specs.Bounded.{IsKey};
 ghost use Rattle.service_lane.specs.Leases.{HoldsLease};
 ghost use Rattle.c_lane.specs.Lane.{laws_of};
-ghost use Rattle.c_lane.specs.Putting.{PutLeaves, PutOrRemoveLeaves, FillLeaves, LaneRemoves, RemoveLeaves};
+ghost use Rattle.c_lane.specs.Putting.{PutLeaves, PutOrRemoveLeaves, FillLeaves, RemoveLeaves};
 
 use super::CLane;
 use crate::object::Object;
@@ -47,28 +47,11 @@ impl<D: PageDevice<4096>> CLane<D> {
             ↔ (IsKey key.now × (2048 < length value.now)) }
         ensures leaves { PutOrRemoveLeaves (laws_of D.honest D.failures D.held) key.now value.now expires self.old result self.new }
     {
-        match self.put(alloc, key, value, expires) {
-            Status::TooLarge => {
-                self.remove_behind(key);
-                Status::TooLarge
-            }
-            Status::NoMemory => {
-                self.remove_behind(key);
-                Status::NoMemory
-            }
-            status => status,
+        let status = self.put(alloc, key, value, expires);
+        if status == Status::TooLarge || status == Status::NoMemory {
+            let _removed = self.lane.remove(key);
         }
-    }
-
-    // Removes the key of a put that was refused.
-    fn remove_behind(&mut self, key: &[u8])
-        ensures { (¬ IsKey key.now → ⊥) → LaneRemoves (laws_of D.honest D.failures D.held) key.now self.old
-            self.new }
-    {
-        match self.lane.remove(key) {
-            Ok(()) => {}
-            Err(_) => {}
-        }
+        status
     }
 
     /// Puts a value that was read elsewhere since the get of its key that gave the lease, if no put, fill or removal of the key came
