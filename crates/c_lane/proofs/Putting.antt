@@ -1,15 +1,21 @@
 -- What a put and a fill that were stored are to callers in C.
-use Rattle.std.proofs.Common.{◌≡◌, ℕ, List, ap, subst, ◌∙◌}
+use Rattle.std.proofs.Common.{◌≡◌, ℕ, List, Result, Ok, ap, subst, ◌∙◌}
 use Rattle.record_pages.specs.declared.pushed.Pushed.{Pushed}
 use Rattle.rand_pcg.specs.Lcg.{Lcg}
 use Rattle.rand_pcg.specs.Pcg.{pcg32}
 use Rattle.lane_devices.specs.Counting.{CountedDevice}
 use Rattle.memory_cache.specs.declared.pair.Pair.{Pair}
+use Rattle.service_lane.specs.declared.filled.Filled.{Filled}
+use Rattle.service_lane.specs.declared.filled.Filled.TheVariants.{Stored, Stale}
 use Rattle.service_lane.specs.declared.helped.Helped.{Helped}
 use Rattle.service_lane.specs.Leases.{HoldsLease}
 use Rattle.service_lane.specs.Serving.{Serving, PutsStore, FillsStore}
 use Rattle.c_lane.specs.Lane.{LaneState, Laws, page_bytes, held_in, next_word}
 use Rattle.c_lane.specs.Putting.{pair_of, LaneHelps, Stores, Fills}
+
+-- a fill that was stored was not stale
+pub not_stale : {E : Type 0} (filled : Filled) (pushed : Pushed) → filled ≡ Stored pushed → ◌≡◌ {A = Result Filled E} (Ok filled) (Ok Stale) → ⊥
+not_stale filled pushed is stale = absurd (cc)
 
 -- a key and a value that were copied are the same pair
 pair_is : (k v key value : List ℕ) (expires : ℕ) → k ≡ key → v ≡ value → pair_of k v expires ≡ pair_of key value expires

@@ -27,13 +27,14 @@ impl<D: PageDevice<4096>> CLane<D> {
             RefusesGet into.old self.old result self.new into.new hit.new }
     {
         let mut found = ValueBuffer::empty();
-        match self.lane.get(key, moment, &mut found) {
-            Ok(seen) => told(seen, &found, into, hit),
+        let seen = match self.lane.get(key, moment, &mut found) {
+            Ok(seen) => seen,
             Err(_) => {
                 *hit = Hit::none();
-                Status::WrongKey
+                return Status::WrongKey;
             }
-        }
+        };
+        told(seen, &found, into, hit)
     }
 
     /// Looks a key up as `get` does, and leases it at a miss: `writes` becomes the number of the lease then, and stays at any
