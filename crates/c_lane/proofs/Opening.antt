@@ -1,5 +1,5 @@
 -- What a lane is that was opened for callers in C.
-use Rattle.std.proofs.Common.{◌≡◌, ℕ, ◌+◌, ◌*◌, ◌<◌, List, [], None, ap, sym, subst, ◌∙◌}
+use Rattle.std.proofs.Common.{◌≡◌, ℕ, ◌+◌, ◌*◌, [], ap, subst, ◌∙◌}
 use Rattle.std.specs.Prelude.{replicate}
 use Rattle.record_pages.specs.Asked.{HasNumbersOf}
 use Rattle.record_pages.specs.declared.config.Config.{Config}
@@ -14,9 +14,9 @@ use Rattle.service_lane.specs.Counting.{no_counts}
 use Rattle.service_lane.specs.Serving.{Serving}
 use Rattle.c_lane.specs.declared.lane_shape.LaneShape.{LaneShape}
 use Rattle.c_lane.specs.declared.seed.Seed.{Seed}
-use Rattle.c_lane.specs.Opening.{CanOpen, IsLayoutOf, Opens, words_for}
+use Rattle.c_lane.specs.Opening.{IsLayoutOf, Opens, words_for}
 use Rattle.c_lane.specs.Placing.{seed_of}
-use Rattle.c_lane.specs.Shapes.{first_faulty_field, HasPartsOf}
+use Rattle.c_lane.specs.Shapes.{HasPartsOf}
 
 module _ (s : LaneShape) (shape : Shape) (parts : HasPartsOf shape s) where
   -- the pages of its parts are those of the shape

@@ -4,8 +4,6 @@ use Rattle.record_pages.specs.Expiry.{timed}
 use Rattle.record_pages.specs.declared.pushed.Pushed.{Pushed}
 use Rattle.record_pages.specs.declared.put_fault.PutFault.TheVariants.{OutOfMemory}
 use Rattle.memory_cache.specs.declared.pair.Pair.{Pair}
-use Rattle.policy_laws.specs.declared.job.Job.{Job}
-use Rattle.policy_laws.specs.declared.choice.Choice.{Choice}
 use Rattle.rriparoo.specs.Rriparoo.{rriparoo_plan}
 use Rattle.service_lane.specs.declared.helped.Helped.{Helped}
 use Rattle.service_lane.specs.Counting.{with_refused, counts_stale}

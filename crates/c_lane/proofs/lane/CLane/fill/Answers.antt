@@ -21,4 +21,4 @@ returns-in-Ok-Stored-clause-leaves g c =
     let done = subst (λ (kind : Filled). FillLeaves page_bytes (held_in laws) (pair_of o.object.key o.object.value a.expires) c.next_word-word.result a.writes i.lane c.fill.new.self kind) f.field-0-is f.ensures.filled in
     subst (λ (s : LaneState g.row.D.Denot). Fills laws a.writes a.key.now a.value.now a.expires s new) c.self.view_is
     (filled laws a.key.now a.value.now a.expires old c.next_word-word.result c.next_word-word.new.self c.next_word-word.ensures o.object.key o.object.value f.field-0-0 c.fill.new.self c.help-helped.new.self c.help-helped.result
-    o.ensures.1.0 o.ensures.1.1 c.help-helped.ensures a.writes (λ no. not_stale {E = PutFault} f.field-0 f.field-0-0 f.field-0-is (f.ensures.stale.1 no)) done)
+    o.ensures.1 o.ensures.2 c.help-helped.ensures a.writes (λ no. not_stale {E = PutFault} f.field-0 f.field-0-0 f.field-0-is (f.ensures.stale.1 no)) done)

@@ -16,4 +16,4 @@ returns-in-Ok-put-clause-leaves g c =
     let o = c.in-Ok in
     subst (λ (s : LaneState g.row.D.Denot). Stores laws a.key.now a.value.now a.expires s new) c.self.view_is
     (stored laws a.key.now a.value.now a.expires old c.next_word-word.result c.next_word-word.new.self c.next_word-word.ensures o.object.key o.object.value c.in-Ok-put.field-0 c.put.new.self c.help-helped.new.self c.help-helped.result
-    o.ensures.1.0 o.ensures.1.1 c.help-helped.ensures c.in-Ok-put.ensures.stored)
+    o.ensures.1 o.ensures.2 c.help-helped.ensures c.in-Ok-put.ensures.stored)

@@ -1,5 +1,5 @@
 -- The sizes are those of the parts that the test of the shape gave.
-use Rattle.std.proofs.Common.{◌≡◌, sym, subst}
+use Rattle.std.proofs.Common.{sym, subst}
 use Rattle.std.specs.Prelude.{Option}
 use Rattle.c_lane.specs.declared.shape_field.ShapeField.{ShapeField}
 use Rattle.c_lane.specs.Shapes.{SizesBy}
