@@ -1,0 +1,5 @@
+mod Feeding
+mod Getting
+mod Putting
+mod Tending
+mod Opening

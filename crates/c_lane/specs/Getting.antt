@@ -1,0 +1,84 @@
+-- What a get tells, and what it leaves.
+use Rattle.std.specs.Prelude.{◌≡◌, ℕ, List, length}
+use Rattle.record_pages.specs.declared.answer.Answer.{Answer}
+use Rattle.record_pages.specs.declared.answer.Answer.TheVariants.{Hit, Miss}
+use Rattle.record_pages.specs.declared.tier.Tier.{Tier}
+use Rattle.record_pages.specs.declared.tier.Tier.TheVariants.{Memory, Log, Set}
+use Rattle.service_lane.specs.Serving.{Serving, Gets}
+use Rattle.service_lane.specs.Leases.{writes_for}
+use Rattle.service_lane.specs.Counting.{with_given}
+use Rattle.c_lane.specs.declared.hit.Hit.{Hit as Told}
+use Rattle.c_lane.specs.declared.status.Status.{Status}
+use Rattle.c_lane.specs.declared.status.Status.TheVariants as statuses
+use Rattle.lane_devices.specs.Counting.{CountedDevice}
+use Rattle.c_lane.specs.Lane.{LaneState, Laws, page_bytes, honest_in, failures_in, held_in}
+use Rattle.c_lane.specs.Statuses.{status_of_miss}
+use Rattle.c_lane.specs.Copying.{copy_status, copied_into}
+
+-- the number of a tier
+abbrev pub number_of_tier : Tier → ℕ
+number_of_tier Memory = 1
+number_of_tier Log = 2
+number_of_tier Set = 3
+
+-- no hit
+abbrev pub no_hit : Told
+no_hit = record { length = 0; tier = 0; reserved = 0 }
+
+-- a hit of a value in a tier
+abbrev pub hit_with : List ℕ → Tier → Told
+hit_with value tier = record { length = length value; tier = number_of_tier tier; reserved = 0 }
+
+-- the hit of an answer
+abbrev pub hit_of : Answer → Told
+hit_of (Hit value tier) = hit_with value tier
+hit_of (Miss cause) = no_hit
+
+-- the status of an answer, for a buffer
+abbrev pub status_of : Answer → List ℕ → Status
+status_of (Hit value tier) buffer = copy_status value buffer
+status_of (Miss cause) buffer = status_of_miss cause
+
+-- what a buffer holds behind an answer
+abbrev pub buffer_after : Answer → List ℕ → List ℕ
+buffer_after (Hit value tier) buffer = copied_into value buffer
+buffer_after (Miss cause) buffer = buffer
+
+-- an answer was told: by its status, in the buffer, and as a hit
+pub record TellsAnswer (answer : Answer) (buffer : List ℕ) (status : Status) (into : List ℕ) (hit : Told) : Type 0 where
+  pub status_is : status ≡ status_of answer buffer
+  pub into_is : into ≡ buffer_after answer buffer
+  pub hit_is : hit ≡ hit_of answer
+
+-- the lane answered a get so
+abbrev pub LaneGets : {D : Type 0} → Laws D → List ℕ → ℕ → Answer → Serving (CountedDevice D) → Serving (CountedDevice D) → Type 0
+LaneGets laws key moment answer old new = Gets page_bytes (honest_in laws) (failures_in laws) (held_in laws) key moment answer old new
+
+-- A get: the lane answered it, and the answer was told.
+pub record Answers {D : Type 0} (laws : Laws D) (key : List ℕ) (moment : ℕ) (buffer : List ℕ) (old : LaneState D) (status : Status) (new : LaneState D) (into : List ℕ) (hit : Told) : Type 0 where
+  pub answer : Answer
+  pub gets : LaneGets laws key moment answer old.serving new.serving
+  pub words : new.words ≡ old.words
+  pub tells : TellsAnswer answer buffer status into hit
+
+-- what comes behind an answer: at a miss a lease, which is counted; at a hit nothing
+abbrev pub LeasedAfter : {D : Type 0} → Answer → List ℕ → ℕ → Serving (CountedDevice D) → Serving (CountedDevice D) → ℕ → Type 0
+LeasedAfter (Hit value tier) key writes between new lease = (new ≡ between) × (lease ≡ writes)
+LeasedAfter (Miss cause) key writes between new lease =
+    (new ≡ record between { counts = record between.counts { leases = with_given between.counts.leases } }) × (lease ≡ writes_for between.slots key)
+
+-- A get that leases its key at a miss.
+pub record AnswersOrLeases {D : Type 0} (laws : Laws D) (key : List ℕ) (moment : ℕ) (buffer : List ℕ) (writes : ℕ) (old : LaneState D) (status : Status) (new : LaneState D) (into : List ℕ) (hit : Told) (lease : ℕ) : Type 0 where
+  pub answer : Answer
+  pub between : Serving (CountedDevice D)
+  pub gets : LaneGets laws key moment answer old.serving between
+  pub leased : LeasedAfter answer key writes between new.serving lease
+  pub words : new.words ≡ old.words
+  pub tells : TellsAnswer answer buffer status into hit
+
+-- a get of what is no key: nothing changes, and no hit is told
+pub record RefusesGet {D : Type 0} (buffer : List ℕ) (old : LaneState D) (status : Status) (new : LaneState D) (into : List ℕ) (hit : Told) : Type 0 where
+  pub status_is : status ≡ statuses.WrongKey
+  pub lane_is : new ≡ old
+  pub into_is : into ≡ buffer
+  pub hit_is : hit ≡ no_hit

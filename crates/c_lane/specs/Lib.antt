@@ -1,0 +1,12 @@
+pub mod Lane
+pub mod Statuses
+pub mod Placing
+pub mod Shapes
+pub mod Opening
+pub mod Copying
+pub mod Getting
+pub mod Objects
+pub mod Putting
+pub mod Tending
+pub mod Counting
+pub mod Judging

@@ -1,0 +1,57 @@
+-- When a lane opens, and what it is then.
+use Rattle.std.specs.Prelude.{◌≡◌, ◌<◌, ℕ, ◌+◌, ◌*◌, [], None, fold, replicate}
+use Rattle.std.specs.Hash as fed
+use Rattle.record_pages.specs.declared.layout.Layout.{Layout}
+use Rattle.lane_devices.specs.Counting.{no_device_counts}
+use Rattle.key_hash.specs.declared.random_seed.RandomSeed.{RandomSeed}
+use Rattle.key_hash.specs.Hashing.{started, written}
+use Rattle.rand_pcg.specs.Lcg.{Lcg, increment_of}
+use Rattle.rand_pcg.specs.Lcg as lcg
+use Rattle.rand_pcg.specs.Pcg.{multiplier_64}
+use Rattle.mover.specs.Store.{opening}
+use Rattle.service_lane.specs.Counting.{no_counts}
+use Rattle.c_lane.specs.declared.lane_shape.LaneShape.{LaneShape}
+use Rattle.c_lane.specs.declared.seed.Seed.{Seed}
+use Rattle.c_lane.specs.declared.status.Status.{Status}
+use Rattle.c_lane.specs.declared.status.Status.TheVariants as statuses
+use Rattle.c_lane.specs.Lane.{LaneState}
+use Rattle.c_lane.specs.Placing.{seed_of}
+use Rattle.c_lane.specs.Shapes.{first_faulty_field}
+
+-- the layout has the numbers of a shape
+pub record IsLayoutOf (s : LaneShape) (layout : Layout) : Type 0 where
+  pub lanes : layout.lanes ≡ s.lanes
+  pub sets : layout.sets ≡ s.sets
+  pub memory : layout.memory ≡ s.memory_objects
+  pub segments : layout.segments ≡ s.segments
+  pub segment_pages : layout.segment_pages ≡ s.segment_pages
+  pub entries : layout.entries ≡ s.log_objects
+  pub threshold : layout.threshold ≡ s.threshold
+  pub admit : layout.admit ≡ s.admit
+
+-- the generator of the words of a lane with this number: started by a hash of the number, on a stream of its own
+unfoldable pub words_for : RandomSeed → ℕ → Lcg
+words_for seed number = lcg.started 64 multiplier_64 (fold written (started seed) (fed.u64 number)).state (increment_of 64 number)
+
+-- a lane was opened over this device: it is empty, nothing was asked of it, and the device is as it was
+pub record Opens {D : Type 0} (s : LaneShape) (seed : Seed) (number : ℕ) (device : D) (lane : LaneState D) : Type 0 where
+  pub layout : Layout
+  pub numbers : IsLayoutOf s layout
+  pub serving : lane.serving ≡ record {
+    store = opening layout (record { device = device; counts = no_device_counts });
+    deeds = [];
+    slots = replicate s.lease_slots 0;
+    counts = no_counts;
+  }
+  pub words : lane.words ≡ words_for (seed_of seed) number
+
+-- a lane of a shape can be opened over so many pages, memory aside
+pub record CanOpen (s : LaneShape) (pages : ℕ) : Type 0 where
+  pub numbers : first_faulty_field s ≡ None
+  pub enough : ¬ (pages < s.sets + s.segments * s.segment_pages)
+
+-- When each refusal comes, over so many pages.
+abbrev pub RefusesOpening : LaneShape → ℕ → Status → Type 0
+RefusesOpening s pages statuses.WrongOptions = ¬ CanOpen s pages
+RefusesOpening s pages statuses.NoMemory = CanOpen s pages
+RefusesOpening s pages status = ⊥

@@ -1,0 +1,106 @@
+-- What puts, fills and removals answer and leave.
+use Rattle.std.specs.Prelude.{◌≡◌, ◌⊎◌, ℕ, List}
+use Rattle.record_pages.specs.Expiry.{timed}
+use Rattle.record_pages.specs.declared.pushed.Pushed.{Pushed}
+use Rattle.record_pages.specs.declared.put_fault.PutFault.TheVariants.{OutOfMemory}
+use Rattle.memory_cache.specs.declared.pair.Pair.{Pair}
+use Rattle.rriparoo.specs.Rriparoo.{rriparoo_plan}
+use Rattle.service_lane.specs.declared.helped.Helped.{Helped}
+use Rattle.service_lane.specs.Counting.{with_refused, counts_stale}
+use Rattle.service_lane.specs.Leases.{HoldsLease}
+use Rattle.service_lane.specs.Serving.{Serving, PutsStore, FillsStore, Removes}
+use Rattle.service_lane.specs.Upkeep.{Helps}
+use Rattle.c_lane.specs.declared.status.Status.{Status}
+use Rattle.c_lane.specs.declared.status.Status.TheVariants as statuses
+use Rattle.lane_devices.specs.Counting.{CountedDevice}
+use Rattle.c_lane.specs.Lane.{LaneState, Laws, page_bytes, honest_in, failures_in, held_in, next_word, next_words}
+
+-- a key with a value and its expiry
+abbrev pub pair_of : List ℕ → List ℕ → ℕ → Pair
+pair_of key value expires = record { key = key; value = timed value expires }
+
+-- steps were done in help
+abbrev pub LaneHelps : {D : Type 0} → Laws D → Serving (CountedDevice D) → Helped → Serving (CountedDevice D) → Type 0
+LaneHelps laws old helped new = Helps page_bytes (honest_in laws) (failures_in laws) (held_in laws) rriparoo_plan old helped new
+
+-- A put that was stored: the lane's put of the pair, and help behind it.
+pub record Stores {D : Type 0} (laws : Laws D) (key value : List ℕ) (expires : ℕ) (old new : LaneState D) : Type 0 where
+  pub pushed : Pushed
+  pub between : Serving (CountedDevice D)
+  pub puts : PutsStore page_bytes (held_in laws) (pair_of key value expires) (next_word old) pushed old.serving between
+  pub helped : Helped
+  pub helps : LaneHelps laws between helped new.serving
+  pub words : new.words ≡ next_words old
+
+-- the lane refused a put for want of memory: that is counted, and a word was drawn
+abbrev pub without_put : {D : Type 0} → LaneState D → LaneState D
+without_put old = record {
+  serving = record old.serving { counts = record old.serving.counts { puts = with_refused OutOfMemory old.serving.counts.puts } };
+  words = next_words old;
+}
+
+-- memory was refused for a put: for the copies of its bytes, or in the lane
+abbrev pub LacksMemory : {D : Type 0} → LaneState D → LaneState D → Type 0
+LacksMemory old new = (new ≡ old) ⊎ (new ≡ without_put old)
+
+-- What a put leaves, by its status.
+abbrev pub PutLeaves : {D : Type 0} → Laws D → List ℕ → List ℕ → ℕ → LaneState D → Status → LaneState D → Type 0
+PutLeaves laws key value expires old statuses.Done new = Stores laws key value expires old new
+PutLeaves laws key value expires old statuses.WrongKey new = new ≡ old
+PutLeaves laws key value expires old statuses.TooLarge new = new ≡ old
+PutLeaves laws key value expires old statuses.NoMemory new = LacksMemory old new
+PutLeaves laws key value expires old status new = ⊥
+
+-- a key was removed, and no word was drawn
+pub record LaneRemoves {D : Type 0} (laws : Laws D) (key : List ℕ) (old new : LaneState D) : Type 0 where
+  pub removes : Removes (held_in laws) key old.serving new.serving
+  pub words : new.words ≡ old.words
+
+-- memory was refused for a put, and then its key was removed
+abbrev pub RemovesBehind : {D : Type 0} → Laws D → List ℕ → LaneState D → LaneState D → Type 0
+RemovesBehind laws key old new = LaneRemoves laws key old new ⊎ LaneRemoves laws key (without_put old) new
+
+-- What a put or a removal in its place leaves, by its status.
+abbrev pub PutOrRemoveLeaves : {D : Type 0} → Laws D → List ℕ → List ℕ → ℕ → LaneState D → Status → LaneState D → Type 0
+PutOrRemoveLeaves laws key value expires old statuses.Done new = Stores laws key value expires old new
+PutOrRemoveLeaves laws key value expires old statuses.WrongKey new = new ≡ old
+PutOrRemoveLeaves laws key value expires old statuses.TooLarge new = LaneRemoves laws key old new
+PutOrRemoveLeaves laws key value expires old statuses.NoMemory new = RemovesBehind laws key old new
+PutOrRemoveLeaves laws key value expires old status new = ⊥
+
+-- A fill that was stored, by a lease that had not ended: the lane's fill of the pair, and help behind it.
+pub record Fills {D : Type 0} (laws : Laws D) (writes : ℕ) (key value : List ℕ) (expires : ℕ) (old new : LaneState D) : Type 0 where
+  pub pushed : Pushed
+  pub between : Serving (CountedDevice D)
+  pub held : ¬ ¬ HoldsLease old.serving.slots key writes
+  pub fills : FillsStore page_bytes (held_in laws) (pair_of key value expires) (next_word old) writes pushed old.serving between
+  pub helped : Helped
+  pub helps : LaneHelps laws between helped new.serving
+  pub words : new.words ≡ next_words old
+
+-- A fill whose lease had ended: that is counted, and a word was drawn.
+pub record IsStale {D : Type 0} (writes : ℕ) (key : List ℕ) (old new : LaneState D) : Type 0 where
+  pub ended : ¬ HoldsLease old.serving.slots key writes
+  pub stays : new ≡ record { serving = record old.serving { counts = counts_stale old.serving.counts }; words = next_words old }
+
+-- the lane refused a fill for want of memory: that is counted, and a word was drawn
+abbrev pub without_fill : {D : Type 0} → LaneState D → LaneState D
+without_fill old = record {
+  serving = record old.serving { counts = record old.serving.counts { fills = with_refused OutOfMemory old.serving.counts.fills } };
+  words = next_words old;
+}
+
+-- What a fill leaves, by its status.
+abbrev pub FillLeaves : {D : Type 0} → Laws D → ℕ → List ℕ → List ℕ → ℕ → LaneState D → Status → LaneState D → Type 0
+FillLeaves laws writes key value expires old statuses.Done new = Fills laws writes key value expires old new
+FillLeaves laws writes key value expires old statuses.Stale new = IsStale writes key old new
+FillLeaves laws writes key value expires old statuses.WrongKey new = new ≡ old
+FillLeaves laws writes key value expires old statuses.TooLarge new = new ≡ old
+FillLeaves laws writes key value expires old statuses.NoMemory new = (new ≡ old) ⊎ (new ≡ without_fill old)
+FillLeaves laws writes key value expires old status new = ⊥
+
+-- What a removal leaves, by its status.
+abbrev pub RemoveLeaves : {D : Type 0} → Laws D → List ℕ → LaneState D → Status → LaneState D → Type 0
+RemoveLeaves laws key old statuses.Done new = LaneRemoves laws key old new
+RemoveLeaves laws key old statuses.WrongKey new = new ≡ old
+RemoveLeaves laws key old status new = ⊥

@@ -1,0 +1,136 @@
+-- Shapes and sizes as C has them.
+use Rattle.std.specs.Prelude.{◌≡◌, ℕ, ◌≤◌, List, [], ◌∷◌, Option, Some, None, option_map, find, Bool, not, ◌&&◌, nat_le}
+use Rattle.cache_sizes.specs.declared.shape.Shape.{Shape}
+use Rattle.cache_sizes.specs.declared.wanted.Wanted.{Wanted}
+use Rattle.cache_sizes.specs.declared.size_fault.SizeFault.{SizeFault}
+use Rattle.cache_sizes.specs.declared.size_fault.SizeFault.TheVariants as faults
+use Rattle.cache_sizes.specs.Shapes.{IsShapeFor, flash_bytes_of, file_pages_of, fixed_bytes_of, memory_bytes_of, objects_in_memory_of, objects_in_logs_of, objects_in_sets_of}
+use Rattle.c_lane.specs.declared.lane_shape.LaneShape.{LaneShape}
+use Rattle.c_lane.specs.declared.shape_field.ShapeField.{ShapeField}
+use Rattle.c_lane.specs.declared.shape_field.ShapeField.TheVariants as fields
+use Rattle.c_lane.specs.declared.sizes.Sizes.{Sizes}
+use Rattle.c_lane.specs.declared.wanted.WantedSizes.{WantedSizes}
+
+-- a row: a field, its number, and the least and the greatest that it may be
+pub record Row : Type 0 where
+  pub field : ShapeField
+  pub number : ℕ
+  pub least : ℕ
+  pub greatest : ℕ
+
+abbrev pub row : ShapeField → ℕ → ℕ → ℕ → Row
+row field number least greatest = record { field = field; number = number; least = least; greatest = greatest }
+
+-- the table of the fields, in their order
+abbrev pub table : LaneShape → List Row
+table s =
+    row fields.Shards s.shards 1 1024
+    ∷ row fields.Lanes s.lanes 1 16
+    ∷ row fields.Sets s.sets 1 65536
+    ∷ row fields.MemoryObjects s.memory_objects 1 1048576
+    ∷ row fields.Segments s.segments 2 256
+    ∷ row fields.SegmentPages s.segment_pages 1 64
+    ∷ row fields.LogObjects s.log_objects 1 1048576
+    ∷ row fields.LeaseSlots s.lease_slots 1 1048576
+    ∷ row fields.Threshold s.threshold 1 32
+    ∷ row fields.Admit s.admit 0 65536
+    ∷ []
+
+-- a number out of its range
+abbrev pub is_faulty : Row → Bool
+is_faulty r = not (nat_le r.least r.number && nat_le r.number r.greatest)
+
+-- the first faulty field of the table, if there is one
+abbrev pub first_faulty_field : LaneShape → Option ShapeField
+first_faulty_field s = option_map (λ r. r.field) (find is_faulty (table s))
+
+-- a field's number in the table, from 1
+abbrev pub number_of_field : ShapeField → ℕ
+number_of_field fields.Shards = 1
+number_of_field fields.Lanes = 2
+number_of_field fields.Sets = 3
+number_of_field fields.MemoryObjects = 4
+number_of_field fields.Segments = 5
+number_of_field fields.SegmentPages = 6
+number_of_field fields.LogObjects = 7
+number_of_field fields.LeaseSlots = 8
+number_of_field fields.Threshold = 9
+number_of_field fields.Admit = 10
+
+-- the shape has the parts that C's has
+pub record HasPartsOf (shape : Shape) (s : LaneShape) : Type 0 where
+  pub shards : shape.shards ≡ s.shards
+  pub lanes : shape.lanes ≡ s.lanes
+  pub sets : shape.sets ≡ s.sets
+  pub segments : shape.segments ≡ s.segments
+  pub segment_pages : shape.segment_pages ≡ s.segment_pages
+  pub log_objects : shape.log_objects ≡ s.log_objects
+  pub memory_objects : shape.memory_objects ≡ s.memory_objects
+  pub lease_slots : shape.lease_slots ≡ s.lease_slots
+  pub least_threshold : 1 ≤ s.threshold
+  pub most_threshold : s.threshold ≤ 32
+  pub most_admit : s.admit ≤ 65536
+
+-- what is wanted, as sizes are worked out of it
+abbrev pub wanted_of : WantedSizes → Wanted
+wanted_of w = record { flash_bytes = w.flash_bytes; memory_bytes = w.memory_bytes; object_bytes = w.object_bytes; threads = w.threads }
+
+-- the shape of these parts, whose other two numbers are those that stood there
+abbrev pub shape_with : Shape → LaneShape → LaneShape
+shape_with shape old = record old {
+  shards = shape.shards;
+  lanes = shape.lanes;
+  sets = shape.sets;
+  memory_objects = shape.memory_objects;
+  segments = shape.segments;
+  segment_pages = shape.segment_pages;
+  log_objects = shape.log_objects;
+  lease_slots = shape.lease_slots;
+}
+
+-- the shape for what is wanted was written where another one stood
+pub record IsWrittenFor (wanted : Wanted) (old new : LaneShape) : Type 0 where
+  pub shape : Shape
+  pub is : IsShapeFor wanted shape
+  pub written : new ≡ shape_with shape old
+
+-- the number of a fault of sizes, in their order, from 1
+abbrev pub number_of_size_fault : SizeFault → ℕ
+number_of_size_fault faults.FlashTooSmall = 1
+number_of_size_fault faults.FlashTooLarge = 2
+number_of_size_fault faults.NoObjectBytes = 3
+number_of_size_fault faults.ObjectTooLarge = 4
+number_of_size_fault faults.NoThreads = 5
+number_of_size_fault faults.TooManyThreads = 6
+number_of_size_fault faults.MemoryTooSmall = 7
+
+-- what a cache of a shape takes and holds
+abbrev pub sizes_for : Shape → ℕ → Sizes
+sizes_for shape object_bytes = record {
+  file_bytes = flash_bytes_of shape;
+  lane_pages = file_pages_of shape;
+  memory_fixed = fixed_bytes_of shape;
+  memory_full = memory_bytes_of shape object_bytes;
+  memory_objects = objects_in_memory_of shape;
+  log_objects = objects_in_logs_of shape object_bytes;
+  set_objects = objects_in_sets_of shape object_bytes;
+}
+
+-- all zeros
+abbrev pub no_sizes : Sizes
+no_sizes = record { file_bytes = 0; lane_pages = 0; memory_fixed = 0; memory_full = 0; memory_objects = 0; log_objects = 0; set_objects = 0 }
+
+-- these are the sizes of a shape with these parts
+pub record SizesOfParts (s : LaneShape) (object_bytes : ℕ) (sizes : Sizes) : Type 0 where
+  pub shape : Shape
+  pub parts : HasPartsOf shape s
+  pub are : sizes ≡ sizes_for shape object_bytes
+
+-- the sizes where this is the first faulty field, if there is one
+abbrev pub SizesBy : Option ShapeField → LaneShape → ℕ → Sizes → Type 0
+SizesBy None s object_bytes sizes = SizesOfParts s object_bytes sizes
+SizesBy (Some field) s object_bytes sizes = sizes ≡ no_sizes
+
+-- the sizes of a shape: zeros where a number of it is out of its range
+abbrev pub SizesOf : LaneShape → ℕ → Sizes → Type 0
+SizesOf s object_bytes sizes = SizesBy (first_faulty_field s) s object_bytes sizes

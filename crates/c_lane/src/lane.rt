@@ -1,0 +1,120 @@
+// A lane for callers in C.
+ghost use Rattle.std.specs.Prelude.{◌≡◌, IfOk, IfErr, OnOk};
+ghost use Rattle.c_lane.specs.Opening.{Opens, CanOpen, RefusesOpening};
+
+use crate::counters::Counters;
+use crate::lane_shape::LaneShape;
+use crate::seed::Seed;
+use crate::status::Status;
+use lane_devices::{Boxed, Counted};
+use page_device::PageDevice;
+use rand_pcg::Lcg64Xsh32;
+use service_lane::ServiceLane;
+use std::alloc::Global;
+use std::marker::Model;
+
+mod get;
+mod put;
+mod tend;
+
+/// A lane of a cache, with the generator of its words of admission.
+///
+/// What it promises is said of the list of all that it was asked and answered since it was opened, which proofs alone see: a hit
+/// is its key's latest value in that list not since removed, and live at the moment that the get brought.
+#[derive(Drop)]
+pub struct CLane<D: PageDevice<4096>> {
+    // The device lies in memory of its own, so that the lane's size is known whatever the device.
+    lane: ServiceLane<Counted<Boxed<D>>, 4096>,
+    words: Lcg64Xsh32,
+}
+
+impl<D: PageDevice<4096>> Model for CLane<D> {
+    ghost use Rattle.std.specs.Coded.{codes};
+    ghost use Rattle.kset.specs.Sets.{sets_code};
+    ghost use Rattle.c_lane.specs.Lane.{LaneState};
+
+    ghost Value = { LaneState D };
+
+    ghost coded = { Prim.hlevel (codes, sets_code) };
+
+    ghost view = { λ l. record { serving = l.lane; words = l.words } };
+}
+
+impl<D: PageDevice<4096>> CLane<D> {
+    ghost use Rattle.c_lane.specs.Counting.{counters_of};
+
+    /// An empty lane over a device. `WrongOptions` comes where the shape has a number out of its range or the device has too few
+    /// pages for it, `NoMemory` where memory was refused; the device is dropped with both.
+    ///
+    /// The number is the lane's among those of the cache: it and the seed start the generator of its words, and seed its table.
+    pub fn open(
+        alloc: Global,
+        shape: &LaneShape,
+        seed: &Seed,
+        number: u32,
+        device: D,
+    ) -> Result<Self, Status>
+        ensures opened { IfOk result (Opens shape.now seed.now number device) }
+        ensures can { OnOk result (CanOpen shape.now (D.page_count device)) }
+        ensures refused { IfErr result (RefusesOpening shape.now (D.page_count device)) }
+    {
+        let Some(parts) = fitting(shape, device.pages()) else {
+            return Err(Status::WrongOptions);
+        };
+        let config = parts.config(shape.threshold, shape.admit);
+        let seed = seed.random();
+        let words = words_of(seed, number);
+        let Ok(boxed) = Boxed::new(alloc, device) else {
+            return Err(Status::NoMemory);
+        };
+        let counted = Counted::new(boxed);
+        let table_seed = seed.derive(number);
+        match ServiceLane::open(alloc, &config, shape.lease_slots, counted, table_seed) {
+            Ok(lane) => Ok(CLane { lane, words }),
+            // Nothing but memory can be refused here.
+            Err(_) => Err(Status::NoMemory),
+        }
+    }
+
+    /// How often it did what since it was opened, and what it holds now.
+    pub fn counters(&self) -> Counters
+        ensures { result ≡ counters_of self.now }
+    {
+        Counters::of(
+            &self.lane.counts(),
+            &self.lane.device().counts(),
+            &self.lane.log_usage(),
+            self.lane.memory_len(),
+        )
+    }
+}
+
+ghost use Rattle.std.specs.Prelude.{MatchOption};
+ghost use Rattle.c_lane.specs.Opening.{words_for};
+ghost use Rattle.c_lane.specs.Shapes.{HasPartsOf};
+
+use cache_sizes::Shape;
+use key_hash::RandomSeed;
+use std::hash::BuildHasher;
+
+// The parts of a shape, where each is in its range and so many pages are enough for a lane.
+fn fitting(shape: &LaneShape, pages: u32) -> Option<Shape>
+    ensures { MatchOption result (¬ CanOpen shape.now pages)
+        (λ parts. CanOpen shape.now pages × HasPartsOf parts shape.now) }
+{
+    let Ok(parts) = shape.check() else {
+        return None;
+    };
+    if u64::from(pages) < parts.file_pages() {
+        return None;
+    }
+    Some(parts)
+}
+
+// The generator of the words of a lane.
+#[tactic(auto, unfolding(crate::specs::Opening::words_for))]
+fn words_of(seed: RandomSeed, number: u32) -> Lcg64Xsh32
+    ensures { result ≡ words_for seed number }
+{
+    Lcg64Xsh32::new(seed.hash_one(u64::from(number)), u64::from(number))
+}

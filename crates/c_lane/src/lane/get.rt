@@ -1,0 +1,78 @@
+// Gets of a lane.
+ghost use Rattle.std.specs.Prelude.{◌≡◌, ◌≤◌, length};
+ghost use Rattle.record_pages.specs.Bounded.{IsKey};
+ghost use Rattle.mover.specs.Get.{answer_of};
+ghost use Rattle.c_lane.specs.Lane.{laws_of};
+ghost use Rattle.c_lane.specs.Getting.{Answers, AnswersOrLeases, RefusesGet, TellsAnswer};
+
+use super::CLane;
+use crate::copying::copied;
+use crate::hit::Hit;
+use crate::status::Status;
+use mover::Seen;
+use page_device::PageDevice;
+use value_buffer::ValueBuffer;
+
+impl<D: PageDevice<4096>> CLane<D> {
+    /// Looks a key up. At `Done` its value stands at the front of the buffer, the rest of which is as it was; at any other status
+    /// the whole buffer is. A miss is `Absent`, `Expired`, `Unreadable` or `Damaged`; `ShortBuffer` is a hit whose value is longer
+    /// than the buffer. The hit is told at `Done` and `ShortBuffer`, and is all zeros else. `WrongKey` changes nothing. No memory
+    /// is taken.
+    ///
+    /// The moment is the caller's, in the unit in which puts say when they expire.
+    pub fn get(&mut self, key: &[u8], moment: u64, into: &mut [u8], hit: &mut Hit) -> Status
+        ensures answered { IsKey key.now →
+            Answers (laws_of D.honest D.failures D.held) key.now moment into.old self.old result self.new into.new hit.new }
+        ensures wrong_key { (IsKey key.now → ⊥) →
+            RefusesGet into.old self.old result self.new into.new hit.new }
+    {
+        let mut found = ValueBuffer::empty();
+        let seen = match self.lane.get(key, moment, &mut found) {
+            Ok(seen) => seen,
+            Err(_) => {
+                *hit = Hit::none();
+                return Status::WrongKey;
+            }
+        };
+        told(seen, &found, into, hit)
+    }
+
+    /// Looks a key up as `get` does, and leases it at a miss: `writes` becomes the number of the lease then, and stays at any
+    /// other status. The lease ends with the next put, fill or removal of the key, or of another key of its slot.
+    pub fn get_or_lease(
+        &mut self,
+        key: &[u8],
+        moment: u64,
+        into: &mut [u8],
+        hit: &mut Hit,
+        writes: &mut u64,
+    ) -> Status
+        ensures answered { IsKey key.now → AnswersOrLeases (laws_of D.honest D.failures D.held) key.now moment into.old writes.old self.old
+            result self.new into.new hit.new writes.new }
+        ensures wrong_key { (IsKey key.now → ⊥) →
+            RefusesGet into.old self.old result self.new into.new hit.new }
+        ensures no_lease { (IsKey key.now → ⊥) → writes.new ≡ writes.old }
+    {
+        let status = self.get(key, moment, into, hit);
+        if status.is_miss() {
+            *writes = self.lane.lease(key).writes;
+        }
+        status
+    }
+}
+
+// Tells what was seen, the value of a hit being in `found`.
+fn told(seen: Seen, found: &ValueBuffer, into: &mut [u8], hit: &mut Hit) -> Status
+    ensures { TellsAnswer (answer_of seen found.now) into.old result into.new hit.new }
+{
+    match seen {
+        Seen::Hit(tier) => {
+            *hit = Hit::of(found.bytes(), tier);
+            copied(found.bytes(), into)
+        }
+        Seen::Miss(cause) => {
+            *hit = Hit::none();
+            Status::of_miss(cause)
+        }
+    }
+}

@@ -1,0 +1,31 @@
+//! One lane of a cache for callers in C: keys and values are bytes, and each call answers a status. A lane is given to one call
+//! at a time; its caller has the locks, the threads and the memory that the lane's pages lie in.
+#![tactic(auto)]
+
+mod copying;
+mod counters;
+mod hit;
+mod judging;
+mod lane;
+mod lane_shape;
+mod object;
+mod placing;
+mod seed;
+mod shape_field;
+mod sizes;
+mod status;
+mod step;
+mod wanted;
+
+pub use counters::Counters;
+pub use hit::Hit;
+pub use judging::judge_trace;
+pub use lane::CLane;
+pub use lane_shape::LaneShape;
+pub use placing::{Place, place_of};
+pub use seed::Seed;
+pub use shape_field::ShapeField;
+pub use sizes::{Sizes, number_of_fault};
+pub use status::Status;
+pub use step::Step;
+pub use wanted::WantedSizes;

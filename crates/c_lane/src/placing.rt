@@ -1,0 +1,41 @@
+// In which lane a key is.
+ghost use Rattle.std.specs.Prelude.{◌≡◌, ◌≤◌, ◌<◌};
+ghost use Rattle.c_lane.specs.Placing.{hash_of, place_in};
+
+use crate::seed::Seed;
+use key_hash::RandomSeed;
+use std::hash::{BuildHasher, Hasher};
+
+/// Where a key is.
+#[repr(C)]
+#[derive(Clone, Copy, Debug, PartialEq, Eq)]
+pub struct Place {
+    /// The number of its lane.
+    pub lane: u32,
+    /// 32 bits of its hash: those of two keys are seldom the same.
+    pub word: u32,
+}
+
+/// Where a key is, in a cache of so many lanes with this seed: a function of these three.
+#[tactic(auto, unfolding(crate::specs::Placing::place_in))]
+pub fn place_of(seed: &Seed, lanes: u32, key: &[u8]) -> Place
+    requires { 1 ≤ lanes }
+    ensures place { result ≡ place_in seed.now lanes key.now }
+    ensures within { result.lane < lanes }
+{
+    let hash = hash_of(seed.random(), key);
+    Place {
+        lane: (hash % u64::from(lanes)) as u32,
+        word: (hash >> 32) as u32,
+    }
+}
+
+// The hash of bytes.
+#[tactic(auto, unfolding(crate::specs::Placing::hash_of))]
+fn hash_of(seed: RandomSeed, bytes: &[u8]) -> u64
+    ensures { result ≡ hash_of seed bytes.now }
+{
+    let mut hasher = seed.build_hasher();
+    hasher.write(bytes);
+    hasher.finish()
+}

@@ -1,0 +1,252 @@
+//! A lane for callers in C, from its opening to its end: each status once, and what the counters say then.
+mod run;
+
+use self::run::{Step, run};
+use c_lane::{
+    CLane as LaneOver, Counters, LaneShape, Place, Seed, Sizes, Status, WantedSizes, judge_trace,
+    place_of,
+};
+use cache_sizes::SizeFault;
+use page_device::MemoryDevice;
+use std::alloc::Global;
+use std::test::Fail;
+
+type Device = MemoryDevice<4096>;
+
+type CLane = LaneOver<Device>;
+
+// One lane of one set, with one object in memory and two segments of one page.
+const SHAPE: LaneShape = LaneShape {
+    shards: 1,
+    lanes: 1,
+    sets: 1,
+    memory_objects: 1,
+    segments: 2,
+    segment_pages: 1,
+    log_objects: 8,
+    lease_slots: 1,
+    threshold: 1,
+    admit: 65536,
+};
+
+const SEED: Seed = Seed {
+    first: 0x0123_4567_89ab_cdef,
+    second: 0xfedc_ba98_7654_3210,
+};
+
+// So many pages, asked for once more where memory was refused.
+fn device(alloc: Global, pages: u32) -> Result<Device, Fail> {
+    match Device::new(alloc, pages) {
+        Ok(device) => Ok(device),
+        Err(_) => Ok(Device::new(alloc, pages)?),
+    }
+}
+
+// A lane of this shape over so many pages, opened once more where memory was refused.
+fn lane(alloc: Global, shape: &LaneShape, pages: u32) -> Result<Result<CLane, Status>, Fail> {
+    match CLane::open(alloc, shape, &SEED, 0, device(alloc, pages)?) {
+        Err(Status::NoMemory) => Ok(CLane::open(alloc, shape, &SEED, 0, device(alloc, pages)?)),
+        Ok(lane) => Ok(Ok(lane)),
+        Err(status) => Ok(Err(status)),
+    }
+}
+
+// Makes these calls of a new lane: the number of the first that does not give what is written beside it, and the counters then.
+fn after(alloc: Global, steps: &[Step]) -> Result<(Option<usize>, Counters), Fail> {
+    let Ok(mut lane) = lane(alloc, &SHAPE, 3)? else {
+        return Err(Fail::new("no lane was opened"));
+    };
+    let stray = run(alloc, &mut lane, steps);
+    Ok((stray, lane.counters()))
+}
+
+const EACH_STATUS: [Step; 33] = [
+    Step::Miss(b"ax", 0, Status::Absent),
+    Step::Put(b"ax", b"1", 9, Status::Done),
+    Step::Hit(b"ax", 8, b"1", 1),
+    Step::Miss(b"ax", 9, Status::Expired),
+    Step::Miss(b"", 0, Status::WrongKey),
+    Step::Miss(&[7; 256], 0, Status::WrongKey),
+    Step::Miss(&[7; 255], 0, Status::Absent),
+    Step::Put(b"", b"1", 0, Status::WrongKey),
+    Step::Put(&[7; 256], b"1", 0, Status::WrongKey),
+    Step::Put(b"ax", &[7; 2049], 0, Status::TooLarge),
+    Step::Put(b"", &[7; 2049], 0, Status::WrongKey),
+    Step::Hit(b"ax", 8, b"1", 1),
+    Step::Put(b"ax", b"abcd", u64::MAX, Status::Done),
+    Step::Short(b"ax", 4),
+    Step::Hit(b"ax", u64::MAX, b"abcd", 1),
+    Step::Instead(b"ax", b"12", Status::Done),
+    Step::Hit(b"ax", 0, b"12", 1),
+    Step::Instead(b"ax", &[7; 2049], Status::TooLarge),
+    Step::Miss(b"ax", 0, Status::Absent),
+    Step::Instead(b"", b"1", Status::WrongKey),
+    Step::Lease(0, b"ax"),
+    Step::Fill(0, b"ax", b"3", Status::Done),
+    Step::Fill(0, b"ax", b"4", Status::Stale),
+    Step::Hit(b"ax", 0, b"3", 1),
+    Step::Fill(0, b"", b"4", Status::WrongKey),
+    Step::Fill(0, b"ax", &[7; 2049], Status::TooLarge),
+    Step::Remove(b"ax", Status::Done),
+    Step::Remove(b"", Status::WrongKey),
+    Step::Miss(b"ax", 0, Status::Absent),
+    Step::Lease(1, b"ax"),
+    Step::Remove(b"ax", Status::Done),
+    Step::Fill(1, b"ax", b"5", Status::Stale),
+    Step::Miss(b"ax", 0, Status::Absent),
+];
+
+#[test]
+fn each_status_comes_and_is_counted(rt: HostRuntime) -> Result<(), Fail> {
+    let (stray, counts) = after(rt.alloc(), &EACH_STATUS)?;
+    assert_eq!(rt; stray, None);
+    assert_eq!(rt;
+        (counts.memory_hits, counts.absent, counts.expired),
+        (6, 7, 1)
+    );
+    assert_eq!(rt; (counts.puts, counts.removes, counts.bytes_put), (3, 3, 16));
+    assert_eq!(rt;
+        (counts.leases_given, counts.fills_stored, counts.fills_stale),
+        (2, 1, 2)
+    );
+    assert_eq!(rt; (counts.memory_objects_now, counts.log_objects_now), (0, 0));
+    Ok(())
+}
+
+// A lane in which three objects are pushed out of memory, over the log to their set.
+const EACH_TIER: [Step; 12] = [
+    Step::Put(b"ax", b"1", u64::MAX, Status::Done),
+    Step::Put(b"bx", &[7; 2048], u64::MAX, Status::Done),
+    Step::Hit(b"ax", 0, b"1", 2),
+    Step::Tend(0, 0, 0),
+    Step::Put(b"cx", &[8; 2048], u64::MAX, Status::Done),
+    Step::Put(b"dx", b"4", u64::MAX, Status::Done),
+    Step::Put(b"ex", b"5", u64::MAX, Status::Done),
+    Step::Hit(b"ax", 0, b"1", 2),
+    Step::Hit(b"dx", 0, b"4", 2),
+    Step::Hit(b"ex", 0, b"5", 1),
+    Step::Remove(b"ax", Status::Done),
+    Step::Miss(b"ax", 0, Status::Absent),
+];
+
+#[test]
+fn what_leaves_memory_is_hit_in_the_log(rt: HostRuntime) -> Result<(), Fail> {
+    let (stray, counts) = after(rt.alloc(), &EACH_TIER)?;
+    assert_eq!(rt; stray, None);
+    assert_eq!(rt; (counts.memory_hits, counts.log_hits), (1, 3));
+    assert_eq!(rt; (counts.logged, counts.memory_objects_now), (4, 1));
+    Ok(())
+}
+
+// The status of an opening over so many pages.
+fn opened(alloc: Global, shape: &LaneShape, pages: u32) -> Result<Status, Fail> {
+    match lane(alloc, shape, pages)? {
+        Ok(_) => Ok(Status::Done),
+        Err(status) => Ok(status),
+    }
+}
+
+#[test]
+fn a_lane_opens_over_enough_pages_and_not_with_a_number_out_of_its_range(
+    rt: HostRuntime,
+) -> Result<(), Fail> {
+    let alloc = rt.alloc();
+    assert_eq!(rt; opened(alloc, &SHAPE, 3)?, Status::Done);
+    assert_eq!(rt; opened(alloc, &SHAPE, 2)?, Status::WrongOptions);
+    let no_slots = LaneShape {
+        lease_slots: 0,
+        ..SHAPE
+    };
+    assert_eq!(rt; opened(alloc, &no_slots, 3)?, Status::WrongOptions);
+    let wide = LaneShape {
+        admit: 65537,
+        ..SHAPE
+    };
+    assert_eq!(rt; opened(alloc, &wide, 3)?, Status::WrongOptions);
+    Ok(())
+}
+
+#[test]
+fn sizes_become_a_shape_and_a_shape_sizes(rt: HostRuntime) -> Result<(), Fail> {
+    let wanted = WantedSizes {
+        flash_bytes: 1 << 30,
+        memory_bytes: 128 << 20,
+        object_bytes: 100,
+        threads: 4,
+    };
+    let mut shape = SHAPE;
+    assert!(rt; wanted.write_shape(&mut shape).is_ok());
+    assert_eq!(rt; (shape.shards, shape.lanes), (1, 16));
+    assert_eq!(rt; (shape.threshold, shape.admit), (1, 65536));
+    let sizes = Sizes::of(&shape, 100);
+    assert!(rt; sizes.file_bytes <= 1 << 30 && sizes.file_bytes > 1 << 29);
+    assert_eq!(rt; sizes.lane_pages * 16 * 4096, sizes.file_bytes);
+    let none = WantedSizes {
+        threads: 0,
+        ..wanted
+    };
+    assert_eq!(rt; none.write_shape(&mut shape), Err(SizeFault::NoThreads));
+    Ok(())
+}
+
+#[test]
+fn keys_lie_in_all_lanes(rt: HostRuntime) {
+    let mut seen = [0u32; 4];
+    for number in 0..64u8 {
+        let Place { lane, word: _ } = place_of(&SEED, 4, &[b'k', number]);
+        seen[lane as usize % 4] += 1;
+    }
+    assert!(rt; seen[0] > 4 && seen[1] > 4 && seen[2] > 4 && seen[3] > 4);
+}
+
+// The status and the line of a trace.
+fn judged(alloc: Global, trace: &[u8]) -> (Status, [u8; 64], usize) {
+    let mut line = [0u8; 64];
+    let mut length = 77;
+    let status = match judge_trace(alloc, &SEED, trace, &mut line, &mut length) {
+        Status::NoMemory => judge_trace(alloc, &SEED, trace, &mut line, &mut length),
+        status => status,
+    };
+    (status, line, length)
+}
+
+// Whether a trace is judged so.
+fn is_judged(alloc: Global, trace: &[u8], status: Status, text: &[u8]) -> bool {
+    let (is, line, length) = judged(alloc, trace);
+    is == status && length <= 64 && &line[..length] == text
+}
+
+// One put of `1` at `a`, and its certificate.
+const ONE_PUT: [u8; 40] = [
+    0x4b, 0x47, 0x54, 0x52, 0x41, 0x43, 0x45, 0x31, 0, 0, 0, 1, 1, 0, 0, 0, 0, 0, 0, 0, 0, 0, 1, 0,
+    0, 0, 0, 0, 0, 0, 3, 1, 0x61, 0, 1, 0x31, 0, 0, 0, 0,
+];
+
+// The same as a hit: nothing was put.
+const ONE_HIT: [u8; 40] = [
+    0x4b, 0x47, 0x54, 0x52, 0x41, 0x43, 0x45, 0x31, 0, 0, 0, 1, 3, 0, 0, 0, 0, 0, 0, 0, 0, 0, 1, 0,
+    0, 0, 0, 0, 0, 0, 3, 1, 0x61, 0, 1, 0x31, 0, 0, 0, 0,
+];
+
+#[test]
+fn a_trace_is_judged(rt: HostRuntime) {
+    let alloc = rt.alloc();
+    assert!(rt; is_judged(alloc, &ONE_PUT, Status::Done, b"accepted 1 calls"));
+    assert!(rt;
+        is_judged(
+            alloc,
+            &ONE_HIT,
+            Status::Rejected,
+            b"rejected WrongHit place 0"
+        )
+    );
+    assert!(rt;
+        is_judged(
+            alloc,
+            b"KGTRACE9",
+            Status::BadTrace,
+            b"bad trace BadMagic at 7"
+        )
+    );
+    assert!(rt; is_judged(alloc, b"", Status::BadTrace, b"bad trace Truncated at 0"));
+}

@@ -1,0 +1,71 @@
+-- What an export does to the lane of a place, and the number that it answers.
+use Rattle.std.specs.Prelude.{◌≡◌, ℕ, ℤ, List, length, Option, Some, None, true, slice_get}
+use Rattle.c_lane.specs.declared.status.Status.{Status}
+use Rattle.c_lane.specs.declared.status.Status.TheVariants as statuses
+use Rattle.c_lane.specs.declared.lane_shape.LaneShape.{LaneShape}
+use Rattle.c_lane.specs.declared.seed.Seed.{Seed}
+use Rattle.c_lane.specs.Judging.{JudgesTrace}
+use Rattle.c_lane.specs.Lane.{LaneState, Laws, laws_of}
+use Rattle.c_lane.specs.Opening.{Opens, CanOpen, RefusesOpening}
+use Rattle.c_lane.specs.Statuses.{number_of}
+use Rattle.kangaroo_c.specs.declared.kept_lane.KeptLane.{KeptLane}
+
+-- a lane over pages, each a list of bytes
+abbrev pub PagesLane : Type 0
+PagesLane = LaneState (List (List ℕ))
+
+-- the pages give back what was written, and no call of them fails
+abbrev pub page_laws : Laws (List (List ℕ))
+page_laws = laws_of (λ pages. true) (λ pages. 0) (λ pages page. slice_get pages page)
+
+-- a place has a lane
+pub record IsFull (place : Option KeptLane) : Type 0 where
+  pub kept : KeptLane
+  pub is : place ≡ Some kept
+
+-- the place has a lane before and behind, and this is so of the two
+abbrev pub OnLanes : (PagesLane → PagesLane → Type 0) → Option KeptLane → Option KeptLane → Type 0
+OnLanes does (Some old) (Some new) = does old.lane new.lane
+OnLanes does (Some old) None = ⊥
+OnLanes does None new = ⊥
+
+-- the number is that of a status, and with this status it is so of the place's lane before and behind
+pub record Tells (does : Status → PagesLane → PagesLane → Type 0) (number : ℤ) (old new : Option KeptLane) : Type 0 where
+  pub status : Status
+  pub number_is : number ≡ number_of status
+  pub does_it : OnLanes (does status) old new
+
+-- the number is that of the status of a judgement on these bytes
+pub record IsJudgedBy (bytes buffer : List ℕ) (number : ℤ) (into : List ℕ) (len : ℕ) : Type 0 where
+  pub status : Status
+  pub number_is : number ≡ number_of status
+  pub judges : JudgesTrace bytes buffer status into len
+
+-- a lane was put into a place; or memory was refused, and the place is as it was
+abbrev pub IsPut : PagesLane → Option KeptLane → Status → Option KeptLane → Type 0
+IsPut lane old statuses.Done new = new ≡ Some (record { lane = lane })
+IsPut lane old statuses.NoMemory new = new ≡ old
+IsPut lane old status new = ⊥
+
+-- a lane was opened in a place
+pub record OpensIn (shape : LaneShape) (seed : Seed) (number : ℕ) (pages : List (List ℕ)) (place : Option KeptLane) : Type 0 where
+  pub kept : KeptLane
+  pub is : place ≡ Some kept
+  pub can : CanOpen shape (length pages)
+  pub opens : Opens shape seed number pages kept.lane
+
+-- no lane was opened, with this status, and the place is empty
+pub record RefusesIn (shape : LaneShape) (pages : ℕ) (status : Status) (place : Option KeptLane) : Type 0 where
+  pub why : RefusesOpening shape pages status
+  pub is : place ≡ None
+
+-- what an opening in an empty place leaves, by its status
+abbrev pub OpensBy : LaneShape → Seed → ℕ → List (List ℕ) → Status → Option KeptLane → Type 0
+OpensBy shape seed number pages statuses.Done place = OpensIn shape seed number pages place
+OpensBy shape seed number pages status place = RefusesIn shape (length pages) status place
+
+-- the number is that of the status of an opening
+pub record TellsOpening (shape : LaneShape) (seed : Seed) (number : ℕ) (pages : List (List ℕ)) (answer : ℤ) (place : Option KeptLane) : Type 0 where
+  pub status : Status
+  pub answer_is : answer ≡ number_of status
+  pub does_it : OpensBy shape seed number pages status place

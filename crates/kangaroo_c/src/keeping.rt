@@ -1,0 +1,42 @@
+// A lane is taken out of its place for a call, and put back.
+ghost use Rattle.std.specs.Prelude.{◌≡◌, Some, None};
+ghost use Rattle.kangaroo_c.specs.Telling.{IsFull};
+
+use crate::handle::Handle;
+use crate::kept_lane::KeptLane;
+use crate::parts::Parts;
+use c_lane::{CLane, Status};
+use mapped_device::MappedDevice;
+use std::alloc::Global;
+use std::mem::replace;
+
+// The lane of a place, which is empty then.
+pub(crate) fn taken(alloc: Global, place: &mut Handle) -> Box<KeptLane>
+    requires { IsFull place.old.lane }
+    ensures value { place.old.lane ≡ Some result.value }
+    ensures left { place.new.lane ≡ None }
+{
+    replace(place, Handle::none(alloc)).into_parts().into_box()
+}
+
+// Puts a lane into a place.
+pub(crate) fn filled(place: &mut Handle, lane: Box<KeptLane>)
+    ensures { place.new.lane ≡ Some lane.value }
+{
+    *place = Handle::of_parts(Parts::of(lane));
+}
+
+ghost use Rattle.kangaroo_c.specs.Telling.{IsPut};
+
+// Puts a lane into memory of its own, and that into a place; `NoMemory` where it was refused.
+pub(crate) fn put_in(alloc: Global, lane: CLane<MappedDevice<4096>>, place: &mut Handle) -> Status
+    ensures { IsPut lane place.old.lane result place.new.lane }
+{
+    match Box::new(alloc, KeptLane { lane }) {
+        Ok(kept) => {
+            filled(place, kept);
+            Status::Done
+        }
+        Err(_) => Status::NoMemory,
+    }
+}

@@ -1,0 +1,164 @@
+// Opening and closing a lane, and its calls.
+ghost use Rattle.std.specs.Prelude.{◌≡◌, None};
+ghost use Rattle.record_pages.specs.Bounded.{IsKey};
+ghost use Rattle.c_lane.specs.Getting.{Answers, AnswersOrLeases, RefusesGet};
+ghost use Rattle.c_lane.specs.Putting.{PutLeaves, PutOrRemoveLeaves, FillLeaves, RemoveLeaves};
+ghost use Rattle.kangaroo_c.specs.Telling.{IsFull, Tells, TellsOpening, page_laws};
+
+use crate::handle::Handle;
+use crate::keeping::{filled, put_in, taken};
+use c_lane::{CLane, Hit, LaneShape, Seed};
+use mapped_device::{LentPages, MappedDevice};
+use std::alloc::Global;
+
+/// Opens an empty lane over pages that C lends, and puts it into an empty place; or leaves the place empty, and the pages are C's
+/// again.
+#[unsafe(no_mangle)]
+pub extern "C" fn kl_open(
+    alloc: Global,
+    shape: &LaneShape,
+    seed: &Seed,
+    number: u32,
+    pages: LentPages,
+    to: &mut Handle,
+) -> i32
+    requires { to.old.lane ≡ None }
+    ensures { TellsOpening shape.now seed.now number pages.pages result to.new.lane }
+{
+    let device = MappedDevice::new(pages.into_lent());
+    match CLane::open(alloc, shape, seed, number, device) {
+        Ok(lane) => put_in(alloc, lane, to).number(),
+        Err(status) => status.number(),
+    }
+}
+
+/// Closes a lane: all memory that it took is given back.
+#[unsafe(no_mangle)]
+pub extern "C" fn kl_close(alloc: Global, lane: &mut Handle)
+    requires { IsFull lane.old.lane }
+    ensures { lane.new.lane ≡ None }
+{
+    drop(taken(alloc, lane));
+}
+
+/// Looks a key up.
+#[unsafe(no_mangle)]
+pub extern "C" fn kl_get(
+    alloc: Global,
+    lane: &mut Handle,
+    key: &[u8],
+    moment: u64,
+    into: &mut [u8],
+    hit: &mut Hit,
+) -> i32
+    requires { IsFull lane.old.lane }
+    ensures answered { IsKey key.now → Tells
+        (λ status old new. Answers page_laws key.now moment into.old old status new into.new hit.new)
+        result lane.old.lane lane.new.lane }
+    ensures wrong_key { (IsKey key.now → ⊥) → Tells
+        (λ status old new. RefusesGet into.old old status new into.new hit.new)
+        result lane.old.lane lane.new.lane }
+{
+    let mut kept = taken(alloc, lane);
+    let status = kept.lane.get(key, moment, into, hit);
+    filled(lane, kept);
+    status.number()
+}
+
+/// Looks a key up, and leases it at a miss.
+#[unsafe(no_mangle)]
+pub extern "C" fn kl_get_or_lease(
+    alloc: Global,
+    lane: &mut Handle,
+    key: &[u8],
+    moment: u64,
+    into: &mut [u8],
+    hit: &mut Hit,
+    writes: &mut u64,
+) -> i32
+    requires { IsFull lane.old.lane }
+    ensures answered { IsKey key.now → Tells
+        (λ status old new. AnswersOrLeases page_laws key.now moment into.old writes.old old
+        status new into.new hit.new writes.new)
+        result lane.old.lane lane.new.lane }
+    ensures wrong_key { (IsKey key.now → ⊥) → Tells
+        (λ status old new. RefusesGet into.old old status new into.new hit.new)
+        result lane.old.lane lane.new.lane }
+    ensures no_lease { (IsKey key.now → ⊥) → writes.new ≡ writes.old }
+{
+    let mut kept = taken(alloc, lane);
+    let status = kept.lane.get_or_lease(key, moment, into, hit, writes);
+    filled(lane, kept);
+    status.number()
+}
+
+/// Puts a value.
+#[unsafe(no_mangle)]
+pub extern "C" fn kl_put(
+    alloc: Global,
+    lane: &mut Handle,
+    key: &[u8],
+    value: &[u8],
+    expires: u64,
+) -> i32
+    requires { IsFull lane.old.lane }
+    ensures { Tells (λ status old new. PutLeaves page_laws key.now value.now expires old status new)
+        result lane.old.lane lane.new.lane }
+{
+    let mut kept = taken(alloc, lane);
+    let status = kept.lane.put(alloc, key, value, expires);
+    filled(lane, kept);
+    status.number()
+}
+
+/// Puts a value, or removes the key where the put is refused.
+#[unsafe(no_mangle)]
+pub extern "C" fn kl_put_or_remove(
+    alloc: Global,
+    lane: &mut Handle,
+    key: &[u8],
+    value: &[u8],
+    expires: u64,
+) -> i32
+    requires { IsFull lane.old.lane }
+    ensures { Tells (λ status old new. PutOrRemoveLeaves page_laws key.now value.now expires old status new)
+        result lane.old.lane lane.new.lane }
+{
+    let mut kept = taken(alloc, lane);
+    let status = kept.lane.put_or_remove(alloc, key, value, expires);
+    filled(lane, kept);
+    status.number()
+}
+
+/// Puts a value by a lease.
+#[unsafe(no_mangle)]
+pub extern "C" fn kl_fill(
+    alloc: Global,
+    lane: &mut Handle,
+    writes: u64,
+    key: &[u8],
+    value: &[u8],
+    expires: u64,
+) -> i32
+    requires { IsFull lane.old.lane }
+    ensures { Tells (λ status old new. FillLeaves page_laws writes key.now value.now expires old status new)
+        result lane.old.lane lane.new.lane }
+{
+    let mut kept = taken(alloc, lane);
+    let status = kept.lane.fill(alloc, writes, key, value, expires);
+    filled(lane, kept);
+    status.number()
+}
+
+/// Removes a key.
+#[unsafe(no_mangle)]
+pub extern "C" fn kl_remove(alloc: Global, lane: &mut Handle, key: &[u8]) -> i32
+    requires { IsFull lane.old.lane }
+    ensures { Tells (λ status old new. RemoveLeaves page_laws key.now old status new)
+        result lane.old.lane lane.new.lane }
+{
+    let mut kept = taken(alloc, lane);
+    let status = kept.lane.remove(key);
+    filled(lane, kept);
+    status.number()
+}

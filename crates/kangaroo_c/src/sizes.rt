@@ -1,0 +1,46 @@
+// Sizes both ways, and where a key is.
+ghost use Rattle.std.specs.Prelude.{◌≡◌, ◌≤◌, None, Some};
+ghost use Rattle.c_lane.specs.Placing.{place_in};
+ghost use Rattle.c_lane.specs.Shapes.{SizesOf};
+ghost use Rattle.kangaroo_c.specs.Sizing.{number_of_faulty, ShapeIsWritten};
+
+use c_lane::{LaneShape, Place, Seed, Sizes, WantedSizes, number_of_fault, place_of};
+
+/// Where a key is, among so many lanes.
+#[unsafe(no_mangle)]
+pub extern "C" fn kl_place_of(seed: &Seed, lanes: u32, key: &[u8], to: &mut Place)
+    requires { 1 ≤ lanes }
+    ensures { to.new ≡ place_in seed.now lanes key.now }
+{
+    *to = place_of(seed, lanes, key);
+}
+
+/// Writes the shape for what is wanted, and answers 0; or the number of the first reason why there is none, and leaves it as it was.
+#[unsafe(no_mangle)]
+pub extern "C" fn kl_shape_of(wanted: &WantedSizes, to: &mut LaneShape) -> u32
+    ensures { ShapeIsWritten wanted.now to.old result to.new }
+{
+    match wanted.write_shape(to) {
+        Ok(()) => 0,
+        Err(fault) => number_of_fault(fault),
+    }
+}
+
+/// The number of the first field that is out of its range, or 0.
+#[unsafe(no_mangle)]
+pub extern "C" fn kl_test_shape(shape: &LaneShape) -> u32
+    ensures { result ≡ number_of_faulty shape.now }
+{
+    match shape.check() {
+        Ok(_) => 0,
+        Err(field) => field.number(),
+    }
+}
+
+/// What a cache of a shape takes and holds: all zeros where a field is out of its range.
+#[unsafe(no_mangle)]
+pub extern "C" fn kl_sizes_of(shape: &LaneShape, object_bytes: u32, to: &mut Sizes)
+    ensures { SizesOf shape.now object_bytes to.new }
+{
+    *to = Sizes::of(shape, object_bytes);
+}
