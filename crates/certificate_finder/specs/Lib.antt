@@ -1,0 +1,4 @@
+pub mod Laws
+pub mod Reads
+pub mod Spots
+pub mod Witnesses
