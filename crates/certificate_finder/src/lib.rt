@@ -1,12 +1,33 @@
 //! Finds a certificate for a history that brings none, or says why there can be none.
 #![tactic(auto)]
 
+mod best;
+mod crossing;
+mod ends;
 mod excluded;
+mod excluding;
+mod finding;
 mod found;
+mod kind;
 mod laws;
+mod lent_word;
+mod line;
+mod numbering;
+mod owner;
+mod owners;
+mod put;
+mod puts;
+mod ranked;
+mod reading;
+mod step;
 mod witness;
+mod write;
+mod writes;
+mod zone;
+mod zones;
 
 pub use excluded::{Excluded, Excuse};
+pub use finding::{MAX_CALLS, find, find_with_hasher};
 pub use found::Found;
 pub use laws::{witness_excludes};
 pub use witness::{Side, Witness};

@@ -1,0 +1,46 @@
+// The calls that end first and start last, of those that go with a write.
+use crate::step::Step;
+use std::alloc::{AllocError, Global};
+
+/// The positions up to a count.
+fn positions(alloc: Global, count: usize) -> Result<Vec<u32>, AllocError> {
+    let mut positions = Vec::new(alloc);
+    for position in 0..count {
+        positions.push(position as u32)?;
+    }
+    Ok(positions)
+}
+
+/// For each position the call that ends first, of those that go with it.
+pub(crate) fn earliest_of(
+    alloc: Global,
+    steps: &[Step],
+    owners: &[u32],
+) -> Result<Vec<u32>, AllocError> {
+    let mut earliest = positions(alloc, steps.len())?;
+    for position in 0..steps.len() {
+        let owner = owners[position] as usize;
+        let known = earliest[owner] as usize;
+        if steps[position].end < steps[known].end {
+            earliest[owner] = position as u32;
+        }
+    }
+    Ok(earliest)
+}
+
+/// For each position the call that starts last, of those that go with it.
+pub(crate) fn latest_of(
+    alloc: Global,
+    steps: &[Step],
+    owners: &[u32],
+) -> Result<Vec<u32>, AllocError> {
+    let mut latest = positions(alloc, steps.len())?;
+    for position in 0..steps.len() {
+        let owner = owners[position] as usize;
+        let known = latest[owner] as usize;
+        if steps[known].start < steps[position].start {
+            latest[owner] = position as u32;
+        }
+    }
+    Ok(latest)
+}

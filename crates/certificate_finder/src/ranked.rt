@@ -1,0 +1,10 @@
+// A position with its rank.
+
+/// A position, and by what it is sorted.
+#[derive(Clone, Copy, Debug)]
+pub(crate) struct Ranked {
+    /// The position.
+    pub(crate) position: u32,
+    /// Its rank.
+    pub(crate) rank: u128,
+}

@@ -1,0 +1,37 @@
+// A write of a key.
+use crate::step::Step;
+
+/// A put or a removal.
+#[derive(Clone, Copy, Debug)]
+pub(crate) struct Write {
+    /// Its position.
+    pub(crate) position: u32,
+    /// The number of its key.
+    pub(crate) key: u32,
+    /// The stamp at which it started.
+    pub(crate) start: u64,
+    /// The stamp at which it ended.
+    pub(crate) end: u64,
+}
+
+impl Write {
+    /// The write at this position.
+    pub(crate) fn of(position: u32, step: &Step) -> Write {
+        Write {
+            position,
+            key: step.key,
+            start: step.start,
+            end: step.end,
+        }
+    }
+
+    /// By keys, and within a key by start.
+    pub(crate) fn rank(&self) -> u128 {
+        key_rank(self.key, self.start)
+    }
+}
+
+/// The rank of a stamp among those of all keys.
+pub(crate) fn key_rank(key: u32, stamp: u64) -> u128 {
+    key as u128 * 18446744073709551616 + stamp as u128
+}
