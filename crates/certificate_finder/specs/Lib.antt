@@ -1,4 +1,12 @@
+pub mod Excluding
 pub mod Laws
+pub mod Lists
+pub mod Numbers
+pub mod Owning
+pub mod Putting
 pub mod Reads
 pub mod Spots
+pub mod Steps
 pub mod Witnesses
+pub mod Writing
+pub mod Zones

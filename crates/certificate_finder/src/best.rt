@@ -14,8 +14,13 @@ pub(crate) struct Best {
 }
 
 impl Best {
+    ghost use Rattle.std.specs.Prelude.{◌≡◌, ◌<◌, ◌≤◌, None, Some, max, MatchOption};
+    ghost use Rattle.certificate_finder.specs.Putting.{IsWith, SaysReading};
+
     /// Of one put.
-    pub(crate) fn of(put: &Put) -> Best {
+    pub(crate) fn of(put: &Put) -> Best
+        ensures { result ≡ record { put = put.now.position; dead = put.now.dead; next = None } }
+    {
         Best {
             put: put.position,
             dead: put.dead,
@@ -24,7 +29,9 @@ impl Best {
     }
 
     /// With one put more.
-    pub(crate) fn with(self, put: &Put) -> Best {
+    pub(crate) fn with(self, put: &Put) -> Best
+        ensures { IsWith self put.now result }
+    {
         if self.dead < put.dead {
             return Best {
                 put: put.position,
@@ -32,25 +39,36 @@ impl Best {
                 next: Some(self.dead),
             };
         }
-        let next = match self.next {
-            Some(next) => next.max(put.dead),
-            None => put.dead,
-        };
-        Best {
-            put: self.put,
-            dead: self.dead,
-            next: Some(next),
+        match self.next {
+            Some(next) => Best {
+                put: self.put,
+                dead: self.dead,
+                next: Some(next.max(put.dead)),
+            },
+            None => Best {
+                put: self.put,
+                dead: self.dead,
+                next: Some(put.dead),
+            },
         }
     }
 
     /// Which of the puts a hit that starts then can have read.
-    pub(crate) fn reading(self, start: u64) -> Reading {
+    pub(crate) fn reading(self, start: u64) -> Reading
+        ensures { SaysReading self start result }
+    {
         if self.dead < start {
             return Reading::Nothing;
         }
         match self.next {
-            Some(next) if next >= start => Reading::Several,
-            _ => Reading::One(self.put),
+            Some(next) => {
+                if next < start {
+                    Reading::One(self.put)
+                } else {
+                    Reading::Several
+                }
+            }
+            None => Reading::One(self.put),
         }
     }
 }

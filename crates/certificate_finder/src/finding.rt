@@ -1,10 +1,11 @@
 // Finding a certificate for a history that brings none.
-use crate::crossing::crossing;
+use crate::crossings::crossing_of;
 use crate::excluding::excluded_of;
 use crate::found::Found;
 use crate::line::{line_of, spots_of};
 use crate::numbering::steps_of;
-use crate::owners::{Owners, Owning, owners_of};
+use crate::owners::owners_of;
+use crate::owning::{Owners, Owning};
 use crate::puts::{bests_of, puts_of};
 use crate::ranked::Ranked;
 use crate::step::Step;
@@ -78,7 +79,7 @@ fn read_all(alloc: Global, steps: &[Step]) -> Result<Reads, AllocError> {
     match owners_of(alloc, steps, puts.as_slice(), bests.as_slice())? {
         Owning::Each(owners) => Ok(Reads::Each(owners)),
         Owning::Refused(position) => {
-            let excluded = excluded_of(alloc, puts.as_slice(), &steps[position as usize])?;
+            let excluded = excluded_of(alloc, steps, puts.as_slice(), position)?;
             Ok(Reads::Rejected(Witness::Hit(position, excluded)))
         }
     }
@@ -87,7 +88,8 @@ fn read_all(alloc: Global, steps: &[Step]) -> Result<Reads, AllocError> {
 fn arranged(alloc: Global, steps: &[Step], owners: Owners) -> Result<Found, AllocError> {
     let Owners { owners, unsure } = owners;
     let zones = zones_of(alloc, steps, owners.as_slice())?;
-    if let Some(witness) = crossing(zones.as_slice()) {
+    if let Some(crossing) = crossing_of(zones.as_slice()) {
+        let witness = Witness::Crossed(crossing.one.side(), crossing.other.side());
         return Ok(Found::Rejected(witness));
     }
     if !unsure.is_empty() {

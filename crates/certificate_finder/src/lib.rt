@@ -3,6 +3,7 @@
 
 mod best;
 mod crossing;
+mod crossings;
 mod ends;
 mod excluded;
 mod excluding;
@@ -15,6 +16,7 @@ mod line;
 mod numbering;
 mod owner;
 mod owners;
+mod owning;
 mod put;
 mod puts;
 mod ranked;

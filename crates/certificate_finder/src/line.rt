@@ -1,5 +1,4 @@
 // The calls of each key one after the other, and the points at which they happen.
-use crate::kind::Kind;
 use crate::ranked::Ranked;
 use crate::step::Step;
 use crate::zone::Zone;
@@ -16,12 +15,11 @@ fn places_of(alloc: Global, count: usize, zones: &[Zone]) -> Result<Vec<u32>, Al
 
 /// The rank of a call: by the zone that it goes with, its write first, then its hits by start; misses behind.
 fn turn_rank(step: &Step, place: u32, zones: usize) -> u128 {
-    let kind = step.kind;
-    if kind == Kind::Miss {
+    if step.kind.is_miss() {
         return zones as u128 * 36893488147419103232 + step.start as u128;
     }
     let begin = place as u128 * 36893488147419103232;
-    if kind.is_write() {
+    if step.kind.is_write() {
         begin
     } else {
         begin + 18446744073709551616 + step.start as u128
@@ -51,7 +49,7 @@ pub(crate) fn line_of(
 
 /// The point of a call behind another, which has a point: the greatest start so far of its key. A miss has its own start.
 fn next_point(step: &Step, before: &Step, point: u64) -> u64 {
-    if step.kind != Kind::Miss && step.key == before.key {
+    if !step.kind.is_miss() && step.key == before.key {
         step.start.max(point)
     } else {
         step.start

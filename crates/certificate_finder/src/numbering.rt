@@ -1,4 +1,8 @@
 // Numbers for the keys and the values of a history.
+ghost use Rattle.std.specs.Prelude.{◌≡◌, ◌+◌, ◌<◌, ◌≤◌, ◌^◌, Some, IfOk, OnOk, length};
+ghost use Rattle.certificate_finder.specs.Numbers.{number_at, AreNumbers, KeepsNumbers};
+ghost use Rattle.certificate_finder.specs.Steps.{AreSteps};
+
 use crate::lent_word::LentWord;
 use crate::step::Step;
 use std::alloc::{AllocError, Global};
@@ -11,7 +15,12 @@ fn number<'a, S: BuildHasher>(
     numbers: &mut HashMap<LentWord<'a>, u32, S>,
     new: u32,
     bytes: &'a [u8],
-) -> Result<u32, AllocError> {
+) -> Result<u32, AllocError>
+    requires { AreNumbers (number_at numbers.old) new }
+    ensures known { IfOk result (λ number. number_at numbers.new bytes.now ≡ Some number) }
+    ensures kept { OnOk result (KeepsNumbers (number_at numbers.old) (number_at numbers.new)) }
+    ensures numbers { OnOk result (AreNumbers (number_at numbers.new) (new + 1)) }
+{
     let word = LentWord { bytes };
     if let Some(known) = numbers.get(&word) {
         return Ok(*known);
@@ -25,7 +34,10 @@ pub(crate) fn steps_of<S: BuildHasher + Drop>(
     alloc: Global,
     hash_builder: S,
     history: &History,
-) -> Result<Vec<Step>, AllocError> {
+) -> Result<Vec<Step>, AllocError>
+    requires { length history.now < 2 ^ 31 }
+    ensures { IfOk result (λ steps. AreSteps history.now steps.items) }
+{
     let mut numbers: HashMap<LentWord<'_>, u32, S> = HashMap::with_hasher(alloc, hash_builder);
     let mut steps = Vec::new(alloc);
     for position in 0..history.len() {

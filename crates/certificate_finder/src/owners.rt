@@ -1,7 +1,12 @@
 // With which write each call goes.
+ghost use Rattle.std.specs.Prelude.{◌≡◌, ◌+◌, ◌<◌, ◌^◌, All, IfOk, length, slice_get, Some};
+ghost use Rattle.certificate_finder.specs.Owning.{IsOwnerAt, IsOwning};
+ghost use Rattle.certificate_finder.specs.Putting.{AreBests, ArePuts};
+ghost use Rattle.certificate_finder.specs.Steps.{IsFit};
+
 use crate::best::Best;
-use crate::kind::Kind;
 use crate::owner::Owner;
+use crate::owning::{Owners, Owning};
 use crate::put::Put;
 use crate::puts::reading_of;
 use crate::reading::Reading;
@@ -10,30 +15,19 @@ use record_pages::is_live;
 use std::alloc::{AllocError, Global};
 
 /// With which write each call goes.
-#[derive(Debug, Drop)]
-pub(crate) struct Owners {
-    /// For each position that of the put that its hit has read, or else the position itself.
-    pub(crate) owners: Vec<u32>,
-    /// The positions of the hits that can have read several puts.
-    pub(crate) unsure: Vec<u32>,
-}
-
-/// With which write each call goes, or the position of a hit that can have read no put.
-#[derive(Debug, Drop)]
-pub(crate) enum Owning {
-    /// With which write each call goes.
-    Each(Owners),
-    /// The hit at this position can have read no put.
-    Refused(u32),
-}
-
-/// With which write each call goes.
 pub(crate) fn owners_of(
     alloc: Global,
     steps: &[Step],
     puts: &[Put],
     bests: &[Best],
-) -> Result<Owning, AllocError> {
+) -> Result<Owning, AllocError>
+    requires few { length steps.now < 2 ^ 31 }
+    requires fit { All IsFit steps.now }
+    requires puts { ArePuts steps.now puts.now }
+    requires count { length bests.now ≡ length puts.now }
+    requires bests { AreBests puts.now bests.now }
+    ensures { IfOk result (IsOwning steps.now) }
+{
     let mut owners = Vec::new(alloc);
     let mut unsure = Vec::new(alloc);
     for position in 0..steps.len() {
@@ -52,16 +46,24 @@ pub(crate) fn owners_of(
 }
 
 /// With which write the call at a position goes.
-fn owner_at(steps: &[Step], puts: &[Put], bests: &[Best], position: usize) -> Owner {
+fn owner_at(steps: &[Step], puts: &[Put], bests: &[Best], position: usize) -> Owner
+    requires fit { All IsFit steps.now }
+    requires puts { ArePuts steps.now puts.now }
+    requires count { length bests.now ≡ length puts.now }
+    requires bests { AreBests puts.now bests.now }
+    requires within { position < length steps.now }
+    ensures { IsOwnerAt steps.now position result }
+{
     let step = &steps[position];
-    if step.kind != Kind::Hit {
+    if !step.kind.is_hit() {
         return Owner::Itself;
     }
     match reading_of(puts, bests, step) {
         Reading::Nothing => Owner::Nothing,
         Reading::Several => Owner::Unsure,
         Reading::One(put) => {
-            if is_live(steps[put as usize].time, step.time) {
+            let read = &steps[put as usize];
+            if is_live(read.time, step.time) {
                 Owner::Put(put)
             } else {
                 Owner::Nothing

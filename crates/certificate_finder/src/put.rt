@@ -1,4 +1,7 @@
 // A put, and until when it can be read.
+ghost use Rattle.std.specs.Prelude.{◌≡◌, ◌↔◌, IsTrue};
+ghost use Rattle.certificate_finder.specs.Putting.{value_rank as rank_of_value};
+
 use crate::step::Step;
 use crate::write::Write;
 
@@ -20,38 +23,50 @@ pub(crate) struct Put {
 }
 
 impl Put {
+    ghost use Rattle.certificate_finder.specs.Putting.{IsPut, put_rank};
+
     /// The put at this position, with the write that ends first of those behind it.
-    pub(crate) fn of(position: u32, step: &Step, over: Option<Write>) -> Put {
-        let dead = match over {
-            Some(write) => write.end,
-            None => u64::MAX,
-        };
-        let over = match over {
-            Some(write) => Some(write.position),
-            None => None,
-        };
-        Put {
-            position,
-            key: step.key,
-            value: step.value,
-            start: step.start,
-            dead,
-            over,
+    pub(crate) fn of(position: u32, step: &Step, over: Option<Write>) -> Put
+        ensures { IsPut position step.now over result }
+    {
+        match over {
+            Some(write) => Put {
+                position,
+                key: step.key,
+                value: step.value,
+                start: step.start,
+                dead: write.end,
+                over: Some(write.position),
+            },
+            None => Put {
+                position,
+                key: step.key,
+                value: step.value,
+                start: step.start,
+                dead: u64::MAX,
+                over: None,
+            },
         }
     }
 
     /// By keys, values and starts.
-    pub(crate) fn rank(&self) -> u128 {
+    pub(crate) fn rank(&self) -> u128
+        ensures { result ≡ put_rank self.now }
+    {
         value_rank(self.key, self.value, self.start)
     }
 
     /// Whether it puts what the call puts or reads.
-    pub(crate) fn is_like(&self, key: u32, value: u32) -> bool {
+    pub(crate) fn is_like(&self, key: u32, value: u32) -> bool
+        ensures { IsTrue result ↔ ((self.now.key ≡ key) × (self.now.value ≡ value)) }
+    {
         self.key == key && self.value == value
     }
 }
 
 /// The rank of a stamp among those of all keys and values.
-pub(crate) fn value_rank(key: u32, value: u32, stamp: u64) -> u128 {
+pub(crate) fn value_rank(key: u32, value: u32, stamp: u64) -> u128
+    ensures { result ≡ rank_of_value key value stamp }
+{
     (key as u128 * 4294967296 + value as u128) * 18446744073709551616 + stamp as u128
 }

@@ -1,6 +1,12 @@
 // The puts of a history, and which of them a hit can have read.
+ghost use Rattle.std.specs.Prelude.{◌≡◌, ◌+◌, ◌^◌, ◌<◌, ◌≤◌, All, IfOk, Some, length, slice_get};
+ghost use Rattle.std.specs.List.Sorted.{IsNonDecreasingBy};
+ghost use Rattle.certificate_finder.specs.Lists.{AreApart, Lists};
+ghost use Rattle.certificate_finder.specs.Putting.{AreBests, AreInOrder, ArePuts, IsBestAt, IsReading, Putting, TellsPut, put_rank};
+ghost use Rattle.certificate_finder.specs.Steps.{IsFit};
+ghost use Rattle.certificate_finder.specs.Writing.{AreSoonest, AreWrites, IsSplit};
+
 use crate::best::Best;
-use crate::kind::Kind;
 use crate::put::{Put, value_rank};
 use crate::reading::Reading;
 use crate::step::Step;
@@ -14,21 +20,51 @@ pub(crate) fn puts_of(
     steps: &[Step],
     writes: &[Write],
     soonest: &[u32],
-) -> Result<Vec<Put>, AllocError> {
-    let mut puts = Vec::new(alloc);
-    for position in 0..steps.len() {
-        let step = &steps[position];
-        if step.kind == Kind::Put {
-            let over = over_of(writes, soonest, step);
-            puts.push(Put::of(position as u32, step, over))?;
-        }
-    }
+) -> Result<Vec<Put>, AllocError>
+    requires few { length steps.now < 2 ^ 31 }
+    requires fit { All IsFit steps.now }
+    requires writes { AreWrites steps.now writes.now }
+    requires soonest { AreSoonest writes.now 0 soonest.now }
+    ensures { IfOk result (λ puts. ArePuts steps.now puts.items) }
+{
+    let mut puts = listed_puts(alloc, steps, writes, soonest)?;
     puts.sort_unstable_by_key(|put| put.rank());
     Ok(puts)
 }
 
+/// The puts, in the order of the history.
+fn listed_puts(
+    alloc: Global,
+    steps: &[Step],
+    writes: &[Write],
+    soonest: &[u32],
+) -> Result<Vec<Put>, AllocError>
+    requires few { length steps.now < 2 ^ 31 }
+    requires writes { AreWrites steps.now writes.now }
+    requires soonest { AreSoonest writes.now 0 soonest.now }
+    ensures lists { IfOk result (λ puts.
+        Lists steps.now Putting (TellsPut steps.now) (length steps.now) puts.items) }
+    ensures apart { IfOk result (λ puts.
+        AreApart (λ put. put.position) (length steps.now) puts.items) }
+{
+    let mut puts = Vec::new(alloc);
+    for position in 0..steps.len() {
+        let step = &steps[position];
+        if step.kind.is_put() {
+            let over = over_of(writes, soonest, step);
+            let put = Put::of(position as u32, step, over);
+            puts.push(put)?;
+        }
+    }
+    Ok(puts)
+}
+
 /// For each put the best of it and the earlier ones of its key and value.
-pub(crate) fn bests_of(alloc: Global, puts: &[Put]) -> Result<Vec<Best>, AllocError> {
+pub(crate) fn bests_of(alloc: Global, puts: &[Put]) -> Result<Vec<Best>, AllocError>
+    requires { AreInOrder puts.now }
+    ensures count { IfOk result (λ bests. length bests.items ≡ length puts.now) }
+    ensures bests { IfOk result (λ bests. AreBests puts.now bests.items) }
+{
     let mut bests = Vec::new(alloc);
     for index in 0..puts.len() {
         let best = best_at(puts, bests.as_slice(), index);
@@ -38,20 +74,49 @@ pub(crate) fn bests_of(alloc: Global, puts: &[Put]) -> Result<Vec<Best>, AllocEr
 }
 
 /// The best of a put and the earlier ones of its key and value.
-fn best_at(puts: &[Put], bests: &[Best], index: usize) -> Best {
+fn best_at(puts: &[Put], bests: &[Best], index: usize) -> Best
+    requires puts { AreInOrder puts.now }
+    requires count { length bests.now ≡ index }
+    requires within { index < length puts.now }
+    requires bests { AreBests puts.now bests.now }
+    ensures { IsBestAt puts.now index result }
+{
     let put = &puts[index];
-    if index == 0 || !puts[index - 1].is_like(put.key, put.value) {
+    if index == 0 {
         return Best::of(put);
     }
-    bests[index - 1].with(put)
+    let before = &puts[index - 1];
+    if before.is_like(put.key, put.value) {
+        bests[index - 1].with(put)
+    } else {
+        Best::of(put)
+    }
 }
 
 /// Which puts a hit can have read, expiry aside.
-pub(crate) fn reading_of(puts: &[Put], bests: &[Best], hit: &Step) -> Reading {
-    let limit = value_rank(hit.key, hit.value, hit.end);
-    let begun = puts.partition_point(|put| put.rank() <= limit);
-    if begun == 0 || !puts[begun - 1].is_like(hit.key, hit.value) {
+pub(crate) fn reading_of(puts: &[Put], bests: &[Best], hit: &Step) -> Reading
+    requires puts { AreInOrder puts.now }
+    requires count { length bests.now ≡ length puts.now }
+    requires bests { AreBests puts.now bests.now }
+    requires hit { IsFit hit.now }
+    ensures { IsReading puts.now hit.now result }
+{
+    let begun = puts_upto(puts, value_rank(hit.key, hit.value, hit.end));
+    if begun == 0 {
         return Reading::Nothing;
     }
-    bests[begun - 1].reading(hit.start)
+    let last = &puts[begun - 1];
+    if last.is_like(hit.key, hit.value) {
+        bests[begun - 1].reading(hit.start)
+    } else {
+        Reading::Nothing
+    }
+}
+
+/// How many puts have at most this rank.
+fn puts_upto(puts: &[Put], limit: u128) -> usize
+    requires { IsNonDecreasingBy put_rank puts.now }
+    ensures { IsSplit put_rank puts.now limit result }
+{
+    puts.partition_point(|put| put.rank() <= limit)
 }

@@ -1,4 +1,8 @@
 // A call in numbers.
+ghost use Rattle.std.specs.Prelude.{◌≡◌};
+ghost use Rattle.trace_file.specs.Lent.{act_shown};
+ghost use Rattle.certificate_finder.specs.Steps.{kind_of as kind_of_act};
+
 use crate::kind::Kind;
 use trace_file::{ActRef, CallRef};
 
@@ -20,8 +24,15 @@ pub(crate) struct Step {
 }
 
 impl Step {
+    ghost use Rattle.trace_file.specs.Lent.{call_shown};
+    ghost use Rattle.certificate_finder.specs.Steps.{IsStep};
+
     /// The call with these numbers.
-    pub(crate) fn of(call: &CallRef<'_>, key: u32, value: u32) -> Step {
+    pub(crate) fn of(call: &CallRef<'_>, key: u32, value: u32) -> Step
+        ensures key { result.key ≡ key }
+        ensures value { result.value ≡ value }
+        ensures step { IsStep (call_shown call.now) result }
+    {
         let kind = kind_of(&call.act);
         Step {
             key,
@@ -35,7 +46,9 @@ impl Step {
 }
 
 /// The kind of an act.
-fn kind_of(act: &ActRef<'_>) -> Kind {
+fn kind_of(act: &ActRef<'_>) -> Kind
+    ensures { result ≡ kind_of_act (act_shown act.now) }
+{
     match act {
         ActRef::Put(..) => Kind::Put,
         ActRef::Remove => Kind::Remove,

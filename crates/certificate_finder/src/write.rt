@@ -1,4 +1,7 @@
 // A write of a key.
+ghost use Rattle.std.specs.Prelude.{◌≡◌};
+ghost use Rattle.certificate_finder.specs.Writing.{key_rank as rank_of_key};
+
 use crate::step::Step;
 
 /// A put or a removal.
@@ -15,8 +18,12 @@ pub(crate) struct Write {
 }
 
 impl Write {
+    ghost use Rattle.certificate_finder.specs.Writing.{TellsWrite, write_rank};
+
     /// The write at this position.
-    pub(crate) fn of(position: u32, step: &Step) -> Write {
+    pub(crate) fn of(position: u32, step: &Step) -> Write
+        ensures { TellsWrite position step.now result }
+    {
         Write {
             position,
             key: step.key,
@@ -26,12 +33,16 @@ impl Write {
     }
 
     /// By keys, and within a key by start.
-    pub(crate) fn rank(&self) -> u128 {
+    pub(crate) fn rank(&self) -> u128
+        ensures { result ≡ write_rank self.now }
+    {
         key_rank(self.key, self.start)
     }
 }
 
 /// The rank of a stamp among those of all keys.
-pub(crate) fn key_rank(key: u32, stamp: u64) -> u128 {
+pub(crate) fn key_rank(key: u32, stamp: u64) -> u128
+    ensures { result ≡ rank_of_key key stamp }
+{
     key as u128 * 18446744073709551616 + stamp as u128
 }

@@ -19,13 +19,24 @@ pub(crate) struct Zone {
 }
 
 impl Zone {
+    ghost use Rattle.std.specs.Prelude.{◌≡◌};
+    ghost use Rattle.certificate_finder.specs.Zones.{zone_rank};
+
     /// By keys, and within a key by the middle between the least end and the greatest start.
-    pub(crate) fn rank(&self) -> u128 {
+    pub(crate) fn rank(&self) -> u128
+        ensures { result ≡ zone_rank self.now }
+    {
         self.key as u128 * 36893488147419103232 + (self.end as u128 + self.start as u128)
     }
 
     /// The write with its two calls, for a witness.
-    pub(crate) fn side(&self) -> Side {
+    pub(crate) fn side(&self) -> Side
+        ensures { result ≡ record {
+          write = self.now.write;
+          early = self.now.early;
+          late = self.now.late;
+        } }
+    {
         Side {
             write: self.write,
             early: self.early,

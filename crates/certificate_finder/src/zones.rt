@@ -1,4 +1,10 @@
 // The zones of a history's writes.
+ghost use Rattle.std.specs.Prelude.{◌≡◌, ◌<◌, ◌^◌, All, IfOk, length};
+ghost use Rattle.certificate_finder.specs.Lists.{AreApart, IsToldAt, Lists};
+ghost use Rattle.certificate_finder.specs.Steps.{IsFit};
+ghost use Rattle.certificate_finder.specs.Writing.{Writing};
+ghost use Rattle.certificate_finder.specs.Zones.{AreEarliest, AreLatest, AreZones, TellsZone};
+
 use crate::ends::{earliest_of, latest_of};
 use crate::step::Step;
 use crate::zone::Zone;
@@ -9,10 +15,16 @@ pub(crate) fn zones_of(
     alloc: Global,
     steps: &[Step],
     owners: &[u32],
-) -> Result<Vec<Zone>, AllocError> {
+) -> Result<Vec<Zone>, AllocError>
+    requires few { length steps.now < 2 ^ 31 }
+    requires fit { All IsFit steps.now }
+    requires count { length owners.now ≡ length steps.now }
+    requires within { All (λ owner. owner < length steps.now) owners.now }
+    ensures { IfOk result (λ zones. AreZones steps.now owners.now zones.items) }
+{
     let earliest = earliest_of(alloc, steps, owners)?;
     let latest = latest_of(alloc, steps, owners)?;
-    let mut zones = listed_zones(alloc, steps, earliest.as_slice(), latest.as_slice())?;
+    let mut zones = listed_zones(alloc, steps, owners, earliest.as_slice(), latest.as_slice())?;
     zones.sort_unstable_by_key(|zone| zone.rank());
     Ok(zones)
 }
@@ -21,24 +33,50 @@ pub(crate) fn zones_of(
 fn listed_zones(
     alloc: Global,
     steps: &[Step],
+    owners: &[u32],
     earliest: &[u32],
     latest: &[u32],
-) -> Result<Vec<Zone>, AllocError> {
+) -> Result<Vec<Zone>, AllocError>
+    requires few { length steps.now < 2 ^ 31 }
+    requires earliest { AreEarliest steps.now owners.now earliest.now }
+    requires latest { AreLatest steps.now owners.now latest.now }
+    ensures lists { IfOk result (λ zones.
+        Lists steps.now Writing (TellsZone steps.now owners.now) (length steps.now) zones.items) }
+    ensures apart { IfOk result (λ zones.
+        AreApart (λ zone. zone.write) (length steps.now) zones.items) }
+{
     let mut zones = Vec::new(alloc);
     for position in 0..steps.len() {
-        let step = &steps[position];
-        if step.kind.is_write() {
-            let early = earliest[position];
-            let late = latest[position];
-            zones.push(Zone {
-                write: position as u32,
-                key: step.key,
-                early,
-                late,
-                end: steps[early as usize].end,
-                start: steps[late as usize].start,
-            })?;
+        if steps[position].kind.is_write() {
+            let zone = zone_at(steps, owners, earliest, latest, position);
+            zones.push(zone)?;
         }
     }
     Ok(zones)
+}
+
+/// The zone of the write at a position.
+fn zone_at(
+    steps: &[Step],
+    owners: &[u32],
+    earliest: &[u32],
+    latest: &[u32],
+    position: usize,
+) -> Zone
+    requires few { length steps.now < 2 ^ 31 }
+    requires within { position < length steps.now }
+    requires earliest { AreEarliest steps.now owners.now earliest.now }
+    requires latest { AreLatest steps.now owners.now latest.now }
+    ensures { IsToldAt steps.now position (TellsZone steps.now owners.now) result }
+{
+    let early = earliest[position];
+    let late = latest[position];
+    Zone {
+        write: position as u32,
+        key: steps[position].key,
+        early,
+        late,
+        end: steps[early as usize].end,
+        start: steps[late as usize].start,
+    }
 }
