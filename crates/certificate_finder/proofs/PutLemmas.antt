@@ -8,8 +8,8 @@ use Rattle.std.proofs.lemmas.List.Elements.{All-weaker, All-contains}
 use Rattle.std.proofs.lemmas.Option.{get_or_from_slice_get, slice_get_within, slice_get-get_or}
 use Rattle.certificate_finder.specs.declared.best.Best.{Best}
 use Rattle.certificate_finder.specs.declared.put.Put.{Put}
-use Rattle.certificate_finder.specs.declared.reading.Reading.{Reading}
-use Rattle.certificate_finder.specs.declared.reading.Reading.TheVariants.{Nothing, One, Several}
+use Rattle.certificate_finder.specs.declared.reads.Reading.{Reading}
+use Rattle.certificate_finder.specs.declared.reads.Reading.TheVariants.{Nothing, One, Several}
 use Rattle.certificate_finder.specs.declared.step.Step.{Step}
 use Rattle.certificate_finder.specs.declared.write.Write.{Write}
 use Rattle.certificate_finder.specs.Lists.{AreApart, IsTold, Lists, TellsOne}

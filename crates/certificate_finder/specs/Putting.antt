@@ -5,8 +5,8 @@ use Rattle.std.specs.List.Sorted.{IsNonDecreasingBy}
 use Rattle.certificate_finder.specs.declared.best.Best.{Best}
 use Rattle.certificate_finder.specs.declared.kind.Kind.TheVariants as kinds
 use Rattle.certificate_finder.specs.declared.put.Put.{Put}
-use Rattle.certificate_finder.specs.declared.reading.Reading.{Reading}
-use Rattle.certificate_finder.specs.declared.reading.Reading.TheVariants.{Nothing, One, Several}
+use Rattle.certificate_finder.specs.declared.reads.Reading.{Reading}
+use Rattle.certificate_finder.specs.declared.reads.Reading.TheVariants.{Nothing, One, Several}
 use Rattle.certificate_finder.specs.declared.step.Step.{Step}
 use Rattle.certificate_finder.specs.declared.write.Write.{Write}
 use Rattle.certificate_finder.specs.Lists.{Lists}

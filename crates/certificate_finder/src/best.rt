@@ -1,6 +1,6 @@
 // Which puts of a value can be read longest.
 use crate::put::Put;
-use crate::reading::Reading;
+use crate::reads::Reading;
 
 /// Of some puts of one key and value, the two that can be read longest.
 #[derive(Clone, Copy, Debug)]

@@ -1,6 +1,6 @@
 // Finding a certificate for a history that brings none.
 use crate::crossings::crossing_of;
-use crate::excluding::excluded_of;
+use crate::excuses::excluded_of;
 use crate::found::Found;
 use crate::line::{line_of, spots_of};
 use crate::numbering::steps_of;
@@ -11,7 +11,7 @@ use crate::ranked::Ranked;
 use crate::step::Step;
 use crate::witness::Witness;
 use crate::writes::{soonest_of, writes_of};
-use crate::zones::zones_of;
+use crate::zoning::zones_of;
 use std::alloc::{AllocError, Global};
 use std::hash::{BuildHasher, BuildHasherDefault, FoldHasher};
 use trace_file::{Certificate, History};

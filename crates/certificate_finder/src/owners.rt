@@ -9,7 +9,7 @@ use crate::owner::Owner;
 use crate::owning::{Owners, Owning};
 use crate::put::Put;
 use crate::puts::reading_of;
-use crate::reading::Reading;
+use crate::reads::Reading;
 use crate::step::Step;
 use record_pages::is_live;
 use std::alloc::{AllocError, Global};

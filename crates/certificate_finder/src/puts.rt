@@ -8,7 +8,7 @@ ghost use Rattle.certificate_finder.specs.Writing.{AreSoonest, AreWrites, IsSpli
 
 use crate::best::Best;
 use crate::put::{Put, value_rank};
-use crate::reading::Reading;
+use crate::reads::Reading;
 use crate::step::Step;
 use crate::write::Write;
 use crate::writes::over_of;

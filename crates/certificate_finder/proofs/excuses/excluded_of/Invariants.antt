@@ -1,5 +1,5 @@
 use Rattle.certificate_finder.proofs.ExcludingLemmas.{ExcludedSoFar}
-use Rattle.certificate_finder.proofs.excluding.excluded_of.Given as goal
+use Rattle.certificate_finder.proofs.excuses.excluded_of.Given as goal
 
 -- the puts so far are excluded, where they are of the hit's key and value
 abbrev pub invariant-loop-index : goal.invariant-loop-index
