@@ -1,5 +1,5 @@
 -- Calls at points of time.
-use Rattle.std.specs.Prelude.{◌≡◌, ℕ, ◌≤◌, List, All, AllPairs, map, slice_get, filter, IsSomeAnd}
+use Rattle.std.specs.Prelude.{ℕ, ◌≤◌, List, All, AllPairs, map, slice_get, IsSomeAnd}
 use Rattle.trace_file.specs.declared.call.Call.{Call}
 use Rattle.certificate_checker.specs.Deeds.{deed_of}
 use Rattle.certificate_checker.specs.Latest.{IsLawful}

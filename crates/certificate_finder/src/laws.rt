@@ -5,4 +5,3 @@ ghost use Rattle.certificate_finder.specs.Laws.{WitnessExcludes};
 pub fn witness_excludes()
     ensures { WitnessExcludes }
 {}
-
