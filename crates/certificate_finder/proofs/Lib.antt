@@ -1,2 +1,4 @@
+pub mod ByKeys
 pub mod Excluding
+pub mod Merging
 pub mod Reading

@@ -8,5 +8,5 @@ mod witness;
 
 pub use excluded::{Excluded, Excuse};
 pub use found::Found;
-pub use laws::witness_excludes;
+pub use laws::{lawful_by_keys, sorted_spots_are_accepted, witness_excludes};
 pub use witness::{Side, Witness};
