@@ -3,10 +3,12 @@ pub mod Laws
 pub mod Lists
 pub mod Numbers
 pub mod Owning
+pub mod Points
 pub mod Putting
 pub mod Reads
 pub mod Spots
 pub mod Steps
+pub mod Turns
 pub mod Witnesses
 pub mod Writing
 pub mod Zones

@@ -31,5 +31,5 @@ mod zoning;
 pub use excluded::{Excluded, Excuse};
 pub use finding::{MAX_CALLS, find, find_with_hasher};
 pub use found::Found;
-pub use laws::{witness_excludes};
+pub use laws::{lawful_by_keys, sorted_spots_are_accepted, witness_excludes};
 pub use witness::{Side, Witness};

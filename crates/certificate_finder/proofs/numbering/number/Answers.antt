@@ -4,7 +4,7 @@ use Rattle.std.proofs.lemmas.Grind.{common_steps}
 use Rattle.std.specs.Str.{bytes_eq}
 use Rattle.certificate_finder.specs.declared.lent_word.LentWord.{LentWord}
 use Rattle.certificate_finder.specs.Numbers.{number_at}
-use Rattle.certificate_finder.proofs.Numbering.{keeps_numbers, are_numbers}
+use Rattle.certificate_finder.proofs.NumberLemmas.{keeps_numbers, are_numbers}
 use Rattle.certificate_finder.proofs.numbering.number.Goals as goal
 
 lent : List ℕ → LentWord
