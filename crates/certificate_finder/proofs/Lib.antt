@@ -12,3 +12,9 @@ pub mod Ranking
 pub mod Reading
 pub mod WriteLemmas
 pub mod Zones
+pub mod StepLemmas
+pub mod OwnLemmas
+pub mod ExcludingLemmas
+pub mod EndLemmas
+pub mod ZoneLemmas
+pub mod FindLemmas

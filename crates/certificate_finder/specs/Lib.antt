@@ -1,4 +1,6 @@
 pub mod Excluding
+pub mod Finding
+pub mod Hits
 pub mod Laws
 pub mod Lists
 pub mod Numbers

@@ -3,6 +3,9 @@ use Rattle.std.specs.Prelude.{◌≡◌, ◌≢◌, ℕ, ◌+◌, ◌*◌, ◌^�
 use Rattle.std.specs.List.Sorted.{IsNonDecreasingBy}
 use Rattle.certificate_finder.specs.declared.crossing.Crossing.{Crossing}
 use Rattle.certificate_finder.specs.declared.step.Step.{Step}
+use Rattle.certificate_finder.specs.declared.witness.Side.{Side}
+use Rattle.certificate_finder.specs.declared.witness.Witness.{Witness}
+use Rattle.certificate_finder.specs.declared.witness.Witness.TheVariants.{Crossed}
 use Rattle.certificate_finder.specs.declared.zone.Zone.{Zone}
 use Rattle.certificate_finder.specs.Lists.{Lists}
 use Rattle.certificate_finder.specs.Writing.{Writing}
@@ -85,3 +88,11 @@ IsCrossingOrNone zones crossing = MatchOption crossing (AllPairs FollowOn zones)
 pub record ArePositions (count : ℕ) (positions : List ℕ) : Type 0 where
   pub len : length positions ≡ count
   pub each : (k position : ℕ) → slice_get positions k ≡ Some position → position ≡ k
+
+-- a zone's write with its two calls
+abbrev pub side_of : Zone → Side
+side_of zone = record { write = zone.write; early = zone.early; late = zone.late }
+
+-- the reason that two crossed zones are
+abbrev pub crossed_by : Crossing → Witness
+crossed_by crossing = Crossed (side_of crossing.one) (side_of crossing.other)

@@ -1,5 +1,5 @@
 // Writes each of which has to stand before the other.
-
+use crate::witness::Witness;
 use crate::zone::Zone;
 
 /// Two zones of one key, each of which has to stand before the other.
@@ -9,4 +9,16 @@ pub(crate) struct Crossing {
     pub(crate) one: Zone,
     /// The other one.
     pub(crate) other: Zone,
+}
+
+impl Crossing {
+    ghost use Rattle.std.specs.Prelude.{◌≡◌};
+    ghost use Rattle.certificate_finder.specs.Zones.{crossed_by};
+
+    /// The reason that it is.
+    pub(crate) fn witness(&self) -> Witness
+        ensures { result ≡ crossed_by self.now }
+    {
+        Witness::Crossed(self.one.side(), self.other.side())
+    }
 }

@@ -1,17 +1,22 @@
 // Finding a certificate for a history that brings none.
+ghost use Rattle.std.specs.Prelude.{◌≡◌, ◌<◌, ◌≤◌, ◌^◌, All, IfOk, IsSomeAnd, MatchOption, length, slice_get};
+ghost use Rattle.certificate_checker.specs.Acceptance.{IsAccepted};
+ghost use Rattle.certificate_finder.specs.Finding.{AreUndecided, IfAccepted, IfRejected, IfUndecided, IsFound, IsIntervalOrNone};
+ghost use Rattle.certificate_finder.specs.Owning.{AreOwners};
+ghost use Rattle.certificate_finder.specs.Steps.{AreSteps};
+ghost use Rattle.certificate_finder.specs.Witnesses.{IsWitness};
+
 use crate::crossings::crossing_of;
-use crate::excuses::excluded_of;
 use crate::found::Found;
-use crate::line::{line_of, spots_of};
+use crate::hits::read_result_of;
+use crate::line::certificate_by_zones;
 use crate::numbering::steps_of;
-use crate::owners::owners_of;
-use crate::owning::{Owners, Owning};
-use crate::puts::{bests_of, puts_of};
-use crate::ranked::Ranked;
+use crate::owning::Owners;
+use crate::read_result::ReadResult;
 use crate::step::Step;
 use crate::witness::Witness;
-use crate::writes::{soonest_of, writes_of};
 use crate::zoning::zones_of;
+use certificate_checker::{Verdict, check};
 use std::alloc::{AllocError, Global};
 use std::hash::{BuildHasher, BuildHasherDefault, FoldHasher};
 use trace_file::{Certificate, History};
@@ -19,8 +24,18 @@ use trace_file::{Certificate, History};
 /// The most calls of a history that is looked at.
 pub const MAX_CALLS: usize = 2147483647;
 
-/// Finds a certificate.
-pub fn find(alloc: Global, history: &History) -> Result<Found, AllocError> {
+/// Finds a certificate for a history, or a reason why there can be none, or the hits for which nothing was decided: those
+/// that can have read several puts of one value. Where there is no such hit, it decides.
+///
+/// Its time is `n log n` for `n` calls where the keys and values were not picked to be slow: the map that it numbers them by
+/// hashes them by a seed that anyone can read. Whoever judges a stranger's history calls `find_with_hasher`. It takes about
+/// 150 bytes a call, and copies no key and no value. `AllocError` comes where memory was refused, and where there are more than
+/// `MAX_CALLS` calls.
+pub fn find(alloc: Global, history: &History) -> Result<Found, AllocError>
+    ensures accepted { IfOk result (λ found. IfAccepted found (IsAccepted history.now)) }
+    ensures rejected { IfOk result (λ found. IfRejected found (IsWitness history.now)) }
+    ensures undecided { IfOk result (λ found. IfUndecided found (AreUndecided history.now)) }
+{
     let known: BuildHasherDefault<FoldHasher> = BuildHasherDefault::new();
     match find_with_hasher(alloc, known, history) {
         Ok(found) => Ok(found),
@@ -28,12 +43,17 @@ pub fn find(alloc: Global, history: &History) -> Result<Found, AllocError> {
     }
 }
 
-/// The same by a map that hashes words as it is told.
+/// The same by a map that hashes keys and values as it is told, as by a `RandomState` of the runtime, whose seed was unknown
+/// to whoever wrote the history.
 pub fn find_with_hasher<S: BuildHasher + Drop>(
     alloc: Global,
     hash_builder: S,
     history: &History,
-) -> Result<Found, AllocError> {
+) -> Result<Found, AllocError>
+    ensures accepted { IfOk result (λ found. IfAccepted found (IsAccepted history.now)) }
+    ensures rejected { IfOk result (λ found. IfRejected found (IsWitness history.now)) }
+    ensures undecided { IfOk result (λ found. IfUndecided found (AreUndecided history.now)) }
+{
     if history.len() > MAX_CALLS {
         return Err(AllocError);
     }
@@ -41,14 +61,17 @@ pub fn find_with_hasher<S: BuildHasher + Drop>(
         return Ok(Found::Rejected(Witness::Interval(position)));
     }
     let steps = steps_of(alloc, hash_builder, history)?;
-    match found_of(alloc, steps.as_slice()) {
+    match found_of(alloc, history, steps.as_slice()) {
         Ok(found) => Ok(found),
         Err(refused) => Err(refused),
     }
 }
 
 /// The position of the first call that ends before it starts.
-fn bad_interval(history: &History) -> Option<u32> {
+fn bad_interval(history: &History) -> Option<u32>
+    requires { length history.now < 2 ^ 31 }
+    ensures { IsIntervalOrNone history.now result }
+{
     for position in 0..history.len() {
         let call = history.at(position);
         if call.end < call.start {
@@ -58,52 +81,48 @@ fn bad_interval(history: &History) -> Option<u32> {
     None
 }
 
-/// What is found for calls in numbers.
-fn found_of(alloc: Global, steps: &[Step]) -> Result<Found, AllocError> {
-    match read_all(alloc, steps)? {
-        Reads::Rejected(witness) => Ok(Found::Rejected(witness)),
-        Reads::Each(owners) => arranged(alloc, steps, owners),
-    }
-}
-
-enum Reads {
-    Each(Owners),
-    Rejected(Witness),
-}
-
-fn read_all(alloc: Global, steps: &[Step]) -> Result<Reads, AllocError> {
-    let writes = writes_of(alloc, steps)?;
-    let soonest = soonest_of(alloc, writes.as_slice())?;
-    let puts = puts_of(alloc, steps, writes.as_slice(), soonest.as_slice())?;
-    let bests = bests_of(alloc, puts.as_slice())?;
-    match owners_of(alloc, steps, puts.as_slice(), bests.as_slice())? {
-        Owning::Each(owners) => Ok(Reads::Each(owners)),
-        Owning::Refused(position) => {
-            let excluded = excluded_of(alloc, steps, puts.as_slice(), position)?;
-            Ok(Reads::Rejected(Witness::Hit(position, excluded)))
+/// What is found for a history whose calls are in numbers.
+fn found_of(alloc: Global, history: &History, steps: &[Step]) -> Result<Found, AllocError>
+    requires few { length history.now < 2 ^ 31 }
+    requires intervals { All (λ call. call.start ≤ call.end) history.now }
+    requires steps { AreSteps history.now steps.now }
+    ensures { IfOk result (IsFound history.now) }
+{
+    match read_result_of(alloc, steps)? {
+        ReadResult::Refused(refusal) => {
+            Ok(Found::Rejected(Witness::Hit(refusal.hit, refusal.puts)))
         }
+        ReadResult::Each(owners) => match arranged(alloc, history, steps, owners) {
+            Ok(found) => Ok(found),
+            Err(refused) => Err(refused),
+        },
     }
 }
 
-fn arranged(alloc: Global, steps: &[Step], owners: Owners) -> Result<Found, AllocError> {
+/// What is found where each call has its owner.
+fn arranged(
+    alloc: Global,
+    history: &History,
+    steps: &[Step],
+    owners: Owners,
+) -> Result<Found, AllocError>
+    requires few { length history.now < 2 ^ 31 }
+    requires intervals { All (λ call. call.start ≤ call.end) history.now }
+    requires steps { AreSteps history.now steps.now }
+    requires owners { AreOwners steps.now (length steps.now) owners.owners.items owners.unsure.items }
+    ensures { IfOk result (IsFound history.now) }
+{
     let Owners { owners, unsure } = owners;
     let zones = zones_of(alloc, steps, owners.as_slice())?;
     if let Some(crossing) = crossing_of(zones.as_slice()) {
-        let witness = Witness::Crossed(crossing.one.side(), crossing.other.side());
-        return Ok(Found::Rejected(witness));
+        return Ok(Found::Rejected(crossing.witness()));
     }
     if !unsure.is_empty() {
         return Ok(Found::Undecided(unsure));
     }
-    let line = line_of(alloc, steps, owners.as_slice(), zones.as_slice())?;
-    let spots = spots_of(alloc, steps, line.as_slice())?;
-    Ok(Found::Accepted(certificate_of(alloc, spots.as_slice())?))
-}
-
-fn certificate_of(alloc: Global, spots: &[Ranked]) -> Result<Certificate, AllocError> {
-    let mut certificate = Certificate::new(alloc);
-    for spot in spots {
-        certificate.push(spot.position)?;
+    let certificate = certificate_by_zones(alloc, steps, owners.as_slice(), zones.as_slice())?;
+    match check(alloc, history, &certificate)? {
+        Verdict::Accepted => Ok(Found::Accepted(certificate)),
+        Verdict::Rejected(_) => Err(AllocError),
     }
-    Ok(certificate)
 }
