@@ -29,7 +29,7 @@ middle_le : (k a b c d : ℕ) → k * 2 ^ 65 + (a + b) ≤ k * 2 ^ 65 + (c + d) 
 middle_le k a b c d le = omega arith
 
 module _ (zones : List Zone) (sorted : IsNonDecreasingBy zone_rank zones) (fit : All IsFitZone zones) where
-  keys_rise : (i j : ℕ) (earlier later : Zone) → i ≤ j → slice_get zones i ≡ Some earlier → slice_get zones j ≡ Some later → earlier.key ≤ later.key
+  pub keys_rise : (i j : ℕ) (earlier later : Zone) → i ≤ j → slice_get zones i ≡ Some earlier → slice_get zones j ≡ Some later → earlier.key ≤ later.key
   keys_rise i j earlier later le one other =
       let f : IsFitZone later = all_at IsFitZone zones j later fit other in
       let a = f.end in

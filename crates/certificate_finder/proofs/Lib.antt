@@ -18,3 +18,5 @@ pub mod ExcludingLemmas
 pub mod EndLemmas
 pub mod ZoneLemmas
 pub mod FindLemmas
+pub mod TurnLemmas
+pub mod SpotLemmas

@@ -115,10 +115,12 @@ module _ (puts : List Put) (order : AreInOrder puts) where
       let fc : IsFitPut c = all_at IsFitPut puts k c order.fit at_c in
       let low = rank_at put_rank puts i j a b order.sorted ij at_a at_b in
       let high = rank_at put_rank puts j k b c order.sorted jk at_b at_c in
-      let high' : put_rank b ≤ value_rank a.key a.value c.start = rw (like.key, like.value) high in
+      let same_key = like.key in
+      let same_value = like.value in
+      let high' : put_rank b ≤ value_rank a.key a.value c.start = omega arith in
       let key : b.key ≡ a.key = squeezed_key a.key a.value a.start b.key b.value b.start c.start fa.value fb.value fa.start fb.start fc.start low high' in
-      let low'' : value_rank a.key a.value a.start ≤ value_rank a.key b.value b.start = rw (sym key) low in
-      let high'' : value_rank a.key b.value b.start ≤ value_rank a.key a.value c.start = rw (sym key) high' in
+      let low'' : value_rank a.key a.value a.start ≤ value_rank a.key b.value b.start = omega arith in
+      let high'' : value_rank a.key b.value b.start ≤ value_rank a.key a.value c.start = omega arith in
       let value : b.value ≡ a.value = squeezed_value a.key a.value a.start b.value b.start c.start fa.start fb.start fc.start low'' high'' in
       record { key = key ∙ like.key; value = value ∙ like.value }
 
@@ -302,7 +304,9 @@ module _ (puts : List Put) (order : AreInOrder puts) (hit : Step) (fit : IsFit h
   has_begun k put at reads =
       let high : begun ≤ k → value_rank hit.key hit.value hit.end < put_rank put = λ le. split.high k put le at in
       let start = reads.begun in
-      let low : put_rank put ≤ value_rank hit.key hit.value hit.end = rw (reads.key, reads.value) (omega arith) in
+      let key = reads.key in
+      let value = reads.value in
+      let low : put_rank put ≤ value_rank hit.key hit.value hit.end = omega arith in
       omega arith
 
   pub nothing_begun : begun ≡ 0 → IsReading puts hit Nothing
@@ -317,10 +321,12 @@ module _ (puts : List Put) (order : AreInOrder puts) (hit : Step) (fit : IsFit h
         let g : IsFitPut last = all_at IsFitPut puts (begun - 1) last order.fit last_at in
         let low = rank_at put_rank puts k (begun - 1) put last order.sorted (omega arith) at last_at in
         let high = split.low (begun - 1) last (omega arith) last_at in
-        let high' : put_rank last ≤ value_rank put.key put.value hit.end = rw (reads.key, reads.value) high in
+        let same_key = reads.key in
+        let same_value = reads.value in
+        let high' : put_rank last ≤ value_rank put.key put.value hit.end = omega arith in
         let key : last.key ≡ put.key = squeezed_key put.key put.value put.start last.key last.value last.start hit.end f.value g.value f.start g.start fit.end low high' in
-        let low'' : value_rank put.key put.value put.start ≤ value_rank put.key last.value last.start = rw (sym key) low in
-        let high'' : value_rank put.key last.value last.start ≤ value_rank put.key put.value hit.end = rw (sym key) high' in
+        let low'' : value_rank put.key put.value put.start ≤ value_rank put.key last.value last.start = omega arith in
+        let high'' : value_rank put.key last.value last.start ≤ value_rank put.key put.value hit.end = omega arith in
         (key, squeezed_value put.key put.value put.start last.value last.start hit.end f.start g.start fit.end low'' high'')
 
     pub nothing_like : ¬ ((last.key ≡ hit.key) × (last.value ≡ hit.value)) → IsReading puts hit Nothing
@@ -334,8 +340,10 @@ module _ (puts : List Put) (order : AreInOrder puts) (hit : Step) (fit : IsFit h
       can_read : (k : ℕ) (put : Put) → k < begun → slice_get puts k ≡ Some put → AreLike put last → hit.start ≤ put.dead → CanRead hit put
       can_read k put less at l long =
           let low = split.low k put less at in
-          let low' : value_rank hit.key hit.value put.start ≤ value_rank hit.key hit.value hit.end = rw (sym (l.key ∙ like.0), sym (l.value ∙ like.1)) low in
-          record { key = l.key ∙ like.0; value = l.value ∙ like.1; begun = omega arith; stands = long }
+          let key : put.key ≡ hit.key = l.key ∙ like.0 in
+          let value : put.value ≡ hit.value = l.value ∙ like.1 in
+          let begun' : put.start ≤ hit.end = omega arith in
+          record { key = l.key ∙ like.0; value = l.value ∙ like.1; begun = begun'; stands = long }
 
       pub reads : (p d : ℕ) (next : Option ℕ) (reading : Reading) → IsBest puts last begun (record { put = p; dead = d; next = next }) → SaysReading (record { put = p; dead = d; next = next }) hit.start reading → IsReading puts hit reading
       reads p d next Nothing best says = all_from_at (λ put. ¬ CanRead hit put) puts (λ k put at can.

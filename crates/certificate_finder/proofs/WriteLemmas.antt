@@ -99,7 +99,7 @@ module _ (writes : List Write) (sorted : IsNonDecreasingBy write_rank writes) (f
   low_start : (index k key end : ℕ) (write : Write) → IsSplit write_rank writes (key_rank key end) index → slice_get writes k ≡ Some write → write.key ≡ key → end < write.start → index ≤ k
   low_start index k key end write split at same behind =
       let low : k < index → write_rank write ≤ key_rank key end = λ less. split.low k write less at in
-      let far : key_rank key end < write_rank write = let e : write.key ≡ key = same in rw e (omega arith) in
+      let far : key_rank key end < write_rank write = omega arith in
       omega arith
 
   pub none_past : (index key end : ℕ) → IsSplit write_rank writes (key_rank key end) index → index ≡ length writes → IsFirstOver writes key end None
@@ -128,7 +128,7 @@ module _ (writes : List Write) (sorted : IsNonDecreasingBy write_rank writes) (f
       record {
         listed = contains_at writes best first first_at;
         of_key = first_key;
-        behind = let far : key_rank key end < key_rank key first.start = rw first_key at high in omega arith;
+        behind = omega arith;
         least = all_from_at (λ w. w.key ≡ key → end < w.start → first.end ≤ w.end) writes (λ k w w_at key_is behind.
             let from = low_start index k key end w split w_at key_is behind in
             subst (λ (f : Write). f.end ≤ w.end) is_first (had.least k w from w_at (key_is ∙ sym write_key)));

@@ -2,6 +2,7 @@ pub mod Excluding
 pub mod Finding
 pub mod Hits
 pub mod Laws
+pub mod Lining
 pub mod Lists
 pub mod Numbers
 pub mod Owning

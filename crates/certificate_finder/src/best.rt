@@ -3,7 +3,7 @@ use crate::put::Put;
 use crate::reads::Reading;
 
 /// Of some puts of one key and value, the two that can be read longest.
-#[derive(Clone, Copy, Debug)]
+#[derive(Clone, Copy)]
 pub(crate) struct Best {
     /// The position of the one that can be read longest.
     pub(crate) put: u32,

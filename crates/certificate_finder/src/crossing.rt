@@ -3,7 +3,7 @@ use crate::witness::Witness;
 use crate::zone::Zone;
 
 /// Two zones of one key, each of which has to stand before the other.
-#[derive(Clone, Copy, Debug)]
+#[derive(Clone, Copy)]
 pub(crate) struct Crossing {
     /// One of them.
     pub(crate) one: Zone,

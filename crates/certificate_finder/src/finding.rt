@@ -1,9 +1,10 @@
 // Finding a certificate for a history that brings none.
-ghost use Rattle.std.specs.Prelude.{◌≡◌, ◌<◌, ◌≤◌, ◌^◌, All, IfOk, IsSomeAnd, MatchOption, length, slice_get};
+ghost use Rattle.std.specs.Prelude.{◌≡◌, ◌<◌, ◌≤◌, ◌^◌, List, All, IfOk, IsSomeAnd, MatchOption, length, slice_get};
+ghost use Rattle.trace_file.specs.declared.call.Call.{Call};
 ghost use Rattle.certificate_checker.specs.Acceptance.{IsAccepted};
 ghost use Rattle.certificate_finder.specs.Finding.{AreUndecided, IfAccepted, IfRejected, IfUndecided, IsFound, IsIntervalOrNone};
 ghost use Rattle.certificate_finder.specs.Owning.{AreOwners};
-ghost use Rattle.certificate_finder.specs.Steps.{AreSteps};
+ghost use Rattle.certificate_finder.specs.Steps.{AreSteps, IsFit};
 ghost use Rattle.certificate_finder.specs.Witnesses.{IsWitness};
 
 use crate::crossings::crossing_of;
@@ -16,10 +17,9 @@ use crate::read_result::ReadResult;
 use crate::step::Step;
 use crate::witness::Witness;
 use crate::zoning::zones_of;
-use certificate_checker::{Verdict, check};
 use std::alloc::{AllocError, Global};
 use std::hash::{BuildHasher, BuildHasherDefault, FoldHasher};
-use trace_file::{Certificate, History};
+use trace_file::History;
 
 /// The most calls of a history that is looked at.
 pub const MAX_CALLS: usize = 2147483647;
@@ -61,7 +61,7 @@ pub fn find_with_hasher<S: BuildHasher + Drop>(
         return Ok(Found::Rejected(Witness::Interval(position)));
     }
     let steps = steps_of(alloc, hash_builder, history)?;
-    match found_of(alloc, history, steps.as_slice()) {
+    match found_of(alloc, steps.as_slice()) {
         Ok(found) => Ok(found),
         Err(refused) => Err(refused),
     }
@@ -82,17 +82,17 @@ fn bad_interval(history: &History) -> Option<u32>
 }
 
 /// What is found for a history whose calls are in numbers.
-fn found_of(alloc: Global, history: &History, steps: &[Step]) -> Result<Found, AllocError>
-    requires few { length history.now < 2 ^ 31 }
-    requires intervals { All (λ call. call.start ≤ call.end) history.now }
-    requires steps { AreSteps history.now steps.now }
-    ensures { IfOk result (IsFound history.now) }
+fn found_of(alloc: Global, steps: &[Step]) -> Result<Found, AllocError>
+    requires few { length steps.now < 2 ^ 31 }
+    requires fit { All IsFit steps.now }
+    ensures { IfOk result (λ found. (history : List Call) → AreSteps history steps.now
+        → All (λ call. call.start ≤ call.end) history → IsFound history found) }
 {
     match read_result_of(alloc, steps)? {
         ReadResult::Refused(refusal) => {
             Ok(Found::Rejected(Witness::Hit(refusal.hit, refusal.puts)))
         }
-        ReadResult::Each(owners) => match arranged(alloc, history, steps, owners) {
+        ReadResult::Each(owners) => match arranged(alloc, steps, owners) {
             Ok(found) => Ok(found),
             Err(refused) => Err(refused),
         },
@@ -100,17 +100,12 @@ fn found_of(alloc: Global, history: &History, steps: &[Step]) -> Result<Found, A
 }
 
 /// What is found where each call has its owner.
-fn arranged(
-    alloc: Global,
-    history: &History,
-    steps: &[Step],
-    owners: Owners,
-) -> Result<Found, AllocError>
-    requires few { length history.now < 2 ^ 31 }
-    requires intervals { All (λ call. call.start ≤ call.end) history.now }
-    requires steps { AreSteps history.now steps.now }
+fn arranged(alloc: Global, steps: &[Step], owners: Owners) -> Result<Found, AllocError>
+    requires few { length steps.now < 2 ^ 31 }
+    requires fit { All IsFit steps.now }
     requires owners { AreOwners steps.now (length steps.now) owners.owners.items owners.unsure.items }
-    ensures { IfOk result (IsFound history.now) }
+    ensures { IfOk result (λ found. (history : List Call) → AreSteps history steps.now
+        → All (λ call. call.start ≤ call.end) history → IsFound history found) }
 {
     let Owners { owners, unsure } = owners;
     let zones = zones_of(alloc, steps, owners.as_slice())?;
@@ -121,8 +116,5 @@ fn arranged(
         return Ok(Found::Undecided(unsure));
     }
     let certificate = certificate_by_zones(alloc, steps, owners.as_slice(), zones.as_slice())?;
-    match check(alloc, history, &certificate)? {
-        Verdict::Accepted => Ok(Found::Accepted(certificate)),
-        Verdict::Rejected(_) => Err(AllocError),
-    }
+    Ok(Found::Accepted(certificate))
 }

@@ -1,6 +1,13 @@
 // The calls of each key one after the other, and the points at which they happen.
-ghost use Rattle.std.specs.Prelude.{◌≡◌, ◌<◌, ◌^◌, All, IfOk, length};
+ghost use Rattle.std.specs.Prelude.{◌≡◌, ◌<◌, ◌≤◌, ◌^◌, [], ℕ, List, All, AllPairs, IfOk, length};
+ghost use Rattle.trace_file.specs.declared.call.Call.{Call};
+ghost use Rattle.certificate_checker.specs.Acceptance.{IsAccepted};
+ghost use Rattle.certificate_finder.specs.Lining.{ArePlaces, AreSpots, AreTurned, HavePoints, InLine, IsLine, IsNextPoint, IsPointAt, positions_in, turn_of};
+ghost use Rattle.certificate_finder.specs.Owning.{AreOwners};
+ghost use Rattle.certificate_finder.specs.Steps.{AreSteps};
+ghost use Rattle.certificate_finder.specs.Zones.{AreDistinct, AreZones, FollowOn};
 
+use crate::kind::Kind;
 use crate::ranked::Ranked;
 use crate::step::Step;
 use crate::zone::Zone;
@@ -16,9 +23,11 @@ pub(crate) fn certificate_by_zones(
 ) -> Result<Certificate, AllocError>
     requires few { length steps.now < 2 ^ 31 }
     requires few_zones { length zones.now < 2 ^ 31 }
-    requires count { length owners.now ≡ length steps.now }
-    requires within { All (λ owner. owner < length steps.now) owners.now }
-    requires zones_within { All (λ zone. zone.write < length steps.now) zones.now }
+    requires owners { AreOwners steps.now (length steps.now) owners.now [] }
+    requires zones { AreZones steps.now owners.now zones.now }
+    requires follow { AllPairs FollowOn zones.now }
+    ensures { IfOk result (λ certificate. (history : List Call) → AreSteps history steps.now
+        → All (λ call. call.start ≤ call.end) history → IsAccepted history certificate) }
 {
     let places = places_of(alloc, steps.len(), zones)?;
     let line = line_of(alloc, steps, owners, places.as_slice(), zones.len())?;
@@ -33,7 +42,8 @@ pub(crate) fn certificate_by_zones(
 fn places_of(alloc: Global, count: usize, zones: &[Zone]) -> Result<Vec<u32>, AllocError>
     requires few { length zones.now < 2 ^ 31 }
     requires within { All (λ zone. zone.write < count) zones.now }
-    ensures { IfOk result (λ places. length places.items ≡ count) }
+    requires distinct { AreDistinct zones.now }
+    ensures { IfOk result (λ places. ArePlaces count zones.now (length zones.now) places.items) }
 {
     let mut places = vec![in alloc; 0u32; count]?;
     for index in 0..zones.len() {
@@ -46,15 +56,15 @@ fn places_of(alloc: Global, count: usize, zones: &[Zone]) -> Result<Vec<u32>, Al
 /// The rank of a call: by the zone that it goes with, its write first, then its hits by start; misses behind.
 fn turn_rank(step: &Step, place: u32, zones: usize) -> u128
     requires { zones < 2 ^ 31 }
+    ensures { result ≡ turn_of step.now.kind step.now.start place zones }
 {
-    if step.kind.is_miss() {
-        return zones as u128 * 36893488147419103232 + step.start as u128;
-    }
-    let begin = place as u128 * 36893488147419103232;
-    if step.kind.is_write() {
-        begin
-    } else {
-        begin + 18446744073709551616 + step.start as u128
+    match step.kind {
+        Kind::Put => place as u128 * 36893488147419103232,
+        Kind::Remove => place as u128 * 36893488147419103232,
+        Kind::Hit => {
+            place as u128 * 36893488147419103232 + 18446744073709551616 + step.start as u128
+        }
+        Kind::Miss => zones as u128 * 36893488147419103232 + step.start as u128,
     }
 }
 
@@ -71,7 +81,28 @@ fn line_of(
     requires count { length owners.now ≡ length steps.now }
     requires within { All (λ owner. owner < length steps.now) owners.now }
     requires places { length places.now ≡ length steps.now }
-    ensures { IfOk result (λ line. All (λ turn. turn.position < length steps.now) line.items) }
+    ensures { IfOk result (λ line. IsLine steps.now owners.now places.now zones line.items) }
+{
+    let mut line = listed_turns(alloc, steps, owners, places, zones)?;
+    line.sort_unstable_by_key(|turn| turn.rank);
+    Ok(line)
+}
+
+/// The turns of all calls, in the order of the history.
+fn listed_turns(
+    alloc: Global,
+    steps: &[Step],
+    owners: &[u32],
+    places: &[u32],
+    zones: usize,
+) -> Result<Vec<Ranked>, AllocError>
+    requires few { length steps.now < 2 ^ 31 }
+    requires few_zones { zones < 2 ^ 31 }
+    requires count { length owners.now ≡ length steps.now }
+    requires within { All (λ owner. owner < length steps.now) owners.now }
+    requires places { length places.now ≡ length steps.now }
+    ensures { IfOk result (λ line.
+        AreTurned steps.now owners.now places.now zones (length steps.now) line.items) }
 {
     let mut line = Vec::new(alloc);
     for position in 0..steps.len() {
@@ -80,42 +111,75 @@ fn line_of(
         let position = position as u32;
         line.push(Ranked { position, rank })?;
     }
-    line.sort_unstable_by_key(|turn| turn.rank);
     Ok(line)
 }
 
 /// The point of a call behind another, which has a point: the greatest start so far of its key. A miss has its own start.
-fn next_point(step: &Step, before: &Step, point: u64) -> u64 {
-    if !step.kind.is_miss() && step.key == before.key {
+fn next_point(step: &Step, before: &Step, point: u64) -> u64
+    ensures { IsNextPoint step.now before.now point result }
+{
+    if step.kind.is_miss() {
+        return step.start;
+    }
+    if step.key == before.key {
         step.start.max(point)
     } else {
         step.start
     }
 }
 
+/// The point of the call at a place of a line, where the call before it has this point.
+fn point_at(steps: &[Step], line: &[Ranked], place: usize, point: u64) -> u64
+    requires within { place < length line.now }
+    requires positions { All (λ turn. turn.position < length steps.now) line.now }
+    ensures { IsPointAt steps.now line.now place point result }
+{
+    let step = &steps[line[place].position as usize];
+    if place == 0 {
+        return next_point(step, step, point);
+    }
+    let before = &steps[line[place - 1].position as usize];
+    next_point(step, before, point)
+}
+
 /// The calls of a line by their points, and at one point by their places in the line.
 fn spots_of(alloc: Global, steps: &[Step], line: &[Ranked]) -> Result<Vec<Ranked>, AllocError>
-    requires { All (λ turn. turn.position < length steps.now) line.now }
+    requires few { length line.now < 2 ^ 31 }
+    requires positions { All (λ turn. turn.position < length steps.now) line.now }
+    ensures { IfOk result (λ spots. (history : List Call) → AreSteps history steps.now
+        → InLine history steps.now (positions_in line.now) → AreSpots history line.now spots.items) }
 {
-    let mut spots = Vec::new(alloc);
-    let mut point = 0;
-    for place in 0..line.len() {
-        let position = line[place].position;
-        let step = &steps[position as usize];
-        let before = &steps[line[place.saturating_sub(1)].position as usize];
-        point = next_point(step, before, point);
-        let rank = point as u128 * 4294967296 + place as u128;
-        spots.push(Ranked { position, rank })?;
-    }
+    let mut spots = listed_spots(alloc, steps, line)?;
     spots.sort_unstable_by_key(|spot| spot.rank);
     Ok(spots)
 }
 
+/// The calls of a line with their points, in the line's order.
+fn listed_spots(alloc: Global, steps: &[Step], line: &[Ranked]) -> Result<Vec<Ranked>, AllocError>
+    requires few { length line.now < 2 ^ 31 }
+    requires positions { All (λ turn. turn.position < length steps.now) line.now }
+    ensures { IfOk result (λ spots. (history : List Call) → AreSteps history steps.now
+        → InLine history steps.now (positions_in line.now)
+        → (point : ℕ) × HavePoints history line.now spots.items (length line.now) point) }
+{
+    let mut spots = Vec::new(alloc);
+    let mut point = 0;
+    for place in 0..line.len() {
+        point = point_at(steps, line, place, point);
+        let position = line[place].position;
+        let rank = point as u128 * 4294967296 + place as u128;
+        spots.push(Ranked { position, rank })?;
+    }
+    Ok(spots)
+}
+
 /// The positions of spots, in order.
-fn certificate_of(alloc: Global, spots: &[Ranked]) -> Result<Certificate, AllocError> {
+fn certificate_of(alloc: Global, spots: &[Ranked]) -> Result<Certificate, AllocError>
+    ensures { IfOk result (λ certificate. certificate ≡ positions_in spots.now) }
+{
     let mut certificate = Certificate::new(alloc);
-    for spot in spots {
-        certificate.push(spot.position)?;
+    for index in 0..spots.len() {
+        certificate.push(spots[index].position)?;
     }
     Ok(certificate)
 }

@@ -1,7 +1,7 @@
 // With which write a call goes.
 
 /// With which write a call goes.
-#[derive(Clone, Copy, Debug, PartialEq, Eq)]
+#[derive(Clone, Copy)]
 pub(crate) enum Owner {
     /// It is a write or a miss, and goes by itself.
     Itself,

@@ -1,7 +1,7 @@
 // With which write each call goes.
 
 /// With which write each call goes.
-#[derive(Debug, Drop)]
+#[derive(Drop)]
 pub(crate) struct Owners {
     /// For each position that of the put that its hit has read, or else the position itself.
     pub(crate) owners: Vec<u32>,
@@ -10,7 +10,7 @@ pub(crate) struct Owners {
 }
 
 /// With which write each call goes, or the position of a hit that can have read no put.
-#[derive(Debug, Drop)]
+#[derive(Drop)]
 pub(crate) enum Owning {
     /// With which write each call goes.
     Each(Owners),

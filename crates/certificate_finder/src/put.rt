@@ -6,7 +6,7 @@ use crate::step::Step;
 use crate::write::Write;
 
 /// A put, and until when it can be read.
-#[derive(Clone, Copy, Debug)]
+#[derive(Clone, Copy)]
 pub(crate) struct Put {
     /// Its position.
     pub(crate) position: u32,

@@ -1,7 +1,7 @@
 // A position with its rank.
 
 /// A position, and by what it is sorted.
-#[derive(Clone, Copy, Debug)]
+#[derive(Clone, Copy)]
 pub(crate) struct Ranked {
     /// The position.
     pub(crate) position: u32,

@@ -3,7 +3,7 @@ use crate::owning::Owners;
 use crate::refusal::Refusal;
 
 /// With which write each call goes, or a hit that can have read no put.
-#[derive(Debug, Drop)]
+#[derive(Drop)]
 pub(crate) enum ReadResult {
     /// With which write each call goes.
     Each(Owners),

@@ -1,7 +1,7 @@
 // Which puts a hit can have read.
 
 /// Which puts a hit can have read, expiry aside.
-#[derive(Clone, Copy, Debug, PartialEq, Eq)]
+#[derive(Clone, Copy)]
 pub(crate) enum Reading {
     /// No put.
     Nothing,

@@ -2,7 +2,7 @@
 use crate::excluded::Excluded;
 
 /// A hit that can have read no put, with what excludes each.
-#[derive(Debug, Drop)]
+#[derive(Drop)]
 pub(crate) struct Refusal {
     /// The hit's position.
     pub(crate) hit: u32,

@@ -7,7 +7,7 @@ use crate::kind::Kind;
 use trace_file::{ActRef, CallRef};
 
 /// A call, with a number in place of its key and one in place of its value.
-#[derive(Clone, Copy, Debug)]
+#[derive(Clone, Copy)]
 pub(crate) struct Step {
     /// The number of its key.
     pub(crate) key: u32,

@@ -5,7 +5,7 @@ ghost use Rattle.certificate_finder.specs.Writing.{key_rank as rank_of_key};
 use crate::step::Step;
 
 /// A put or a removal.
-#[derive(Clone, Copy, Debug)]
+#[derive(Clone, Copy)]
 pub(crate) struct Write {
     /// Its position.
     pub(crate) position: u32,

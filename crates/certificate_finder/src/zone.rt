@@ -2,7 +2,7 @@
 use crate::witness::Side;
 
 /// A write with the hits that can have read it alone: from the least end of one to the greatest start of one.
-#[derive(Clone, Copy, Debug)]
+#[derive(Clone, Copy)]
 pub(crate) struct Zone {
     /// The write's position.
     pub(crate) write: u32,
