@@ -1,19 +1,17 @@
 -- Calls in turn are lawful.
-use Rattle.std.proofs.Common.{◌≡◌, ◌≢◌, ℕ, ◌<◌, ◌≤◌, Some, List, [], ◌∷◌, ◌++◌, length, map, refl, sym, ap, ◌∙◌, subst, arith, inl, inr, ◌⊎◌}
-use Rattle.std.specs.Prelude.{slice_get, All}
+use Rattle.std.proofs.Common.{◌≡◌, ◌≢◌, ℕ, ◌≤◌, Some, List, [], ◌∷◌, ◌++◌, map, refl, sym, ap, ◌∙◌, subst, arith, inl, inr}
+use Rattle.std.specs.Prelude.{slice_get}
 use Rattle.std.proofs.lemmas.List.{map-append}
 use Rattle.std.proofs.lemmas.List.Elements.{filter_map-append}
 use Rattle.std.proofs.lemmas.Option.{slice_get_within}
-use Rattle.record_pages.specs.Expiry.{timed}
-use Rattle.trace_file.specs.declared.act.Act.TheVariants.{Hit}
 use Rattle.trace_file.specs.declared.call.Call.{Call}
 use Rattle.certificate_checker.specs.Deeds.{Deed, deed_of}
-use Rattle.certificate_checker.specs.Latest.{Writes, IsLatest, IsLive, IsLawful}
+use Rattle.certificate_checker.specs.Latest.{Writes, IsLive, IsLawful}
 use Rattle.certificate_checker.specs.Orders.{IsOrder, in_order}
 use Rattle.certificate_checker.proofs.Laying.{picked-map}
 use Rattle.certificate_checker.proofs.Listing.{Member, Pairs, member_either, member_left, member_right, member_map, member_picked, member_contained, member_all, pairs_from}
-use Rattle.certificate_finder.specs.Turns.{Gives, IsHit, WritesAt, AreTurns}
-use Rattle.certificate_finder.proofs.Reading.{Parted, parted, found_mapped}
+use Rattle.certificate_finder.specs.Turns.{IsHit, WritesAt, AreTurns}
+use Rattle.certificate_finder.proofs.Reading.{parted, found_mapped}
 
 -- ---- lists
 

@@ -1,20 +1,20 @@
 -- Calls in the order of their points.
-use Rattle.std.proofs.Common.{◌≡◌, ◌≢◌, ℕ, ◌<◌, ◌≤◌, Bool, true, false, cond, eqb, get_or, Option, Some, None, List, [], ◌∷◌, ◌++◌, length, map, refl, sym, ap, ◌∙◌, subst, arith, inl, inr, ◌⊎◌}
-use Rattle.std.specs.Prelude.{slice_get, All, AllPairs, Contains, Decides, filter}
-use Rattle.std.specs.List.{filter_map, cons_option}
+use Rattle.std.proofs.Common.{◌≡◌, ◌≢◌, ℕ, ◌<◌, ◌≤◌, Bool, true, false, cond, eqb, get_or, Some, None, List, [], ◌∷◌, length, map, refl, sym, ap, ◌∙◌, subst, arith, inl, inr}
+use Rattle.std.specs.Prelude.{slice_get, All, AllPairs, Decides, filter}
+use Rattle.std.specs.List.{cons_option}
 use Rattle.std.specs.List.Sorted.{IsPermutation, IsNonDecreasingBy}
 use Rattle.std.proofs.lemmas.Bool.{cases_eq, false_from_ne_true}
 use Rattle.std.proofs.lemmas.Map.Keys.{IsDistinct-IsPermutation}
 use Rattle.std.proofs.lemmas.Map.Made.{AllPairs-from_IsDistinct, IsDistinct-from_AllPairs}
 use Rattle.std.proofs.lemmas.Option.{slice_get-get_or}
 use borrow.Author.Tests.{eqb-true, eq-eqb}
-use Rattle.std.proofs.lemmas.List.Sorted.{IsPermutation-map, IsPermutation-sym, All-permutation, Contains-permutation, length_permutation}
+use Rattle.std.proofs.lemmas.List.Sorted.{IsPermutation-map, IsPermutation-sym, All-permutation, Contains-permutation}
 use Rattle.trace_file.specs.declared.call.Call.{Call}
 use Rattle.certificate_checker.specs.Acceptance.{IsAccepted}
-use Rattle.certificate_checker.specs.Deeds.{Deed, deed_of}
+use Rattle.certificate_checker.specs.Deeds.{deed_of}
 use Rattle.certificate_checker.specs.Latest.{IsLawful}
 use Rattle.certificate_checker.specs.Orders.{Precedes, IsOrder, in_order, Agrees}
-use Rattle.certificate_checker.proofs.Listing.{Member, Pairs, member_map, member_picked, member_contained, all_member, contained_member, member_filter, filter_member, pairs_from, pairs_to, pairs_weaker, pairs_both, pairs_map, map_pairs, pairs_filter, pairs_picked, same_in_order}
+use Rattle.certificate_checker.proofs.Listing.{Member, Pairs, member_map, member_contained, all_member, contained_member, member_filter, filter_member, pairs_from, pairs_to, pairs_weaker, pairs_both, pairs_map, map_pairs, pairs_filter, pairs_picked, same_in_order}
 use Rattle.certificate_checker.proofs.Lookups.{some_and}
 use Rattle.certificate_finder.specs.Spots.{HappensAt, is_of, is_at, AreOfOne}
 use Rattle.certificate_finder.proofs.ByKeys.{each_key, all_keys}

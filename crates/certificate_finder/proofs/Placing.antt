@@ -1,16 +1,15 @@
 -- A line of calls with its points: sorted by points and places, it is accepted.
-use Rattle.std.proofs.Common.{◌≡◌, ◌≢◌, ℕ, ◌+◌, ◌*◌, ◌/◌, ◌<◌, ◌≤◌, Bool, true, false, Option, Some, None, List, length, map, get_or, refl, sym, ap, ◌∙◌, subst, arith, inl, inr, ◌⊎◌}
+use Rattle.std.proofs.Common.{◌≡◌, ◌≢◌, ℕ, ◌+◌, ◌*◌, ◌/◌, ◌<◌, ◌≤◌, true, false, Option, Some, None, List, length, map, get_or, refl, sym, ap, ◌∙◌, subst, arith}
 use Rattle.std.specs.Prelude.{slice_get, All, AllPairs}
 use Rattle.std.specs.Option.{option_map_or}
 use Rattle.std.specs.List.Sorted.{IsPermutation, IsNonDecreasingBy}
 use Rattle.std.proofs.lemmas.List.{length-map, get_or-map}
-use Rattle.std.proofs.lemmas.Option.{slice_get_within}
 use Rattle.trace_file.specs.declared.call.Call.{Call}
 use Rattle.certificate_checker.specs.Acceptance.{IsAccepted}
 use Rattle.certificate_checker.specs.Deeds.{deed_of}
 use Rattle.certificate_checker.specs.Orders.{IsOrder}
 use Rattle.certificate_checker.proofs.Accepting.{found_at}
-use Rattle.certificate_checker.proofs.Listing.{Pairs, pairs_from}
+use Rattle.certificate_checker.proofs.Listing.{pairs_from}
 use Rattle.certificate_checker.proofs.Lookups.{and_some}
 use Rattle.certificate_finder.specs.Points.{ArePoints}
 use Rattle.certificate_finder.specs.Spots.{is_miss, is_of, is_at, AreOfOne, HappensAt}
@@ -47,8 +46,7 @@ one_of history p q a b at_p at_q one =
     let both : Some first.0 ≡ Some a = sym first.1 ∙ at_p in
     let others : Some second.0 ≡ Some b = sym second.1 ∙ at_q in
     let same : first.0 ≡ a = cc in
-    let other : second.0 ≡ b = cc in
-    (
+    let other : second.0 ≡ b = cc in (
       ap (λ (c : Call). c.key) (sym same) ∙ first.2 ∙ sym second.2 ∙ ap (λ (c : Call). c.key) other,
       ap (λ (c : Call). is_miss c.act) (sym same) ∙ first.3,
       ap (λ (c : Call). is_miss c.act) (sym other) ∙ second.3,

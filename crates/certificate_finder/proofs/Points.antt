@@ -1,9 +1,9 @@
 -- The points of a line's calls: they rise along each key, and are within their calls.
-use Rattle.std.proofs.Common.{◌≡◌, ◌≢◌, ℕ, ◌+◌, ◌<◌, ◌≤◌, suc, max, List, [], ◌∷◌, ◌++◌, length, map, take, get_or, refl, sym, ap, ◌∙◌, subst, arith, inl, inr, ◌⊎◌}
+use Rattle.std.proofs.Common.{◌≡◌, ℕ, ◌<◌, ◌≤◌, max, List, [], ◌∷◌, ◌++◌, length, map, take, get_or, refl, sym, ap, ◌∙◌, subst, arith, inl, inr}
 use Rattle.std.specs.Prelude.{All, AllPairs, Contains}
 use Rattle.std.proofs.lemmas.Bool.{cases_lt}
 use Rattle.std.proofs.lemmas.List.{get_or-take, length-take, length-map, get_or-map, get_or_default, take-append-le, take_all, get_or_append_left, get_or_push, map-append, length_push}
-use Rattle.std.proofs.lemmas.List.Elements.{Contains-append_left, Contains-append_right, Contains-append_cases, Contains-push, Contains-push_cases}
+use Rattle.std.proofs.lemmas.List.Elements.{Contains-append_left, Contains-push, Contains-push_cases}
 use Rattle.certificate_finder.specs.Points.{IsPoint, ArePoints}
 
 -- what stands at an earlier place of a list is in its front
@@ -83,8 +83,7 @@ module _ (OfOne : ℕ → ℕ → Type 0) (start : ℕ → ℕ) where
     pub points_within : (end : ℕ → ℕ) (line : List X) → ArePoints position point OfOne start line → All (λ x. start (position x) ≤ end (position x)) line → AllPairs (λ a b. OfOne (position a) (position b) → start (position a) ≤ end (position b)) line → All (λ x. (start (position x) ≤ point x) × (point x ≤ end (position x))) line
     points_within end line points intervals fits = λ k d less.
         let is = points k d less in
-        let len = length-map line position in
-        (
+        let len = length-map line position in (
           is.own,
           point_until (take k (map position line)) (position (get_or line k d)) (point (get_or line k d)) (end (position (get_or line k d))) is (intervals k d less) (λ q has one.
               let i = has.0 in

@@ -1,5 +1,5 @@
 -- Writes with the hits that go with them: one behind the other, or crossed.
-use Rattle.std.proofs.Common.{◌≡◌, ◌≢◌, ℕ, ◌+◌, ◌<◌, ◌≤◌, true, Some, List, length, map, get_or, sym, ap, ◌∙◌, subst, arith, inl, inr, ◌⊎◌}
+use Rattle.std.proofs.Common.{◌≡◌, ◌≢◌, ℕ, ◌+◌, ◌<◌, ◌≤◌, true, Some, List, map, get_or, sym, ◌∙◌, subst, arith, inl, inr}
 use Rattle.std.specs.Prelude.{slice_get, AllPairs, IsSomeAnd}
 use Rattle.std.proofs.lemmas.Bool.{cases_lt}
 use Rattle.std.proofs.lemmas.List.{length-map, get_or-map}
@@ -11,7 +11,7 @@ use Rattle.certificate_checker.proofs.Lookups.{and_some}
 use Rattle.certificate_finder.specs.declared.witness.Side.{Side}
 use Rattle.certificate_finder.specs.Spots.{is_at, AreOfOne}
 use Rattle.certificate_finder.specs.Turns.{start_at, end_at}
-use Rattle.certificate_finder.specs.Witnesses.{GoesWith, IsSide, AreCrossed}
+use Rattle.certificate_finder.specs.Witnesses.{GoesWith, AreCrossed}
 
 -- ---- one behind the other
 
@@ -46,10 +46,13 @@ line_fits position history turn line order in_turn each = λ i j d less within o
 
 -- ---- crossed
 
--- of two zones of a key, the first by the sums of least end and greatest start, the second ends somewhere before the first starts last: then the first ends somewhere before the second starts last
-pub crossed : (history : List Call) (key : List ℕ) (one other : Side) (v w a1 b1 a2 b2 : Call) → one.write ≢ other.write → slice_get history one.write ≡ Some v → Writes (deed_of v) key → slice_get history other.write ≡ Some w → Writes (deed_of w) key → GoesWith history one.write one.early → GoesWith history one.write one.late → GoesWith history other.write other.early → GoesWith history other.write other.late → slice_get history one.early ≡ Some a1 → slice_get history one.late ≡ Some b1 → slice_get history other.early ≡ Some a2 → slice_get history other.late ≡ Some b2 → a1.end + b1.start ≤ a2.end + b2.start → a2.end < b1.start → AreCrossed history one other
-crossed history key one other v w a1 b1 a2 b2 apart at_v writes_v at_w writes_w early_one late_one early_other late_other at_a1 at_b1 at_a2 at_b2 sums less =
-    let back : a1.end < b2.start = omega (arith, sums, less) in
+-- of two zones of a key in the order of the sums of least end and greatest start, the later one ends before the earlier one starts: then the earlier one ends before the later one starts too
+pub both_ways : (e s f t : ℕ) → e + s ≤ f + t → f < s → e < t
+both_ways e s f t sums less = omega arith
+
+-- two zones of a key, each of which ends for some call before the other starts for some call
+pub crossed : (history : List Call) (key : List ℕ) (one other : Side) (v w a1 b1 a2 b2 : Call) → one.write ≢ other.write → slice_get history one.write ≡ Some v → Writes (deed_of v) key → slice_get history other.write ≡ Some w → Writes (deed_of w) key → GoesWith history one.write one.early → GoesWith history one.write one.late → GoesWith history other.write other.early → GoesWith history other.write other.late → slice_get history one.early ≡ Some a1 → slice_get history one.late ≡ Some b1 → slice_get history other.early ≡ Some a2 → slice_get history other.late ≡ Some b2 → a1.end < b2.start → a2.end < b1.start → AreCrossed history one other
+crossed history key one other v w a1 b1 a2 b2 apart at_v writes_v at_w writes_w early_one late_one early_other late_other at_a1 at_b1 at_a2 at_b2 forth less =
     record {
       key = key;
       apart = apart;
@@ -57,7 +60,7 @@ crossed history key one other v w a1 b1 a2 b2 apart at_v writes_v at_w writes_w 
         writes = and_some (slice_get history one.write) (λ write. Writes (deed_of write) key) v at_v writes_v;
         early_goes = early_one;
         late_goes = late_one;
-        precedes = and_some (slice_get history one.early) (λ early. IsSomeAnd (slice_get history other.late) (λ late. Precedes early late)) a1 at_a1 (and_some (slice_get history other.late) (λ late. Precedes a1 late) b2 at_b2 back);
+        precedes = and_some (slice_get history one.early) (λ early. IsSomeAnd (slice_get history other.late) (λ late. Precedes early late)) a1 at_a1 (and_some (slice_get history other.late) (λ late. Precedes a1 late) b2 at_b2 forth);
       };
       second = record {
         writes = and_some (slice_get history other.write) (λ write. Writes (deed_of write) key) w at_w writes_w;
