@@ -59,6 +59,7 @@ module _ (zones : List Zone) (sorted : IsNonDecreasingBy zone_rank zones) (fit :
   -- one zone more, where it takes the place of the highest
   pub high_goes : (upto : ℕ) (high zone next : Zone) → HighSoFar zones upto high → slice_get zones upto ≡ Some zone → (zone.key ≡ high.key → high.start ≤ zone.end) → ((next ≡ zone) ⊎ ((next ≡ high) × (zone.key ≡ high.key) × (zone.start ≤ high.start))) → (zone.key ≡ high.key → high.start ≤ next.start) → HighSoFar zones (upto + 1) next
   high_goes upto high zone next had at enough chosen above =
+      let rises = keys_rise had.index upto high zone (let h = had.below in omega arith) had.at at in
       let follow : (i j : ℕ) (earlier later : Zone) → i < j → j < upto + 1 → slice_get zones i ≡ Some earlier → slice_get zones j ≡ Some later → FollowOn earlier later
         = λ i j earlier later less within one other. elim (cases_eq j upto) [
           | inl same ↦ subst (λ l. FollowOn earlier l) (same_at zones upto j zone later (sym same) at other) (follows_on upto high zone had at enough i earlier (omega arith) one)

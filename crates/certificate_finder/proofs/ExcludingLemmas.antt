@@ -33,20 +33,26 @@ greatest : (steps : List Step) (step : Step) (dead : ℕ) (over : Option ℕ) �
 greatest steps step dead over is by = subst (λ o. MatchOption o (dead ≡ 18446744073709551615) (EndsOver steps step dead)) is by
 
 module _ (steps : List Step) (puts : List Put) (are : ArePuts steps puts) (hit : Step) (small : hit.start < 2 ^ 64) (none : ReadsNoLive steps hit) where
+  excludes_later : (p : ℕ) (step : Step) (put : Put) → TellsPut steps p step put → hit.end < put.start → hit.end < step.start
+  excludes_later p step put told less = let start : put.start ≡ step.start = told.start in omega arith
+
+  excludes_replaced : (p : ℕ) (step : Step) (put : Put) (write : ℕ) → TellsPut steps p step put → put.over ≡ Some write → put.dead < hit.start → (other : Step) × (slice_get steps write ≡ Some other) × IsOver step other × (other.end < hit.start)
+  excludes_replaced p step put write told over less =
+      let ends = ends_at steps step put.dead write put.over over told.dead.by in
+      let end : ends.other.end ≡ put.dead = ends.end in
+      let before : ends.other.end < hit.start = omega arith in
+      (ends.other, ends.at, ends.over, before)
+
+  stands_still : (p : ℕ) (step : Step) (put : Put) → TellsPut steps p step put → (put.over ≡ None) ⊎ (hit.start ≤ put.dead) → hit.start ≤ put.dead
+  stands_still p step put told (inl no) = let g : put.dead ≡ 18446744073709551615 = greatest steps step put.dead put.over no told.dead.by in omega (arith, small, g)
+  stands_still p step put told (inr le) = le
+
   -- an excuse excludes the put
   excludes : (p : ℕ) (step : Step) (put : Put) (why : Excuse) → slice_get steps p ≡ Some step → Putting step → TellsPut steps p step put → put.key ≡ hit.key → put.value ≡ hit.value → IsExcuse put hit why → ExcludesStep steps hit step why
-  excludes p step put Later at is told key value why = let start : put.start ≡ step.start = told.start in omega arith
-  excludes p step put (Replaced write) at is told key value why =
-      let ends = ends_at steps step put.dead write put.over why.0 told.dead.by in
-      let end : ends.other.end ≡ put.dead = ends.end in
-      let less = why.1 in
-      (ends.other, ends.at, ends.over, omega arith)
+  excludes p step put Later at is told key value why = excludes_later p step put told why
+  excludes p step put (Replaced write) at is told key value why = excludes_replaced p step put write told why.0 why.1
   excludes p step put Expired at is told key value why =
-      let stands : hit.start ≤ put.dead = elim why.1 [
-        | inl no ↦ let g = greatest steps step put.dead put.over no told.dead.by in omega arith
-        | inr le ↦ le
-      ] in
-      none p step at (may_read steps p step hit put is told (record { key = key; value = value; begun = why.0; stands = stands }))
+      none p step at (may_read steps p step hit put is told (record { key = key; value = value; begun = why.0; stands = stands_still p step put told why.1 }))
 
   pub excluded_more : (upto : ℕ) (put : Put) (why : Excuse) (excluded : List Excluded) → ExcludedSoFar steps puts hit upto excluded → slice_get puts upto ≡ Some put → (put.key ≡ hit.key) × (put.value ≡ hit.value) → IsExcuse put hit why → ExcludedSoFar steps puts hit (upto + 1) (excluded ++ record { put = put.position; why = why } ∷ [])
   excluded_more upto put why excluded had at like is =

@@ -12,7 +12,7 @@ use Rattle.std.proofs.lemmas.Map.Keys.{IsDistinct-IsPermutation}
 use Rattle.std.proofs.lemmas.Map.Made.{AllPairs-from_IsDistinct, IsDistinct-from_AllPairs}
 use Rattle.std.proofs.lemmas.Option.{get_or_from_slice_get, slice_get_within, same_Some, slice_get-get_or}
 use Rattle.certificate_finder.specs.declared.step.Step.{Step}
-use Rattle.certificate_finder.specs.Lists.{TellsOne, IsTold, Lists, AreApart}
+use Rattle.certificate_finder.specs.Lists.{TellsOne, IsTold, Lists, AreApart, GrowsBy}
 
 -- what holds of each element holds of the one at an index
 pub all_at : {X : Type 0} (P : X → Type 0) (xs : List X) (k : ℕ) (x : X) → All P xs → slice_get xs k ≡ Some x → P x
@@ -116,3 +116,28 @@ module _ {X : Type 0} (place : X → ℕ) where
       let one = IsDistinct-from_AllPairs Decides-eqb (map place xs) (map_distinct xs h) in
       let other = IsDistinct-IsPermutation eqb flips (map place xs) (map place ys) (IsPermutation-map place xs ys moved) one in
       unmap_distinct ys (AllPairs-from_IsDistinct Decides-eqb (map place ys) other)
+
+-- ---- a list that grows by a call, if it is wanted
+
+module _ {X : Type 0} (steps : List Step) (wanted : Step → Type 0) (tells : ℕ → Step → X → Type 0) where
+  pub lists_grow : (upto : ℕ) (old new : List X) (step : Step) → Lists steps wanted tells upto old → slice_get steps upto ≡ Some step → GrowsBy wanted tells upto step old new → Lists steps wanted tells (upto + 1) new
+  lists_grow upto old new step had at grows = elim grows [
+    | inl more ↦ subst (λ items. Lists steps wanted tells (upto + 1) items) (sym more.1.2) (lists_push steps wanted tells upto old step more.1.0 had at more.0 more.1.1)
+    | inr same ↦ subst (λ items. Lists steps wanted tells (upto + 1) items) (sym same.1) (lists_pass steps wanted tells upto old step had at same.0)
+  ]
+
+pub apart_grows : {X : Type 0} (place : X → ℕ) (wanted : Step → Type 0) (tells : ℕ → Step → X → Type 0) (upto : ℕ) (old new : List X) (step : Step) → AreApart place upto old → ((item : X) → tells upto step item → place item ≡ upto) → GrowsBy wanted tells upto step old new → AreApart place (upto + 1) new
+apart_grows place wanted tells upto old new step had at grows = elim grows [
+  | inl more ↦ subst (λ items. AreApart place (upto + 1) items) (sym more.1.2) (apart_push place upto old more.1.0 had (at more.1.0 more.1.1))
+  | inr same ↦ subst (λ items. AreApart place (upto + 1) items) (sym same.1) (apart_pass place upto old had)
+]
+
+-- growing by items of which more is known
+pub grows_weaker : {X : Type 0} (wanted : Step → Type 0) (tells knows : ℕ → Step → X → Type 0) (p q : ℕ) (step : Step) (old new : List X) → ((item : X) → tells p step item → knows q step item) → GrowsBy wanted tells p step old new → GrowsBy wanted knows q step old new
+grows_weaker wanted tells knows p q step old new more grows = elim grows [
+  | inl one ↦ inl (one.0, (one.1.0, more one.1.0 one.1.1, one.1.2))
+  | inr same ↦ inr same
+]
+
+pub lists_all : {X : Type 0} (steps : List Step) (wanted : Step → Type 0) (tells : ℕ → Step → X → Type 0) (upto : ℕ) (items : List X) → Lists steps wanted tells upto items → length steps ≤ upto → Lists steps wanted tells (length steps) items
+lists_all steps wanted tells upto items had all = record { sound = had.sound; complete = λ p step less at want. had.complete p step (omega arith) at want }

@@ -12,7 +12,7 @@ use Rattle.certificate_finder.specs.declared.reads.Reading.{Reading}
 use Rattle.certificate_finder.specs.declared.reads.Reading.TheVariants.{Nothing, One, Several}
 use Rattle.certificate_finder.specs.declared.step.Step.{Step}
 use Rattle.certificate_finder.specs.declared.write.Write.{Write}
-use Rattle.certificate_finder.specs.Lists.{AreApart, IsTold, Lists, TellsOne}
+use Rattle.certificate_finder.specs.Lists.{IsTold, Lists, TellsOne}
 use Rattle.certificate_finder.specs.Putting.{AreBests, AreInOrder, AreLike, ArePuts, CanRead, CanReadOne, CanReadTwo, EndsOver, IsBest, IsBestAt, IsDead, IsFitPut, IsNext, IsOver, IsPut, IsReading, IsWith, Putting, SaysReading, TellsPut, put_rank, value_rank}
 use Rattle.certificate_finder.specs.Steps.{IsFit}
 use Rattle.certificate_finder.specs.Writing.{AreWrites, IsFirstOver, IsSoonest, IsSplit, TellsWrite, Writing}
@@ -80,7 +80,7 @@ module _ (steps : List Step) (writes : List Write) (are : AreWrites steps writes
   dead_of p step put (Some write) first is = dead_of_some p step put write first is
 
 -- the listed puts, sorted
-pub are_puts : (steps : List Step) (xs ys : List Put) → All IsFit steps → Lists steps Putting (TellsPut steps) (length steps) xs → AreApart (λ put. put.position) (length steps) xs → IsPermutation xs ys → IsNonDecreasingBy put_rank ys → ArePuts steps ys
+pub are_puts : (steps : List Step) (xs ys : List Put) → All IsFit steps → Lists steps Putting (TellsPut steps) (length steps) xs → AllPairs (λ one other. one.position ≢ other.position) xs → IsPermutation xs ys → IsNonDecreasingBy put_rank ys → ArePuts steps ys
 are_puts steps xs ys fit had apart moved sorted =
     let lists = lists_permuted steps Putting (TellsPut steps) (length steps) xs ys moved had in
     record {
@@ -94,7 +94,7 @@ are_puts steps xs ys fit had apart moved sorted =
             let a = f.start in
             let b = f.value in
             record { value = omega arith; start = omega arith }) ys lists.sound;
-        distinct = distinct_permuted (λ (put : Put). put.position) xs ys moved apart.distinct;
+        distinct = distinct_permuted (λ (put : Put). put.position) xs ys moved apart;
       };
     }
 
@@ -301,13 +301,15 @@ bests_more puts index bests best len had is = λ k b at. elim (cases_eq k index)
 module _ (puts : List Put) (order : AreInOrder puts) (hit : Step) (fit : IsFit hit) (begun : ℕ) (split : IsSplit put_rank puts (value_rank hit.key hit.value hit.end) begun) where
   -- a put that the hit can have read has begun
   has_begun : (k : ℕ) (put : Put) → slice_get puts k ≡ Some put → CanRead hit put → k < begun
-  has_begun k put at reads =
-      let high : begun ≤ k → value_rank hit.key hit.value hit.end < put_rank put = λ le. split.high k put le at in
-      let start = reads.begun in
-      let key = reads.key in
-      let value = reads.value in
-      let low : put_rank put ≤ value_rank hit.key hit.value hit.end = omega arith in
-      omega arith
+  has_begun k put at reads = elim (cases_lt k begun) [
+    | inl less ↦ less
+    | inr not ↦
+        let high : value_rank hit.key hit.value hit.end < value_rank put.key put.value put.start = split.high k put (omega arith) at in
+        let key = reads.key in
+        let value = reads.value in
+        let start = reads.begun in
+        absurd (omega arith)
+  ]
 
   pub nothing_begun : begun ≡ 0 → IsReading puts hit Nothing
   nothing_begun none = all_from_at (λ put. ¬ CanRead hit put) puts (λ k put at reads. let less = has_begun k put at reads in absurd (omega arith))

@@ -14,12 +14,6 @@ pub rank_at : {X : Type 0} (rank : X → ℕ) (xs : List X) (i j : ℕ) (x y : X
 rank_at rank xs i j x y sorted le one other =
     subst (λ b. rank x ≤ rank b) (get_or_from_slice_get xs j y x other) (subst (λ a. rank a ≤ rank (get_or xs j x)) (get_or_from_slice_get xs i x x one) (sorted i j x le (slice_get_within xs j y other)))
 
--- of two items the one with the lesser rank stands before the other
-pub before_at : {X : Type 0} (rank : X → ℕ) (xs : List X) (i j : ℕ) (x y : X) → IsNonDecreasingBy rank xs → slice_get xs i ≡ Some x → slice_get xs j ≡ Some y → rank x < rank y → i < j
-before_at rank xs i j x y sorted one other less =
-    let back : j ≤ i → rank y ≤ rank x = λ le. rank_at rank xs j i y x sorted le other one in
-    omega arith
-
 not_leb : (a b : ℕ) → leb a b ≡ false → b < a
 not_leb a b h = grind (arith, nat_tests)
 

@@ -97,10 +97,10 @@ module _ (writes : List Write) (sorted : IsNonDecreasingBy write_rank writes) (f
   -- ---- the write over a call
 
   low_start : (index k key end : ℕ) (write : Write) → IsSplit write_rank writes (key_rank key end) index → slice_get writes k ≡ Some write → write.key ≡ key → end < write.start → index ≤ k
-  low_start index k key end write split at same behind =
-      let low : k < index → write_rank write ≤ key_rank key end = λ less. split.low k write less at in
-      let far : key_rank key end < write_rank write = omega arith in
-      omega arith
+  low_start index k key end write split at same behind = elim (cases_lt k index) [
+    | inl less ↦ let low : key_rank write.key write.start ≤ key_rank key end = split.low k write less at in absurd (omega arith)
+    | inr not ↦ omega arith
+  ]
 
   pub none_past : (index key end : ℕ) → IsSplit write_rank writes (key_rank key end) index → index ≡ length writes → IsFirstOver writes key end None
   none_past index key end split last = all_from_at (λ w. w.key ≡ key → ¬ (end < w.start)) writes (λ k w at same behind.
@@ -153,3 +153,6 @@ soonest_more writes from index best soonest had within first = record {
         had.each k other (omega arith) (slice_get-get_or soonest k other (omega arith) ∙ ap Some old)
   ];
 }
+
+pub soonest_begin : (writes : List Write) (soonest : List ℕ) → length soonest ≡ length writes → AreSoonest writes (length writes - 0) soonest
+soonest_begin writes soonest len = record { count = len; each = λ k best le at. absurd (let within = slice_get_within soonest k best at in omega arith) }

@@ -1,5 +1,5 @@
 -- Why a hit can have read no put, in numbers.
-use Rattle.std.specs.Prelude.{◌≡◌, ℕ, ◌<◌, ◌≤◌, ◌⊎◌, List, All, Contains, map, slice_get, None, Some, IsTrue}
+use Rattle.std.specs.Prelude.{◌≡◌, ℕ, ◌<◌, ◌≤◌, ◌⊎◌, List, [], ◌∷◌, ◌++◌, All, Contains, map, slice_get, None, Some, IsTrue}
 use Rattle.record_pages.specs.Expiry.{is_live}
 use Rattle.certificate_finder.specs.declared.excluded.Excluded.{Excluded}
 use Rattle.certificate_finder.specs.declared.excluded.Excuse.{Excuse}
@@ -45,3 +45,9 @@ pub record AreExcludedAt (steps : List Step) (position : ℕ) (excluded : List E
   pub at : slice_get steps position ≡ Some hit
   pub kind : hit.kind ≡ kinds.Hit
   pub puts : AreExcluded steps hit excluded
+
+-- a list has a put more with its excuse, if the put is of the hit's key and value, and else is as it was
+abbrev pub GrowsByExcluded : Put → Step → List Excluded → List Excluded → Type 0
+GrowsByExcluded put hit old new =
+    (((put.key ≡ hit.key) × (put.value ≡ hit.value)) × ((why : Excuse) × IsExcuse put hit why × (new ≡ old ++ record { put = put.position; why = why } ∷ [])))
+    ⊎ ((¬ ((put.key ≡ hit.key) × (put.value ≡ hit.value))) × (new ≡ old))

@@ -1,5 +1,5 @@
 -- Lists of what calls of some kind are.
-use Rattle.std.specs.Prelude.{◌≡◌, ◌≢◌, ℕ, ◌<◌, List, All, AllPairs, Contains, slice_get, Some}
+use Rattle.std.specs.Prelude.{◌≡◌, ◌≢◌, ℕ, ◌<◌, ◌⊎◌, List, [], ◌∷◌, ◌++◌, All, AllPairs, Contains, slice_get, Some}
 use Rattle.certificate_finder.specs.declared.step.Step.{Step}
 
 -- an item tells of a call that is wanted
@@ -31,3 +31,7 @@ pub record IsToldAt {X : Type 0} (steps : List Step) (position : ℕ) (tells : �
   pub step : Step
   pub at : slice_get steps position ≡ Some step
   pub told : tells position step item
+
+-- a list has an item more that tells of a call, if the call is wanted, and else is as it was
+abbrev pub GrowsBy : {X : Type 0} → (Step → Type 0) → (ℕ → Step → X → Type 0) → ℕ → Step → List X → List X → Type 0
+GrowsBy {X} wanted tells position step old new = (wanted step × ((item : X) × tells position step item × (new ≡ old ++ item ∷ []))) ⊎ ((¬ wanted step) × (new ≡ old))

@@ -1,5 +1,5 @@
 -- With which write each call goes.
-use Rattle.std.specs.Prelude.{◌≡◌, ◌≢◌, ℕ, ◌<◌, ◌≤◌, ◌⊎◌, List, All, AllPairs, Contains, length, slice_get, Some, IsTrue}
+use Rattle.std.specs.Prelude.{◌≡◌, ◌≢◌, ℕ, ◌<◌, ◌≤◌, ◌⊎◌, Bool, true, false, List, [], ◌∷◌, ◌++◌, All, AllPairs, Contains, length, slice_get, Some, IsTrue}
 use Rattle.record_pages.specs.Expiry.{is_live}
 use Rattle.certificate_finder.specs.declared.kind.Kind.TheVariants as kinds
 use Rattle.certificate_finder.specs.declared.owner.Owner.{Owner}
@@ -89,3 +89,10 @@ pub record IsRefused (steps : List Step) (position : ℕ) : Type 0 where
 abbrev pub IsOwning : List Step → Owning → Type 0
 IsOwning steps (Each owners) = AreOwners steps (length steps) owners.owners.items owners.unsure.items
 IsOwning steps (Refused position) = IsRefused steps position
+
+-- an owner is noted: the call's owner, and the call itself where it is unsure; where it can have read no put, it is not
+abbrev pub IsNoted : ℕ → Owner → List ℕ → List ℕ → List ℕ → List ℕ → Bool → Type 0
+IsNoted position owner.Itself old new old_unsure new_unsure noted = (noted ≡ true) × (new ≡ old ++ position ∷ []) × (new_unsure ≡ old_unsure)
+IsNoted position (owner.Put put) old new old_unsure new_unsure noted = (noted ≡ true) × (new ≡ old ++ put ∷ []) × (new_unsure ≡ old_unsure)
+IsNoted position owner.Unsure old new old_unsure new_unsure noted = (noted ≡ true) × (new ≡ old ++ position ∷ []) × (new_unsure ≡ old_unsure ++ position ∷ [])
+IsNoted position owner.Nothing old new old_unsure new_unsure noted = noted ≡ false

@@ -1,4 +1,6 @@
 // Which puts of a value can be read longest.
+ghost use Rattle.std.specs.Prelude.{◌≡◌, ◌<◌, Some, length, slice_get};
+
 use crate::put::Put;
 use crate::reads::Reading;
 
@@ -14,7 +16,7 @@ pub(crate) struct Best {
 }
 
 impl Best {
-    ghost use Rattle.std.specs.Prelude.{◌≡◌, ◌<◌, ◌≤◌, None, Some, max, MatchOption};
+    ghost use Rattle.std.specs.Prelude.{None};
     ghost use Rattle.certificate_finder.specs.Putting.{IsWith, SaysReading};
 
     /// Of one put.
@@ -71,4 +73,12 @@ impl Best {
             None => Reading::One(self.put),
         }
     }
+}
+
+/// The best at an index.
+pub(crate) fn best_at(bests: &[Best], index: usize) -> Best
+    requires { index < length bests.now }
+    ensures { slice_get bests.now index ≡ Some result }
+{
+    bests[index]
 }

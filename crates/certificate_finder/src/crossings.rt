@@ -1,10 +1,10 @@
 // Looking for zones that are crossed.
-ghost use Rattle.std.specs.Prelude.{◌≡◌, ◌≤◌, ◌⊎◌, All};
+ghost use Rattle.std.specs.Prelude.{◌≡◌, ◌<◌, ◌≤◌, ◌⊎◌, ◌↔◌, All, IsTrue};
 ghost use Rattle.std.specs.List.Sorted.{IsNonDecreasingBy};
 ghost use Rattle.certificate_finder.specs.Zones.{zone_rank, AreDistinct, IsFitZone, IsCrossingOrNone};
 
 use crate::crossing::Crossing;
-use crate::zone::Zone;
+use crate::zone::{Zone, zone_at};
 
 /// Two zones of one key that are crossed, if there are such.
 pub(crate) fn crossing_of(zones: &[Zone]) -> Option<Crossing>
@@ -16,10 +16,10 @@ pub(crate) fn crossing_of(zones: &[Zone]) -> Option<Crossing>
     if zones.is_empty() {
         return None;
     }
-    let mut high = zones[0];
+    let mut high = zone_at(zones, 0);
     for index in 1..zones.len() {
-        let zone = zones[index];
-        if zone.key == high.key && zone.end < high.start {
+        let zone = zone_at(zones, index);
+        if are_crossed(high, zone) {
             return Some(Crossing {
                 one: high,
                 other: zone,
@@ -28,6 +28,13 @@ pub(crate) fn crossing_of(zones: &[Zone]) -> Option<Crossing>
         high = higher(high, zone);
     }
     None
+}
+
+/// Whether a later zone is of an earlier one's key, and ends for some call before that one starts for some call.
+fn are_crossed(high: Zone, zone: Zone) -> bool
+    ensures { IsTrue result ↔ ((zone.key ≡ high.key) × (zone.end < high.start)) }
+{
+    zone.key == high.key && zone.end < high.start
 }
 
 /// Of two zones the later one, where it is of another key or starts later for some call, else the earlier one.

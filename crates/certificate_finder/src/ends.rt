@@ -2,7 +2,8 @@
 ghost use Rattle.std.specs.Prelude.{◌≡◌, ◌<◌, ◌^◌, All, IfOk, length};
 ghost use Rattle.certificate_finder.specs.Zones.{AreEarliest, AreLatest, ArePositions};
 
-use crate::step::Step;
+use crate::numbers::number_at;
+use crate::step::{Step, step_at};
 use std::alloc::{AllocError, Global};
 
 /// The positions up to a count.
@@ -30,9 +31,11 @@ pub(crate) fn earliest_of(
 {
     let mut earliest = positions(alloc, steps.len())?;
     for position in 0..steps.len() {
-        let owner = owners[position] as usize;
-        let known = earliest[owner] as usize;
-        if steps[position].end < steps[known].end {
+        let step = step_at(steps, position);
+        let owner = number_at(owners, position) as usize;
+        let known = number_at(earliest.as_slice(), owner) as usize;
+        let best = step_at(steps, known);
+        if step.end < best.end {
             earliest[owner] = position as u32;
         }
     }
@@ -52,9 +55,11 @@ pub(crate) fn latest_of(
 {
     let mut latest = positions(alloc, steps.len())?;
     for position in 0..steps.len() {
-        let owner = owners[position] as usize;
-        let known = latest[owner] as usize;
-        if steps[known].start < steps[position].start {
+        let step = step_at(steps, position);
+        let owner = number_at(owners, position) as usize;
+        let known = number_at(latest.as_slice(), owner) as usize;
+        let best = step_at(steps, known);
+        if best.start < step.start {
             latest[owner] = position as u32;
         }
     }

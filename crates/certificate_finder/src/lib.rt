@@ -15,6 +15,7 @@ mod laws;
 mod lent_word;
 mod line;
 mod numbering;
+mod numbers;
 mod owner;
 mod owners;
 mod owning;

@@ -8,9 +8,10 @@ ghost use Rattle.certificate_finder.specs.Steps.{AreSteps};
 ghost use Rattle.certificate_finder.specs.Zones.{AreDistinct, AreZones, FollowOn};
 
 use crate::kind::Kind;
-use crate::ranked::Ranked;
-use crate::step::Step;
-use crate::zone::Zone;
+use crate::numbers::number_at;
+use crate::ranked::{Ranked, ranked_at};
+use crate::step::{Step, step_at};
+use crate::zone::{Zone, zone_at};
 use std::alloc::{AllocError, Global};
 use trace_file::Certificate;
 
@@ -47,7 +48,8 @@ fn places_of(alloc: Global, count: usize, zones: &[Zone]) -> Result<Vec<u32>, Al
 {
     let mut places = vec![in alloc; 0u32; count]?;
     for index in 0..zones.len() {
-        let write = zones[index].write as usize;
+        let zone = zone_at(zones, index);
+        let write = zone.write as usize;
         places[write] = index as u32;
     }
     Ok(places)
@@ -106,10 +108,15 @@ fn listed_turns(
 {
     let mut line = Vec::new(alloc);
     for position in 0..steps.len() {
-        let owner = owners[position] as usize;
-        let rank = turn_rank(&steps[position], places[owner], zones);
-        let position = position as u32;
-        line.push(Ranked { position, rank })?;
+        let step = step_at(steps, position);
+        let owner = number_at(owners, position) as usize;
+        let place = number_at(places, owner);
+        let rank = turn_rank(&step, place, zones);
+        let turn = Ranked {
+            position: position as u32,
+            rank,
+        };
+        line.push(turn)?;
     }
     Ok(line)
 }
@@ -134,12 +141,14 @@ fn point_at(steps: &[Step], line: &[Ranked], place: usize, point: u64) -> u64
     requires positions { All (λ turn. turn.position < length steps.now) line.now }
     ensures { IsPointAt steps.now line.now place point result }
 {
-    let step = &steps[line[place].position as usize];
+    let turn = ranked_at(line, place);
+    let step = step_at(steps, turn.position as usize);
     if place == 0 {
-        return next_point(step, step, point);
+        return next_point(&step, &step, point);
     }
-    let before = &steps[line[place - 1].position as usize];
-    next_point(step, before, point)
+    let earlier = ranked_at(line, place - 1);
+    let before = step_at(steps, earlier.position as usize);
+    next_point(&step, &before, point)
 }
 
 /// The calls of a line by their points, and at one point by their places in the line.
@@ -165,10 +174,14 @@ fn listed_spots(alloc: Global, steps: &[Step], line: &[Ranked]) -> Result<Vec<Ra
     let mut spots = Vec::new(alloc);
     let mut point = 0;
     for place in 0..line.len() {
-        point = point_at(steps, line, place, point);
-        let position = line[place].position;
-        let rank = point as u128 * 4294967296 + place as u128;
-        spots.push(Ranked { position, rank })?;
+        let next = point_at(steps, line, place, point);
+        let turn = ranked_at(line, place);
+        let spot = Ranked {
+            position: turn.position,
+            rank: next as u128 * 4294967296 + place as u128,
+        };
+        spots.push(spot)?;
+        point = next;
     }
     Ok(spots)
 }
@@ -179,7 +192,8 @@ fn certificate_of(alloc: Global, spots: &[Ranked]) -> Result<Certificate, AllocE
 {
     let mut certificate = Certificate::new(alloc);
     for index in 0..spots.len() {
-        certificate.push(spots[index].position)?;
+        let spot = ranked_at(spots, index);
+        certificate.push(spot.position)?;
     }
     Ok(certificate)
 }

@@ -1,6 +1,6 @@
 // With which write each call goes.
 ghost use Rattle.std.specs.Prelude.{◌≡◌, ◌+◌, ◌<◌, ◌^◌, All, IfOk, length, slice_get, Some};
-ghost use Rattle.certificate_finder.specs.Owning.{IsOwnerAt, IsOwning};
+ghost use Rattle.certificate_finder.specs.Owning.{IsNoted, IsOwnerAt, IsOwning};
 ghost use Rattle.certificate_finder.specs.Putting.{AreBests, ArePuts};
 ghost use Rattle.certificate_finder.specs.Steps.{IsFit};
 
@@ -10,7 +10,7 @@ use crate::owning::{Owners, Owning};
 use crate::put::Put;
 use crate::puts::reading_of;
 use crate::reads::Reading;
-use crate::step::Step;
+use crate::step::{Step, step_at};
 use record_pages::is_live;
 use std::alloc::{AllocError, Global};
 
@@ -31,18 +31,41 @@ pub(crate) fn owners_of(
     let mut owners = Vec::new(alloc);
     let mut unsure = Vec::new(alloc);
     for position in 0..steps.len() {
-        let own = position as u32;
-        match owner_at(steps, puts, bests, position) {
-            Owner::Itself => owners.push(own)?,
-            Owner::Put(put) => owners.push(put)?,
-            Owner::Unsure => {
-                owners.push(own)?;
-                unsure.push(own)?;
-            }
-            Owner::Nothing => return Ok(Owning::Refused(own)),
+        let owner = owner_at(steps, puts, bests, position);
+        if !note(&mut owners, &mut unsure, position as u32, owner)? {
+            return Ok(Owning::Refused(position as u32));
         }
     }
     Ok(Owning::Each(Owners { owners, unsure }))
+}
+
+/// Notes with which write the call at a position goes, unless it is a hit that can have read no put: then nothing is changed,
+/// and the answer is false.
+fn note(
+    owners: &mut Vec<u32>,
+    unsure: &mut Vec<u32>,
+    position: u32,
+    owner: Owner,
+) -> Result<bool, AllocError>
+    ensures { IfOk result (IsNoted position owner owners.old.items owners.new.items
+        unsure.old.items unsure.new.items) }
+{
+    match owner {
+        Owner::Itself => {
+            owners.push(position)?;
+            Ok(true)
+        }
+        Owner::Put(put) => {
+            owners.push(put)?;
+            Ok(true)
+        }
+        Owner::Unsure => {
+            owners.push(position)?;
+            unsure.push(position)?;
+            Ok(true)
+        }
+        Owner::Nothing => Ok(false),
+    }
 }
 
 /// With which write the call at a position goes.
@@ -54,15 +77,15 @@ fn owner_at(steps: &[Step], puts: &[Put], bests: &[Best], position: usize) -> Ow
     requires within { position < length steps.now }
     ensures { IsOwnerAt steps.now position result }
 {
-    let step = &steps[position];
+    let step = step_at(steps, position);
     if !step.kind.is_hit() {
         return Owner::Itself;
     }
-    match reading_of(puts, bests, step) {
+    match reading_of(puts, bests, &step) {
         Reading::Nothing => Owner::Nothing,
         Reading::Several => Owner::Unsure,
         Reading::One(put) => {
-            let read = &steps[put as usize];
+            let read = step_at(steps, put as usize);
             if is_live(read.time, step.time) {
                 Owner::Put(put)
             } else {

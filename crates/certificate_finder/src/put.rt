@@ -1,5 +1,5 @@
 // A put, and until when it can be read.
-ghost use Rattle.std.specs.Prelude.{◌≡◌, ◌↔◌, IsTrue};
+ghost use Rattle.std.specs.Prelude.{◌≡◌, ◌<◌, ◌↔◌, IsTrue, Some, length, slice_get};
 ghost use Rattle.certificate_finder.specs.Putting.{value_rank as rank_of_value};
 
 use crate::step::Step;
@@ -69,4 +69,12 @@ pub(crate) fn value_rank(key: u32, value: u32, stamp: u64) -> u128
     ensures { result ≡ rank_of_value key value stamp }
 {
     (key as u128 * 4294967296 + value as u128) * 18446744073709551616 + stamp as u128
+}
+
+/// The put at an index.
+pub(crate) fn put_at(puts: &[Put], index: usize) -> Put
+    requires { index < length puts.now }
+    ensures { slice_get puts.now index ≡ Some result }
+{
+    puts[index]
 }

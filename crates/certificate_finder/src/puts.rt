@@ -1,15 +1,15 @@
 // The puts of a history, and which of them a hit can have read.
-ghost use Rattle.std.specs.Prelude.{◌≡◌, ◌+◌, ◌^◌, ◌<◌, ◌≤◌, All, IfOk, Some, length, slice_get};
+ghost use Rattle.std.specs.Prelude.{◌≡◌, ◌≢◌, ◌+◌, ◌^◌, ◌<◌, ◌≤◌, All, AllPairs, IfOk, OnOk, Some, length, slice_get};
 ghost use Rattle.std.specs.List.Sorted.{IsNonDecreasingBy};
-ghost use Rattle.certificate_finder.specs.Lists.{AreApart, Lists};
-ghost use Rattle.certificate_finder.specs.Putting.{AreBests, AreInOrder, ArePuts, IsBestAt, IsReading, Putting, TellsPut, put_rank};
+ghost use Rattle.certificate_finder.specs.Lists.{GrowsBy, Lists};
+ghost use Rattle.certificate_finder.specs.Putting.{AreBests, AreInOrder, ArePuts, IsBestAt, IsPut, IsReading, Putting, TellsPut, put_rank};
 ghost use Rattle.certificate_finder.specs.Steps.{IsFit};
 ghost use Rattle.certificate_finder.specs.Writing.{AreSoonest, AreWrites, IsSplit};
 
-use crate::best::Best;
-use crate::put::{Put, value_rank};
+use crate::best::{Best, best_at};
+use crate::put::{Put, put_at, value_rank};
 use crate::reads::Reading;
-use crate::step::Step;
+use crate::step::{Step, step_at};
 use crate::write::Write;
 use crate::writes::over_of;
 use std::alloc::{AllocError, Global};
@@ -45,18 +45,32 @@ fn listed_puts(
     ensures lists { IfOk result (λ puts.
         Lists steps.now Putting (TellsPut steps.now) (length steps.now) puts.items) }
     ensures apart { IfOk result (λ puts.
-        AreApart (λ put. put.position) (length steps.now) puts.items) }
+        AllPairs (λ one other. one.position ≢ other.position) puts.items) }
 {
     let mut puts = Vec::new(alloc);
     for position in 0..steps.len() {
-        let step = &steps[position];
-        if step.kind.is_put() {
-            let over = over_of(writes, soonest, step);
-            let put = Put::of(position as u32, step, over);
-            puts.push(put)?;
-        }
+        let step = step_at(steps, position);
+        let over = over_of(writes, soonest, &step);
+        list_put(&mut puts, position as u32, &step, over)?;
     }
     Ok(puts)
+}
+
+/// Lists a call, if it is a put, with the write that is over it.
+fn list_put(
+    puts: &mut Vec<Put>,
+    position: u32,
+    step: &Step,
+    over: Option<Write>,
+) -> Result<(), AllocError>
+    ensures { OnOk result (GrowsBy Putting (λ p s put. IsPut p s over put) position step.now puts.old.items puts.new.items) }
+{
+    if !step.kind.is_put() {
+        return Ok(());
+    }
+    let put = Put::of(position, step, over);
+    puts.push(put)?;
+    Ok(())
 }
 
 /// For each put the best of it and the earlier ones of its key and value.
@@ -67,29 +81,30 @@ pub(crate) fn bests_of(alloc: Global, puts: &[Put]) -> Result<Vec<Best>, AllocEr
 {
     let mut bests = Vec::new(alloc);
     for index in 0..puts.len() {
-        let best = best_at(puts, bests.as_slice(), index);
+        let best = next_best(puts, bests.as_slice(), index);
         bests.push(best)?;
     }
     Ok(bests)
 }
 
 /// The best of a put and the earlier ones of its key and value.
-fn best_at(puts: &[Put], bests: &[Best], index: usize) -> Best
+fn next_best(puts: &[Put], bests: &[Best], index: usize) -> Best
     requires puts { AreInOrder puts.now }
     requires count { length bests.now ≡ index }
     requires within { index < length puts.now }
     requires bests { AreBests puts.now bests.now }
     ensures { IsBestAt puts.now index result }
 {
-    let put = &puts[index];
+    let put = put_at(puts, index);
     if index == 0 {
-        return Best::of(put);
+        return Best::of(&put);
     }
-    let before = &puts[index - 1];
+    let before = put_at(puts, index - 1);
     if before.is_like(put.key, put.value) {
-        bests[index - 1].with(put)
+        let best = best_at(bests, index - 1);
+        best.with(&put)
     } else {
-        Best::of(put)
+        Best::of(&put)
     }
 }
 
@@ -105,9 +120,10 @@ pub(crate) fn reading_of(puts: &[Put], bests: &[Best], hit: &Step) -> Reading
     if begun == 0 {
         return Reading::Nothing;
     }
-    let last = &puts[begun - 1];
+    let last = put_at(puts, begun - 1);
     if last.is_like(hit.key, hit.value) {
-        bests[begun - 1].reading(hit.start)
+        let best = best_at(bests, begun - 1);
+        best.reading(hit.start)
     } else {
         Reading::Nothing
     }

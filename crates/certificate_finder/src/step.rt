@@ -1,5 +1,5 @@
 // A call in numbers.
-ghost use Rattle.std.specs.Prelude.{◌≡◌};
+ghost use Rattle.std.specs.Prelude.{◌≡◌, ◌<◌, Some, length, slice_get};
 ghost use Rattle.trace_file.specs.Lent.{act_shown};
 ghost use Rattle.certificate_finder.specs.Steps.{kind_of as kind_of_act};
 
@@ -55,4 +55,12 @@ fn kind_of(act: &ActRef<'_>) -> Kind
         ActRef::Hit(..) => Kind::Hit,
         ActRef::Miss => Kind::Miss,
     }
+}
+
+/// The call at a position.
+pub(crate) fn step_at(steps: &[Step], position: usize) -> Step
+    requires { position < length steps.now }
+    ensures { slice_get steps.now position ≡ Some result }
+{
+    steps[position]
 }

@@ -1,5 +1,5 @@
 // A write of a key.
-ghost use Rattle.std.specs.Prelude.{◌≡◌};
+ghost use Rattle.std.specs.Prelude.{◌≡◌, ◌<◌, Some, length, slice_get};
 ghost use Rattle.certificate_finder.specs.Writing.{key_rank as rank_of_key};
 
 use crate::step::Step;
@@ -45,4 +45,12 @@ pub(crate) fn key_rank(key: u32, stamp: u64) -> u128
     ensures { result ≡ rank_of_key key stamp }
 {
     key as u128 * 18446744073709551616 + stamp as u128
+}
+
+/// The write at an index.
+pub(crate) fn write_at(writes: &[Write], index: usize) -> Write
+    requires { index < length writes.now }
+    ensures { slice_get writes.now index ≡ Some result }
+{
+    writes[index]
 }

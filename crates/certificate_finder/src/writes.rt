@@ -1,12 +1,13 @@
 // The writes of a history, and which of them ends first behind a call.
-ghost use Rattle.std.specs.Prelude.{◌≡◌, ◌+◌, ◌^◌, ◌<◌, ◌≤◌, All, IfOk, Some, length, slice_get};
+ghost use Rattle.std.specs.Prelude.{◌≡◌, ◌+◌, ◌^◌, ◌<◌, ◌≤◌, All, IfOk, OnOk, Some, length, slice_get};
 ghost use Rattle.std.specs.List.Sorted.{IsNonDecreasingBy};
-ghost use Rattle.certificate_finder.specs.Lists.{Lists};
+ghost use Rattle.certificate_finder.specs.Lists.{GrowsBy, Lists};
 ghost use Rattle.certificate_finder.specs.Steps.{IsFit};
 ghost use Rattle.certificate_finder.specs.Writing.{AreWrites, AreSoonest, EndsFirst, IsFirstOver, IsSplit, TellsWrite, Writing, write_rank};
 
-use crate::step::Step;
-use crate::write::{Write, key_rank};
+use crate::numbers::number_at;
+use crate::step::{Step, step_at};
+use crate::write::{Write, key_rank, write_at};
 use std::alloc::{AllocError, Global};
 
 /// The writes, by keys and starts.
@@ -28,13 +29,22 @@ fn listed_writes(alloc: Global, steps: &[Step]) -> Result<Vec<Write>, AllocError
 {
     let mut writes = Vec::new(alloc);
     for position in 0..steps.len() {
-        let step = &steps[position];
-        if step.kind.is_write() {
-            let write = Write::of(position as u32, step);
-            writes.push(write)?;
-        }
+        let step = step_at(steps, position);
+        list_write(&mut writes, position as u32, &step)?;
     }
     Ok(writes)
+}
+
+/// Lists a call, if it is a write.
+fn list_write(writes: &mut Vec<Write>, position: u32, step: &Step) -> Result<(), AllocError>
+    ensures { OnOk result (GrowsBy Writing TellsWrite position step.now writes.old.items writes.new.items) }
+{
+    if !step.kind.is_write() {
+        return Ok(());
+    }
+    let write = Write::of(position, step);
+    writes.push(write)?;
+    Ok(())
 }
 
 /// For each write the index of the one that ends first, of it and the later ones of its key.
@@ -62,12 +72,18 @@ fn sooner(writes: &[Write], soonest: &[u32], index: usize) -> u32
     requires later { AreSoonest writes.now (index + 1) soonest.now }
     ensures { EndsFirst writes.now index result }
 {
-    if index + 1 == writes.len() || writes[index + 1].key != writes[index].key {
+    if index + 1 == writes.len() {
         return index as u32;
     }
-    let later = soonest[index + 1];
-    if writes[later as usize].end < writes[index].end {
-        later
+    let write = write_at(writes, index);
+    let next = write_at(writes, index + 1);
+    if next.key != write.key {
+        return index as u32;
+    }
+    let best = number_at(soonest, index + 1);
+    let later = write_at(writes, best as usize);
+    if later.end < write.end {
+        best
     } else {
         index as u32
     }
@@ -81,10 +97,16 @@ pub(crate) fn over_of(writes: &[Write], soonest: &[u32], step: &Step) -> Option<
     ensures { IsFirstOver writes.now step.now.key step.now.end result }
 {
     let index = writes_upto(writes, key_rank(step.key, step.end));
-    if index == writes.len() || writes[index].key != step.key {
+    if index == writes.len() {
         return None;
     }
-    Some(writes[soonest[index] as usize])
+    let write = write_at(writes, index);
+    if write.key != step.key {
+        return None;
+    }
+    let best = number_at(soonest, index);
+    let first = write_at(writes, best as usize);
+    Some(first)
 }
 
 /// How many writes have at most this rank.

@@ -1,4 +1,6 @@
 // The time in which a write and its hits have to stand.
+ghost use Rattle.std.specs.Prelude.{◌≡◌, ◌<◌, Some, length, slice_get};
+
 use crate::witness::Side;
 
 /// A write with the hits that can have read it alone: from the least end of one to the greatest start of one.
@@ -19,7 +21,6 @@ pub(crate) struct Zone {
 }
 
 impl Zone {
-    ghost use Rattle.std.specs.Prelude.{◌≡◌};
     ghost use Rattle.certificate_finder.specs.Zones.{zone_rank};
 
     /// By keys, and within a key by the middle between the least end and the greatest start.
@@ -43,4 +44,12 @@ impl Zone {
             late: self.late,
         }
     }
+}
+
+/// The zone at an index.
+pub(crate) fn zone_at(zones: &[Zone], index: usize) -> Zone
+    requires { index < length zones.now }
+    ensures { slice_get zones.now index ≡ Some result }
+{
+    zones[index]
 }

@@ -1,12 +1,13 @@
 // The zones of a history's writes.
-ghost use Rattle.std.specs.Prelude.{◌≡◌, ◌<◌, ◌^◌, All, IfOk, length};
-ghost use Rattle.certificate_finder.specs.Lists.{AreApart, IsToldAt, Lists};
+ghost use Rattle.std.specs.Prelude.{◌≡◌, ◌<◌, ◌^◌, All, IfOk, OnOk, length};
+ghost use Rattle.certificate_finder.specs.Lists.{GrowsBy, IsToldAt, Lists};
 ghost use Rattle.certificate_finder.specs.Steps.{IsFit};
 ghost use Rattle.certificate_finder.specs.Writing.{Writing};
-ghost use Rattle.certificate_finder.specs.Zones.{AreEarliest, AreLatest, AreZones, TellsZone};
+ghost use Rattle.certificate_finder.specs.Zones.{AreEarliest, AreDistinct, AreLatest, AreZones, TellsZone};
 
 use crate::ends::{earliest_of, latest_of};
-use crate::step::Step;
+use crate::numbers::number_at;
+use crate::step::{Step, step_at};
 use crate::zone::Zone;
 use std::alloc::{AllocError, Global};
 
@@ -43,20 +44,30 @@ fn listed_zones(
     ensures lists { IfOk result (λ zones.
         Lists steps.now Writing (TellsZone steps.now owners.now) (length steps.now) zones.items) }
     ensures apart { IfOk result (λ zones.
-        AreApart (λ zone. zone.write) (length steps.now) zones.items) }
+        AreDistinct zones.items) }
 {
     let mut zones = Vec::new(alloc);
     for position in 0..steps.len() {
-        if steps[position].kind.is_write() {
-            let zone = zone_at(steps, owners, earliest, latest, position);
-            zones.push(zone)?;
-        }
+        let zone = zone_of(steps, owners, earliest, latest, position);
+        let step = step_at(steps, position);
+        list_zone(&mut zones, &step, zone)?;
     }
     Ok(zones)
 }
 
-/// The zone of the write at a position.
-fn zone_at(
+/// Lists a call's zone, if it is a write.
+fn list_zone(zones: &mut Vec<Zone>, step: &Step, zone: Zone) -> Result<(), AllocError>
+    ensures { OnOk result (GrowsBy Writing (λ _ _ z. z ≡ zone) 0 step.now zones.old.items zones.new.items) }
+{
+    if !step.kind.is_write() {
+        return Ok(());
+    }
+    zones.push(zone)?;
+    Ok(())
+}
+
+/// The zone of the call at a position.
+fn zone_of(
     steps: &[Step],
     owners: &[u32],
     earliest: &[u32],
@@ -69,14 +80,17 @@ fn zone_at(
     requires latest { AreLatest steps.now owners.now latest.now }
     ensures { IsToldAt steps.now position (TellsZone steps.now owners.now) result }
 {
-    let early = earliest[position];
-    let late = latest[position];
+    let step = step_at(steps, position);
+    let early = number_at(earliest, position);
+    let late = number_at(latest, position);
+    let first = step_at(steps, early as usize);
+    let last = step_at(steps, late as usize);
     Zone {
         write: position as u32,
-        key: steps[position].key,
+        key: step.key,
         early,
         late,
-        end: steps[early as usize].end,
-        start: steps[late as usize].start,
+        end: first.end,
+        start: last.start,
     }
 }
