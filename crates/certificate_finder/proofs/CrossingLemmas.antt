@@ -1,8 +1,9 @@
 -- Looking for zones that are crossed.
 use Rattle.std.proofs.Common.{◌≡◌, ◌≢◌, ℕ, ◌+◌, ◌-◌, ◌*◌, ◌^◌, ◌<◌, ◌≤◌, ◌⊎◌, Option, Some, None, List, length, refl, sym, ap, ◌∙◌, subst, arith, inl, inr}
 use Rattle.std.specs.Prelude.{All, AllPairs, Contains, slice_get}
+use Rattle.std.proofs.Common.{true, false}
 use Rattle.std.specs.List.Sorted.{IsNonDecreasingBy}
-use Rattle.std.proofs.lemmas.Bool.{cases_eq}
+use Rattle.std.proofs.lemmas.Bool.{cases_eq, cases_lt}
 use Rattle.std.proofs.lemmas.Option.{slice_get_within}
 use Rattle.certificate_finder.specs.declared.crossing.Crossing.{Crossing}
 use Rattle.certificate_finder.specs.declared.zone.Zone.{Zone}
@@ -117,3 +118,9 @@ module _ (zones : List Zone) (sorted : IsNonDecreasingBy zone_rank zones) (fit :
 
 pub none_of_empty : (zones : List Zone) → length zones ≡ 0 → IsCrossingOrNone zones None
 none_of_empty zones none = λ i j d less within. absurd (omega arith)
+
+pub enough_of : (high zone : Zone) → ((zone.key ≡ high.key) × (zone.end < high.start) → false ≡ true) → zone.key ≡ high.key → high.start ≤ zone.end
+enough_of high zone not key = elim (cases_lt zone.end high.start) [
+  | inl less ↦ let h : false ≡ true = not (key, less) in cc
+  | inr enough ↦ omega arith
+]

@@ -182,3 +182,8 @@ are_latest steps owners upto bests had all = record {
       let b = had.each w p at in
       (b.step, record { at = b.at; goes = b.goes; greatest = λ q call at_q goes. b.best q call at_q (to_below steps owners upto w q call at_q all goes) });
 }
+
+pub known_within : (R : Step → Step → Type 0) (steps : List Step) (owners : List ℕ) (upto : ℕ) (bests : List ℕ) → BestSoFar R steps owners upto bests → (owner known : ℕ) (lent : List ℕ) → lent ≡ bests → slice_get lent owner ≡ Some known → known < length steps
+known_within R steps owners upto bests had owner known lent same at =
+    let b = had.each owner known (ap (λ xs. slice_get xs owner) (sym same) ∙ at) in
+    slice_get_within steps known b.step b.at

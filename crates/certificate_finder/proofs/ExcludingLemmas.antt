@@ -12,7 +12,7 @@ use Rattle.certificate_finder.specs.declared.excluded.Excuse.TheVariants.{Later,
 use Rattle.certificate_finder.specs.declared.kind.Kind.TheVariants as kinds
 use Rattle.certificate_finder.specs.declared.put.Put.{Put}
 use Rattle.certificate_finder.specs.declared.step.Step.{Step}
-use Rattle.certificate_finder.specs.Excluding.{AreExcluded, ExcludesStep, IsExcludedStep, IsExcuse, IsLikePut}
+use Rattle.certificate_finder.specs.Excluding.{AreExcluded, ExcludesStep, IsExcludedStep, GrowsByExcluded, IsExcuse, IsLikePut}
 use Rattle.certificate_finder.specs.Lists.{TellsOne}
 use Rattle.certificate_finder.specs.Owning.{MayRead, ReadsNoLive}
 use Rattle.certificate_finder.specs.Putting.{ArePuts, CanRead, EndsOver, IsOver, Putting, TellsPut}
@@ -44,7 +44,7 @@ module _ (steps : List Step) (puts : List Put) (are : ArePuts steps puts) (hit :
       (ends.other, ends.at, ends.over, before)
 
   stands_still : (p : ℕ) (step : Step) (put : Put) → TellsPut steps p step put → (put.over ≡ None) ⊎ (hit.start ≤ put.dead) → hit.start ≤ put.dead
-  stands_still p step put told (inl no) = let g : put.dead ≡ 18446744073709551615 = greatest steps step put.dead put.over no told.dead.by in omega (arith, small, g)
+  stands_still p step put told (inl none_over) = let g : put.dead ≡ 18446744073709551615 = greatest steps step put.dead put.over none_over told.dead.by in omega (arith, small, g)
   stands_still p step put told (inr le) = le
 
   -- an excuse excludes the put
@@ -80,6 +80,12 @@ module _ (steps : List Step) (puts : List Put) (are : ArePuts steps puts) (hit :
       | inr before ↦ had.all k other (omega arith) other_at key value
     ];
   }
+
+  pub excluded_grows : (upto : ℕ) (put : Put) (old new : List Excluded) → ExcludedSoFar steps puts hit upto old → slice_get puts upto ≡ Some put → GrowsByExcluded put hit old new → ExcludedSoFar steps puts hit (upto + 1) new
+  excluded_grows upto put old new had at grows = elim grows [
+    | inl more ↦ subst (λ items. ExcludedSoFar steps puts hit (upto + 1) items) (sym more.1.2) (excluded_more upto put more.1.0 old had at more.0 more.1.1)
+    | inr same ↦ subst (λ items. ExcludedSoFar steps puts hit (upto + 1) items) (sym same.1) (excluded_pass upto put old had at same.0)
+  ]
 
   pub excluded_end : (upto : ℕ) (excluded : List Excluded) → ExcludedSoFar steps puts hit upto excluded → length puts ≤ upto → AreExcluded steps hit excluded
   excluded_end upto excluded had all = record {

@@ -20,3 +20,4 @@ pub mod ZoneLemmas
 pub mod FindLemmas
 pub mod TurnLemmas
 pub mod SpotLemmas
+pub mod FoundLemmas

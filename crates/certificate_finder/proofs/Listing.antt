@@ -4,10 +4,10 @@ use Rattle.std.specs.Prelude.{All, AllPairs, Contains, slice_get, map}
 use Rattle.std.specs.List.Sorted.{IsPermutation}
 use Rattle.std.proofs.lemmas.Bool.{cases_eq}
 use Rattle.std.proofs.lemmas.Bool.Decides.{Decides-eqb, nat_tests}
-use Rattle.std.proofs.lemmas.List.{get_or-map, length-map}
+use Rattle.std.proofs.lemmas.List.{get_or-map, length-map, length_push}
 use Rattle.std.proofs.lemmas.List.Elements.{All-nil, All-push, All-weaker, Contains-push, Contains-append_left}
 use Rattle.std.proofs.lemmas.List.Quantifiers.{all_pairs_push}
-use Rattle.std.proofs.lemmas.List.Sorted.{All-permutation, Contains-permutation, IsPermutation-map}
+use Rattle.std.proofs.lemmas.List.Sorted.{All-permutation, Contains-permutation, IsPermutation-map, length_permutation}
 use Rattle.std.proofs.lemmas.Map.Keys.{IsDistinct-IsPermutation}
 use Rattle.std.proofs.lemmas.Map.Made.{AllPairs-from_IsDistinct, IsDistinct-from_AllPairs}
 use Rattle.std.proofs.lemmas.Option.{get_or_from_slice_get, slice_get_within, same_Some, slice_get-get_or}
@@ -43,10 +43,11 @@ same_at xs i j x y same one other = same_Some x y (sym one ∙ ap (slice_get xs)
 
 module _ {X : Type 0} (steps : List Step) (wanted : Step → Type 0) (tells : ℕ → Step → X → Type 0) where
   pub lists_none : Lists steps wanted tells 0 []
-  lists_none = record { sound = All-nil (TellsOne steps wanted tells); complete = λ p s less at want. absurd (omega arith) }
+  lists_none = record { few = omega arith; sound = All-nil (TellsOne steps wanted tells); complete = λ p s less at want. absurd (omega arith) }
 
   pub lists_push : (upto : ℕ) (items : List X) (step : Step) (item : X) → Lists steps wanted tells upto items → slice_get steps upto ≡ Some step → wanted step → tells upto step item → Lists steps wanted tells (upto + 1) (items ++ item ∷ [])
   lists_push upto items step item had at is told = record {
+    few = let l = length_push items item in let f = had.few in omega arith;
     sound = All-push (TellsOne steps wanted tells) items item had.sound (record { position = upto; step = step; at = at; is_wanted = is; told = told });
     complete = λ p s less found want. elim (cases_eq p upto) [
       | inl same ↦ record {
@@ -62,6 +63,7 @@ module _ {X : Type 0} (steps : List Step) (wanted : Step → Type 0) (tells : �
 
   pub lists_pass : (upto : ℕ) (items : List X) (step : Step) → Lists steps wanted tells upto items → slice_get steps upto ≡ Some step → ¬ wanted step → Lists steps wanted tells (upto + 1) items
   lists_pass upto items step had at not = record {
+    few = let f = had.few in omega arith;
     sound = had.sound;
     complete = λ p s less found want. elim (cases_eq p upto) [
       | inl same ↦ absurd (not (subst wanted (sym (same_at steps upto p step s (sym same) at found)) want))
@@ -71,6 +73,7 @@ module _ {X : Type 0} (steps : List Step) (wanted : Step → Type 0) (tells : �
 
   pub lists_permuted : (upto : ℕ) (xs ys : List X) → IsPermutation xs ys → Lists steps wanted tells upto xs → Lists steps wanted tells upto ys
   lists_permuted upto xs ys moved had = record {
+    few = let l = length_permutation xs ys moved in let f = had.few in omega arith;
     sound = All-permutation (TellsOne steps wanted tells) xs ys moved had.sound;
     complete = λ p s less found want.
         let old = had.complete p s less found want in
@@ -138,6 +141,3 @@ grows_weaker wanted tells knows p q step old new more grows = elim grows [
   | inl one ↦ inl (one.0, (one.1.0, more one.1.0 one.1.1, one.1.2))
   | inr same ↦ inr same
 ]
-
-pub lists_all : {X : Type 0} (steps : List Step) (wanted : Step → Type 0) (tells : ℕ → Step → X → Type 0) (upto : ℕ) (items : List X) → Lists steps wanted tells upto items → length steps ≤ upto → Lists steps wanted tells (length steps) items
-lists_all steps wanted tells upto items had all = record { sound = had.sound; complete = λ p step less at want. had.complete p step (omega arith) at want }

@@ -1,6 +1,7 @@
 -- With which write each call goes.
 use Rattle.std.proofs.Common.{◌≡◌, ◌≢◌, ℕ, ◌+◌, ◌^◌, ◌<◌, ◌≤◌, ◌⊎◌, Option, Some, None, List, [], ◌∷◌, ◌++◌, length, get_or, refl, sym, ap, ◌∙◌, subst, arith, inl, inr}
 use Rattle.std.specs.Prelude.{All, AllPairs, Contains, slice_get, IsTrue, MatchOption}
+use Rattle.std.proofs.Common.{Bool, true, false}
 use Rattle.std.proofs.lemmas.Bool.{cases_eq}
 use Rattle.std.proofs.lemmas.List.{length_push}
 use Rattle.std.proofs.lemmas.List.Elements.{All-contains, All-nil, All-push, All-weaker, Contains-append_left, Contains-push}
@@ -8,10 +9,12 @@ use Rattle.std.proofs.lemmas.List.Quantifiers.{all_pairs_push}
 use Rattle.std.proofs.lemmas.Option.{slice_get_within}
 use Rattle.record_pages.specs.Expiry.{is_live}
 use Rattle.certificate_finder.specs.declared.kind.Kind.TheVariants as kinds
+use Rattle.certificate_finder.specs.declared.owner.Owner.{Owner}
+use Rattle.certificate_finder.specs.declared.owner.Owner.TheVariants as kinds_of_owner
 use Rattle.certificate_finder.specs.declared.put.Put.{Put}
 use Rattle.certificate_finder.specs.declared.step.Step.{Step}
 use Rattle.certificate_finder.specs.Lists.{TellsOne}
-use Rattle.certificate_finder.specs.Owning.{AreOwners, GoesAlone, IsOwned, IsUnsure, MayRead, ReadsNoLive, ReadsOnly, ReadsSeveral}
+use Rattle.certificate_finder.specs.Owning.{AreOwners, GoesAlone, IsNoted, IsOwned, IsOwner, IsOwnerAt, IsRefused, IsUnsure, MayRead, ReadsNoLive, ReadsOnly, ReadsSeveral}
 use Rattle.certificate_finder.specs.Putting.{ArePuts, CanRead, CanReadOne, CanReadTwo, EndsOver, IsDead, IsOver, Putting, TellsPut}
 use Rattle.certificate_finder.specs.Steps.{IsFit}
 use Rattle.certificate_finder.proofs.Listing.{same_at}
@@ -171,3 +174,26 @@ module _ (steps : List Step) (upto : ℕ) (owners unsure : List ℕ) (had : AreO
       let same = same_at steps upto upto one.step step refl one.at at in
       let several : ReadsSeveral steps step = subst (λ s. ReadsSeveral steps s) same one.several in
       several.apart (only.only several.one several.first several.one_at several.reads_one ∙ sym (only.only several.other several.second several.other_at several.reads_other)))
+
+-- ---- an owner is noted
+
+noted_is : (steps : List Step) (upto : ℕ) (owners unsure new new_unsure : List ℕ) (step : Step) (owner : Owner) → AreOwners steps upto owners unsure → slice_get steps upto ≡ Some step → IsOwner steps step owner → IsNoted upto owner owners new unsure new_unsure true → AreOwners steps (upto + 1) new new_unsure
+noted_is steps upto owners unsure new new_unsure step kinds_of_owner.Itself had at is noted =
+    subst (λ o. AreOwners steps (upto + 1) o new_unsure) (sym noted.1) (subst (λ u. AreOwners steps (upto + 1) (owners ++ upto ∷ []) u) (sym noted.2) (itself_more steps upto owners unsure had step at is))
+noted_is steps upto owners unsure new new_unsure step (kinds_of_owner.Put put) had at is noted =
+    subst (λ o. AreOwners steps (upto + 1) o new_unsure) (sym noted.1) (subst (λ u. AreOwners steps (upto + 1) (owners ++ put ∷ []) u) (sym noted.2) (put_more steps upto owners unsure had step at put is.0 is.1))
+noted_is steps upto owners unsure new new_unsure step kinds_of_owner.Unsure had at is noted =
+    subst (λ o. AreOwners steps (upto + 1) o new_unsure) (sym noted.1) (subst (λ u. AreOwners steps (upto + 1) (owners ++ upto ∷ []) u) (sym noted.2) (unsure_more steps upto owners unsure had step at is.0 is.1))
+noted_is steps upto owners unsure new new_unsure step kinds_of_owner.Nothing had at is noted = let h : true ≡ false = noted in cc
+
+pub noted_more : (steps : List Step) (upto : ℕ) (owners unsure new new_unsure : List ℕ) (owner : Owner) → AreOwners steps upto owners unsure → IsOwnerAt steps upto owner → IsNoted upto owner owners new unsure new_unsure true → AreOwners steps (upto + 1) new new_unsure
+noted_more steps upto owners unsure new new_unsure owner had is noted = noted_is steps upto owners unsure new new_unsure is.step owner had is.at is.is noted
+
+refused_is : (steps : List Step) (upto : ℕ) (owners unsure new new_unsure : List ℕ) (step : Step) (owner : Owner) → slice_get steps upto ≡ Some step → IsOwner steps step owner → IsNoted upto owner owners new unsure new_unsure false → IsRefused steps upto
+refused_is steps upto owners unsure new new_unsure step kinds_of_owner.Itself at is noted = let h : false ≡ true = noted.0 in cc
+refused_is steps upto owners unsure new new_unsure step (kinds_of_owner.Put put) at is noted = let h : false ≡ true = noted.0 in cc
+refused_is steps upto owners unsure new new_unsure step kinds_of_owner.Unsure at is noted = let h : false ≡ true = noted.0 in cc
+refused_is steps upto owners unsure new new_unsure step kinds_of_owner.Nothing at is noted = record { step = step; at = at; kind = is.0; none = is.1 }
+
+pub refused : (steps : List Step) (upto : ℕ) (owners unsure new new_unsure : List ℕ) (owner : Owner) → IsOwnerAt steps upto owner → IsNoted upto owner owners new unsure new_unsure false → IsRefused steps upto
+refused steps upto owners unsure new new_unsure owner is noted = refused_is steps upto owners unsure new new_unsure is.step owner is.at is.is noted

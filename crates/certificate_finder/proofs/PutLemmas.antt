@@ -283,8 +283,11 @@ best_with puts order index put before old new at before_at some like had is =
     let best : IsBest puts before index old = subst (λ b. IsBest puts b index old) (same_at puts (index - 1) (index - 1) had.put before refl had.at before_at) (subst (λ u. IsBest puts had.put u old) upto had.is) in
     with_next puts order index put before old.put old.dead old.next at before_at some (record { key = like.0; value = like.1 }) best new is
 
-pub bests_more : (puts : List Put) (index : ℕ) (bests : List Best) (best : Best) → length bests ≡ index → AreBests puts bests → IsBestAt puts index best → AreBests puts (bests ++ best ∷ [])
-bests_more puts index bests best len had is = λ k b at. elim (cases_eq k index) [
+pub bests_begin : (puts : List Put) → AreBests puts []
+bests_begin puts = λ k b at. absurd (let within = slice_get_within {A = Best} [] k b at in omega arith)
+
+bests_grow : (puts : List Put) (index : ℕ) (bests : List Best) (best : Best) → length bests ≡ index → AreBests puts bests → IsBestAt puts index best → AreBests puts (bests ++ best ∷ [])
+bests_grow puts index bests best len had is = λ k b at. elim (cases_eq k index) [
   | inl same ↦ let here : get_or (bests ++ best ∷ []) k b ≡ best = get_or_push bests best b k (len ∙ sym same) in
       let there = get_or_from_slice_get (bests ++ best ∷ []) k b b at in
       subst (λ x. IsBestAt puts k x) (sym here ∙ there) (subst (λ q. IsBestAt puts q best) (sym same) is)
@@ -295,6 +298,9 @@ bests_more puts index bests best len had is = λ k b at. elim (cases_eq k index)
       let left = get_or_append_left bests (best ∷ []) b k (omega arith) in
       had k b (slice_get-get_or bests k b (omega arith) ∙ ap Some (sym left ∙ there))
 ]
+
+pub bests_more : (puts : List Put) (index : ℕ) (bests : List Best) (best : Best) → length bests ≡ index → AreBests puts bests → IsBestAt puts index best → (length (bests ++ best ∷ []) ≡ index + 1) × AreBests puts (bests ++ best ∷ [])
+bests_more puts index bests best len had is = (let l = length_push bests best in omega arith, bests_grow puts index bests best len had is)
 
 -- ---- which puts a hit can have read
 

@@ -156,3 +156,18 @@ soonest_more writes from index best soonest had within first = record {
 
 pub soonest_begin : (writes : List Write) (soonest : List ℕ) → length soonest ≡ length writes → AreSoonest writes (length writes - 0) soonest
 soonest_begin writes soonest len = record { count = len; each = λ k best le at. absurd (let within = slice_get_within soonest k best at in omega arith) }
+
+-- the invariant of the loop, as the next index wants it
+pub soonest_next : (writes : List Write) (done : ℕ) (lent soonest : List ℕ) → lent ≡ soonest → done < length writes → AreSoonest writes (length writes - done) soonest → AreSoonest writes (length writes - 1 - done + 1) lent
+soonest_next writes done lent soonest same less had =
+    let e : length writes - done ≡ length writes - 1 - done + 1 = omega arith in
+    subst (λ s. AreSoonest writes (length writes - 1 - done + 1) s) (sym same) (subst (λ n. AreSoonest writes n soonest) e had)
+
+pub soonest_end : (writes : List Write) (done best : ℕ) (lent soonest : List ℕ) → lent ≡ soonest → done < length writes → AreSoonest writes (length writes - done) soonest → EndsFirst writes (length writes - 1 - done) best → AreSoonest writes (length writes - (done + 1)) (set soonest (length writes - 1 - done) best)
+soonest_end writes done best lent soonest same less had first =
+    let e : length writes - done ≡ length writes - 1 - done + 1 = omega arith in
+    let f : length writes - 1 - done ≡ length writes - (done + 1) = omega arith in
+    subst (λ n. AreSoonest writes n (set soonest (length writes - 1 - done) best)) f (soonest_more writes 0 (length writes - 1 - done) best soonest (subst (λ n. AreSoonest writes n soonest) e had) (omega arith) first)
+
+pub later_within : (writes : List Write) (index best : ℕ) → EndsFirst writes index best → best < length writes
+later_within writes index best first = slice_get_within writes best first.first first.best_at

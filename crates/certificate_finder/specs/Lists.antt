@@ -1,5 +1,5 @@
 -- Lists of what calls of some kind are.
-use Rattle.std.specs.Prelude.{◌≡◌, ◌≢◌, ℕ, ◌<◌, ◌⊎◌, List, [], ◌∷◌, ◌++◌, All, AllPairs, Contains, slice_get, Some}
+use Rattle.std.specs.Prelude.{◌≡◌, ◌≢◌, ℕ, ◌<◌, ◌≤◌, ◌⊎◌, List, [], ◌∷◌, ◌++◌, length, All, AllPairs, Contains, slice_get, Some}
 use Rattle.certificate_finder.specs.declared.step.Step.{Step}
 
 -- an item tells of a call that is wanted
@@ -18,6 +18,7 @@ pub record IsTold {X : Type 0} (tells : ℕ → Step → X → Type 0) (items : 
 
 -- each item tells of a call that is wanted, and of each such call below a position some item tells
 pub record Lists {X : Type 0} (steps : List Step) (wanted : Step → Type 0) (tells : ℕ → Step → X → Type 0) (upto : ℕ) (items : List X) : Type 0 where
+  pub few : length items ≤ upto
   pub sound : All (TellsOne steps wanted tells) items
   pub complete : (position : ℕ) (step : Step) → position < upto → slice_get steps position ≡ Some step → wanted step → IsTold tells items position step
 

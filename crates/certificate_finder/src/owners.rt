@@ -32,7 +32,8 @@ pub(crate) fn owners_of(
     let mut unsure = Vec::new(alloc);
     for position in 0..steps.len() {
         let owner = owner_at(steps, puts, bests, position);
-        if !note(&mut owners, &mut unsure, position as u32, owner)? {
+        let noted = note(&mut owners, &mut unsure, position as u32, owner)?;
+        if !noted {
             return Ok(Owning::Refused(position as u32));
         }
     }

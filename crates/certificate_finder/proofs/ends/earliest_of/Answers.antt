@@ -1,0 +1,21 @@
+use Rattle.std.proofs.Common.{◌≡◌, ◌≢◌, ℕ, ◌+◌, ◌-◌, ◌^◌, ◌<◌, ◌≤◌, ◌⊎◌, true, false, Option, Some, None, List, [], ◌∷◌, ◌++◌, length, get_or, take, refl, sym, ap, ◌∙◌, subst, arith, rules, inl, inr}
+use Rattle.std.specs.Prelude.{All, AllPairs, slice_get, IsTrue}
+use Rattle.std.proofs.lemmas.Grind.{common_steps}
+use Rattle.certificate_finder.proofs.EndLemmas.{EndsBefore, ends_self, ends_join, are_earliest, best_begins, best_kept, best_taken, known_within}
+use Rattle.certificate_finder.proofs.ends.earliest_of.Goals as goal
+use Rattle.certificate_finder.proofs.ends.earliest_of.Goals.{then-step-best, else-step-best}
+
+pub loop-position-init : goal.loop-position-init
+loop-position-init c = best_begins EndsBefore ends_self ends_join c.args.steps.now c.args.owners.now c.in_ok-earliest.earliest.items c.in_ok-earliest.ensures
+
+pub step_at-best-requires : goal.step_at-best-requires
+step_at-best-requires c = known_within EndsBefore c.args.steps.now c.args.owners.now c.loop-position.position c.loop-position.earliest.items c.loop-position.invariant c.number_at-owner.result c.number_at-known.result c.as_slice.result.now c.as_slice.ensures.value c.number_at-known.ensures
+
+pub loop-position-preserved : goal.loop-position-preserved
+loop-position-preserved c = elim c.if-step-best.branch [
+  | then-step-best w ↦ rw w.earliest-is (best_taken EndsBefore ends_self ends_join c.args.steps.now c.args.owners.now c.loop-position.position c.number_at-owner.result c.number_at-known.result c.step_at-step.result c.step_at-best.result c.loop-position.earliest.items c.loop-position.invariant c.step_at-step.ensures c.number_at-owner.ensures (ap (λ xs. slice_get xs c.number_at-owner.result) (sym c.as_slice.ensures.value) ∙ c.number_at-known.ensures) c.step_at-best.ensures (omega arith))
+  | else-step-best w ↦ rw w.earliest-is (best_kept EndsBefore ends_self ends_join c.args.steps.now c.args.owners.now c.loop-position.position c.number_at-owner.result c.number_at-known.result c.step_at-step.result c.step_at-best.result c.loop-position.earliest.items c.loop-position.invariant c.step_at-step.ensures c.number_at-owner.ensures (ap (λ xs. slice_get xs c.number_at-owner.result) (sym c.as_slice.ensures.value) ∙ c.number_at-known.ensures) c.step_at-best.ensures (omega arith))
+]
+
+pub returns : goal.returns
+returns c = are_earliest c.args.steps.now c.args.owners.now c.loop-position.position c.loop-position.earliest.items c.loop-position.invariant (omega arith)
