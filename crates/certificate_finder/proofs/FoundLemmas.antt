@@ -1,6 +1,8 @@
 -- What is found, of calls in numbers.
-use Rattle.std.proofs.Common.{◌≡◌, ◌≢◌, ℕ, ◌<◌, ◌≤◌, List, [], length, refl, sym, ap, ◌∙◌, subst, arith, inl, inr}
+use Rattle.std.proofs.Common.{◌≡◌, ◌≢◌, ℕ, ◌<◌, ◌≤◌, true, false, eqb, List, [], length, refl, sym, ap, ◌∙◌, subst, arith, inl, inr}
 use Rattle.std.specs.Prelude.{All, AllPairs, slice_get, Some}
+use Rattle.std.proofs.lemmas.Bool.Decides.{nat_tests}
+use Rattle.std.proofs.lemmas.List.{nil_from_length}
 use Rattle.std.proofs.lemmas.Option.{slice_get_within}
 use Rattle.trace_file.specs.declared.call.Call.{Call}
 use Rattle.certificate_checker.specs.Acceptance.{IsAccepted}
@@ -38,3 +40,20 @@ found_crossed history steps owners unsure zones crossing are own zs crossed = re
   rejected = are_crossed history steps are owners unsure own zones zs crossing.one crossing.other crossed;
   undecided = tt;
 }
+
+-- some hits are left where the list of them is not empty
+pub some_left : (unsure lent : List ℕ) → lent ≡ unsure → false ≡ eqb (length lent) 0 → unsure ≢ []
+some_left unsure lent same some none =
+    let l : length lent ≡ 0 = ap length (same ∙ none) in
+    let e : eqb (length lent) 0 ≡ true = grind (arith, nat_tests) in
+    let h : false ≡ true = some ∙ e in
+    cc
+
+pub none_left : (unsure lent : List ℕ) → lent ≡ unsure → true ≡ eqb (length lent) 0 → unsure ≡ []
+none_left unsure lent same none =
+    let l : length lent ≡ 0 = grind (arith, nat_tests) in
+    sym same ∙ nil_from_length lent l
+
+-- no hit is unsure where the list of them is empty
+pub sure : (steps : List Step) (owners unsure lent : List ℕ) → lent ≡ unsure → true ≡ eqb (length lent) 0 → AreOwners steps (length steps) owners unsure → AreOwners steps (length steps) owners []
+sure steps owners unsure lent same none own = subst (λ u. AreOwners steps (length steps) owners u) (none_left unsure lent same none) own

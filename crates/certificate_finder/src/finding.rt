@@ -108,13 +108,16 @@ fn arranged(alloc: Global, steps: &[Step], owners: Owners) -> Result<Found, Allo
         → All (λ call. call.start ≤ call.end) history → IsFound history found) }
 {
     let Owners { owners, unsure } = owners;
-    let zones = zones_of(alloc, steps, owners.as_slice())?;
-    if let Some(crossing) = crossing_of(zones.as_slice()) {
+    let owned = owners.as_slice();
+    let zones = zones_of(alloc, steps, owned)?;
+    let listed = zones.as_slice();
+    if let Some(crossing) = crossing_of(listed) {
         return Ok(Found::Rejected(crossing.witness()));
     }
-    if !unsure.is_empty() {
+    let doubtful = unsure.as_slice();
+    if !doubtful.is_empty() {
         return Ok(Found::Undecided(unsure));
     }
-    let certificate = certificate_by_zones(alloc, steps, owners.as_slice(), zones.as_slice())?;
+    let certificate = certificate_by_zones(alloc, steps, owned, listed)?;
     Ok(Found::Accepted(certificate))
 }
