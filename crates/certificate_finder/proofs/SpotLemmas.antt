@@ -5,7 +5,7 @@ use Rattle.std.specs.Option.{option_map, option_map_or}
 use Rattle.std.specs.List.Sorted.{IsNonDecreasingBy, IsPermutation}
 use Rattle.std.proofs.lemmas.Bool.{cases_eq, cases_lt}
 use Rattle.std.proofs.lemmas.List.{get_or_append_left, get_or_push, length-map, length_push, map_push, length-set, length-take-le, get_or-set_other, get_or-set_same, get_or-take, take_all}
-use Rattle.std.proofs.lemmas.List.Elements.{All-nil, All-push}
+use Rattle.std.proofs.lemmas.List.Elements.{All-nil, All-push, All-weaker}
 use Rattle.std.proofs.lemmas.List.Sorted.{All-permutation, IsPermutation-map, length_permutation}
 use Rattle.std.proofs.lemmas.Option.{get_or_from_slice_get, slice_get-map, slice_get_within, slice_get-get_or, same_Some}
 use Rattle.trace_file.specs.declared.act.Act.{Act}
@@ -18,13 +18,15 @@ use Rattle.certificate_finder.specs.declared.kind.Kind.TheVariants as kinds
 use Rattle.certificate_finder.specs.declared.ranked.Ranked.{Ranked}
 use Rattle.certificate_finder.specs.declared.step.Step.{Step}
 use Rattle.certificate_finder.specs.declared.zone.Zone.{Zone}
+use Rattle.certificate_finder.specs.Lists.{TellsOne}
+use Rattle.certificate_finder.specs.Writing.{Writing}
 use Rattle.certificate_finder.specs.Lining.{AreGrouped, ArePlaces, AreSpots, AreTurned, HavePoints, InLine, IsLine, IsNextPoint, place_at, positions_in, turn_at, turn_of}
 use Rattle.certificate_finder.specs.Owning.{AreOwners}
 use Rattle.certificate_finder.specs.Points.{ArePoints, IsPoint}
 use Rattle.certificate_finder.specs.Spots.{AreOfOne, is_miss}
 use Rattle.certificate_finder.specs.Steps.{AreSteps, IsStep, kind_of}
 use Rattle.certificate_finder.specs.Turns.{end_at, start_at}
-use Rattle.certificate_finder.specs.Zones.{AreDistinct, ArePositions, AreZones, FollowOn}
+use Rattle.certificate_finder.specs.Zones.{AreDistinct, ArePositions, AreZones, FollowOn, TellsZone}
 use Rattle.certificate_finder.proofs.CrossingLemmas.{keys_rise}
 use Rattle.certificate_finder.proofs.EndLemmas.{found_at, positions_begin, positions_more}
 use Rattle.certificate_finder.proofs.FindLemmas.{call_at, step_at}
@@ -307,3 +309,15 @@ places_more count zones upto places zone distinct had at within = record {
         slice_get-get_or (set places zone.write upto) z.write k (omega arith) ∙ ap Some (get_or-set_other places zone.write z.write upto k apart ∙ get_or_from_slice_get places z.write k k old)
   ];
 }
+
+pub zones_in : (steps : List Step) (owners : List ℕ) (zones : List Zone) → AreZones steps owners zones → All (λ (zone : Zone). zone.write < length steps) zones
+zones_in steps owners zones zs = All-weaker (TellsOne steps Writing (TellsZone steps owners)) (λ (zone : Zone). zone.write < length steps) (λ z one. let e : z.write ≡ one.position = one.told.write in let within = slice_get_within steps one.position one.step one.at in omega arith) zones zs.lists.sound
+
+-- the whole way from zones to a certificate
+pub accepted_by_spots : (history : List Call) (steps : List Step) (are : AreSteps history steps) (owners : List ℕ) (own : AreOwners steps (length steps) owners []) (zones : List Zone) (zs : AreZones steps owners zones) (placed places : List ℕ) → placed ≡ places → ArePlaces (length steps) zones (length zones) places → (line turns : List Ranked) → turns ≡ line → IsLine steps owners placed (length zones) line → (spots spotted : List Ranked) → spotted ≡ spots → AllPairs FollowOn zones → All (λ (call : Call). call.start ≤ call.end) history → (InLine history steps (positions_in turns) → AreSpots history turns spots) → (certificate : List ℕ) → certificate ≡ positions_in spotted → IsAccepted history certificate
+accepted_by_spots history steps are owners own zones zs placed places same_places pl line turns same_turns is spots spotted same_spots follow intervals make certificate written =
+    let pl' : ArePlaces (length steps) zones (length zones) placed = subst (λ p. ArePlaces (length steps) zones (length zones) p) (sym same_places) pl in
+    let inline : InLine history steps (positions_in line) = record { neighbours = line_neighbours history steps are owners own zones zs placed pl' line is; grouped = line_grouped history steps are owners own zones zs placed pl' line is } in
+    let sp : AreSpots history line spots = subst (λ t. AreSpots history t spots) same_turns (make (subst (λ t. InLine history steps (positions_in t)) (sym same_turns) inline)) in
+    let accepted = spots_accepted history steps are owners own zones zs placed pl' line is spots follow intervals sp in
+    subst (λ ps. IsAccepted history ps) (sym (written ∙ ap positions_in same_spots)) accepted

@@ -88,7 +88,8 @@ fn found_of(alloc: Global, steps: &[Step]) -> Result<Found, AllocError>
     ensures { IfOk result (λ found. (history : List Call) → AreSteps history steps.now
         → All (λ call. call.start ≤ call.end) history → IsFound history found) }
 {
-    match read_result_of(alloc, steps)? {
+    let read = read_result_of(alloc, steps)?;
+    match read {
         ReadResult::Refused(refusal) => {
             Ok(Found::Rejected(Witness::Hit(refusal.hit, refusal.puts)))
         }

@@ -31,9 +31,12 @@ pub(crate) fn certificate_by_zones(
         → All (λ call. call.start ≤ call.end) history → IsAccepted history certificate) }
 {
     let places = places_of(alloc, steps.len(), zones)?;
-    let line = line_of(alloc, steps, owners, places.as_slice(), zones.len())?;
-    let spots = spots_of(alloc, steps, line.as_slice())?;
-    match certificate_of(alloc, spots.as_slice()) {
+    let placed = places.as_slice();
+    let line = line_of(alloc, steps, owners, placed, zones.len())?;
+    let turns = line.as_slice();
+    let spots = spots_of(alloc, steps, turns)?;
+    let spotted = spots.as_slice();
+    match certificate_of(alloc, spotted) {
         Ok(certificate) => Ok(certificate),
         Err(refused) => Err(refused),
     }
