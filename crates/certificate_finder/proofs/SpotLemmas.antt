@@ -212,10 +212,9 @@ module _ (history : List Call) (steps : List Step) (are : AreSteps history steps
 
   pub spots_go_on : (spots : List Ranked) (upto point next : ℕ) (turn : Ranked) (step before : Step) → HavePoints history line spots upto point → upto < 4294967296 → slice_get line upto ≡ Some turn → slice_get steps turn.position ≡ Some step → (upto ≡ 0 → before ≡ step) → ((q : ℕ) → 0 < upto → slice_get (positions_in line) (upto - 1) ≡ Some q → slice_get steps q ≡ Some before) → IsNextPoint step before point next → HavePoints history line (spots ++ record { position = turn.position; rank = next * 4294967296 + upto } ∷ []) (upto + 1) next
   spots_go_on spots upto point next turn step before had few at at_step first later chosen =
-      let p = turn.position in
+
       let at_p : slice_get (positions_in line) upto ≡ Some turn.position = slice_get-map (λ (r : Ranked). r.position) line upto ∙ ap (option_map (λ (r : Ranked). r.position)) at in
       let is = next_is spots upto point next turn.position step before had at_p at_step first later chosen in
-      let new : Ranked = record { position = turn.position; rank = next * 4294967296 + upto } in
       let div : (next * 4294967296 + upto) / 4294967296 ≡ next = div_is next upto few in
       let within = slice_get_within line upto turn at in
       let len_line = length-map line (λ (r : Ranked). r.position) in
@@ -321,3 +320,7 @@ accepted_by_spots history steps are owners own zones zs placed places same_place
     let sp : AreSpots history line spots = subst (λ t. AreSpots history t spots) same_turns (make (subst (λ t. InLine history steps (positions_in t)) (sym same_turns) inline)) in
     let accepted = spots_accepted history steps are owners own zones zs placed pl' line is spots follow intervals sp in
     subst (λ ps. IsAccepted history ps) (sym (written ∙ ap positions_in same_spots)) accepted
+
+pub certificate_more : (spots : List Ranked) (index : ℕ) (spot : Ranked) (old new : List ℕ) → new ≡ old ++ spot.position ∷ [] → old ≡ positions_in (take index spots) → slice_get spots index ≡ Some spot → new ≡ positions_in (take (index + 1) spots)
+certificate_more spots index spot old new written had at =
+    written ∙ ap (λ ps. ps ++ spot.position ∷ []) had ∙ sym (ap positions_in (take_next spots index spot at) ∙ map_push (λ (r : Ranked). r.position) (take index spots) spot)

@@ -24,7 +24,6 @@ use Rattle.certificate_finder.proofs.EndLemmas.{found_at}
 use Rattle.certificate_finder.proofs.FindLemmas.{call_at, hit_at, put_at, step_at, writing_of}
 use Rattle.certificate_finder.proofs.Listing.{all_at, index_of, pair_at, same_at}
 use Rattle.certificate_finder.proofs.Placing.{call_of, end_is, one_of, start_is}
-use Rattle.certificate_finder.proofs.Zones.{zones_fit}
 
 no_miss_of : (act : Act) → is_miss act ≡ false → kind_of act ≢ kinds.Miss
 no_miss_of (Put value expires) h same = cc

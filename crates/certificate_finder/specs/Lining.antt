@@ -36,15 +36,15 @@ turn_at steps owners places zones position = option_map_or (λ step. turn_of ste
 
 -- the positions of ranked calls
 abbrev pub positions_in : List Ranked → List ℕ
-positions_in ranked = map (λ r. r.position) ranked
+positions_in ranked = map (λ (r : Ranked). r.position) ranked
 
 -- all calls, by their turns
 pub record IsLine (steps : List Step) (owners places : List ℕ) (zones : ℕ) (line : List Ranked) : Type 0 where
   pub listed : List Ranked
   pub positions : ArePositions (length steps) (positions_in listed)
   pub moved : IsPermutation listed line
-  pub ranks : All (λ r. r.rank ≡ turn_at steps owners places zones r.position) line
-  pub sorted : IsNonDecreasingBy (λ r. r.rank) line
+  pub ranks : All (λ (r : Ranked). r.rank ≡ turn_at steps owners places zones r.position) line
+  pub sorted : IsNonDecreasingBy (λ (r : Ranked). r.rank) line
 
 -- between two calls of one key, neither a miss, stand only calls of that key that are no misses
 pub record AreGrouped (history : List Call) (positions : List ℕ) : Type 0 where
@@ -54,10 +54,10 @@ pub record AreGrouped (history : List Call) (positions : List ℕ) : Type 0 wher
 pub record AreSpots (history : List Call) (line spots : List Ranked) : Type 0 where
   pub listed : List Ranked
   pub same : positions_in listed ≡ positions_in line
-  pub points : ArePoints (λ r. r.position) (λ r. r.rank / 4294967296) (AreOfOne history) (start_at history) listed
+  pub points : ArePoints (λ (r : Ranked). r.position) (λ (r : Ranked). r.rank / 4294967296) (AreOfOne history) (start_at history) listed
   pub places : (k : ℕ) (d : Ranked) → k < length listed → (slice_index_or listed k d).rank ≡ (slice_index_or listed k d).rank / 4294967296 * 4294967296 + k
   pub moved : IsPermutation listed spots
-  pub sorted : IsNonDecreasingBy (λ r. r.rank) spots
+  pub sorted : IsNonDecreasingBy (λ (r : Ranked). r.rank) spots
 
 -- a call stands in a line behind one of its key, if there is an earlier one of its key
 pub record InLine (history : List Call) (steps : List Step) (positions : List ℕ) : Type 0 where
@@ -84,7 +84,7 @@ pub record IsPointAt (steps : List Step) (line : List Ranked) (place point next 
 -- the calls of a line below a place have points, of which the last is this
 pub record HavePoints (history : List Call) (line spots : List Ranked) (upto point : ℕ) : Type 0 where
   pub same : positions_in spots ≡ take upto (positions_in line)
-  pub points : ArePoints (λ r. r.position) (λ r. r.rank / 4294967296) (AreOfOne history) (start_at history) spots
+  pub points : ArePoints (λ (r : Ranked). r.position) (λ (r : Ranked). r.rank / 4294967296) (AreOfOne history) (start_at history) spots
   pub places : (k : ℕ) (r : Ranked) → slice_get spots k ≡ Some r → r.rank ≡ r.rank / 4294967296 * 4294967296 + k
   pub last : (k p : ℕ) → k + 1 ≡ upto → slice_get (positions_in line) k ≡ Some p → IsPoint (AreOfOne history) (start_at history) (take k (positions_in line)) p point
   pub none : upto ≡ 0 → point ≡ 0
@@ -92,4 +92,4 @@ pub record HavePoints (history : List Call) (line spots : List Ranked) (upto poi
 -- the calls below a position, in order, with their turns
 pub record AreTurned (steps : List Step) (owners places : List ℕ) (zones upto : ℕ) (line : List Ranked) : Type 0 where
   pub positions : ArePositions upto (positions_in line)
-  pub ranks : All (λ r. r.rank ≡ turn_at steps owners places zones r.position) line
+  pub ranks : All (λ (r : Ranked). r.rank ≡ turn_at steps owners places zones r.position) line

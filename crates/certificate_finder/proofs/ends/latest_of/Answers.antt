@@ -1,6 +1,7 @@
 use Rattle.std.proofs.Common.{◌≡◌, ◌≢◌, ℕ, ◌+◌, ◌-◌, ◌^◌, ◌<◌, ◌≤◌, ◌⊎◌, true, false, Option, Some, None, List, [], ◌∷◌, ◌++◌, length, get_or, take, refl, sym, ap, ◌∙◌, subst, arith, rules, inl, inr}
 use Rattle.std.specs.Prelude.{All, AllPairs, slice_get, IsTrue}
 use Rattle.std.proofs.lemmas.Grind.{common_steps}
+use Rattle.certificate_finder.proofs.Listing.{all_at}
 use Rattle.certificate_finder.proofs.EndLemmas.{StartsBehind, starts_self, starts_join, are_latest, best_begins, best_kept, best_taken, known_within}
 use Rattle.certificate_finder.proofs.ends.latest_of.Goals as goal
 use Rattle.certificate_finder.proofs.ends.latest_of.Goals.{then-best-step, else-best-step}
@@ -19,3 +20,6 @@ loop-position-preserved c = elim c.if-best-step.branch [
 
 pub returns : goal.returns
 returns c = are_latest c.args.steps.now c.args.owners.now c.loop-position.position c.loop-position.latest.items c.loop-position.invariant (omega arith)
+
+pub number_at-known-requires : goal.number_at-known-requires
+number_at-known-requires c = let l = all_at (λ owner. owner < length c.args.steps.now) c.args.owners.now c.loop-position.position c.number_at-owner.result c.requires.within c.number_at-owner.ensures in let same = ap length c.as_slice.ensures.value in let count = c.loop-position.invariant.count in omega arith
