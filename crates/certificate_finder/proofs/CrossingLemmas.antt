@@ -62,41 +62,41 @@ module _ (zones : List Zone) (sorted : IsNonDecreasingBy zone_rank zones) (fit :
   high_goes upto high zone next had at enough chosen above =
       let rises = keys_rise had.index upto high zone (let h = had.below in omega arith) had.at at in
       let follow : (i j : ℕ) (earlier later : Zone) → i < j → j < upto + 1 → slice_get zones i ≡ Some earlier → slice_get zones j ≡ Some later → FollowOn earlier later
-        = λ i j earlier later less within one other. elim (cases_eq j upto) [
-          | inl same ↦ subst (λ l. FollowOn earlier l) (same_at zones upto j zone later (sym same) at other) (follows_on upto high zone had at enough i earlier (omega arith) one)
-          | inr before ↦ had.follow i j earlier later less (omega arith) one other
-        ] in
+      = λ i j earlier later less within one other. elim (cases_eq j upto) [
+        | inl same ↦ subst (λ l. FollowOn earlier l) (same_at zones upto j zone later (sym same) at other) (follows_on upto high zone had at enough i earlier (omega arith) one)
+        | inr before ↦ had.follow i j earlier later less (omega arith) one other
+      ] in
       elim chosen [
         | inl taken ↦ subst (λ n. HighSoFar zones (upto + 1) n) (sym taken) (record {
-            index = upto;
-            below = omega arith;
-            at = at;
-            last = λ k other less other_at. keys_rise k upto other zone (omega arith) other_at at;
-            most = λ k other less other_at key. elim (cases_eq k upto) [
-              | inl same ↦ let is = same_at zones upto k zone other (sym same) at other_at in subst (λ (o : Zone). o.start ≤ zone.start) is (omega arith)
-              | inr before ↦
-                  let a = had.last k other (omega arith) other_at in
-                  let same : zone.key ≡ high.key = omega arith in
-                  let b = had.most k other (omega arith) other_at (key ∙ same) in
-                  let c = subst (λ (n : Zone). high.start ≤ n.start) taken (above same) in
-                  omega arith
-            ];
-            follow = follow;
-          })
+          index = upto;
+          below = omega arith;
+          at = at;
+          last = λ k other less other_at. keys_rise k upto other zone (omega arith) other_at at;
+          most = λ k other less other_at key. elim (cases_eq k upto) [
+            | inl same ↦ let is = same_at zones upto k zone other (sym same) at other_at in subst (λ (o : Zone). o.start ≤ zone.start) is (omega arith)
+            | inr before ↦
+                let a = had.last k other (omega arith) other_at in
+                let same : zone.key ≡ high.key = omega arith in
+                let b = had.most k other (omega arith) other_at (key ∙ same) in
+                let c = subst (λ (n : Zone). high.start ≤ n.start) taken (above same) in
+                omega arith
+          ];
+          follow = follow;
+        })
         | inr kept ↦ subst (λ n. HighSoFar zones (upto + 1) n) (sym kept.0) (record {
-            index = had.index;
-            below = let h = had.below in omega arith;
-            at = had.at;
-            last = λ k other less other_at. elim (cases_eq k upto) [
-              | inl same ↦ let is = same_at zones upto k zone other (sym same) at other_at in let key = kept.1 in subst (λ (o : Zone). o.key ≤ high.key) is (omega arith)
-              | inr before ↦ had.last k other (omega arith) other_at
-            ];
-            most = λ k other less other_at key. elim (cases_eq k upto) [
-              | inl same ↦ let is = same_at zones upto k zone other (sym same) at other_at in subst (λ (o : Zone). o.start ≤ high.start) is kept.2
-              | inr before ↦ had.most k other (omega arith) other_at key
-            ];
-            follow = follow;
-          })
+          index = had.index;
+          below = let h = had.below in omega arith;
+          at = had.at;
+          last = λ k other less other_at. elim (cases_eq k upto) [
+            | inl same ↦ let is = same_at zones upto k zone other (sym same) at other_at in let key = kept.1 in subst (λ (o : Zone). o.key ≤ high.key) is (omega arith)
+            | inr before ↦ had.last k other (omega arith) other_at
+          ];
+          most = λ k other less other_at key. elim (cases_eq k upto) [
+            | inl same ↦ let is = same_at zones upto k zone other (sym same) at other_at in subst (λ (o : Zone). o.start ≤ high.start) is kept.2
+            | inr before ↦ had.most k other (omega arith) other_at key
+          ];
+          follow = follow;
+        })
       ]
 
   pub high_ends : (upto : ℕ) (high : Zone) → HighSoFar zones upto high → length zones ≤ upto → IsCrossingOrNone zones None

@@ -115,8 +115,7 @@ module _ (history : List Call) (steps : List Step) (are : AreSteps history steps
       let c = cs.end in
       let d = hs.start in
       let behind = stands.behind in
-      let before = stands.before in
-      (
+      let before = stands.before in (
         record {
           writes = subst IsWriting (sym cs.kind) (writing_of call.act stands.writes.1);
           key = alike.keys.1 (stands.writes.0 ∙ sym same);
@@ -279,9 +278,16 @@ module _ (history : List Call) (steps : List Step) (are : AreSteps history steps
       | inr hit ↦
           let c = call_at q s at in
           let v = hit_at q c.0 s c.2 hit.0 in
-          inr (c.0, v.0, v.1, c.1, v.2, λ put could.
-          let p = step_at put could.put_call could.put_at in
-          hit.1.only put p.0 p.1 (may_of q put s p.0 at p.1 could))
+          inr (
+            c.0,
+            v.0,
+            v.1,
+            c.1,
+            v.2,
+            λ put could.
+                let p = step_at put could.put_call could.put_at in
+                hit.1.only put p.0 p.1 (may_of q put s p.0 at p.1 could),
+          )
     ]
   ]
 

@@ -51,10 +51,10 @@ module _ {X : Type 0} (steps : List Step) (wanted : Step → Type 0) (tells : �
     sound = All-push (TellsOne steps wanted tells) items item had.sound (record { position = upto; step = step; at = at; is_wanted = is; told = told });
     complete = λ p s less found want. elim (cases_eq p upto) [
       | inl same ↦ record {
-          item = item;
-          listed = Contains-push items item;
-          told = subst (λ t. tells p t item) (same_at steps upto p step s (sym same) at found) (subst (λ q. tells q step item) (sym same) told);
-        }
+        item = item;
+        listed = Contains-push items item;
+        told = subst (λ t. tells p t item) (same_at steps upto p step s (sym same) at found) (subst (λ q. tells q step item) (sym same) told);
+      }
       | inr other ↦
           let old = had.complete p s (omega arith) found want in
           record { item = old.item; listed = Contains-append_left items (item ∷ []) old.item old.listed; told = old.told }

@@ -29,11 +29,11 @@ module _ (steps : List Step) (writes : List Write) (are : AreWrites steps writes
   pub dead_of_none : (p : ℕ) (step : Step) (put : Put) → IsFirstOver writes step.key step.end None → IsPut p step None put → TellsPut steps p step put
   dead_of_none p step put first is =
       let nothing : (q : ℕ) (other : Step) → slice_get steps q ≡ Some other → IsOver step other → ⊥
-        = λ q other at over.
-            let w = written q other at over.writes in
-            let start : w.item.start ≡ other.start = w.told.start in
-            let behind = over.behind in
-            All-contains (λ (w : Write). w.key ≡ step.key → ¬ (step.end < w.start)) writes w.item first w.listed (w.told.key ∙ over.key) (omega arith) in
+      = λ q other at over.
+      let w = written q other at over.writes in
+      let start : w.item.start ≡ other.start = w.told.start in
+      let behind = over.behind in
+      All-contains (λ (w : Write). w.key ≡ step.key → ¬ (step.end < w.start)) writes w.item first w.listed (w.told.key ∙ over.key) (omega arith) in
       record {
         is_at = is.is_at;
         key = is.key;
@@ -127,10 +127,10 @@ module _ (puts : List Put) (order : AreInOrder puts) where
   pub best_alone : (index : ℕ) (put : Put) → slice_get puts index ≡ Some put → ((k : ℕ) (other : Put) → k < index → slice_get puts k ≡ Some other → ¬ AreLike other put) → IsBestAt puts index (record { put = put.position; dead = put.dead; next = None })
   best_alone index put at none =
       let here : (k : ℕ) (other : Put) → k < index + 1 → slice_get puts k ≡ Some other → AreLike other put → put ≡ other
-        = λ k other less other_at like. elim (cases_eq k index) [
-          | inl same ↦ same_at puts index k put other (sym same) at other_at
-          | inr before ↦ absurd (none k other (omega arith) other_at like)
-        ] in
+      = λ k other less other_at like. elim (cases_eq k index) [
+        | inl same ↦ same_at puts index k put other (sym same) at other_at
+        | inr before ↦ absurd (none k other (omega arith) other_at like)
+      ] in
       record {
         put = put;
         at = at;

@@ -103,32 +103,34 @@ module _ (history : List Call) (steps : List Step) (are : AreSteps history steps
       found_at steps p (omega arith)
 
   pub line_grouped : AreGrouped history (positions_in line)
-  line_grouped = record { each = λ i j k p q r ij jk at_p at_q at_r one.
-      let a = call_of history one.key p one.first in
-      let c = call_of history one.key r one.second in
-      let both = one_of history p r a.0 c.0 a.1 c.1 one in
-      let s = step_at history steps are p a.0 a.1 in
-      let u = step_at history steps are r c.0 c.1 in
-      let t = step_of j q at_q in
-      let some : s.0.kind ≢ kinds.Miss = λ m. no_miss_of a.0.act both.1 (sym s.2.kind ∙ m) in
-      let other : u.0.kind ≢ kinds.Miss = λ m. no_miss_of c.0.act both.2 (sym u.2.kind ∙ m) in
-      let le_pq = turns_rise i j p q ij at_p at_q in
-      let le_qr = turns_rise j k q r jk at_q at_r in
-      let mid : t.0.kind ≢ kinds.Miss = before_no_miss history steps are owners own zones zs places pl q r t.0 u.0 t.1 u.1 other le_qr in
-      let alike = are.alike p r a.0 c.0 s.0 u.0 a.1 c.1 s.1 u.1 in
-      let key : s.0.key ≡ u.0.key = alike.keys.1 both.0 in
-      let zp = placed history steps are owners own zones zs places pl p s.0 s.1 some in
-      let zq = placed history steps are owners own zones zs places pl q t.0 t.1 mid in
-      let zr = placed history steps are owners own zones zs places pl r u.0 u.1 other in
-      let pq = rising_at history steps are owners own zones zs places pl p q s.0 t.0 s.1 t.1 some mid le_pq in
-      let qr = rising_at history steps are owners own zones zs places pl q r t.0 u.0 t.1 u.1 mid other le_qr in
-      let low = keys_rise zones zs.sorted zs.fit (place_at owners places p) (place_at owners places q) zp.zone zq.zone pq zp.zone_at zq.zone_at in
-      let high = keys_rise zones zs.sorted zs.fit (place_at owners places q) (place_at owners places r) zq.zone zr.zone qr zq.zone_at zr.zone_at in
-      let kp : zp.zone.key ≡ s.0.key = zp.tells.key ∙ zp.one_key in
-      let kq : zq.zone.key ≡ t.0.key = zq.tells.key ∙ zq.one_key in
-      let kr : zr.zone.key ≡ u.0.key = zr.tells.key ∙ zr.one_key in
-      let same : t.0.key ≡ u.0.key = omega arith in
-      joined history steps are q r t.0 u.0 c.0 t.1 u.1 c.1 mid both.2 same }
+  line_grouped = record {
+    each = λ i j k p q r ij jk at_p at_q at_r one.
+        let a = call_of history one.key p one.first in
+        let c = call_of history one.key r one.second in
+        let both = one_of history p r a.0 c.0 a.1 c.1 one in
+        let s = step_at history steps are p a.0 a.1 in
+        let u = step_at history steps are r c.0 c.1 in
+        let t = step_of j q at_q in
+        let some : s.0.kind ≢ kinds.Miss = λ m. no_miss_of a.0.act both.1 (sym s.2.kind ∙ m) in
+        let other : u.0.kind ≢ kinds.Miss = λ m. no_miss_of c.0.act both.2 (sym u.2.kind ∙ m) in
+        let le_pq = turns_rise i j p q ij at_p at_q in
+        let le_qr = turns_rise j k q r jk at_q at_r in
+        let mid : t.0.kind ≢ kinds.Miss = before_no_miss history steps are owners own zones zs places pl q r t.0 u.0 t.1 u.1 other le_qr in
+        let alike = are.alike p r a.0 c.0 s.0 u.0 a.1 c.1 s.1 u.1 in
+        let key : s.0.key ≡ u.0.key = alike.keys.1 both.0 in
+        let zp = placed history steps are owners own zones zs places pl p s.0 s.1 some in
+        let zq = placed history steps are owners own zones zs places pl q t.0 t.1 mid in
+        let zr = placed history steps are owners own zones zs places pl r u.0 u.1 other in
+        let pq = rising_at history steps are owners own zones zs places pl p q s.0 t.0 s.1 t.1 some mid le_pq in
+        let qr = rising_at history steps are owners own zones zs places pl q r t.0 u.0 t.1 u.1 mid other le_qr in
+        let low = keys_rise zones zs.sorted zs.fit (place_at owners places p) (place_at owners places q) zp.zone zq.zone pq zp.zone_at zq.zone_at in
+        let high = keys_rise zones zs.sorted zs.fit (place_at owners places q) (place_at owners places r) zq.zone zr.zone qr zq.zone_at zr.zone_at in
+        let kp : zp.zone.key ≡ s.0.key = zp.tells.key ∙ zp.one_key in
+        let kq : zq.zone.key ≡ t.0.key = zq.tells.key ∙ zq.one_key in
+        let kr : zr.zone.key ≡ u.0.key = zr.tells.key ∙ zr.one_key in
+        let same : t.0.key ≡ u.0.key = omega arith in
+        joined history steps are q r t.0 u.0 c.0 t.1 u.1 c.1 mid both.2 same;
+  }
 
   pub line_neighbours : (k p q : ℕ) (s t : Step) → slice_get (positions_in line) k ≡ Some p → slice_get (positions_in line) (k + 1) ≡ Some q → slice_get steps p ≡ Some s → slice_get steps q ≡ Some t → t.kind ≢ kinds.Miss → s.key ≡ t.key → AreOfOne history p q
   line_neighbours k p q s t at_p at_q at_s at_t some key =
@@ -212,7 +214,6 @@ module _ (history : List Call) (steps : List Step) (are : AreSteps history steps
 
   pub spots_go_on : (spots : List Ranked) (upto point next : ℕ) (turn : Ranked) (step before : Step) → HavePoints history line spots upto point → upto < 4294967296 → slice_get line upto ≡ Some turn → slice_get steps turn.position ≡ Some step → (upto ≡ 0 → before ≡ step) → ((q : ℕ) → 0 < upto → slice_get (positions_in line) (upto - 1) ≡ Some q → slice_get steps q ≡ Some before) → IsNextPoint step before point next → HavePoints history line (spots ++ record { position = turn.position; rank = next * 4294967296 + upto } ∷ []) (upto + 1) next
   spots_go_on spots upto point next turn step before had few at at_step first later chosen =
-
       let at_p : slice_get (positions_in line) upto ≡ Some turn.position = slice_get-map (λ (r : Ranked). r.position) line upto ∙ ap (option_map (λ (r : Ranked). r.position)) at in
       let is = next_is spots upto point next turn.position step before had at_p at_step first later chosen in
       let div : (next * 4294967296 + upto) / 4294967296 ≡ next = div_is next upto few in
@@ -223,7 +224,7 @@ module _ (history : List Call) (steps : List Step) (are : AreSteps history steps
       record {
         same = map_push (λ (r : Ranked). r.position) spots (record { position = turn.position; rank = next * 4294967296 + upto }) ∙ ap (λ ps. ps ++ turn.position ∷ []) had.same ∙ sym (take_next (positions_in line) upto turn.position at_p);
         points = points_more (AreOfOne history) (start_at history) (λ (r : Ranked). r.position) (λ (r : Ranked). r.rank / 4294967296) spots (record { position = turn.position; rank = next * 4294967296 + upto }) had.points
-          (subst (λ ps. IsPoint (AreOfOne history) (start_at history) ps turn.position ((next * 4294967296 + upto) / 4294967296)) (sym had.same) (subst (λ n. IsPoint (AreOfOne history) (start_at history) (take upto (positions_in line)) turn.position n) (sym div) is));
+            (subst (λ ps. IsPoint (AreOfOne history) (start_at history) ps turn.position ((next * 4294967296 + upto) / 4294967296)) (sym had.same) (subst (λ n. IsPoint (AreOfOne history) (start_at history) (take upto (positions_in line)) turn.position n) (sym div) is));
         places = λ k r at_r. elim (cases_eq k (length spots)) [
           | inl same ↦
               let e : record { position = turn.position; rank = next * 4294967296 + upto } ≡ r = at_push spots (record { position = turn.position; rank = next * 4294967296 + upto }) r k at_r same in

@@ -92,9 +92,8 @@ pub record IsBest (puts : List Put) (last : Put) (upto : ℕ) (best : Best) : Ty
   pub dead : put.dead ≡ best.dead
   pub most : (k : ℕ) (other : Put) → k < upto → slice_get puts k ≡ Some other → AreLike other last → other.dead ≤ best.dead
   pub next : MatchOption best.next
-    ((k : ℕ) (other : Put) → k < upto → slice_get puts k ≡ Some other → AreLike other last → other.position ≡ best.put)
-    (IsNext puts last upto best.put)
-
+      ((k : ℕ) (other : Put) → k < upto → slice_get puts k ≡ Some other → AreLike other last → other.position ≡ best.put)
+      (IsNext puts last upto best.put)
 
 -- a hit can have read a put, expiry aside
 pub record CanRead (hit : Step) (put : Put) : Type 0 where

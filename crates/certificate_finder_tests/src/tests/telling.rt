@@ -83,26 +83,113 @@ fn what_is_found_for_telling_histories(rt: HostRuntime) -> Result<(), Fail> {
         (&[(1, 4, 3, Did::Remove)], Want::Interval),
         // A hit before its put, at one stamp with it, and behind it.
         (&[(1, 0, 1, Did::Hit(1)), (1, 2, 3, Did::Put(1))], Want::Hit),
-        (&[(1, 0, 2, Did::Hit(1)), (1, 2, 3, Did::Put(1))], Want::Accepted),
-        (&[(1, 4, 5, Did::Hit(1)), (1, 2, 3, Did::Put(1))], Want::Accepted),
+        (
+            &[(1, 0, 2, Did::Hit(1)), (1, 2, 3, Did::Put(1))],
+            Want::Accepted,
+        ),
+        (
+            &[(1, 4, 5, Did::Hit(1)), (1, 2, 3, Did::Put(1))],
+            Want::Accepted,
+        ),
         // A stale hit: behind another put, and behind a removal; not where they overlap; not where they are of another key.
-        (&[(1, 0, 1, Did::Put(1)), (1, 2, 3, Did::Put(2)), (1, 4, 5, Did::Hit(1))], Want::Hit),
-        (&[(1, 0, 1, Did::Put(1)), (1, 2, 3, Did::Remove), (1, 4, 5, Did::Hit(1))], Want::Hit),
-        (&[(1, 0, 1, Did::Put(1)), (1, 2, 4, Did::Remove), (1, 4, 5, Did::Hit(1))], Want::Accepted),
-        (&[(1, 0, 1, Did::Put(1)), (2, 2, 3, Did::Remove), (1, 4, 5, Did::Hit(1))], Want::Accepted),
+        (
+            &[
+                (1, 0, 1, Did::Put(1)),
+                (1, 2, 3, Did::Put(2)),
+                (1, 4, 5, Did::Hit(1)),
+            ],
+            Want::Hit,
+        ),
+        (
+            &[
+                (1, 0, 1, Did::Put(1)),
+                (1, 2, 3, Did::Remove),
+                (1, 4, 5, Did::Hit(1)),
+            ],
+            Want::Hit,
+        ),
+        (
+            &[
+                (1, 0, 1, Did::Put(1)),
+                (1, 2, 4, Did::Remove),
+                (1, 4, 5, Did::Hit(1)),
+            ],
+            Want::Accepted,
+        ),
+        (
+            &[
+                (1, 0, 1, Did::Put(1)),
+                (2, 2, 3, Did::Remove),
+                (1, 4, 5, Did::Hit(1)),
+            ],
+            Want::Accepted,
+        ),
         // A put that ends late, read before and behind one that it spans.
-        (&[(1, 0, 9, Did::Put(1)), (1, 2, 3, Did::Put(2)), (1, 4, 5, Did::Hit(1)), (1, 6, 7, Did::Hit(1))], Want::Accepted),
-        (&[(1, 0, 9, Did::Put(1)), (1, 1, 2, Did::Hit(1)), (1, 3, 4, Did::Put(2)), (1, 5, 6, Did::Hit(1))], Want::Crossed),
+        (
+            &[
+                (1, 0, 9, Did::Put(1)),
+                (1, 2, 3, Did::Put(2)),
+                (1, 4, 5, Did::Hit(1)),
+                (1, 6, 7, Did::Hit(1)),
+            ],
+            Want::Accepted,
+        ),
+        (
+            &[
+                (1, 0, 9, Did::Put(1)),
+                (1, 1, 2, Did::Hit(1)),
+                (1, 3, 4, Did::Put(2)),
+                (1, 5, 6, Did::Hit(1)),
+            ],
+            Want::Crossed,
+        ),
         // Two writes each of which has to stand first.
-        (&[(1, 0, 9, Did::Put(1)), (1, 0, 9, Did::Put(2)), (1, 1, 2, Did::Hit(1)), (1, 3, 4, Did::Hit(2)), (1, 5, 6, Did::Hit(1))], Want::Crossed),
+        (
+            &[
+                (1, 0, 9, Did::Put(1)),
+                (1, 0, 9, Did::Put(2)),
+                (1, 1, 2, Did::Hit(1)),
+                (1, 3, 4, Did::Hit(2)),
+                (1, 5, 6, Did::Hit(1)),
+            ],
+            Want::Crossed,
+        ),
         // Expired at the moment of the hit, and a moment before.
-        (&[(1, 0, 1, Did::Expiring(1, 5)), (1, 2, 3, Did::HitAt(1, 5))], Want::Hit),
-        (&[(1, 0, 1, Did::Expiring(1, 5)), (1, 2, 3, Did::HitAt(1, 4))], Want::Accepted),
+        (
+            &[(1, 0, 1, Did::Expiring(1, 5)), (1, 2, 3, Did::HitAt(1, 5))],
+            Want::Hit,
+        ),
+        (
+            &[(1, 0, 1, Did::Expiring(1, 5)), (1, 2, 3, Did::HitAt(1, 4))],
+            Want::Accepted,
+        ),
         // A value that was put twice: both can have been read, or the first one can't.
-        (&[(1, 0, 9, Did::Put(1)), (1, 0, 9, Did::Put(1)), (1, 1, 2, Did::Hit(1))], Want::Undecided),
-        (&[(1, 0, 1, Did::Put(1)), (1, 2, 3, Did::Put(1)), (1, 4, 5, Did::Hit(1))], Want::Accepted),
+        (
+            &[
+                (1, 0, 9, Did::Put(1)),
+                (1, 0, 9, Did::Put(1)),
+                (1, 1, 2, Did::Hit(1)),
+            ],
+            Want::Undecided,
+        ),
+        (
+            &[
+                (1, 0, 1, Did::Put(1)),
+                (1, 2, 3, Did::Put(1)),
+                (1, 4, 5, Did::Hit(1)),
+            ],
+            Want::Accepted,
+        ),
         // Nothing is decided of one hit, and another one can have read no put.
-        (&[(1, 0, 9, Did::Put(1)), (1, 0, 9, Did::Put(1)), (1, 1, 2, Did::Hit(1)), (2, 0, 1, Did::Hit(3))], Want::Hit),
+        (
+            &[
+                (1, 0, 9, Did::Put(1)),
+                (1, 0, 9, Did::Put(1)),
+                (1, 1, 2, Did::Hit(1)),
+                (2, 0, 1, Did::Hit(3)),
+            ],
+            Want::Hit,
+        ),
     ];
     for (rows, want) in table {
         assert_eq!(rt; found(rt.alloc(), rows)?, Some(want));

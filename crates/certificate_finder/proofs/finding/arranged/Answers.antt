@@ -18,14 +18,14 @@ returns-in-Some c = λ history are intervals. subst (λ w. IsFound history (Reje
 pub returns-then-not-is_empty : goal.returns-then-not-is_empty
 returns-then-not-is_empty c = λ history are intervals. record { accepted = tt; rejected = tt; undecided = undecided history c.args.steps.now are c.args.owners.owners.items c.args.owners.unsure.items c.requires.owners (some_left c.args.owners.unsure.items c.as_slice-doubtful.result.now c.as_slice-doubtful.ensures.value c.if-not-is_empty.ensures) }
 
-pub certificate_by_zones-certificate-requires-clause-few_zones : goal.certificate_by_zones-certificate-requires-clause-few_zones
-certificate_by_zones-certificate-requires-clause-few_zones c = let l = c.in_ok-zones.ensures.lists.few in let few = c.requires.few in let same = ap length c.as_slice-listed.ensures.value in omega arith
+pub certificate_by_zones-requires-clause-few_zones : goal.certificate_by_zones-requires-clause-few_zones
+certificate_by_zones-requires-clause-few_zones c = let l = c.in_ok-zones.ensures.lists.few in let few = c.requires.few in let same = ap length c.as_slice-listed.ensures.value in omega arith
 
-pub certificate_by_zones-certificate-requires-clause-owners : goal.certificate_by_zones-certificate-requires-clause-owners
-certificate_by_zones-certificate-requires-clause-owners c = subst (λ os. AreOwners c.args.steps.now (length c.args.steps.now) os []) (sym c.as_slice-owned.ensures.value) (sure c.args.steps.now c.args.owners.owners.items c.args.owners.unsure.items c.as_slice-doubtful.result.now c.as_slice-doubtful.ensures.value c.if-not-is_empty.ensures c.requires.owners)
+pub certificate_by_zones-requires-clause-owners : goal.certificate_by_zones-requires-clause-owners
+certificate_by_zones-requires-clause-owners c = subst (λ os. AreOwners c.args.steps.now (length c.args.steps.now) os []) (sym c.as_slice-owned.ensures.value) (sure c.args.steps.now c.args.owners.owners.items c.args.owners.unsure.items c.as_slice-doubtful.result.now c.as_slice-doubtful.ensures.value c.if-not-is_empty.ensures c.requires.owners)
 
-pub certificate_by_zones-certificate-requires-clause-zones : goal.certificate_by_zones-certificate-requires-clause-zones
-certificate_by_zones-certificate-requires-clause-zones c = subst (λ zs. AreZones c.args.steps.now c.as_slice-owned.result.now zs) (sym c.as_slice-listed.ensures.value) c.in_ok-zones.ensures
+pub certificate_by_zones-requires-clause-zones : goal.certificate_by_zones-requires-clause-zones
+certificate_by_zones-requires-clause-zones c = subst (λ zs. AreZones c.args.steps.now c.as_slice-owned.result.now zs) (sym c.as_slice-listed.ensures.value) c.in_ok-zones.ensures
 
 pub returns : goal.returns
 returns c = λ history are intervals. record { accepted = c.in_ok-certificate.ensures history are intervals; rejected = tt; undecided = tt }
