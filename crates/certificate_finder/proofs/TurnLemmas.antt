@@ -25,7 +25,7 @@ use Rattle.certificate_finder.proofs.FindLemmas.{call_at, hit_at, put_at, step_a
 use Rattle.certificate_finder.proofs.Listing.{all_at, index_of, pair_at, same_at}
 use Rattle.certificate_finder.proofs.Placing.{call_of, end_is, one_of, start_is}
 
-no_miss_of : (act : Act) → is_miss act ≡ false → kind_of act ≢ kinds.Miss
+pub no_miss_of : (act : Act) → is_miss act ≡ false → kind_of act ≢ kinds.Miss
 no_miss_of (Put value expires) h same = cc
 no_miss_of Remove h same = cc
 no_miss_of (Hit value moment) h same = cc
