@@ -1,13 +1,12 @@
 -- Looking for zones that are crossed.
-use Rattle.std.proofs.Common.{◌≡◌, ◌≢◌, ℕ, ◌+◌, ◌-◌, ◌*◌, ◌^◌, ◌<◌, ◌≤◌, ◌⊎◌, Option, Some, None, List, length, refl, sym, ap, ◌∙◌, subst, arith, inl, inr}
-use Rattle.std.specs.Prelude.{All, AllPairs, Contains, slice_get}
+use Rattle.std.proofs.Common.{◌≡◌, ◌≢◌, ℕ, ◌+◌, ◌*◌, ◌^◌, ◌<◌, ◌≤◌, ◌⊎◌, Some, None, List, length, sym, ◌∙◌, subst, arith, inl, inr}
+use Rattle.std.specs.Prelude.{All, slice_get}
 use Rattle.std.proofs.Common.{true, false}
 use Rattle.std.specs.List.Sorted.{IsNonDecreasingBy}
 use Rattle.std.proofs.lemmas.Bool.{cases_eq, cases_lt}
 use Rattle.std.proofs.lemmas.Option.{slice_get_within}
-use Rattle.certificate_finder.specs.declared.crossing.Crossing.{Crossing}
 use Rattle.certificate_finder.specs.declared.zone.Zone.{Zone}
-use Rattle.certificate_finder.specs.Zones.{AreCrossing, AreDistinct, FollowOn, IsCrossingOrNone, IsFitZone, zone_rank}
+use Rattle.certificate_finder.specs.Zones.{AreDistinct, FollowOn, IsCrossingOrNone, IsFitZone, zone_rank}
 use Rattle.certificate_finder.proofs.Listing.{all_at, contains_at, pair_at, pairs_from_at, same_at}
 use Rattle.certificate_finder.proofs.Ranking.{rank_at}
 

@@ -1,21 +1,19 @@
 -- Why a hit can have read no put.
-use Rattle.std.proofs.Common.{◌≡◌, ◌≢◌, ℕ, ◌+◌, ◌^◌, ◌<◌, ◌≤◌, ◌⊎◌, Option, Some, None, List, [], ◌∷◌, ◌++◌, length, refl, sym, ap, ◌∙◌, subst, arith, inl, inr}
-use Rattle.std.specs.Prelude.{All, Contains, map, slice_get, IsTrue, MatchOption}
+use Rattle.std.proofs.Common.{◌≡◌, ℕ, ◌+◌, ◌^◌, ◌<◌, ◌≤◌, ◌⊎◌, Option, Some, None, List, [], ◌∷◌, ◌++◌, length, sym, ap, ◌∙◌, subst, arith, inl, inr}
+use Rattle.std.specs.Prelude.{All, Contains, map, slice_get, MatchOption}
 use Rattle.std.proofs.lemmas.Bool.{cases_eq}
 use Rattle.std.proofs.lemmas.List.{map_push}
-use Rattle.std.proofs.lemmas.List.Elements.{All-contains, All-nil, All-push, Contains-append_left, Contains-push}
+use Rattle.std.proofs.lemmas.List.Elements.{All-nil, All-push, Contains-append_left, Contains-push}
 use Rattle.std.proofs.lemmas.Option.{slice_get_within}
-use Rattle.record_pages.specs.Expiry.{is_live}
 use Rattle.certificate_finder.specs.declared.excluded.Excluded.{Excluded}
 use Rattle.certificate_finder.specs.declared.excluded.Excuse.{Excuse}
 use Rattle.certificate_finder.specs.declared.excluded.Excuse.TheVariants.{Later, Expired, Replaced}
-use Rattle.certificate_finder.specs.declared.kind.Kind.TheVariants as kinds
 use Rattle.certificate_finder.specs.declared.put.Put.{Put}
 use Rattle.certificate_finder.specs.declared.step.Step.{Step}
-use Rattle.certificate_finder.specs.Excluding.{AreExcluded, ExcludesStep, IsExcludedStep, GrowsByExcluded, IsExcuse, IsLikePut}
+use Rattle.certificate_finder.specs.Excluding.{AreExcluded, ExcludesStep, IsExcludedStep, GrowsByExcluded, IsExcuse}
 use Rattle.certificate_finder.specs.Lists.{TellsOne}
-use Rattle.certificate_finder.specs.Owning.{MayRead, ReadsNoLive}
-use Rattle.certificate_finder.specs.Putting.{ArePuts, CanRead, EndsOver, IsOver, Putting, TellsPut}
+use Rattle.certificate_finder.specs.Owning.{ReadsNoLive}
+use Rattle.certificate_finder.specs.Putting.{ArePuts, EndsOver, IsOver, Putting, TellsPut}
 use Rattle.certificate_finder.proofs.Listing.{all_at, index_of, same_at}
 use Rattle.certificate_finder.proofs.OwnLemmas.{may_read}
 

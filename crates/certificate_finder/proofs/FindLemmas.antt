@@ -1,6 +1,6 @@
 -- What calls in numbers say of their history.
-use Rattle.std.proofs.Common.{◌≡◌, ◌≢◌, ℕ, ◌+◌, ◌^◌, ◌<◌, ◌≤◌, ◌⊎◌, Option, Some, List, [], length, refl, sym, ap, ◌∙◌, subst, arith, inl, inr}
-use Rattle.std.specs.Prelude.{All, AllPairs, Contains, map, slice_get, IsTrue, IsSomeAnd}
+use Rattle.std.proofs.Common.{◌≡◌, ◌≢◌, ℕ, ◌<◌, Some, List, [], length, refl, sym, ap, ◌∙◌, subst, arith, inl, inr}
+use Rattle.std.specs.Prelude.{All, slice_get, IsTrue, IsSomeAnd}
 use Rattle.std.proofs.lemmas.Bool.{cases_lt}
 use Rattle.std.proofs.lemmas.List.Elements.{All-contains, All-weaker}
 use Rattle.std.proofs.lemmas.Option.{slice_get_within}
@@ -13,26 +13,24 @@ use Rattle.certificate_checker.specs.Deeds.{deed_of}
 use Rattle.certificate_checker.specs.Latest.{IsWrite, Writes}
 use Rattle.certificate_checker.specs.Orders.{Precedes}
 use Rattle.certificate_checker.proofs.Lookups.{and_some}
-use Rattle.certificate_finder.specs.declared.crossing.Crossing.{Crossing}
 use Rattle.certificate_finder.specs.declared.excluded.Excluded.{Excluded}
 use Rattle.certificate_finder.specs.declared.excluded.Excuse.{Excuse}
 use Rattle.certificate_finder.specs.declared.excluded.Excuse.TheVariants.{Later, Expired, Replaced}
 use Rattle.certificate_finder.specs.declared.kind.Kind.TheVariants as kinds
 use Rattle.certificate_finder.specs.declared.step.Step.{Step}
-use Rattle.certificate_finder.specs.declared.witness.Side.{Side}
 use Rattle.certificate_finder.specs.declared.zone.Zone.{Zone}
-use Rattle.certificate_finder.specs.Excluding.{AreExcluded, AreExcludedAt, ExcludesStep, IsExcludedStep, IsLikePut}
+use Rattle.certificate_finder.specs.Excluding.{AreExcludedAt, ExcludesStep, IsExcludedStep}
 use Rattle.certificate_finder.specs.Finding.{AreUndecided}
 use Rattle.certificate_finder.specs.Lists.{TellsOne}
-use Rattle.certificate_finder.specs.Owning.{AreOwners, IsOwned, IsUnsure, MayRead, ReadsOnly, ReadsSeveral}
+use Rattle.certificate_finder.specs.Owning.{AreOwners, IsUnsure, MayRead}
 use Rattle.certificate_finder.specs.Putting.{IsOver}
 use Rattle.certificate_finder.specs.Reads.{CouldRead, HasSeveral, StandsBetween}
-use Rattle.certificate_finder.specs.Steps.{AreAlike, AreSteps, IsStep, IsWriting, kind_of}
+use Rattle.certificate_finder.specs.Steps.{AreSteps, IsStep, IsWriting, kind_of}
 use Rattle.certificate_finder.specs.Witnesses.{AreCrossed, Excludes, GoesWith, IsExcluded, IsSide, ReadsNone}
 use Rattle.certificate_finder.specs.Writing.{Writing}
 use Rattle.certificate_finder.specs.Zones.{AreCrossing, AreZones, Goes, TellsZone}
 use Rattle.certificate_finder.proofs.EndLemmas.{found_at}
-use Rattle.certificate_finder.proofs.Listing.{all_at, all_from_at, same_at}
+use Rattle.certificate_finder.proofs.Listing.{all_at, all_from_at}
 
 -- ---- acts and their kinds
 

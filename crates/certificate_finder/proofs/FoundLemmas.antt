@@ -1,25 +1,20 @@
 -- What is found, of calls in numbers.
-use Rattle.std.proofs.Common.{◌≡◌, ◌≢◌, ℕ, ◌<◌, ◌≤◌, true, false, eqb, List, [], length, refl, sym, ap, ◌∙◌, subst, arith, inl, inr}
-use Rattle.std.specs.Prelude.{All, AllPairs, slice_get, Some}
+use Rattle.std.proofs.Common.{◌≡◌, ◌≢◌, ℕ, ◌<◌, true, false, eqb, List, [], length, sym, ap, ◌∙◌, subst, arith, inl, inr}
+use Rattle.std.specs.Prelude.{All}
 use Rattle.std.proofs.lemmas.Bool.Decides.{nat_tests}
 use Rattle.std.proofs.lemmas.List.{nil_from_length}
 use Rattle.std.proofs.lemmas.Option.{slice_get_within}
 use Rattle.trace_file.specs.declared.call.Call.{Call}
-use Rattle.certificate_checker.specs.Acceptance.{IsAccepted}
 use Rattle.certificate_finder.specs.declared.crossing.Crossing.{Crossing}
-use Rattle.certificate_finder.specs.declared.found.Found.TheVariants.{Accepted, Rejected, Undecided}
-use Rattle.certificate_finder.specs.declared.refusal.Refusal.{Refusal}
+use Rattle.certificate_finder.specs.declared.found.Found.TheVariants.{Rejected}
 use Rattle.certificate_finder.specs.declared.step.Step.{Step}
-use Rattle.certificate_finder.specs.declared.witness.Witness.{Witness}
-use Rattle.certificate_finder.specs.declared.witness.Witness.TheVariants as witnesses
 use Rattle.certificate_finder.specs.declared.zone.Zone.{Zone}
-use Rattle.certificate_finder.specs.Excluding.{AreExcludedAt}
 use Rattle.certificate_finder.specs.Finding.{IsFound}
 use Rattle.certificate_finder.specs.Owning.{AreOwners}
 use Rattle.certificate_finder.specs.Steps.{AreSteps}
 use Rattle.certificate_finder.specs.Zones.{AreCrossing, AreZones, crossed_by}
 use Rattle.certificate_finder.proofs.EndLemmas.{found_at}
-use Rattle.certificate_finder.proofs.FindLemmas.{are_crossed, reads_none}
+use Rattle.certificate_finder.proofs.FindLemmas.{are_crossed}
 use Rattle.certificate_finder.proofs.Listing.{all_from_at}
 
 -- owners are positions

@@ -1,7 +1,7 @@
 -- With which write each call goes.
-use Rattle.std.proofs.Common.{◌≡◌, ◌≢◌, ℕ, ◌+◌, ◌^◌, ◌<◌, ◌≤◌, ◌⊎◌, Option, Some, None, List, [], ◌∷◌, ◌++◌, length, get_or, refl, sym, ap, ◌∙◌, subst, arith, inl, inr}
-use Rattle.std.specs.Prelude.{All, AllPairs, Contains, slice_get, IsTrue, MatchOption}
-use Rattle.std.proofs.Common.{Bool, true, false}
+use Rattle.std.proofs.Common.{◌≡◌, ℕ, ◌+◌, ◌^◌, ◌<◌, ◌≤◌, Option, Some, None, List, [], ◌∷◌, ◌++◌, refl, sym, ap, ◌∙◌, subst, arith, inl, inr}
+use Rattle.std.specs.Prelude.{All, Contains, slice_get, IsTrue, MatchOption}
+use Rattle.std.proofs.Common.{true, false}
 use Rattle.std.proofs.lemmas.Bool.{cases_eq}
 use Rattle.std.proofs.lemmas.List.{length_push}
 use Rattle.std.proofs.lemmas.List.Elements.{All-contains, All-nil, All-push, All-weaker, Contains-append_left, Contains-push}
@@ -14,8 +14,8 @@ use Rattle.certificate_finder.specs.declared.owner.Owner.TheVariants as kinds_of
 use Rattle.certificate_finder.specs.declared.put.Put.{Put}
 use Rattle.certificate_finder.specs.declared.step.Step.{Step}
 use Rattle.certificate_finder.specs.Lists.{TellsOne}
-use Rattle.certificate_finder.specs.Owning.{AreOwners, GoesAlone, IsNoted, IsOwned, IsOwner, IsOwnerAt, IsRefused, IsUnsure, MayRead, ReadsNoLive, ReadsOnly, ReadsSeveral}
-use Rattle.certificate_finder.specs.Putting.{ArePuts, CanRead, CanReadOne, CanReadTwo, EndsOver, IsDead, IsOver, Putting, TellsPut}
+use Rattle.certificate_finder.specs.Owning.{AreOwners, IsNoted, IsOwned, IsOwner, IsOwnerAt, IsRefused, IsUnsure, MayRead, ReadsNoLive, ReadsOnly, ReadsSeveral}
+use Rattle.certificate_finder.specs.Putting.{ArePuts, CanRead, CanReadOne, CanReadTwo, EndsOver, Putting, TellsPut}
 use Rattle.certificate_finder.specs.Steps.{IsFit}
 use Rattle.certificate_finder.proofs.Listing.{same_at}
 use Rattle.certificate_finder.proofs.StepLemmas.{at_front, at_push}

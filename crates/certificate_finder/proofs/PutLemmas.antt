@@ -1,6 +1,6 @@
 -- The puts of a history, and which of them a hit can have read.
-use Rattle.std.proofs.Common.{◌≡◌, ◌≢◌, ℕ, ◌+◌, ◌-◌, ◌*◌, ◌^◌, ◌<◌, ◌≤◌, ◌⊎◌, max, Option, Some, None, List, [], ◌∷◌, ◌++◌, length, get_or, refl, sym, ap, ◌∙◌, subst, arith, inl, inr}
-use Rattle.std.specs.Prelude.{All, AllPairs, Contains, slice_get, MatchOption}
+use Rattle.std.proofs.Common.{◌≡◌, ◌≢◌, ℕ, ◌+◌, ◌-◌, ◌<◌, ◌≤◌, ◌⊎◌, max, Option, Some, None, List, [], ◌∷◌, ◌++◌, length, get_or, refl, sym, ap, ◌∙◌, subst, arith, inl, inr}
+use Rattle.std.specs.Prelude.{All, AllPairs, slice_get, MatchOption}
 use Rattle.std.specs.List.Sorted.{IsNonDecreasingBy, IsPermutation}
 use Rattle.std.proofs.lemmas.Bool.{cases_eq, cases_lt}
 use Rattle.std.proofs.lemmas.List.{get_or_append_left, get_or_push, length_push}
@@ -13,10 +13,10 @@ use Rattle.certificate_finder.specs.declared.reads.Reading.TheVariants.{Nothing,
 use Rattle.certificate_finder.specs.declared.step.Step.{Step}
 use Rattle.certificate_finder.specs.declared.write.Write.{Write}
 use Rattle.certificate_finder.specs.Lists.{IsTold, Lists, TellsOne}
-use Rattle.certificate_finder.specs.Putting.{AreBests, AreInOrder, AreLike, ArePuts, CanRead, CanReadOne, CanReadTwo, EndsOver, IsBest, IsBestAt, IsDead, IsFitPut, IsNext, IsOver, IsPut, IsReading, IsWith, Putting, SaysReading, TellsPut, put_rank, value_rank}
+use Rattle.certificate_finder.specs.Putting.{AreBests, AreInOrder, AreLike, ArePuts, CanRead, EndsOver, IsBest, IsBestAt, IsFitPut, IsNext, IsOver, IsPut, IsReading, IsWith, Putting, SaysReading, TellsPut, put_rank, value_rank}
 use Rattle.certificate_finder.specs.Steps.{IsFit}
-use Rattle.certificate_finder.specs.Writing.{AreWrites, IsFirstOver, IsSoonest, IsSplit, TellsWrite, Writing}
-use Rattle.certificate_finder.proofs.Listing.{all_at, all_from_at, contains_at, distinct_permuted, index_of, lists_permuted, pair_at, same_at}
+use Rattle.certificate_finder.specs.Writing.{AreWrites, IsFirstOver, IsSplit, TellsWrite, Writing}
+use Rattle.certificate_finder.proofs.Listing.{all_at, all_from_at, contains_at, distinct_permuted, lists_permuted, pair_at, same_at}
 use Rattle.certificate_finder.proofs.Ranking.{rank_at, squeezed_key, squeezed_value}
 
 -- ---- until when a put can be read

@@ -1,10 +1,10 @@
 -- The points of a line's calls, and the spots sorted by them.
-use Rattle.std.proofs.Common.{◌≡◌, ◌≢◌, ℕ, ◌+◌, ◌-◌, ◌*◌, ◌/◌, ◌^◌, ◌<◌, ◌≤◌, ◌⊎◌, max, true, false, Option, Some, List, [], ◌∷◌, ◌++◌, length, map, take, get_or, set, refl, sym, ap, ◌∙◌, subst, arith, inl, inr}
-use Rattle.std.specs.Prelude.{All, AllPairs, Contains, slice_get}
+use Rattle.std.proofs.Common.{◌≡◌, ◌≢◌, ℕ, ◌+◌, ◌-◌, ◌*◌, ◌/◌, ◌<◌, ◌≤◌, max, false, Some, List, [], ◌∷◌, ◌++◌, length, take, get_or, set, refl, sym, ap, ◌∙◌, subst, arith, inl, inr}
+use Rattle.std.specs.Prelude.{All, AllPairs, slice_get}
 use Rattle.std.specs.Option.{option_map, option_map_or}
 use Rattle.std.specs.List.Sorted.{IsNonDecreasingBy, IsPermutation}
-use Rattle.std.proofs.lemmas.Bool.{cases_eq, cases_lt}
-use Rattle.std.proofs.lemmas.List.{get_or_append_left, get_or_push, length-map, length_push, map_push, length-set, length-take-le, get_or-set_other, get_or-set_same, get_or-take, take_all}
+use Rattle.std.proofs.lemmas.Bool.{cases_eq}
+use Rattle.std.proofs.lemmas.List.{length-map, map_push, length-set, length-take-le, get_or-set_other, get_or-set_same, get_or-take, take_all}
 use Rattle.std.proofs.lemmas.List.Elements.{All-nil, All-push, All-weaker}
 use Rattle.std.proofs.lemmas.List.Sorted.{All-permutation, IsPermutation-map, length_permutation}
 use Rattle.std.proofs.lemmas.Option.{get_or_from_slice_get, slice_get-map, slice_get_within, slice_get-get_or, same_Some}
@@ -22,10 +22,10 @@ use Rattle.certificate_finder.specs.Lists.{TellsOne}
 use Rattle.certificate_finder.specs.Writing.{Writing}
 use Rattle.certificate_finder.specs.Lining.{AreGrouped, ArePlaces, AreSpots, AreTurned, HavePoints, InLine, IsLine, IsNextPoint, place_at, positions_in, turn_at, turn_of}
 use Rattle.certificate_finder.specs.Owning.{AreOwners}
-use Rattle.certificate_finder.specs.Points.{ArePoints, IsPoint}
+use Rattle.certificate_finder.specs.Points.{IsPoint}
 use Rattle.certificate_finder.specs.Spots.{AreOfOne, is_miss}
 use Rattle.certificate_finder.specs.Steps.{AreSteps, IsStep, kind_of}
-use Rattle.certificate_finder.specs.Turns.{end_at, start_at}
+use Rattle.certificate_finder.specs.Turns.{start_at}
 use Rattle.certificate_finder.specs.Zones.{AreDistinct, ArePositions, AreZones, FollowOn, TellsZone}
 use Rattle.certificate_finder.proofs.CrossingLemmas.{keys_rise}
 use Rattle.certificate_finder.proofs.EndLemmas.{found_at, positions_begin, positions_more}
@@ -36,7 +36,7 @@ use Rattle.certificate_finder.proofs.Placing.{call_of, line_accepted, of_one, on
 use Rattle.certificate_finder.proofs.Points.{point_alone, point_next, points_more}
 use Rattle.certificate_finder.proofs.Ranking.{rank_at}
 use Rattle.certificate_finder.proofs.StepLemmas.{at_front, at_push}
-use Rattle.certificate_finder.proofs.TurnLemmas.{IsPlaced, are_turns, before_no_miss, fits, no_miss_of, placed, rising_at}
+use Rattle.certificate_finder.proofs.TurnLemmas.{are_turns, before_no_miss, fits, no_miss_of, placed, rising_at}
 use Rattle.certificate_finder.proofs.Zones.{line_fits}
 
 -- ---- positions

@@ -1,5 +1,5 @@
 -- The calls of a history in numbers.
-use Rattle.std.proofs.Common.{◌≡◌, ℕ, ◌+◌, ◌*◌, ◌^◌, ◌<◌, ◌≤◌, ◌↔◌, Option, Some, None, List, [], ◌∷◌, ◌++◌, length, get_or, refl, sym, ap, ◌∙◌, subst, arith, inl, inr}
+use Rattle.std.proofs.Common.{◌≡◌, ℕ, ◌+◌, ◌*◌, ◌^◌, ◌<◌, Option, Some, None, List, [], ◌∷◌, ◌++◌, length, refl, sym, ap, ◌∙◌, subst, arith, inl, inr}
 use Rattle.std.specs.Prelude.{All, slice_get}
 use Rattle.std.proofs.lemmas.Bool.{cases_eq}
 use Rattle.std.proofs.lemmas.List.{get_or_append_left, get_or_push, length_push}
@@ -9,7 +9,7 @@ use Rattle.trace_file.specs.Calls.{IsCall, value_of}
 use Rattle.trace_file.specs.declared.call.Call.{Call}
 use Rattle.certificate_finder.specs.declared.step.Step.{Step}
 use Rattle.certificate_finder.specs.Numbers.{AreNumbers, KeepsNumbers}
-use Rattle.certificate_finder.specs.Steps.{AreAlike, AreSteps, IsFit, IsStep}
+use Rattle.certificate_finder.specs.Steps.{AreSteps, IsFit, IsStep}
 use Rattle.certificate_finder.proofs.Listing.{same_at}
 
 -- a call with its numbers

@@ -1,8 +1,8 @@
 -- Each call behind the write that it goes with, and the zones one behind the other.
-use Rattle.std.proofs.Common.{◌≡◌, ◌≢◌, ℕ, ◌+◌, ◌*◌, ◌^◌, ◌<◌, ◌≤◌, ◌⊎◌, true, false, Option, Some, List, [], length, get_or, refl, sym, ap, ◌∙◌, subst, arith, inl, inr}
-use Rattle.std.specs.Prelude.{All, AllPairs, Contains, slice_get, IsTrue}
+use Rattle.std.proofs.Common.{◌≡◌, ◌≢◌, ℕ, ◌+◌, ◌*◌, ◌^◌, ◌<◌, ◌≤◌, ◌⊎◌, false, Some, List, [], length, get_or, refl, sym, ap, ◌∙◌, subst, arith, inl, inr}
+use Rattle.std.specs.Prelude.{All, AllPairs, slice_get, IsTrue}
 use Rattle.std.specs.Option.{option_map_or}
-use Rattle.std.proofs.lemmas.Bool.{cases_lt, cases_eq}
+use Rattle.std.proofs.lemmas.Bool.{cases_lt}
 use Rattle.std.proofs.lemmas.Option.{get_or_from_slice_get, slice_get_within}
 use Rattle.record_pages.specs.Expiry.{is_live}
 use Rattle.trace_file.specs.Calls.{time_of, value_of}
@@ -14,14 +14,14 @@ use Rattle.certificate_finder.specs.declared.kind.Kind.TheVariants as kinds
 use Rattle.certificate_finder.specs.declared.step.Step.{Step}
 use Rattle.certificate_finder.specs.declared.zone.Zone.{Zone}
 use Rattle.certificate_finder.specs.Lining.{ArePlaces, place_at, turn_at, turn_of}
-use Rattle.certificate_finder.specs.Owning.{AreOwners, GoesAlone, IsOwned, IsUnsure, MayRead, ReadsOnly, ReadsSeveral}
-use Rattle.certificate_finder.specs.Spots.{AreOfOne, is_at, is_miss}
-use Rattle.certificate_finder.specs.Steps.{AreAlike, AreSteps, IsFit, IsStep, IsWriting, kind_of}
-use Rattle.certificate_finder.specs.Turns.{AreTurns, Gives, IsHit, WritesAt, end_at, start_at}
+use Rattle.certificate_finder.specs.Owning.{AreOwners, ReadsOnly}
+use Rattle.certificate_finder.specs.Spots.{AreOfOne, is_miss}
+use Rattle.certificate_finder.specs.Steps.{AreSteps, IsFit, IsWriting, kind_of}
+use Rattle.certificate_finder.specs.Turns.{AreTurns, end_at, start_at}
 use Rattle.certificate_finder.specs.Writing.{Writing}
 use Rattle.certificate_finder.specs.Zones.{AreZones, FollowOn, Goes, TellsZone}
 use Rattle.certificate_finder.proofs.EndLemmas.{found_at}
-use Rattle.certificate_finder.proofs.FindLemmas.{call_at, hit_at, put_at, step_at, writing_of}
+use Rattle.certificate_finder.proofs.FindLemmas.{call_at, put_at, step_at, writing_of}
 use Rattle.certificate_finder.proofs.Listing.{all_at, index_of, pair_at, same_at}
 use Rattle.certificate_finder.proofs.Placing.{call_of, end_is, one_of, start_is}
 

@@ -1,16 +1,16 @@
 -- The writes of a history, and which of them ends first behind a call.
-use Rattle.std.proofs.Common.{◌≡◌, ◌≢◌, ℕ, ◌+◌, ◌-◌, ◌*◌, ◌^◌, ◌<◌, ◌≤◌, Option, Some, None, List, length, get_or, set, refl, sym, ap, ◌∙◌, subst, arith, inl, inr}
-use Rattle.std.specs.Prelude.{All, Contains, slice_get}
+use Rattle.std.proofs.Common.{◌≡◌, ◌≢◌, ℕ, ◌+◌, ◌-◌, ◌^◌, ◌<◌, ◌≤◌, Some, None, List, length, get_or, set, refl, sym, ap, ◌∙◌, subst, arith, inl, inr}
+use Rattle.std.specs.Prelude.{All, slice_get}
 use Rattle.std.specs.List.Sorted.{IsNonDecreasingBy, IsPermutation}
 use Rattle.std.proofs.lemmas.Bool.{cases_eq, cases_lt}
 use Rattle.std.proofs.lemmas.List.{get_or-set_same, get_or-set_other, length-set}
 use Rattle.std.proofs.lemmas.List.Elements.{All-weaker}
-use Rattle.std.proofs.lemmas.Option.{get_or_from_slice_get, slice_get_within, slice_get-get_or, same_Some}
+use Rattle.std.proofs.lemmas.Option.{get_or_from_slice_get, slice_get_within, slice_get-get_or}
 use Rattle.certificate_finder.specs.declared.step.Step.{Step}
 use Rattle.certificate_finder.specs.declared.write.Write.{Write}
 use Rattle.certificate_finder.specs.Lists.{TellsOne, Lists}
 use Rattle.certificate_finder.specs.Steps.{IsFit}
-use Rattle.certificate_finder.specs.Writing.{AreWrites, AreSoonest, EndsFirst, IsFirstOver, IsSoonest, IsSplit, TellsWrite, Writing, key_rank, write_rank}
+use Rattle.certificate_finder.specs.Writing.{AreWrites, AreSoonest, EndsFirst, IsFirstOver, IsSplit, TellsWrite, Writing, key_rank, write_rank}
 use Rattle.certificate_finder.proofs.Listing.{all_at, all_from_at, contains_at, same_at, lists_permuted}
 use Rattle.certificate_finder.proofs.Ranking.{rank_at, key_le}
 

@@ -10,7 +10,6 @@ use Rattle.certificate_finder.specs.declared.step.Step.{Step}
 use Rattle.certificate_finder.specs.declared.zone.Zone.{Zone}
 use Rattle.certificate_finder.specs.Points.{ArePoints, IsPoint}
 use Rattle.certificate_finder.specs.Spots.{AreOfOne}
-use Rattle.certificate_finder.specs.Steps.{AreSteps}
 use Rattle.certificate_finder.specs.Turns.{start_at}
 use Rattle.certificate_finder.specs.Zones.{ArePositions}
 

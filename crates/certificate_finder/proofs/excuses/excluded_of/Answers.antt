@@ -1,11 +1,9 @@
-use Rattle.std.proofs.Common.{◌≡◌, ◌≢◌, ℕ, ◌+◌, ◌-◌, ◌^◌, ◌<◌, ◌≤◌, ◌⊎◌, true, false, Option, Some, None, List, [], ◌∷◌, ◌++◌, length, get_or, take, refl, sym, ap, ◌∙◌, subst, arith, rules, inl, inr}
-use Rattle.std.specs.Prelude.{All, AllPairs, slice_get, IsTrue}
-use Rattle.std.proofs.lemmas.Grind.{common_steps}
+use Rattle.std.proofs.Common.{refl, ap, ◌∙◌, subst, arith}
 use Rattle.std.proofs.lemmas.Option.{slice_get_within}
 use Rattle.certificate_finder.specs.declared.step.Step.{Step}
 use Rattle.certificate_finder.specs.Steps.{IsFit}
 use Rattle.certificate_finder.specs.Owning.{ReadsNoLive}
-use Rattle.certificate_finder.proofs.ExcludingLemmas.{excluded_begin, excluded_end, excluded_grows}
+use Rattle.certificate_finder.proofs.ExcludingLemmas.{excluded_end, excluded_grows}
 use Rattle.certificate_finder.proofs.Listing.{all_at, same_at}
 use Rattle.certificate_finder.proofs.excuses.excluded_of.Goals as goal
 

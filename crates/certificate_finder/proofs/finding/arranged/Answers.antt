@@ -1,10 +1,9 @@
-use Rattle.std.proofs.Common.{◌≡◌, ◌≢◌, ℕ, ◌+◌, ◌-◌, ◌^◌, ◌<◌, ◌≤◌, ◌⊎◌, true, false, Option, Some, None, List, [], ◌∷◌, ◌++◌, length, get_or, take, refl, sym, ap, ◌∙◌, subst, arith, rules, inl, inr}
-use Rattle.std.specs.Prelude.{All, AllPairs, slice_get, IsTrue}
-use Rattle.std.proofs.lemmas.Grind.{common_steps}
-use Rattle.certificate_finder.specs.declared.found.Found.TheVariants.{Accepted, Rejected, Undecided}
+use Rattle.std.proofs.Common.{◌<◌, [], length, sym, ap, subst, arith}
+use Rattle.std.specs.Prelude.{All}
+use Rattle.certificate_finder.specs.declared.found.Found.TheVariants.{Rejected}
 use Rattle.certificate_finder.specs.Finding.{IsFound}
 use Rattle.certificate_finder.specs.Owning.{AreOwners}
-use Rattle.certificate_finder.specs.Zones.{AreCrossing, AreZones, FollowOn}
+use Rattle.certificate_finder.specs.Zones.{AreCrossing, AreZones}
 use Rattle.certificate_finder.proofs.FindLemmas.{undecided}
 use Rattle.certificate_finder.proofs.FoundLemmas.{found_crossed, owners_in, some_left, sure}
 use Rattle.certificate_finder.proofs.finding.arranged.Goals as goal

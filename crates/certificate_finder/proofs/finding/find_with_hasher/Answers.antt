@@ -1,6 +1,5 @@
-use Rattle.std.proofs.Common.{◌≡◌, ◌≢◌, ℕ, ◌+◌, ◌-◌, ◌^◌, ◌<◌, ◌≤◌, ◌⊎◌, true, false, Option, Some, None, List, [], ◌∷◌, ◌++◌, length, get_or, take, refl, sym, ap, ◌∙◌, subst, arith, rules, inl, inr}
-use Rattle.std.specs.Prelude.{All, AllPairs, slice_get, IsTrue}
-use Rattle.std.proofs.lemmas.Grind.{common_steps}
+use Rattle.std.proofs.Common.{length, sym, ap, subst, arith}
+use Rattle.std.specs.Prelude.{All}
 use Rattle.certificate_finder.specs.Finding.{IsIntervalOrNone}
 use Rattle.certificate_finder.specs.Steps.{AreSteps, IsFit}
 use Rattle.certificate_finder.proofs.finding.find_with_hasher.Goals as goal

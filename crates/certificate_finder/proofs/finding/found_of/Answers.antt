@@ -1,7 +1,4 @@
-use Rattle.std.proofs.Common.{◌≡◌, ◌≢◌, ℕ, ◌+◌, ◌-◌, ◌^◌, ◌<◌, ◌≤◌, ◌⊎◌, true, false, Option, Some, None, List, [], ◌∷◌, ◌++◌, length, get_or, take, refl, sym, ap, ◌∙◌, subst, arith, rules, inl, inr}
-use Rattle.std.specs.Prelude.{All, AllPairs, slice_get, IsTrue}
-use Rattle.std.proofs.lemmas.Grind.{common_steps}
-use Rattle.certificate_finder.specs.declared.read_result.ReadResult.TheVariants.{Each, Refused}
+use Rattle.std.proofs.Common.{subst}
 use Rattle.certificate_finder.specs.Hits.{IsReadResult}
 use Rattle.certificate_finder.proofs.FindLemmas.{reads_none}
 use Rattle.certificate_finder.proofs.finding.found_of.Goals as goal

@@ -1,8 +1,6 @@
-use Rattle.std.proofs.Common.{◌≡◌, ◌≢◌, ℕ, ◌+◌, ◌-◌, ◌^◌, ◌<◌, ◌≤◌, ◌⊎◌, true, false, Option, Some, None, List, [], ◌∷◌, ◌++◌, length, get_or, take, refl, sym, ap, ◌∙◌, subst, arith, rules, inl, inr}
-use Rattle.std.specs.Prelude.{All, AllPairs, slice_get, IsTrue}
-use Rattle.std.proofs.lemmas.Grind.{common_steps}
+use Rattle.std.proofs.Common.{◌<◌, [], length, sym, ap, ◌∙◌, subst, arith}
+use Rattle.std.specs.Prelude.{All}
 use Rattle.certificate_finder.specs.declared.ranked.Ranked.{Ranked}
-use Rattle.certificate_finder.specs.Lining.{ArePlaces, AreSpots, InLine, IsLine, positions_in}
 use Rattle.certificate_finder.proofs.FoundLemmas.{owners_in}
 use Rattle.certificate_finder.proofs.SpotLemmas.{accepted_by_spots, line_length, line_within, zones_in}
 use Rattle.certificate_finder.proofs.line.certificate_by_zones.Goals as goal

@@ -1,6 +1,4 @@
-use Rattle.std.proofs.Common.{◌≡◌, ◌≢◌, ℕ, ◌+◌, ◌*◌, ◌-◌, ◌^◌, ◌<◌, ◌≤◌, ◌⊎◌, true, false, Option, Some, None, List, [], ◌∷◌, ◌++◌, length, get_or, take, refl, sym, ap, ◌∙◌, subst, arith, rules, inl, inr}
-use Rattle.std.specs.Prelude.{All, AllPairs, slice_get, IsTrue}
-use Rattle.std.proofs.lemmas.Grind.{common_steps}
+use Rattle.std.proofs.Common.{◌+◌, ◌*◌, [], ◌∷◌, ◌++◌, refl, sym, subst, arith}
 use Rattle.certificate_finder.specs.Lining.{HavePoints}
 use Rattle.certificate_finder.specs.declared.ranked.Ranked.{Ranked}
 use Rattle.certificate_finder.proofs.Listing.{same_at}

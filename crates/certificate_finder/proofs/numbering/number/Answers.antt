@@ -1,5 +1,5 @@
 -- What the map has after the change, read at a word of the same bytes.
-use Rattle.std.proofs.Common.{◌≡◌, ℕ, cond, Option, Some, None, List, arith}
+use Rattle.std.proofs.Common.{◌≡◌, ℕ, cond, Some, None, List, arith}
 use Rattle.std.proofs.lemmas.Grind.{common_steps}
 use Rattle.std.specs.Str.{bytes_eq}
 use Rattle.certificate_finder.specs.declared.lent_word.LentWord.{LentWord}

@@ -1,6 +1,4 @@
-use Rattle.std.proofs.Common.{◌≡◌, ◌≢◌, ℕ, ◌+◌, ◌-◌, ◌^◌, ◌<◌, ◌≤◌, ◌⊎◌, true, false, Option, Some, None, List, [], ◌∷◌, ◌++◌, length, get_or, take, refl, sym, ap, ◌∙◌, subst, arith, rules, inl, inr}
-use Rattle.std.specs.Prelude.{All, AllPairs, slice_get, IsTrue}
-use Rattle.std.proofs.lemmas.Grind.{common_steps}
+use Rattle.std.proofs.Common.{◌≡◌, true, false, subst}
 use Rattle.certificate_finder.specs.Owning.{IsNoted}
 use Rattle.certificate_finder.proofs.OwnLemmas.{noted_more, refused}
 use Rattle.certificate_finder.proofs.owners.owners_of.Goals as goal

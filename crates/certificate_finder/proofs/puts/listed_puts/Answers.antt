@@ -1,8 +1,4 @@
-use Rattle.std.proofs.Common.{◌≡◌, ◌≢◌, ℕ, ◌+◌, ◌-◌, ◌^◌, ◌<◌, ◌≤◌, ◌⊎◌, true, false, Option, Some, None, List, [], ◌∷◌, ◌++◌, length, get_or, take, refl, sym, ap, ◌∙◌, subst, arith, rules, inl, inr}
-use Rattle.std.specs.Prelude.{All, AllPairs, slice_get, IsTrue}
-use Rattle.std.proofs.lemmas.Grind.{common_steps}
 use Rattle.certificate_finder.specs.declared.put.Put.{Put}
-use Rattle.certificate_finder.specs.Lists.{GrowsBy}
 use Rattle.certificate_finder.specs.Putting.{IsPut, Putting, TellsPut}
 use Rattle.certificate_finder.proofs.Listing.{apart_grows, grows_weaker, lists_grow}
 use Rattle.certificate_finder.proofs.PutLemmas.{dead_of}

@@ -1,8 +1,6 @@
-use Rattle.std.proofs.Common.{◌≡◌, ◌≢◌, ℕ, ◌+◌, ◌-◌, ◌^◌, ◌<◌, ◌≤◌, ◌⊎◌, true, false, Option, Some, None, List, [], ◌∷◌, ◌++◌, length, get_or, take, refl, sym, ap, ◌∙◌, subst, arith, rules, inl, inr}
-use Rattle.std.specs.Prelude.{All, AllPairs, slice_get, IsTrue}
-use Rattle.std.proofs.lemmas.Grind.{common_steps}
+use Rattle.std.proofs.Common.{◌≡◌, ◌-◌, true, false, refl, sym, subst, arith}
 use Rattle.certificate_finder.specs.Putting.{IsBestAt}
-use Rattle.certificate_finder.proofs.PutLemmas.{best_first, best_other, best_with}
+use Rattle.certificate_finder.proofs.PutLemmas.{best_other, best_with}
 use Rattle.certificate_finder.proofs.puts.next_best.Goals as goal
 
 pub returns-then-is_like : goal.returns-then-is_like

@@ -1,9 +1,7 @@
-use Rattle.std.proofs.Common.{◌≡◌, ◌≢◌, ℕ, ◌+◌, ◌-◌, ◌^◌, ◌<◌, ◌≤◌, ◌⊎◌, true, false, Option, Some, None, List, [], ◌∷◌, ◌++◌, length, get_or, take, refl, sym, ap, ◌∙◌, subst, arith, rules, inl, inr}
-use Rattle.std.specs.Prelude.{All, AllPairs, slice_get, IsTrue}
-use Rattle.std.proofs.lemmas.Grind.{common_steps}
+use Rattle.std.proofs.Common.{◌≡◌, ◌-◌, true, false, refl, subst, arith}
 use Rattle.certificate_finder.specs.Writing.{IsSplit}
 use Rattle.certificate_finder.specs.Putting.{put_rank}
-use Rattle.certificate_finder.proofs.PutLemmas.{nothing_begun, nothing_like, reads_best}
+use Rattle.certificate_finder.proofs.PutLemmas.{nothing_like, reads_best}
 use Rattle.certificate_finder.proofs.puts.reading_of.Goals as goal
 
 pub returns-then-is_like : goal.returns-then-is_like

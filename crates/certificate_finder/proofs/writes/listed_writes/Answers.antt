@@ -1,6 +1,3 @@
-use Rattle.std.proofs.Common.{◌≡◌, ◌≢◌, ℕ, ◌+◌, ◌-◌, ◌^◌, ◌<◌, ◌≤◌, ◌⊎◌, true, false, Option, Some, None, List, [], ◌∷◌, ◌++◌, length, get_or, take, refl, sym, ap, ◌∙◌, subst, arith, rules, inl, inr}
-use Rattle.std.specs.Prelude.{All, AllPairs, slice_get, IsTrue}
-use Rattle.std.proofs.lemmas.Grind.{common_steps}
 use Rattle.certificate_finder.specs.Writing.{TellsWrite, Writing}
 use Rattle.certificate_finder.proofs.Listing.{lists_grow}
 use Rattle.certificate_finder.proofs.writes.listed_writes.Goals as goal
