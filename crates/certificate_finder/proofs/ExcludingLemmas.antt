@@ -1,0 +1,96 @@
+-- Why a hit can have read no put.
+use Rattle.std.proofs.Common.{◌≡◌, ℕ, ◌+◌, ◌^◌, ◌<◌, ◌≤◌, ◌⊎◌, Option, Some, None, List, [], ◌∷◌, ◌++◌, length, sym, ap, ◌∙◌, subst, arith, inl, inr}
+use Rattle.std.specs.Prelude.{All, Contains, map, slice_get, MatchOption}
+use Rattle.std.proofs.lemmas.Bool.{cases_eq}
+use Rattle.std.proofs.lemmas.List.{map_push}
+use Rattle.std.proofs.lemmas.List.Elements.{All-nil, All-push, Contains-append_left, Contains-push}
+use Rattle.std.proofs.lemmas.Option.{slice_get_within}
+use Rattle.certificate_finder.specs.declared.excluded.Excluded.{Excluded}
+use Rattle.certificate_finder.specs.declared.excluded.Excuse.{Excuse}
+use Rattle.certificate_finder.specs.declared.excluded.Excuse.TheVariants.{Later, Expired, Replaced}
+use Rattle.certificate_finder.specs.declared.put.Put.{Put}
+use Rattle.certificate_finder.specs.declared.step.Step.{Step}
+use Rattle.certificate_finder.specs.Excluding.{AreExcluded, ExcludesStep, IsExcludedStep, GrowsByExcluded, IsExcuse}
+use Rattle.certificate_finder.specs.Lists.{TellsOne}
+use Rattle.certificate_finder.specs.Owning.{ReadsNoLive}
+use Rattle.certificate_finder.specs.Putting.{ArePuts, EndsOver, IsOver, Putting, TellsPut}
+use Rattle.certificate_finder.proofs.Listing.{all_at, index_of, same_at}
+use Rattle.certificate_finder.proofs.OwnLemmas.{may_read}
+
+pub record ExcludedSoFar (steps : List Step) (puts : List Put) (hit : Step) (upto : ℕ) (excluded : List Excluded) : Type 0 where
+  pub each : All (IsExcludedStep steps hit) excluded
+  pub all : (k : ℕ) (put : Put) → k < upto → slice_get puts k ≡ Some put → put.key ≡ hit.key → put.value ≡ hit.value → Contains (map (λ one. one.put) excluded) put.position
+
+pub excluded_begin : (steps : List Step) (puts : List Put) (hit : Step) → ExcludedSoFar steps puts hit 0 []
+excluded_begin steps puts hit = record { each = All-nil (IsExcludedStep steps hit); all = λ k put less at key value. absurd (omega arith) }
+
+ends_at : (steps : List Step) (step : Step) (dead write : ℕ) (over : Option ℕ) → over ≡ Some write → MatchOption over (dead ≡ 18446744073709551615) (EndsOver steps step dead) → EndsOver steps step dead write
+ends_at steps step dead write over is by = subst (λ o. MatchOption o (dead ≡ 18446744073709551615) (EndsOver steps step dead)) is by
+
+greatest : (steps : List Step) (step : Step) (dead : ℕ) (over : Option ℕ) → over ≡ None → MatchOption over (dead ≡ 18446744073709551615) (EndsOver steps step dead) → dead ≡ 18446744073709551615
+greatest steps step dead over is by = subst (λ o. MatchOption o (dead ≡ 18446744073709551615) (EndsOver steps step dead)) is by
+
+module _ (steps : List Step) (puts : List Put) (are : ArePuts steps puts) (hit : Step) (small : hit.start < 2 ^ 64) (none : ReadsNoLive steps hit) where
+  excludes_later : (p : ℕ) (step : Step) (put : Put) → TellsPut steps p step put → hit.end < put.start → hit.end < step.start
+  excludes_later p step put told less = let start : put.start ≡ step.start = told.start in omega arith
+
+  excludes_replaced : (p : ℕ) (step : Step) (put : Put) (write : ℕ) → TellsPut steps p step put → put.over ≡ Some write → put.dead < hit.start → (other : Step) × (slice_get steps write ≡ Some other) × IsOver step other × (other.end < hit.start)
+  excludes_replaced p step put write told over less =
+      let ends = ends_at steps step put.dead write put.over over told.dead.by in
+      let end : ends.other.end ≡ put.dead = ends.end in
+      let before : ends.other.end < hit.start = omega arith in
+      (ends.other, ends.at, ends.over, before)
+
+  stands_still : (p : ℕ) (step : Step) (put : Put) → TellsPut steps p step put → (put.over ≡ None) ⊎ (hit.start ≤ put.dead) → hit.start ≤ put.dead
+  stands_still p step put told (inl none_over) = let g : put.dead ≡ 18446744073709551615 = greatest steps step put.dead put.over none_over told.dead.by in omega (arith, small, g)
+  stands_still p step put told (inr le) = le
+
+  -- an excuse excludes the put
+  excludes : (p : ℕ) (step : Step) (put : Put) (why : Excuse) → slice_get steps p ≡ Some step → Putting step → TellsPut steps p step put → put.key ≡ hit.key → put.value ≡ hit.value → IsExcuse put hit why → ExcludesStep steps hit step why
+  excludes p step put Later at is told key value why = excludes_later p step put told why
+  excludes p step put (Replaced write) at is told key value why = excludes_replaced p step put write told why.0 why.1
+  excludes p step put Expired at is told key value why =
+      none p step at (may_read steps p step hit put is told (record { key = key; value = value; begun = why.0; stands = stands_still p step put told why.1 }))
+
+  pub excluded_more : (upto : ℕ) (put : Put) (why : Excuse) (excluded : List Excluded) → ExcludedSoFar steps puts hit upto excluded → slice_get puts upto ≡ Some put → (put.key ≡ hit.key) × (put.value ≡ hit.value) → IsExcuse put hit why → ExcludedSoFar steps puts hit (upto + 1) (excluded ++ record { put = put.position; why = why } ∷ [])
+  excluded_more upto put why excluded had at like is =
+      let t : TellsOne steps Putting (TellsPut steps) put = all_at (TellsOne steps Putting (TellsPut steps)) puts upto put are.lists.sound at in
+      let new : Excluded = record { put = put.position; why = why } in
+      let puts_of : map (λ (one : Excluded). one.put) (excluded ++ record { put = put.position; why = why } ∷ []) ≡ map (λ (one : Excluded). one.put) excluded ++ put.position ∷ [] = map_push (λ (one : Excluded). one.put) excluded (record { put = put.position; why = why }) in
+      record {
+        each = All-push (IsExcludedStep steps hit) excluded (record { put = put.position; why = why }) had.each (record {
+          put = t.step;
+          at = ap (slice_get steps) t.told.is_at ∙ t.at;
+          like = record { kind = t.is_wanted; key = sym t.told.key ∙ like.0; value = sym t.told.value ∙ like.1 };
+          why = excludes t.position t.step put why t.at t.is_wanted t.told like.0 like.1 is;
+        });
+        all = λ k other less other_at key value. subst (λ l. Contains l other.position) (sym puts_of) (elim (cases_eq k upto) [
+          | inl same ↦ let e = same_at puts upto k put other (sym same) at other_at in subst (λ (o : Put). Contains (map (λ (one : Excluded). one.put) excluded ++ put.position ∷ []) o.position) e (Contains-push (map (λ (one : Excluded). one.put) excluded) put.position)
+          | inr before ↦ Contains-append_left (map (λ (one : Excluded). one.put) excluded) (put.position ∷ []) other.position (had.all k other (omega arith) other_at key value)
+        ]);
+      }
+
+  pub excluded_pass : (upto : ℕ) (put : Put) (excluded : List Excluded) → ExcludedSoFar steps puts hit upto excluded → slice_get puts upto ≡ Some put → ¬ ((put.key ≡ hit.key) × (put.value ≡ hit.value)) → ExcludedSoFar steps puts hit (upto + 1) excluded
+  excluded_pass upto put excluded had at unlike = record {
+    each = had.each;
+    all = λ k other less other_at key value. elim (cases_eq k upto) [
+      | inl same ↦ let e = same_at puts upto k put other (sym same) at other_at in absurd (unlike (ap (λ (p : Put). p.key) e ∙ key, ap (λ (p : Put). p.value) e ∙ value))
+      | inr before ↦ had.all k other (omega arith) other_at key value
+    ];
+  }
+
+  pub excluded_grows : (upto : ℕ) (put : Put) (old new : List Excluded) → ExcludedSoFar steps puts hit upto old → slice_get puts upto ≡ Some put → GrowsByExcluded put hit old new → ExcludedSoFar steps puts hit (upto + 1) new
+  excluded_grows upto put old new had at grows = elim grows [
+    | inl more ↦ subst (λ items. ExcludedSoFar steps puts hit (upto + 1) items) (sym more.1.2) (excluded_more upto put more.1.0 old had at more.0 more.1.1)
+    | inr same ↦ subst (λ items. ExcludedSoFar steps puts hit (upto + 1) items) (sym same.1) (excluded_pass upto put old had at same.0)
+  ]
+
+  pub excluded_end : (upto : ℕ) (excluded : List Excluded) → ExcludedSoFar steps puts hit upto excluded → length puts ≤ upto → AreExcluded steps hit excluded
+  excluded_end upto excluded had all = record {
+    each = had.each;
+    all = λ p step at like.
+        let t = are.lists.complete p step (slice_get_within steps p step at) at like.kind in
+        let k = index_of puts t.item t.listed in
+        let within = slice_get_within puts k.0 t.item k.1 in
+        subst (λ q. Contains (map (λ (one : Excluded). one.put) excluded) q) t.told.is_at (had.all k.0 t.item (omega arith) k.1 (t.told.key ∙ like.key) (t.told.value ∙ like.value));
+  }

@@ -1,0 +1,17 @@
+pub mod Excluding
+pub mod Finding
+pub mod Hits
+pub mod Laws
+pub mod Lining
+pub mod Lists
+pub mod Numbers
+pub mod Owning
+pub mod Points
+pub mod Putting
+pub mod Reads
+pub mod Spots
+pub mod Steps
+pub mod Turns
+pub mod Witnesses
+pub mod Writing
+pub mod Zones

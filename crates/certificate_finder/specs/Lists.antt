@@ -1,0 +1,38 @@
+-- Lists of what calls of some kind are.
+use Rattle.std.specs.Prelude.{◌≡◌, ◌≢◌, ℕ, ◌<◌, ◌≤◌, ◌⊎◌, List, [], ◌∷◌, ◌++◌, length, All, AllPairs, Contains, slice_get, Some}
+use Rattle.certificate_finder.specs.declared.step.Step.{Step}
+
+-- an item tells of a call that is wanted
+pub record TellsOne {X : Type 0} (steps : List Step) (wanted : Step → Type 0) (tells : ℕ → Step → X → Type 0) (item : X) : Type 0 where
+  pub position : ℕ
+  pub step : Step
+  pub at : slice_get steps position ≡ Some step
+  pub is_wanted : wanted step
+  pub told : tells position step item
+
+-- some item tells of this call
+pub record IsTold {X : Type 0} (tells : ℕ → Step → X → Type 0) (items : List X) (position : ℕ) (step : Step) : Type 0 where
+  pub item : X
+  pub listed : Contains items item
+  pub told : tells position step item
+
+-- each item tells of a call that is wanted, and of each such call below a position some item tells
+pub record Lists {X : Type 0} (steps : List Step) (wanted : Step → Type 0) (tells : ℕ → Step → X → Type 0) (upto : ℕ) (items : List X) : Type 0 where
+  pub few : length items ≤ upto
+  pub sound : All (TellsOne steps wanted tells) items
+  pub complete : (position : ℕ) (step : Step) → position < upto → slice_get steps position ≡ Some step → wanted step → IsTold tells items position step
+
+-- no two items are of one place, and all places are below a limit
+pub record AreApart {X : Type 0} (place : X → ℕ) (upto : ℕ) (items : List X) : Type 0 where
+  pub below : All (λ item. place item < upto) items
+  pub distinct : AllPairs (λ one other. place one ≢ place other) items
+
+-- an item tells of the call at a position
+pub record IsToldAt {X : Type 0} (steps : List Step) (position : ℕ) (tells : ℕ → Step → X → Type 0) (item : X) : Type 0 where
+  pub step : Step
+  pub at : slice_get steps position ≡ Some step
+  pub told : tells position step item
+
+-- a list has an item more that tells of a call, if the call is wanted, and else is as it was
+abbrev pub GrowsBy : {X : Type 0} → (Step → Type 0) → (ℕ → Step → X → Type 0) → ℕ → Step → List X → List X → Type 0
+GrowsBy {X} wanted tells position step old new = (wanted step × ((item : X) × tells position step item × (new ≡ old ++ item ∷ []))) ⊎ ((¬ wanted step) × (new ≡ old))

@@ -1,0 +1,98 @@
+-- The time in which a write and its hits have to stand.
+use Rattle.std.specs.Prelude.{◌≡◌, ◌≢◌, ℕ, ◌+◌, ◌*◌, ◌^◌, ◌<◌, ◌≤◌, ◌⊎◌, List, All, AllPairs, Contains, length, slice_get, Some, Option, MatchOption}
+use Rattle.std.specs.List.Sorted.{IsNonDecreasingBy}
+use Rattle.certificate_finder.specs.declared.crossing.Crossing.{Crossing}
+use Rattle.certificate_finder.specs.declared.step.Step.{Step}
+use Rattle.certificate_finder.specs.declared.witness.Side.{Side}
+use Rattle.certificate_finder.specs.declared.witness.Witness.{Witness}
+use Rattle.certificate_finder.specs.declared.witness.Witness.TheVariants.{Crossed}
+use Rattle.certificate_finder.specs.declared.zone.Zone.{Zone}
+use Rattle.certificate_finder.specs.Lists.{Lists}
+use Rattle.certificate_finder.specs.Writing.{Writing}
+
+-- a call at a position goes with the write at another one: it is that one, or a hit that it owns
+abbrev pub Goes : List ℕ → ℕ → ℕ → Type 0
+Goes owners write position = (position ≡ write) ⊎ (slice_get owners position ≡ Some write)
+
+-- this call ends first, of those that go with a write
+pub record IsEarliest (steps : List Step) (owners : List ℕ) (write position : ℕ) (step : Step) : Type 0 where
+  pub at : slice_get steps position ≡ Some step
+  pub goes : Goes owners write position
+  pub least : (other : ℕ) (call : Step) → slice_get steps other ≡ Some call → Goes owners write other → step.end ≤ call.end
+
+-- this call starts last, of those that go with a write
+pub record IsLatest (steps : List Step) (owners : List ℕ) (write position : ℕ) (step : Step) : Type 0 where
+  pub at : slice_get steps position ≡ Some step
+  pub goes : Goes owners write position
+  pub greatest : (other : ℕ) (call : Step) → slice_get steps other ≡ Some call → Goes owners write other → call.start ≤ step.start
+
+-- for each position the call that ends first
+pub record AreEarliest (steps : List Step) (owners earliest : List ℕ) : Type 0 where
+  pub count : length earliest ≡ length steps
+  pub each : (write position : ℕ) → slice_get earliest write ≡ Some position → (step : Step) × IsEarliest steps owners write position step
+
+-- for each position the call that starts last
+pub record AreLatest (steps : List Step) (owners latest : List ℕ) : Type 0 where
+  pub count : length latest ≡ length steps
+  pub each : (write position : ℕ) → slice_get latest write ≡ Some position → (step : Step) × IsLatest steps owners write position step
+
+-- a zone is what its write and the hits that go with it make it
+pub record TellsZone (steps : List Step) (owners : List ℕ) (position : ℕ) (step : Step) (zone : Zone) : Type 0 where
+  pub write : zone.write ≡ position
+  pub key : zone.key ≡ step.key
+  pub first : Step
+  pub last : Step
+  pub earliest : IsEarliest steps owners position zone.early first
+  pub latest : IsLatest steps owners position zone.late last
+  pub end : zone.end ≡ first.end
+  pub start : zone.start ≡ last.start
+
+-- by keys, and within a key by the middle between the least end and the greatest start
+abbrev pub zone_rank : Zone → ℕ
+zone_rank zone = zone.key * 2 ^ 65 + (zone.end + zone.start)
+
+-- a zone's stamps are in their ranges
+pub record IsFitZone (zone : Zone) : Type 0 where
+  pub end : zone.end < 2 ^ 64
+  pub start : zone.start < 2 ^ 64
+
+-- no two zones are of one write
+abbrev pub AreDistinct : List Zone → Type 0
+AreDistinct zones = AllPairs (λ one other. one.write ≢ other.write) zones
+
+-- the zones of all writes
+pub record AreZones (steps : List Step) (owners : List ℕ) (zones : List Zone) : Type 0 where
+  pub lists : Lists steps Writing (TellsZone steps owners) (length steps) zones
+  pub sorted : IsNonDecreasingBy zone_rank zones
+  pub distinct : AreDistinct zones
+  pub fit : All IsFitZone zones
+
+-- two zones of one key are crossed: each ends for some call before the other starts for some call
+pub record AreCrossing (zones : List Zone) (crossing : Crossing) : Type 0 where
+  pub one_listed : Contains zones crossing.one
+  pub other_listed : Contains zones crossing.other
+  pub key : crossing.one.key ≡ crossing.other.key
+  pub apart : crossing.one.write ≢ crossing.other.write
+  pub forth : crossing.one.end < crossing.other.start
+  pub back : crossing.other.end < crossing.one.start
+
+-- a zone before another of its key has started for all its calls when the other ends for the first one
+abbrev pub FollowOn : Zone → Zone → Type 0
+FollowOn earlier later = earlier.key ≡ later.key → earlier.start ≤ later.end
+
+-- two zones that are crossed, or else each follows on the earlier ones of its key
+abbrev pub IsCrossingOrNone : List Zone → Option Crossing → Type 0
+IsCrossingOrNone zones crossing = MatchOption crossing (AllPairs FollowOn zones) (AreCrossing zones)
+
+-- the positions up to a count, in order
+pub record ArePositions (count : ℕ) (positions : List ℕ) : Type 0 where
+  pub len : length positions ≡ count
+  pub each : (k position : ℕ) → slice_get positions k ≡ Some position → position ≡ k
+
+-- a zone's write with its two calls
+abbrev pub side_of : Zone → Side
+side_of zone = record { write = zone.write; early = zone.early; late = zone.late }
+
+-- the reason that two crossed zones are
+abbrev pub crossed_by : Crossing → Witness
+crossed_by crossing = Crossed (side_of crossing.one) (side_of crossing.other)

@@ -1,0 +1,66 @@
+// Why a hit can have read no put.
+ghost use Rattle.std.specs.Prelude.{◌≡◌, ◌<◌, ◌^◌, All, IfOk, OnOk};
+ghost use Rattle.certificate_finder.specs.Excluding.{AreExcludedAt, GrowsByExcluded, IsExcuse};
+ghost use Rattle.certificate_finder.specs.Owning.{IsRefused};
+ghost use Rattle.certificate_finder.specs.Putting.{ArePuts};
+ghost use Rattle.certificate_finder.specs.Steps.{IsFit};
+
+use crate::excluded::{Excluded, Excuse};
+use crate::put::{Put, put_at};
+use crate::step::{Step, step_at};
+use std::alloc::{AllocError, Global};
+
+/// All puts of a hit's key and value, each with what excludes it.
+pub(crate) fn excluded_of(
+    alloc: Global,
+    steps: &[Step],
+    puts: &[Put],
+    position: u32,
+) -> Result<Vec<Excluded>, AllocError>
+    requires fit { All IsFit steps.now }
+    requires puts { ArePuts steps.now puts.now }
+    requires refused { IsRefused steps.now position }
+    ensures { IfOk result (λ excluded. AreExcludedAt steps.now position excluded.items) }
+{
+    let hit = step_at(steps, position as usize);
+    let mut excluded = Vec::new(alloc);
+    for index in 0..puts.len() {
+        let put = put_at(puts, index);
+        list_excluded(&mut excluded, &put, &hit)?;
+    }
+    Ok(excluded)
+}
+
+/// Lists a put with what excludes it, if it is of a hit's key and value.
+fn list_excluded(excluded: &mut Vec<Excluded>, put: &Put, hit: &Step) -> Result<(), AllocError>
+    ensures { OnOk result (GrowsByExcluded put.now hit.now excluded.old.items excluded.new.items) }
+{
+    if !put.is_like(hit.key, hit.value) {
+        return Ok(());
+    }
+    let why = excuse_of(put, hit);
+    excluded.push(Excluded {
+        put: put.position,
+        why,
+    })?;
+    Ok(())
+}
+
+/// What excludes a put of a hit's key and value.
+fn excuse_of(put: &Put, hit: &Step) -> Excuse
+    ensures { IsExcuse put.now hit.now result }
+{
+    if hit.end < put.start {
+        return Excuse::Later;
+    }
+    match put.over {
+        Some(write) => {
+            if put.dead < hit.start {
+                Excuse::Replaced(write)
+            } else {
+                Excuse::Expired
+            }
+        }
+        None => Excuse::Expired,
+    }
+}

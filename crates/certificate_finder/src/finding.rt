@@ -1,0 +1,124 @@
+// Finding a certificate for a history that brings none.
+ghost use Rattle.std.specs.Prelude.{◌≡◌, ◌<◌, ◌≤◌, ◌^◌, List, All, IfOk, IsSomeAnd, MatchOption, length, slice_get};
+ghost use Rattle.trace_file.specs.declared.call.Call.{Call};
+ghost use Rattle.certificate_checker.specs.Acceptance.{IsAccepted};
+ghost use Rattle.certificate_finder.specs.Finding.{AreUndecided, IfAccepted, IfRejected, IfUndecided, IsFound, IsIntervalOrNone};
+ghost use Rattle.certificate_finder.specs.Owning.{AreOwners};
+ghost use Rattle.certificate_finder.specs.Steps.{AreSteps, IsFit};
+ghost use Rattle.certificate_finder.specs.Witnesses.{IsWitness};
+
+use crate::crossings::crossing_of;
+use crate::found::Found;
+use crate::hits::read_result_of;
+use crate::line::certificate_by_zones;
+use crate::numbering::steps_of;
+use crate::owning::Owners;
+use crate::read_result::ReadResult;
+use crate::step::Step;
+use crate::witness::Witness;
+use crate::zoning::zones_of;
+use std::alloc::{AllocError, Global};
+use std::hash::{BuildHasher, BuildHasherDefault, FoldHasher};
+use trace_file::History;
+
+/// The most calls of a history that is looked at.
+pub const MAX_CALLS: usize = 2147483647;
+
+/// Finds a certificate for a history, or a reason why there can be none, or the hits for which nothing was decided: those
+/// that can have read several puts of one value. Where there is no such hit, it decides.
+///
+/// Its time is `n log n` for `n` calls where the keys and values were not picked to be slow: the map that it numbers them by
+/// hashes them by a seed that anyone can read. Whoever judges a stranger's history calls `find_with_hasher`. It takes about
+/// 150 bytes a call, and copies no key and no value. `AllocError` comes where memory was refused, and where there are more than
+/// `MAX_CALLS` calls.
+pub fn find(alloc: Global, history: &History) -> Result<Found, AllocError>
+    ensures accepted { IfOk result (λ found. IfAccepted found (IsAccepted history.now)) }
+    ensures rejected { IfOk result (λ found. IfRejected found (IsWitness history.now)) }
+    ensures undecided { IfOk result (λ found. IfUndecided found (AreUndecided history.now)) }
+{
+    let known: BuildHasherDefault<FoldHasher> = BuildHasherDefault::new();
+    match find_with_hasher(alloc, known, history) {
+        Ok(found) => Ok(found),
+        Err(refused) => Err(refused),
+    }
+}
+
+/// The same by a map that hashes keys and values as it is told, as by a `RandomState` of the runtime, whose seed was unknown
+/// to whoever wrote the history.
+pub fn find_with_hasher<S: BuildHasher + Drop>(
+    alloc: Global,
+    hash_builder: S,
+    history: &History,
+) -> Result<Found, AllocError>
+    ensures accepted { IfOk result (λ found. IfAccepted found (IsAccepted history.now)) }
+    ensures rejected { IfOk result (λ found. IfRejected found (IsWitness history.now)) }
+    ensures undecided { IfOk result (λ found. IfUndecided found (AreUndecided history.now)) }
+{
+    if history.len() > MAX_CALLS {
+        return Err(AllocError);
+    }
+    if let Some(position) = bad_interval(history) {
+        return Ok(Found::Rejected(Witness::Interval(position)));
+    }
+    let steps = steps_of(alloc, hash_builder, history)?;
+    match found_of(alloc, steps.as_slice()) {
+        Ok(found) => Ok(found),
+        Err(refused) => Err(refused),
+    }
+}
+
+/// The position of the first call that ends before it starts.
+fn bad_interval(history: &History) -> Option<u32>
+    requires { length history.now < 2 ^ 31 }
+    ensures { IsIntervalOrNone history.now result }
+{
+    for position in 0..history.len() {
+        let call = history.at(position);
+        if call.end < call.start {
+            return Some(position as u32);
+        }
+    }
+    None
+}
+
+/// What is found for a history whose calls are in numbers.
+fn found_of(alloc: Global, steps: &[Step]) -> Result<Found, AllocError>
+    requires few { length steps.now < 2 ^ 31 }
+    requires fit { All IsFit steps.now }
+    ensures { IfOk result (λ found. (history : List Call) → AreSteps history steps.now
+        → All (λ call. call.start ≤ call.end) history → IsFound history found) }
+{
+    let read = read_result_of(alloc, steps)?;
+    match read {
+        ReadResult::Refused(refusal) => {
+            Ok(Found::Rejected(Witness::Hit(refusal.hit, refusal.puts)))
+        }
+        ReadResult::Each(owners) => match arranged(alloc, steps, owners) {
+            Ok(found) => Ok(found),
+            Err(refused) => Err(refused),
+        },
+    }
+}
+
+/// What is found where each call has its owner.
+fn arranged(alloc: Global, steps: &[Step], owners: Owners) -> Result<Found, AllocError>
+    requires few { length steps.now < 2 ^ 31 }
+    requires fit { All IsFit steps.now }
+    requires owners { AreOwners steps.now (length steps.now) owners.owners.items owners.unsure.items }
+    ensures { IfOk result (λ found. (history : List Call) → AreSteps history steps.now
+        → All (λ call. call.start ≤ call.end) history → IsFound history found) }
+{
+    let Owners { owners, unsure } = owners;
+    let owned = owners.as_slice();
+    let zones = zones_of(alloc, steps, owned)?;
+    let listed = zones.as_slice();
+    if let Some(crossing) = crossing_of(listed) {
+        return Ok(Found::Rejected(crossing.witness()));
+    }
+    let doubtful = unsure.as_slice();
+    if !doubtful.is_empty() {
+        return Ok(Found::Undecided(unsure));
+    }
+    let certificate = certificate_by_zones(alloc, steps, owned, listed)?;
+    Ok(Found::Accepted(certificate))
+}

@@ -1,0 +1,15 @@
+// What was found for a history.
+use crate::witness::Witness;
+use trace_file::Certificate;
+
+/// What was found for a history.
+#[derive(Debug, Drop)]
+pub enum Found {
+    /// It is accepted with this certificate.
+    Accepted(Certificate),
+    /// It is accepted with none, for this reason.
+    Rejected(Witness),
+    /// The hits at these positions, at least one, can have read several puts of one value each, and without them no reason was found. Whether there is a
+    /// certificate was not decided.
+    Undecided(Vec<u32>),
+}

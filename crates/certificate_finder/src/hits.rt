@@ -1,0 +1,47 @@
+// What the hits of a history can have read.
+ghost use Rattle.std.specs.Prelude.{◌<◌, ◌^◌, All, IfOk, length};
+ghost use Rattle.certificate_finder.specs.Hits.{IsReadResult};
+ghost use Rattle.certificate_finder.specs.Putting.{ArePuts};
+ghost use Rattle.certificate_finder.specs.Steps.{IsFit};
+
+use crate::excuses::excluded_of;
+use crate::owners::owners_of;
+use crate::owning::Owning;
+use crate::put::Put;
+use crate::puts::{bests_of, puts_of};
+use crate::read_result::ReadResult;
+use crate::refusal::Refusal;
+use crate::step::Step;
+use crate::writes::{soonest_of, writes_of};
+use std::alloc::{AllocError, Global};
+
+/// With which write each call goes, or a hit that can have read no put.
+pub(crate) fn read_result_of(alloc: Global, steps: &[Step]) -> Result<ReadResult, AllocError>
+    requires few { length steps.now < 2 ^ 31 }
+    requires fit { All IsFit steps.now }
+    ensures { IfOk result (IsReadResult steps.now) }
+{
+    let puts = all_puts_of(alloc, steps)?;
+    let bests = bests_of(alloc, puts.as_slice())?;
+    match owners_of(alloc, steps, puts.as_slice(), bests.as_slice())? {
+        Owning::Each(owners) => Ok(ReadResult::Each(owners)),
+        Owning::Refused(hit) => {
+            let puts = excluded_of(alloc, steps, puts.as_slice(), hit)?;
+            Ok(ReadResult::Refused(Refusal { hit, puts }))
+        }
+    }
+}
+
+/// The puts, with the writes that are over them.
+fn all_puts_of(alloc: Global, steps: &[Step]) -> Result<Vec<Put>, AllocError>
+    requires few { length steps.now < 2 ^ 31 }
+    requires fit { All IsFit steps.now }
+    ensures { IfOk result (λ puts. ArePuts steps.now puts.items) }
+{
+    let writes = writes_of(alloc, steps)?;
+    let soonest = soonest_of(alloc, writes.as_slice())?;
+    match puts_of(alloc, steps, writes.as_slice(), soonest.as_slice()) {
+        Ok(puts) => Ok(puts),
+        Err(refused) => Err(refused),
+    }
+}

@@ -1,0 +1,39 @@
+//! Finds a certificate for a history that brings none, or says why there can be none.
+#![tactic(auto)]
+
+mod best;
+mod crossing;
+mod crossings;
+mod ends;
+mod excluded;
+mod excuses;
+mod finding;
+mod found;
+mod hits;
+mod kind;
+mod laws;
+mod lent_word;
+mod line;
+mod numbering;
+mod numbers;
+mod owner;
+mod owners;
+mod owning;
+mod put;
+mod puts;
+mod ranked;
+mod read_result;
+mod reads;
+mod refusal;
+mod step;
+mod witness;
+mod write;
+mod writes;
+mod zone;
+mod zoning;
+
+pub use excluded::{Excluded, Excuse};
+pub use finding::{MAX_CALLS, find, find_with_hasher};
+pub use found::Found;
+pub use laws::{lawful_by_keys, sorted_spots_are_accepted, witness_excludes};
+pub use witness::{Side, Witness};

@@ -1,0 +1,198 @@
+// Histories made by hand, with what must be found for them.
+use certificate_checker::{Verdict, check};
+use certificate_finder::{Found, Witness, find};
+use record_pages::{Key, NEVER, Value};
+use std::alloc::Global;
+use std::test::Fail;
+use trace_file::{Act, Call, History};
+
+/// What a call of a table does, with values of one byte, which never expire but where an expiry stands, and are asked for at moment 0 but where a moment stands.
+#[derive(Clone, Copy)]
+enum Did {
+    Put(u8),
+    Expiring(u8, u64),
+    Remove,
+    Hit(u8),
+    HitAt(u8, u64),
+    Miss,
+}
+
+/// What is to be found.
+#[derive(Clone, Copy, Debug, PartialEq, Eq)]
+enum Want {
+    Accepted,
+    Interval,
+    Hit,
+    Crossed,
+    Undecided,
+}
+
+/// A call of a table: its key, its stamps, and what it does.
+type Row = (u8, u64, u64, Did);
+
+fn call(alloc: Global, row: Row) -> Result<Call, Fail> {
+    let (key, start, end, did) = row;
+    let act = match did {
+        Did::Put(byte) => Act::Put(Value::new(alloc, &[byte])?, NEVER),
+        Did::Expiring(byte, expires) => Act::Put(Value::new(alloc, &[byte])?, expires),
+        Did::Remove => Act::Remove,
+        Did::Hit(byte) => Act::Hit(Value::new(alloc, &[byte])?, 0),
+        Did::HitAt(byte, moment) => Act::Hit(Value::new(alloc, &[byte])?, moment),
+        Did::Miss => Act::Miss,
+    };
+    Ok(Call {
+        caller: 0,
+        start,
+        end,
+        key: Key::new(alloc, &[key])?,
+        act,
+    })
+}
+
+fn history_of(alloc: Global, rows: &[Row]) -> Result<History, Fail> {
+    let mut history = History::new(alloc);
+    for row in rows {
+        history.push(call(alloc, *row)?)?;
+    }
+    Ok(history)
+}
+
+/// What is found, or nothing where a certificate was found that the checker rejects.
+fn found(alloc: Global, rows: &[Row]) -> Result<Option<Want>, Fail> {
+    let history = history_of(alloc, rows)?;
+    Ok(match find(alloc, &history)? {
+        Found::Accepted(certificate) => match check(alloc, &history, &certificate)? {
+            Verdict::Accepted => Some(Want::Accepted),
+            Verdict::Rejected(_) => None,
+        },
+        Found::Rejected(Witness::Interval(_)) => Some(Want::Interval),
+        Found::Rejected(Witness::Hit(..)) => Some(Want::Hit),
+        Found::Rejected(Witness::Crossed(..)) => Some(Want::Crossed),
+        Found::Undecided(_) => Some(Want::Undecided),
+    })
+}
+
+#[test]
+fn what_is_found_for_telling_histories(rt: HostRuntime) -> Result<(), Fail> {
+    let table: [(&[Row], Want); 20] = [
+        // No call, and one of each kind.
+        (&[], Want::Accepted),
+        (&[(1, 0, 0, Did::Put(1))], Want::Accepted),
+        (&[(1, 0, 0, Did::Miss)], Want::Accepted),
+        (&[(1, 0, 0, Did::Hit(1))], Want::Hit),
+        (&[(1, 4, 3, Did::Remove)], Want::Interval),
+        // A hit before its put, at one stamp with it, and behind it.
+        (&[(1, 0, 1, Did::Hit(1)), (1, 2, 3, Did::Put(1))], Want::Hit),
+        (
+            &[(1, 0, 2, Did::Hit(1)), (1, 2, 3, Did::Put(1))],
+            Want::Accepted,
+        ),
+        (
+            &[(1, 4, 5, Did::Hit(1)), (1, 2, 3, Did::Put(1))],
+            Want::Accepted,
+        ),
+        // A stale hit: behind another put, and behind a removal; not where they overlap; not where they are of another key.
+        (
+            &[
+                (1, 0, 1, Did::Put(1)),
+                (1, 2, 3, Did::Put(2)),
+                (1, 4, 5, Did::Hit(1)),
+            ],
+            Want::Hit,
+        ),
+        (
+            &[
+                (1, 0, 1, Did::Put(1)),
+                (1, 2, 3, Did::Remove),
+                (1, 4, 5, Did::Hit(1)),
+            ],
+            Want::Hit,
+        ),
+        (
+            &[
+                (1, 0, 1, Did::Put(1)),
+                (1, 2, 4, Did::Remove),
+                (1, 4, 5, Did::Hit(1)),
+            ],
+            Want::Accepted,
+        ),
+        (
+            &[
+                (1, 0, 1, Did::Put(1)),
+                (2, 2, 3, Did::Remove),
+                (1, 4, 5, Did::Hit(1)),
+            ],
+            Want::Accepted,
+        ),
+        // A put that ends late, read before and behind one that it spans.
+        (
+            &[
+                (1, 0, 9, Did::Put(1)),
+                (1, 2, 3, Did::Put(2)),
+                (1, 4, 5, Did::Hit(1)),
+                (1, 6, 7, Did::Hit(1)),
+            ],
+            Want::Accepted,
+        ),
+        (
+            &[
+                (1, 0, 9, Did::Put(1)),
+                (1, 1, 2, Did::Hit(1)),
+                (1, 3, 4, Did::Put(2)),
+                (1, 5, 6, Did::Hit(1)),
+            ],
+            Want::Crossed,
+        ),
+        // Two writes each of which has to stand first.
+        (
+            &[
+                (1, 0, 9, Did::Put(1)),
+                (1, 0, 9, Did::Put(2)),
+                (1, 1, 2, Did::Hit(1)),
+                (1, 3, 4, Did::Hit(2)),
+                (1, 5, 6, Did::Hit(1)),
+            ],
+            Want::Crossed,
+        ),
+        // Expired at the moment of the hit, and a moment before.
+        (
+            &[(1, 0, 1, Did::Expiring(1, 5)), (1, 2, 3, Did::HitAt(1, 5))],
+            Want::Hit,
+        ),
+        (
+            &[(1, 0, 1, Did::Expiring(1, 5)), (1, 2, 3, Did::HitAt(1, 4))],
+            Want::Accepted,
+        ),
+        // A value that was put twice: both can have been read, or the first one can't.
+        (
+            &[
+                (1, 0, 9, Did::Put(1)),
+                (1, 0, 9, Did::Put(1)),
+                (1, 1, 2, Did::Hit(1)),
+            ],
+            Want::Undecided,
+        ),
+        (
+            &[
+                (1, 0, 1, Did::Put(1)),
+                (1, 2, 3, Did::Put(1)),
+                (1, 4, 5, Did::Hit(1)),
+            ],
+            Want::Accepted,
+        ),
+        // Nothing is decided of one hit, and another one can have read no put.
+        (
+            &[
+                (1, 0, 9, Did::Put(1)),
+                (1, 0, 9, Did::Put(1)),
+                (1, 1, 2, Did::Hit(1)),
+                (2, 0, 1, Did::Hit(3)),
+            ],
+            Want::Hit,
+        ),
+    ];
+    for (rows, want) in table {
+        assert_eq!(rt; found(rt.alloc(), rows)?, Some(want));
+    }
+    Ok(())
+}
