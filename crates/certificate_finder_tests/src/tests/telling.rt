@@ -4,7 +4,7 @@ use certificate_finder::{Found, Witness, find};
 use record_pages::{Key, NEVER, Value};
 use std::alloc::Global;
 use std::test::Fail;
-use trace_file::{Act, Call, History};
+use trace_file::{Act, Call, Certificate, History};
 
 /// What a call of a table does, with values of one byte, which never expire but where an expiry stands, and are asked for at moment 0 but where a moment stands.
 #[derive(Clone, Copy)]
@@ -57,19 +57,36 @@ fn history_of(alloc: Global, rows: &[Row]) -> Result<History, Fail> {
     Ok(history)
 }
 
+/// What a certificate shows: nothing where the checker rejects it.
+fn shown(
+    alloc: Global,
+    history: &History,
+    certificate: &Certificate,
+) -> Result<Option<Want>, Fail> {
+    match check(alloc, history, certificate)? {
+        Verdict::Accepted => Ok(Some(Want::Accepted)),
+        Verdict::Rejected(_) => Ok(None),
+    }
+}
+
+/// The kind of a reason.
+fn kind_of(witness: &Witness) -> Want {
+    match witness {
+        Witness::Interval(_) => Want::Interval,
+        Witness::Hit(..) => Want::Hit,
+        Witness::Crossed(..) => Want::Crossed,
+    }
+}
+
 /// What is found, or nothing where a certificate was found that the checker rejects.
 fn found(alloc: Global, rows: &[Row]) -> Result<Option<Want>, Fail> {
     let history = history_of(alloc, rows)?;
-    Ok(match find(alloc, &history)? {
-        Found::Accepted(certificate) => match check(alloc, &history, &certificate)? {
-            Verdict::Accepted => Some(Want::Accepted),
-            Verdict::Rejected(_) => None,
-        },
-        Found::Rejected(Witness::Interval(_)) => Some(Want::Interval),
-        Found::Rejected(Witness::Hit(..)) => Some(Want::Hit),
-        Found::Rejected(Witness::Crossed(..)) => Some(Want::Crossed),
-        Found::Undecided(_) => Some(Want::Undecided),
-    })
+    let found = find(alloc, &history)?;
+    match found {
+        Found::Accepted(certificate) => shown(alloc, &history, &certificate),
+        Found::Rejected(witness) => Ok(Some(kind_of(&witness))),
+        Found::Undecided(_) => Ok(Some(Want::Undecided)),
+    }
 }
 
 #[test]
