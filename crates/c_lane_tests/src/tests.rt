@@ -194,7 +194,8 @@ fn keys_lie_in_all_lanes(rt: HostRuntime) {
     let mut seen = [0u32; 4];
     for number in 0..64u8 {
         let Place { lane, word: _ } = place_of(&SEED, 4, &[b'k', number]);
-        seen[lane as usize % 4] += 1;
+        let count = &mut seen[lane as usize % 4];
+        *count = count.saturating_add(1);
     }
     assert!(rt; seen[0] > 4 && seen[1] > 4 && seen[2] > 4 && seen[3] > 4);
 }

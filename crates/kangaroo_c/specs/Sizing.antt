@@ -1,5 +1,5 @@
 -- The numbers that stand for faults of sizes and shapes.
-use Rattle.std.specs.Prelude.{◌≡◌, ℕ, zero, suc, Option, Some, None}
+use Rattle.std.specs.Prelude.{◌≡◌, ℕ, Option, Some, None}
 use Rattle.cache_sizes.specs.Faults.{first_size_fault}
 use Rattle.cache_sizes.specs.declared.size_fault.SizeFault.{SizeFault}
 use Rattle.c_lane.specs.declared.lane_shape.LaneShape.{LaneShape}

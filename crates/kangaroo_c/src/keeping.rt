@@ -5,8 +5,8 @@ ghost use Rattle.kangaroo_c.specs.Telling.{IsFull};
 use crate::handle::Handle;
 use crate::kept_lane::KeptLane;
 use crate::parts::Parts;
-use c_lane::{CLane, Status};
-use mapped_device::MappedDevice;
+use c_lane::{CLane, LaneShape, Seed, Status};
+use mapped_device::{LentPages, MappedDevice};
 use std::alloc::Global;
 use std::mem::replace;
 
@@ -38,5 +38,26 @@ pub(crate) fn put_in(alloc: Global, lane: CLane<MappedDevice<4096>>, place: &mut
             Status::Done
         }
         Err(_) => Status::NoMemory,
+    }
+}
+
+ghost use Rattle.kangaroo_c.specs.Telling.{OpensBy};
+
+// Opens a lane over pages that are lent, in an empty place.
+pub(crate) fn open_in(
+    alloc: Global,
+    shape: &LaneShape,
+    seed: &Seed,
+    number: u32,
+    pages: LentPages,
+    place: &mut Handle,
+) -> Status
+    requires { place.old.lane ≡ None }
+    ensures { OpensBy shape.now seed.now number pages.pages result place.new.lane }
+{
+    let device = MappedDevice::new(pages.into_lent());
+    match CLane::open(alloc, shape, seed, number, device) {
+        Ok(lane) => put_in(alloc, lane, place),
+        Err(status) => status,
     }
 }

@@ -6,9 +6,9 @@ ghost use Rattle.c_lane.specs.Putting.{PutLeaves, PutOrRemoveLeaves, FillLeaves,
 ghost use Rattle.kangaroo_c.specs.Telling.{IsFull, Tells, TellsOpening, page_laws};
 
 use crate::handle::Handle;
-use crate::keeping::{filled, put_in, taken};
-use c_lane::{CLane, Hit, LaneShape, Seed};
-use mapped_device::{LentPages, MappedDevice};
+use crate::keeping::{filled, open_in, taken};
+use c_lane::{Hit, LaneShape, Seed};
+use mapped_device::LentPages;
 use std::alloc::Global;
 
 /// Opens an empty lane over pages that C lends, and puts it into an empty place; or leaves the place empty, and the pages are C's
@@ -25,11 +25,7 @@ pub extern "C" fn kl_open(
     requires { to.old.lane ≡ None }
     ensures { TellsOpening shape.now seed.now number pages.pages result to.new.lane }
 {
-    let device = MappedDevice::new(pages.into_lent());
-    match CLane::open(alloc, shape, seed, number, device) {
-        Ok(lane) => put_in(alloc, lane, to).number(),
-        Err(status) => status.number(),
-    }
+    open_in(alloc, shape, seed, number, pages, to).number()
 }
 
 /// Closes a lane: all memory that it took is given back.

@@ -1,5 +1,5 @@
 -- What is taken out of a place is what it held.
-use Rattle.std.proofs.Common.{◌≡◌, ap, ◌∙◌}
+use Rattle.std.proofs.Common.{ap, ◌∙◌}
 use Rattle.kangaroo_c.proofs.keeping.taken.Goals as goal
 
 pub into_parts-requires : goal.into_parts-requires

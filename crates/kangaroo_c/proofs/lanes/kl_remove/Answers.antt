@@ -1,9 +1,0 @@
--- What the call does of the lane that was taken out, it does of the place.
-use Rattle.c_lane.specs.Putting.{RemoveLeaves}
-use Rattle.kangaroo_c.specs.Telling.{page_laws}
-use Rattle.kangaroo_c.proofs.Telling.{tells}
-use Rattle.kangaroo_c.proofs.lanes.kl_remove.Goals as goal
-
-pub returns : goal.returns
-returns c =
-    tells (λ status old new. RemoveLeaves page_laws c.args.key.now old status new) c.remove-status.result _ _ _ c.taken-kept.result.value _ c.number.ensures c.taken-kept.ensures.value c.filled.ensures c.remove-status.ensures.leaves
