@@ -27,7 +27,9 @@ use Rattle.mover.proofs.Showing.{some_same}
 use Rattle.service_lane.specs.Asked.{IsLiveHit}
 use Rattle.service_lane.specs.Leases.{slot_of, writes_for, with_write, one_more, most_writes, HoldsLease}
 use Rattle.service_lane.specs.Serving.{Serving}
-use Rattle.service_lane.specs.Upkeep.{Upkeeps}
+use Rattle.klog.specs.declared.flushed.Flushed.{Flushed}
+use Rattle.service_lane.specs.Counting.{counts_answer}
+use Rattle.service_lane.specs.Upkeep.{Flushes, IsPageDone, Upkeeps}
 use Rattle.service_lane.specs.declared.upkept.Upkept.{Upkept}
 use Rattle.service_lane.specs.declared.upkept.Upkept.TheVariants as upkept
 
@@ -87,3 +89,15 @@ lease_ended slots after key writes some leased written holds =
     ap (λ s. writes_for s key) written ∙ ap (λ n. get_or (with_write slots key) (slot_of n key) 0) (length-set slots slot (one_more (get_or slots slot 0))) ∙ get_or-set_same slots slot (one_more (get_or slots slot 0)) 0 within in
     let n = get_or slots slot 0 in
     grows n (ltb n most_writes) refl (subst (λ w. w < most_writes) leased holds.few) (sym shows ∙ holds.same ∙ leased)
+
+-- ---- counters and upkeep
+
+-- the counters behind a hit in a tier
+pub counted_hit : {D : Type 0} (old new : Serving D) (found : List ℕ) (seen : Seen) (tier : Tier) → seen ≡ Hit tier → new.counts ≡ counts_answer (answer_of seen found) old.counts → new.counts ≡ counts_answer (answer_of (Hit tier) found) old.counts
+counted_hit old new found seen tier is counts = subst (λ s. new.counts ≡ counts_answer (answer_of s found) old.counts) is counts
+
+-- a step that flushes has done a page
+pub page_done : {D : Type 0} (size : ℕ) (honest : D → Bool) (failures : D → ℕ) (held : D → ℕ → Option (List ℕ)) (plan_of : Job → List Choice) (old : Serving D) (did : Upkept) (new : Serving D) (answer : Flushed) → did ≡ upkept.Flushed answer → Upkeeps size honest failures held plan_of old did new → IsPageDone answer
+page_done size honest failures held plan_of old did new answer is done =
+    let flushes : Flushes honest failures held old answer new = subst (λ d. Upkeeps size honest failures held plan_of old d new) is done in
+    flushes.done

@@ -1,7 +1,10 @@
 //! What users of a lane rely on, of any lane and any device.
-ghost use Rattle.std.specs.Prelude.{◌≡◌, ◌≢◌, Ok, IfOk, IsTrue};
+ghost use Rattle.std.specs.Prelude.{◌≡◌, ◌≢◌, ◌+◌, ◌%◌, ◌^◌, Ok, IfOk, IsTrue};
 ghost use Rattle.record_pages.specs.declared.tier.Tier.{Tier};
-ghost use Rattle.record_pages.specs.declared.tier.Tier.TheVariants.{Memory};
+ghost use Rattle.record_pages.specs.declared.tier.Tier.TheVariants.{Memory, Log, Set};
+ghost use Rattle.klog.specs.declared.flushed.Flushed.{Flushed};
+ghost use Rattle.service_lane.specs.Upkeep.{IsPageDone};
+ghost use Rattle.service_lane.specs.declared.upkept.Upkept.{Upkept};
 ghost use Rattle.mover.specs.declared.seen.Seen.TheVariants.{Hit};
 ghost use Rattle.service_lane.specs.declared.filled.Filled.{Filled};
 
@@ -10,7 +13,7 @@ use mover::Seen;
 use page_device::PageDevice;
 use policy_laws::EvictionPolicy;
 use record_pages::{Key, KeyFault, PutFault, Value};
-use service_lane::{Filled, ServiceLane};
+use service_lane::{Filled, ServiceLane, UpkeepStep};
 use value_buffer::ValueBuffer;
 
 /// A hit behind a put of its key has the value that was put: in memory whatever the device does, on flash where it gives back
@@ -81,6 +84,7 @@ pub fn a_fill_behind_a_put_is_stale<D: PageDevice<PAGE>, const PAGE: usize>(
     key: Key,
     again: Key,
     put: Value,
+    word: u32,
     filled: Value,
 ) -> Result<Filled, PutFault>
     requires { again ≡ key }
@@ -88,6 +92,39 @@ pub fn a_fill_behind_a_put_is_stale<D: PageDevice<PAGE>, const PAGE: usize>(
 {
     let _layout = lane.layout();
     let lease = lane.lease(key.bytes());
-    let _pushed = lane.put(key, put, 0, 0)?;
+    let _pushed = lane.put(key, put, word, 0)?;
     lane.fill(lease, again, filled, 0, 0)
+}
+
+/// A hit in the log is counted as one in the log and not in a set, and one in a set as that.
+pub fn a_hit_is_counted_in_its_tier<D: PageDevice<PAGE>, const PAGE: usize>(
+    lane: &mut ServiceLane<D, PAGE>,
+    name: &[u8],
+    moment: u64,
+    found: &mut ValueBuffer,
+) -> Result<Seen, KeyFault>
+    ensures log { result ≡ Ok (Hit Log) → lane.new.counts.gets.log_hits
+        ≡ (lane.old.counts.gets.log_hits + 1) % 2 ^ 64 }
+    ensures log_alone { result ≡ Ok (Hit Log) → lane.new.counts.gets.set_hits
+        ≡ lane.old.counts.gets.set_hits }
+    ensures set { result ≡ Ok (Hit Set) → lane.new.counts.gets.set_hits
+        ≡ (lane.old.counts.gets.set_hits + 1) % 2 ^ 64 }
+    ensures set_alone { result ≡ Ok (Hit Set) → lane.new.counts.gets.log_hits
+        ≡ lane.old.counts.gets.log_hits }
+{
+    match lane.get(name, moment, found) {
+        Ok(seen) => Ok(seen),
+        Err(fault) => Err(fault),
+    }
+}
+
+/// A step of upkeep writes a page or loses one, where it flushes: it seals no segment, and does nothing where nothing is due.
+pub fn upkeep_seals_nothing<D: PageDevice<PAGE>, P: EvictionPolicy, const PAGE: usize>(
+    lane: &mut ServiceLane<D, PAGE>,
+    policy: &P,
+) -> UpkeepStep
+    ensures { (answer : Flushed) → result.did ≡ Upkept.Flushed answer → IsPageDone answer }
+{
+    let step = lane.upkeep_step(policy);
+    step
 }
