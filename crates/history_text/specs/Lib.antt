@@ -1,0 +1,9 @@
+pub mod Coding
+pub mod Causes
+pub mod Spelling
+pub mod Spelled
+pub mod Text
+pub mod Named
+pub mod Outcome
+pub mod Reading
+pub mod Writing

@@ -1,0 +1,73 @@
+// Bytes as words: percent-coded, and `-` for no bytes.
+ghost use Rattle.std.specs.Prelude.{◌≡◌, Some, None, IfOk, if◌then◌else◌};
+ghost use Rattle.history_text.specs.Coding.{is_coded, bytes_of, starts_pair, word_of};
+
+use percent_encoding::{AsciiSet, percent_decode, percent_encode};
+use std::alloc::AllocError;
+use std::fmt;
+
+/// The ASCII bytes that are coded in a word: those outside 21 to 7e, and `%`. Bytes that are not ASCII are coded too.
+pub(crate) const CODED: AsciiSet = AsciiSet {
+    mask: 0x1_FFFF_FFFF | 1 << 0x25 | 1 << 0x7F,
+};
+
+/// Whether bytes begin with two hexadecimal digits.
+fn starts_pair(bytes: &[u8]) -> bool
+    ensures { result ≡ starts_pair bytes.now }
+{
+    match bytes {
+        [high, low, ..] => high.is_ascii_hexdigit() && low.is_ascii_hexdigit(),
+        _ => false,
+    }
+}
+
+/// Whether each `%` of a word stands before two hexadecimal digits.
+fn is_coded(word: &[u8]) -> bool
+    ensures { result ≡ is_coded word.now }
+{
+    for at in 0..word.len() {
+        if word[at] == b'%' && !starts_pair(&word[at + 1..]) {
+            return false;
+        }
+    }
+    true
+}
+
+/// Puts the bytes that a word writes in place of those of `bytes`, and says whether it writes some: where a `%` stands before
+/// no two hexadecimal digits, it does not.
+pub(crate) fn decode(word: &[u8], bytes: &mut Vec<u8>) -> Result<bool, AllocError>
+    ensures { IfOk result (λ writes. bytes_of word.now ≡ (if writes then Some bytes.new.items else None)) }
+{
+    bytes.clear();
+    if word == b"-".as_slice() {
+        return Ok(true);
+    }
+    if !is_coded(word) {
+        return Ok(false);
+    }
+    match percent_decode(word).append_to(bytes) {
+        Ok(()) => Ok(true),
+        Err(refused) => Err(refused),
+    }
+}
+
+/// Bytes as a word of a text: percent-coded, `-` for no bytes.
+#[derive(Clone, Copy)]
+pub struct Coded<'a> {
+    /// The bytes.
+    pub bytes: &'a [u8],
+}
+
+impl fmt::Display for Coded<'_> {
+    ghost output = { λ coded. Some (word_of coded.bytes.now) };
+
+    fn fmt<W: fmt::Write>(&self, f: &mut fmt::Formatter<W>) -> fmt::Result {
+        if self.bytes.is_empty() {
+            f.write_str("-")
+        } else if self.bytes == b"-".as_slice() {
+            f.write_str("%2D")
+        } else {
+            write!(f, "{}", percent_encode(self.bytes, CODED))
+        }
+    }
+}
