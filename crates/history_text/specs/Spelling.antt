@@ -1,6 +1,5 @@
 -- The call that a line spells, or the first cause why it spells none.
-use Rattle.std.specs.Prelude.{◌≡◌, ℕ, ◌<◌, ◌^◌, Bool, true, false, not, ◌&&◌, ◌||◌, ◌==◌, nat_lt, nat_le, List, [], length, if◌then◌else◌, Option, Some, None, ok_or, Result, Ok, Err, codes, slice_index_or}
-use Rattle.std.specs.Option.{option_filter}
+use Rattle.std.specs.Prelude.{◌≡◌, ℕ, ◌<◌, ◌^◌, Bool, true, false, not, ◌&&◌, ◌||◌, ◌==◌, nat_lt, nat_le, List, [], length, if◌then◌else◌, Option, Some, None, option_and_then, ok_or, Result, Ok, Err, codes, slice_index_or}
 use Rattle.std.specs.Str.{bytes_eq}
 use Rattle.record_pages.specs.Expiry.{never}
 use Rattle.script_words.specs.Words.{words_of, number_below}
@@ -112,7 +111,7 @@ spelled_of_words words = do
 
 -- the words of a line that has as many as a call can have
 abbrev pub line_words : List ℕ → Option (List (List ℕ))
-line_words line = option_filter (λ words. nat_le 5 (length words) && nat_le (length words) 7) (words_of line)
+line_words line = option_and_then (λ words. if nat_le 5 (length words) && nat_le (length words) 7 then Some words else None) (words_of line)
 
 -- the call that a line spells
 unfoldable pub spelled_of : List ℕ → Result Spelled Cause

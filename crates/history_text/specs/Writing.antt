@@ -1,12 +1,17 @@
 -- A history as text.
-use Rattle.std.specs.Prelude.{◌≡◌, ℕ, ◌^◌, Bool, true, ◌&&◌, ◌||◌, ◌==◌, nat_lt, List, ◌++◌, if◌then◌else◌, Option, Some, None, codes, filter}
+use Rattle.std.specs.Prelude.{◌≡◌, ℕ, ◌^◌, Bool, true, false, ◌&&◌, ◌||◌, ◌==◌, nat_lt, All, List, [], ◌++◌, if◌then◌else◌, IsSomeAnd, Option, Some, None, codes, option_map, slice_get, take}
+use Rattle.std.specs.Borrow.{Bor}
 use Rattle.std.specs.Fmt.{decimal}
+use Rattle.std.specs.Io.KnownBytes.{Appends, Keeps}
 use Rattle.std.specs.List.{flat_map}
 use Rattle.std.specs.Str.{bytes_eq}
 use Rattle.record_pages.specs.Expiry.{never}
 use Rattle.trace_file.specs.declared.act.Act.{Act}
 use Rattle.trace_file.specs.declared.act.Act.TheVariants.{Put, Remove, Hit, Miss}
 use Rattle.trace_file.specs.declared.call.Call.{Call}
+use Rattle.trace_file.specs.Sending.{Begun}
+use Rattle.history_text.specs.declared.write_text_fault.WriteTextFault.{WriteTextFault}
+use Rattle.history_text.specs.declared.write_text_fault.WriteTextFault.TheVariants.{TooLate, OutOfMemory, WriteFault}
 use Rattle.history_text.specs.Coding.{word_of}
 
 -- a number below 2 ^ 63 has a text
@@ -52,10 +57,37 @@ abbrev pub is_chosen : Option (List ℕ) → List ℕ → Bool
 is_chosen (Some only) key = bytes_eq only key
 is_chosen None key = true
 
--- the calls of the keys that are asked for
-abbrev pub chosen : Option (List ℕ) → List Call → List Call
-chosen only calls = filter (λ call. is_chosen only call.key) calls
+-- the key that is named, by its bytes
+abbrev pub named : Option (Bor (List ℕ)) → Option (List ℕ)
+named only = option_map (λ key. key.now) only
 
--- the text of calls
-abbrev pub written : List Call → List ℕ
-written calls = flat_map text_line calls
+-- the line of a call, where its key is asked for
+unfoldable pub line_where : Option (List ℕ) → Call → List ℕ
+line_where only call = if is_chosen only call.key then text_line call else []
+
+-- the text of the calls whose keys are asked for
+abbrev pub written : Option (List ℕ) → List Call → List ℕ
+written only calls = flat_map (line_where only) calls
+
+-- a call has a text, where its key is asked for
+abbrev pub HasTextWhere : Option (List ℕ) → Call → Type 0
+HasTextWhere only call = is_chosen only call.key ≡ true → has_text call ≡ true
+
+-- the fault that writing a call at a position stops at: it has no text, and nothing was written; or its line was begun
+abbrev pub StopsAt : Option (List ℕ) → Call → ℕ → Option (List ℕ) → Option (List ℕ) → WriteTextFault → Type 0
+StopsAt only call position old new (TooLate at) = (at ≡ position) × (is_chosen only call.key ≡ true) × (has_text call ≡ false) × Keeps old new
+StopsAt only call position old new OutOfMemory = Keeps old new
+StopsAt only call position old new WriteFault = Begun old new (line_where only call)
+
+-- the call at the position of a fault is the first of those that are asked for that has no text
+abbrev pub IsFirstWithout : Option (List ℕ) → List Call → WriteTextFault → Type 0
+IsFirstWithout only calls (TooLate at) =
+    IsSomeAnd (slice_get calls at) (λ call. (is_chosen only call.key ≡ true) × (has_text call ≡ false)) × All (HasTextWhere only) (take at calls)
+IsFirstWithout only calls OutOfMemory = Unit {0}
+IsFirstWithout only calls WriteFault = Unit {0}
+
+-- what was written before a fault: the lines of the calls before the one that has no text, or of some of the first calls, or a front of all that ends within them
+abbrev pub WroteBefore : Option (List ℕ) → List Call → Option (List ℕ) → Option (List ℕ) → WriteTextFault → Type 0
+WroteBefore only calls old new (TooLate at) = Appends old new (written only (take at calls))
+WroteBefore only calls old new OutOfMemory = (count : ℕ) × Appends old new (written only (take count calls))
+WroteBefore only calls old new WriteFault = Begun old new (written only calls)

@@ -78,9 +78,12 @@ impl<S: BuildHasher> TextHistory<S> {
         parts: &mut Parts,
     ) -> Result<(), LineFault>
         requires { length line.now ≤ 8192 }
-        ensures ok { OnOk result (after_line (text_shown self.old) number line.now ≡ Ok (text_shown self.new)) }
+        ensures ok { OnOk result (after_line (text_shown self.old) number line.now
+            ≡ Ok (text_shown self.new)) }
         ensures bad { IfErr result (IsSaid (after_line (text_shown self.old) number line.now)) }
         ensures few { OnOk result (number < 2 ^ 32) }
+        ensures as_many { length self.old.lines.items ≡ length self.old.history
+            → OnOk result (length self.new.lines.items ≡ length self.new.history) }
     {
         if number > MAX_LINES {
             return Err(LineFault::Bad(Cause::TooManyLines));
@@ -108,8 +111,12 @@ impl<S: BuildHasher> TextHistory<S> {
     ) -> Result<(), LineFault>
         requires key { IsKey parts.now.key.items }
         requires value { IsValue parts.now.value.items }
-        ensures ok { OnOk result (recorded (text_shown self.old) number (spelled_by spelling.now parts.now.key.items parts.now.value.items) ≡ Ok (text_shown self.new)) }
-        ensures bad { IfErr result (IsSaid (recorded (text_shown self.old) number (spelled_by spelling.now parts.now.key.items parts.now.value.items))) }
+        ensures ok { OnOk result (recorded (text_shown self.old) number
+            (spelled_by spelling.now parts.now.key.items parts.now.value.items) ≡ Ok (text_shown self.new)) }
+        ensures bad { IfErr result (IsSaid (recorded (text_shown self.old) number
+            (spelled_by spelling.now parts.now.key.items parts.now.value.items))) }
+        ensures as_many { length self.old.lines.items ≡ length self.old.history
+            → OnOk result (length self.new.lines.items ≡ length self.new.history) }
     {
         if self.history.len() >= MAX_CALLS {
             return Err(LineFault::Bad(Cause::TooManyCalls));

@@ -1,10 +1,9 @@
 // Why a history was not written as text.
 ghost use Rattle.std.specs.Prelude.{◌≡◌};
-ghost use Rattle.history_text.specs.declared.write_text_fault.WriteTextFault.TheVariants.{OutOfMemory, WriteFault};
+ghost use Rattle.history_text.specs.declared.write_text_fault.WriteTextFault.TheVariants.{OutOfMemory};
 
 use std::alloc::AllocError;
 use thiserror::Error;
-use trace_file::Unwritten;
 
 /// Why a history was not written as text, or not all of it.
 #[derive(Clone, Copy, Debug, PartialEq, Eq, Error)]
@@ -26,13 +25,5 @@ impl From<AllocError> for WriteTextFault {
 
     fn from(_refused: AllocError) -> WriteTextFault {
         WriteTextFault::OutOfMemory
-    }
-}
-
-impl From<Unwritten> for WriteTextFault {
-    ghost from_gives = { λ _ e. e ≡ WriteFault };
-
-    fn from(_refused: Unwritten) -> WriteTextFault {
-        WriteTextFault::WriteFault
     }
 }

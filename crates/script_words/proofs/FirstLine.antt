@@ -49,7 +49,7 @@ unfed (b ∷ bs) all = elim (cases_Bool (eqb b 10)) [
       rw other (unfed bs (omega (arith, rest)))
 ]
 
-few_enough : (most n : ℕ) → n ≤ most → nat_lt most n ≡ false
+pub few_enough : (most n : ℕ) → n ≤ most → nat_lt most n ≡ false
 few_enough most n less = elim (cases_Bool (nat_lt most n)) [
   | inl holds ↦ let more = ltb-true most n holds in absurd (omega (arith, less, more))
   | inr fails ↦ fails

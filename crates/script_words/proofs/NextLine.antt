@@ -6,6 +6,7 @@ use Rattle.std.proofs.lemmas.List.{append-nil}
 use borrow.Author.Tests.{ltb-true, ltb-false}
 use Rattle.script_words.specs.declared.line_read.LineRead.{LineRead}
 use Rattle.script_words.specs.declared.line_read.LineRead.TheVariants.{Line, TooLong, End}
+use Rattle.script_words.proofs.FirstLine.{few_enough}
 use Rattle.script_words.specs.Lines.{Ahead, GivesNext, TakesWithin, lines_of, first_line, after_line, feeds, is_ready_within}
 
 one_line : (b : ℕ) (bs : List ℕ) → onto_first b (lines_of bs) ≡ (b ∷ first_line bs) ∷ lines_of (after_line bs) → lines_of (b ∷ bs) ≡ first_line (b ∷ bs) ∷ lines_of (after_line (b ∷ bs))
@@ -96,7 +97,8 @@ empty_front (x ∷ xs) ys none = cc
 
 over_at_end : (most : ℕ) (bytes : List ℕ) (over : Bool) → bytes ≡ [] → is_ready_within most (record { bytes = bytes; over = over }) ≡ true → over ≡ true
 over_at_end most [] true none ready = refl
-over_at_end most [] false none ready = cc
+over_at_end most [] false none ready =
+    let fits = few_enough most 0 (omega arith) in let bad : false ≡ true = rw fits at ready in cc
 over_at_end most (b ∷ bs) over none ready = cc
 
 -- what was taken of the bytes read ahead is what all that is left begins with

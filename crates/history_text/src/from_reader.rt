@@ -31,6 +31,7 @@ pub fn read_text<S: BuildHasher + Drop, R: Read>(
         text_of bytes ≡ Ok (text_shown text))) }
     ensures fault { IfErr result (λ fault. IfSome (R.remaining reader.old) (λ bytes.
         IsFaultOf bytes fault)) }
+    ensures as_many { IfOk result (λ text. length text.lines.items ≡ length text.history) }
     ensures end { OnOk result (IsAtEnd (R.remaining reader.new)) }
 {
     let mut text = TextHistory::new(alloc, hash_builder);

@@ -1,9 +1,8 @@
 // Writing a history as text.
-ghost use Rattle.std.specs.Prelude.{◌≡◌, ◌≤◌, ◌^◌, true, IfOk, IfErr, OnOk, OnErr, IfSome, Some, length, string_bytes, IsTrue};
-ghost use Rattle.std.specs.List.{flat_map};
+ghost use Rattle.std.specs.Prelude.{◌≡◌, All, IfOk, IfErr, OnOk, Some, string_bytes};
 ghost use Rattle.std.specs.Io.KnownBytes.{Appends};
 ghost use Rattle.trace_file.specs.Lent.{call_shown};
-ghost use Rattle.history_text.specs.Writing.{act_has_text, has_text, is_chosen, end_text, text_line, chosen, Wrote};
+ghost use Rattle.history_text.specs.Writing.{act_has_text, has_text, is_chosen, named, end_text, text_line, line_where, written, HasTextWhere, IsFirstWithout, StopsAt, WroteBefore};
 
 use crate::coding::Coded;
 use crate::write_text_fault::WriteTextFault;
@@ -11,7 +10,7 @@ use record_pages::NEVER;
 use std::alloc::{AllocError, Global};
 use std::fmt;
 use std::io::Write;
-use trace_file::{ActRef, CallRef, History, write_whole};
+use trace_file::{ActRef, CallRef, History, Unwritten, write_whole};
 
 /// The first stamp that has no text.
 const STAMPS: u64 = 1 << 63;
@@ -83,12 +82,40 @@ fn text_line(alloc: Global, call: &CallRef<'_>) -> Result<String, AllocError>
     }
 }
 
-/// Whether a key is one whose calls are written: each is where none is named.
+/// Whether a key is one whose calls are written: each is, where none is named.
 fn is_chosen(only: Option<&[u8]>, key: &[u8]) -> bool
+    ensures { result ≡ is_chosen (named only.entry) key.now }
 {
     match only {
         Some(only) => only == key,
         None => true,
+    }
+}
+
+/// Writes the line of the call at a position, where its key is one of those that are written.
+fn write_call<W: Write>(
+    alloc: Global,
+    call: &CallRef<'_>,
+    position: usize,
+    only: Option<&[u8]>,
+    writer: &mut W,
+) -> Result<(), WriteTextFault>
+    ensures ok { OnOk result (Appends (W.contents writer.old) (W.contents writer.new)
+        (line_where (named only.entry) (call_shown call.now))) }
+    ensures has { OnOk result (HasTextWhere (named only.entry) (call_shown call.now)) }
+    ensures err { IfErr result (StopsAt (named only.entry) (call_shown call.now) position
+        (W.contents writer.old) (W.contents writer.new)) }
+{
+    if !is_chosen(only, call.key) {
+        return Ok(());
+    }
+    if !has_text(call) {
+        return Err(WriteTextFault::TooLate { position });
+    }
+    let line = text_line(alloc, call)?;
+    match write_whole(writer, line.as_bytes()) {
+        Ok(()) => Ok(()),
+        Err(Unwritten) => Err(WriteTextFault::WriteFault),
     }
 }
 
@@ -102,15 +129,19 @@ pub fn write_text<W: Write>(
     only: Option<&[u8]>,
     writer: &mut W,
 ) -> Result<(), WriteTextFault>
+    ensures ok { OnOk result (Appends (W.contents writer.old) (W.contents writer.new)
+        (written (named only.entry) history.now)) }
+    ensures have { OnOk result (All (HasTextWhere (named only.entry)) history.now) }
+
+    ensures too_late { IfErr result (IsFirstWithout (named only.entry) history.now) }
+    ensures begun { IfErr result (WroteBefore (named only.entry) history.now
+        (W.contents writer.old) (W.contents writer.new)) }
 {
     for position in 0..history.len() {
         let call = history.at(position);
-        if is_chosen(only, call.key) {
-            if !has_text(&call) {
-                return Err(WriteTextFault::TooLate { position });
-            }
-            let line = text_line(alloc, &call)?;
-            write_whole(writer, line.as_bytes())?;
+        match write_call(alloc, &call, position, only, writer) {
+            Ok(()) => {}
+            Err(fault) => return Err(fault),
         }
     }
     Ok(())

@@ -1,0 +1,13 @@
+//! Histories that bring no certificate, read as text and judged, and the line that tells what was found.
+#![tactic(auto)]
+
+mod judging_text;
+mod judged_text;
+mod told_lines;
+mod verdict_kind;
+mod verdict_text;
+
+pub use judged_text::JudgedText;
+pub use judging_text::judge_text;
+pub use verdict_kind::VerdictKind;
+pub use verdict_text::verdict_text;
