@@ -1,2 +1,5 @@
 pub mod Reading
 pub mod WritingLaws
+pub mod NameLaws
+pub mod LineLaws
+pub mod CodingLaws

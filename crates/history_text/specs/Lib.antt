@@ -7,3 +7,4 @@ pub mod Named
 pub mod Outcome
 pub mod Reading
 pub mod Writing
+pub mod Laws

@@ -5,7 +5,7 @@ use Rattle.history_text.specs.declared.text_history.TextHistory.{TextHistory}
 use Rattle.history_text.specs.Text.{Text}
 
 -- names, by their bytes
-abbrev pub names_of : List (Vec ℕ) → List (List ℕ)
+abbrev pub names_of : {A : Type 0} → List (Vec ℕ A) → List (List ℕ)
 names_of names = map (λ name. name.items) names
 
 abbrev pub text_shown : {S : Type 0} → TextHistory S → Text

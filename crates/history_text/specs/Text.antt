@@ -55,12 +55,12 @@ after_line text number line =
     else (spelled_of line >>= recorded text number)))
 
 -- the text with these lines more, the first of which has this number, or the first bad one
-mutual
-  abbrev pub text_from : Text → ℕ → List (List ℕ) → Result Text BadLine
+abbrev mutual
+  pub text_from : Text → ℕ → List (List ℕ) → Result Text BadLine
   text_from text number [] = Ok text
   text_from text number (line ∷ lines) = text_behind number lines (after_line text number line)
 
-  abbrev pub text_behind : ℕ → List (List ℕ) → Result Text Cause → Result Text BadLine
+  pub text_behind : ℕ → List (List ℕ) → Result Text Cause → Result Text BadLine
   text_behind number lines (Ok text) = text_from text (suc number) lines
   text_behind number lines (Err cause) = Err (record { number = number; cause = cause })
 

@@ -1,7 +1,7 @@
 // Writing a history as text.
 ghost use Rattle.std.specs.Prelude.{◌≡◌, All, IfOk, IfErr, OnOk, Some, string_bytes};
 ghost use Rattle.std.specs.Io.KnownBytes.{Appends};
-ghost use Rattle.trace_file.specs.Lent.{call_shown};
+ghost use Rattle.trace_file.specs.Lent.{act_shown, call_shown};
 ghost use Rattle.history_text.specs.Writing.{act_has_text, has_text, is_chosen, named, end_text, text_line, line_where, written, HasTextWhere, IsFirstWithout, StopsAt, WroteBefore};
 
 use crate::coding::Coded;

@@ -8,6 +8,7 @@ use Rattle.certificate_finder.specs.declared.excluded.Excuse.{Excuse}
 use Rattle.certificate_finder.specs.declared.excluded.Excuse.TheVariants.{Later, Expired, Replaced}
 use Rattle.certificate_finder.specs.declared.found.Found.{Found}
 use Rattle.certificate_finder.specs.declared.found.Found.TheVariants.{Accepted, Rejected, Undecided}
+use Rattle.certificate_finder.specs.declared.witness.Side.{Side}
 use Rattle.certificate_finder.specs.declared.witness.Witness.{Witness}
 use Rattle.certificate_finder.specs.declared.witness.Witness.TheVariants.{Interval, Hit, Crossed}
 use Rattle.history_text.specs.Coding.{word_of}
@@ -31,11 +32,15 @@ excuse_positions (Replaced write) = write ∷ []
 abbrev pub excluded_positions : Excluded → List ℕ
 excluded_positions excluded = excluded.put ∷ excuse_positions excluded.why
 
+-- the calls of a side
+abbrev pub side_positions : Side → List ℕ
+side_positions side = side.write ∷ side.early ∷ side.late ∷ []
+
 -- the calls that a reason speaks of; of the puts that a hit can't have read, the first seven
 abbrev pub witness_positions : Witness → List ℕ
 witness_positions (Interval call) = call ∷ []
 witness_positions (Hit hit puts) = hit ∷ flat_map excluded_positions (take 7 puts.items)
-witness_positions (Crossed one other) = one.write ∷ one.early ∷ one.late ∷ other.write ∷ other.early ∷ other.late ∷ []
+witness_positions (Crossed one other) = side_positions one ++ side_positions other
 
 -- the lines of calls
 abbrev pub lines_at : List ℕ → List ℕ → List ℕ

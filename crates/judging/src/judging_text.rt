@@ -4,7 +4,7 @@ ghost use Rattle.std.specs.Io.KnownBytes.{IsAtEnd};
 ghost use Rattle.history_text.specs.Named.{text_shown};
 ghost use Rattle.history_text.specs.Outcome.{IsFaultOf};
 ghost use Rattle.history_text.specs.Text.{text_of};
-ghost use Rattle.judging.specs.Findings.{IsFound};
+ghost use Rattle.certificate_finder.specs.Finding.{IsFound};
 
 use crate::judged_text::JudgedText;
 use certificate_finder::find_with_hasher;

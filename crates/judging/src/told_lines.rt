@@ -1,9 +1,9 @@
 // The lines of a text that a verdict names.
 ghost use Rattle.std.specs.Prelude.{◌≡◌, ◌++◌, [], ◌∷◌, OnOk, IfOk, string_bytes, take};
 ghost use Rattle.std.specs.List.{flat_map};
-ghost use Rattle.judging.specs.Telling.{put_in, ascending, excluded_positions, lines_at, spaced, witness_positions};
+ghost use Rattle.judging.specs.Telling.{put_in, ascending, excluded_positions, lines_at, side_positions, spaced, witness_positions};
 
-use certificate_finder::{Excluded, Excuse, Witness};
+use certificate_finder::{Excluded, Excuse, Side, Witness};
 use std::alloc::{AllocError, Global};
 
 /// The most puts of a hit that are told.
@@ -46,6 +46,16 @@ fn add_puts(positions: &mut Vec<u32>, puts: &[Excluded]) -> Result<(), AllocErro
     Ok(())
 }
 
+/// Puts the positions of a side behind others.
+fn add_side(positions: &mut Vec<u32>, side: &Side) -> Result<(), AllocError>
+    ensures { OnOk result (positions.new.items
+        ≡ positions.old.items ++ side_positions side.now) }
+{
+    add(positions, side.write)?;
+    add(positions, side.early)?;
+    add(positions, side.late)
+}
+
 /// The calls that a reason speaks of.
 fn positions_of(alloc: Global, witness: &Witness) -> Result<Vec<u32>, AllocError>
     ensures { IfOk result (λ positions. positions.items ≡ witness_positions witness.now) }
@@ -58,9 +68,8 @@ fn positions_of(alloc: Global, witness: &Witness) -> Result<Vec<u32>, AllocError
             add_puts(&mut positions, puts)?;
         }
         Witness::Crossed(one, other) => {
-            for position in [one.write, one.early, one.late, other.write, other.early, other.late] {
-                add(&mut positions, position)?;
-            }
+            add_side(&mut positions, one)?;
+            add_side(&mut positions, other)?;
         }
     }
     Ok(positions)

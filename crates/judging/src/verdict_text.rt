@@ -1,7 +1,7 @@
 // The line that tells what was found for the history of a text.
 ghost use Rattle.std.specs.Prelude.{◌≡◌, ◌<◌, IfOk, length, string_bytes};
 ghost use Rattle.certificate_finder.specs.Witnesses.{IsWitness};
-ghost use Rattle.judging.specs.Findings.{IsFound};
+ghost use Rattle.certificate_finder.specs.Finding.{IsFound};
 ghost use Rattle.judging.specs.Telling.{first_position, verdict_text, witness_word};
 
 use crate::judged_text::JudgedText;

@@ -1,0 +1,35 @@
+-- A caller's number, by the names as they are kept.
+use Rattle.std.proofs.Common.{◌≡◌, ℕ, ◌+◌, ◌<◌, ◌≤◌, Bool, true, false, cond, not, ltb, ◌||◌, List, [], ◌∷◌, ◌++◌, length, map, Option, Some, None, refl, sym, ap, ◌∙◌, arith, inl, inr}
+use Rattle.std.specs.List.{list_any, position_or_len, prefix_len}
+use Rattle.std.specs.Str.{bytes_eq}
+use Rattle.std.specs.declared.vec.Vec.{Vec}
+use Rattle.std.proofs.lemmas.Bool.{cases_Bool}
+use borrow.Author.Tests.{ltb-true, ltb-false}
+use Rattle.history_text.specs.Text.{number_of, noted}
+use Rattle.history_text.specs.Named.{names_of}
+
+-- a kept name is this one
+abbrev pub is : {A : Type 0} → List ℕ → Vec ℕ A → Bool
+is name kept = bytes_eq name kept.items
+
+pub number_by : {A : Type 0} (name : List ℕ) (keys : List (Vec ℕ A)) → number_of (names_of keys) name ≡ position_or_len (is name) keys
+unfolding number_of
+number_by name [] = refl
+number_by name (k ∷ ks) = ap (λ n. cond (not (bytes_eq name k.items)) (1 + n) 0) (number_by name ks)
+
+pub any_by : {A : Type 0} (name : List ℕ) (keys : List (Vec ℕ A)) → list_any (bytes_eq name) (names_of keys) ≡ list_any (is name) keys
+any_by name [] = refl
+any_by name (k ∷ ks) = ap (λ b. bytes_eq name k.items || b) (any_by name ks)
+
+-- the first place that passes, as an option says it
+pub some_at : (p n i : ℕ) → Some i ≡ cond (ltb p n) (Some p) None → (i ≡ p) × (p < n)
+some_at p n i h = elim (cases_Bool (ltb p n)) [
+  | inl within ↦ let e : Some i ≡ Some p = rw within at h in (cc, ltb-true p n within)
+  | inr past ↦ let e : Some i ≡ None = rw past at h in cc
+]
+
+pub none_at : (p n : ℕ) (o : Option ℕ) → o ≡ None → o ≡ cond (ltb p n) (Some p) None → n ≤ p
+none_at p n o none h = elim (cases_Bool (ltb p n)) [
+  | inl within ↦ let e : o ≡ Some p = rw within at h in cc
+  | inr past ↦ ltb-false p n past
+]
