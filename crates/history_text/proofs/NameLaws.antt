@@ -6,7 +6,7 @@ use Rattle.std.specs.declared.vec.Vec.{Vec}
 use Rattle.std.proofs.lemmas.Bool.{cases_Bool}
 use borrow.Author.Tests.{ltb-true, ltb-false}
 use Rattle.history_text.specs.Text.{number_of, noted}
-use Rattle.history_text.specs.Named.{names_of}
+use Rattle.history_text.specs.Names.{names_of}
 
 -- a kept name is this one
 abbrev pub is : {A : Type 0} → List ℕ → Vec ℕ A → Bool

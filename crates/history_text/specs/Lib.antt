@@ -3,8 +3,8 @@ pub mod Causes
 pub mod Spelling
 pub mod Spelled
 pub mod Text
-pub mod Named
 pub mod Outcome
 pub mod Reading
 pub mod Writing
 pub mod Laws
+pub mod Names

@@ -9,7 +9,7 @@ use Rattle.history_text.specs.declared.cause.Cause.{Cause}
 use Rattle.history_text.specs.declared.cause.Cause.TheVariants.{NotWords, BadStart, BadEnd, BadKind, WrongCount, NoReturn, BadKeyCode, BadKeyLen, BadValueCode, BadValueLen, BadExpiry, BadMoment}
 use Rattle.history_text.specs.declared.kind.Kind.{Kind}
 use Rattle.history_text.specs.declared.kind.Kind.TheVariants.{Put, Hit, Miss, Remove}
-use Rattle.history_text.specs.declared.spelling.Head.{Head}
+use Rattle.history_text.specs.declared.head.Head.{Head}
 use Rattle.history_text.specs.Coding.{bytes_of}
 
 infixl 10 ◌>>=◌

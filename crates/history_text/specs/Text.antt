@@ -15,6 +15,10 @@ pub record Text : Type 0 where
   pub lines : List ℕ
   pub callers : List (List ℕ)
 
+-- the text with these parts
+abbrev pub text_by : List Call → List ℕ → List (List ℕ) → Text
+text_by calls lines callers = record { calls = calls; lines = lines; callers = callers }
+
 -- what no lines spell
 abbrev pub no_text : Text
 no_text = record { calls = []; lines = []; callers = [] }

@@ -21,7 +21,7 @@ pub struct Callers<S: BuildHasher> {
 
 impl<S: BuildHasher> Model for Callers<S> {
     ghost use Rattle.std.specs.Prelude.{List, ℕ, ◌≤◌, length};
-    ghost use Rattle.history_text.specs.Named.{names_of};
+    ghost use Rattle.history_text.specs.Names.{names_of};
 
     ghost Value = { List (List ℕ) };
 

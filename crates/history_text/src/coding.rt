@@ -1,10 +1,9 @@
 // Bytes as words: percent-coded, and `-` for no bytes.
 ghost use Rattle.std.specs.Prelude.{◌≡◌, Some, None, IfOk, if◌then◌else◌};
-ghost use Rattle.history_text.specs.Coding.{is_coded, bytes_of, starts_pair, word_of};
+ghost use Rattle.history_text.specs.Coding.{is_coded, bytes_of, starts_pair};
 
-use percent_encoding::{AsciiSet, percent_decode, percent_encode};
+use percent_encoding::{AsciiSet, percent_decode};
 use std::alloc::AllocError;
-use std::fmt;
 
 /// The ASCII bytes that are coded in a word: those outside 21 to 7e, and `%`. Bytes that are not ASCII are coded too.
 pub(crate) const CODED: AsciiSet = AsciiSet {
@@ -48,26 +47,5 @@ pub(crate) fn decode(word: &[u8], bytes: &mut Vec<u8>) -> Result<bool, AllocErro
     match percent_decode(word).append_to(bytes) {
         Ok(()) => Ok(true),
         Err(refused) => Err(refused),
-    }
-}
-
-/// Bytes as a word of a text: percent-coded, `-` for no bytes.
-#[derive(Clone, Copy)]
-pub struct Coded<'a> {
-    /// The bytes.
-    pub bytes: &'a [u8],
-}
-
-impl fmt::Display for Coded<'_> {
-    ghost output = { λ coded. Some (word_of coded.bytes.now) };
-
-    fn fmt<W: fmt::Write>(&self, f: &mut fmt::Formatter<W>) -> fmt::Result {
-        if self.bytes.is_empty() {
-            f.write_str("-")
-        } else if self.bytes == b"-".as_slice() {
-            f.write_str("%2D")
-        } else {
-            write!(f, "{}", percent_encode(self.bytes, CODED))
-        }
     }
 }

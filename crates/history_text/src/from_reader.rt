@@ -1,8 +1,7 @@
 // Reading a history from a text.
 ghost use Rattle.std.specs.Prelude.{◌≡◌, Ok, IfOk, IfErr, IfSome, OnOk, length};
 ghost use Rattle.std.specs.Io.KnownBytes.{IsAtEnd};
-ghost use Rattle.history_text.specs.Text.{text_of};
-ghost use Rattle.history_text.specs.Named.{text_shown};
+ghost use Rattle.history_text.specs.Text.{text_by, text_of};
 ghost use Rattle.history_text.specs.Outcome.{IsFaultOf};
 
 use crate::bad_line::BadLine;
@@ -10,7 +9,8 @@ use crate::cause::Cause;
 use crate::line_fault::LineFault;
 use crate::lines::{MAX_TEXT_LINE_LEN, next_line};
 use crate::read_text_fault::ReadTextFault;
-use crate::text_history::{Parts, TextHistory};
+use crate::parts::Parts;
+use crate::text_history::TextHistory;
 use script_words::{LineRead, ReadAhead};
 use std::alloc::Global;
 use std::hash::BuildHasher;
@@ -28,7 +28,7 @@ pub fn read_text<S: BuildHasher + Drop, R: Read>(
     reader: &mut R,
 ) -> Result<TextHistory<S>, ReadTextFault>
     ensures text { IfOk result (λ text. IfSome (R.remaining reader.old) (λ bytes.
-        text_of bytes ≡ Ok (text_shown text))) }
+        text_of bytes ≡ Ok (text_by text.history text.lines.items text.callers))) }
     ensures fault { IfErr result (λ fault. IfSome (R.remaining reader.old) (λ bytes.
         IsFaultOf bytes fault)) }
     ensures as_many { IfOk result (λ text. length text.lines.items ≡ length text.history) }

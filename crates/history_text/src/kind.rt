@@ -1,8 +1,8 @@
 // What the fourth word of a line says that its call did.
 ghost use Rattle.std.specs.Prelude.{◌≡◌};
-ghost use Rattle.history_text.specs.Spelling.{kind_of, has_words, returns};
 
 use crate::cause::Cause;
+use trace_file::ActRef;
 
 /// What a call did, without its value and time.
 #[derive(Clone, Copy, Debug, PartialEq, Eq)]
@@ -14,6 +14,10 @@ pub(crate) enum Kind {
 }
 
 impl Kind {
+    ghost use Rattle.trace_file.specs.Lent.{act_shown};
+    ghost use Rattle.history_text.specs.Spelling.{kind_of, has_words, returns};
+    ghost use Rattle.history_text.specs.Spelled.{act_by};
+
     /// The kind that a word names.
     pub(crate) fn of(word: &[u8]) -> Result<Kind, Cause>
         ensures { result ≡ kind_of word.now }
@@ -48,6 +52,18 @@ impl Kind {
         match self {
             Kind::Hit | Kind::Miss => true,
             Kind::Put | Kind::Remove => false,
+        }
+    }
+
+    /// The act of this kind, with the bytes of its value and its time where it has them.
+    pub(crate) fn act(self, value: &[u8], time: u64) -> ActRef<'_>
+        ensures { act_shown result ≡ act_by self value.now time }
+    {
+        match self {
+            Kind::Put => ActRef::Put(value, time),
+            Kind::Hit => ActRef::Hit(value, time),
+            Kind::Miss => ActRef::Miss,
+            Kind::Remove => ActRef::Remove,
         }
     }
 }

@@ -1,14 +1,12 @@
 // A history that was read from a text, with what the text says beside it.
 ghost use Rattle.std.specs.Prelude.{◌≡◌, ◌≢◌, ◌<◌, ◌≤◌, ◌^◌, Ok, length, IfOk, IfErr, OnOk};
-ghost use Rattle.history_text.specs.Text.{no_text, is_passed_over, after_line, recorded};
-ghost use Rattle.history_text.specs.Spelled.{IsSaid, spelled_by};
-ghost use Rattle.history_text.specs.Named.{text_shown};
-ghost use Rattle.record_pages.specs.Bounded.{IsKey, IsValue};
 
 use crate::callers::Callers;
 use crate::cause::Cause;
 use crate::line_fault::LineFault;
-use crate::spelling::{Spelling, take_line};
+use crate::line_taking::{is_passed_over, take_line};
+use crate::parts::Parts;
+use crate::spelling::Spelling;
 use std::alloc::Global;
 use std::hash::BuildHasher;
 use trace_file::{CallRef, History};
@@ -30,37 +28,14 @@ pub struct TextHistory<S: BuildHasher> {
     pub callers: Callers<S>,
 }
 
-/// The bytes of a line's key and of its value.
-#[derive(Drop)]
-pub(crate) struct Parts {
-    pub(crate) key: Vec<u8>,
-    pub(crate) value: Vec<u8>,
-}
-
-impl Parts {
-    /// No bytes. It takes no memory.
-    pub(crate) fn new(alloc: Global) -> Parts {
-        Parts {
-            key: Vec::new(alloc),
-            value: Vec::new(alloc),
-        }
-    }
-}
-
-/// Whether a line is passed over: it is empty, or begins with `#`.
-fn is_passed_over(line: &[u8]) -> bool
-    ensures { result ≡ is_passed_over line.now }
-{
-    match line {
-        [] => true,
-        [first, ..] => *first == b'#',
-    }
-}
-
 impl<S: BuildHasher> TextHistory<S> {
+    ghost use Rattle.history_text.specs.Text.{no_text, after_line, recorded, text_by};
+    ghost use Rattle.history_text.specs.Spelled.{IsSaid, spelled_by};
+    ghost use Rattle.record_pages.specs.Bounded.{IsKey, IsValue};
+
     /// The history of a text with no lines.
     pub(crate) fn new(alloc: Global, hash_builder: S) -> TextHistory<S>
-        ensures { text_shown result ≡ no_text }
+        ensures { text_by result.history result.lines.items result.callers ≡ no_text }
     {
         TextHistory {
             history: History::new(alloc),
@@ -78,9 +53,11 @@ impl<S: BuildHasher> TextHistory<S> {
         parts: &mut Parts,
     ) -> Result<(), LineFault>
         requires { length line.now ≤ 8192 }
-        ensures ok { OnOk result (after_line (text_shown self.old) number line.now
-            ≡ Ok (text_shown self.new)) }
-        ensures bad { IfErr result (IsSaid (after_line (text_shown self.old) number line.now)) }
+        ensures ok { OnOk result (
+            after_line (text_by self.old.history self.old.lines.items self.old.callers) number line.now
+            ≡ Ok (text_by self.new.history self.new.lines.items self.new.callers)) }
+        ensures bad { IfErr result (IsSaid (
+            after_line (text_by self.old.history self.old.lines.items self.old.callers) number line.now)) }
         ensures few { OnOk result (number < 2 ^ 32) }
         ensures as_many { length self.old.lines.items ≡ length self.old.history
             → OnOk result (length self.new.lines.items ≡ length self.new.history) }
@@ -111,9 +88,12 @@ impl<S: BuildHasher> TextHistory<S> {
     ) -> Result<(), LineFault>
         requires key { IsKey parts.now.key.items }
         requires value { IsValue parts.now.value.items }
-        ensures ok { OnOk result (recorded (text_shown self.old) number
-            (spelled_by spelling.now parts.now.key.items parts.now.value.items) ≡ Ok (text_shown self.new)) }
-        ensures bad { IfErr result (IsSaid (recorded (text_shown self.old) number
+        ensures ok { OnOk result (
+            recorded (text_by self.old.history self.old.lines.items self.old.callers) number
+            (spelled_by spelling.now parts.now.key.items parts.now.value.items)
+            ≡ Ok (text_by self.new.history self.new.lines.items self.new.callers)) }
+        ensures bad { IfErr result (IsSaid (
+            recorded (text_by self.old.history self.old.lines.items self.old.callers) number
             (spelled_by spelling.now parts.now.key.items parts.now.value.items))) }
         ensures as_many { length self.old.lines.items ≡ length self.old.history
             → OnOk result (length self.new.lines.items ≡ length self.new.history) }

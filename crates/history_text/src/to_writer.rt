@@ -4,7 +4,7 @@ ghost use Rattle.std.specs.Io.KnownBytes.{Appends};
 ghost use Rattle.trace_file.specs.Lent.{act_shown, call_shown};
 ghost use Rattle.history_text.specs.Writing.{act_has_text, has_text, is_chosen, named, end_text, text_line, line_where, written, HasTextWhere, IsFirstWithout, StopsAt, WroteBefore};
 
-use crate::coding::Coded;
+use crate::coded::Coded;
 use crate::write_text_fault::WriteTextFault;
 use record_pages::NEVER;
 use std::alloc::{AllocError, Global};

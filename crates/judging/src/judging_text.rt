@@ -1,9 +1,8 @@
 // Judging the history that a text spells.
 ghost use Rattle.std.specs.Prelude.{◌≡◌, Ok, IfOk, IfErr, IfSome, OnOk, length};
 ghost use Rattle.std.specs.Io.KnownBytes.{IsAtEnd};
-ghost use Rattle.history_text.specs.Named.{text_shown};
 ghost use Rattle.history_text.specs.Outcome.{IsFaultOf};
-ghost use Rattle.history_text.specs.Text.{text_of};
+ghost use Rattle.history_text.specs.Text.{text_by, text_of};
 ghost use Rattle.certificate_finder.specs.Finding.{IsFound};
 
 use crate::judged_text::JudgedText;
@@ -23,7 +22,8 @@ pub fn judge_text<S: BuildHasher + Copy + Drop, R: Read>(
     reader: &mut R,
 ) -> Result<JudgedText<S>, ReadTextFault>
     ensures text { IfOk result (λ judged. IfSome (R.remaining reader.old) (λ bytes.
-        text_of bytes ≡ Ok (text_shown judged.text))) }
+        text_of bytes
+            ≡ Ok (text_by judged.text.history judged.text.lines.items judged.text.callers))) }
     ensures found { IfOk result (λ judged. IsFound judged.text.history judged.found) }
     ensures as_many { IfOk result (λ judged.
         length judged.text.lines.items ≡ length judged.text.history) }
