@@ -1,6 +1,7 @@
 -- Taking the next line of a reader.
-use Rattle.std.proofs.Common.{◌≡◌, ℕ, ◌-◌, ◌++◌, true, false, if◌then◌else◌, List, length, Option, Some, None, refl, sym, ap, subst, ◌∙◌}
+use Rattle.std.proofs.Common.{◌≡◌, ℕ, ◌-◌, ◌++◌, true, false, if◌then◌else◌, inl, inr, List, [], length, Option, Some, None, refl, sym, ap, subst, ◌∙◌}
 use Rattle.std.specs.Io.KnownBytes.{IsAtEnd, Keeps, prepend_known}
+use Rattle.std.proofs.lemmas.Bool.{cases_Bool}
 use Rattle.script_words.specs.declared.line_read.LineRead.{LineRead}
 use Rattle.script_words.specs.declared.line_read.LineRead.TheVariants.{Line, TooLong, End}
 use Rattle.script_words.specs.Lines.{Ahead, GivesNext, TakesWithin, is_ready_within}
@@ -27,11 +28,21 @@ same_over old new End line takes = ap (λ (a : Ahead). a.over) takes.1
 pub still_ahead : (old new : Ahead) (left : Option (List ℕ)) (read : LineRead) (line : List ℕ) → IsAhead old left → TakesWithin 8192 old read line new → IsAhead new left
 still_ahead old new left read line ahead takes = λ over. ahead (sym (same_over old new read line takes) ∙ over)
 
-pub keeps_same : (old mid new : Ahead) (unread left : Option (List ℕ)) → new ≡ mid → Keeps (prepend_known old.bytes unread) (prepend_known mid.bytes left) → Keeps (prepend_known old.bytes unread) (prepend_known new.bytes left)
-keeps_same old mid new unread left same kept = subst (λ (a : Ahead). Keeps (prepend_known old.bytes unread) (prepend_known a.bytes left)) (sym same) kept
-
 pub ahead_same : (mid new : Ahead) (left : Option (List ℕ)) → new ≡ mid → IsAhead mid left → IsAhead new left
 ahead_same mid new left same ahead = subst (λ (a : Ahead). IsAhead a left) (sym same) ahead
+
+-- where nothing is left and a line can be taken, the reader told its end
+over_last : (mid : Ahead) → mid.bytes ≡ [] → is_ready_within 8192 mid ≡ true → mid.over ≡ true
+over_last mid none ready = elim (cases_Bool mid.over) [
+  | inl over ↦ over
+  | inr going ↦ let bad : false ≡ true = rw (going, none) at ready in cc
+]
+
+-- what is taken last is taken at the reader's end
+pub at_end : (mid new : Ahead) (left : Option (List ℕ)) (read : LineRead) (line : List ℕ) → is_ready_within 8192 mid ≡ true → IsAhead mid left → TakesWithin 8192 mid read line new → read ≡ End → IsAtEnd left
+at_end mid new left Line line ready ahead takes bad = cc
+at_end mid new left TooLong line ready ahead takes bad = cc
+at_end mid new left End line ready ahead takes same = ahead (over_last mid takes.0 ready)
 
 -- ---- reading once more
 

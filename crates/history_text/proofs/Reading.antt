@@ -1,15 +1,16 @@
 -- A text as far as its lines were taken.
-use Rattle.std.proofs.Common.{◌≡◌, ◌≢◌, ℕ, suc, ◌+◌, ◌<◌, List, [], ◌∷◌, length, Option, Some, None, IfSome, IsSomeAnd, Result, Ok, Err, sym, ap, ◌∙◌, refl, add-one, subst}
+use Rattle.std.proofs.Common.{◌≡◌, ◌≢◌, ℕ, suc, ◌+◌, ◌<◌, true, false, List, [], ◌∷◌, length, Option, Some, None, IfSome, IsSomeAnd, Result, Ok, Err, sym, ap, ◌∙◌, refl, add-one, subst}
 use Rattle.std.specs.Io.KnownBytes.{prepend_known}
 use borrow.Author.Tests.{lt-ltb}
 use Rattle.script_words.specs.declared.line_read.LineRead.TheVariants.{Line, TooLong, End}
-use Rattle.script_words.specs.Lines.{lines_of, first_line, after_line as behind_line}
+use Rattle.script_words.specs.Lines.{Ahead, lines_of, first_line, after_line as behind_line}
 use Rattle.script_words.proofs.NextLine.{next_lines}
+use Rattle.trace_file.specs.declared.call.Call.{Call}
 use Rattle.history_text.specs.declared.cause.Cause.{Cause}
 use Rattle.history_text.specs.declared.cause.Cause.TheVariants as causes
 use Rattle.history_text.specs.declared.bad_line.BadLine.{BadLine}
-use Rattle.history_text.specs.Reading.{GivesLine}
-use Rattle.history_text.specs.Text.{Text, no_text, after_line, text_from, text_behind, text_of}
+use Rattle.history_text.specs.Reading.{GivesLine, IsAhead}
+use Rattle.history_text.specs.Text.{Text, no_text, after_line, text_by, text_from, by_line, text_of}
 
 -- the bytes spell what the lines so far and the bytes that are left spell
 abbrev pub Spells : Option (List ℕ) → Option (List ℕ) → Text → ℕ → Type 0
@@ -24,10 +25,10 @@ starts None = tt
 starts (Some bytes) = refl
 
 -- what the rest spells is what its first line and then the others spell
-next : (text : Text) (number : ℕ) (rest line : List ℕ) (said : Result Text Cause) → rest ≢ [] → line ≡ first_line rest → after_line text number line ≡ said → text_from text number (lines_of rest) ≡ text_behind number (lines_of (behind_line rest)) said
+next : (text : Text) (number : ℕ) (rest line : List ℕ) (said : Result Text Cause) → rest ≢ [] → line ≡ first_line rest → after_line text number line ≡ said → text_from text number (lines_of rest) ≡ by_line number said (λ t. text_from t (suc number) (lines_of (behind_line rest)))
 next text number rest line said some is gives =
     ap (text_from text number) (next_lines rest some)
-    ∙ ap (text_behind number (lines_of (behind_line rest))) (ap (after_line text number) (sym is) ∙ gives)
+    ∙ ap (λ (r : Result Text Cause). by_line number r (λ t. text_from t (suc number) (lines_of (behind_line rest)))) (ap (after_line text number) (sym is) ∙ gives)
 
 pub goes_on : (all left new : Option (List ℕ)) (text other : Text) (number : ℕ) (line : List ℕ) → Spells all left text number → GivesLine left Line line new → after_line text number line ≡ Ok other → Spells all new other (number + 1)
 goes_on None left new text other number line spells given gives = tt
@@ -62,3 +63,19 @@ ends None left new text number line spells given = tt
 ends (Some bytes) None new text number line spells given = absurd spells
 ends (Some bytes) (Some rest) new text number line spells given =
     spells ∙ ap (λ xs. text_from text number (lines_of xs)) given
+
+-- ---- before the first line
+
+abbrev pub none_ahead : Ahead
+none_ahead = record { bytes = []; over = false }
+
+pub begins_spells : (all : Option (List ℕ)) (ahead : Ahead) (text : Text) → ahead ≡ none_ahead → text ≡ no_text → Spells all (prepend_known ahead.bytes all) text 1
+begins_spells all ahead text none empty =
+    subst (λ (a : Ahead). Spells all (prepend_known a.bytes all) text 1) (sym none) (subst (λ (t : Text). Spells all (prepend_known [] all) t 1) (sym empty) (starts all))
+
+pub begins_ahead : (all : Option (List ℕ)) (ahead : Ahead) → ahead ≡ none_ahead → IsAhead ahead all
+begins_ahead all ahead none = λ over. let going = ap (λ (a : Ahead). a.over) none in let bad : true ≡ false = sym over ∙ going in cc
+
+pub begins_even : (calls : List Call) (lines : List ℕ) (callers : List (List ℕ)) → text_by calls lines callers ≡ no_text → length lines ≡ length calls
+begins_even calls lines callers empty =
+    ap (λ (t : Text). length t.lines) empty ∙ sym (ap (λ (t : Text). length t.calls) empty)

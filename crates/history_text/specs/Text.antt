@@ -58,15 +58,15 @@ after_line text number line =
     else (if is_passed_over line then Ok text
     else (spelled_of line >>= recorded text number)))
 
--- the text with these lines more, the first of which has this number, or the first bad one
-abbrev mutual
-  pub text_from : Text → ℕ → List (List ℕ) → Result Text BadLine
-  text_from text number [] = Ok text
-  text_from text number (line ∷ lines) = text_behind number lines (after_line text number line)
+-- what is spelled behind a line: its cause where it is bad, else what the rest is
+abbrev pub by_line : ℕ → Result Text Cause → (Text → Result Text BadLine) → Result Text BadLine
+by_line number (Ok text) rest = rest text
+by_line number (Err cause) rest = Err (record { number = number; cause = cause })
 
-  pub text_behind : ℕ → List (List ℕ) → Result Text Cause → Result Text BadLine
-  text_behind number lines (Ok text) = text_from text (suc number) lines
-  text_behind number lines (Err cause) = Err (record { number = number; cause = cause })
+-- the text with these lines more, the first of which has this number, or the first bad one
+abbrev pub text_from : Text → ℕ → List (List ℕ) → Result Text BadLine
+text_from text number [] = Ok text
+text_from text number (line ∷ lines) = by_line number (after_line text number line) (λ t. text_from t (suc number) lines)
 
 -- the history that bytes spell line by line
 abbrev pub text_of : List ℕ → Result Text BadLine

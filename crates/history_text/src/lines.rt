@@ -1,5 +1,5 @@
 // The lines of a reader.
-ghost use Rattle.std.specs.Prelude.{◌≡◌, IfOk, IfSome, OnOk, OnErr, true};
+ghost use Rattle.std.specs.Prelude.{◌≡◌, IfOk, OnOk, true};
 ghost use Rattle.std.specs.Io.KnownBytes.{IsAtEnd, Keeps, prepend_known};
 ghost use Rattle.script_words.specs.Lines.{is_ready_within};
 ghost use Rattle.history_text.specs.Reading.{IsAhead, GivesLine};
@@ -38,8 +38,7 @@ pub(crate) fn next_line<R: Read>(
     ensures given { IfOk result (λ read. GivesLine
         (prepend_known ahead.old.bytes (R.remaining reader.old)) read line.new.items
         (prepend_known ahead.new.bytes (R.remaining reader.new))) }
-    ensures kept { OnErr result (Keeps (prepend_known ahead.old.bytes (R.remaining reader.old))
-        (prepend_known ahead.new.bytes (R.remaining reader.new))) }
+    ensures end { IfOk result (λ read. read ≡ LineRead.End → IsAtEnd (R.remaining reader.new)) }
 {
     make_ready(reader, ahead)?;
     match ahead.take_line(line) {

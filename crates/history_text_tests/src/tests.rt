@@ -1,5 +1,5 @@
 // What lines spell, which are bad and why, and what is written of them.
-use history_text::{BadLine, ReadTextFault, TextHistory, read_text, write_text};
+use history_text::{BadLine, Cause, ReadTextFault, TextHistory, read_text, write_text};
 use std::alloc::{AllocError, Global};
 use std::hash::{BuildHasherDefault, FoldHasher};
 use std::test::Fail;
@@ -92,26 +92,54 @@ fn are_told(alloc: Global, rows: &[Row]) -> Result<bool, AllocError> {
 
 #[test]
 fn bad_lines_have_their_number_and_their_cause(rt: HostRuntime) -> Result<(), Fail> {
-    for row in &BAD {
-        let got = told(rt.alloc(), row.text)?;
-        if got.as_slice() != row.told {
-            let text: &[u8] = &got;
-            println!(rt; "{:?} {:?}", row.told, text)?;
-        }
-    }
     assert!(rt; are_told(rt.alloc(), &BAD)?);
     Ok(())
 }
 
 #[test]
 fn right_lines_are_read_and_written(rt: HostRuntime) -> Result<(), Fail> {
-    for row in &RIGHT {
-        let got = told(rt.alloc(), row.text)?;
-        if got.as_slice() != row.told {
-            let text: &[u8] = &got;
-            println!(rt; "{:?} {:?}", row.told, text)?;
-        }
-    }
     assert!(rt; are_told(rt.alloc(), &RIGHT)?);
+    Ok(())
+}
+
+/// So many bytes behind a front, and then a right line.
+fn long_text(alloc: Global, front: &[u8], count: usize) -> Result<Vec<u8>, AllocError> {
+    let mut text = Vec::from_slice(alloc, front)?;
+    text.resize(count, b'x')?;
+    text.extend_from_slice(b"\na 1 2 miss k\n")?;
+    Ok(text)
+}
+
+#[test]
+fn a_line_is_too_long_from_its_8193rd_byte_on(rt: HostRuntime) -> Result<(), Fail> {
+    let fits = told(rt.alloc(), &long_text(rt.alloc(), b"#", 8192)?)?;
+    assert!(rt; fits.as_slice() == b"c0 1 2 miss k\n".as_slice());
+    let words = told(rt.alloc(), &long_text(rt.alloc(), b"", 8192)?)?;
+    assert!(rt; words.as_slice() == b"bad line 1: not five to seven words parted by single spaces".as_slice());
+    let long = told(rt.alloc(), &long_text(rt.alloc(), b"#", 8193)?)?;
+    assert!(rt; long.as_slice() == b"bad line 1: a line of more than 8192 bytes".as_slice());
+    Ok(())
+}
+
+/// A miss of each of so many callers.
+fn callers_text(alloc: Global, count: u32) -> Result<Vec<u8>, AllocError> {
+    let mut text = Vec::new(alloc);
+    for caller in 0..count {
+        let line = format!(in alloc; "{caller} 1 2 miss k\n")?;
+        text.extend_from_slice(line.as_bytes())?;
+    }
+    Ok(text)
+}
+
+#[test]
+fn there_are_at_most_65536_callers(rt: HostRuntime) -> Result<(), Fail> {
+    let most = read(rt.alloc(), &callers_text(rt.alloc(), 65536)?);
+    let Ok(text) = most else {
+        return Err(Fail::from(AllocError));
+    };
+    assert!(rt; text.callers.len() == 65536);
+    assert!(rt; text.callers.name(65535) == Some(b"65535".as_slice()));
+    let more = read(rt.alloc(), &callers_text(rt.alloc(), 65537)?);
+    assert!(rt; matches!(&more, Err(ReadTextFault::Bad(BadLine { number: 65537, cause: Cause::TooManyCallers }))));
     Ok(())
 }
