@@ -41,8 +41,8 @@ recorded text number s =
     let caller = number_of text.callers s.caller in
     if nat_lt (length text.calls) 268435456
     then (if nat_lt caller 65536
-      then Ok (record { calls = text.calls ++ call_by caller s ∷ []; lines = text.lines ++ number ∷ []; callers = noted text.callers s.caller })
-      else Err TooManyCallers)
+    then Ok (record { calls = text.calls ++ call_by caller s ∷ []; lines = text.lines ++ number ∷ []; callers = noted text.callers s.caller })
+    else Err TooManyCallers)
     else Err TooManyCalls
 
 -- a line is passed over: it is empty, or begins with #

@@ -57,13 +57,7 @@ fn stamp(word: &[u8]) -> Option<u64>
     ensures { result ≡ stamp_of word.now }
 {
     match time(word) {
-        Some(number) => {
-            if number < STAMPS {
-                Some(number)
-            } else {
-                None
-            }
-        }
+        Some(number) => { if number < STAMPS { Some(number) } else { None } }
         None => None,
     }
 }

@@ -38,7 +38,8 @@ fn act_has_text(act: &ActRef<'_>, end: u64) -> bool
     ensures { result ≡ act_has_text (act_shown act.now) end }
 {
     match act {
-        ActRef::Put(_, expires) => (end < STAMPS || end == NEVER) && (*expires < STAMPS || *expires == NEVER),
+        ActRef::Put(_, expires) => (end < STAMPS || end == NEVER)
+            && (*expires < STAMPS || *expires == NEVER),
         ActRef::Remove => end < STAMPS || end == NEVER,
         ActRef::Hit(_, moment) => end < STAMPS && *moment < STAMPS,
         ActRef::Miss => end < STAMPS,

@@ -23,7 +23,7 @@ pub fn judge_text<S: BuildHasher + Copy + Drop, R: Read>(
 ) -> Result<JudgedText<S>, ReadTextFault>
     ensures text { IfOk result (λ judged. IfSome (R.remaining reader.old) (λ bytes.
         text_of bytes
-            ≡ Ok (text_by judged.text.history judged.text.lines.items judged.text.callers))) }
+        ≡ Ok (text_by judged.text.history judged.text.lines.items judged.text.callers))) }
     ensures found { IfOk result (λ judged. IsFound judged.text.history judged.found) }
     ensures as_many { IfOk result (λ judged.
         length judged.text.lines.items ≡ length judged.text.history) }

@@ -1,8 +1,8 @@
 //! Histories that bring no certificate, read as text and judged, and the line that tells what was found.
 #![tactic(auto)]
 
-mod judging_text;
 mod judged_text;
+mod judging_text;
 mod tell_fault;
 mod telling_verdict;
 mod told_lines;

@@ -58,7 +58,7 @@ fn tell_found<S: BuildHasher, W: Write>(
     requires { IsFound judged.text.history judged.found }
     ensures ok { IfOk result (λ told. (told.kind ≡ kind_of judged.found)
         × Appends (W.contents writer.old) (W.contents writer.new)
-            (verdict_text judged.text.history judged.text.lines.items judged.found)) }
+        (verdict_text judged.text.history judged.text.lines.items judged.found)) }
     ensures err { IfErr result (IsUntold (W.contents writer.old) (W.contents writer.new)
         (verdict_text judged.text.history judged.text.lines.items judged.found)) }
 {

@@ -94,7 +94,11 @@ fn put_in(lines: &mut Vec<u32>, line: u32) -> Result<(), AllocError>
 }
 
 /// The lines of the calls that a reason speaks of, ascending and each once.
-pub(crate) fn lines_of(alloc: Global, lines: &[u32], witness: &Witness) -> Result<Vec<u32>, AllocError>
+pub(crate) fn lines_of(
+    alloc: Global,
+    lines: &[u32],
+    witness: &Witness,
+) -> Result<Vec<u32>, AllocError>
     ensures { IfOk result (λ told.
         told.items ≡ ascending (lines_at lines.now (witness_positions witness.now))) }
 {
