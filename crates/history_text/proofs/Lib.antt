@@ -3,3 +3,4 @@ pub mod WritingLaws
 pub mod NameLaws
 pub mod LineLaws
 pub mod CodingLaws
+pub mod Saying

@@ -33,3 +33,11 @@ none_at p n o none h = elim (cases_Bool (ltb p n)) [
   | inl within ↦ let e : o ≡ Some p = rw within at h in cc
   | inr past ↦ ltb-false p n past
 ]
+
+pub noted_known : (callers : List (List ℕ)) (name : List ℕ) → list_any (bytes_eq name) callers ≡ true → noted callers name ≡ callers
+unfolding noted
+noted_known callers name known = rw known refl
+
+pub noted_new : (callers : List (List ℕ)) (name : List ℕ) → list_any (bytes_eq name) callers ≡ false → noted callers name ≡ callers ++ name ∷ []
+unfolding noted
+noted_new callers name new = rw new refl

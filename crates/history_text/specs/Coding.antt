@@ -1,5 +1,5 @@
 -- Bytes as words: percent-coded, and - for no bytes.
-use Rattle.std.specs.Prelude.{ℕ, Bool, true, false, not, ◌&&◌, ◌||◌, ◌==◌, List, [], ◌∷◌, if◌then◌else◌, Option, Some, None, codes}
+use Rattle.std.specs.Prelude.{ℕ, Bool, true, false, not, ◌&&◌, ◌||◌, ◌==◌, List, [], ◌∷◌, length, if◌then◌else◌, Option, Some, None, codes}
 use Rattle.std.specs.Str.{bytes_eq}
 use Rattle.std.specs.Char.{is_ascii_hexdigit}
 use Rattle.percent_encoding.specs.Percent.{percent_encode, percent_decode}
@@ -21,5 +21,4 @@ bytes_of word = if bytes_eq word (codes "-") then Some [] else (if is_coded word
 
 -- the word that writes bytes: each byte outside 33 to 126 and each % as % and two digits, and a lone hyphen too
 unfoldable pub word_of : List ℕ → List ℕ
-word_of [] = codes "-"
-word_of (b ∷ rest) = if bytes_eq (b ∷ rest) (codes "-") then codes "%2D" else percent_encode CODED (b ∷ rest)
+word_of bytes = if length bytes == 0 then codes "-" else (if bytes_eq bytes (codes "-") then codes "%2D" else percent_encode CODED bytes)

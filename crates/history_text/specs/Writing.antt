@@ -37,20 +37,24 @@ has_text call = has_number call.start && act_has_text call.act call.end
 abbrev pub end_text : ℕ → List ℕ
 end_text end = if end == never then codes "-" else decimal end
 
--- what a call with this key did; a time is left out where it is what reading takes for one that is left out
-abbrev pub act_text : List ℕ → Act → List ℕ
-act_text key (Put value expires) =
-    if expires == never then codes " put " ++ word_of key ++ codes " " ++ word_of value ++ codes "\n"
-    else codes " put " ++ word_of key ++ codes " " ++ word_of value ++ codes " " ++ decimal expires ++ codes "\n"
-act_text key Remove = codes " remove " ++ word_of key ++ codes "\n"
-act_text key (Hit value moment) =
-    if moment == 0 then codes " hit " ++ word_of key ++ codes " " ++ word_of value ++ codes "\n"
-    else codes " hit " ++ word_of key ++ codes " " ++ word_of value ++ codes " " ++ decimal moment ++ codes "\n"
-act_text key Miss = codes " miss " ++ word_of key ++ codes "\n"
+-- caller N, called cN, the start and the end
+abbrev pub text_front : Call → List ℕ
+text_front call = codes "c" ++ decimal call.caller ++ codes " " ++ decimal call.start ++ codes " " ++ end_text call.end
 
--- the line of a call, with its line feed: caller N is called cN
+-- behind them, what a call with this key did; a time is left out where it is what reading takes for one that is left out
+abbrev pub act_behind : List ℕ → List ℕ → Act → List ℕ
+act_behind front key (Put value expires) =
+    if expires == never then front ++ codes " put " ++ word_of key ++ codes " " ++ word_of value ++ codes "\n"
+    else front ++ codes " put " ++ word_of key ++ codes " " ++ word_of value ++ codes " " ++ decimal expires ++ codes "\n"
+act_behind front key Remove = front ++ codes " remove " ++ word_of key ++ codes "\n"
+act_behind front key (Hit value moment) =
+    if moment == 0 then front ++ codes " hit " ++ word_of key ++ codes " " ++ word_of value ++ codes "\n"
+    else front ++ codes " hit " ++ word_of key ++ codes " " ++ word_of value ++ codes " " ++ decimal moment ++ codes "\n"
+act_behind front key Miss = front ++ codes " miss " ++ word_of key ++ codes "\n"
+
+-- the line of a call, with its line feed
 abbrev pub text_line : Call → List ℕ
-text_line call = codes "c" ++ decimal call.caller ++ codes " " ++ decimal call.start ++ codes " " ++ end_text call.end ++ act_text call.key call.act
+text_line call = act_behind (text_front call) call.key call.act
 
 -- a key is one of those that are asked for: the one that is named, or each where none is
 abbrev pub is_chosen : Option (List ℕ) → List ℕ → Bool

@@ -75,9 +75,9 @@ impl<S: BuildHasher> Callers<S> {
         let Ok(name) = Vec::from_slice(alloc, name) else {
             return Err(LineFault::OutOfMemory);
         };
-        match self.names.insert(name) {
-            Ok(_) => Ok(number as u16),
-            Err(_) => Err(LineFault::OutOfMemory),
-        }
+        let Ok(_) = self.names.insert(name) else {
+            return Err(LineFault::OutOfMemory);
+        };
+        Ok(number as u16)
     }
 }

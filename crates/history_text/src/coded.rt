@@ -17,6 +17,7 @@ impl fmt::Display for Coded<'_> {
 
     ghost output = { λ coded. Some (word_of coded.bytes.now) };
 
+    #[tactic(auto, unfolding(crate::specs::Coding::word_of))]
     fn fmt<W: fmt::Write>(&self, f: &mut fmt::Formatter<W>) -> fmt::Result {
         if self.bytes.is_empty() {
             f.write_str("-")

@@ -73,6 +73,7 @@ fn stamp_or(word: &[u8], cause: Cause) -> Result<u64, Cause>
 }
 
 /// The end that a word writes: of what never returned there is none before the last stamp.
+#[tactic(auto, unfolding(crate::specs::Spelling::end_of))]
 fn end(word: &[u8]) -> Result<u64, Cause>
     ensures { result ≡ end_of word.now }
 {
@@ -86,7 +87,8 @@ fn end(word: &[u8]) -> Result<u64, Cause>
 #[tactic(auto, unfolding(crate::specs::Spelling::head_of))]
 fn head_of(words: &[&[u8]]) -> Result<Head, Cause>
     requires { 5 ≤ length words.now }
-    ensures { result ≡ head_of (map (λ w. w.now) words.now) }
+    ensures value { result ≡ head_of (map (λ w. w.now) words.now) }
+    ensures counted { IfOk result (λ head. IsTrue (has_words head.kind (length words.now))) }
 {
     let start = stamp_or(words[1], Cause::BadStart)?;
     let end = end(words[2])?;
@@ -101,6 +103,7 @@ fn head_of(words: &[&[u8]]) -> Result<Head, Cause>
 }
 
 /// Puts the bytes of a key's word in place of those of `bytes`.
+#[tactic(auto, unfolding(crate::specs::Spelling::key_of))]
 fn take_key(word: &[u8], bytes: &mut Vec<u8>) -> Result<(), LineFault>
     ensures ok { OnOk result (key_of word.now ≡ Ok bytes.new.items) }
     ensures key { OnOk result (IsKey bytes.new.items) }
@@ -116,6 +119,7 @@ fn take_key(word: &[u8], bytes: &mut Vec<u8>) -> Result<(), LineFault>
 }
 
 /// Puts the bytes of a value's word in place of those of `bytes`.
+#[tactic(auto, unfolding(crate::specs::Spelling::value_of))]
 fn take_value(word: &[u8], bytes: &mut Vec<u8>) -> Result<(), LineFault>
     ensures ok { OnOk result (value_of word.now ≡ Ok bytes.new.items) }
     ensures value { OnOk result (IsValue bytes.new.items) }
@@ -131,6 +135,7 @@ fn take_value(word: &[u8], bytes: &mut Vec<u8>) -> Result<(), LineFault>
 }
 
 /// The time that the seventh word writes, or another one where there is no such word.
+#[tactic(auto, unfolding(crate::specs::Spelling::time_at))]
 fn time_at(words: &[&[u8]], other: u64, cause: Cause) -> Result<u64, Cause>
     ensures { result ≡ time_at (map (λ w. w.now) words.now) other cause }
 {
@@ -142,7 +147,7 @@ fn time_at(words: &[&[u8]], other: u64, cause: Cause) -> Result<u64, Cause>
 
 /// Puts the bytes of the value that a line of this kind names in place of those of `bytes`, and answers the time that it
 /// names. The value of a kind that has none is empty, and its time 0.
-#[tactic(auto, unfolding(crate::specs::Spelling::act_of))]
+#[tactic(auto, unfolding(crate::specs::Spelling::act_of), using(crate::proofs::Saying::said_on))]
 fn take_act(kind: Kind, words: &[&[u8]], bytes: &mut Vec<u8>) -> Result<u64, LineFault>
     requires { IsTrue (has_words kind (length words.now)) }
     ensures ok { IfOk result (λ time. act_of kind (map (λ w. w.now) words.now) ≡ Ok (act_by kind bytes.new.items time)) }
@@ -166,6 +171,7 @@ fn take_act(kind: Kind, words: &[&[u8]], bytes: &mut Vec<u8>) -> Result<u64, Lin
 }
 
 /// Takes a line apart. The bytes of its key and its value are put in place of those of `key` and `value`.
+#[tactic(auto, unfolding(crate::specs::Spelling::spelled_of, crate::specs::Spelling::spelled_of_words), using(crate::proofs::Saying::said_on))]
 pub(crate) fn take_line<'a>(
     line: &'a [u8],
     key: &mut Vec<u8>,

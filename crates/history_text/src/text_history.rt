@@ -45,6 +45,7 @@ impl<S: BuildHasher> TextHistory<S> {
     }
 
     /// Takes the next line, of at most `MAX_TEXT_LINE_LEN` bytes.
+    #[tactic(auto, unfolding(crate::specs::Text::after_line), using(crate::proofs::Saying::said_on))]
     pub(crate) fn take(
         &mut self,
         alloc: Global,
@@ -79,6 +80,7 @@ impl<S: BuildHasher> TextHistory<S> {
     }
 
     /// Records the call that a line spells.
+    #[tactic(auto, unfolding(crate::specs::Text::recorded), using(crate::proofs::Saying::said_caller))]
     fn record(
         &mut self,
         alloc: Global,

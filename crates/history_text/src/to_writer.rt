@@ -94,6 +94,7 @@ fn is_chosen(only: Option<&[u8]>, key: &[u8]) -> bool
 }
 
 /// Writes the line of the call at a position, where its key is one of those that are written.
+#[tactic(auto, unfolding(crate::specs::Writing::line_where))]
 fn write_call<W: Write>(
     alloc: Global,
     call: &CallRef<'_>,

@@ -1,0 +1,19 @@
+-- A name's number is its place among those that are kept.
+use Rattle.std.proofs.Common.{◌≡◌, ◌≤◌, length, true, None, sym, ap, ◌∙◌, refl, arith}
+use Rattle.std.specs.List.{list_any, position_or_len}
+use Rattle.std.specs.Str.{bytes_eq}
+use Rattle.history_text.specs.Text.{number_of}
+use Rattle.history_text.proofs.NameLaws.{is, number_by, any_by, some_at, none_at, noted_known}
+use Rattle.history_text.proofs.callers.Callers.number.Goals as goal
+
+pub returns-in-Some-clause-number : goal.returns-in-Some-clause-number
+returns-in-Some-clause-number g c =
+    let keys = c.self.inside.names.keys in
+    let at = some_at (position_or_len (is c.args.name.now) keys) (length keys) c.in-Some.known c.in-Some.ensures.index in
+    at.0 ∙ sym (number_by c.args.name.now keys) ∙ ap (λ names. number_of names c.args.name.now) c.self.view_is
+
+pub returns-in-Some-clause-noted : goal.returns-in-Some-clause-noted
+returns-in-Some-clause-noted g c =
+    let keys = c.self.inside.names.keys in
+    let known : list_any (bytes_eq c.args.name.now) c.args.self.now ≡ true = ap (list_any (bytes_eq c.args.name.now)) (sym c.self.view_is) ∙ any_by c.args.name.now keys ∙ sym c.in-Some.ensures.found in
+    sym (noted_known c.args.self.now c.args.name.now known)
