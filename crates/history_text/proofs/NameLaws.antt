@@ -4,6 +4,7 @@ use Rattle.std.specs.List.{list_any, position_or_len, prefix_len}
 use Rattle.std.specs.Str.{bytes_eq}
 use Rattle.std.specs.declared.vec.Vec.{Vec}
 use Rattle.std.proofs.lemmas.Bool.{cases_Bool}
+use Rattle.std.proofs.lemmas.List.{map-append}
 use borrow.Author.Tests.{ltb-true, ltb-false}
 use Rattle.history_text.specs.Text.{number_of, noted}
 use Rattle.history_text.specs.Names.{names_of}
@@ -41,3 +42,20 @@ noted_known callers name known = rw known refl
 pub noted_new : (callers : List (List ℕ)) (name : List ℕ) → list_any (bytes_eq name) callers ≡ false → noted callers name ≡ callers ++ name ∷ []
 unfolding noted
 noted_new callers name new = rw new refl
+
+pub within : {A : Type 0} (p : A → Bool) (xs : List A) → position_or_len p xs ≤ length xs
+within p [] = omega arith
+within p (x ∷ xs) = elim (cases_Bool (p x)) [
+  | inl found ↦ rw found (omega arith)
+  | inr other ↦ let rest = within p xs in rw other (omega (arith, rest))
+]
+
+-- a name that is new goes behind the others
+pub grown : {A : Type 0} (name : List ℕ) (keys new : List (Vec ℕ A)) (value : Vec ℕ A) → value.items ≡ name → list_any (is name) keys ≡ false → new ≡ cond (list_any (is value.items) keys) keys (keys ++ value ∷ []) → names_of new ≡ noted (names_of keys) name
+grown name keys new value same absent made =
+    let no : list_any (is value.items) keys ≡ false = ap (λ n. list_any (is n) keys) same ∙ absent in
+    let all : new ≡ keys ++ value ∷ [] = rw no at made in
+    ap names_of all
+    ∙ map-append (λ kept. kept.items) keys (value ∷ [])
+    ∙ ap (λ n. names_of keys ++ n ∷ []) same
+    ∙ sym (noted_new (names_of keys) name (any_by name keys ∙ absent))
