@@ -1,5 +1,5 @@
 -- A word reads back as the bytes that it writes.
-use Rattle.std.proofs.Common.{◌≡◌, ◌≢◌, ℕ, ◌*◌, ◌/◌, ◌%◌, ◌<◌, Bool, true, false, eqb, if◌then◌else◌, List, [], ◌∷◌, ◌++◌, All, Option, Some, refl, sym, ap, subst, ◌∙◌, arith, inl, inr}
+use Rattle.std.proofs.Common.{◌≡◌, ◌≢◌, ℕ, ◌*◌, ◌/◌, ◌%◌, ◌<◌, Bool, true, false, eqb, if◌then◌else◌, List, [], ◌∷◌, ◌++◌, length, All, Option, Some, refl, sym, ap, subst, ◌∙◌, arith, inl, inr}
 use Rattle.std.specs.Prelude.{codes}
 use Rattle.std.specs.Char.{is_ascii_hexdigit}
 use Rattle.std.specs.Fmt.{digit_glyph}
@@ -76,15 +76,25 @@ no_hyphen bytes small other = elim (cases_Bool (bytes_eq (percent_encode CODED b
   | inr fails ↦ fails
 ]
 
-pub word_reads : (bytes : List ℕ) → All (λ b. b < 256) bytes → bytes_of (word_of bytes) ≡ Some bytes
+empty_reads : bytes_of (word_of []) ≡ Some []
 unfolding bytes_of word_of
-word_reads [] small = refl
-word_reads (b ∷ rest) small = elim (cases_Bool (bytes_eq (b ∷ rest) (codes "-"))) [
+empty_reads = refl
+
+word_is : (b : ℕ) (rest : List ℕ) → word_of (b ∷ rest) ≡ (if bytes_eq (b ∷ rest) (codes "-") then codes "%2D" else percent_encode CODED (b ∷ rest))
+unfolding word_of
+word_is b rest = let some : eqb (length (b ∷ rest)) 0 ≡ false = grind (arith, nat_tests) in rw some refl
+
+by_test : (b : ℕ) (rest : List ℕ) → All (λ x. x < 256) (b ∷ rest) → bytes_of (if bytes_eq (b ∷ rest) (codes "-") then codes "%2D" else percent_encode CODED (b ∷ rest)) ≡ Some (b ∷ rest)
+by_test b rest small = elim (cases_Bool (bytes_eq (b ∷ rest) (codes "-"))) [
   | inl hyphen ↦
       let is = (bytes_decides (b ∷ rest) (codes "-")).0 hyphen in rw hyphen (coded_hyphen ∙ ap Some (sym is))
   | inr other ↦
       rw other (by_coded (percent_encode CODED (b ∷ rest)) (b ∷ rest) (no_hyphen (b ∷ rest) small other) (encoded CODED (b ∷ rest) has_percent) (round_trip CODED (b ∷ rest) has_percent small))
 ]
+
+pub word_reads : (bytes : List ℕ) → All (λ b. b < 256) bytes → bytes_of (word_of bytes) ≡ Some bytes
+word_reads [] small = empty_reads
+word_reads (b ∷ rest) small = ap bytes_of (word_is b rest) ∙ by_test b rest small
 
 pub words_apart : (one other : List ℕ) → All (λ b. b < 256) one → All (λ b. b < 256) other → word_of one ≡ word_of other → one ≡ other
 words_apart one other first second same =

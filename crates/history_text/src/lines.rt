@@ -1,5 +1,5 @@
 // The lines of a reader.
-ghost use Rattle.std.specs.Prelude.{◌≡◌, IfOk, OnOk, true};
+ghost use Rattle.std.specs.Prelude.{◌≡◌, ◌≤◌, IfOk, OnOk, length, true};
 ghost use Rattle.std.specs.Io.KnownBytes.{IsAtEnd, Keeps, prepend_known};
 ghost use Rattle.script_words.specs.Lines.{is_ready_within};
 ghost use Rattle.history_text.specs.Reading.{IsAhead, GivesLine};
@@ -38,6 +38,7 @@ pub(crate) fn next_line<R: Read>(
     ensures given { IfOk result (λ read. GivesLine
         (prepend_known ahead.old.bytes (R.remaining reader.old)) read line.new.items
         (prepend_known ahead.new.bytes (R.remaining reader.new))) }
+    ensures room { OnOk result (length line.new.items ≤ 8192) }
     ensures end { IfOk result (λ read. read ≡ LineRead.End → IsAtEnd (R.remaining reader.new)) }
 {
     make_ready(reader, ahead)?;

@@ -1,8 +1,8 @@
 -- A name's number is its place among those that are kept.
-use Rattle.std.proofs.Common.{◌≡◌, ◌≤◌, length, true, false, None, rules, sym, ap, ◌∙◌, refl, arith}
+use Rattle.std.proofs.Common.{◌≡◌, ◌≤◌, length, true, false, None, is_some, rules, sym, ap, ◌∙◌, refl, arith}
 use Rattle.std.specs.List.{list_any, position_or_len}
 use Rattle.std.specs.Str.{bytes_eq}
-use Rattle.history_text.specs.Text.{number_of}
+use Rattle.history_text.specs.Text.{noted, number_of}
 use Rattle.history_text.proofs.NameLaws.{is, number_by, any_by, some_at, none_at, noted_known, grown, within}
 use Rattle.history_text.proofs.callers.Callers.number.Goals as goal
 
@@ -37,3 +37,11 @@ returns-clause-number g c =
     let same : number_of c.args.self.now c.args.name.now ≡ position_or_len (is c.args.name.now) keys = ap (λ names. number_of names c.args.name.now) (sym c.self.view_is) ∙ number_by c.args.name.now keys in
     let count : c.len-number.result ≡ length keys = c.len-number.ensures.len in
     omega (arith, past, most, same, count)
+
+pub returns-clause-noted : goal.returns-clause-noted
+returns-clause-noted g c =
+    let keys = c.self.inside.names.keys in
+    let none : c.get_index_of.result ≡ None = search rules in
+    let absent : list_any (is c.args.name.now) keys ≡ false = sym c.get_index_of.ensures.found ∙ ap is_some none in
+    grown c.args.name.now keys c.insert.new.self.keys c.in-Ok.name c.in-Ok.ensures.items absent c.in-Ok-insert.ensures.keys
+    ∙ ap (λ names. noted names c.args.name.now) c.self.view_is
