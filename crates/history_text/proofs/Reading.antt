@@ -9,7 +9,11 @@ use Rattle.trace_file.specs.declared.call.Call.{Call}
 use Rattle.history_text.specs.declared.cause.Cause.{Cause}
 use Rattle.history_text.specs.declared.cause.Cause.TheVariants as causes
 use Rattle.history_text.specs.declared.bad_line.BadLine.{BadLine}
+use Rattle.history_text.specs.declared.line_fault.LineFault.{LineFault}
+use Rattle.history_text.specs.declared.line_fault.LineFault.TheVariants as taking
+use Rattle.history_text.specs.Outcome.{IsFaultOf, fault_at}
 use Rattle.history_text.specs.Reading.{GivesLine, IsAhead}
+use Rattle.history_text.specs.Spelled.{IsSaid}
 use Rattle.history_text.specs.Text.{Text, no_text, after_line, text_by, text_from, by_line, text_of}
 
 -- the bytes spell what the lines so far and the bytes that are left spell
@@ -46,6 +50,11 @@ stops None left new text number line cause spells given gives = tt
 stops (Some bytes) None new text number line cause spells given gives = absurd spells
 stops (Some bytes) (Some rest) new text number line cause spells given gives =
     spells ∙ next text number rest line (Err cause) given.0 given.1 gives
+
+pub stops_at : (all left new : Option (List ℕ)) (text : Text) (number : ℕ) (line : List ℕ) (fault : LineFault) → Spells all left text number → GivesLine left Line line new → IsSaid (after_line text number line) fault → IfSome all (λ bytes. IsFaultOf bytes (fault_at number fault))
+stops_at all left new text number line (taking.Bad cause) spells given said = stops all left new text number line cause spells given said
+stops_at None left new text number line taking.OutOfMemory spells given said = tt
+stops_at (Some bytes) left new text number line taking.OutOfMemory spells given said = tt
 
 -- a line that is too long is bad whatever it says
 too_long : (text : Text) (number : ℕ) (line : List ℕ) → 8192 < length line → after_line text number line ≡ Err causes.TooLong

@@ -14,6 +14,11 @@ abbrev pub of_read_line : line_faults.ReadLineFault → ReadTextFault
 of_read_line line.OutOfMemory = OutOfMemory
 of_read_line line.ReadFault = ReadFault
 
+-- the fault of a text by that of the line with this number
+abbrev pub fault_at : ℕ → LineFault → ReadTextFault
+fault_at number (taking.Bad cause) = Bad (record { number = number; cause = cause })
+fault_at number taking.OutOfMemory = OutOfMemory
+
 -- a caller of this number is refused: there are too many, or memory is
 abbrev pub IsRefused : ℕ → LineFault → Type 0
 IsRefused number (taking.Bad cause) = (cause ≡ TooManyCallers) × (65536 ≤ number)

@@ -38,23 +38,35 @@ abbrev pub end_text : ℕ → List ℕ
 end_text end = if end == never then codes "-" else decimal end
 
 -- caller N, called cN, the start and the end
-abbrev pub text_front : Call → List ℕ
-text_front call = codes "c" ++ decimal call.caller ++ codes " " ++ decimal call.start ++ codes " " ++ end_text call.end
+abbrev pub text_front : ℕ → ℕ → ℕ → List ℕ
+text_front caller start end = codes "c" ++ decimal caller ++ codes " " ++ decimal start ++ codes " " ++ end_text end
 
--- behind them, what a call with this key did; a time is left out where it is what reading takes for one that is left out
-abbrev pub act_behind : List ℕ → List ℕ → Act → List ℕ
-act_behind front key (Put value expires) =
-    if expires == never then front ++ codes " put " ++ word_of key ++ codes " " ++ word_of value ++ codes "\n"
-    else front ++ codes " put " ++ word_of key ++ codes " " ++ word_of value ++ codes " " ++ decimal expires ++ codes "\n"
-act_behind front key Remove = front ++ codes " remove " ++ word_of key ++ codes "\n"
-act_behind front key (Hit value moment) =
-    if moment == 0 then front ++ codes " hit " ++ word_of key ++ codes " " ++ word_of value ++ codes "\n"
-    else front ++ codes " hit " ++ word_of key ++ codes " " ++ word_of value ++ codes " " ++ decimal moment ++ codes "\n"
-act_behind front key Miss = front ++ codes " miss " ++ word_of key ++ codes "\n"
+-- the line of a put, by its words; an expiry of never is left out
+abbrev pub put_text : List ℕ → List ℕ → List ℕ → ℕ → List ℕ
+put_text front key value expires =
+    if expires == never then front ++ codes " put " ++ key ++ codes " " ++ value ++ codes "\n"
+    else front ++ codes " put " ++ key ++ codes " " ++ value ++ codes " " ++ decimal expires ++ codes "\n"
+
+-- the line of a hit, by its words; a moment of 0 is left out
+abbrev pub hit_text : List ℕ → List ℕ → List ℕ → ℕ → List ℕ
+hit_text front key value moment =
+    if moment == 0 then front ++ codes " hit " ++ key ++ codes " " ++ value ++ codes "\n"
+    else front ++ codes " hit " ++ key ++ codes " " ++ value ++ codes " " ++ decimal moment ++ codes "\n"
+
+-- the line of a call that has no value, by its words
+abbrev pub bare_text : List ℕ → List ℕ → List ℕ → List ℕ
+bare_text front kind key = front ++ codes " " ++ kind ++ codes " " ++ key ++ codes "\n"
+
+-- the line of what a call did, behind what it begins with and its key's word
+abbrev pub act_text : List ℕ → List ℕ → Act → List ℕ
+act_text front key (Put value expires) = put_text front key (word_of value) expires
+act_text front key Remove = bare_text front (codes "remove") key
+act_text front key (Hit value moment) = hit_text front key (word_of value) moment
+act_text front key Miss = bare_text front (codes "miss") key
 
 -- the line of a call, with its line feed
 abbrev pub text_line : Call → List ℕ
-text_line call = act_behind (text_front call) call.key call.act
+text_line call = act_text (text_front call.caller call.start call.end) (word_of call.key) call.act
 
 -- a key is one of those that are asked for: the one that is named, or each where none is
 abbrev pub is_chosen : Option (List ℕ) → List ℕ → Bool

@@ -1,9 +1,9 @@
 // Bytes as words: percent-coded, and `-` for no bytes.
-ghost use Rattle.std.specs.Prelude.{◌≡◌, Some, None, IfOk, if◌then◌else◌};
-ghost use Rattle.history_text.specs.Coding.{is_coded, bytes_of, starts_pair};
+ghost use Rattle.std.specs.Prelude.{◌≡◌, Some, None, IfOk, if◌then◌else◌, string_bytes};
+ghost use Rattle.history_text.specs.Coding.{is_coded, bytes_of, starts_pair, word_of};
 
-use percent_encoding::{AsciiSet, percent_decode};
-use std::alloc::AllocError;
+use percent_encoding::{AsciiSet, percent_decode, percent_encode};
+use std::alloc::{AllocError, Global};
 
 /// The ASCII bytes that are coded in a word: those outside 21 to 7e, and `%`. Bytes that are not ASCII are coded too.
 pub(crate) const CODED: AsciiSet = AsciiSet {
@@ -49,4 +49,20 @@ pub(crate) fn decode(word: &[u8], bytes: &mut Vec<u8>) -> Result<bool, AllocErro
         Ok(()) => Ok(true),
         Err(refused) => Err(refused),
     }
+}
+
+/// The word that writes bytes.
+#[tactic(auto, unfolding(crate::specs::Coding::word_of))]
+pub fn word(alloc: Global, bytes: &[u8]) -> Result<String, AllocError>
+    ensures { IfOk result (λ word. string_bytes word ≡ word_of bytes.now) }
+{
+    if bytes.is_empty() {
+        return String::from_str(alloc, "-");
+    }
+    if bytes == b"-".as_slice() {
+        return String::from_str(alloc, "%2D");
+    }
+    let mut word = String::new(alloc);
+    percent_encode(bytes, CODED).append_to(&mut word)?;
+    Ok(word)
 }

@@ -2,7 +2,7 @@
 ghost use Rattle.std.specs.Prelude.{◌≡◌, Ok, IfOk, IfErr, IfSome, OnOk, length};
 ghost use Rattle.std.specs.Io.KnownBytes.{IsAtEnd};
 ghost use Rattle.history_text.specs.Text.{text_by, text_of};
-ghost use Rattle.history_text.specs.Outcome.{IsFaultOf};
+ghost use Rattle.history_text.specs.Outcome.{IsFaultOf, fault_at};
 
 use crate::bad_line::BadLine;
 use crate::cause::Cause;
@@ -50,11 +50,18 @@ pub fn read_text<S: BuildHasher + Drop, R: Read>(
         }
         match text.take(alloc, number, &line, &mut parts) {
             Ok(()) => {}
-            Err(LineFault::Bad(cause)) => {
-                return Err(ReadTextFault::Bad(BadLine { number, cause }));
-            }
-            Err(LineFault::OutOfMemory) => return Err(ReadTextFault::OutOfMemory),
+            Err(fault) => return Err(fault_at(number, fault)),
         }
     }
     unreachable!()
+}
+
+/// The fault of a text whose line with this number was not taken.
+fn fault_at(number: u64, fault: LineFault) -> ReadTextFault
+    ensures { result ≡ fault_at number fault }
+{
+    match fault {
+        LineFault::Bad(cause) => ReadTextFault::Bad(BadLine { number, cause }),
+        LineFault::OutOfMemory => ReadTextFault::OutOfMemory,
+    }
 }

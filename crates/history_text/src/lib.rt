@@ -4,7 +4,6 @@
 mod bad_line;
 mod callers;
 mod cause;
-mod coded;
 mod coding;
 mod from_reader;
 mod head;
@@ -23,7 +22,7 @@ mod write_text_fault;
 pub use bad_line::BadLine;
 pub use callers::{Callers, MAX_CALLERS};
 pub use cause::Cause;
-pub use coded::Coded;
+pub use coding::word;
 pub use from_reader::read_text;
 pub use laws::word_laws;
 pub use lines::MAX_TEXT_LINE_LEN;

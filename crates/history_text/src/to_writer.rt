@@ -1,37 +1,18 @@
 // Writing a history as text.
-ghost use Rattle.std.specs.Prelude.{◌≡◌, All, IfOk, IfErr, OnOk, Some, string_bytes};
+ghost use Rattle.std.specs.Prelude.{◌≡◌, All, IfOk, IfErr, OnOk, string_bytes};
 ghost use Rattle.std.specs.Io.KnownBytes.{Appends};
 ghost use Rattle.trace_file.specs.Lent.{act_shown, call_shown};
-ghost use Rattle.history_text.specs.Writing.{act_has_text, has_text, is_chosen, named, end_text, text_line, line_where, written, HasTextWhere, IsFirstWithout, StopsAt, WroteBefore};
+ghost use Rattle.history_text.specs.Writing.{act_has_text, has_text, is_chosen, named, act_text, bare_text, end_text, hit_text, put_text, text_front, text_line, line_where, written, HasTextWhere, IsFirstWithout, StopsAt, WroteBefore};
 
-use crate::coded::Coded;
+use crate::coding::word;
 use crate::write_text_fault::WriteTextFault;
 use record_pages::NEVER;
 use std::alloc::{AllocError, Global};
-use std::fmt;
 use std::io::Write;
 use trace_file::{ActRef, CallRef, History, Unwritten, write_whole};
 
 /// The first stamp that has no text.
 const STAMPS: u64 = 1 << 63;
-
-/// An end as a word: `-` of what never returned.
-#[derive(Clone, Copy)]
-struct End {
-    end: u64,
-}
-
-impl fmt::Display for End {
-    ghost output = { λ it. Some (end_text it.end) };
-
-    fn fmt<W: fmt::Write>(&self, f: &mut fmt::Formatter<W>) -> fmt::Result {
-        if self.end == NEVER {
-            f.write_str("-")
-        } else {
-            write!(f, "{}", self.end)
-        }
-    }
-}
 
 /// Whether what a call did has a text: a time of it that is not left out is below 2^63, and the end of a call that returned.
 fn act_has_text(act: &ActRef<'_>, end: u64) -> bool
@@ -53,33 +34,93 @@ fn has_text(call: &CallRef<'_>) -> bool
     call.start < STAMPS && act_has_text(&call.act, call.end)
 }
 
+/// An end as a word: `-` of what never returned.
+fn end_text(alloc: Global, end: u64) -> Result<String, AllocError>
+    ensures { IfOk result (λ text. string_bytes text ≡ end_text end) }
+{
+    if end == NEVER {
+        String::from_str(alloc, "-")
+    } else {
+        format!(in alloc; "{end}")
+    }
+}
+
+/// What a line begins with: caller N as `cN`, start and end.
+fn text_front(alloc: Global, caller: u16, start: u64, end: u64) -> Result<String, AllocError>
+    ensures { IfOk result (λ text. string_bytes text ≡ text_front caller start end) }
+{
+    let end = end_text(alloc, end)?;
+    format!(in alloc; "c{caller} {start} {end}")
+}
+
+/// The line of a put, by its words.
+fn put_text(
+    alloc: Global,
+    front: &str,
+    key: &str,
+    value: &str,
+    expires: u64,
+) -> Result<String, AllocError>
+    ensures { IfOk result (λ text. string_bytes text ≡ put_text front.now key.now value.now expires) }
+{
+    if expires == NEVER {
+        format!(in alloc; "{front} put {key} {value}\n")
+    } else {
+        format!(in alloc; "{front} put {key} {value} {expires}\n")
+    }
+}
+
+/// The line of a hit, by its words.
+fn hit_text(
+    alloc: Global,
+    front: &str,
+    key: &str,
+    value: &str,
+    moment: u64,
+) -> Result<String, AllocError>
+    ensures { IfOk result (λ text. string_bytes text ≡ hit_text front.now key.now value.now moment) }
+{
+    if moment == 0 {
+        format!(in alloc; "{front} hit {key} {value}\n")
+    } else {
+        format!(in alloc; "{front} hit {key} {value} {moment}\n")
+    }
+}
+
+/// The line of a call that has no value, by its words.
+fn bare_text(alloc: Global, front: &str, kind: &str, key: &str) -> Result<String, AllocError>
+    ensures { IfOk result (λ text. string_bytes text ≡ bare_text front.now kind.now key.now) }
+{
+    format!(in alloc; "{front} {kind} {key}\n")
+}
+
+/// The line of what a call did, behind what it begins with.
+fn act_text(alloc: Global, front: &str, key: &str, act: &ActRef<'_>) -> Result<String, AllocError>
+    ensures { IfOk result (λ text. string_bytes text ≡ act_text front.now key.now (act_shown act.now)) }
+{
+    match act {
+        ActRef::Put(value, expires) => {
+            let value = word(alloc, value)?;
+            put_text(alloc, front, key, value.as_str(), *expires)
+        }
+        ActRef::Remove => bare_text(alloc, front, "remove", key),
+        ActRef::Hit(value, moment) => {
+            let value = word(alloc, value)?;
+            hit_text(alloc, front, key, value.as_str(), *moment)
+        }
+        ActRef::Miss => bare_text(alloc, front, "miss", key),
+    }
+}
+
 /// The line of a call that has a text.
 fn text_line(alloc: Global, call: &CallRef<'_>) -> Result<String, AllocError>
     ensures { IfOk result (λ line. string_bytes line ≡ text_line (call_shown call.now)) }
 {
-    let caller = call.caller;
-    let start = call.start;
-    let end = End { end: call.end };
-    let key = Coded { bytes: call.key };
-    match call.act {
-        ActRef::Put(bytes, expires) => {
-            let value = Coded { bytes };
-            if expires == NEVER {
-                format!(in alloc; "c{caller} {start} {end} put {key} {value}\n")
-            } else {
-                format!(in alloc; "c{caller} {start} {end} put {key} {value} {expires}\n")
-            }
-        }
-        ActRef::Remove => format!(in alloc; "c{caller} {start} {end} remove {key}\n"),
-        ActRef::Hit(bytes, moment) => {
-            let value = Coded { bytes };
-            if moment == 0 {
-                format!(in alloc; "c{caller} {start} {end} hit {key} {value}\n")
-            } else {
-                format!(in alloc; "c{caller} {start} {end} hit {key} {value} {moment}\n")
-            }
-        }
-        ActRef::Miss => format!(in alloc; "c{caller} {start} {end} miss {key}\n"),
+    let front = text_front(alloc, call.caller, call.start, call.end)?;
+    let key = word(alloc, call.key)?;
+    match act_text(alloc, front.as_str(), key.as_str(), &call.act) {
+        Ok(line) => Ok(line),
+        Err(refused) => Err(refused),
     }
 }
 

@@ -7,13 +7,13 @@ ghost use Rattle.judging.specs.Telling.{first_position, verdict_text, witness_wo
 use crate::judged_text::JudgedText;
 use crate::told_lines::{lines_of, spaced};
 use certificate_finder::{Found, Witness};
-use history_text::Coded;
+use history_text::word;
 use std::alloc::{AllocError, Global};
 use std::hash::BuildHasher;
 use trace_file::History;
 
 /// The kind of a reason.
-fn word(witness: &Witness) -> &'static str
+fn kind_word(witness: &Witness) -> &'static str
     ensures { result.now ≡ witness_word witness.now }
 {
     match witness {
@@ -46,8 +46,8 @@ fn rejected_text(
         string_bytes text ≡ verdict_text history.now lines.now (Found.Rejected witness.now)) }
 {
     let call = history.at(first_position(witness) as usize);
-    let key = Coded { bytes: call.key };
-    let kind = word(witness);
+    let key = word(alloc, call.key)?;
+    let kind = kind_word(witness);
     let told = lines_of(alloc, lines, witness)?;
     let numbers = spaced(alloc, &told)?;
     format!(in alloc; "rejected {kind} key {key} lines{numbers}\n")

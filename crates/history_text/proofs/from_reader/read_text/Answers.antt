@@ -1,8 +1,9 @@
 -- Each way out, and each line more.
-use Rattle.std.proofs.Common.{arith, ap, sym, ◌∙◌}
+use Rattle.std.proofs.Common.{ℕ, List, arith, ap, sym, subst, ◌∙◌}
 use Rattle.std.specs.Io.KnownBytes.{prepend_known}
+use Rattle.history_text.specs.Spelled.{IsSaid}
 use Rattle.history_text.specs.Text.{after_line, text_by}
-use Rattle.history_text.proofs.Reading.{begins_ahead, begins_even, begins_spells, ends, goes_on, stops, stops_long}
+use Rattle.history_text.proofs.Reading.{begins_ahead, begins_even, begins_spells, goes_on, stops_at, stops_long}
 use Rattle.history_text.proofs.from_reader.read_text.Goals as goal
 
 pub loop-number-init : goal.loop-number-init
@@ -18,12 +19,13 @@ returns-in-Ok-TooLong-clause-fault g c =
     let given = rw c.in-Ok-TooLong.field-0-is at c.in-Ok-TooLong.ensures.given in
     stops_long (g.R.Read.remaining c.args.reader.now) (prepend_known c.loop-number.ahead.bytes (g.R.Read.remaining c.loop-number.reader)) (prepend_known c.next_line.new.ahead.bytes (g.R.Read.remaining c.next_line.new.reader)) (text_by c.loop-number.text.history c.loop-number.text.lines.items c.loop-number.text.callers) c.loop-number.number c.next_line.new.line.items c.loop-number.invariant.spells given
 
-pub returns-in-Err-Bad-clause-fault : goal.returns-in-Err-Bad-clause-fault
-returns-in-Err-Bad-clause-fault g c =
+pub returns-in-Err-take-clause-fault : goal.returns-in-Err-take-clause-fault
+returns-in-Err-take-clause-fault g c =
     let given = rw c.in-Ok-Line.field-0-is at c.in-Ok-Line.ensures.given in
-    let said = rw c.in-Err-Bad.field-0-is at c.in-Err-Bad.ensures.bad in
     let text = text_by c.loop-number.text.history c.loop-number.text.lines.items c.loop-number.text.callers in
-    stops (g.R.Read.remaining c.args.reader.now) (prepend_known c.loop-number.ahead.bytes (g.R.Read.remaining c.loop-number.reader)) (prepend_known c.next_line.new.ahead.bytes (g.R.Read.remaining c.next_line.new.reader)) text c.loop-number.number c.next_line.new.line.items c.in-Err-Bad.cause c.loop-number.invariant.spells given (ap (after_line text c.loop-number.number) (sym c.deref.ensures.value) ∙ said)
+    let line = c.next_line.new.line.items in
+    let said = subst (λ (bytes : List ℕ). IsSaid (after_line text c.loop-number.number bytes) c.in-Err-take.fault) c.deref.ensures.value c.in-Err-take.ensures.bad in
+    rw c.fault_at.ensures (stops_at (g.R.Read.remaining c.args.reader.now) (prepend_known c.loop-number.ahead.bytes (g.R.Read.remaining c.loop-number.reader)) (prepend_known c.next_line.new.ahead.bytes (g.R.Read.remaining c.next_line.new.reader)) text c.loop-number.number line c.in-Err-take.fault c.loop-number.invariant.spells given said)
 
 pub loop-number-preserved : goal.loop-number-preserved
 loop-number-preserved g c =
