@@ -1,11 +1,11 @@
 -- A word reads back as the bytes that it writes.
-use Rattle.std.proofs.Common.{◌≡◌, ◌≢◌, ℕ, ◌*◌, ◌/◌, ◌%◌, ◌<◌, Bool, true, false, eqb, if◌then◌else◌, List, [], ◌∷◌, ◌++◌, length, All, Option, Some, refl, sym, ap, subst, ◌∙◌, arith, inl, inr}
+use Rattle.std.proofs.Common.{◌≡◌, ℕ, ◌/◌, ◌%◌, ◌<◌, true, false, eqb, if◌then◌else◌, List, [], ◌∷◌, ◌++◌, length, All, Some, refl, sym, ap, ◌∙◌, arith, inl, inr}
 use Rattle.std.specs.Prelude.{codes}
 use Rattle.std.specs.Char.{is_ascii_hexdigit}
 use Rattle.std.specs.Fmt.{digit_glyph}
 use Rattle.std.specs.Str.{bytes_eq}
 use Rattle.std.specs.Cmp.Lexicographic.{bytes_decides}
-use Rattle.std.proofs.lemmas.Bool.{cases_Bool, eq-eqb}
+use Rattle.std.proofs.lemmas.Bool.{cases_Bool}
 use Rattle.std.proofs.lemmas.Bool.Decides.{nat_tests}
 use Rattle.percent_encoding.specs.declared.ascii_set.AsciiSet.{AsciiSet}
 use Rattle.percent_encoding.specs.AsciiSet.{contains, should_percent_encode}
@@ -13,7 +13,7 @@ use Rattle.percent_encoding.specs.Percent.{percent_encode, percent_encode_byte, 
 use Rattle.percent_encoding.proofs.AsciiSetLemmas.{escaped_from_inside}
 use Rattle.percent_encoding.proofs.PercentLemmas.{IsByte, percent_encode-nil, percent_encode_escaped, percent_encode_kept, percent_decode_not_percent, percent_decode-nil, round_trip}
 use Rattle.history_text.specs.declared.coding.TheConstants.{CODED}
-use Rattle.history_text.specs.Coding.{is_coded, starts_pair, bytes_of, word_of}
+use Rattle.history_text.specs.Coding.{is_coded, bytes_of, word_of}
 
 glyph_digit : (d : ℕ) → d < 16 → is_ascii_hexdigit (digit_glyph true d) ≡ true
 glyph_digit d small = grind (arith, nat_tests)

@@ -1,5 +1,5 @@
 -- A text as far as its lines were taken.
-use Rattle.std.proofs.Common.{◌≡◌, ◌≢◌, ℕ, suc, ◌+◌, ◌<◌, true, false, List, [], ◌∷◌, length, Option, Some, None, IfSome, IsSomeAnd, Result, Ok, Err, sym, ap, ◌∙◌, refl, add-one, subst}
+use Rattle.std.proofs.Common.{◌≡◌, ◌≢◌, ℕ, suc, ◌+◌, ◌<◌, true, false, List, [], length, Option, Some, None, IfSome, IsSomeAnd, Result, Ok, Err, sym, ap, ◌∙◌, refl, add-one, subst}
 use Rattle.std.specs.Io.KnownBytes.{prepend_known}
 use borrow.Author.Tests.{lt-ltb}
 use Rattle.script_words.specs.declared.line_read.LineRead.TheVariants.{Line, TooLong, End}

@@ -1,9 +1,8 @@
 -- A cause goes on where what it was said of is asked for first.
-use Rattle.std.proofs.Common.{◌≡◌, ℕ, ◌<◌, ◌≤◌, ltb, false, List, length, Result, Ok, Err, refl, ap, ◌∙◌, inl, inr, arith}
+use Rattle.std.proofs.Common.{◌≡◌, ℕ, ◌<◌, ◌≤◌, ltb, false, length, Result, ap, inl, inr, arith}
 use Rattle.std.proofs.lemmas.Bool.{cases_Bool}
 use borrow.Author.Tests.{lt-ltb, ltb-true}
 use Rattle.history_text.specs.declared.cause.Cause.{Cause}
-use Rattle.history_text.specs.declared.cause.Cause.TheVariants.{TooManyCallers}
 use Rattle.history_text.specs.declared.line_fault.LineFault.{LineFault}
 use Rattle.history_text.specs.declared.line_fault.LineFault.TheVariants.{Bad, OutOfMemory}
 use Rattle.history_text.specs.Outcome.{IsRefused}

@@ -1,5 +1,5 @@
 -- The call that a line spells, or the first cause why it spells none.
-use Rattle.std.specs.Prelude.{◌≡◌, ℕ, ◌<◌, ◌^◌, Bool, true, false, not, ◌&&◌, ◌||◌, ◌==◌, nat_lt, nat_le, List, [], length, if◌then◌else◌, Option, Some, None, option_and_then, ok_or, Result, Ok, Err, codes, slice_index_or}
+use Rattle.std.specs.Prelude.{ℕ, ◌^◌, Bool, true, false, not, ◌&&◌, ◌||◌, ◌==◌, nat_lt, nat_le, List, [], length, if◌then◌else◌, Option, Some, None, option_and_then, ok_or, Result, Ok, Err, codes, slice_index_or}
 use Rattle.std.specs.Str.{bytes_eq}
 use Rattle.record_pages.specs.Expiry.{never}
 use Rattle.script_words.specs.Words.{words_of, number_below}
