@@ -10,9 +10,9 @@ ghost use Rattle.judging.specs.Verdicts.{IsUntold, StoppedAt, WroteVerdict};
 use crate::judged_text::JudgedText;
 use crate::judging_text::judge_text;
 use crate::tell_fault::TellFault;
+use crate::telling_found::verdict_text;
 use crate::told_verdict::ToldVerdict;
 use crate::verdict_kind::VerdictKind;
-use crate::verdict_text::verdict_text;
 use history_text::{BadLine, ReadTextFault};
 use std::alloc::Global;
 use std::hash::BuildHasher;
@@ -50,7 +50,7 @@ pub fn tell_verdict<S: BuildHasher + Copy + Drop, R: Read, W: Write>(
 }
 
 /// Writes the line that tells what was found for a text.
-fn tell_found<S: BuildHasher, W: Write>(
+fn tell_found<S: BuildHasher + Drop, W: Write>(
     alloc: Global,
     judged: JudgedText<S>,
     writer: &mut W,
