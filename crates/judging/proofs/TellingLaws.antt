@@ -1,11 +1,10 @@
 -- The lines and the key that a reason speaks of.
-use Rattle.std.proofs.Common.{◌≡◌, ℕ, ◌+◌, ◌<◌, ◌≤◌, Bool, true, false, eqb, ltb, if◌then◌else◌, List, [], ◌∷◌, ◌++◌, length, get_or, take, drop, drop-cons, add-one, fold, Option, Some, None, IsSomeAnd, refl, sym, ap, ◌∙◌, append_assoc, arith}
-use Rattle.std.specs.Prelude.{slice_get, filter_map, insert}
-use Rattle.std.proofs.lemmas.List.{append-nil, drop_all, take_all, take_more, take-append-drop}
+use Rattle.std.proofs.Common.{◌≡◌, ℕ, ◌+◌, ◌<◌, ◌≤◌, true, false, eqb, ltb, List, [], ◌∷◌, ◌++◌, length, get_or, take, drop, drop-cons, add-one, fold, Option, Some, None, IsSomeAnd, refl, sym, ap, ◌∙◌, append_assoc}
+use Rattle.std.specs.Prelude.{slice_get, insert}
+use Rattle.std.proofs.lemmas.List.{drop_all, take_all, take_more, take-append-drop}
 use Rattle.std.proofs.lemmas.List.Elements.{filter_map-append}
 use Rattle.std.proofs.lemmas.List.Sums.{fold-append}
-use Rattle.std.proofs.lemmas.Bool.Decides.{nat_tests}
-use Rattle.std.proofs.lemmas.Option.{slice_get_within}
+use Rattle.std.proofs.lemmas.Option.{slice_get-get_or, slice_get_past, slice_get_within}
 use Rattle.trace_file.specs.declared.call.Call.{Call}
 use Rattle.certificate_finder.specs.declared.witness.Witness.{Witness}
 use Rattle.certificate_finder.specs.declared.witness.Witness.TheVariants.{Interval, Hit, Crossed}
@@ -65,18 +64,15 @@ put_last ls i n all =
 -- ---- the lines of positions, one position after the other
 
 module _ (lines positions : List ℕ) (i : ℕ) (lt : i < length positions) where
-  one : ascending (lines_at lines (take (i + 1) positions)) ≡ fold put_in (ascending (lines_at lines (take i positions))) (lines_at lines (get_or positions i 0 ∷ []))
+  pub one : ascending (lines_at lines (take (i + 1) positions)) ≡ fold put_in (ascending (lines_at lines (take i positions))) (lines_at lines (get_or positions i 0 ∷ []))
   one =
       ap (λ ps. ascending (lines_at lines ps)) (take_more positions i 0 lt)
       ∙ ap ascending (filter_map-append (slice_get lines) (take i positions) (get_or positions i 0 ∷ []))
       ∙ fold-append put_in [] (lines_at lines (take i positions)) (lines_at lines (get_or positions i 0 ∷ []))
 
-  pub with_line : (line : ℕ) → slice_get lines (get_or positions i 0) ≡ Some line → put_in (ascending (lines_at lines (take i positions))) line ≡ ascending (lines_at lines (take (i + 1) positions))
-  with_line line at =
-      let only : lines_at lines (get_or positions i 0 ∷ []) ≡ line ∷ [] = rw at refl in
-      sym (one ∙ ap (fold put_in (ascending (lines_at lines (take i positions)))) only)
+-- the line of one position, where there is one
+pub line_here : (lines told : List ℕ) (p : ℕ) → p < length lines → put_in told (get_or lines p 0) ≡ fold put_in told (lines_at lines (p ∷ []))
+line_here lines told p lt = let at = slice_get-get_or lines p 0 lt in rw at refl
 
-  pub with_none : slice_get lines (get_or positions i 0) ≡ None → ascending (lines_at lines (take i positions)) ≡ ascending (lines_at lines (take (i + 1) positions))
-  with_none at =
-      let only : lines_at lines (get_or positions i 0 ∷ []) ≡ [] = rw at refl in
-      sym (one ∙ ap (fold put_in (ascending (lines_at lines (take i positions)))) only)
+pub no_line : (lines told : List ℕ) (p : ℕ) → length lines ≤ p → told ≡ fold put_in told (lines_at lines (p ∷ []))
+no_line lines told p past = let at = slice_get_past lines p past in rw at refl

@@ -1,5 +1,5 @@
 // The lines of a text that a verdict names.
-ghost use Rattle.std.specs.Prelude.{◌≡◌, ◌++◌, [], ◌∷◌, OnOk, IfOk, string_bytes, take};
+ghost use Rattle.std.specs.Prelude.{◌≡◌, ◌++◌, [], ◌∷◌, OnOk, IfOk, fold, string_bytes, take};
 ghost use Rattle.std.specs.List.{flat_map};
 ghost use Rattle.judging.specs.Telling.{put_in, ascending, excluded_positions, lines_at, side_positions, spaced, witness_positions};
 
@@ -93,6 +93,19 @@ fn put_in(lines: &mut Vec<u32>, line: u32) -> Result<(), AllocError>
     add(lines, line)
 }
 
+/// Puts the line of the call at a position at its place among others, where there is one.
+fn put_line(lines: &mut Vec<u32>, all: &[u32], position: u32) -> Result<(), AllocError>
+    ensures { OnOk result (lines.new.items
+        ≡ fold put_in lines.old.items (lines_at all.now (position ∷ []))) }
+{
+    let place = position as usize;
+    if place < all.len() {
+        put_in(lines, all[place])
+    } else {
+        Ok(())
+    }
+}
+
 /// The lines of the calls that a reason speaks of, ascending and each once.
 pub(crate) fn lines_of(
     alloc: Global,
@@ -105,8 +118,9 @@ pub(crate) fn lines_of(
     let positions = positions_of(alloc, witness)?;
     let mut told = Vec::new(alloc);
     for position in &positions {
-        if let Some(line) = lines.get(*position as usize) {
-            put_in(&mut told, *line)?;
+        match put_line(&mut told, lines, *position) {
+            Ok(()) => {}
+            Err(refused) => return Err(refused),
         }
     }
     Ok(told)

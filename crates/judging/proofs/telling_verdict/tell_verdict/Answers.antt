@@ -35,3 +35,8 @@ returns-in-Err-clause-err g c =
       line_is = refl;
     }))
     c.in-Err.ensures.err
+
+pub returns-in-Err-tell_bad_line-clause-err : goal.returns-in-Err-tell_bad_line-clause-err
+returns-in-Err-tell_bad_line-clause-err g c =
+    let read = rw c.in-Err-Bad.field-0-is at c.in-Err-Bad.ensures.fault in
+    stopped (g.R.Read.remaining c.args.reader.now) (g.W.Write.contents c.args.writer.now) (g.W.Write.contents c.tell_bad_line.new.writer) kinds.BadLine (bad_line_text c.in-Err-Bad.bad ++ codes "\n") c.in-Err-tell_bad_line.fault (inr (record { bad = c.in-Err-Bad.bad; read = read; kind_is = refl; line_is = refl })) c.in-Err-tell_bad_line.ensures.err
