@@ -1,0 +1,44 @@
+// What is spoken of and drawn.
+use crate::call_at::call_at;
+use crate::told::{Told, act_text, label};
+use std::alloc::{AllocError, Global};
+use trace_file::History;
+
+/// A history, and how its calls and callers are called.
+#[derive(Clone, Copy)]
+pub struct Scene<'a> {
+    /// The calls.
+    pub history: &'a History,
+    /// The line of each call, by its position. A call that has none here is told by its position.
+    pub lines: &'a [u32],
+    /// The callers' names, by their numbers. A caller that has none here is told by its number.
+    pub callers: &'a [Vec<u8>],
+}
+
+impl Scene<'_> {
+    ghost use Rattle.std.specs.Prelude.{IfOk};
+    ghost use Rattle.history_picture.specs.Naming.{IsTold};
+
+    /// What is told of the call at a position.
+    pub(crate) fn told(&self, alloc: Global, position: u32) -> Result<Told, AllocError>
+        ensures { IfOk result (λ told.
+            IsTold self.now.history.now self.now.lines.now position told) }
+    {
+        let label = label(alloc, self.lines, position)?;
+        let Some(call) = call_at(self.history, position) else {
+            return Ok(Told {
+                name: format!(in alloc; "a call that is not there ({label})")?,
+                start: 0,
+                end: 0,
+                time: 0,
+            });
+        };
+        let act = act_text(alloc, &call.act)?;
+        Ok(Told {
+            name: format!(in alloc; "{act} ({label})")?,
+            start: call.start,
+            end: call.end,
+            time: call.act.time(),
+        })
+    }
+}

@@ -1,0 +1,78 @@
+// Which calls are shown.
+ghost use Rattle.std.specs.Prelude.{◌≡◌, ◌<◌, ◌≤◌, ◌⊎◌, ◌++◌, All, Contains, IfOk, OnOk, length, map, slice_get};
+ghost use Rattle.std.specs.List.Sorted.{IsPermutation};
+ghost use Rattle.history_picture.specs.Shown.{AreShown, MayBeShown};
+ghost use Rattle.history_picture.specs.Chosen.{AreChosen};
+
+use crate::call_at::call_at;
+use crate::near::{Near, nearest};
+use std::alloc::{AllocError, Global};
+use trace_file::History;
+
+/// The positions of the calls that are shown where these matter, by their starts: these, and the calls of the first one's
+/// key that are nearest to it in time, so many in all.
+pub(crate) fn shown(
+    alloc: Global,
+    history: &History,
+    marks: &[u32],
+    most: usize,
+) -> Result<Vec<u32>, AllocError>
+    requires { length marks.now ≤ most }
+    ensures { IfOk result (λ shown. AreShown history.now marks.now most shown.items) }
+{
+    let mut shown = marked(alloc, history, marks)?;
+    if let Some(first) = marks.first() {
+        push_nearest(alloc, history, *first, &mut shown, most)?;
+    }
+    shown.as_mut_slice().sort_unstable_by_key(|position| start_of(history, *position));
+    Ok(shown)
+}
+
+/// The positions that matter and have a call, each once.
+fn marked(alloc: Global, history: &History, marks: &[u32]) -> Result<Vec<u32>, AllocError>
+    ensures { IfOk result (λ shown. AreChosen history.now marks.now shown.items) }
+{
+    let mut shown: Vec<u32> = Vec::new(alloc);
+    for mark in marks {
+        if (*mark as usize) < history.len() && !shown.iter().any(|one| one == mark) {
+            shown.push(*mark)?;
+        }
+    }
+    Ok(shown)
+}
+
+/// Puts the calls that are nearest to a call, of its key, behind those that are shown.
+fn push_nearest(
+    alloc: Global,
+    history: &History,
+    first: u32,
+    shown: &mut Vec<u32>,
+    most: usize,
+) -> Result<(), AllocError>
+{
+    let Some(call) = call_at(history, first) else {
+        return Ok(());
+    };
+    let room = most.saturating_sub(shown.len());
+    let near = nearest(alloc, history, &call, shown.as_slice(), room)?;
+    push_all(shown, near.as_slice())
+}
+
+/// Puts positions behind others.
+fn push_all(shown: &mut Vec<u32>, near: &[Near]) -> Result<(), AllocError>
+    ensures { OnOk result (
+        shown.new.items ≡ shown.old.items ++ map (λ one. one.position) near.now) }
+{
+    for one in near {
+        shown.push(one.position)?;
+    }
+    Ok(())
+}
+
+/// The start of the call at a position.
+fn start_of(history: &History, position: u32) -> u64 {
+    match call_at(history, position) {
+        Some(call) => call.start,
+        None => 0,
+    }
+}
