@@ -6,6 +6,7 @@ use std::alloc::{AllocError, Global};
 use std::fmt;
 
 /// So many spaces.
+#[derive(Clone, Copy)]
 pub(crate) struct Blanks(pub(crate) usize);
 
 impl fmt::Display for Blanks {
@@ -22,6 +23,7 @@ impl fmt::Display for Blanks {
 }
 
 /// So many equals signs.
+#[derive(Clone, Copy)]
 pub(crate) struct Dashes(pub(crate) usize);
 
 impl fmt::Display for Dashes {
