@@ -7,5 +7,5 @@ abbrev pub is_plain : ℕ → Bool
 is_plain byte = (nat_lt 31 byte && nat_lt byte 127) || (byte == 10)
 
 -- a text of printable ASCII and line feeds alone
-unfoldable pub IsPlain : List ℕ → Type 0
-IsPlain text = IsTrue (list_all is_plain text)
+pub record IsPlain (text : List ℕ) : Type 0 where
+  pub each : IsTrue (list_all is_plain text)

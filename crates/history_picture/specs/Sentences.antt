@@ -1,5 +1,5 @@
 -- The sentences that say what is wrong.
-use Rattle.std.specs.Prelude.{ℕ, List, [], ◌∷◌, ◌++◌, codes, length, take, slice_get}
+use Rattle.std.specs.Prelude.{ℕ, List, ◌++◌, codes, length, nat_lt, take, slice_get, Option, Some, None, if◌then◌else◌}
 use Rattle.std.specs.Fmt.{decimal}
 use Rattle.std.specs.List.{flat_map}
 use Rattle.trace_file.specs.declared.call.Call.{Call}
@@ -44,17 +44,22 @@ hit_kind Expired = codes " is of an expired value: "
 hit_kind (Replaced write) = codes " is stale: "
 
 -- one of several puts, and why it was not read
-abbrev pub also_words : List Call → List ℕ → ℕ → Excluded → List ℕ
+unfoldable pub also_words : List Call → List ℕ → ℕ → Excluded → List ℕ
 also_words history lines hit excluded = codes "; " ++ excuse_words history lines hit excluded.put excluded.why
 
--- a hit that can have read none of these puts: with one, what excludes it; with several, what excludes the first eight
-abbrev pub hit_words : List Call → List ℕ → ℕ → List Excluded → List ℕ
-hit_words history lines hit [] = name_of history lines hit ++ codes " is of a value that no call puts at its key"
-hit_words history lines hit (one ∷ []) =
+-- a hit whose key and value no call puts, or one put
+abbrev pub lone_words : List Call → List ℕ → ℕ → Option Excluded → List ℕ
+lone_words history lines hit None = name_of history lines hit ++ codes " is of a value that no call puts at its key"
+lone_words history lines hit (Some one) =
     name_of history lines hit ++ hit_kind one.why ++ excuse_words history lines hit one.put one.why
-hit_words history lines hit (one ∷ next ∷ more) =
-    name_of history lines hit ++ codes " can have read none of the " ++ decimal (length (one ∷ next ∷ more)) ++ codes " puts of its value"
-    ++ flat_map (also_words history lines hit) (take 8 (one ∷ next ∷ more))
+
+-- a hit that can have read none of these puts: of several, what excludes the first eight
+unfoldable pub hit_words : List Call → List ℕ → ℕ → List Excluded → List ℕ
+hit_words history lines hit puts =
+    if nat_lt 1 (length puts)
+    then name_of history lines hit ++ codes " can have read none of the " ++ decimal (length puts) ++ codes " puts of its value"
+        ++ flat_map (also_words history lines hit) (take 8 puts)
+    else lone_words history lines hit (slice_get puts 0)
 
 -- two writes, each of which has to stand before the other
 unfoldable pub crossed_words : List Call → List ℕ → Side → Side → List ℕ

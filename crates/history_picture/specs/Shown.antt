@@ -2,17 +2,13 @@
 use Rattle.std.specs.Prelude.{◌≡◌, ℕ, ◌<◌, ◌≤◌, ◌⊎◌, List, ◌++◌, All, Contains, length, codes, slice_get, IsSomeAnd}
 use Rattle.std.specs.List.{flat_map}
 use Rattle.trace_file.specs.declared.call.Call.{Call}
+use Rattle.history_picture.specs.Chosen.{HaveOneKey}
 use Rattle.history_picture.specs.Marks.{marks_of}
 use Rattle.history_picture.specs.Plain.{IsPlain}
 use Rattle.history_picture.specs.Rows.{row_text}
 use Rattle.history_picture.specs.Sentences.{sentence_of}
 use Rattle.history_picture.specs.declared.reason.Reason.{Reason}
 use Rattle.history_picture.specs.declared.sheet.Sheet.{Sheet}
-
--- the calls at two positions have one key
-abbrev pub HaveOneKey : List Call → ℕ → ℕ → Type 0
-HaveOneKey history one other =
-    IsSomeAnd (slice_get history one) (λ call. IsSomeAnd (slice_get history other) (λ next. call.key ≡ next.key))
 
 -- a call may be shown where these matter: it is one of them, or a call of the key of the first of them
 abbrev pub MayBeShown : List Call → List ℕ → ℕ → Type 0

@@ -1,10 +1,8 @@
 // Which call precedes which, where that matters.
+use crate::marks::first_eight;
 use crate::reason::Reason;
 use certificate_finder::{Excluded, Excuse};
 use std::alloc::{AllocError, Global};
-
-/// How many puts of a hit have arrows.
-const MOST_PUTS: usize = 8;
 
 /// That the call at a position precedes the call at another.
 #[derive(Clone, Copy, Debug, PartialEq, Eq)]
@@ -32,7 +30,7 @@ pub(crate) fn arrows(alloc: Global, reason: &Reason) -> Result<Vec<Arrow>, Alloc
 
 /// Puts what precedes what, for a hit that can't have read its puts, behind others.
 fn push_hit(arrows: &mut Vec<Arrow>, hit: u32, puts: &[Excluded]) -> Result<(), AllocError> {
-    for excluded in &puts[..puts.len().min(MOST_PUTS)] {
+    for excluded in first_eight(puts) {
         push_excluded(arrows, hit, excluded)?;
     }
     Ok(())

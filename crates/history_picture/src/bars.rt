@@ -6,6 +6,7 @@ use crate::arrows::Arrow;
 use crate::call_at::call_at;
 use crate::drawing::{BAR, Drawing};
 use crate::escaped::escaped;
+use crate::near::is_among;
 use crate::rows::{act_word, end_text, value_text};
 use crate::scene::Scene;
 use crate::told::{act_text, label};
@@ -28,15 +29,30 @@ impl Drawing {
     {
         let mut text = String::new(alloc);
         for position in shown {
-            if let Some(call) = call_at(scene.history, *position) {
-                let title = title(alloc, scene, *position, &call)?;
-                let room = self.next(scene, shown, &call).saturating_sub(self.at(call.start));
-                let marked = marks.iter().any(|mark| mark == position);
-                let bar = self.bar(alloc, &call, title.as_str(), room, marked)?;
-                text.push_str(bar.as_str())?;
-            }
+            let marked = is_among(marks, *position);
+            let bar = self.bar_at(alloc, scene, shown, *position, marked)?;
+            text.push_str(bar.as_str())?;
         }
         Ok(text)
+    }
+
+    /// The bar of the call at a position, of none nothing.
+    fn bar_at(
+        &self,
+        alloc: Global,
+        scene: &Scene<'_>,
+        shown: &[u32],
+        position: u32,
+        marked: bool,
+    ) -> Result<String, AllocError>
+        ensures { IfOk result (λ text. IsPlain (string_bytes text)) }
+    {
+        let Some(call) = call_at(scene.history, position) else {
+            return Ok(String::new(alloc));
+        };
+        let title = title(alloc, scene, position, &call)?;
+        let room = self.next(scene, shown, &call).saturating_sub(self.at(call.start));
+        self.bar(alloc, &call, title.as_str(), room, marked)
     }
 
     /// The bar of a call, with what it did above it where there is room, and all of it as a title.
@@ -162,7 +178,9 @@ fn colour_of(act: &ActRef<'_>, marked: bool) -> &'static str
         return "#d4d4d4";
     }
     match act {
-        ActRef::Put(..) | ActRef::Remove => "#7fb2e5",
-        ActRef::Hit(..) | ActRef::Miss => "#ee8a80",
+        ActRef::Put(..) => "#7fb2e5",
+        ActRef::Remove => "#7fb2e5",
+        ActRef::Hit(..) => "#ee8a80",
+        ActRef::Miss => "#ee8a80",
     }
 }

@@ -15,7 +15,7 @@ impl fmt::Display for Blanks {
     ghost output = { λ blanks. Some (replicate blanks.0 32) };
 
     fn fmt<W: fmt::Write>(&self, f: &mut fmt::Formatter<W>) -> fmt::Result {
-        for _space in 0..self.0 {
+        for _i in 0..self.0 {
             write!(f, " ")?;
         }
         Ok(())
@@ -32,7 +32,7 @@ impl fmt::Display for Dashes {
     ghost output = { λ dashes. Some (replicate dashes.0 61) };
 
     fn fmt<W: fmt::Write>(&self, f: &mut fmt::Formatter<W>) -> fmt::Result {
-        for _dash in 0..self.0 {
+        for _i in 0..self.0 {
             write!(f, "=")?;
         }
         Ok(())

@@ -24,14 +24,17 @@ pub(crate) fn coded(alloc: Global, bytes: &[u8]) -> Result<String, AllocError>
 }
 
 /// Bytes spelled as a word.
+#[tactic(auto, unfolding(crate::specs::Coding::word_of))]
 fn word(alloc: Global, bytes: &[u8]) -> Result<String, AllocError>
     ensures { IfOk result (λ word. string_bytes word ≡ word_of bytes.now) }
 {
-    match bytes {
-        [] => String::from_str(alloc, "-"),
-        [b'-'] => String::from_str(alloc, "%2D"),
-        _ => codes(alloc, bytes),
+    if bytes.is_empty() {
+        return String::from_str(alloc, "-");
     }
+    if bytes == b"-".as_slice() {
+        return String::from_str(alloc, "%2D");
+    }
+    codes(alloc, bytes)
 }
 
 /// The bytes spelled, one after the other.

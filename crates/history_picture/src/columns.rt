@@ -1,5 +1,5 @@
 // The columns of stamps.
-ghost use Rattle.std.specs.Prelude.{◌≡◌, IfOk, IsTrue, OnOk, ◌++◌, count_by, nat_lt, string_bytes};
+ghost use Rattle.std.specs.Prelude.{◌≡◌, IfOk, string_bytes};
 ghost use Rattle.history_picture.specs.Rows.{bar_text, column};
 
 use crate::blanks::{Blanks, Dashes};

@@ -1,8 +1,8 @@
 // The latest write before a place of a certificate.
-ghost use Rattle.std.specs.Prelude.{◌≡◌, ◌<◌, ◌≤◌, ◌↔◌, IfSome, IsTrue, IfNone, ℕ, Some, length, slice_get};
+ghost use Rattle.std.specs.Prelude.{◌↔◌, IsTrue};
 ghost use Rattle.trace_file.specs.Lent.{act_shown};
 ghost use Rattle.certificate_checker.specs.Latest.{IsWrite};
-ghost use Rattle.history_picture.specs.Places.{PutsWhat, IsLatestOf, NoneWrites, PutsValueOf, WritesKeyOf};
+ghost use Rattle.history_picture.specs.Places.{IsLatestOf, PutsValueOf, PutsWhat, WritesKeyOf};
 
 use crate::call_at::call_at;
 use crate::latest::Latest;
@@ -49,8 +49,10 @@ fn is_write(act: &ActRef<'_>) -> bool
     ensures { IsTrue result ↔ IsWrite (act_shown act.now) }
 {
     match act {
-        ActRef::Put(..) | ActRef::Remove => true,
-        ActRef::Hit(..) | ActRef::Miss => false,
+        ActRef::Put(..) => true,
+        ActRef::Remove => true,
+        ActRef::Hit(..) => false,
+        ActRef::Miss => false,
     }
 }
 

@@ -8,8 +8,18 @@ use crate::reason::Reason;
 use certificate_finder::{Excluded, Excuse, Side};
 use std::alloc::{AllocError, Global};
 
-/// How many puts of a hit are marked.
+/// How many puts of a hit are told of.
 const MOST_PUTS: usize = 8;
+
+/// The first eight puts of a hit, which are told of.
+pub(crate) fn first_eight(puts: &[Excluded]) -> &[Excluded]
+    ensures { result.now ≡ take 8 puts.now }
+{
+    if puts.len() <= MOST_PUTS {
+        return puts;
+    }
+    &puts[..MOST_PUTS]
+}
 
 /// The positions of the calls that matter, the one at the place first.
 pub(crate) fn marks(alloc: Global, reason: &Reason) -> Result<Vec<u32>, AllocError>
@@ -33,7 +43,7 @@ fn hit_marks(alloc: Global, hit: u32, puts: &[Excluded]) -> Result<Vec<u32>, All
         marks.items ≡ hit ∷ flat_map excluded_marks (take 8 puts.now)) }
 {
     let mut marks = vec![in alloc; hit]?;
-    for put in &puts[..puts.len().min(MOST_PUTS)] {
+    for put in first_eight(puts) {
         push_excluded(&mut marks, put)?;
     }
     Ok(marks)
@@ -44,10 +54,14 @@ fn push_excluded(marks: &mut Vec<u32>, excluded: &Excluded) -> Result<(), AllocE
     ensures { OnOk result (marks.new.items ≡ marks.old.items ++ excluded_marks excluded.now) }
 {
     marks.push(excluded.put)?;
-    if let Excuse::Replaced(write) = excluded.why {
-        marks.push(write)?;
+    match excluded.why {
+        Excuse::Later => Ok(()),
+        Excuse::Expired => Ok(()),
+        Excuse::Replaced(write) => {
+            marks.push(write)?;
+            Ok(())
+        }
     }
-    Ok(())
 }
 
 /// The calls of two crossed sides.

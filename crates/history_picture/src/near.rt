@@ -1,7 +1,7 @@
 // The calls of a key that are nearest in time to a call.
-ghost use Rattle.std.specs.Prelude.{◌≡◌, ◌<◌, ◌≤◌, ◌∷◌, ◌++◌, All, IfOk, IfSome, IsTrue, List, ℕ, OnOk, length, slice_get};
+ghost use Rattle.std.specs.Prelude.{◌≡◌, ◌<◌, ◌≤◌, ◌==◌, All, IfOk, List, ℕ, length};
+ghost use Rattle.std.specs.List.{list_any};
 ghost use Rattle.trace_file.specs.declared.call.Call.{Call};
-ghost use Rattle.trace_file.specs.Lent.{call_shown};
 ghost use Rattle.history_picture.specs.Nearest.{AreOfKey, IsOfKey};
 
 use std::alloc::{AllocError, Global};
@@ -35,13 +35,22 @@ pub(crate) fn nearest(
     let mut near: Vec<Near> = Vec::new(alloc);
     for position in 0..history.len().min(MOST_POSITIONS) {
         let other = history.at(position);
-        let position = position as u32;
-        if other.key == call.key && !without.iter().any(|one| *one == position) {
-            let gap = gap_between(call, &other);
-            keep(&mut near, Near { gap, position }, most)?;
+        if other.key == call.key && !is_among(without, position as u32) {
+            let one = Near {
+                gap: gap_between(call, &other),
+                position: position as u32,
+            };
+            keep(&mut near, one, most)?;
         }
     }
     Ok(near)
+}
+
+/// Whether a position is among others.
+pub(crate) fn is_among(positions: &[u32], position: u32) -> bool
+    ensures { result ≡ list_any (λ one. one == position) positions.now }
+{
+    positions.iter().any(|one| *one == position)
 }
 
 /// How many stamps lie between two calls, 0 where they overlap.
@@ -66,24 +75,25 @@ fn keep(near: &mut Vec<Near>, one: Near, most: usize) -> Result<(), AllocError>
         near.push(one)?;
         return Ok(());
     }
-    if let Some(farthest) = farthest(near.as_slice()) {
-        if one.gap < near[farthest].gap {
-            near[farthest] = one;
-        }
+    if near.is_empty() {
+        return Ok(());
+    }
+    let farthest = farthest(near.as_slice());
+    if one.gap < near[farthest].gap {
+        near[farthest] = one;
     }
     Ok(())
 }
 
-/// The index of the farthest of some calls, the last of several.
-fn farthest(near: &[Near]) -> Option<usize>
-    ensures { IfSome result (λ index. index < length near.now) }
+/// The index of the farthest of some calls, the first of several.
+fn farthest(near: &[Near]) -> usize
+    requires { 0 < length near.now }
+    ensures { result < length near.now }
 {
-    let mut farthest = None;
-    let mut gap = 0;
-    for (index, one) in near.iter().enumerate() {
-        if gap <= one.gap {
-            gap = one.gap;
-            farthest = Some(index);
+    let mut farthest = 0;
+    for index in 0..near.len() {
+        if near[farthest].gap < near[index].gap {
+            farthest = index;
         }
     }
     farthest

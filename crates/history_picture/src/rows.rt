@@ -1,5 +1,5 @@
 // The lines of the calls that are shown.
-ghost use Rattle.std.specs.Prelude.{◌≡◌, IfOk, OnOk, ◌++◌, map, option_map, slice_get, string_bytes};
+ghost use Rattle.std.specs.Prelude.{◌≡◌, IfOk, slice_get, string_bytes};
 ghost use Rattle.std.specs.List.{flat_map};
 ghost use Rattle.trace_file.specs.Lent.{act_shown, call_shown};
 ghost use Rattle.history_picture.specs.Names.{names_of};
@@ -9,6 +9,7 @@ use crate::blanks::{padded_left, padded_right};
 use crate::call_at::call_at;
 use crate::coded::coded;
 use crate::columns::{NEVER_ENDED, bar};
+use crate::near::is_among;
 use crate::scene::Scene;
 use crate::sheet::Sheet;
 use std::alloc::{AllocError, Global};
@@ -67,7 +68,7 @@ pub(crate) fn act_word(act: &ActRef<'_>) -> &'static str
 fn mark_of(marks: &[u32], position: u32) -> &'static str
     ensures { result.now ≡ mark_words marks.now position }
 {
-    if marks.iter().any(|mark| *mark == position) {
+    if is_among(marks, position) {
         "* "
     } else {
         "  "

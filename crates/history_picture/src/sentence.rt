@@ -1,16 +1,15 @@
 // The sentence that says what is wrong.
 ghost use Rattle.std.specs.Prelude.{◌≡◌, IfOk, string_bytes};
 ghost use Rattle.std.specs.List.{flat_map};
-ghost use Rattle.history_picture.specs.Sentences.{also_words, crossed_words, excuse_words, expired_words, hit_kind, hit_words, interval_words, latest_words, order_words, out_of_order_words, repeated_words, replaced_words, sentence_of, wrong_hit_words};
+ghost use Rattle.std.specs.Option.{option_copied};
+ghost use Rattle.history_picture.specs.Sentences.{also_words, crossed_words, excuse_words, expired_words, hit_kind, hit_words, interval_words, latest_words, lone_words, order_words, out_of_order_words, repeated_words, replaced_words, sentence_of, wrong_hit_words};
 
 use crate::latest::Latest;
+use crate::marks::first_eight;
 use crate::reason::Reason;
 use crate::scene::Scene;
 use certificate_finder::{Excluded, Excuse, Side};
 use std::alloc::{AllocError, Global};
-
-/// How many of several puts are told of.
-const MOST_PUTS: usize = 8;
 
 impl Scene<'_> {
     /// The sentence that says what is wrong, without a line feed: which calls, by what they did and where they were recorded,
@@ -121,25 +120,38 @@ impl Scene<'_> {
     }
 
     /// A hit that can have read none of these puts.
+    #[tactic(auto, unfolding(crate::specs::Sentences::hit_words))]
     fn hit(&self, alloc: Global, hit: u32, puts: &[Excluded]) -> Result<String, AllocError>
         ensures { IfOk result (λ text. string_bytes text
             ≡ hit_words self.now.history.now self.now.lines.now hit puts.now) }
     {
+        let many = puts.len();
+        if many <= 1 {
+            return self.lone(alloc, hit, puts.first());
+        }
+        let told = self.told(alloc, hit)?;
+        let also = self.also(alloc, hit, first_eight(puts))?;
+        format!(in alloc; "{} can have read none of the {many} puts of its value{also}", told.name)
+    }
+
+    /// A hit whose key and value no call puts, or one put.
+    fn lone(
+        &self,
+        alloc: Global,
+        hit: u32,
+        put: Option<&Excluded>,
+    ) -> Result<String, AllocError>
+        ensures { IfOk result (λ text. string_bytes text
+            ≡ lone_words self.now.history.now self.now.lines.now hit (option_copied put.entry)) }
+    {
         let told = self.told(alloc, hit)?;
         let name = told.name;
-        match puts {
-            [] => format!(in alloc; "{name} is of a value that no call puts at its key"),
-            [one] => {
-                let kind = kind_of(one.why);
-                let excuse = self.excuse(alloc, hit, one)?;
-                format!(in alloc; "{name}{kind}{excuse}")
-            }
-            _ => {
-                let many = puts.len();
-                let also = self.also(alloc, hit, &puts[..many.min(MOST_PUTS)])?;
-                format!(in alloc; "{name} can have read none of the {many} puts of its value{also}")
-            }
-        }
+        let Some(put) = put else {
+            return format!(in alloc; "{name} is of a value that no call puts at its key");
+        };
+        let kind = kind_of(put.why);
+        let excuse = self.excuse(alloc, hit, put)?;
+        format!(in alloc; "{name}{kind}{excuse}")
     }
 
     /// Why a hit can't have read each of several puts.
@@ -149,11 +161,20 @@ impl Scene<'_> {
     {
         let mut text = String::new(alloc);
         for put in puts {
-            let excuse = self.excuse(alloc, hit, put)?;
-            text.push_str("; ")?;
-            text.push_str(excuse.as_str())?;
+            let one = self.also_one(alloc, hit, put)?;
+            text.push_str(one.as_str())?;
         }
         Ok(text)
+    }
+
+    /// Why a hit can't have read one of several puts.
+    #[tactic(auto, unfolding(crate::specs::Sentences::also_words))]
+    fn also_one(&self, alloc: Global, hit: u32, put: &Excluded) -> Result<String, AllocError>
+        ensures { IfOk result (λ text. string_bytes text
+            ≡ also_words self.now.history.now self.now.lines.now hit put.now) }
+    {
+        let excuse = self.excuse(alloc, hit, put)?;
+        format!(in alloc; "; {excuse}")
     }
 
     /// Two writes, each of which has to stand before the other.

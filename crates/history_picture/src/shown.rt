@@ -1,11 +1,10 @@
 // Which calls are shown.
-ghost use Rattle.std.specs.Prelude.{◌≡◌, ◌<◌, ◌≤◌, ◌⊎◌, ◌++◌, All, Contains, IfOk, OnOk, length, map, slice_get};
-ghost use Rattle.std.specs.List.Sorted.{IsPermutation};
-ghost use Rattle.history_picture.specs.Shown.{AreShown, MayBeShown};
-ghost use Rattle.history_picture.specs.Chosen.{AreChosen};
+ghost use Rattle.std.specs.Prelude.{◌≡◌, ◌≤◌, ◌++◌, IfOk, OnOk, length, map};
+ghost use Rattle.history_picture.specs.Shown.{AreShown};
+ghost use Rattle.history_picture.specs.Chosen.{AreAdded, AreChosen};
 
 use crate::call_at::call_at;
-use crate::near::{Near, nearest};
+use crate::near::{Near, is_among, nearest};
 use std::alloc::{AllocError, Global};
 use trace_file::History;
 
@@ -34,7 +33,7 @@ fn marked(alloc: Global, history: &History, marks: &[u32]) -> Result<Vec<u32>, A
 {
     let mut shown: Vec<u32> = Vec::new(alloc);
     for mark in marks {
-        if (*mark as usize) < history.len() && !shown.iter().any(|one| one == mark) {
+        if (*mark as usize) < history.len() && !is_among(shown.as_slice(), *mark) {
             shown.push(*mark)?;
         }
     }
@@ -49,6 +48,8 @@ fn push_nearest(
     shown: &mut Vec<u32>,
     most: usize,
 ) -> Result<(), AllocError>
+    requires { length shown.old.items ≤ most }
+    ensures { OnOk result (AreAdded history.now first most shown.old.items shown.new.items) }
 {
     let Some(call) = call_at(history, first) else {
         return Ok(());

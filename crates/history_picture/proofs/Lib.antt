@@ -1,0 +1,4 @@
+mod Choosing
+mod Placing
+mod PlainLaws
+mod PlainTexts

@@ -1,0 +1,239 @@
+-- What is written is plain.
+use Rattle.std.proofs.Common.{◌≡◌, ℕ, ◌+◌, ◌-◌, ◌/◌, ◌%◌, ◌<◌, ◌≤◌, List, [], ◌∷◌, ◌++◌, Bool, true, false, ◌&&◌, refl, sym, ap, subst, ◌∙◌, arith, length, take, replicate, Option, Some, None}
+use Rattle.std.specs.Prelude.{codes, ◌==◌, not, nat_lt, nat_le, slice_get, if◌then◌else◌}
+use Rattle.std.specs.List.{flat_map, list_any}
+use Rattle.std.specs.Str.{bytes_eq}
+use Rattle.std.specs.Fmt.{decimal}
+use Rattle.std.proofs.lemmas.Bool.Decides.{nat_tests}
+use Rattle.trace_file.specs.declared.act.Act.{Act}
+use Rattle.trace_file.specs.declared.act.Act.TheVariants.{Put, Remove, Hit, Miss}
+use Rattle.trace_file.specs.declared.call.Call.{Call}
+use Rattle.certificate_finder.specs.declared.excluded.Excluded.{Excluded}
+use Rattle.certificate_finder.specs.declared.excluded.Excuse.{Excuse}
+use Rattle.certificate_finder.specs.declared.excluded.Excuse.TheVariants.{Later, Expired, Replaced}
+use Rattle.certificate_finder.specs.declared.witness.Side.{Side}
+use Rattle.history_picture.specs.declared.latest.Latest.{Latest}
+use Rattle.history_picture.specs.declared.latest.Latest.TheVariants as latests
+use Rattle.history_picture.specs.declared.reason.Reason.{Reason}
+use Rattle.history_picture.specs.declared.reason.Reason.TheVariants as reasons
+use Rattle.history_picture.specs.declared.sheet.Sheet.{Sheet}
+use Rattle.history_picture.specs.Coding.{is_bare, percent, code_of, word_of, cut_word, shown_word}
+use Rattle.history_picture.specs.Escaping.{escape_of}
+use Rattle.history_picture.specs.Naming.{label_words, label_of, act_words, call_words, name_of, start_of, end_of, moment_of}
+use Rattle.history_picture.specs.Plain.{IsPlain, is_plain}
+use Rattle.history_picture.specs.Rows.{left, right, never_ended, column, bar_between, bar_text, end_words, caller_words, act_name, value_words, mark_words, times_text, front_text, back_text, line_of, row_text}
+use Rattle.history_picture.specs.Sentences.{order_words, replaced_words, expired_words, excuse_words, hit_kind, also_words, lone_words, hit_words, crossed_words, interval_words, out_of_order_words, latest_words, wrong_hit_words, repeated_words, sentence_of}
+use Rattle.history_picture.proofs.PlainLaws.{plain_lit, plain_nil, plain_append, plain_cons, plain_take, plain_replicate, plain_flat_map, glyph_plain, plain_decimal}
+
+-- either of two plain texts
+pub plain_if : (b : Bool) (x y : List ℕ) → IsPlain x → IsPlain y → IsPlain (if b then x else y)
+plain_if true x y p q = p
+plain_if false x y p q = q
+
+bare_plain : (byte : ℕ) → is_bare byte ≡ true → is_plain byte ≡ true
+bare_plain byte h = grind (arith, nat_tests)
+
+code_by : (b : Bool) (byte : ℕ) → is_bare byte ≡ b → IsPlain (if b then byte ∷ [] else percent byte)
+code_by true byte e = plain_cons byte [] (bare_plain byte e) plain_nil
+code_by false byte e =
+    plain_cons 37 _ refl (plain_cons _ _ (glyph_plain true (byte / 16 % 16) (omega arith)) (plain_cons _ _ (glyph_plain true (byte % 16) (omega arith)) plain_nil))
+
+pub plain_code : (byte : ℕ) → IsPlain (code_of byte)
+plain_code byte = code_by (is_bare byte) byte refl
+
+pub plain_word : (bytes : List ℕ) → IsPlain (word_of bytes)
+unfolding word_of
+plain_word bytes =
+    plain_if (length bytes == 0) _ _ (plain_lit _ refl) (plain_if (bytes_eq bytes (codes "-")) _ _ (plain_lit _ refl) (plain_flat_map code_of bytes plain_code))
+
+pub plain_cut : (word : List ℕ) → IsPlain word → IsPlain (cut_word word)
+unfolding cut_word
+plain_cut word p = plain_if (nat_le (length word) 24) _ _ p (plain_append _ _ (plain_take 22 word p) (plain_lit _ refl))
+
+pub plain_shown : (bytes : List ℕ) → IsPlain (shown_word bytes)
+plain_shown bytes = plain_cut (word_of bytes) (plain_word bytes)
+
+kept_plain : (byte : ℕ) → (nat_lt 31 byte && nat_lt byte 127) ≡ true → is_plain byte ≡ true
+kept_plain byte h = rw h refl
+
+escape_by : (b : Bool) (byte : ℕ) → (nat_lt 31 byte && nat_lt byte 127) ≡ b → IsPlain (if b then byte ∷ [] else codes "?")
+escape_by true byte e = plain_cons byte [] (kept_plain byte e) plain_nil
+escape_by false byte e = plain_lit _ refl
+
+pub plain_escape : (byte : ℕ) → IsPlain (escape_of byte)
+plain_escape byte =
+    plain_if (byte == 38) _ _ (plain_lit _ refl) (plain_if (byte == 60) _ _ (plain_lit _ refl) (plain_if (byte == 62) _ _ (plain_lit _ refl)
+    (plain_if (byte == 34) _ _ (plain_lit _ refl) (plain_if (byte == 39) _ _ (plain_lit _ refl)
+    (escape_by (nat_lt 31 byte && nat_lt byte 127) byte refl)))))
+
+-- any text, escaped
+pub plain_escaped : (text : List ℕ) → IsPlain (flat_map escape_of text)
+plain_escaped text = plain_flat_map escape_of text plain_escape
+
+label_by : (line : Option ℕ) (position : ℕ) → IsPlain (label_words line position)
+label_by (Some line) position = plain_append _ _ (plain_lit _ refl) (plain_decimal line)
+label_by None position = plain_append _ _ (plain_lit _ refl) (plain_decimal position)
+
+pub plain_label : (lines : List ℕ) (position : ℕ) → IsPlain (label_of lines position)
+plain_label lines position = label_by (slice_get lines position) position
+
+pub plain_act : (act : Act) → IsPlain (act_words act)
+plain_act (Put value expires) = plain_append _ _ (plain_lit _ refl) (plain_shown value)
+plain_act Remove = plain_lit _ refl
+plain_act (Hit value moment) = plain_append _ _ (plain_lit _ refl) (plain_shown value)
+plain_act Miss = plain_lit _ refl
+
+call_by : (call : Option Call) (label : List ℕ) → IsPlain label → IsPlain (call_words call label)
+call_by (Some call) label p =
+    plain_append _ _ (plain_append _ _ (plain_append _ _ (plain_act call.act) (plain_lit _ refl)) p) (plain_lit _ refl)
+call_by None label p = plain_append _ _ (plain_append _ _ (plain_lit _ refl) p) (plain_lit _ refl)
+
+pub plain_name : (history : List Call) (lines : List ℕ) (position : ℕ) → IsPlain (name_of history lines position)
+unfolding name_of
+plain_name history lines position = call_by (slice_get history position) (label_of lines position) (plain_label lines position)
+
+pub plain_order : (history : List Call) (lines : List ℕ) (first second : ℕ) → IsPlain (order_words history lines first second)
+unfolding order_words
+plain_order history lines first second =
+    plain_append _ _ (plain_append _ _ (plain_append _ _ (plain_append _ _ (plain_append _ _ (plain_append _ _ (plain_name history lines first) (plain_lit _ refl)) (plain_decimal _)) (plain_lit _ refl)) (plain_name history lines second)) (plain_lit _ refl)) (plain_decimal _)
+
+pub plain_replaced : (history : List Call) (lines : List ℕ) (hit put write : ℕ) → IsPlain (replaced_words history lines hit put write)
+unfolding replaced_words
+plain_replaced history lines hit put write =
+    plain_append _ _ (plain_append _ _ (plain_append _ _ (plain_append _ _ (plain_order history lines put write) (plain_lit _ refl)) (plain_decimal _)) (plain_lit _ refl)) (plain_decimal _)
+
+pub plain_expired : (history : List Call) (lines : List ℕ) (hit put : ℕ) → IsPlain (expired_words history lines hit put)
+unfolding expired_words
+plain_expired history lines hit put =
+    plain_append _ _ (plain_append _ _ (plain_append _ _ (plain_append _ _ (plain_name history lines put) (plain_lit _ refl)) (plain_decimal _)) (plain_lit _ refl)) (plain_decimal _)
+
+pub plain_excuse : (history : List Call) (lines : List ℕ) (hit put : ℕ) (why : Excuse) → IsPlain (excuse_words history lines hit put why)
+plain_excuse history lines hit put Later = plain_order history lines hit put
+plain_excuse history lines hit put Expired = plain_expired history lines hit put
+plain_excuse history lines hit put (Replaced write) = plain_replaced history lines hit put write
+
+pub plain_kind : (why : Excuse) → IsPlain (hit_kind why)
+plain_kind Later = plain_lit _ refl
+plain_kind Expired = plain_lit _ refl
+plain_kind (Replaced write) = plain_lit _ refl
+
+pub plain_also : (history : List Call) (lines : List ℕ) (hit : ℕ) (excluded : Excluded) → IsPlain (also_words history lines hit excluded)
+unfolding also_words
+plain_also history lines hit excluded = plain_append _ _ (plain_lit _ refl) (plain_excuse history lines hit excluded.put excluded.why)
+
+pub plain_lone : (history : List Call) (lines : List ℕ) (hit : ℕ) (put : Option Excluded) → IsPlain (lone_words history lines hit put)
+plain_lone history lines hit None = plain_append _ _ (plain_name history lines hit) (plain_lit _ refl)
+plain_lone history lines hit (Some one) = plain_append _ _ (plain_append _ _ (plain_name history lines hit) (plain_kind one.why)) (plain_excuse history lines hit one.put one.why)
+
+pub plain_hit : (history : List Call) (lines : List ℕ) (hit : ℕ) (puts : List Excluded) → IsPlain (hit_words history lines hit puts)
+unfolding hit_words
+plain_hit history lines hit puts =
+    plain_if (nat_lt 1 (length puts)) _ _ (plain_append _ _ (plain_append _ _ (plain_append _ _ (plain_append _ _ (plain_name history lines hit) (plain_lit _ refl)) (plain_decimal _)) (plain_lit _ refl)) (plain_flat_map (also_words history lines hit) (take 8 puts) (plain_also history lines hit))) (plain_lone history lines hit (slice_get puts 0))
+
+pub plain_crossed : (history : List Call) (lines : List ℕ) (one other : Side) → IsPlain (crossed_words history lines one other)
+unfolding crossed_words
+plain_crossed history lines one other =
+    plain_append _ _ (plain_append _ _ (plain_append _ _ (plain_append _ _ (plain_append _ _ (plain_append _ _ (plain_append _ _ (plain_name history lines one.write) (plain_lit _ refl)) (plain_name history lines other.write)) (plain_lit _ refl)) (plain_order history lines one.early other.late)) (plain_lit _ refl)) (plain_order history lines other.early one.late)) (plain_lit _ refl)
+
+pub plain_interval : (history : List Call) (lines : List ℕ) (position : ℕ) → IsPlain (interval_words history lines position)
+unfolding interval_words
+plain_interval history lines position = plain_append _ _ (plain_append _ _ (plain_append _ _ (plain_append _ _ (plain_name history lines position) (plain_lit _ refl)) (plain_decimal _)) (plain_lit _ refl)) (plain_decimal _)
+
+pub plain_out_of_order : (history : List Call) (lines : List ℕ) (place call earlier : ℕ) → IsPlain (out_of_order_words history lines place call earlier)
+unfolding out_of_order_words
+plain_out_of_order history lines place call earlier =
+    plain_append _ _ (plain_append _ _ (plain_append _ _ (plain_append _ _ (plain_lit _ refl) (plain_decimal _)) (plain_lit _ refl)) (plain_order history lines call earlier)) (plain_lit _ refl)
+
+pub plain_latest : (history : List Call) (lines : List ℕ) (hit : ℕ) (latest : Latest) → IsPlain (latest_words history lines hit latest)
+plain_latest history lines hit latests.Nothing = plain_lit _ refl
+plain_latest history lines hit (latests.Other write) = plain_append _ _ (plain_lit _ refl) (plain_name history lines write)
+plain_latest history lines hit (latests.Expired put) = plain_expired history lines hit put
+
+pub plain_wrong_hit : (history : List Call) (lines : List ℕ) (place hit : ℕ) (latest : Latest) → IsPlain (wrong_hit_words history lines place hit latest)
+unfolding wrong_hit_words
+plain_wrong_hit history lines place hit latest =
+    plain_append _ _ (plain_append _ _ (plain_append _ _ (plain_append _ _ (plain_name history lines hit) (plain_lit _ refl)) (plain_decimal _)) (plain_lit _ refl)) (plain_latest history lines hit latest)
+
+pub plain_repeated : (history : List Call) (lines : List ℕ) (place position : ℕ) → IsPlain (repeated_words history lines place position)
+unfolding repeated_words
+plain_repeated history lines place position = plain_append _ _ (plain_append _ _ (plain_append _ _ (plain_lit _ refl) (plain_decimal _)) (plain_lit _ refl)) (plain_name history lines position)
+
+-- each sentence is plain
+pub plain_sentence : (history : List Call) (lines : List ℕ) (reason : Reason) → IsPlain (sentence_of history lines reason)
+plain_sentence history lines (reasons.Interval position) = plain_interval history lines position
+plain_sentence history lines (reasons.Hit hit puts) = plain_hit history lines hit puts.items
+plain_sentence history lines (reasons.Crossed one other) = plain_crossed history lines one other
+plain_sentence history lines (reasons.OutOfOrder place call earlier) = plain_out_of_order history lines place call earlier
+plain_sentence history lines (reasons.WrongHit place hit latest) = plain_wrong_hit history lines place hit latest
+plain_sentence history lines (reasons.Repeated place position) = plain_repeated history lines place position
+plain_sentence history lines (reasons.NotAPlace place position) = plain_append _ _ (plain_append _ _ (plain_append _ _ (plain_append _ _ (plain_lit _ refl) (plain_decimal _)) (plain_lit _ refl)) (plain_decimal _)) (plain_lit _ refl)
+plain_sentence history lines reasons.WrongCount = plain_lit _ refl
+
+pub plain_left : (width : ℕ) (word : List ℕ) → IsPlain word → IsPlain (left width word)
+unfolding left
+plain_left width word p = plain_append _ _ p (plain_replicate _ 32 refl)
+
+pub plain_right : (width : ℕ) (word : List ℕ) → IsPlain word → IsPlain (right width word)
+unfolding right
+plain_right width word p = plain_append _ _ (plain_replicate _ 32 refl) (p)
+
+pub plain_between : (first last : ℕ) → IsPlain (bar_between first last)
+plain_between first last =
+    plain_if (nat_lt first last) _ _ (plain_append _ _ (plain_append _ _ (plain_append _ _ (plain_replicate _ 32 refl) (plain_lit _ refl)) (plain_replicate _ 61 refl)) (plain_lit _ refl))
+    (plain_if (nat_lt last first) _ _ (plain_append _ _ (plain_append _ _ (plain_append _ _ (plain_replicate _ 32 refl) (plain_lit _ refl)) (plain_replicate _ 61 refl)) (plain_lit _ refl)) (plain_append _ _ (plain_replicate _ 32 refl) (plain_lit _ refl)))
+
+pub plain_bar : (stamps : List ℕ) (start end : ℕ) → IsPlain (bar_text stamps start end)
+unfolding bar_text
+plain_bar stamps start end =
+    plain_if (end == never_ended) _ _ (plain_append _ _ (plain_append _ _ (plain_append _ _ (plain_replicate _ 32 refl) (plain_lit _ refl)) (plain_replicate _ 61 refl)) (plain_lit _ refl)) (plain_between (column stamps start) (column stamps end))
+
+pub plain_end : (end : ℕ) → IsPlain (end_words end)
+plain_end end = plain_if (end == never_ended) _ _ (plain_lit _ refl) (plain_decimal end)
+
+pub plain_caller : (name : Option (List ℕ)) (number : ℕ) → IsPlain (caller_words name number)
+plain_caller (Some name) number = plain_shown name
+plain_caller None number = plain_decimal number
+
+pub plain_act_name : (act : Act) → IsPlain (act_name act)
+plain_act_name (Put value expires) = plain_lit _ refl
+plain_act_name Remove = plain_lit _ refl
+plain_act_name (Hit value moment) = plain_lit _ refl
+plain_act_name Miss = plain_lit _ refl
+
+pub plain_value : (act : Act) → IsPlain (value_words act)
+plain_value (Put value expires) = plain_shown value
+plain_value Remove = plain_nil
+plain_value (Hit value moment) = plain_shown value
+plain_value Miss = plain_nil
+
+pub plain_mark : (marks : List ℕ) (position : ℕ) → IsPlain (mark_words marks position)
+plain_mark marks position = plain_if (list_any (λ mark. mark == position) marks) _ _ (plain_lit _ refl) (plain_lit _ refl)
+
+pub plain_times : (sheet : Sheet) (start end : ℕ) → IsPlain (times_text sheet start end)
+unfolding times_text
+plain_times sheet start end = plain_append _ _ (plain_append _ _ (plain_right sheet.starts _ (plain_decimal start)) (plain_lit _ refl)) (plain_right sheet.ends _ (plain_end end))
+
+pub plain_front : (lines : List ℕ) (callers : List (List ℕ)) (sheet : Sheet) (position : ℕ) (call : Call) → IsPlain (front_text lines callers sheet position call)
+unfolding front_text
+plain_front lines callers sheet position call =
+    plain_append _ _ (plain_append _ _ (plain_append _ _ (plain_append _ _ (plain_right sheet.labels _ (plain_decimal _)) (plain_lit _ refl)) (plain_left sheet.callers _ (plain_caller (slice_get callers call.caller) call.caller))) (plain_lit _ refl)) (plain_times sheet call.start call.end)
+
+pub plain_back : (sheet : Sheet) (call : Call) → IsPlain (back_text sheet call)
+unfolding back_text
+plain_back sheet call =
+    plain_append _ _ (plain_append _ _ (plain_append _ _ (plain_append _ _ (plain_left 6 _ (plain_act_name call.act)) (plain_lit _ refl)) (plain_left sheet.values _ (plain_value call.act))) (plain_lit _ refl)) (plain_bar sheet.stamps.items call.start call.end)
+
+pub plain_line : (lines : List ℕ) (callers : List (List ℕ)) (marks : List ℕ) (sheet : Sheet) (position : ℕ) (call : Option Call) → IsPlain (line_of lines callers marks sheet position call)
+plain_line lines callers marks sheet position None = plain_nil
+plain_line lines callers marks sheet position (Some call) =
+    plain_append _ _ (plain_append _ _ (plain_append _ _ (plain_append _ _ (plain_mark marks position) (plain_front lines callers sheet position call)) (plain_lit _ refl)) (plain_back sheet call)) (plain_lit _ refl)
+
+-- each line is plain
+pub plain_row : (history : List Call) (lines : List ℕ) (callers : List (List ℕ)) (marks : List ℕ) (sheet : Sheet) (position : ℕ) → IsPlain (row_text history lines callers marks sheet position)
+unfolding row_text
+plain_row history lines callers marks sheet position = plain_line lines callers marks sheet position (slice_get history position)
+
+-- an explanation is plain
+pub plain_explanation : (history : List Call) (lines : List ℕ) (callers : List (List ℕ)) (reason : Reason) (marks : List ℕ) (sheet : Sheet) (shown : List ℕ) → IsPlain ((sentence_of history lines reason ++ codes "\n") ++ flat_map (row_text history lines callers marks sheet) shown)
+plain_explanation history lines callers reason marks sheet shown =
+    plain_append _ _ (plain_append _ _ (plain_sentence history lines reason) (plain_lit _ refl)) (plain_flat_map (row_text history lines callers marks sheet) shown (plain_row history lines callers marks sheet))
