@@ -1,4 +1,5 @@
 mod Choosing
+mod Marking
 mod Placing
 mod PlainLaws
 mod PlainTexts

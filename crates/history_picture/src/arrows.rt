@@ -37,11 +37,7 @@ fn push_hit(arrows: &mut Vec<Arrow>, hit: u32, puts: &[Excluded]) -> Result<(), 
 }
 
 /// Puts what precedes what, for a put that a hit can't have read, behind others.
-fn push_excluded(
-    arrows: &mut Vec<Arrow>,
-    hit: u32,
-    excluded: &Excluded,
-) -> Result<(), AllocError> {
+fn push_excluded(arrows: &mut Vec<Arrow>, hit: u32, excluded: &Excluded) -> Result<(), AllocError> {
     match excluded.why {
         Excuse::Later => push(arrows, hit, excluded.put),
         Excuse::Expired => Ok(()),

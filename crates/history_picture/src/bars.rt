@@ -51,7 +51,9 @@ impl Drawing {
             return Ok(String::new(alloc));
         };
         let title = title(alloc, scene, position, &call)?;
-        let room = self.next(scene, shown, &call).saturating_sub(self.at(call.start));
+        let room = self
+            .next(scene, shown, &call)
+            .saturating_sub(self.at(call.start));
         self.bar(alloc, &call, title.as_str(), room, marked)
     }
 
@@ -69,21 +71,21 @@ impl Drawing {
     {
         let word = self.word(alloc, call, room)?;
         let start = self.at(call.start).min(self.at(call.end));
-        let width = self.at(call.start).max(self.at(call.end)).saturating_sub(start).max(6);
+        let width = self
+            .at(call.start)
+            .max(self.at(call.end))
+            .saturating_sub(start)
+            .max(6);
         let top = self.row(call.caller);
         let colour = colour_of(&call.act, marked);
-        format!(in alloc;
+        let text = format!(in alloc;
             "{word}<rect x=\"{start}\" y=\"{top}\" width=\"{width}\" height=\"{BAR}\" rx=\"3\" fill=\"{colour}\" stroke=\"#444444\"><title>{title}</title></rect>\n"
-        )
+        )?;
+        Ok(text)
     }
 
     /// What a call did, over its bar, cut where there is no more room.
-    fn word(
-        &self,
-        alloc: Global,
-        call: &CallRef<'_>,
-        room: usize,
-    ) -> Result<String, AllocError>
+    fn word(&self, alloc: Global, call: &CallRef<'_>, room: usize) -> Result<String, AllocError>
         ensures { IfOk result (λ text. IsPlain (string_bytes text)) }
     {
         let value = value_text(alloc, &call.act)?;
@@ -91,9 +93,10 @@ impl Drawing {
         let act = act_word(&call.act);
         let start = self.at(call.start);
         let top = self.row(call.caller).saturating_sub(BAR);
-        format!(in alloc;
+        let text = format!(in alloc;
             "<svg x=\"{start}\" y=\"{top}\" width=\"{room}\" height=\"{BAR}\"><text y=\"12\">{act} {value}</text></svg>\n"
-        )
+        )?;
+        Ok(text)
     }
 
     /// The arrows.
@@ -148,9 +151,10 @@ fn curve(
 {
     let behind = first.saturating_add(BEND);
     let before = last.saturating_sub(BEND);
-    format!(in alloc;
+    let text = format!(in alloc;
         "<path d=\"M {first} {top} C {behind} {top} {before} {bottom} {last} {bottom}\" fill=\"none\" stroke=\"#b3261e\" stroke-width=\"2\" marker-end=\"url(#point)\"/>\n"
-    )
+    )?;
+    Ok(text)
 }
 
 /// All that is told of a call.
@@ -167,7 +171,8 @@ fn title(
     let act = escaped(alloc, act.as_str())?;
     let end = end_text(alloc, call.end)?;
     let start = call.start;
-    format!(in alloc; "{label}: {act}, from {start} to {end}")
+    let text = format!(in alloc; "{label}: {act}, from {start} to {end}")?;
+    Ok(text)
 }
 
 /// The colour of a bar: of a call that matters red for a hit and blue for a write, else grey.

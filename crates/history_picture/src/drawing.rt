@@ -63,7 +63,10 @@ impl Drawing {
 
     /// Where the columns begin.
     fn left(&self) -> usize {
-        self.sheet.callers.saturating_mul(LETTER).saturating_add(2 * EDGE)
+        self.sheet
+            .callers
+            .saturating_mul(LETTER)
+            .saturating_add(2 * EDGE)
     }
 
     /// Where a column lies.
@@ -78,7 +81,11 @@ impl Drawing {
 
     /// The height.
     pub(crate) fn height(&self) -> usize {
-        self.callers.len().saturating_mul(ROW).saturating_add(self.top).saturating_add(EDGE)
+        self.callers
+            .len()
+            .saturating_mul(ROW)
+            .saturating_add(self.top)
+            .saturating_add(EDGE)
     }
 
     /// Where a stamp lies: at the end of the columns what never comes.
@@ -92,7 +99,10 @@ impl Drawing {
     /// Where the bars of a caller lie.
     pub(crate) fn row(&self, caller: u16) -> usize {
         let row = self.callers.iter().position(|other| *other == caller);
-        row.unwrap_or(0).saturating_mul(ROW).saturating_add(self.top).saturating_add(LINE)
+        row.unwrap_or(0)
+            .saturating_mul(ROW)
+            .saturating_add(self.top)
+            .saturating_add(LINE)
     }
 
     /// Where the next call of a caller starts behind a stamp, or the columns end.
@@ -135,18 +145,15 @@ impl Drawing {
         let middle = top.saturating_add(BAR / 2);
         let base = top.saturating_add(BAR - 4);
         let width = self.width;
-        format!(in alloc;
+        let text = format!(in alloc;
             "<path d=\"M {EDGE} {middle} H {width}\" stroke=\"#e4e4e4\"/>\n<text x=\"{EDGE}\" y=\"{base}\" stroke=\"#ffffff\" stroke-width=\"6\" paint-order=\"stroke\">{name}</text>\n"
-        )
+        )?;
+        Ok(text)
     }
 }
 
 /// The callers of the calls at these positions, each once.
-fn callers_of(
-    alloc: Global,
-    scene: &Scene<'_>,
-    shown: &[u32],
-) -> Result<Vec<u16>, AllocError> {
+fn callers_of(alloc: Global, scene: &Scene<'_>, shown: &[u32]) -> Result<Vec<u16>, AllocError> {
     let mut callers: Vec<u16> = Vec::new(alloc);
     for position in shown {
         if let Some(call) = call_at(scene.history, *position) {

@@ -23,11 +23,7 @@ const MOST_CALLS: usize = 24;
 ///
 /// A line has the call's line or position, its caller, its start and end, what it did with its value, and a bar. The bars
 /// have a column for each stamp that is shown, in their order: what stands left of something was earlier.
-pub fn explanation(
-    alloc: Global,
-    scene: &Scene<'_>,
-    reason: &Reason,
-) -> Result<String, AllocError>
+pub fn explanation(alloc: Global, scene: &Scene<'_>, reason: &Reason) -> Result<String, AllocError>
     ensures { IfOk result (λ text. IsExplanation scene.now.history.now scene.now.lines.now
         (names_of scene.now.callers.now) reason.now (string_bytes text)) }
 {
@@ -36,7 +32,8 @@ pub fn explanation(
     let shown = shown(alloc, scene.history, marks.as_slice(), MOST_CALLS)?;
     let sheet = Sheet::of(alloc, scene, shown.as_slice())?;
     let rows = scene.rows(alloc, marks.as_slice(), &sheet, shown.as_slice())?;
-    format!(in alloc; "{sentence}\n{rows}")
+    let text = format!(in alloc; "{sentence}\n{rows}")?;
+    Ok(text)
 }
 
 /// Writes the text that explains a reason. A write that fails is not tried again, and nothing is flushed.

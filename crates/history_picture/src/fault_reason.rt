@@ -60,12 +60,7 @@ fn wrong_hit(history: &History, certificate: &Certificate, place: usize) -> Reas
 }
 
 /// The first call before a place that this one precedes.
-fn preceded(
-    history: &History,
-    certificate: &Certificate,
-    place: usize,
-    call: u32,
-) -> Option<u32>
+fn preceded(history: &History, certificate: &Certificate, place: usize, call: u32) -> Option<u32>
     ensures { IsEarlier history.now certificate.now place call result }
 {
     for earlier in 0..place.min(certificate.len()) {

@@ -68,9 +68,14 @@ fn push_excluded(marks: &mut Vec<u32>, excluded: &Excluded) -> Result<(), AllocE
 fn side_marks(alloc: Global, one: &Side, other: &Side) -> Result<Vec<u32>, AllocError>
     ensures { IfOk result (λ marks. marks.items ≡ crossed_marks one.now other.now) }
 {
-    Ok(
-        vec![in alloc; one.early, one.write, one.late, other.early, other.write, other.late]?,
-    )
+    Ok(vec![in alloc;
+        one.early,
+        one.write,
+        one.late,
+        other.early,
+        other.write,
+        other.late,
+    ]?)
 }
 
 /// A hit, and the latest write before it.

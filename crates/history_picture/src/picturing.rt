@@ -36,7 +36,8 @@ pub fn picture(alloc: Global, scene: &Scene<'_>, reason: &Reason) -> Result<Stri
     let body = drawing.body(alloc, scene, marks.as_slice(), shown.as_slice())?;
     let arrows = arrows(alloc, reason)?;
     let arrows = drawing.arrow_lines(alloc, scene, arrows.as_slice())?;
-    format!(in alloc; "{head}{body}{arrows}</svg>\n")
+    let text = format!(in alloc; "{head}{body}{arrows}</svg>\n")?;
+    Ok(text)
 }
 
 impl Drawing {
@@ -52,7 +53,8 @@ impl Drawing {
     {
         let rows = self.rows(alloc, scene)?;
         let bars = self.bars(alloc, scene, marks, shown)?;
-        format!(in alloc; "{rows}{bars}")
+        let text = format!(in alloc; "{rows}{bars}")?;
+        Ok(text)
     }
 
     /// The head of the picture, with its size and the sentence.
@@ -64,9 +66,10 @@ impl Drawing {
         let height = self.height();
         let wide = width.saturating_sub(32);
         let top = self.top;
-        format!(in alloc;
+        let text = format!(in alloc;
             "<svg xmlns=\"http://www.w3.org/2000/svg\" width=\"{width}\" height=\"{height}\" font-family=\"monospace\" font-size=\"13\">\n<defs><marker id=\"point\" viewBox=\"0 0 8 8\" refX=\"8\" refY=\"4\" markerWidth=\"7\" markerHeight=\"7\" orient=\"auto\"><path d=\"M 0 0 L 8 4 L 0 8 z\" fill=\"#b3261e\"/></marker></defs>\n<rect width=\"{width}\" height=\"{height}\" fill=\"#ffffff\"/>\n<foreignObject x=\"16\" y=\"6\" width=\"{wide}\" height=\"{top}\"><p xmlns=\"http://www.w3.org/1999/xhtml\" style=\"margin: 0\">{sentence}</p></foreignObject>\n"
-        )
+        )?;
+        Ok(text)
     }
 }
 

@@ -46,9 +46,7 @@ impl Scene<'_> {
         let call = self.told(alloc, position)?;
         format!(in alloc;
             "{} ends at {}, before it starts at {}",
-            call.name,
-            call.end,
-            call.start
+            call.name, call.end, call.start
         )
     }
 
@@ -62,22 +60,13 @@ impl Scene<'_> {
         let second = self.told(alloc, second)?;
         format!(in alloc;
             "{} ended at {}, before {} started at {}",
-            first.name,
-            first.end,
-            second.name,
-            second.start
+            first.name, first.end, second.name, second.start
         )
     }
 
     /// That a put was written over before a hit.
     #[tactic(auto, unfolding(crate::specs::Sentences::replaced_words))]
-    fn replaced(
-        &self,
-        alloc: Global,
-        hit: u32,
-        put: u32,
-        write: u32,
-    ) -> Result<String, AllocError>
+    fn replaced(&self, alloc: Global, hit: u32, put: u32, write: u32) -> Result<String, AllocError>
         ensures { IfOk result (λ text. string_bytes text
             ≡ replaced_words self.now.history.now self.now.lines.now hit put write) }
     {
@@ -86,8 +75,7 @@ impl Scene<'_> {
         let write = self.told(alloc, write)?;
         format!(in alloc;
             "{order}, which ended at {}, before the hit started at {}",
-            write.end,
-            hit.start
+            write.end, hit.start
         )
     }
 
@@ -101,9 +89,7 @@ impl Scene<'_> {
         let put = self.told(alloc, put)?;
         format!(in alloc;
             "{} expired at {}, and the hit was at moment {}",
-            put.name,
-            put.time,
-            hit.time
+            put.name, put.time, hit.time
         )
     }
 
@@ -131,16 +117,14 @@ impl Scene<'_> {
         }
         let told = self.told(alloc, hit)?;
         let also = self.also(alloc, hit, first_eight(puts))?;
-        format!(in alloc; "{} can have read none of the {many} puts of its value{also}", told.name)
+        format!(in alloc;
+            "{} can have read none of the {many} puts of its value{also}",
+            told.name
+        )
     }
 
     /// A hit whose key and value no call puts, or one put.
-    fn lone(
-        &self,
-        alloc: Global,
-        hit: u32,
-        put: Option<&Excluded>,
-    ) -> Result<String, AllocError>
+    fn lone(&self, alloc: Global, hit: u32, put: Option<&Excluded>) -> Result<String, AllocError>
         ensures { IfOk result (λ text. string_bytes text
             ≡ lone_words self.now.history.now self.now.lines.now hit (option_copied put.entry)) }
     {
@@ -189,8 +173,7 @@ impl Scene<'_> {
         let back = self.order(alloc, other.early, one.late)?;
         format!(in alloc;
             "{} and {} have no order: {forth}, so the first has to stand before the second; and {back}, so the second has to stand before the first",
-            first.name,
-            second.name
+            first.name, second.name
         )
     }
 
@@ -226,7 +209,10 @@ impl Scene<'_> {
     {
         let told = self.told(alloc, hit)?;
         let latest = self.latest(alloc, hit, latest)?;
-        format!(in alloc; "{} is wrong at place {place} of the certificate: {latest}", told.name)
+        format!(in alloc;
+            "{} is wrong at place {place} of the certificate: {latest}",
+            told.name
+        )
     }
 
     /// Which write is the latest before a hit.

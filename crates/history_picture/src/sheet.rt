@@ -25,11 +25,7 @@ pub struct Sheet {
 
 impl Sheet {
     /// The measures for the calls at these positions.
-    pub(crate) fn of(
-        alloc: Global,
-        scene: &Scene<'_>,
-        shown: &[u32],
-    ) -> Result<Sheet, AllocError> {
+    pub(crate) fn of(alloc: Global, scene: &Scene<'_>, shown: &[u32]) -> Result<Sheet, AllocError> {
         let mut sheet = Sheet {
             stamps: stamps_of(alloc, scene.history, shown)?,
             labels: 0,

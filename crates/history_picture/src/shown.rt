@@ -23,7 +23,9 @@ pub(crate) fn shown(
     if let Some(first) = marks.first() {
         push_nearest(alloc, history, *first, &mut shown, most)?;
     }
-    shown.as_mut_slice().sort_unstable_by_key(|position| start_of(history, *position));
+    shown
+        .as_mut_slice()
+        .sort_unstable_by_key(|position| start_of(history, *position));
     Ok(shown)
 }
 
