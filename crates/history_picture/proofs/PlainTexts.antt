@@ -1,8 +1,10 @@
 -- What is written is plain.
-use Rattle.std.proofs.Common.{◌≡◌, ℕ, ◌+◌, ◌-◌, ◌/◌, ◌%◌, ◌<◌, ◌≤◌, List, [], ◌∷◌, ◌++◌, Bool, true, false, ◌&&◌, refl, sym, ap, subst, ◌∙◌, arith, length, take, replicate, Option, Some, None}
+use Rattle.std.proofs.Common.{◌≡◌, ℕ, ◌+◌, ◌-◌, ◌/◌, ◌%◌, ◌<◌, ◌≤◌, List, [], ◌∷◌, ◌++◌, Bool, true, false, ◌&&◌, refl, sym, ap, subst, ◌∙◌, arith, length, take, get_or, replicate, Option, Some, None}
 use Rattle.std.specs.Prelude.{codes, ◌==◌, not, nat_lt, nat_le, slice_get, if◌then◌else◌}
 use Rattle.std.specs.List.{flat_map, list_any}
-use Rattle.std.specs.Str.{bytes_eq}
+use Rattle.std.specs.Str.{bytes_eq, IsAscii, IsCharBoundary}
+use Rattle.std.proofs.lemmas.List.Sums.{AllPass-from_list_all}
+use Rattle.std.proofs.lemmas.Str.Ascii.{IsAscii-from_all}
 use Rattle.std.specs.Fmt.{decimal}
 use Rattle.std.proofs.lemmas.Bool.Decides.{nat_tests}
 use Rattle.trace_file.specs.declared.act.Act.{Act}
@@ -52,6 +54,17 @@ plain_cut word p = plain_if (nat_le (length word) 24) _ _ p (plain_append _ _ (p
 
 pub plain_shown : (bytes : List ℕ) → IsPlain (shown_word bytes)
 plain_shown bytes = plain_cut (word_of bytes) (plain_word bytes)
+
+plain_small : (byte : ℕ) → is_plain byte ≡ true → byte < 128
+plain_small byte h = grind (arith, nat_tests)
+
+-- a plain text is ASCII
+pub ascii_plain : (text : List ℕ) → IsPlain text → IsAscii text
+ascii_plain text p = IsAscii-from_all text (λ k d less. plain_small (get_or text k d) (AllPass-from_list_all is_plain text p.each k d less))
+
+-- a plain text may be cut anywhere
+pub boundary_plain : (text : List ℕ) (at : ℕ) → IsPlain text → at ≤ length text → IsCharBoundary text at
+boundary_plain text at p within = (within, λ inside high. absurd (omega (arith, high, ascii_plain text p at)))
 
 kept_plain : (byte : ℕ) → (nat_lt 31 byte && nat_lt byte 127) ≡ true → is_plain byte ≡ true
 kept_plain byte h = rw h refl

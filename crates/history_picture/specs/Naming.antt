@@ -1,12 +1,11 @@
 -- How a sentence speaks of a call.
-use Rattle.std.specs.Prelude.{◌≡◌, ℕ, List, ◌++◌, codes, Option, Some, None, slice_get, string_bytes}
+use Rattle.std.specs.Prelude.{ℕ, List, ◌++◌, codes, Option, Some, None, slice_get}
 use Rattle.std.specs.Fmt.{decimal}
 use Rattle.trace_file.specs.Calls.{time_of}
 use Rattle.trace_file.specs.declared.act.Act.{Act}
 use Rattle.trace_file.specs.declared.act.Act.TheVariants.{Put, Remove, Hit, Miss}
 use Rattle.trace_file.specs.declared.call.Call.{Call}
 use Rattle.history_picture.specs.Coding.{shown_word}
-use Rattle.history_picture.specs.declared.told.Told.{Told}
 
 -- where a call was recorded: its line where it has one, else its position
 abbrev pub label_words : Option ℕ → ℕ → List ℕ
@@ -47,10 +46,3 @@ moment_of None = 0
 -- the call at a position, in words
 unfoldable pub name_of : List Call → List ℕ → ℕ → List ℕ
 name_of history lines position = call_words (slice_get history position) (label_of lines position)
-
--- what is told of the call at a position
-pub record IsTold (history : List Call) (lines : List ℕ) (position : ℕ) (told : Told) : Type 0 where
-  pub name : string_bytes told.name ≡ name_of history lines position
-  pub start : told.start ≡ start_of (slice_get history position)
-  pub end : told.end ≡ end_of (slice_get history position)
-  pub time : told.time ≡ moment_of (slice_get history position)

@@ -1,7 +1,9 @@
 // Bytes as they are shown.
-ghost use Rattle.std.specs.Prelude.{◌≡◌, ◌++◌, ◌<◌, IfOk, OnOk, string_bytes};
+ghost use Rattle.std.specs.Prelude.{◌≡◌, ◌<◌, [], ◌∷◌, ◌++◌, IfOk, OnOk, string_bytes, true};
+ghost use Rattle.std.specs.Fmt.{digit_glyph};
 ghost use Rattle.std.specs.List.{flat_map};
 ghost use Rattle.history_picture.specs.Coding.{code_of, cut_word, shown_word, word_of};
+ghost use Rattle.history_picture.specs.Plain.{IsPlain};
 
 use std::alloc::{AllocError, Global};
 
@@ -15,11 +17,25 @@ const CUT: usize = 22;
 pub(crate) fn coded(alloc: Global, bytes: &[u8]) -> Result<String, AllocError>
     ensures { IfOk result (λ word. string_bytes word ≡ shown_word bytes.now) }
 {
-    let mut word = word(alloc, bytes)?;
-    if word.len() > MOST {
-        word.truncate(CUT);
-        word.push_str("..")?;
+    let word = word(alloc, bytes)?;
+    match cut(word) {
+        Ok(word) => Ok(word),
+        Err(refused) => Err(refused),
     }
+}
+
+/// A word, cut to 24 characters.
+#[tactic(auto, unfolding(crate::specs::Coding::cut_word))]
+fn cut(word: String) -> Result<String, AllocError>
+    requires { IsPlain (string_bytes word) }
+    ensures { IfOk result (λ shown. string_bytes shown ≡ cut_word (string_bytes word)) }
+{
+    let mut word = word;
+    if word.len() <= MOST {
+        return Ok(word);
+    }
+    word.truncate(CUT);
+    word.push_str("..")?;
     Ok(word)
 }
 
@@ -53,7 +69,33 @@ fn push_code(word: &mut String, byte: u8) -> Result<(), AllocError>
     ensures { OnOk result (string_bytes word.new ≡ string_bytes word.old ++ code_of byte) }
 {
     if 32 < byte && byte < 127 && byte != b'%' {
-        return word.push(byte as char);
+        push_ascii(word, byte)?;
+        return Ok(());
     }
-    write!(word, "%{byte:02X}")
+    push_ascii(word, b'%')?;
+    push_ascii(word, hex_digit(byte / 16 % 16))?;
+    push_ascii(word, hex_digit(byte % 16))?;
+    Ok(())
+}
+
+/// The hex digit of a number below 16.
+fn hex_digit(number: u8) -> u8
+    requires { number < 16 }
+    ensures digit { result ≡ digit_glyph true number }
+    ensures ascii { result < 128 }
+{
+    if number < 10 {
+        b'0' + number
+    } else {
+        b'A' - 10 + number
+    }
+}
+
+/// Puts an ASCII character behind a text.
+pub(crate) fn push_ascii(text: &mut String, byte: u8) -> Result<(), AllocError>
+    requires { byte < 128 }
+    ensures { OnOk result (string_bytes text.new ≡ string_bytes text.old ++ byte ∷ []) }
+{
+    text.push(byte as char)?;
+    Ok(())
 }

@@ -3,6 +3,7 @@ ghost use Rattle.std.specs.Prelude.{◌≡◌, ◌++◌, IfOk, OnOk, string_byte
 ghost use Rattle.std.specs.List.{flat_map};
 ghost use Rattle.history_picture.specs.Escaping.{escape_of};
 
+use crate::coded::push_ascii;
 use std::alloc::{AllocError, Global};
 
 /// A text in which the signs that mean something in XML are escaped, and what is no printable ASCII is a question mark.
@@ -20,13 +21,23 @@ pub(crate) fn escaped(alloc: Global, text: &str) -> Result<String, AllocError>
 fn push_escaped(text: &mut String, byte: u8) -> Result<(), AllocError>
     ensures { OnOk result (string_bytes text.new ≡ string_bytes text.old ++ escape_of byte) }
 {
-    match byte {
-        b'&' => text.push_str("&amp;"),
-        b'<' => text.push_str("&lt;"),
-        b'>' => text.push_str("&gt;"),
-        b'"' => text.push_str("&quot;"),
-        b'\'' => text.push_str("&#39;"),
-        32..=126 => text.push(byte as char),
-        _ => text.push_str("?"),
+    if byte == b'&' {
+        return text.push_str("&amp;");
     }
+    if byte == b'<' {
+        return text.push_str("&lt;");
+    }
+    if byte == b'>' {
+        return text.push_str("&gt;");
+    }
+    if byte == b'"' {
+        return text.push_str("&quot;");
+    }
+    if byte == b'\'' {
+        return text.push_str("&#39;");
+    }
+    if 31 < byte && byte < 127 {
+        return push_ascii(text, byte);
+    }
+    text.push_str("?")
 }

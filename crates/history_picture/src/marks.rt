@@ -12,6 +12,7 @@ use std::alloc::{AllocError, Global};
 const MOST_PUTS: usize = 8;
 
 /// The first eight puts of a hit, which are told of.
+#[tactic(auto, using(std::proofs::lemmas::List::take_all))]
 pub(crate) fn first_eight(puts: &[Excluded]) -> &[Excluded]
     ensures { result.now ≡ take 8 puts.now }
 {

@@ -6,7 +6,7 @@ ghost use Rattle.history_picture.specs.Names.{names_of};
 ghost use Rattle.history_picture.specs.Rows.{act_name, back_text, caller_words, end_words, front_text, label_number, mark_words, row_text, times_text, value_words};
 
 use crate::blanks::{padded_left, padded_right};
-use crate::call_at::call_at;
+use crate::call_at::{call_at, line_at, name_at};
 use crate::coded::coded;
 use crate::columns::{NEVER_ENDED, bar};
 use crate::near::is_among;
@@ -24,10 +24,10 @@ pub(crate) fn caller_name(
     ensures { IfOk result (λ text. string_bytes text
         ≡ caller_words (slice_get (names_of scene.now.callers.now) caller) caller) }
 {
-    match scene.callers.get(caller as usize) {
-        Some(name) => coded(alloc, name.as_slice()),
-        None => caller.to_string(alloc),
-    }
+    let Some(name) = name_at(scene.callers, caller) else {
+        return caller.to_string(alloc);
+    };
+    coded(alloc, name)
 }
 
 /// The end of a call.
@@ -80,8 +80,8 @@ impl Scene<'_> {
     pub(crate) fn label_number(&self, position: u32) -> u32
         ensures { result ≡ label_number (slice_get self.now.lines.now position) position }
     {
-        match self.lines.get(position as usize) {
-            Some(line) => *line,
+        match line_at(self.lines, position) {
+            Some(line) => line,
             None => position,
         }
     }

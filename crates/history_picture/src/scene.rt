@@ -16,13 +16,20 @@ pub struct Scene<'a> {
 }
 
 impl Scene<'_> {
-    ghost use Rattle.std.specs.Prelude.{IfOk};
-    ghost use Rattle.history_picture.specs.Naming.{IsTold};
+    ghost use Rattle.std.specs.Prelude.{◌≡◌, IfOk, slice_get, string_bytes};
+    ghost use Rattle.history_picture.specs.Naming.{end_of, moment_of, name_of, start_of};
 
     /// What is told of the call at a position.
+    #[tactic(auto, unfolding(crate::specs::Naming::name_of))]
     pub(crate) fn told(&self, alloc: Global, position: u32) -> Result<Told, AllocError>
-        ensures { IfOk result (λ told.
-            IsTold self.now.history.now self.now.lines.now position told) }
+        ensures name { IfOk result (λ told. string_bytes told.name
+            ≡ name_of self.now.history.now self.now.lines.now position) }
+        ensures start { IfOk result (λ told.
+            told.start ≡ start_of (slice_get self.now.history.now position)) }
+        ensures end { IfOk result (λ told.
+            told.end ≡ end_of (slice_get self.now.history.now position)) }
+        ensures time { IfOk result (λ told.
+            told.time ≡ moment_of (slice_get self.now.history.now position)) }
     {
         let label = label(alloc, self.lines, position)?;
         let Some(call) = call_at(self.history, position) else {

@@ -3,6 +3,7 @@ ghost use Rattle.std.specs.Prelude.{◌≡◌, IfOk, string_bytes};
 ghost use Rattle.trace_file.specs.Lent.{act_shown};
 ghost use Rattle.history_picture.specs.Naming.{act_words, label_of};
 
+use crate::call_at::line_at;
 use crate::coded::coded;
 use std::alloc::{AllocError, Global};
 use trace_file::ActRef;
@@ -24,7 +25,7 @@ pub(crate) struct Told {
 pub(crate) fn label(alloc: Global, lines: &[u32], position: u32) -> Result<String, AllocError>
     ensures { IfOk result (λ label. string_bytes label ≡ label_of lines.now position) }
 {
-    match lines.get(position as usize) {
+    match line_at(lines, position) {
         Some(line) => format!(in alloc; "line {line}"),
         None => format!(in alloc; "position {position}"),
     }
