@@ -16,7 +16,7 @@ const SENTENCES: [&str; 10] = [
     "put %1B%25 (position 0) and put v2 (position 1) have no order: put %1B%25 (position 0) ended at 14, before put v2 (position 1) started at 16, so the first has to stand before the second; and put v2 (position 1) ended at 21, before the hit of %1B%25 (position 2) started at 25, so the second has to stand before the first",
     "the hit of %1B%25 (position 2) is wrong at place 2 of the certificate: the latest write of its key before it is put v2 (position 1)",
     "the hit of %1B%25 (position 2) is wrong at place 0 of the certificate: no write of its key stands before it",
-    "place 2 of the certificate is out of order: put %1B%25 (position 0) ended at 14, before the hit of %1B%25 (position 2) started at 25, and stands behind it",
+    "place 2 of the certificate is out of order: put %1B%25 (position 0) ended at 14, before put v2 (position 1) started at 16, and stands behind it",
     "place 1 of the certificate repeats put v2 (position 1)",
     "a call that is not there (position 7) ends at 0, before it starts at 0",
 ];

@@ -10,7 +10,7 @@ use trace_file::{Act, Call, History};
 
 /// What is said of a stale hit.
 const STALE: &str =
-    "the hit of %1B%25 (line 6) is stale: put %1B%25 (line 4) ended at 14, before put v2 (line 5) started at 16, which ended at 21, before the hit started at 25\n* 4  alice   0  14  put    %1B%25  [=]\n* 5  1      16  21  put    v2         [=]\n* 6  alice  25   -  hit    %1B%25        [=>\n";
+    "the hit of %1B%25 (line 6) is stale: put %1B%25 (line 4) ended at 14, before put v2 (line 5) started at 16, which ended at 21, before the hit started at 25\n* 4  alice   0  14  put    %1B%25  []\n* 5  1      16  21  put    v2        []\n* 6  alice  25   -  hit    %1B%25      [=>\n";
 
 /// A writer that fails.
 #[derive(Drop)]
