@@ -2,7 +2,7 @@ use Rattle.std.proofs.Common.{◌≡◌, take}
 use Rattle.std.specs.Prelude.{string_bytes}
 use Rattle.std.specs.List.{flat_map}
 use Rattle.history_picture.specs.Sentences.{also_words}
-use Rattle.history_picture.proofs.sentence.Scene.also.Given as goal
+use Rattle.history_picture.proofs.scene.Scene.also.Given as goal
 
 abbrev pub invariant-loop-put : goal.invariant-loop-put
 invariant-loop-put l =

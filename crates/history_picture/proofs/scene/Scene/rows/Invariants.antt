@@ -3,7 +3,7 @@ use Rattle.std.specs.Prelude.{string_bytes}
 use Rattle.std.specs.List.{flat_map}
 use Rattle.history_picture.specs.Names.{names_of}
 use Rattle.history_picture.specs.Rows.{row_text}
-use Rattle.history_picture.proofs.rows.Scene.rows.Given as goal
+use Rattle.history_picture.proofs.scene.Scene.rows.Given as goal
 
 abbrev pub invariant-loop-position : goal.invariant-loop-position
 invariant-loop-position l =
