@@ -1,4 +1,5 @@
 mod Choosing
+mod ExplainLaws
 mod Marking
 mod Placing
 mod PlainLaws

@@ -22,8 +22,8 @@ none_behind history certificate from below hit (inr over) = λ place position lo
 
 -- one place more, before the others, has no write of the key
 pub none_writes_more : (history : List Call) (certificate : List ℕ) (from below hit position : ℕ) → slice_get certificate from ≡ Some position → ¬ WritesKeyOf history hit position → NoneWrites history certificate (from + 1) below hit → NoneWrites history certificate from below hit
-none_writes_more history certificate from below hit position at no rest = λ place other low high found writes. elim (at_or_below from place low) [
-  | inl same ↦ no (subst (WritesKeyOf history hit) (same_some other position (sym found ∙ ap (slice_get certificate) (sym same) ∙ at)) writes)
+none_writes_more history certificate from below hit position at none rest = λ place other low high found writes. elim (at_or_below from place low) [
+  | inl same ↦ none (subst (WritesKeyOf history hit) (same_some other position (sym found ∙ ap (slice_get certificate) (sym same) ∙ at)) writes)
   | inr more ↦ rest place other more high found writes
 ]
 
@@ -33,8 +33,8 @@ none_before history certificate call = λ place position less at precedes. absur
 
 -- one place more is not preceded
 pub none_preceded_more : (history : List Call) (certificate : List ℕ) (below call position : ℕ) → slice_get certificate below ≡ Some position → ¬ PrecedesAt history call position → NonePreceded history certificate below call → NonePreceded history certificate (below + 1) call
-none_preceded_more history certificate below call position at no rest = λ place other less found precedes. elim (at_or_below place below (omega arith)) [
-  | inl same ↦ no (subst (PrecedesAt history call) (same_some other position (sym found ∙ ap (slice_get certificate) same ∙ at)) precedes)
+none_preceded_more history certificate below call position at none rest = λ place other less found precedes. elim (at_or_below place below (omega arith)) [
+  | inl same ↦ none (subst (PrecedesAt history call) (same_some other position (sym found ∙ ap (slice_get certificate) same ∙ at)) precedes)
   | inr more ↦ rest place other (omega (arith, more)) found precedes
 ]
 

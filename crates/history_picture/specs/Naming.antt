@@ -25,8 +25,8 @@ act_words Miss = codes "the miss"
 
 -- a call, if it is there, by what it did and where it was recorded
 abbrev pub call_words : Option Call → List ℕ → List ℕ
-call_words (Some call) label = (act_words call.act ++ codes " (") ++ label ++ codes ")"
-call_words None label = codes "a call that is not there (" ++ label ++ codes ")"
+call_words (Some call) label = act_words call.act ++ (codes " (" ++ (label ++ codes ")"))
+call_words None label = codes "a call that is not there (" ++ (label ++ codes ")")
 
 -- the start of a call, 0 of none
 abbrev pub start_of : Option Call → ℕ

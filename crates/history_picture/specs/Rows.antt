@@ -27,15 +27,15 @@ column stamps stamp = count_by (λ other. nat_lt other stamp) stamps
 -- the bar of a call that starts in a column and ends in another: a bar from the one to the other, where it ends before it starts a bar with its ends turned
 abbrev pub bar_between : ℕ → ℕ → List ℕ
 bar_between first last =
-    if nat_lt first last then replicate first 32 ++ codes "[" ++ replicate (last - first - 1) 61 ++ codes "]"
-    else (if nat_lt last first then replicate last 32 ++ codes "]" ++ replicate (first - last - 1) 61 ++ codes "["
+    if nat_lt first last then replicate first 32 ++ (codes "[" ++ (replicate (last - first - 1) 61 ++ codes "]"))
+    else (if nat_lt last first then replicate last 32 ++ (codes "]" ++ (replicate (first - last - 1) 61 ++ codes "["))
     else replicate first 32 ++ codes "|")
 
 -- the bar of a call, on and on where it never returned
 unfoldable pub bar_text : List ℕ → ℕ → ℕ → List ℕ
 bar_text stamps start end =
     if end == never_ended
-    then replicate (column stamps start) 32 ++ codes "[" ++ replicate (length stamps - column stamps start) 61 ++ codes ">"
+    then replicate (column stamps start) 32 ++ (codes "[" ++ (replicate (length stamps - column stamps start) 61 ++ codes ">"))
     else bar_between (column stamps start) (column stamps end)
 
 -- the number that tells where a call was recorded: its line where it has one, else its position
@@ -72,26 +72,25 @@ mark_words marks position = if list_any (λ mark. mark == position) marks then c
 
 -- the stamps of a call
 unfoldable pub times_text : Sheet → ℕ → ℕ → List ℕ
-times_text sheet start end = right sheet.starts (decimal start) ++ codes "  " ++ right sheet.ends (end_words end)
+times_text sheet start end = right sheet.starts (decimal start) ++ (codes "  " ++ right sheet.ends (end_words end))
 
 -- where a call was recorded, who made it, and its stamps
 unfoldable pub front_text : List ℕ → List (List ℕ) → Sheet → ℕ → Call → List ℕ
 front_text lines callers sheet position call =
-    right sheet.labels (decimal (label_number (slice_get lines position) position)) ++ codes "  "
-    ++ left sheet.callers (caller_words (slice_get callers call.caller) call.caller) ++ codes "  "
-    ++ times_text sheet call.start call.end
+    right sheet.labels (decimal (label_number (slice_get lines position) position)) ++ (codes "  "
+    ++ (left sheet.callers (caller_words (slice_get callers call.caller) call.caller) ++ (codes "  " ++ times_text sheet call.start call.end)))
 
 -- what a call did, and its bar
 unfoldable pub back_text : Sheet → Call → List ℕ
 back_text sheet call =
-    left 6 (act_name call.act) ++ codes " " ++ left sheet.values (value_words call.act) ++ codes "  "
-    ++ bar_text sheet.stamps.items call.start call.end
+    left 6 (act_name call.act) ++ (codes " " ++ (left sheet.values (value_words call.act) ++ (codes "  "
+    ++ bar_text sheet.stamps.items call.start call.end)))
 
 -- the line of a call, none of no call
 abbrev pub line_of : List ℕ → List (List ℕ) → List ℕ → Sheet → ℕ → Option Call → List ℕ
 line_of lines callers marks sheet position None = []
 line_of lines callers marks sheet position (Some call) =
-    mark_words marks position ++ front_text lines callers sheet position call ++ codes "  " ++ back_text sheet call ++ codes "\n"
+    mark_words marks position ++ (front_text lines callers sheet position call ++ (codes "  " ++ (back_text sheet call ++ codes "\n")))
 
 -- the line of the call at a position
 unfoldable pub row_text : List Call → List ℕ → List (List ℕ) → List ℕ → Sheet → ℕ → List ℕ

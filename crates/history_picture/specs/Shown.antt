@@ -26,5 +26,5 @@ pub record IsExplanation (history : List Call) (lines : List ℕ) (callers : Lis
   pub shown : List ℕ
   pub sheet : Sheet
   pub are_shown : AreShown history (marks_of reason) 24 shown
-  pub is : text ≡ (sentence_of history lines reason ++ codes "\n") ++ flat_map (row_text history lines callers (marks_of reason) sheet) shown
+  pub is : text ≡ sentence_of history lines reason ++ (codes "\n" ++ flat_map (row_text history lines callers (marks_of reason) sheet) shown)
   pub plain : IsPlain text
