@@ -1,13 +1,16 @@
 -- Taking up the calls that are shown.
 use Rattle.std.proofs.Common.{◌≡◌, ℕ, ◌+◌, ◌<◌, ◌≤◌, List, [], ◌∷◌, ◌++◌, ◌⊎◌, inl, inr, refl, sym, ap, subst, ◌∙◌, arith, length, map, take, get_or, Option, Some, None, length-append}
-use Rattle.std.specs.Prelude.{All, Contains, IsSomeAnd, slice_get}
+use Rattle.std.specs.Prelude.{All, Contains, IsSomeAnd, slice_get, slice_index_or, true, ◌==◌}
+use Rattle.std.specs.List.{list_any}
+use Rattle.std.proofs.lemmas.Bool.{eqb-true}
+use Rattle.std.proofs.lemmas.List.Folds.{Any-from_list_any}
 use Rattle.std.specs.List.Sorted.{IsPermutation}
 use Rattle.std.proofs.lemmas.List.{take_more, append-nil}
 use Rattle.std.proofs.lemmas.List.Elements.{All-nil, All-push, All-append, All-map, All-weaker, All-contains_itself, Contains-append_left, Contains-append_right, Contains-push}
 use Rattle.std.proofs.lemmas.List.Sorted.{All-permutation, Contains-permutation}
 use Rattle.trace_file.specs.declared.call.Call.{Call}
 use Rattle.history_picture.specs.declared.near.Near.{Near}
-use Rattle.history_picture.specs.Chosen.{AreAdded, AreChosen, HaveOneKey}
+use Rattle.history_picture.specs.Chosen.{AreAdded, AreChosen, HaveOneKey, IsTakenNew, IsTakenUp}
 use Rattle.history_picture.specs.Nearest.{IsOfKey, AreOfKey}
 use Rattle.history_picture.specs.Shown.{AreShown, MayBeShown}
 
@@ -60,18 +63,46 @@ added_none history first most old few = record {
   of_key = All-nil (λ position. HaveOneKey history position first);
 }
 
--- what was taken up and added is shown, in any order
-pub shown_sorted : (history : List Call) (marks old all new : List ℕ) (first most : ℕ) → AreChosen history marks old → slice_get marks 0 ≡ Some first → AreAdded history first most old all → IsPermutation all new → length new ≡ length all → AreShown history marks most new
-shown_sorted history marks old all new first most c at a p same = record {
-  few = omega (arith, a.few, same);
-  marked = All-weaker (λ m. m < length history → Contains old m) (λ m. m < length history → Contains new m) (λ m h less. Contains-permutation all new m p (subst (λ xs. Contains xs m) (sym a.is) (Contains-append_left old a.added m (h less)))) marks c.marked;
-  each = All-permutation (MayBeShown history marks) all new p (subst (All (MayBeShown history marks)) (sym a.is) (All-append (MayBeShown history marks) old a.added (All-weaker (Contains marks) (MayBeShown history marks) (λ x h. inl h) old c.each) (All-weaker (λ x. HaveOneKey history x first) (MayBeShown history marks) (λ x h. inr (rw at h)) a.added a.of_key)));
+-- a position that is found is there
+pub among : (xs : List ℕ) (x : ℕ) → list_any (λ one. one == x) xs ≡ true → Contains xs x
+among xs x h =
+    let found = Any-from_list_any (λ one. one == x) xs h in
+    (found.0, found.2, subst (λ z. slice_index_or xs found.0 z ≡ z) (eqb-true found.1 x found.4) found.3)
+
+-- a position that has a call was looked at
+pub new_is_up : (history : List Call) (mark : ℕ) (old new : List ℕ) → IsTakenNew mark old new → IsTakenUp history mark old new
+new_is_up history mark old new (inl (has, same)) = inl ((λ less. has), same)
+new_is_up history mark old new (inr more) = inr more
+
+-- a position without a call was looked at
+pub none_is_up : (history : List Call) (mark : ℕ) (old : List ℕ) → length history ≤ mark → IsTakenUp history mark old old
+none_is_up history mark old beyond = inl ((λ less. absurd (omega (arith, less, beyond))), refl)
+
+-- the next position was looked at
+pub taken_more : (history : List Call) (marks old new : List ℕ) (i : ℕ) → i < length marks → AreChosen history (take i marks) old → IsTakenUp history (get_or marks i 0) old new → AreChosen history (take (i + 1) marks) new
+taken_more history marks old new i less c (inl (has, same)) = subst (AreChosen history (take (i + 1) marks)) (sym same) (kept_more history marks old i less has c)
+taken_more history marks old new i less c (inr more) = subst (AreChosen history (take (i + 1) marks)) (sym more) (chosen_more history marks old i less c)
+
+-- what was taken up and added is shown
+pub shown_added : (history : List Call) (marks old all : List ℕ) (first most : ℕ) → AreChosen history marks old → slice_get marks 0 ≡ Some first → AreAdded history first most old all → AreShown history marks most all
+shown_added history marks old all first most c at a = record {
+  few = a.few;
+  marked = All-weaker (λ m. m < length history → Contains old m) (λ m. m < length history → Contains all m) (λ m h less. subst (λ xs. Contains xs m) (sym a.is) (Contains-append_left old a.added m (h less))) marks c.marked;
+  each = subst (All (MayBeShown history marks)) (sym a.is) (All-append (MayBeShown history marks) old a.added (All-weaker (Contains marks) (MayBeShown history marks) (λ x h. inl h) old c.each) (All-weaker (λ x. HaveOneKey history x first) (MayBeShown history marks) (λ x h. inr (rw at h)) a.added a.of_key));
 }
 
--- what was taken up is shown, in any order
-pub shown_alone : (history : List Call) (marks old new : List ℕ) (most : ℕ) → length marks ≤ most → AreChosen history marks old → IsPermutation old new → length new ≡ length old → AreShown history marks most new
-shown_alone history marks old new most room c p same = record {
-  few = omega (arith, c.few, same);
-  marked = All-weaker (λ m. m < length history → Contains old m) (λ m. m < length history → Contains new m) (λ m h less. Contains-permutation old new m p (h less)) marks c.marked;
-  each = All-permutation (MayBeShown history marks) old new p (All-weaker (Contains marks) (MayBeShown history marks) (λ x h. inl h) old c.each);
+-- what was taken up is shown
+pub shown_alone : (history : List Call) (marks old : List ℕ) (most : ℕ) → length marks ≤ most → AreChosen history marks old → AreShown history marks most old
+shown_alone history marks old most room c = record {
+  few = omega (arith, c.few, room);
+  marked = c.marked;
+  each = All-weaker (Contains marks) (MayBeShown history marks) (λ x h. inl h) old c.each;
+}
+
+-- in another order the same are shown
+pub shown_sorted : (history : List Call) (marks old new : List ℕ) (most : ℕ) → AreShown history marks most old → IsPermutation old new → length new ≡ length old → AreShown history marks most new
+shown_sorted history marks old new most a p same = record {
+  few = omega (arith, a.few, same);
+  marked = All-weaker (λ m. m < length history → Contains old m) (λ m. m < length history → Contains new m) (λ m h less. Contains-permutation old new m p (h less)) marks a.marked;
+  each = All-permutation (MayBeShown history marks) old new p a.each;
 }

@@ -4,3 +4,4 @@ mod Marking
 mod Placing
 mod PlainLaws
 mod PlainTexts
+mod SentenceLaws

@@ -23,7 +23,7 @@ use Rattle.history_picture.specs.Coding.{is_bare, percent, code_of, word_of, cut
 use Rattle.history_picture.specs.Escaping.{escape_of}
 use Rattle.history_picture.specs.Naming.{label_words, label_of, act_words, call_words, name_of, start_of, end_of, moment_of}
 use Rattle.history_picture.specs.Plain.{IsPlain, is_plain}
-use Rattle.history_picture.specs.Rows.{left, right, never_ended, column, bar_between, bar_text, end_words, caller_words, act_name, value_words, mark_words, times_text, front_text, back_text, line_of, row_text}
+use Rattle.history_picture.specs.Rows.{label_number, left, right, never_ended, column, bar_between, bar_text, end_words, caller_words, act_name, value_words, mark_words, times_text, front_text, back_text, line_of, row_text}
 use Rattle.history_picture.specs.Sentences.{order_words, replaced_words, expired_words, excuse_words, hit_kind, also_words, lone_words, hit_words, crossed_words, interval_words, out_of_order_words, latest_words, wrong_hit_words, repeated_words, sentence_of}
 use Rattle.history_picture.proofs.PlainLaws.{plain_lit, plain_nil, plain_append, plain_cons, plain_take, plain_replicate, plain_flat_map, glyph_plain, plain_decimal}
 

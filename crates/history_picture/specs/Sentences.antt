@@ -57,7 +57,7 @@ unfoldable pub hit_words : List Call → List ℕ → ℕ → List Excluded → 
 hit_words history lines hit puts =
     if nat_lt 1 (length puts)
     then name_of history lines hit ++ (codes " can have read none of the " ++ (decimal (length puts) ++ (codes " puts of its value"
-        ++ flat_map (also_words history lines hit) (take 8 puts))))
+    ++ flat_map (also_words history lines hit) (take 8 puts))))
     else lone_words history lines hit (slice_get puts 0)
 
 -- two writes, each of which has to stand before the other

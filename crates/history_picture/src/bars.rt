@@ -4,7 +4,7 @@ ghost use Rattle.history_picture.specs.Plain.{IsPlain};
 
 use crate::arrows::Arrow;
 use crate::call_at::call_at;
-use crate::drawing::{BAR, Drawing};
+use crate::drawing::{BAR, Drawing, place};
 use crate::escaped::escaped;
 use crate::near::is_among;
 use crate::rows::{act_word, end_text, value_text};
@@ -78,8 +78,9 @@ impl Drawing {
             .max(6);
         let top = self.row(call.caller);
         let colour = colour_of(&call.act, marked);
+        let place = place(alloc, start, top, width, BAR)?;
         let text = format!(in alloc;
-            "{word}<rect x=\"{start}\" y=\"{top}\" width=\"{width}\" height=\"{BAR}\" rx=\"3\" fill=\"{colour}\" stroke=\"#444444\"><title>{title}</title></rect>\n"
+            "{word}<rect {place} rx=\"3\" fill=\"{colour}\" stroke=\"#444444\"><title>{title}</title></rect>\n"
         )?;
         Ok(text)
     }
@@ -93,9 +94,8 @@ impl Drawing {
         let act = act_word(&call.act);
         let start = self.at(call.start);
         let top = self.row(call.caller).saturating_sub(BAR);
-        let text = format!(in alloc;
-            "<svg x=\"{start}\" y=\"{top}\" width=\"{room}\" height=\"{BAR}\"><text y=\"12\">{act} {value}</text></svg>\n"
-        )?;
+        let place = place(alloc, start, top, room, BAR)?;
+        let text = format!(in alloc; "<svg {place}><text y=\"12\">{act} {value}</text></svg>\n")?;
         Ok(text)
     }
 
@@ -151,8 +151,10 @@ fn curve(
 {
     let behind = first.saturating_add(BEND);
     let before = last.saturating_sub(BEND);
+    let from = format!(in alloc; "M {first} {top} C {behind} {top}")?;
+    let to = format!(in alloc; "{before} {bottom} {last} {bottom}")?;
     let text = format!(in alloc;
-        "<path d=\"M {first} {top} C {behind} {top} {before} {bottom} {last} {bottom}\" fill=\"none\" stroke=\"#b3261e\" stroke-width=\"2\" marker-end=\"url(#point)\"/>\n"
+        "<path d=\"{from} {to}\" fill=\"none\" stroke=\"#b3261e\" stroke-width=\"2\" marker-end=\"url(#point)\"/>\n"
     )?;
     Ok(text)
 }

@@ -144,12 +144,34 @@ impl Drawing {
         let top = self.row(caller);
         let middle = top.saturating_add(BAR / 2);
         let base = top.saturating_add(BAR - 4);
-        let width = self.width;
+        let line = line(alloc, middle, self.width)?;
         let text = format!(in alloc;
-            "<path d=\"M {EDGE} {middle} H {width}\" stroke=\"#e4e4e4\"/>\n<text x=\"{EDGE}\" y=\"{base}\" stroke=\"#ffffff\" stroke-width=\"6\" paint-order=\"stroke\">{name}</text>\n"
+            "{line}<text x=\"16\" y=\"{base}\" stroke=\"#ffffff\" stroke-width=\"6\" paint-order=\"stroke\">{name}</text>\n"
         )?;
         Ok(text)
     }
+}
+
+/// A line across.
+fn line(alloc: Global, top: usize, width: usize) -> Result<String, AllocError>
+    ensures { IfOk result (λ text. IsPlain (string_bytes text)) }
+{
+    let text = format!(in alloc; "<path d=\"M 16 {top} H {width}\" stroke=\"#e4e4e4\"/>\n")?;
+    Ok(text)
+}
+
+/// Where an element lies, and how large it is.
+pub(crate) fn place(
+    alloc: Global,
+    left: usize,
+    top: usize,
+    width: usize,
+    height: usize,
+) -> Result<String, AllocError>
+    ensures { IfOk result (λ text. IsPlain (string_bytes text)) }
+{
+    let text = format!(in alloc; "x=\"{left}\" y=\"{top}\" width=\"{width}\" height=\"{height}\"")?;
+    Ok(text)
 }
 
 /// The callers of the calls at these positions, each once.

@@ -5,7 +5,7 @@ ghost use Rattle.history_picture.specs.Plain.{IsPlain};
 ghost use Rattle.history_picture.specs.Written.{BeganPlain, WrotePlain};
 
 use crate::arrows::arrows;
-use crate::drawing::Drawing;
+use crate::drawing::{Drawing, place};
 use crate::escaped::escaped;
 use crate::explain_fault::ExplainFault;
 use crate::marks::marks;
@@ -64,10 +64,9 @@ impl Drawing {
     {
         let width = self.width;
         let height = self.height();
-        let wide = width.saturating_sub(32);
-        let top = self.top;
+        let place = place(alloc, 16, 6, width.saturating_sub(32), self.top)?;
         let text = format!(in alloc;
-            "<svg xmlns=\"http://www.w3.org/2000/svg\" width=\"{width}\" height=\"{height}\" font-family=\"monospace\" font-size=\"13\">\n<defs><marker id=\"point\" viewBox=\"0 0 8 8\" refX=\"8\" refY=\"4\" markerWidth=\"7\" markerHeight=\"7\" orient=\"auto\"><path d=\"M 0 0 L 8 4 L 0 8 z\" fill=\"#b3261e\"/></marker></defs>\n<rect width=\"{width}\" height=\"{height}\" fill=\"#ffffff\"/>\n<foreignObject x=\"16\" y=\"6\" width=\"{wide}\" height=\"{top}\"><p xmlns=\"http://www.w3.org/1999/xhtml\" style=\"margin: 0\">{sentence}</p></foreignObject>\n"
+            "<svg xmlns=\"http://www.w3.org/2000/svg\" width=\"{width}\" height=\"{height}\" font-family=\"monospace\" font-size=\"13\">\n<defs><marker id=\"point\" viewBox=\"0 0 8 8\" refX=\"8\" refY=\"4\" markerWidth=\"7\" markerHeight=\"7\" orient=\"auto\"><path d=\"M 0 0 L 8 4 L 0 8 z\" fill=\"#b3261e\"/></marker></defs>\n<rect width=\"100%\" height=\"100%\" fill=\"#ffffff\"/>\n<foreignObject {place}><p xmlns=\"http://www.w3.org/1999/xhtml\" style=\"margin: 0\">{sentence}</p></foreignObject>\n"
         )?;
         Ok(text)
     }

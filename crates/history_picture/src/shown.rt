@@ -1,7 +1,7 @@
 // Which calls are shown.
 ghost use Rattle.std.specs.Prelude.{◌≡◌, ◌≤◌, ◌++◌, IfOk, OnOk, length, map};
 ghost use Rattle.history_picture.specs.Shown.{AreShown};
-ghost use Rattle.history_picture.specs.Chosen.{AreAdded, AreChosen};
+ghost use Rattle.history_picture.specs.Chosen.{AreAdded, AreChosen, IsTakenNew, IsTakenUp};
 
 use crate::call_at::call_at;
 use crate::near::{Near, is_among, nearest};
@@ -19,13 +19,26 @@ pub(crate) fn shown(
     requires { length marks.now ≤ most }
     ensures { IfOk result (λ shown. AreShown history.now marks.now most shown.items) }
 {
+    let mut shown = taken(alloc, history, marks, most)?;
+    shown.sort_unstable_by_key(|position| start_of(history, *position));
+    Ok(shown)
+}
+
+/// The same, in any order.
+fn taken(
+    alloc: Global,
+    history: &History,
+    marks: &[u32],
+    most: usize,
+) -> Result<Vec<u32>, AllocError>
+    requires { length marks.now ≤ most }
+    ensures { IfOk result (λ shown. AreShown history.now marks.now most shown.items) }
+{
     let mut shown = marked(alloc, history, marks)?;
-    if let Some(first) = marks.first() {
-        push_nearest(alloc, history, *first, &mut shown, most)?;
-    }
-    shown
-        .as_mut_slice()
-        .sort_unstable_by_key(|position| start_of(history, *position));
+    let Some(first) = marks.first() else {
+        return Ok(shown);
+    };
+    push_nearest(alloc, history, *first, &mut shown, most)?;
     Ok(shown)
 }
 
@@ -35,11 +48,32 @@ fn marked(alloc: Global, history: &History, marks: &[u32]) -> Result<Vec<u32>, A
 {
     let mut shown: Vec<u32> = Vec::new(alloc);
     for mark in marks {
-        if (*mark as usize) < history.len() && !is_among(shown.as_slice(), *mark) {
-            shown.push(*mark)?;
-        }
+        take_up(history, &mut shown, *mark)?;
     }
     Ok(shown)
+}
+
+/// Takes a position up, if it has a call and was not taken up before.
+fn take_up(history: &History, shown: &mut Vec<u32>, mark: u32) -> Result<(), AllocError>
+    ensures { OnOk result (IsTakenUp history.now mark shown.old.items shown.new.items) }
+{
+    if (mark as usize) < history.len() {
+        take_new(shown, mark)?;
+        return Ok(());
+    }
+    Ok(())
+}
+
+/// Takes a position up, if it was not taken up before.
+fn take_new(shown: &mut Vec<u32>, mark: u32) -> Result<(), AllocError>
+    ensures { OnOk result (IsTakenNew mark shown.old.items shown.new.items) }
+{
+    let has = is_among(shown.as_slice(), mark);
+    if has {
+        return Ok(());
+    }
+    shown.push(mark)?;
+    Ok(())
 }
 
 /// Puts the calls that are nearest to a call, of its key, behind those that are shown.
@@ -58,7 +92,8 @@ fn push_nearest(
     };
     let room = most.saturating_sub(shown.len());
     let near = nearest(alloc, history, &call, shown.as_slice(), room)?;
-    push_all(shown, near.as_slice())
+    push_all(shown, near.as_slice())?;
+    Ok(())
 }
 
 /// Puts positions behind others.
