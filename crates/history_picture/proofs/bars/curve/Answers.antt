@@ -24,23 +24,8 @@ returns c =
     (plain_append (codes " ") _ (plain_lit (codes " ") refl)
     (plain_decimal c.args.bottom))))))) in
     subst IsPlain (sym c.in_ok-text.ensures.ok)
-    (plain_lit (codes "
-    )?;
-    Ok(text)
-}
-
-/// All that is told of a call.
-fn title(
-    alloc: Global,
-    scene: &Scene<'_>,
-    position: u32,
-    call: &CallRef<'_>,
-) -> Result<String, AllocError>
-    ensures { IfOk result (λ text. IsPlain (string_bytes text)) }
-{
-    let label = label(alloc, scene.lines, position)?;
-    let act = act_text(alloc, &call.act)?;
-    let act = escaped(alloc, act.as_str())?;
-    let end = end_text(alloc, call.end)?;
-    let start = call.start;
-    let text = format!(in alloc; ") refl)
+    (plain_append (codes "<path d=\"") _ (plain_lit (codes "<path d=\"") refl)
+    (plain_append _ _ (from)
+    (plain_append (codes " ") _ (plain_lit (codes " ") refl)
+    (plain_append _ _ (to)
+    (plain_lit (codes "\" fill=\"none\" stroke=\"#b3261e\" stroke-width=\"2\" marker-end=\"url(#point)\"/>\n") refl)))))

@@ -8,16 +8,9 @@ use Rattle.history_picture.proofs.drawing.Drawing.caller_row.Goals as goal
 pub returns : goal.returns
 returns c =
     subst IsPlain (sym c.in_ok-text.ensures.ok)
-    (plain_append (codes "<path d=\"M ") _ (plain_lit (codes "<path d=\"M ") refl)
-    (plain_append _ _ (plain_decimal 16)
-    (plain_append (codes " ") _ (plain_lit (codes " ") refl)
-    (plain_append _ _ (plain_decimal c.saturating_add-middle.result)
-    (plain_append (codes " H ") _ (plain_lit (codes " H ") refl)
-    (plain_append _ _ (plain_decimal c.args.self.now.width)
-    (plain_append (codes "\" stroke=\"#e4e4e4\"/>\n<text x=\"") _ (plain_lit (codes "\" stroke=\"#e4e4e4\"/>\n<text x=\"") refl)
-    (plain_append _ _ (plain_decimal 16)
-    (plain_append (codes "\" y=\"") _ (plain_lit (codes "\" y=\"") refl)
+    (plain_append _ _ c.in_ok-line.ensures
+    (plain_append (codes "<text x=\"16\" y=\"") _ (plain_lit (codes "<text x=\"16\" y=\"") refl)
     (plain_append _ _ (plain_decimal c.saturating_add-base.result)
     (plain_append (codes "\" stroke=\"#ffffff\" stroke-width=\"6\" paint-order=\"stroke\">") _ (plain_lit (codes "\" stroke=\"#ffffff\" stroke-width=\"6\" paint-order=\"stroke\">") refl)
     (plain_append _ _ (plain_of (string_bytes c.in_ok-name-2.name) _ c.in_ok-name-2.ensures (plain_escaped c.as_str.result.now))
-    (plain_lit (codes "</text>\n") refl)))))))))))))
+    (plain_lit (codes "</text>\n") refl))))))

@@ -11,14 +11,8 @@ returns c =
     (plain_append _ _ (plain_decimal c.args.self.now.width)
     (plain_append (codes "\" height=\"") _ (plain_lit (codes "\" height=\"") refl)
     (plain_append _ _ (plain_decimal c.height-height.result)
-    (plain_append (codes "\" font-family=\"monospace\" font-size=\"13\">\n<defs><marker id=\"point\" viewBox=\"0 0 8 8\" refX=\"8\" refY=\"4\" markerWidth=\"7\" markerHeight=\"7\" orient=\"auto\"><path d=\"M 0 0 L 8 4 L 0 8 z\" fill=\"#b3261e\"/></marker></defs>\n<rect width=\"") _ (plain_lit (codes "\" font-family=\"monospace\" font-size=\"13\">\n<defs><marker id=\"point\" viewBox=\"0 0 8 8\" refX=\"8\" refY=\"4\" markerWidth=\"7\" markerHeight=\"7\" orient=\"auto\"><path d=\"M 0 0 L 8 4 L 0 8 z\" fill=\"#b3261e\"/></marker></defs>\n<rect width=\"") refl)
-    (plain_append _ _ (plain_decimal c.args.self.now.width)
-    (plain_append (codes "\" height=\"") _ (plain_lit (codes "\" height=\"") refl)
-    (plain_append _ _ (plain_decimal c.height-height.result)
-    (plain_append (codes "\" fill=\"#ffffff\"/>\n<foreignObject x=\"16\" y=\"6\" width=\"") _ (plain_lit (codes "\" fill=\"#ffffff\"/>\n<foreignObject x=\"16\" y=\"6\" width=\"") refl)
-    (plain_append _ _ (plain_decimal c.saturating_sub-wide.result)
-    (plain_append (codes "\" height=\"") _ (plain_lit (codes "\" height=\"") refl)
-    (plain_append _ _ (plain_decimal c.args.self.now.top)
-    (plain_append (codes "\"><p xmlns=\"http://www.w3.org/1999/xhtml\" style=\"margin: 0\">") _ (plain_lit (codes "\"><p xmlns=\"http://www.w3.org/1999/xhtml\" style=\"margin: 0\">") refl)
+    (plain_append (codes "\" font-family=\"monospace\" font-size=\"13\">\n<defs><marker id=\"point\" viewBox=\"0 0 8 8\" refX=\"8\" refY=\"4\" markerWidth=\"7\" markerHeight=\"7\" orient=\"auto\"><path d=\"M 0 0 L 8 4 L 0 8 z\" fill=\"#b3261e\"/></marker></defs>\n<rect width=\"100%\" height=\"100%\" fill=\"#ffffff\"/>\n<foreignObject ") _ (plain_lit (codes "\" font-family=\"monospace\" font-size=\"13\">\n<defs><marker id=\"point\" viewBox=\"0 0 8 8\" refX=\"8\" refY=\"4\" markerWidth=\"7\" markerHeight=\"7\" orient=\"auto\"><path d=\"M 0 0 L 8 4 L 0 8 z\" fill=\"#b3261e\"/></marker></defs>\n<rect width=\"100%\" height=\"100%\" fill=\"#ffffff\"/>\n<foreignObject ") refl)
+    (plain_append _ _ c.in_ok-place.ensures
+    (plain_append (codes "><p xmlns=\"http://www.w3.org/1999/xhtml\" style=\"margin: 0\">") _ (plain_lit (codes "><p xmlns=\"http://www.w3.org/1999/xhtml\" style=\"margin: 0\">") refl)
     (plain_append _ _ c.requires
-    (plain_lit (codes "</p></foreignObject>\n") refl)))))))))))))))
+    (plain_lit (codes "</p></foreignObject>\n") refl)))))))))

@@ -1,23 +1,17 @@
 use Rattle.std.proofs.Common.{refl, sym, subst}
 use Rattle.std.specs.Prelude.{codes, string_bytes}
 use Rattle.history_picture.specs.Plain.{IsPlain}
-use Rattle.history_picture.proofs.PlainLaws.{plain_append, plain_decimal, plain_lit}
+use Rattle.history_picture.proofs.PlainLaws.{plain_append, plain_lit}
 use Rattle.history_picture.proofs.PlainTexts.{plain_act_name, plain_escaped, plain_of}
 use Rattle.history_picture.proofs.drawing.Drawing.word.Goals as goal
 
 pub returns : goal.returns
 returns c =
     subst IsPlain (sym c.in_ok-text.ensures.ok)
-    (plain_append (codes "<svg x=\"") _ (plain_lit (codes "<svg x=\"") refl)
-    (plain_append _ _ (plain_decimal c.at-start.result)
-    (plain_append (codes "\" y=\"") _ (plain_lit (codes "\" y=\"") refl)
-    (plain_append _ _ (plain_decimal c.saturating_sub-top.result)
-    (plain_append (codes "\" width=\"") _ (plain_lit (codes "\" width=\"") refl)
-    (plain_append _ _ (plain_decimal c.args.room)
-    (plain_append (codes "\" height=\"") _ (plain_lit (codes "\" height=\"") refl)
-    (plain_append _ _ (plain_decimal 16)
-    (plain_append (codes "\"><text y=\"12\">") _ (plain_lit (codes "\"><text y=\"12\">") refl)
+    (plain_append (codes "<svg ") _ (plain_lit (codes "<svg ") refl)
+    (plain_append _ _ c.in_ok-place.ensures
+    (plain_append (codes "><text y=\"12\">") _ (plain_lit (codes "><text y=\"12\">") refl)
     (plain_append _ _ (plain_of c.act_word-act.result.now _ c.act_word-act.ensures (plain_act_name _))
     (plain_append (codes " ") _ (plain_lit (codes " ") refl)
     (plain_append _ _ (plain_of (string_bytes c.in_ok-value-2.value) _ c.in_ok-value-2.ensures (plain_escaped c.as_str.result.now))
-    (plain_lit (codes "</text></svg>\n") refl)))))))))))))
+    (plain_lit (codes "</text></svg>\n") refl)))))))
