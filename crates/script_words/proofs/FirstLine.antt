@@ -4,7 +4,7 @@ use Rattle.std.proofs.lemmas.Bool.{cases_Bool}
 use Rattle.std.proofs.lemmas.List.{drop_min}
 use borrow.Author.Tests.{lt-ltb, ltb-true, ltb-false}
 use Rattle.memchr.specs.Find.{Nowhere, NoneBefore, Passes, is_byte}
-use Rattle.script_words.specs.Lines.{Ahead, Takes, first_line, after_line, feeds, is_ready}
+use Rattle.script_words.specs.Lines.{Ahead, TakesWithin, first_line, after_line, feeds, is_ready_within}
 use Rattle.script_words.specs.declared.line_read.LineRead.TheVariants.{Line}
 
 pub first_taken : (bytes : List ℕ) → take (length (first_line bytes)) bytes ≡ first_line bytes
@@ -49,15 +49,15 @@ unfed (b ∷ bs) all = elim (cases_Bool (eqb b 10)) [
       rw other (unfed bs (omega (arith, rest)))
 ]
 
-few_enough : (n : ℕ) → n ≤ 4096 → nat_lt 4096 n ≡ false
-few_enough n less = elim (cases_Bool (nat_lt 4096 n)) [
-  | inl holds ↦ let more = ltb-true 4096 n holds in absurd (omega (arith, less, more))
+pub few_enough : (most n : ℕ) → n ≤ most → nat_lt most n ≡ false
+few_enough most n less = elim (cases_Bool (nat_lt most n)) [
+  | inl holds ↦ let more = ltb-true most n holds in absurd (omega (arith, less, more))
   | inr fails ↦ fails
 ]
 
 -- a line that is neither too long nor the last is whole by its line feed
-pub ready_by_feed : (bytes : List ℕ) (over : Bool) (line : ℕ) → line ≡ length (first_line bytes) → over ≡ false → length bytes ≤ 4096 → nat_lt line (length bytes) ≡ is_ready (record { bytes = bytes; over = over })
-ready_by_feed bytes over line is going few = elim (cases_Bool (nat_lt 0 (feeds bytes))) [
+pub ready_by_feed : (most : ℕ) (bytes : List ℕ) (over : Bool) (line : ℕ) → line ≡ length (first_line bytes) → over ≡ false → length bytes ≤ most → nat_lt line (length bytes) ≡ is_ready_within most (record { bytes = bytes; over = over })
+ready_by_feed most bytes over line is going few = elim (cases_Bool (nat_lt 0 (feeds bytes))) [
   | inl some ↦
       let more : 0 < feeds bytes = ltb-true 0 (feeds bytes) some in
       let less : line < length bytes = elim (cases_Bool (nat_lt line (length bytes))) [
@@ -66,7 +66,7 @@ ready_by_feed bytes over line is going few = elim (cases_Bool (nat_lt 0 (feeds b
             let none = unfed bytes (omega (arith, is, ltb-false line (length bytes) fails)) in
             absurd (omega (arith, more, none))
       ] in
-      rw (lt-ltb line (length bytes) less, going, few_enough (length bytes) few, some) refl
+      rw (lt-ltb line (length bytes) less, going, few_enough most (length bytes) few, some) refl
   | inr none ↦
       let same : nat_lt line (length bytes) ≡ false = elim (cases_Bool (nat_lt line (length bytes))) [
         | inl holds ↦
@@ -74,7 +74,7 @@ ready_by_feed bytes over line is going few = elim (cases_Bool (nat_lt 0 (feeds b
             absurd (omega (arith, more, ltb-false 0 (feeds bytes) none))
         | inr fails ↦ fails
       ] in
-      rw (same, going, few_enough (length bytes) few, none) refl
+      rw (same, going, few_enough most (length bytes) few, none) refl
 ]
 
 pub all_other : (bytes : List ℕ) → Nowhere (Passes (is_byte 10) bytes) 0 (length bytes) → length bytes ≡ length (first_line bytes)
@@ -110,8 +110,8 @@ abbrev pub ahead_of : List ℕ → Bool → Ahead
 ahead_of bytes over = record { bytes = bytes; over = over }
 
 -- what was taken is the first line, and what is left stands behind it
-pub takes : (old : Ahead) (items ahead line : List ℕ) (at len to : ℕ) (over : Bool) → to ≡ min (at + len + 1) (length items) → ahead_of (drop at items) over ≡ old → ahead ≡ old.bytes → (ahead ≡ [] → ⊥) → len ≡ length (first_line ahead) → len ≤ 4096 → line ≡ take len ahead → Takes old Line line (ahead_of (drop to items) over)
-takes old items ahead line at len to over through is same some long few taken =
+pub takes : (most : ℕ) (old : Ahead) (items ahead line : List ℕ) (at len to : ℕ) (over : Bool) → to ≡ min (at + len + 1) (length items) → ahead_of (drop at items) over ≡ old → ahead ≡ old.bytes → (ahead ≡ [] → ⊥) → len ≡ length (first_line ahead) → len ≤ most → line ≡ take len ahead → TakesWithin most old Line line (ahead_of (drop to items) over)
+takes most old items ahead line at len to over through is same some long few taken =
     let here : drop at items ≡ old.bytes = ap (λ (a : Ahead). a.bytes) is in
     let goes : over ≡ old.over = ap (λ (a : Ahead). a.over) is in
     let whole : line ≡ first_line old.bytes = taken ∙ ap (λ n. take n ahead) long ∙ first_taken ahead ∙ ap first_line same in

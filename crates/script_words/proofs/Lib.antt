@@ -1,3 +1,4 @@
 pub mod Numerals
 pub mod FirstLine
 pub mod Taken
+pub mod NextLine

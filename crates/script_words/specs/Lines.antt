@@ -1,5 +1,5 @@
 -- The lines of a script, the bytes that were read ahead of them, and what taking a line gives.
-use Rattle.std.specs.Prelude.{◌≡◌, ◌≢◌, ℕ, suc, ◌<◌, ◌≤◌, Bool, ◌||◌, List, [], ◌∷◌, length, ◌==◌, nat_lt, if◌then◌else◌}
+use Rattle.std.specs.Prelude.{◌≡◌, ◌≢◌, ℕ, suc, ◌<◌, ◌≤◌, Bool, ◌||◌, List, [], ◌∷◌, length, ◌==◌, nat_lt, if◌then◌else◌, Option, Some}
 use Rattle.std.specs.List.{onto_first}
 use Rattle.script_words.specs.declared.line_read.LineRead.{LineRead}
 use Rattle.script_words.specs.declared.line_read.LineRead.TheVariants.{Line, TooLong, End}
@@ -29,12 +29,25 @@ pub record Ahead : Type 0 where
   pub bytes : List ℕ
   pub over : Bool
 
--- the next line can be judged: it is whole, too long, or the last
-abbrev pub is_ready : Ahead → Bool
-is_ready ahead = ahead.over || nat_lt 4096 (length ahead.bytes) || nat_lt 0 (feeds ahead.bytes)
+-- the next line can be judged, where a line has at most so many bytes: it is whole, too long, or the last
+abbrev pub is_ready_within : ℕ → Ahead → Bool
+is_ready_within most ahead = ahead.over || nat_lt most (length ahead.bytes) || nat_lt 0 (feeds ahead.bytes)
 
--- the first line was taken, it has more than 4,096 bytes, or there is none
+-- the first line was taken, it has more bytes than a line may have, or there is none
+abbrev pub TakesWithin : ℕ → Ahead → LineRead → List ℕ → Ahead → Type 0
+TakesWithin most old Line line new = (old.bytes ≢ []) × (line ≡ first_line old.bytes) × (length line ≤ most) × (new ≡ record { bytes = after_line old.bytes; over = old.over })
+TakesWithin most old TooLong line new = (most < length (first_line old.bytes)) × (new ≡ old)
+TakesWithin most old End line new = (old.bytes ≡ []) × (new ≡ old)
+
+-- what taking a line gives of all bytes that are left: the first line and what is behind it, that it is too long, or that there is none
+abbrev pub GivesNext : ℕ → List ℕ → LineRead → List ℕ → Option (List ℕ) → Type 0
+GivesNext most bytes Line line rest = (bytes ≢ []) × (line ≡ first_line bytes) × (rest ≡ Some (after_line bytes)) × (length line ≤ most)
+GivesNext most bytes TooLong line rest = (bytes ≢ []) × (most < length (first_line bytes))
+GivesNext most bytes End line rest = bytes ≡ []
+
+-- the same of a script, whose lines have at most 4,096 bytes
+abbrev pub is_ready : Ahead → Bool
+is_ready ahead = is_ready_within 4096 ahead
+
 abbrev pub Takes : Ahead → LineRead → List ℕ → Ahead → Type 0
-Takes old Line line new = (old.bytes ≢ []) × (line ≡ first_line old.bytes) × (length line ≤ 4096) × (new ≡ record { bytes = after_line old.bytes; over = old.over })
-Takes old TooLong line new = (4096 < length (first_line old.bytes)) × (new ≡ old)
-Takes old End line new = (old.bytes ≡ []) × (new ≡ old)
+Takes old read line new = TakesWithin 4096 old read line new

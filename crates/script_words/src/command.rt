@@ -2,7 +2,7 @@
 ghost use Rattle.std.specs.Prelude.{◌≡◌, ◌<◌, ◌≤◌, length, slice_index_or, [], List, map, IfOk, option_map};
 ghost use Rattle.script_words.specs.Commands.{is_named, key_of, value_of, get_words, put_words, bare_of, command_of_words, command_of};
 
-use crate::words::{number, time, words};
+use crate::words::{number, time, words_in};
 use record_pages::{Key, KeyFault, NEVER, Value, ValueFault};
 use std::alloc::{AllocError, Global};
 
@@ -145,7 +145,7 @@ fn command_of_words(alloc: Global, words: &[&[u8]]) -> Result<Option<Command>, A
 pub fn parse_command(alloc: Global, line: &[u8]) -> Result<Option<Command>, AllocError>
     ensures { IfOk result (λ command. command ≡ command_of line.now) }
 {
-    match words(line) {
+    match words_in(line) {
         Some(words) => match command_of_words(alloc, &words) {
             Ok(command) => Ok(command),
             Err(refused) => Err(refused),

@@ -3,7 +3,7 @@ ghost use Rattle.std.specs.Prelude.{◌≡◌, ◌<◌, length, map, slice_index
 ghost use Rattle.script_words.specs.Configs.{number_at, config_of_words, config_of};
 
 use crate::command::is_named;
-use crate::words::{number, words};
+use crate::words::{number, words_in};
 use record_pages::Config;
 
 /// The number that one of the words writes.
@@ -38,7 +38,7 @@ fn config_of_words(words: &[&[u8]]) -> Option<Config>
 pub fn parse_config(line: &[u8]) -> Option<Config>
     ensures { result ≡ config_of line.now }
 {
-    match words(line) {
+    match words_in(line) {
         Some(words) => config_of_words(&words),
         None => None,
     }

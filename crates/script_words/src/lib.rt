@@ -13,3 +13,4 @@ pub use config_line::parse_config;
 pub use line_read::LineRead;
 pub use read_ahead::{MAX_LINE_LEN, ReadAhead};
 pub use read_line_fault::ReadLineFault;
+pub use words::{MAX_WORDS, time, words_in};

@@ -3,9 +3,9 @@
 /// What a read of a line gave.
 #[derive(Clone, Copy, Debug, PartialEq, Eq)]
 pub enum LineRead {
-    /// A line of at most `MAX_LINE_LEN` bytes.
+    /// A line, not too long.
     Line,
-    /// More than `MAX_LINE_LEN` bytes with no line feed.
+    /// More bytes than a line may have, with no line feed.
     TooLong,
     /// The input is at its end.
     End,

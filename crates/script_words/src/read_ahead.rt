@@ -1,7 +1,7 @@
 // The bytes of a script that were read and not yet taken, and the lines in them.
 ghost use Rattle.std.specs.Prelude.{◌≡◌, ◌+◌, ◌-◌, ◌<◌, ◌≤◌, ◌⊎◌, true, false, [], length, take, drop, IfOk, OnOk, OnErr, vec_len};
 ghost use Rattle.std.specs.Io.KnownBytes.{Keeps, Consumes, IsAtEnd, prepend_known};
-ghost use Rattle.script_words.specs.Lines.{first_line, is_ready, Takes};
+ghost use Rattle.script_words.specs.Lines.{first_line, is_ready_within, TakesWithin};
 
 use crate::line_read::LineRead;
 use crate::read_line_fault::ReadLineFault;
@@ -10,35 +10,36 @@ use std::alloc::{AllocError, Global};
 use std::io::Read;
 use std::marker::Model;
 
-/// The most bytes of a line, without its line feed.
+/// The most bytes of a script's line, without its line feed.
 pub const MAX_LINE_LEN: usize = 4096;
 
 /// How many bytes one read asks for.
 const READ_LEN: usize = 4096;
 
-/// The bytes that were read and not yet taken as lines, at most 8,192. One value belongs to one reader.
+/// The bytes that were read and not yet taken as lines, of at most `LINE` bytes each without its line feed. It holds at most
+/// `LINE` and 4,096 bytes. One value belongs to one reader.
 #[derive(Drop)]
-pub struct ReadAhead {
+pub struct ReadAhead<const LINE: usize> {
     bytes: Vec<u8>,
     // how many of the bytes are taken
     at: usize,
     over: bool,
 }
 
-impl Model for ReadAhead {
-    ghost use Rattle.std.specs.Prelude.{◌≤◌, drop, vec_len};
+impl<const LINE: usize> Model for ReadAhead<LINE> {
+    ghost use Rattle.std.specs.Prelude.{◌≤◌, ◌+◌, drop, vec_len};
     ghost use Rattle.script_words.specs.Lines.{Ahead};
 
     ghost Value = { Ahead };
 
     ghost view = { λ r. record { bytes = drop r.at r.bytes.items; over = r.over } };
 
-    ghost invariant = { λ r. (r.at ≤ vec_len r.bytes) × (vec_len r.bytes ≤ 8192) };
+    ghost invariant = { λ r. (r.at ≤ vec_len r.bytes) × (vec_len r.bytes ≤ LINE + 4096) };
 }
 
-impl ReadAhead {
+impl<const LINE: usize> ReadAhead<LINE> {
     /// Nothing was read yet. It takes memory at its first read.
-    pub fn new(alloc: Global) -> ReadAhead
+    pub fn new(alloc: Global) -> ReadAhead<LINE>
         ensures { result ≡ record { bytes = []; over = false } }
     {
         ReadAhead {
@@ -51,7 +52,7 @@ impl ReadAhead {
     /// The bytes.
     fn ahead(&self) -> &[u8]
         ensures value { result.now ≡ self.now.bytes }
-        ensures few { length result.now ≤ 8192 }
+        ensures few { length result.now ≤ LINE + 4096 }
     {
         let bytes = self.bytes.as_slice();
         &bytes[self.at..]
@@ -59,17 +60,17 @@ impl ReadAhead {
 
     /// Whether the next line can be taken with no further read.
     pub fn is_ready(&self) -> bool
-        ensures ready { result ≡ is_ready self.now }
-        ensures few { length self.now.bytes ≤ 8192 }
+        ensures ready { result ≡ is_ready_within LINE self.now }
+        ensures few { length self.now.bytes ≤ LINE + 4096 }
     {
         let ahead = self.ahead();
-        self.over || ahead.len() > MAX_LINE_LEN || line_len(ahead) < ahead.len()
+        self.over || ahead.len() > LINE || line_len(ahead) < ahead.len()
     }
 
     /// Reads once more. A reader that gives nothing is at its end.
     pub fn fill<R: Read>(&mut self, reader: &mut R) -> Result<(), ReadLineFault>
-        requires { length self.old.bytes ≤ 4096 }
-        ensures few { length self.new.bytes ≤ 8192 }
+        requires { length self.old.bytes ≤ LINE }
+        ensures few { length self.new.bytes ≤ LINE + 4096 }
         ensures kept { Keeps (prepend_known self.old.bytes (R.remaining reader.old))
             (prepend_known self.new.bytes (R.remaining reader.new)) }
         ensures more { OnOk result ((length self.old.bytes < length self.new.bytes) ⊎ (self.new.over ≡ true)) }
@@ -89,9 +90,9 @@ impl ReadAhead {
 
     /// Takes the next line into `line`, without its line feed.
     pub fn take_line(&mut self, line: &mut Vec<u8>) -> Result<LineRead, AllocError>
-        requires { is_ready self.old ≡ true }
-        ensures room { OnOk result (vec_len line.new ≤ 4096) }
-        ensures takes { IfOk result (λ read. Takes self.old read line.new.items self.new) }
+        requires { is_ready_within LINE self.old ≡ true }
+        ensures room { OnOk result (vec_len line.new ≤ LINE) }
+        ensures takes { IfOk result (λ read. TakesWithin LINE self.old read line.new.items self.new) }
         ensures err { OnErr result (self.new ≡ self.old) }
     {
         line.clear();
@@ -100,7 +101,7 @@ impl ReadAhead {
             return Ok(LineRead::End);
         }
         let len = line_len(ahead);
-        if len > MAX_LINE_LEN {
+        if len > LINE {
             return Ok(LineRead::TooLong);
         }
         line.extend_from_slice(&ahead[..len])?;
@@ -133,8 +134,7 @@ fn remove_front(bytes: &mut Vec<u8>, count: usize)
 
 /// Reads once, behind these bytes, and says how many came.
 fn read_behind<R: Read>(reader: &mut R, bytes: &mut Vec<u8>) -> Result<usize, ReadLineFault>
-    requires { vec_len bytes.old ≤ 4096 }
-    ensures few { vec_len bytes.new ≤ 8192 }
+    ensures few { vec_len bytes.new ≤ vec_len bytes.old + 4096 }
     ensures front { take (vec_len bytes.old) bytes.new.items ≡ bytes.old.items }
     ensures len { IfOk result (λ n. vec_len bytes.new ≡ vec_len bytes.old + n) }
     ensures read { IfOk result (λ n. Consumes (R.remaining reader.old) (R.remaining reader.new)

@@ -7,7 +7,7 @@ ghost use Rattle.script_words.specs.Words.{is_word, words_of, are_digits, is_num
 use arrayvec::ArrayVec;
 
 /// The most words of a line that spells something: `config` and eight numbers.
-const MAX_WORDS: usize = 9;
+pub const MAX_WORDS: usize = 9;
 
 /// The most digits of a number below 2 ^ 64.
 const MAX_DIGITS: usize = 20;
@@ -34,7 +34,7 @@ fn are_words(parts: &[&[u8]]) -> bool
 }
 
 /// The words of a line that has at most `MAX_WORDS` of them. It takes no memory.
-pub(crate) fn words<'a>(line: &'a [u8]) -> Option<ArrayVec<&'a [u8], MAX_WORDS>>
+pub fn words_in<'a>(line: &'a [u8]) -> Option<ArrayVec<&'a [u8], MAX_WORDS>>
     ensures words { IfSome result (λ words. words_of line.now ≡ Some (map (λ w. w.now) words.items)) }
     ensures none { IfNone result (IfSome (words_of line.now) (λ words. 9 < length words)) }
 {
@@ -84,7 +84,7 @@ pub(crate) fn number(word: &[u8]) -> Option<u32>
 }
 
 /// The moment that a word writes, a number of 64 bits.
-pub(crate) fn time(word: &[u8]) -> Option<u64>
+pub fn time(word: &[u8]) -> Option<u64>
     ensures value { result ≡ time_of word.now }
     ensures digits { IfSome result (λ n. word.now ≡ decimal n) }
 {

@@ -15,16 +15,11 @@ use Rattle.scripts.specs.declared.scripted.Scripted.{Scripted}
 use Rattle.scripts.specs.declared.scripted.Scripted.TheVariants.{Ended, BadLine}
 use Rattle.scripts.specs.declared.turn.Turn.{Turn}
 use Rattle.scripts.specs.declared.turn.Turn.TheVariants.{GoesOn, Ends}
-use Rattle.script_words.specs.Lines.{Ahead, Takes, lines_of, first_line, after_line, feeds, is_ready}
+use Rattle.script_words.specs.Lines.{Ahead, GivesNext, Takes, lines_of, first_line, after_line, feeds, is_ready}
+use Rattle.script_words.proofs.NextLine.{next_lines, feeds-append, through, through_after, one_feed, fed_line, unfed_line, ready_line, reads}
 use Rattle.scripts.specs.Own.{Opened}
 use Rattle.scripts.specs.Script.{LineReply, Transcript, bad_line, reply_to_line, reply_to_read, transcript, script_of, then_rest, by_turn, IsWhole, WroteAt, WroteWholeLines, WroteLinesBefore}
 use Rattle.scripts.specs.Reading.{Answers, Moves}
-
--- what a read of a line gives: the first line of the bytes, one that is too long, or none
-abbrev pub Reads : List ℕ → LineRead → List ℕ → Option (List ℕ) → Type 0
-Reads bytes Line line rest = (bytes ≢ []) × (line ≡ first_line bytes) × (rest ≡ Some (after_line bytes)) × (length line ≤ 4096)
-Reads bytes TooLong line rest = (bytes ≢ []) × (4096 < length (first_line bytes))
-Reads bytes End line rest = bytes ≡ []
 
 -- the lines so far, their bytes and what they wrote; the rest writes what is left of the whole
 pub record Stands (page : ℕ) (bytes rest : List ℕ) (over : Bool) (start now : Option (List ℕ)) (number : ℕ) (lane : Option Opened) : Type 0 where
@@ -49,122 +44,6 @@ pub record Ran (page : ℕ) (all unread : Option (List ℕ)) (ahead : Ahead) (st
   pub few : number ≤ 4294967296
   pub over : ahead.over ≡ true → IsAtEnd unread
   pub known : IfSome all (Left page unread ahead start now number lane)
-
--- ---- lines
-
-one_line : (b : ℕ) (bs : List ℕ) → onto_first b (lines_of bs) ≡ (b ∷ first_line bs) ∷ lines_of (after_line bs) → lines_of (b ∷ bs) ≡ first_line (b ∷ bs) ∷ lines_of (after_line (b ∷ bs))
-one_line b bs h = elim (cases_Bool (eqb b 10)) [ inl feed ↦ rw feed refl | inr other ↦ rw other h ]
-
-onto_next : (b : ℕ) (bs : List ℕ) → onto_first b (lines_of bs) ≡ (b ∷ first_line bs) ∷ lines_of (after_line bs)
-onto_next b [] = refl
-onto_next b (c ∷ cs) = ap (onto_first b) (one_line c cs (onto_next c cs))
-
-next_lines : (bytes : List ℕ) → bytes ≢ [] → lines_of bytes ≡ first_line bytes ∷ lines_of (after_line bytes)
-next_lines [] some = absurd (some refl)
-next_lines (b ∷ bs) some = one_line b bs (onto_next b bs)
-
--- ---- line feeds
-
-feeds-append : (xs ys : List ℕ) → feeds (xs ++ ys) ≡ feeds xs + feeds ys
-feeds-append [] ys = omega arith
-feeds-append (x ∷ xs) ys = elim (cases_Bool (eqb x 10)) [
-  | inl feed ↦ let rest = feeds-append xs ys in rw feed (omega (arith, rest))
-  | inr other ↦ rw other (feeds-append xs ys)
-]
-
--- the first line with its line feed
-abbrev through : List ℕ → List ℕ
-through [] = []
-through (b ∷ bs) = if eqb b 10 then b ∷ [] else b ∷ through bs
-
-through_after : (bytes : List ℕ) → bytes ≡ through bytes ++ after_line bytes
-through_after [] = refl
-through_after (b ∷ bs) = elim (cases_Bool (eqb b 10)) [
-  | inl feed ↦ rw feed refl
-  | inr other ↦ rw other (ap (λ zs. b ∷ zs) (through_after bs))
-]
-
-one_feed : (bytes : List ℕ) → 0 < feeds bytes → feeds (through bytes) ≡ 1
-one_feed [] some = absurd (omega (arith, some))
-one_feed (b ∷ bs) some = elim (cases_Bool (eqb b 10)) [
-  | inl feed ↦ rw (feed, feed) refl
-  | inr other ↦ let rest : 0 < feeds bs = rw other at some in rw (other, other) (one_feed bs rest)
-]
-
--- a line that ends at a line feed is the same, whatever comes behind
-fed_line : (xs ys : List ℕ) → 0 < feeds xs → (first_line (xs ++ ys) ≡ first_line xs) × (after_line (xs ++ ys) ≡ after_line xs ++ ys)
-fed_line [] ys some = absurd (omega (arith, some))
-fed_line (b ∷ bs) ys some = elim (cases_Bool (eqb b 10)) [
-  | inl feed ↦ rw feed (refl, refl)
-  | inr other ↦
-      let rest : 0 < feeds bs = rw other at some in
-      let more = fed_line bs ys rest in
-      rw other (ap (λ zs. b ∷ zs) more.0, more.1)
-]
-
-unfed_line : (xs : List ℕ) → feeds xs ≡ 0 → first_line xs ≡ xs
-unfed_line [] none = refl
-unfed_line (b ∷ bs) none = elim (cases_Bool (eqb b 10)) [
-  | inl feed ↦ let bad : suc (feeds bs) ≡ 0 = rw feed at none in absurd (omega (arith, bad))
-  | inr other ↦
-      let rest : feeds bs ≡ 0 = rw other at none in rw other (ap (λ zs. b ∷ zs) (unfed_line bs rest))
-]
-
-longer_line : (xs ys : List ℕ) → length (first_line xs) ≤ length (first_line (xs ++ ys))
-longer_line [] ys = omega arith
-longer_line (b ∷ bs) ys = elim (cases_Bool (eqb b 10)) [
-  | inl feed ↦ rw feed (omega arith)
-  | inr other ↦ let rest = longer_line bs ys in rw other (omega (arith, rest))
-]
-
--- a line that was taken ends at a line feed, or it is the last
-ready_line : (ahead : Ahead) → is_ready ahead ≡ true → length (first_line ahead.bytes) ≤ 4096 → (0 < feeds ahead.bytes) ⊎ (ahead.over ≡ true)
-ready_line ahead ready short = elim (cases_Bool ahead.over) [
-  | inl over ↦ inr over
-  | inr going ↦ elim (cases_Bool (ltb 0 (feeds ahead.bytes))) [
-    | inl some ↦ inl (ltb-true 0 (feeds ahead.bytes) some)
-    | inr none ↦
-        let unfed : feeds ahead.bytes ≡ 0 = omega (arith, ltb-false 0 (feeds ahead.bytes) none) in
-        let all = ap length (unfed_line ahead.bytes unfed) in
-        elim (cases_Bool (ltb 4096 (length ahead.bytes))) [
-          | inl long ↦
-              let more = ltb-true 4096 (length ahead.bytes) long in absurd (omega (arith, all, more, short))
-          | inr fits ↦ let bad : false ≡ true = rw (going, fits, none) at ready in cc
-        ]
-  ]
-]
-
-empty_front : (xs ys : List ℕ) → xs ++ ys ≡ [] → xs ≡ []
-empty_front [] ys none = refl
-empty_front (x ∷ xs) ys none = cc
-
-over_at_end : (bytes : List ℕ) (over : Bool) → bytes ≡ [] → is_ready (record { bytes = bytes; over = over }) ≡ true → over ≡ true
-over_at_end [] true none ready = refl
-over_at_end [] false none ready = cc
-over_at_end (b ∷ bs) over none ready = cc
-
--- what was taken of the bytes read ahead is what all that is left begins with
-pub reads : (ahead new : Ahead) (rest line : List ℕ) (read : LineRead) → is_ready ahead ≡ true → (ahead.over ≡ true → rest ≡ []) → Takes ahead read line new → Reads (ahead.bytes ++ rest) read line (Some (new.bytes ++ rest))
-reads ahead new rest line Line ready last takes =
-    let some : ahead.bytes ++ rest ≢ [] = λ none. takes.0 (empty_front ahead.bytes rest none) in
-    let left : new.bytes ++ rest ≡ after_line ahead.bytes ++ rest = ap (λ (a : Ahead). a.bytes ++ rest) takes.3 in
-    elim (ready_line ahead ready (omega (arith, ap length takes.1, takes.2))) [
-      | inl fed ↦
-          let both = fed_line ahead.bytes rest fed in
-          (some, takes.1 ∙ sym both.0, ap Some (left ∙ sym both.1), takes.2)
-      | inr over ↦
-          let none = last over in
-          let all : ahead.bytes ++ rest ≡ ahead.bytes = ap (λ zs. ahead.bytes ++ zs) none ∙ append-nil ahead.bytes in
-          let behind : after_line ahead.bytes ++ rest ≡ after_line ahead.bytes = ap (λ zs. after_line ahead.bytes ++ zs) none ∙ append-nil (after_line ahead.bytes) in
-          (some, takes.1 ∙ sym (ap first_line all), ap Some (left ∙ behind ∙ sym (ap after_line all)), takes.2)
-    ]
-reads ahead new rest line TooLong ready last takes =
-    let longer = longer_line ahead.bytes rest in
-    let long : 4096 < length (first_line (ahead.bytes ++ rest)) = omega (arith, takes.0, longer) in
-    (λ none. let bad = ap (λ zs. length (first_line zs)) none in absurd (omega (arith, bad, long)), long)
-reads ahead new rest line End ready last takes =
-    let over : ahead.over ≡ true = over_at_end ahead.bytes ahead.over takes.0 ready in
-    ap (λ zs. zs ++ rest) takes.0 ∙ last over
 
 -- ---- known bytes
 
@@ -236,7 +115,7 @@ stop text turn tail ending whole is ends = record {
   wrote = ap (λ (t : Transcript). concat t.replies) is ∙ ap (λ (x : Turn). text ++ concat (by_turn x tail).replies) ends ∙ append-nil text;
 }
 
-stops : (page number : ℕ) (lane : Option Opened) (read : LineRead) (rest line : List ℕ) (new : Option (List ℕ)) (ending : Scripted) → Reads rest read line new → (reply_to_read page number lane read line).turn ≡ Ends ending → Stops (transcript page number lane (lines_of rest)) (reply_to_read page number lane read line).text ending
+stops : (page number : ℕ) (lane : Option Opened) (read : LineRead) (rest line : List ℕ) (new : Option (List ℕ)) (ending : Scripted) → GivesNext 4096 rest read line new → (reply_to_read page number lane read line).turn ≡ Ends ending → Stops (transcript page number lane (lines_of rest)) (reply_to_read page number lane read line).text ending
 stops page number lane Line rest line new ending h ends =
     let r = reply_to_line page number lane line in
     stop r.text r.turn (transcript page (number + 1) r.opened (lines_of (after_line rest))) ending _ (step page number lane rest h.0 r (ap (reply_to_line page number lane) (sym h.1))) ends
@@ -258,7 +137,7 @@ pub record Goes (rest : Transcript) (text : List ℕ) (tail : Transcript) : Type
   pub replies : rest.replies ≡ text ∷ tail.replies
   pub ending : rest.ending ≡ tail.ending
 
-goes : (page number : ℕ) (lane : Option Opened) (read : LineRead) (rest line : List ℕ) (new : Option (List ℕ)) → Reads rest read line new → (reply_to_read page number lane read line).turn ≡ GoesOn → (new ≡ Some (after_line rest)) × Goes (transcript page number lane (lines_of rest)) (reply_to_read page number lane read line).text (transcript page (number + 1) (reply_to_read page number lane read line).opened (lines_of (after_line rest)))
+goes : (page number : ℕ) (lane : Option Opened) (read : LineRead) (rest line : List ℕ) (new : Option (List ℕ)) → GivesNext 4096 rest read line new → (reply_to_read page number lane read line).turn ≡ GoesOn → (new ≡ Some (after_line rest)) × Goes (transcript page number lane (lines_of rest)) (reply_to_read page number lane read line).text (transcript page (number + 1) (reply_to_read page number lane read line).opened (lines_of (after_line rest)))
 goes page number lane Line rest line new h on =
     let r = reply_to_line page number lane line in
     let is = step page number lane rest h.0 r (ap (reply_to_line page number lane) (sym h.1)) in
@@ -335,7 +214,7 @@ line_goes page number lane TooLong line on = let bad : Ends BadLine ≡ GoesOn =
 line_goes page number None End line on = let bad : Ends BadLine ≡ GoesOn = on in cc
 line_goes page number (Some lane) End line on = let bad : Ends Ended ≡ GoesOn = on in cc
 
-goes_some : (page number : ℕ) (lane : Option Opened) (read : LineRead) (line rest : List ℕ) (new : Option (List ℕ)) → Reads rest read line new → (reply_to_read page number lane read line).turn ≡ GoesOn → rest ≢ []
+goes_some : (page number : ℕ) (lane : Option Opened) (read : LineRead) (line rest : List ℕ) (new : Option (List ℕ)) → GivesNext 4096 rest read line new → (reply_to_read page number lane read line).turn ≡ GoesOn → rest ≢ []
 goes_some page number lane Line line rest new h on = h.0
 goes_some page number lane TooLong line rest new h on = h.0
 goes_some page number None End line rest new h on = let bad : Ends BadLine ≡ GoesOn = on in cc
@@ -343,7 +222,7 @@ goes_some page number (Some lane) End line rest new h on = let bad : Ends Ended 
 
 -- where more may come, a line that was taken ended at a line feed
 whole_line : (ahead new : Ahead) (rest line : List ℕ) (read : LineRead) → is_ready ahead ≡ true → Takes ahead read line new → read ≡ Line → ahead.over ≡ false → 0 < feeds (ahead.bytes ++ rest)
-whole_line ahead new rest line Line ready takes is going = elim (ready_line ahead ready (omega (arith, ap length takes.1, takes.2))) [
+whole_line ahead new rest line Line ready takes is going = elim (ready_line 4096 ahead ready (omega (arith, ap length takes.1, takes.2))) [
   | inl fed ↦ omega (arith, fed, feeds-append ahead.bytes rest)
   | inr over ↦ let bad : true ≡ false = sym over ∙ going in cc
 ]
@@ -410,7 +289,7 @@ module _ {page : ℕ} {all unread : Option (List ℕ)} {ahead : Ahead} {start no
   ends new after next ending ready a = if_known all (Left page unread ahead start now number lane) (λ bytes. IsWhole start after ending (script_of page bytes)) (λ bytes h.
       let s = h.2 in
       let rest = ahead.bytes ++ h.0 in
-      let got = reads ahead new h.0 a.line a.read ready (λ over. at_end unread h.0 h.1 (ran.over over)) a.takes in
+      let got = reads 4096 ahead new h.0 a.line a.read ready (λ over. at_end unread h.0 h.1 (ran.over over)) a.takes in
       let stopped = stops page number lane a.read rest a.line (Some (new.bytes ++ h.0)) ending got (sym a.turn_is) in
       let text = (reply_to_read page number lane a.read a.line).text in
       let tail = transcript page number lane (lines_of rest) in
@@ -429,7 +308,7 @@ module _ {page : ℕ} {all unread : Option (List ℕ)} {ahead : Ahead} {start no
         let s = h.2 in
         let rest = ahead.bytes ++ h.0 in
         let r = reply_to_read page number lane a.read a.line in
-        let got = reads ahead new h.0 a.line a.read ready (λ over. at_end unread h.0 h.1 (ran.over over)) a.takes in
+        let got = reads 4096 ahead new h.0 a.line a.read ready (λ over. at_end unread h.0 h.1 (ran.over over)) a.takes in
         let on = goes page number lane a.read rest a.line (Some (new.bytes ++ h.0)) got (sym a.turn_is) in
         let behind : after_line rest ≡ new.bytes ++ h.0 = let same : Some (new.bytes ++ h.0) ≡ Some (after_line rest) = on.0 in cc in
         let is_line = line_goes page number lane a.read a.line (sym a.turn_is) in

@@ -18,7 +18,7 @@ use crate::script_lane::ScriptLane;
 use crate::scripted::Scripted;
 use crate::turn::Turn;
 use record_pages::{Config, Field};
-use script_words::{LineRead, ReadAhead, parse_command, parse_config};
+use script_words::{LineRead, MAX_LINE_LEN, ReadAhead, parse_command, parse_config};
 use std::alloc::{AllocError, Global};
 use std::hash::{BuildHasher, BuildHasherDefault, FoldHasher};
 use std::io::{Read, Write};
@@ -206,7 +206,7 @@ fn tell<W: Write>(writer: &mut W, is_told: &mut bool) -> Result<(), ScriptFault>
 fn make_ready<R: Read, W: Write>(
     reader: &mut R,
     writer: &mut W,
-    ahead: &mut ReadAhead,
+    ahead: &mut ReadAhead<MAX_LINE_LEN>,
     is_told: &mut bool,
 ) -> Result<(), ScriptFault>
     ensures ready { OnOk result (is_ready ahead.new ≡ true) }
@@ -228,7 +228,7 @@ fn answer_next<const PAGE: usize, S: BuildHasher + Drop, W: Write>(
     alloc: Global,
     hash_builder: S,
     number: u64,
-    ahead: &mut ReadAhead,
+    ahead: &mut ReadAhead<MAX_LINE_LEN>,
     line: &mut Vec<u8>,
     lane: &mut Option<ScriptLane<PAGE>>,
     text: &mut Vec<u8>,
@@ -294,7 +294,7 @@ pub fn run_script_with_hasher<const PAGE: usize, S: BuildHasher + Copy, R: Read,
         WroteAt PAGE bytes (R.remaining reader.new)
         (W.contents writer.old) (W.contents writer.new) fault)) }
 {
-    let mut ahead = ReadAhead::new(alloc);
+    let mut ahead: ReadAhead<MAX_LINE_LEN> = ReadAhead::new(alloc);
     let mut line = Vec::new(alloc);
     let mut text = Vec::new(alloc);
     let mut lane: Option<ScriptLane<PAGE>> = None;

@@ -5,7 +5,7 @@ use Rattle.std.proofs.lemmas.Bool.{cases_Bool}
 use Rattle.std.proofs.lemmas.Iterator.Splits.{YieldsList-from_slice_split}
 use Rattle.script_words.specs.Words.{is_word, words_of}
 use Rattle.script_words.proofs.Taken.{all_taken, more_left}
-use Rattle.script_words.proofs.words.words.Goals as goal
+use Rattle.script_words.proofs.words.words_in.Goals as goal
 
 all_words : (line : List ℕ) (parts : List (List ℕ)) → parts ≡ slice_split (λ b. b == 32) line → list_all is_word parts ≡ true → words_of line ≡ Some parts
 all_words line parts e h = let t : list_all is_word (slice_split (λ b. b == 32) line) ≡ true = sym (ap (list_all is_word) e) ∙ h in rw t (ap Some (sym e))

@@ -1,0 +1,28 @@
+-- A cause goes on where what it was said of is asked for first.
+use Rattle.std.proofs.Common.{◌≡◌, ℕ, ◌<◌, ◌≤◌, ltb, false, length, Result, ap, inl, inr, arith}
+use Rattle.std.proofs.lemmas.Bool.{cases_Bool}
+use borrow.Author.Tests.{lt-ltb, ltb-true}
+use Rattle.history_text.specs.declared.cause.Cause.{Cause}
+use Rattle.history_text.specs.declared.line_fault.LineFault.{LineFault}
+use Rattle.history_text.specs.declared.line_fault.LineFault.TheVariants.{Bad, OutOfMemory}
+use Rattle.history_text.specs.Outcome.{IsRefused}
+use Rattle.history_text.specs.Spelled.{IsSaid}
+use Rattle.history_text.specs.Spelling.{Spelled, ◌>>=◌}
+use Rattle.history_text.specs.Text.{Text, number_of, recorded}
+
+pub said_on : {A B : Type 0} (said : Result A Cause) (rest : A → Result B Cause) (fault : LineFault) → IsSaid said fault → IsSaid (said >>= rest) fault
+said_on said rest (Bad cause) is = ap (λ r. r >>= rest) is
+said_on said rest OutOfMemory is = tt
+
+not_less : (a b : ℕ) → b ≤ a → ltb a b ≡ false
+not_less a b least = elim (cases_Bool (ltb a b)) [
+  | inl less ↦ absurd (omega (arith, least, ltb-true a b less))
+  | inr fails ↦ fails
+]
+
+pub said_caller : (text : Text) (number : ℕ) (s : Spelled) (fault : LineFault) → length text.calls < 268435456 → IsRefused (number_of text.callers s.caller) fault → IsSaid (recorded text number s) fault
+unfolding recorded
+said_caller text number s (Bad cause) few is =
+    let calls = lt-ltb (length text.calls) 268435456 few in
+    let callers = not_less (number_of text.callers s.caller) 65536 is.1 in rw (calls, callers) (let same = is.0 in cc)
+said_caller text number s OutOfMemory few is = tt

@@ -1,0 +1,10 @@
+pub mod Coding
+pub mod Causes
+pub mod Spelling
+pub mod Spelled
+pub mod Text
+pub mod Outcome
+pub mod Reading
+pub mod Writing
+pub mod Laws
+pub mod Names

@@ -1,0 +1,33 @@
+-- What the code gives of a line, seen as the definitions have it.
+use Rattle.std.specs.Prelude.{◌≡◌, ℕ, List, Result, Err}
+use Rattle.trace_file.specs.declared.act.Act.{Act}
+use Rattle.trace_file.specs.declared.act.Act.TheVariants as acts
+use Rattle.history_text.specs.declared.cause.Cause.{Cause}
+use Rattle.history_text.specs.declared.kind.Kind.{Kind}
+use Rattle.history_text.specs.declared.kind.Kind.TheVariants.{Put, Hit, Miss, Remove}
+use Rattle.history_text.specs.declared.line_fault.LineFault.{LineFault}
+use Rattle.history_text.specs.declared.line_fault.LineFault.TheVariants.{Bad, OutOfMemory}
+use Rattle.history_text.specs.declared.spelling.Spelling.{Spelling}
+use Rattle.history_text.specs.Spelling.{Spelled}
+
+-- the act of a kind, with the value and the time where it has them
+abbrev pub act_by : Kind → List ℕ → ℕ → Act
+act_by Put value time = acts.Put value time
+act_by Hit value time = acts.Hit value time
+act_by Miss value time = acts.Miss
+act_by Remove value time = acts.Remove
+
+-- the call of a line that was taken apart, with the bytes of its key and its value
+abbrev pub spelled_by : Spelling → List ℕ → List ℕ → Spelled
+spelled_by s key value = record {
+  caller = s.caller.now;
+  start = s.head.start;
+  end = s.head.end;
+  key = key;
+  act = act_by s.head.kind value s.time;
+}
+
+-- the fault is the cause that the definitions give, want of memory aside
+abbrev pub IsSaid : {A : Type 0} → Result A Cause → LineFault → Type 0
+IsSaid said (Bad cause) = said ≡ Err cause
+IsSaid said OutOfMemory = Unit {0}

@@ -1,0 +1,32 @@
+//! Histories as text, one call a line: reading and writing.
+#![tactic(auto)]
+
+mod bad_line;
+mod callers;
+mod cause;
+mod coding;
+mod from_reader;
+mod head;
+mod kind;
+mod laws;
+mod line_fault;
+mod line_taking;
+mod lines;
+mod parts;
+mod read_text_fault;
+mod spelling;
+mod text_history;
+mod to_writer;
+mod write_text_fault;
+
+pub use bad_line::BadLine;
+pub use callers::{Callers, MAX_CALLERS};
+pub use cause::Cause;
+pub use coding::word;
+pub use from_reader::read_text;
+pub use laws::word_laws;
+pub use lines::MAX_TEXT_LINE_LEN;
+pub use read_text_fault::ReadTextFault;
+pub use text_history::TextHistory;
+pub use to_writer::write_text;
+pub use write_text_fault::WriteTextFault;

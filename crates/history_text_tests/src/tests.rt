@@ -1,0 +1,282 @@
+// What lines spell, which are bad and why, and what is written of them.
+use history_text::{BadLine, Cause, ReadTextFault, TextHistory, read_text, write_text};
+use std::alloc::{AllocError, Global};
+use std::hash::{BuildHasherDefault, FoldHasher};
+use std::test::Fail;
+
+/// A text, and what is told of it: the first bad line, or the text that is written of what was read.
+struct Row {
+    text: &'static [u8],
+    told: &'static [u8],
+}
+
+/// Each cause once, with the number of its line.
+const BAD: [Row; 32] = [
+    Row {
+        text: b"a 1 2 put k v\nb 1 2 put k\tv\n",
+        told: b"bad line 2: not five to seven words parted by single spaces",
+    },
+    Row {
+        text: b"# x\n\na 1 2 put k v\r\n",
+        told: b"bad line 3: not five to seven words parted by single spaces",
+    },
+    Row {
+        text: b"a 1 2 put",
+        told: b"bad line 1: not five to seven words parted by single spaces",
+    },
+    Row {
+        text: b"a 1 2 put k v 1 1",
+        told: b"bad line 1: not five to seven words parted by single spaces",
+    },
+    Row {
+        text: b"a  1 2 put k v",
+        told: b"bad line 1: not five to seven words parted by single spaces",
+    },
+    Row {
+        text: b" a 1 2 put k v",
+        told: b"bad line 1: not five to seven words parted by single spaces",
+    },
+    Row {
+        text: b"a 1 2 put k v ",
+        told: b"bad line 1: not five to seven words parted by single spaces",
+    },
+    Row {
+        text: b"a x 2 put k v",
+        told: b"bad line 1: the start is no number below 2^63",
+    },
+    Row {
+        text: b"a 01 2 put k v",
+        told: b"bad line 1: the start is no number below 2^63",
+    },
+    Row {
+        text: b"a - 2 put k v",
+        told: b"bad line 1: the start is no number below 2^63",
+    },
+    Row {
+        text: b"a 9223372036854775808 2 put k v",
+        told: b"bad line 1: the start is no number below 2^63",
+    },
+    Row {
+        text: b"a 1 -2 put k v",
+        told: b"bad line 1: the end is neither - nor a number below 2^63",
+    },
+    Row {
+        text: b"a 1 9223372036854775808 put k v",
+        told: b"bad line 1: the end is neither - nor a number below 2^63",
+    },
+    Row {
+        text: b"a 1 2 get k v",
+        told: b"bad line 1: none of put, hit, miss and remove",
+    },
+    Row {
+        text: b"a 1 2 put k",
+        told: b"bad line 1: too few or too many words for such a call",
+    },
+    Row {
+        text: b"a 1 2 miss k v",
+        told: b"bad line 1: too few or too many words for such a call",
+    },
+    Row {
+        text: b"a 1 2 remove k v 3",
+        told: b"bad line 1: too few or too many words for such a call",
+    },
+    Row {
+        text: b"a 1 - hit k v",
+        told: b"bad line 1: a hit or a miss has no end",
+    },
+    Row {
+        text: b"a 1 - miss k",
+        told: b"bad line 1: a hit or a miss has no end",
+    },
+    Row {
+        text: b"a 1 2 miss k%2",
+        told: b"bad line 1: in the key a % stands before no two hexadecimal digits",
+    },
+    Row {
+        text: b"a 1 2 miss %",
+        told: b"bad line 1: in the key a % stands before no two hexadecimal digits",
+    },
+    Row {
+        text: b"a 1 2 miss %g0",
+        told: b"bad line 1: in the key a % stands before no two hexadecimal digits",
+    },
+    Row {
+        text: b"a 1 2 miss %%41",
+        told: b"bad line 1: in the key a % stands before no two hexadecimal digits",
+    },
+    Row {
+        text: b"a 1 2 miss -",
+        told: b"bad line 1: the key does not have 1 to 255 bytes",
+    },
+    Row {
+        text: b"a 1 2 hit k %2",
+        told: b"bad line 1: in the value a % stands before no two hexadecimal digits",
+    },
+    Row {
+        text: b"a 1 2 put k v -",
+        told: b"bad line 1: the expiry is no number below 2^63",
+    },
+    Row {
+        text: b"a 1 2 put k v 18446744073709551615",
+        told: b"bad line 1: the expiry is no number below 2^63",
+    },
+    Row {
+        text: b"a 1 2 hit k v x",
+        told: b"bad line 1: the moment is no number below 2^63",
+    },
+    Row {
+        text: b"\n\n\n\na 1 2 hit k v x\na",
+        told: b"bad line 5: the moment is no number below 2^63",
+    },
+    Row {
+        text: b"a 1 2 put k v\na 1 2 put k v\na",
+        told: b"bad line 3: not five to seven words parted by single spaces",
+    },
+    Row {
+        text: b"\ta 1 2 put k v",
+        told: b"bad line 1: not five to seven words parted by single spaces",
+    },
+    Row {
+        text: b"a 1 2 put k v#\n\n# a\nb 1 2 put k \x80",
+        told: b"bad line 4: not five to seven words parted by single spaces",
+    },
+];
+
+/// What is read, as it is written.
+const RIGHT: [Row; 8] = [
+    Row {
+        text: b"",
+        told: b"",
+    },
+    Row {
+        text: b"# nothing\n\n#\n",
+        told: b"",
+    },
+    Row {
+        text: b"x 1 2 put k v",
+        told: b"c0 1 2 put k v\n",
+    },
+    Row {
+        text: b"x 1 2 put k v\ny 3 - put k - 7\nx 5 4 miss k\n",
+        told: b"c0 1 2 put k v\nc1 3 - put k - 7\nc0 5 4 miss k\n",
+    },
+    Row {
+        text: b"x 0 9223372036854775807 hit %2D %2d 0",
+        told: b"c0 0 9223372036854775807 hit %2D %2D\n",
+    },
+    Row {
+        text: b"x 0 1 hit a%20%0a%25%ff%7f %41- 5",
+        told: b"c0 0 1 hit a%20%0A%25%FF%7F A- 5\n",
+    },
+    Row {
+        text: b"\n#\ny 1 - remove --\n\nx 1 2 put k %2D 9223372036854775807\ny 1 1 miss y",
+        told: b"c0 1 - remove --\nc1 1 2 put k %2D 9223372036854775807\nc0 1 1 miss y\n",
+    },
+    Row {
+        text: b"- 1 2 put k v",
+        told: b"c0 1 2 put k v\n",
+    },
+];
+
+/// What reading answers.
+fn read(
+    alloc: Global,
+    text: &[u8],
+) -> Result<TextHistory<BuildHasherDefault<FoldHasher>>, ReadTextFault> {
+    let hash_builder: BuildHasherDefault<FoldHasher> = BuildHasherDefault::new();
+    let mut left = text;
+    read_text(alloc, hash_builder, &mut left)
+}
+
+/// What is told of a text.
+fn told(alloc: Global, text: &[u8]) -> Result<Vec<u8>, AllocError> {
+    match read(alloc, text) {
+        Ok(read) => {
+            let mut written = Vec::new(alloc);
+            match write_text(alloc, &read.history, None, &mut written) {
+                Ok(()) => Ok(written),
+                Err(_) => Err(AllocError),
+            }
+        }
+        Err(ReadTextFault::Bad(bad)) => Vec::from_slice(
+            alloc,
+            format!(in alloc; "{bad}")?.as_bytes(),
+        ),
+        Err(_) => Err(AllocError),
+    }
+}
+
+/// Whether each row tells what it is to tell.
+fn are_told(alloc: Global, rows: &[Row]) -> Result<bool, AllocError> {
+    for row in rows {
+        if told(alloc, row.text)?.as_slice() != row.told {
+            return Ok(false);
+        }
+    }
+    Ok(true)
+}
+
+#[test]
+fn bad_lines_have_their_number_and_their_cause(rt: HostRuntime) -> Result<(), Fail> {
+    assert!(rt; are_told(rt.alloc(), &BAD)?);
+    Ok(())
+}
+
+#[test]
+fn right_lines_are_read_and_written(rt: HostRuntime) -> Result<(), Fail> {
+    assert!(rt; are_told(rt.alloc(), &RIGHT)?);
+    Ok(())
+}
+
+/// So many bytes behind a front, and then a right line.
+fn long_text(alloc: Global, front: &[u8], count: usize) -> Result<Vec<u8>, AllocError> {
+    let mut text = Vec::from_slice(alloc, front)?;
+    text.resize(count, b'x')?;
+    text.extend_from_slice(b"\na 1 2 miss k\n")?;
+    Ok(text)
+}
+
+#[test]
+fn a_line_is_too_long_from_its_8193rd_byte_on(rt: HostRuntime) -> Result<(), Fail> {
+    let fits = told(rt.alloc(), &long_text(rt.alloc(), b"#", 8192)?)?;
+    assert!(rt; fits.as_slice() == b"c0 1 2 miss k\n".as_slice());
+    let words = told(rt.alloc(), &long_text(rt.alloc(), b"", 8192)?)?;
+    assert!(rt;
+        words.as_slice()
+            == b"bad line 1: not five to seven words parted by single spaces".as_slice()
+    );
+    let long = told(rt.alloc(), &long_text(rt.alloc(), b"#", 8193)?)?;
+    assert!(rt; long.as_slice() == b"bad line 1: a line of more than 8192 bytes".as_slice());
+    Ok(())
+}
+
+/// A miss of each of so many callers.
+fn callers_text(alloc: Global, count: u32) -> Result<Vec<u8>, AllocError> {
+    let mut text = Vec::new(alloc);
+    for caller in 0..count {
+        let line = format!(in alloc; "{caller} 1 2 miss k\n")?;
+        text.extend_from_slice(line.as_bytes())?;
+    }
+    Ok(text)
+}
+
+#[test]
+fn there_are_at_most_65536_callers(rt: HostRuntime) -> Result<(), Fail> {
+    let most = read(rt.alloc(), &callers_text(rt.alloc(), 65536)?);
+    let Ok(text) = most else {
+        return Err(Fail::from(AllocError));
+    };
+    assert!(rt; text.callers.len() == 65536);
+    assert!(rt; text.callers.name(65535) == Some(b"65535".as_slice()));
+    let more = read(rt.alloc(), &callers_text(rt.alloc(), 65537)?);
+    assert!(rt;
+        matches!(
+            &more,
+            Err(ReadTextFault::Bad(BadLine {
+                number: 65537,
+                cause: Cause::TooManyCallers
+            }))
+        )
+    );
+    Ok(())
+}

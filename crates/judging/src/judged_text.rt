@@ -1,0 +1,13 @@
+// A text that was judged.
+use certificate_finder::Found;
+use history_text::TextHistory;
+use std::hash::BuildHasher;
+
+/// The history of a text, and what was found for it.
+#[derive(Drop)]
+pub struct JudgedText<S: BuildHasher> {
+    /// The history, with the lines of its calls and the names of its callers.
+    pub text: TextHistory<S>,
+    /// A certificate with which it is accepted, why there is none, or the hits for which that was not decided.
+    pub found: Found,
+}
