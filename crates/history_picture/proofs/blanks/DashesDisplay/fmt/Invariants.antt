@@ -1,0 +1,7 @@
+use Rattle.std.proofs.Common.{replicate}
+use Rattle.std.specs.Fmt.{HasWritten, IsPlainFormatter}
+use Rattle.history_picture.proofs.blanks.DashesDisplay.fmt.Given as goal
+
+abbrev pub invariant-loop-i : goal.invariant-loop-i
+invariant-loop-i g l =
+    IsPlainFormatter l.initial.f → HasWritten g.W.Write.write_str_gives l.initial.f (replicate l._i 61) l.f

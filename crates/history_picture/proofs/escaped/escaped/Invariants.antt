@@ -1,0 +1,8 @@
+use Rattle.std.proofs.Common.{◌≡◌, take}
+use Rattle.std.specs.Prelude.{string_bytes}
+use Rattle.std.specs.List.{flat_map}
+use Rattle.history_picture.specs.Escaping.{escape_of}
+use Rattle.history_picture.proofs.escaped.escaped.Given as goal
+
+abbrev pub invariant-loop-byte : goal.invariant-loop-byte
+invariant-loop-byte l = string_bytes l.escaped ≡ flat_map escape_of (take l.byte-index l.byte-items)

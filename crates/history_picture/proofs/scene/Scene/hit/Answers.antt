@@ -1,0 +1,13 @@
+use Rattle.std.proofs.Common.{◌≡◌, ◌<◌, ◌++◌, ◌∙◌, ap, sym, true, length, take, arith}
+use Rattle.std.specs.Prelude.{codes, nat_lt, if◌then◌else◌}
+use Rattle.std.specs.Fmt.{decimal}
+use Rattle.std.specs.List.{flat_map}
+use Rattle.std.proofs.lemmas.Bool.{lt-ltb}
+use Rattle.std.proofs.lemmas.Result.{IfOk-weaker}
+use Rattle.history_picture.specs.Sentences.{also_words, hit_words, lone_words}
+use Rattle.history_picture.proofs.SentenceLaws.{several}
+use Rattle.history_picture.proofs.scene.Scene.hit.Goals as goal
+
+pub returns : goal.returns
+returns c =
+    IfOk-weaker c.format.result _ _ (λ s e. several c.args.self.now.history.now c.args.self.now.lines.now c.args.hit c.args.puts.now _ _ _ (omega arith) c.in_ok-told.ensures.name (c.in_ok-also.ensures ∙ ap (flat_map (also_words c.args.self.now.history.now c.args.self.now.lines.now c.args.hit)) c.first_eight.ensures) e) c.format.ensures.ok

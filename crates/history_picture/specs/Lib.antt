@@ -1,0 +1,14 @@
+pub mod Chosen
+pub mod Coding
+pub mod Escaping
+pub mod Marks
+pub mod Names
+pub mod Naming
+pub mod Nearest
+pub mod Places
+pub mod Plain
+pub mod Reasons
+pub mod Rows
+pub mod Sentences
+pub mod Shown
+pub mod Written

@@ -1,0 +1,51 @@
+// What is spoken of and drawn.
+use crate::call_at::call_at;
+use crate::told::{Told, act_text, label};
+use std::alloc::{AllocError, Global};
+use trace_file::History;
+
+/// A history, and how its calls and callers are called.
+#[derive(Clone, Copy)]
+pub struct Scene<'a> {
+    /// The calls.
+    pub history: &'a History,
+    /// The line of each call, by its position. A call that has none here is told by its position.
+    pub lines: &'a [u32],
+    /// The callers' names, by their numbers. A caller that has none here is told by its number.
+    pub callers: &'a [Vec<u8>],
+}
+
+impl Scene<'_> {
+    ghost use Rattle.std.specs.Prelude.{◌≡◌, IfOk, slice_get, string_bytes};
+    ghost use Rattle.history_picture.specs.Naming.{end_of, moment_of, name_of, start_of};
+
+    /// What is told of the call at a position.
+    #[tactic(auto, unfolding(crate::specs::Naming::name_of))]
+    pub(crate) fn told(&self, alloc: Global, position: u32) -> Result<Told, AllocError>
+        ensures name { IfOk result (λ told. string_bytes told.name
+            ≡ name_of self.now.history.now self.now.lines.now position) }
+        ensures start { IfOk result (λ told.
+            told.start ≡ start_of (slice_get self.now.history.now position)) }
+        ensures end { IfOk result (λ told.
+            told.end ≡ end_of (slice_get self.now.history.now position)) }
+        ensures time { IfOk result (λ told.
+            told.time ≡ moment_of (slice_get self.now.history.now position)) }
+    {
+        let label = label(alloc, self.lines, position)?;
+        let Some(call) = call_at(self.history, position) else {
+            return Ok(Told {
+                name: format!(in alloc; "a call that is not there ({label})")?,
+                start: 0,
+                end: 0,
+                time: 0,
+            });
+        };
+        let act = act_text(alloc, &call.act)?;
+        Ok(Told {
+            name: format!(in alloc; "{act} ({label})")?,
+            start: call.start,
+            end: call.end,
+            time: call.act.time(),
+        })
+    }
+}

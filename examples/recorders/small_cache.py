@@ -1,0 +1,81 @@
+"""A small cache with threads, recorded: `python3 small_cache.py > calls.txt`, then `kangaroo judge calls.txt`.
+
+With `--near` each thread keeps a copy of what it read last, and reads it again without asking the cache: a stale read."""
+import io
+import random
+import sys
+import threading
+import time
+from recorder import Recorder
+
+
+class Cache:
+    """A table behind a lock."""
+
+    def __init__(self):
+        self.lock, self.table = threading.Lock(), {}
+
+    def get(self, key):
+        with self.lock:
+            return self.table.get(key)
+
+    def set(self, key, value):
+        with self.lock:
+            self.table[key] = value
+
+    def delete(self, key):
+        with self.lock:
+            self.table.pop(key, None)
+
+
+class Near:
+    """Keeps a copy of the last value that was read, and forgets it only when its own thread writes that key."""
+
+    def __init__(self, cache):
+        self.cache, self.key, self.value = cache, None, None
+
+    def get(self, key):
+        if key != self.key:
+            self.key, self.value = key, self.cache.get(key)
+        return self.value
+
+    def set(self, key, value):
+        self.key = None if key == self.key else self.key
+        self.cache.set(key, value)
+
+    def delete(self, key):
+        self.key = None if key == self.key else self.key
+        self.cache.delete(key)
+
+
+def work(recorder, seed):
+    chance = random.Random(seed)
+    for number in range(200):
+        key = b"key %d" % chance.randrange(4)
+        kind = chance.random()
+        if kind < 0.7:
+            recorder.get(key)
+        elif kind < 0.95:
+            recorder.set(key, b"%d" % number)
+        else:
+            recorder.delete(key)
+        time.sleep(0.0001)  # let the others have their turns
+
+
+def main(near):
+    cache, outs, threads = Cache(), [], []
+    for number in range(4):
+        outs.append(io.StringIO())
+        client = Near(cache) if near else cache
+        recorder = Recorder(client, "thread%d" % number, outs[-1])
+        threads.append(threading.Thread(target=work, args=(recorder, number)))
+    for thread in threads:
+        thread.start()
+    for thread in threads:
+        thread.join()
+    for out in outs:
+        sys.stdout.write(out.getvalue())
+
+
+if __name__ == "__main__":
+    main("--near" in sys.argv[1:])
