@@ -1,7 +1,6 @@
 //! What a load asks of a cache: its settings, and the operations of its callers.
 #![tactic(auto)]
 
-mod file_name;
 mod layouts;
 mod load;
 mod numbers;
@@ -11,7 +10,7 @@ mod served_operation;
 mod setting;
 mod size_setting;
 
-pub use file_name::FileName;
+pub use file_requests::FileName;
 pub use layouts::{config_of, pages_of};
 pub use load::Load;
 pub use numbers::{load_with, served_with};

@@ -1,7 +1,7 @@
 // What a run is asked for.
 ghost use Rattle.std.specs.Prelude.{◌≤◌};
 
-use crate::file_name::FileName;
+use file_requests::FileName;
 use record_pages::Layout;
 
 /// What a run is asked for: the cache, its callers and workers, their operations, and the files. Each

@@ -3,7 +3,7 @@ ghost use Rattle.std.specs.Prelude.{◌≡◌, ◌≤◌, length};
 ghost use Rattle.load.specs.Settings.{AreAdmitted, served_settings, settings};
 ghost use Rattle.load.specs.Asked.{IsLayoutOf, numbers_of, served_numbers_of};
 
-use crate::file_name::FileName;
+use file_requests::FileName;
 use crate::load::Load;
 use crate::served_load::ServedLoad;
 use record_pages::Layout;

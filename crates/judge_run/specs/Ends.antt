@@ -1,0 +1,43 @@
+-- How the program ends.
+use Rattle.std.specs.Prelude.{◌≡◌, ◌⊎◌, ℕ, Result, Ok, Err}
+use Rattle.judge_run.specs.declared.judge_end.JudgeEnd.{JudgeEnd}
+use Rattle.judge_run.specs.declared.judge_end.JudgeEnd.TheVariants as ends
+use Rattle.judge_run.specs.declared.outcome.Outcome.{Outcome}
+use Rattle.judge_run.specs.declared.outcome.Outcome.TheVariants.{Accepted, Rejected, Undecided, Bad}
+use Rattle.judge_run.specs.declared.tell_fault.TellFault.{TellFault}
+use Rattle.judge_run.specs.declared.tell_fault.TellFault.TheVariants.{OutOfMemory, ReadFault, WriteFault}
+
+-- how it ends behind what came of judging
+abbrev pub end_of_outcome : Outcome → JudgeEnd
+end_of_outcome (Accepted trace) = ends.Done
+end_of_outcome (Rejected rejection) = ends.Rejected
+end_of_outcome Undecided = ends.Undecided
+end_of_outcome Bad = ends.BadInput
+
+-- how it ends where not all was told
+abbrev pub end_of_fault : TellFault → JudgeEnd
+end_of_fault OutOfMemory = ends.OutOfMemory
+end_of_fault ReadFault = ends.FileFault
+end_of_fault WriteFault = ends.FileFault
+
+-- the exit status
+abbrev pub status_of : JudgeEnd → ℕ
+status_of ends.Done = 0
+status_of ends.Rejected = 1
+status_of ends.BadInput = 2
+status_of ends.OutOfMemory = 3
+status_of ends.FileFault = 3
+status_of ends.Undecided = 4
+
+-- memory was refused, or a file failed
+abbrev pub IsFault : JudgeEnd → Type 0
+IsFault end = (end ≡ ends.OutOfMemory) ⊎ (end ≡ ends.FileFault)
+
+-- it ends as what came of judging says, or a file that was wanted beside it was not written
+abbrev pub IsSaved : Outcome → JudgeEnd → Type 0
+IsSaved outcome end = (end ≡ end_of_outcome outcome) ⊎ IsFault end
+
+-- how it ends behind an answer
+abbrev pub IsEnded : Result Outcome TellFault → JudgeEnd → Type 0
+IsEnded (Ok outcome) end = IsSaved outcome end
+IsEnded (Err fault) end = end ≡ end_of_fault fault

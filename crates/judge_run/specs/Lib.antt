@@ -1,0 +1,6 @@
+pub mod Told
+pub mod TextTold
+pub mod TraceTold
+pub mod Showing
+pub mod Ends
+pub mod Runs

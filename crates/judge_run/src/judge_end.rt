@@ -1,0 +1,60 @@
+// How the program ends that judged, checked or showed.
+ghost use Rattle.std.specs.Prelude.{◌≡◌, option_map};
+ghost use Rattle.judge_run.specs.Ends.{end_of_fault, end_of_outcome, message_of, status_of};
+
+use crate::outcome::Outcome;
+use crate::tell_fault::TellFault;
+
+/// How the program ends that judged a history, checked a trace or showed one.
+#[derive(Clone, Copy, Debug, PartialEq, Eq)]
+pub enum JudgeEnd {
+    /// All was done: the history was accepted, or the trace was shown.
+    Done,
+    /// The history was rejected.
+    Rejected,
+    /// The input was bad: a line, a trace, a key, or a call that has no text.
+    BadInput,
+    /// Nothing was found wrong, and hits were not decided.
+    Undecided,
+    /// Memory was refused.
+    OutOfMemory,
+    /// A file, the input or the output failed.
+    FileFault,
+}
+
+impl JudgeEnd {
+    /// How the program ends that told this.
+    pub fn of_outcome(outcome: &Outcome) -> JudgeEnd
+        ensures { result ≡ end_of_outcome outcome.now }
+    {
+        match outcome {
+            Outcome::Accepted(_) => JudgeEnd::Done,
+            Outcome::Rejected(_) => JudgeEnd::Rejected,
+            Outcome::Undecided => JudgeEnd::Undecided,
+            Outcome::Bad => JudgeEnd::BadInput,
+        }
+    }
+
+    /// How the program ends that told nothing, or not all.
+    pub fn of_fault(fault: TellFault) -> JudgeEnd
+        ensures { result ≡ end_of_fault fault }
+    {
+        match fault {
+            TellFault::OutOfMemory => JudgeEnd::OutOfMemory,
+            TellFault::ReadFault | TellFault::WriteFault => JudgeEnd::FileFault,
+        }
+    }
+
+    /// The exit status.
+    pub fn status(self) -> u8
+        ensures { result ≡ status_of self }
+    {
+        match self {
+            JudgeEnd::Done => 0,
+            JudgeEnd::Rejected => 1,
+            JudgeEnd::BadInput => 2,
+            JudgeEnd::OutOfMemory | JudgeEnd::FileFault => 3,
+            JudgeEnd::Undecided => 4,
+        }
+    }
+}

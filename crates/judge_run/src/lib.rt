@@ -1,0 +1,25 @@
+//! What `judge`, `check` and `show` do: histories and traces judged, explained, drawn and written as text.
+#![tactic(auto)]
+
+mod checking;
+mod judge_end;
+mod judging_texts;
+mod outcome;
+mod rejection;
+mod run;
+mod saving;
+mod showing;
+mod shown;
+mod tell_fault;
+mod telling;
+mod told;
+
+pub use checking::answer_check;
+pub use judge_end::JudgeEnd;
+pub use judging_texts::answer_judge;
+pub use outcome::Outcome;
+pub use rejection::Rejection;
+pub use run::{run_check, run_judge, run_show};
+pub use showing::answer_show;
+pub use shown::Shown;
+pub use tell_fault::TellFault;
