@@ -1,5 +1,6 @@
 // The callers of a text, by their names.
-ghost use Rattle.std.specs.Prelude.{◌≡◌, ◌<◌, ◌≤◌, [], List, ℕ, Some, length, slice_get, IfOk, IfErr, OnErr, IfSome};
+ghost use Rattle.std.specs.Prelude.{◌≡◌, ◌<◌, ◌≤◌, [], List, ℕ, Some, None, length, slice_get, IfOk, IfErr, OnErr, IfNone, IfSome};
+ghost use Rattle.history_text.specs.Names.{names_of};
 ghost use Rattle.history_text.specs.Text.{number_of, noted};
 ghost use Rattle.history_text.specs.Outcome.{IsRefused};
 
@@ -48,9 +49,17 @@ impl<S: BuildHasher> Callers<S> {
         self.names.len()
     }
 
+    /// The names, by the callers' numbers.
+    pub fn names(&self) -> &[Vec<u8>]
+        ensures { names_of result.now ≡ self.now }
+    {
+        self.names.as_slice()
+    }
+
     /// The name of a caller.
     pub fn name(&self, number: u16) -> Option<&[u8]>
-        ensures { IfSome result (λ name. slice_get self.now number ≡ Some name.now) }
+        ensures some { IfSome result (λ name. slice_get self.now number ≡ Some name.now) }
+        ensures none { IfNone result (slice_get self.now number ≡ None) }
     {
         match self.names.get_index(number as usize) {
             Some(name) => Some(name.as_slice()),

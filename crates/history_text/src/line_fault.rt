@@ -1,13 +1,13 @@
-// Why a line was not taken.
+// Why a line, or a word of one, was not taken.
 ghost use Rattle.std.specs.Prelude.{◌≡◌};
 ghost use Rattle.history_text.specs.declared.line_fault.LineFault.TheVariants.{Bad, OutOfMemory};
 
 use crate::cause::Cause;
 use std::alloc::AllocError;
 
-/// Why a line was not taken.
+/// Why a line, or a word of one, was not taken.
 #[derive(Clone, Copy, Debug, PartialEq, Eq)]
-pub(crate) enum LineFault {
+pub enum LineFault {
     /// It spells no call, or none that the history has room for.
     Bad(Cause),
     /// Memory was refused.

@@ -104,7 +104,7 @@ fn head_of(words: &[&[u8]]) -> Result<Head, Cause>
 
 /// Puts the bytes of a key's word in place of those of `bytes`.
 #[tactic(auto, unfolding(crate::specs::Spelling::key_of))]
-fn take_key(word: &[u8], bytes: &mut Vec<u8>) -> Result<(), LineFault>
+pub(crate) fn take_key(word: &[u8], bytes: &mut Vec<u8>) -> Result<(), LineFault>
     ensures ok { OnOk result (key_of word.now ≡ Ok bytes.new.items) }
     ensures key { OnOk result (IsKey bytes.new.items) }
     ensures bad { IfErr result (IsSaid (key_of word.now)) }
