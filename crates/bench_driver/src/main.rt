@@ -1,9 +1,10 @@
-//! The program: scripts of a cache answered and judged, traces judged, and loads run, recorded and judged or of a cache that serves.
+//! The program: scripts of a cache answered and judged, traces and histories judged, and loads run, recorded and judged or of a cache
+//! that serves.
 #![tactic(auto)]
 
-use command_line::{
-    Ended, Ending, Line, LineFault, RandomSeed, answer_script, asked, check_file, tell_help,
-};
+use command_line::{Ended, Ending, Line, LineFault, answer_script, asked, tell_help};
+use judge_run::{run_check, run_judge, run_show};
+use key_hash::RandomSeed;
 use load_run::run_load;
 use serve_load::serve_load;
 use std::io;
@@ -18,7 +19,15 @@ fn main(rt: HostRuntime) -> ExitCode {
     let mut output = io::writer(&rt);
     let ended = match asked(&rt) {
         Ok(Line::Script) => script(&rt),
-        Ok(Line::Check(file)) => check_file(&rt, file, &mut output),
+        Ok(Line::Check(request)) => {
+            return ExitCode::from(run_check(&rt, &request, &mut output, &mut rt.stderr()));
+        }
+        Ok(Line::Judge(request)) => {
+            return ExitCode::from(run_judge(&rt, &request, &mut output, &mut rt.stderr()));
+        }
+        Ok(Line::Show(request)) => {
+            return ExitCode::from(run_show(&rt, &request, output, &mut rt.stderr()));
+        }
         Ok(Line::Run(load)) => {
             return ExitCode::from(run_load(&rt, &load, &mut output, &mut rt.stderr()));
         }

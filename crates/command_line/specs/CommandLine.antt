@@ -1,8 +1,10 @@
 -- The program's command line: what it takes, and what its words ask for.
-use Rattle.std.specs.Prelude.{◌≡◌, ◌≢◌, ◌⊎◌, ◌&&◌, ℕ, Bool, List, [], ◌∷◌, Option, Some, None, codes, fold, is_some, map, option_and_then, option_map, true, unwrap_or, if◌then◌else◌}
+use Rattle.std.specs.Prelude.{◌≡◌, ◌≢◌, ◌⊎◌, ◌&&◌, ℕ, Bool, List, [], ◌∷◌, Option, Some, None, codes, fold, is_some, map, option_and_then, option_map, string_bytes, true, false, unwrap_or, if◌then◌else◌}
 use Rattle.std.specs.List.{list_all}
+use Rattle.std.specs.Option.{option_map_or}
 use Rattle.std.specs.Str.{bytes_eq}
 use Rattle.clap.specs.Words.{App, IsAmong, Kinds, Row, Rule, Text, first_of, new_app, new_rule, subcommand_of, with_rule, with_subcommand}
+use Rattle.clap.specs.declared.builder.action.ArgAction.TheVariants.{SetTrue}
 use Rattle.clap.specs.declared.error.kind.ErrorKind.{ErrorKind}
 use Rattle.clap.specs.declared.error.kind.ErrorKind.TheVariants.{DisplayHelp, DisplayVersion}
 use Rattle.load.specs.Asked.{numbers_of, served_numbers_of}
@@ -12,7 +14,7 @@ use Rattle.load.specs.declared.setting.Setting.{Setting}
 use Rattle.load.specs.declared.size_setting.SizeSetting.{SizeSetting}
 use Rattle.load.specs.declared.size_setting.SizeSetting.TheVariants.{Size, MemoryBytes}
 use Rattle.command_line.specs.declared.line.Line.{Line}
-use Rattle.command_line.specs.declared.line.Line.TheVariants.{Script, Check, Run, Serve}
+use Rattle.command_line.specs.declared.line.Line.TheVariants.{Script, Check, Judge, Show, Run, Serve}
 use Rattle.command_line.specs.declared.line_fault.LineFault.{LineFault}
 use Rattle.command_line.specs.declared.line_fault.LineFault.TheVariants.{Usage, Help, OutOfMemory}
 
@@ -42,9 +44,34 @@ trace_rule = record (new_rule (codes "trace")) { long = Some (codes "trace"); va
 abbrev pub script_command : App
 script_command = new_app (codes "script")
 
--- check FILE
+-- whether it is said why a history is rejected
+abbrev pub explain_rule : Rule
+explain_rule = record (new_rule (codes "explain")) { long = Some (codes "explain"); action = Some SetTrue }
+
+-- the file that a picture of why it is rejected is drawn to
+abbrev pub picture_rule : Rule
+picture_rule = record (new_rule (codes "picture")) { long = Some (codes "picture"); value_names = 1 }
+
+-- the file that an accepted history is written to as a trace
+abbrev pub out_rule : Rule
+out_rule = record (new_rule (codes "trace")) { long = Some (codes "trace"); value_names = 1 }
+
+-- the key whose calls alone are written
+abbrev pub key_rule : Rule
+key_rule = record (new_rule (codes "key")) { long = Some (codes "key"); value_names = 1 }
+
+-- check FILE, with a flag and an option
 abbrev pub check_command : App
-check_command = with_rule (new_app (codes "check")) file_rule
+check_command = with_rule (with_rule (with_rule (new_app (codes "check")) file_rule) explain_rule) picture_rule
+
+-- judge FILE, with a flag and two options
+abbrev pub judge_command : App
+judge_command =
+    with_rule (with_rule (with_rule (with_rule (new_app (codes "judge")) file_rule) explain_rule) picture_rule) out_rule
+
+-- show FILE, with an option
+abbrev pub show_command : App
+show_command = with_rule (with_rule (new_app (codes "show")) file_rule) key_rule
 
 -- a command with an option for one more setting
 abbrev pub with_option : App → Setting → App
@@ -65,26 +92,51 @@ program_top = record { top = record (new_app (codes "kangaroo")).top { subcomman
 
 -- the program with its subcommands
 abbrev pub program : App
-program = with_subcommand (with_subcommand (with_subcommand (with_subcommand program_top script_command.top) check_command.top) run_command.top) serve_command.top
+program =
+    with_subcommand (with_subcommand (with_subcommand (with_subcommand (with_subcommand (with_subcommand program_top script_command.top) check_command.top) judge_command.top) show_command.top) run_command.top) serve_command.top
 
 -- ---- what its words ask for
 
--- that a script is answered, that the trace in a file of this name is judged, or that a load with these numbers, one for each of its
+-- that a script is answered; that the trace in a file of this name is judged, with why it is rejected where the flag is on, and drawn to
+-- this file where one is named; that the history in a file of this name is judged so, and written to this file as a trace where
+-- one is named; that the trace in a file of this name is written as text, the calls of this key alone where one is named; that a load with these numbers, one for each of its
 -- settings in their order, is run, over files of this folder or in memory where there is none, and its trace written to a file of
 -- this name; or that a load of a cache that serves is run with such numbers, for so many bytes of flash and of memory where they are
 -- given, over files of this folder or in memory where there is none
 pub data Wanted : Type 0 where
   Replies : Wanted
-  Judgement : Text → Wanted
+  Checked : Text → Bool → Option Text → Wanted
+  Judged : Text → Bool → Option Text → Option Text → Wanted
+  Shown : Text → Option Text → Wanted
   Loaded : List ℕ → Option Text → Text → Wanted
   Served : List ℕ → Option ℕ → Option ℕ → Option Text → Wanted
 
 -- what a line asks for
 abbrev pub wanted_of : Line → Wanted
 wanted_of Script = Replies
-wanted_of (Check file) = Judgement file
+wanted_of (Check request) = Checked request.file request.explain request.picture
+wanted_of (Judge request) = Judged request.file request.explain request.picture request.trace
+wanted_of (Show request) = Shown request.file (option_map string_bytes request.key)
 wanted_of (Run load) = Loaded (numbers_of load) load.device load.trace
 wanted_of (Serve load) = Served (served_numbers_of load) load.size load.memory_bytes load.device
+
+-- a flag is on
+abbrev pub is_on : Text → List Row → Bool
+is_on flag rows = option_map_or (λ word. bytes_eq word (codes "true")) (first_of flag rows) false
+
+-- the check that was found
+abbrev pub check_wanted : List Row → Option Wanted
+check_wanted rows =
+    option_map (λ file. Checked file (is_on (codes "explain") rows) (first_of (codes "picture") rows)) (first_of (codes "FILE") rows)
+
+-- the judging that was found
+abbrev pub judge_wanted : List Row → Option Wanted
+judge_wanted rows =
+    option_map (λ file. Judged file (is_on (codes "explain") rows) (first_of (codes "picture") rows) (first_of (codes "trace") rows)) (first_of (codes "FILE") rows)
+
+-- the showing that was found
+abbrev pub show_wanted : List Row → Option Wanted
+show_wanted rows = option_map (λ file. Shown file (first_of (codes "key") rows)) (first_of (codes "FILE") rows)
 
 -- the number of a setting, by what was found for its option: none where that is no number in its range
 abbrev pub number_found : List Row → Setting → Option ℕ
@@ -128,10 +180,12 @@ served_wanted rows =
 -- what a subcommand asks for, by its name and what was found for its arguments
 abbrev pub wanted_by : Text × List Row → Option Wanted
 wanted_by (name, rows) =
-    if bytes_eq name (codes "check") then option_map Judgement (first_of (codes "FILE") rows)
+    if bytes_eq name (codes "check") then check_wanted rows
+    else (if bytes_eq name (codes "judge") then judge_wanted rows
+    else (if bytes_eq name (codes "show") then show_wanted rows
     else (if bytes_eq name (codes "run") then load_wanted rows
     else (if bytes_eq name (codes "serve-load") then served_wanted rows
-    else Some Replies))
+    else Some Replies))))
 
 -- what the program's words ask for, where they ask for something
 abbrev pub wanted_by_words : List Text → Option Wanted

@@ -1,15 +1,11 @@
 -- How the program ends: its exit status, and what it writes to standard error.
 use Rattle.std.specs.Prelude.{ℕ, List, Option, Some, None, Result, Ok, Err, codes}
-use Rattle.certificate_checker.specs.declared.judge_fault.JudgeFault.{JudgeFault}
-use Rattle.certificate_checker.specs.declared.judge_fault.JudgeFault.TheVariants as faults
-use Rattle.certificate_checker.specs.declared.judged.Judged.{Judged}
-use Rattle.certificate_checker.specs.declared.judged.Judged.TheVariants as judged
 use Rattle.scripts.specs.declared.script_fault.ScriptFault.{ScriptFault}
 use Rattle.scripts.specs.declared.script_fault.ScriptFault.TheVariants as script_faults
 use Rattle.scripts.specs.declared.scripted.Scripted.{Scripted}
 use Rattle.scripts.specs.declared.scripted.Scripted.TheVariants as scripted
 use Rattle.command_line.specs.declared.ending.Ending.{Ending}
-use Rattle.command_line.specs.declared.ending.Ending.TheVariants.{Done, Rejected, BadInput, OutOfMemory, ReadFault, FileFault}
+use Rattle.command_line.specs.declared.ending.Ending.TheVariants.{Done, BadInput, OutOfMemory, ReadFault, FileFault}
 
 -- how the program ends after a script
 abbrev pub ending_of_script : Result Scripted ScriptFault → Ending
@@ -20,18 +16,9 @@ ending_of_script (Err script_faults.OutOfMemory) = OutOfMemory
 ending_of_script (Err script_faults.ReadFault) = ReadFault
 ending_of_script (Err script_faults.WriteFault) = FileFault
 
--- how it ends after a trace was judged
-abbrev pub ending_of_check : Result Judged JudgeFault → Ending
-ending_of_check (Ok judged.Accepted) = Done
-ending_of_check (Ok judged.Rejected) = Rejected
-ending_of_check (Ok judged.BadTrace) = BadInput
-ending_of_check (Err faults.OutOfMemory) = OutOfMemory
-ending_of_check (Err faults.WriteFault) = FileFault
-
 -- the exit status of an ending
 abbrev pub status_of : Ending → ℕ
 status_of Done = 0
-status_of Rejected = 1
 status_of BadInput = 2
 status_of OutOfMemory = 3
 status_of ReadFault = 3
@@ -40,7 +27,6 @@ status_of FileFault = 3
 -- the line that is written to standard error
 abbrev pub message_of : Ending → Option (List ℕ)
 message_of Done = None
-message_of Rejected = None
 message_of BadInput = None
 message_of OutOfMemory = Some (codes "out of memory")
 message_of ReadFault = Some (codes "file fault")

@@ -1,12 +1,10 @@
 -- What was done where the program ends so.
 use Rattle.std.specs.Prelude.{◌≡◌, ℕ, List, Option, Ok}
-use Rattle.std.specs.Io.KnownBytes.{Appends, Keeps}
+use Rattle.std.specs.Io.KnownBytes.{Appends}
 use Rattle.std.specs.List.{concat}
-use Rattle.certificate_checker.specs.declared.judged.Judged.TheVariants as judged
-use Rattle.certificate_checker.specs.Judgements.{WroteLine}
 use Rattle.scripts.specs.Script.{Transcript, WroteLinesBefore, WroteWholeLines, script_of}
 use Rattle.command_line.specs.declared.ending.Ending.{Ending}
-use Rattle.command_line.specs.declared.ending.Ending.TheVariants.{Done, Rejected, BadInput, OutOfMemory, ReadFault, FileFault}
+use Rattle.command_line.specs.declared.ending.Ending.TheVariants.{Done, BadInput, OutOfMemory, ReadFault, FileFault}
 use Rattle.command_line.specs.Endings.{ending_of_script}
 
 -- all that the script writes was written, and it ended so
@@ -22,14 +20,4 @@ IsAnswered page bytes unread old new OutOfMemory = WroteLinesBefore page bytes u
 IsAnswered page bytes unread old new ReadFault = WroteWholeLines page bytes unread old new
 IsAnswered page bytes unread old new FileFault = Unit {0}
 IsAnswered page bytes unread old new Done = IsAllWritten old new Done (script_of page bytes)
-IsAnswered page bytes unread old new Rejected = IsAllWritten old new Rejected (script_of page bytes)
 IsAnswered page bytes unread old new BadInput = IsAllWritten old new BadInput (script_of page bytes)
-
--- what a check read and wrote where the program ends so; a failed read of a trace is a bad trace
-abbrev pub IsChecked : Option (List ℕ) → Option (List ℕ) → Option (List ℕ) → Option (List ℕ) → Ending → Type 0
-IsChecked known left old new Done = WroteLine known left judged.Accepted old new
-IsChecked known left old new Rejected = WroteLine known left judged.Rejected old new
-IsChecked known left old new BadInput = WroteLine known left judged.BadTrace old new
-IsChecked known left old new OutOfMemory = Keeps old new
-IsChecked known left old new ReadFault = ⊥
-IsChecked known left old new FileFault = Unit {0}

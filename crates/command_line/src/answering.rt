@@ -3,20 +3,13 @@ ghost use Rattle.std.specs.Prelude.{◌≡◌, ◌≢◌, IfSome};
 ghost use Rattle.std.specs.Io.Buffered.{writer_contents, writer_inner};
 ghost use Rattle.std.specs.Io.KnownBytes.{Appends};
 ghost use Rattle.record_pages.specs.Sizes.{IsPageSize};
-ghost use Rattle.command_line.specs.Outcomes.{IsAnswered, IsChecked};
+ghost use Rattle.command_line.specs.Outcomes.{IsAnswered};
 
-use crate::ended::Ended;
 use crate::ending::Ending;
-use certificate_checker::judge_with_hasher;
-use key_hash::RandomSeed;
-use load::FileName;
 use scripts::run_script_with_hasher;
 use std::alloc::Global;
-use std::fs;
 use std::hash::BuildHasher;
 use std::io::{BufWriter, Read, Write};
-use std::random::RandomSource;
-use std::rt::Files;
 
 /// Answers the script of a reader, and says how the program ends. What the writer holds then is written
 /// out before this returns, also after a fault of the input or of memory: where that fails, the program
@@ -42,39 +35,6 @@ pub fn answer_script<const PAGE: usize, S: BuildHasher + Copy, R: Read, W: Write
     match writer.flush() {
         Ok(()) => Ending::of_script(outcome),
         Err(_) => Ending::FileFault,
-    }
-}
-
-/// Judges the trace of a reader, writes the verdict line, and says how the program ends. The checker's
-/// table hashes keys by `hash_builder`, which whoever wrote the trace should not know.
-pub fn answer_check<S: BuildHasher + Drop, R: Read, W: Write>(
-    alloc: Global,
-    hash_builder: S,
-    reader: &mut R,
-    writer: &mut W,
-) -> Ending
-    ensures { IsChecked (R.remaining reader.old) (R.remaining reader.new)
-        (W.contents writer.old) (W.contents writer.new) result }
-{
-    Ending::of_check(judge_with_hasher(alloc, hash_builder, reader, writer))
-}
-
-/// Judges the trace in a file by a hasher with a seed of its own, and says how the program ended. A file
-/// that is not opened is a `FileFault`, and so is a system that gives no random numbers; of both the cause is told.
-pub fn check_file<W: Write>(
-    rt: &(impl Files + RandomSource + AllocGlobal),
-    file: FileName,
-    writer: &mut W,
-) -> Ended {
-    let hash_builder = match RandomSeed::draw(rt) {
-        Ok(hash_builder) => hash_builder,
-        Err(error) => return Ended::without_random(error),
-    };
-    match fs::open(rt, file.as_str()) {
-        Ok(mut reader) => {
-            Ended::plain(answer_check(rt.alloc(), hash_builder, &mut reader, writer))
-        }
-        Err(error) => Ended::unopened(file, error),
     }
 }
 

@@ -1,28 +1,16 @@
-// What was found for the arguments of a subcommand.
+// What was found for the arguments of a subcommand that loads a cache.
 ghost use Rattle.std.specs.Prelude.{◌≡◌, ◌≤◌, IfOk, IfErr, OnErr, IsSome, false, Some, None, codes, option_map, map};
 ghost use Rattle.clap.specs.Words.{first_of, found_of, rows_of};
-ghost use Rattle.command_line.specs.CommandLine.{Judgement, bytes_found, has_numbers, has_sizes, load_wanted, number_found, served_wanted, wanted_of, IsUsage};
+ghost use Rattle.command_line.specs.CommandLine.{bytes_found, has_numbers, has_sizes, load_wanted, number_found, served_wanted, wanted_of, IsUsage};
 
+use crate::asked_file::file_found;
 use crate::line::Line;
 use crate::line_fault::LineFault;
 use crate::telling::{Loading, no_bytes, no_number, usage};
 use clap::ArgMatches;
-use load::{FileName, SERVED_SETTINGS, SETTINGS, Setting, SizeSetting, load_with, served_with};
-use std::alloc::{AllocError, Global};
-
-/// What `check` asks for.
-pub fn check_line<'a>(alloc: Global, found: &ArgMatches<'a>) -> Result<Line, LineFault>
-    ensures named { IfOk result (λ line.
-        option_map Judgement (first_of (codes "FILE") (rows_of (found_of found.now))) ≡ Some (wanted_of line)) }
-    ensures refused { IfErr result (λ fault. IsUsage fault) }
-    ensures taken { IsSome (first_of (codes "FILE") (rows_of (found_of found.now)))
-        → IfErr result (λ fault. fault ≡ LineFault.OutOfMemory) }
-{
-    match found.get_str("FILE") {
-        Some(file) => Ok(Line::Check(FileName::new(alloc, file)?)),
-        None => Err(usage(alloc, "no file\n")),
-    }
-}
+use file_requests::FileName;
+use load::{SERVED_SETTINGS, SETTINGS, Setting, SizeSetting, load_with, served_with};
+use std::alloc::Global;
 
 /// The number of a setting; none where what was found for it is no number in its range.
 fn number_of<'a>(found: &ArgMatches<'a>, setting: Setting) -> Option<u32>
@@ -70,19 +58,6 @@ fn bytes_of<'a>(found: &ArgMatches<'a>, size: SizeSetting) -> Result<Option<u64>
     }
 }
 
-/// The folder that was found; none where none is given.
-fn folder_of<'a>(alloc: Global, found: &ArgMatches<'a>) -> Result<Option<FileName>, AllocError>
-    ensures { IfOk result (λ folder. folder ≡ first_of (codes "device") (rows_of (found_of found.now))) }
-{
-    match found.get_str("device") {
-        Some(folder) => {
-            let name = FileName::new(alloc, folder)?;
-            Ok(Some(name))
-        }
-        None => Ok(None),
-    }
-}
-
 /// What `run` asks for.
 pub fn run_line<'a>(alloc: Global, found: &ArgMatches<'a>) -> Result<Line, LineFault>
     ensures named { IfOk result (λ line. load_wanted (rows_of (found_of found.now)) ≡ Some (wanted_of line)) }
@@ -95,7 +70,7 @@ pub fn run_line<'a>(alloc: Global, found: &ArgMatches<'a>) -> Result<Line, LineF
     };
     match numbers_of(found, &SETTINGS) {
         Ok(numbers) => {
-            let folder = folder_of(alloc, found)?;
+            let folder = file_found(alloc, found, "device")?;
             let file = FileName::new(alloc, trace)?;
             Ok(Line::Run(load_with(&numbers, folder, file)))
         }
@@ -136,7 +111,7 @@ pub fn serve_line<'a>(alloc: Global, found: &ArgMatches<'a>) -> Result<Line, Lin
     };
     match sizes_of(found) {
         Ok(sizes) => {
-            let folder = folder_of(alloc, found)?;
+            let folder = file_found(alloc, found, "device")?;
             Ok(Line::Serve(served_with(&numbers, sizes.size, sizes.memory_bytes, folder)))
         }
         Err(size) => Err(no_bytes(alloc, size)),

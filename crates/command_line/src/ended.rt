@@ -1,28 +1,18 @@
-// How the program ended, with the file that failed.
+// How the program ended, with what failed.
 ghost use Rattle.std.specs.Prelude.{◌≡◌};
 ghost use Rattle.std.specs.Process.{exit_status};
 ghost use Rattle.command_line.specs.Endings.{status_of};
 
 use crate::ending::Ending;
-use load::FileName;
 use std::io;
 use std::io::Write;
 use std::process::ExitCode;
 
-/// What the system refused, and why.
-#[derive(Debug, Drop)]
-enum Refused {
-    /// This file was not opened.
-    Opening(FileName, io::Error),
-    /// No random numbers were given.
-    Random(io::Error),
-}
-
-/// How the program ended, and what the system refused, where that is why.
+/// How the program ended, and why the system gave no random numbers, where that is the cause.
 #[derive(Debug, Drop)]
 pub struct Ended {
     pub ending: Ending,
-    refused: Option<Refused>,
+    without_random: Option<io::Error>,
 }
 
 impl Ended {
@@ -32,17 +22,7 @@ impl Ended {
     {
         Ended {
             ending,
-            refused: None,
-        }
-    }
-
-    /// The program ended since the system would not open a file.
-    pub fn unopened(name: FileName, error: io::Error) -> Ended
-        ensures { result.ending ≡ Ending.FileFault }
-    {
-        Ended {
-            ending: Ending::FileFault,
-            refused: Some(Refused::Opening(name, error)),
+            without_random: None,
         }
     }
 
@@ -52,19 +32,20 @@ impl Ended {
     {
         Ended {
             ending: Ending::FileFault,
-            refused: Some(Refused::Random(error)),
+            without_random: Some(error),
         }
     }
 
-    /// Writes the line of its ending, where that has one, and behind `file fault` a line that says what failed: the file that
-    /// was not opened, or the random numbers, with the system's cause, or the input or the output. What `err` refuses is not
-    /// told.
+    /// Writes the line of its ending, where that has one, and behind `file fault` a line that says what failed: the random
+    /// numbers, with the system's cause, or the input or the output. What `err` refuses is not told.
     pub fn tell<E: Write>(&self, err: &mut E) {
         if let Some(message) = self.ending.message() {
             let _ = write!(err, "{message}\n");
         }
-        match &self.refused {
-            Some(refused) => refused.tell(err),
+        match &self.without_random {
+            Some(error) => {
+                let _ = write!(err, "no random numbers: {error}\n");
+            }
             None => self.tell_stream(err),
         }
         let _ = err.flush();
@@ -84,15 +65,5 @@ impl Ended {
         ensures { exit_status result ≡ status_of self.now.ending }
     {
         self.ending.code()
-    }
-}
-
-impl Refused {
-    /// Writes the line that says what was refused, with the system's cause.
-    fn tell<E: Write>(&self, err: &mut E) {
-        let _ = match self {
-            Refused::Opening(name, error) => write!(err, "{}: {error}\n", name.as_str()),
-            Refused::Random(error) => write!(err, "no random numbers: {error}\n"),
-        };
     }
 }

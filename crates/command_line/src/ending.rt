@@ -1,21 +1,18 @@
-// How the program ends.
+// How the program ends behind a script, help, or words that it does not take.
 ghost use Rattle.std.specs.Prelude.{◌≡◌};
 ghost use Rattle.std.specs.Option.{option_map};
 ghost use Rattle.std.specs.Process.{exit_status};
-ghost use Rattle.command_line.specs.Endings.{ending_of_script, ending_of_check, status_of, message_of};
+ghost use Rattle.command_line.specs.Endings.{ending_of_script, status_of, message_of};
 
-use certificate_checker::{JudgeFault, Judged};
 use scripts::{ScriptFault, Scripted};
 use std::process::ExitCode;
 
 /// How the program ends.
 #[derive(Clone, Copy, Debug, PartialEq, Eq)]
 pub enum Ending {
-    /// All was done: the script ended, the trace was accepted, or help was given.
+    /// All was done: the script ended, or help was given.
     Done,
-    /// The trace was rejected.
-    Rejected,
-    /// The input was bad: a line, a configuration, a trace, or the words of the command line.
+    /// The input was bad: a line, a configuration, or the words of the command line.
     BadInput,
     /// Memory was refused.
     OutOfMemory,
@@ -39,26 +36,12 @@ impl Ending {
         }
     }
 
-    /// How the program ends after a trace was judged.
-    pub fn of_check(outcome: Result<Judged, JudgeFault>) -> Ending
-        ensures { result ≡ ending_of_check outcome }
-    {
-        match outcome {
-            Ok(Judged::Accepted) => Ending::Done,
-            Ok(Judged::Rejected) => Ending::Rejected,
-            Ok(Judged::BadTrace) => Ending::BadInput,
-            Err(JudgeFault::OutOfMemory) => Ending::OutOfMemory,
-            Err(JudgeFault::WriteFault) => Ending::FileFault,
-        }
-    }
-
     /// The status that the program ends with.
     pub fn status(self) -> u8
         ensures { result ≡ status_of self }
     {
         match self {
             Ending::Done => 0,
-            Ending::Rejected => 1,
             Ending::BadInput => 2,
             Ending::OutOfMemory | Ending::ReadFault | Ending::FileFault => 3,
         }
@@ -76,7 +59,7 @@ impl Ending {
         ensures { option_map (λ m. m.now) result ≡ message_of self }
     {
         match self {
-            Ending::Done | Ending::Rejected | Ending::BadInput => None,
+            Ending::Done | Ending::BadInput => None,
             Ending::OutOfMemory => Some("out of memory"),
             Ending::ReadFault | Ending::FileFault => Some("file fault"),
         }

@@ -2,6 +2,7 @@
 #![tactic(auto)]
 
 mod answering;
+mod asked_file;
 mod asked_load;
 mod asking;
 mod ended;
@@ -12,12 +13,10 @@ mod parse;
 mod program;
 mod telling;
 
-pub use answering::{answer_check, answer_script, check_file, tell_help};
+pub use answering::{answer_script, tell_help};
 pub use asking::asked;
 pub use ended::Ended;
 pub use ending::Ending;
-pub use key_hash::RandomSeed;
 pub use line::Line;
 pub use line_fault::LineFault;
-pub use load::FileName;
 pub use parse::{no_text, parse_line};

@@ -1,13 +1,18 @@
 // What the command line asks for.
-use load::{FileName, Load, ServedLoad};
+use file_requests::{CheckRequest, JudgeRequest, ShowRequest};
+use load::{Load, ServedLoad};
 
 /// What the words of the command line ask for.
 #[derive(Debug, Drop)]
 pub enum Line {
     /// The script of standard input is to be answered.
     Script,
-    /// The trace in this file is to be judged.
-    Check(FileName),
+    /// A trace is to be judged.
+    Check(CheckRequest),
+    /// A history that was written as text is to be judged.
+    Judge(JudgeRequest),
+    /// A trace is to be written as text.
+    Show(ShowRequest),
     /// This load is to be run.
     Run(Load),
     /// This load of a cache that serves is to be run.

@@ -3,7 +3,8 @@ ghost use Rattle.std.specs.Prelude.{◌≡◌, [], IfOk, OnOk, IfErr, IsSome, tr
 ghost use Rattle.clap.specs.Words.{fault_of, found_of, kind_of, rows_of, subcommand_rows_of, takes};
 ghost use Rattle.command_line.specs.CommandLine.{wanted_by, wanted_by_words, wanted_of, program, IsRefusal, IsToldOf, IsUsage};
 
-use crate::asked_load::{check_line, run_line, serve_line};
+use crate::asked_file::{check_line, judge_line, show_line};
+use crate::asked_load::{run_line, serve_line};
 use crate::line::Line;
 use crate::line_fault::LineFault;
 use crate::program::program;
@@ -22,6 +23,16 @@ fn line_of<'a>(alloc: Global, name: &str, found: &ArgMatches<'a>) -> Result<Line
 {
     if name == "check" {
         match check_line(alloc, found) {
+            Ok(line) => Ok(line),
+            Err(fault) => Err(fault),
+        }
+    } else if name == "judge" {
+        match judge_line(alloc, found) {
+            Ok(line) => Ok(line),
+            Err(fault) => Err(fault),
+        }
+    } else if name == "show" {
+        match show_line(alloc, found) {
             Ok(line) => Ok(line),
             Err(fault) => Err(fault),
         }

@@ -1,9 +1,9 @@
 // The program's command line, as `clap` reads it.
 ghost use Rattle.std.specs.Prelude.{◌≡◌, IfOk, false};
 ghost use Rattle.clap.specs.Words.{app_of, rule_of};
-ghost use Rattle.command_line.specs.CommandLine.{check_command, device_rule, file_rule, option_rule, program, run_command, script_command, serve_command, size_rule, trace_rule};
+ghost use Rattle.command_line.specs.CommandLine.{check_command, device_rule, explain_rule, file_rule, judge_command, key_rule, option_rule, out_rule, picture_rule, program, run_command, script_command, serve_command, show_command, size_rule, trace_rule};
 
-use clap::{Arg, Command};
+use clap::{Arg, ArgAction, Command};
 use load::{SERVED_SETTINGS, SETTINGS, Setting, SizeSetting};
 use std::alloc::{AllocError, Global};
 
@@ -24,6 +24,8 @@ pub fn program<'a>(alloc: Global) -> Result<Command<'a>, AllocError>
         .subcommand_required(true)
         .subcommand(script(alloc))?;
     let kangaroo = kangaroo.subcommand(check(alloc)?)?;
+    let kangaroo = kangaroo.subcommand(judge(alloc)?)?;
+    let kangaroo = kangaroo.subcommand(show(alloc)?)?;
     let kangaroo = kangaroo.subcommand(run(alloc)?)?;
     kangaroo.subcommand(serve(alloc)?)
 }
@@ -40,17 +42,84 @@ fn check<'a>(alloc: Global) -> Result<Command<'a>, AllocError>
     ensures { IfOk result (λ c. app_of c ≡ check_command) }
 {
     let check = Command::new(alloc, "check").about("Judges the trace in a file");
-    check.arg(file(alloc))
+    let check = check.arg(file(alloc, "The file of the trace"))?;
+    let explained = check.arg(explain(alloc))?;
+    explained.arg(picture(alloc))
 }
 
-/// The file that is to be checked.
-fn file<'a>(alloc: Global) -> Arg<'a>
+/// The subcommand `judge`.
+fn judge<'a>(alloc: Global) -> Result<Command<'a>, AllocError>
+    ensures { IfOk result (λ c. app_of c ≡ judge_command) }
+{
+    let judge = Command::new(alloc, "judge").about(
+        "Judges a history that brings no certificate, written as text, a call a line",
+    );
+    let judge = judge.arg(file(alloc, "The file of the text, or - for standard input"))?;
+    let explained = judge.arg(explain(alloc))?;
+    let pictured = explained.arg(picture(alloc))?;
+    pictured.arg(out(alloc))
+}
+
+/// The subcommand `show`.
+fn show<'a>(alloc: Global) -> Result<Command<'a>, AllocError>
+    ensures { IfOk result (λ c. app_of c ≡ show_command) }
+{
+    let show = Command::new(alloc, "show").about(
+        "Writes the trace in a file as text, a call a line",
+    );
+    let show = show.arg(file(alloc, "The file of the trace"))?;
+    show.arg(key(alloc))
+}
+
+/// The file that is to be read.
+fn file<'a>(alloc: Global, meaning: &'a str) -> Arg<'a>
     ensures rule { rule_of result ≡ file_rule }
     ensures local { result.global ≡ false }
 {
-    Arg::new(alloc, "FILE")
-        .required(true)
-        .help("The file of the trace")
+    Arg::new(alloc, "FILE").required(true).help(meaning)
+}
+
+/// Whether it is said why a history is rejected.
+fn explain<'a>(alloc: Global) -> Arg<'a>
+    ensures rule { rule_of result ≡ explain_rule }
+    ensures local { result.global ≡ false }
+{
+    Arg::new(alloc, "explain")
+        .long("explain")
+        .action(ArgAction::SetTrue)
+        .help("Says why the history is rejected, with the calls round the place")
+}
+
+/// The file that a picture is drawn to.
+fn picture<'a>(alloc: Global) -> Arg<'a>
+    ensures rule { rule_of result ≡ picture_rule }
+    ensures local { result.global ≡ false }
+{
+    Arg::new(alloc, "picture")
+        .long("picture")
+        .value_name("OUT")
+        .help("The file that a picture of why the history is rejected is drawn to, as SVG")
+}
+
+/// The file that an accepted history is written to.
+fn out<'a>(alloc: Global) -> Arg<'a>
+    ensures rule { rule_of result ≡ out_rule }
+    ensures local { result.global ≡ false }
+{
+    Arg::new(alloc, "trace")
+        .long("trace")
+        .value_name("OUT")
+        .help("The file that an accepted history is written to, as a trace that check accepts")
+}
+
+/// The key whose calls alone are written.
+fn key<'a>(alloc: Global) -> Arg<'a>
+    ensures rule { rule_of result ≡ key_rule }
+    ensures local { result.global ≡ false }
+{
+    Arg::new(alloc, "key").long("key").value_name("KEY").help(
+        "The key whose calls alone are written, percent-coded as in the text",
+    )
 }
 
 /// The subcommand `run`.

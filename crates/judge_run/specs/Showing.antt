@@ -46,11 +46,22 @@ HasShown known only Whole old new = ShownWhole known only old new
 HasShown known only BadTrace old new = ShownBad known old new
 HasShown known only (TooLate position) old new = ShownBefore known only old new position
 
+-- the text is that of the bytes' trace
+pub record ShowsTrace (known only : Option (List ℕ)) (text : List ℕ) : Type 0 where
+  pub trace : Trace
+  pub read : IfSome known (λ bytes. IsTrace bytes trace.history trace.certificate)
+  pub text_is : text ≡ written only trace.history
+
+-- the text is the line that says why the bytes are no trace
+pub record ShowsBad (known : Option (List ℕ)) (text : List ℕ) : Type 0 where
+  pub fault : TraceFault
+  pub read : IfSome known (λ bytes. IsFaultOf bytes fault)
+  pub text_is : text ≡ bad_trace_text fault
+
 -- of the text of the bytes' trace, or of the line that says that they are none, a front was written
 pub record BeganShowing (known only old new : Option (List ℕ)) : Type 0 where
   pub text : List ℕ
-  pub of : ((trace : Trace) × IfSome known (λ bytes. IsTrace bytes trace.history trace.certificate) × (text ≡ written only trace.history))
-  ⊎ ((fault : TraceFault) × IfSome known (λ bytes. IsFaultOf bytes fault) × (text ≡ bad_trace_text fault))
+  pub is : ShowsTrace known only text ⊎ ShowsBad known text
   pub began : Begun old new text
 
 -- memory was refused before the first line, or behind the lines of some of the trace's first calls

@@ -5,6 +5,7 @@ ghost use Rattle.certificate_finder.specs.Witnesses.{IsWitness};
 ghost use Rattle.history_text.specs.Text.{text_by};
 ghost use Rattle.judge_run.specs.TextTold.{IsHistoryTold, IsRejectionTold, IsTextTold, IsTextUntold, ToldText, bad_text, rejected_text};
 
+use crate::names::copied;
 use crate::outcome::Outcome;
 use crate::rejection::Rejection;
 use crate::tell_fault::TellFault;
@@ -128,7 +129,7 @@ fn told_rejected<S: BuildHasher + Drop>(
     let rejection = Rejection {
         history,
         lines,
-        callers: callers.into_names(alloc)?,
+        callers: copied(alloc, callers.names())?,
         reason: Reason::of_witness(witness),
     };
     let text = rejection.told_behind(alloc, line, explain)?;

@@ -4,6 +4,7 @@
 mod checking;
 mod judge_end;
 mod judging_texts;
+mod names;
 mod outcome;
 mod rejection;
 mod run;

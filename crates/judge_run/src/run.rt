@@ -13,7 +13,7 @@ use crate::shown::Shown;
 use crate::tell_fault::TellFault;
 use crate::telling::{no_key, out_of_memory, too_late, unopened, untold, without_random};
 use file_requests::{CheckRequest, FileName, JudgeRequest, ShowRequest};
-use history_text::key_of_word;
+use history_text::{LineFault, key_bytes};
 use key_hash::RandomSeed;
 use std::fs;
 use std::io::{BufWriter, Write};
@@ -115,10 +115,10 @@ fn show_to_end<R: AllocGlobal + Files, O: Write + Drop, E: Write>(
     err: &mut E,
 ) -> JudgeEnd {
     let key = match &request.key {
-        Some(word) => match key_of_word(rt.alloc(), word.as_bytes()) {
-            Ok(Some(key)) => Some(key),
-            Ok(None) => return no_key(err),
-            Err(_) => return out_of_memory(err),
+        Some(word) => match key_bytes(rt.alloc(), word.as_bytes()) {
+            Ok(key) => Some(key),
+            Err(LineFault::Bad(cause)) => return no_key(err, cause),
+            Err(LineFault::OutOfMemory) => return out_of_memory(err),
         },
         None => None,
     };
@@ -129,7 +129,10 @@ fn show_to_end<R: AllocGlobal + Files, O: Write + Drop, E: Write>(
     let Ok(mut writer) = BufWriter::new(rt.alloc(), out) else {
         return out_of_memory(err);
     };
-    let only = key.as_ref().map(|key| key.bytes());
+    let only = match &key {
+        Some(key) => Some(key.as_slice()),
+        None => None,
+    };
     let shown = answer_show(rt.alloc(), only, &mut reader, &mut writer);
     if writer.flush().is_err() {
         return untold(err, TellFault::WriteFault);

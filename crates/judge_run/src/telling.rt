@@ -5,6 +5,7 @@ ghost use Rattle.judge_run.specs.Ends.{end_of_fault};
 use crate::judge_end::JudgeEnd;
 use crate::tell_fault::TellFault;
 use file_requests::FileName;
+use history_text::Cause;
 use std::io;
 use std::io::Write;
 
@@ -60,11 +61,11 @@ pub(crate) fn untold<E: Write>(err: &mut E, fault: TellFault) -> JudgeEnd
     JudgeEnd::of_fault(fault)
 }
 
-/// Tells that a key is spelled as none.
-pub(crate) fn no_key<E: Write>(err: &mut E) -> JudgeEnd
+/// Tells why a word writes no key.
+pub(crate) fn no_key<E: Write>(err: &mut E, cause: Cause) -> JudgeEnd
     ensures { result ≡ JudgeEnd.BadInput }
 {
-    let _ = write!(err, "the key is not 1 to 255 bytes, percent-coded\n");
+    let _ = write!(err, "--key: {cause}\n");
     let _ = err.flush();
     JudgeEnd::BadInput
 }

@@ -1,0 +1,113 @@
+// What was found for the arguments of a subcommand that reads a file.
+ghost use Rattle.std.specs.Prelude.{◌≡◌, IfOk, IfErr, IsSome, Some, codes, option_map, string_bytes};
+ghost use Rattle.clap.specs.Words.{first_of, found_of, rows_of};
+ghost use Rattle.command_line.specs.CommandLine.{check_wanted, is_on, judge_wanted, show_wanted, wanted_of, IsUsage};
+
+use crate::line::Line;
+use crate::line_fault::LineFault;
+use crate::telling::usage;
+use clap::ArgMatches;
+use file_requests::{CheckRequest, FileName, JudgeRequest, ShowRequest};
+use std::alloc::{AllocError, Global};
+
+/// The file that was found for an option; none where none is given.
+pub(crate) fn file_found<'a>(
+    alloc: Global,
+    found: &ArgMatches<'a>,
+    option: &str,
+) -> Result<Option<FileName>, AllocError>
+    ensures { IfOk result (λ file. file ≡ first_of option.now (rows_of (found_of found.now))) }
+{
+    match found.get_str(option) {
+        Some(file) => {
+            let name = FileName::new(alloc, file)?;
+            Ok(Some(name))
+        }
+        None => Ok(None),
+    }
+}
+
+/// Whether a flag is on.
+fn is_on<'a>(found: &ArgMatches<'a>, flag: &str) -> bool
+    ensures { result ≡ is_on flag.now (rows_of (found_of found.now)) }
+{
+    match found.get_str(flag) {
+        Some(word) => word == "true",
+        None => false,
+    }
+}
+
+/// The word that was found for an option; none where none is given.
+fn word_found<'a>(
+    alloc: Global,
+    found: &ArgMatches<'a>,
+    option: &str,
+) -> Result<Option<String>, AllocError>
+    ensures { IfOk result (λ word.
+        option_map string_bytes word ≡ first_of option.now (rows_of (found_of found.now))) }
+{
+    match found.get_str(option) {
+        Some(word) => {
+            let word = String::from_str(alloc, word)?;
+            Ok(Some(word))
+        }
+        None => Ok(None),
+    }
+}
+
+/// What `check` asks for.
+pub(crate) fn check_line<'a>(alloc: Global, found: &ArgMatches<'a>) -> Result<Line, LineFault>
+    ensures named { IfOk result (λ line. check_wanted (rows_of (found_of found.now)) ≡ Some (wanted_of line)) }
+    ensures refused { IfErr result (λ fault. IsUsage fault) }
+    ensures taken { IsSome (check_wanted (rows_of (found_of found.now)))
+        → IfErr result (λ fault. fault ≡ LineFault.OutOfMemory) }
+{
+    let Some(file) = found.get_str("FILE") else {
+        return Err(usage(alloc, "no file\n"));
+    };
+    let file = FileName::new(alloc, file)?;
+    let explain = is_on(found, "explain");
+    let picture = file_found(alloc, found, "picture")?;
+    Ok(Line::Check(CheckRequest {
+        file,
+        explain,
+        picture,
+    }))
+}
+
+/// What `judge` asks for.
+pub(crate) fn judge_line<'a>(alloc: Global, found: &ArgMatches<'a>) -> Result<Line, LineFault>
+    ensures named { IfOk result (λ line. judge_wanted (rows_of (found_of found.now)) ≡ Some (wanted_of line)) }
+    ensures refused { IfErr result (λ fault. IsUsage fault) }
+    ensures taken { IsSome (judge_wanted (rows_of (found_of found.now)))
+        → IfErr result (λ fault. fault ≡ LineFault.OutOfMemory) }
+{
+    let Some(file) = found.get_str("FILE") else {
+        return Err(usage(alloc, "no file\n"));
+    };
+    let file = FileName::new(alloc, file)?;
+    let explain = is_on(found, "explain");
+    let picture = file_found(alloc, found, "picture")?;
+    let trace = file_found(alloc, found, "trace")?;
+    Ok(Line::Judge(JudgeRequest {
+        file,
+        explain,
+        picture,
+        trace,
+    }))
+}
+
+/// What `show` asks for.
+pub(crate) fn show_line<'a>(alloc: Global, found: &ArgMatches<'a>) -> Result<Line, LineFault>
+    ensures named { IfOk result (λ line. show_wanted (rows_of (found_of found.now)) ≡ Some (wanted_of line)) }
+    ensures refused { IfErr result (λ fault. IsUsage fault) }
+    ensures taken { IsSome (show_wanted (rows_of (found_of found.now)))
+        → IfErr result (λ fault. fault ≡ LineFault.OutOfMemory) }
+{
+    let Some(file) = found.get_str("FILE") else {
+        return Err(usage(alloc, "no file\n"));
+    };
+    let file = FileName::new(alloc, file)?;
+    let key = word_found(alloc, found, "key")?;
+    Ok(Line::Show(ShowRequest { file, key }))
+}
