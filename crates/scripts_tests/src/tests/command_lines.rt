@@ -1,6 +1,6 @@
-// What the words of a command line ask for, and files that are no trace.
-use certificate_checker::Judged;
-use command_line::{Ended, Ending, FileName, Line, LineFault, check_file, no_text, parse_line};
+// What the words of a command line ask for, and how the program ends.
+use command_line::{Ended, Ending, Line, LineFault, no_text, parse_line};
+use file_requests::{CheckRequest, FileName, JudgeRequest, ShowRequest};
 use std::alloc::Global;
 use std::io;
 use std::io::ErrorKind;
@@ -12,6 +12,16 @@ enum Asked {
     Script,
     /// The check of the file `a.trace`.
     Check,
+    /// The same, explained and drawn to `a.svg`.
+    CheckExplained,
+    /// The history of standard input judged.
+    Judge,
+    /// That of `a.txt` judged, explained, drawn to `a.svg` and written to `b.trace`.
+    JudgeAll,
+    /// The trace `a.trace` shown.
+    Show,
+    /// Its calls of the key `a%20b`.
+    ShowKey,
     /// They are told how the words are spelled.
     Usage,
     Help,
@@ -24,11 +34,60 @@ fn is_usage(text: &str) -> bool {
     text.starts_with("error: ") && text.contains("\n\nUsage: kangaroo ")
 }
 
+/// Whether a file is named so, or none is where this is empty.
+fn is_named(file: &Option<FileName>, name: &str) -> bool {
+    match file {
+        Some(file) => file.as_str() == name,
+        None => name.is_empty(),
+    }
+}
+
+/// What a check asks for.
+fn check_asked(request: &CheckRequest) -> Asked {
+    if request.file.as_str() != "a.trace" {
+        return Asked::Other;
+    }
+    if !request.explain && is_named(&request.picture, "") {
+        return Asked::Check;
+    }
+    if request.explain && is_named(&request.picture, "a.svg") {
+        return Asked::CheckExplained;
+    }
+    Asked::Other
+}
+
+/// What judging asks for.
+fn judge_asked(request: &JudgeRequest) -> Asked {
+    let has_all = is_named(&request.picture, "a.svg") && is_named(&request.trace, "b.trace");
+    let has_none = is_named(&request.picture, "") && is_named(&request.trace, "");
+    if request.file.as_str() == "-" && !request.explain && has_none {
+        return Asked::Judge;
+    }
+    if request.file.as_str() == "a.txt" && request.explain && has_all {
+        return Asked::JudgeAll;
+    }
+    Asked::Other
+}
+
+/// What showing asks for.
+fn show_asked(request: &ShowRequest) -> Asked {
+    if request.file.as_str() != "a.trace" {
+        return Asked::Other;
+    }
+    match &request.key {
+        Some(key) if key.as_str() == "a%20b" => Asked::ShowKey,
+        Some(_) => Asked::Other,
+        None => Asked::Show,
+    }
+}
+
 /// What a command line asks for.
 fn what_is_asked(line: &Result<Line, LineFault>) -> Asked {
     match line {
         Ok(Line::Script) => Asked::Script,
-        Ok(Line::Check(file)) if file.as_str() == "a.trace" => Asked::Check,
+        Ok(Line::Check(request)) => check_asked(request),
+        Ok(Line::Judge(request)) => judge_asked(request),
+        Ok(Line::Show(request)) => show_asked(request),
         Err(LineFault::Usage(text)) if is_usage(text.as_str()) => Asked::Usage,
         Err(LineFault::Help(text)) if text.as_str() == "kangaroo 0.1.0\n" => Asked::Version,
         Err(LineFault::Help(text)) if text.as_str().contains("Usage: kangaroo <COMMAND>\n") => {
@@ -51,6 +110,46 @@ fn command_lines_are_read(rt: HostRuntime) {
     assert!(rt; ask_for(alloc, &["kangaroo", "check", "a.trace"], Asked::Check));
     assert!(rt; ask_for(alloc, &["kangaroo", "--help"], Asked::Help));
     assert!(rt; ask_for(alloc, &["kangaroo", "--version"], Asked::Version));
+}
+
+/// The words of `check` with all its options.
+const CHECK_EXPLAINED: [&str; 6] = [
+    "kangaroo",
+    "check",
+    "--explain",
+    "a.trace",
+    "--picture",
+    "a.svg",
+];
+
+/// The words of `judge` with all its options.
+const JUDGE_ALL: [&str; 7] = [
+    "kangaroo",
+    "judge",
+    "--trace",
+    "b.trace",
+    "--picture=a.svg",
+    "--explain",
+    "a.txt",
+];
+
+#[test]
+fn judging_and_showing_are_asked_for(rt: HostRuntime) {
+    let alloc = rt.alloc();
+    assert!(rt; ask_for(alloc, &CHECK_EXPLAINED, Asked::CheckExplained));
+    assert!(rt; ask_for(alloc, &["kangaroo", "judge", "-"], Asked::Judge));
+    assert!(rt; ask_for(alloc, &JUDGE_ALL, Asked::JudgeAll));
+    assert!(rt; ask_for(alloc, &["kangaroo", "show", "a.trace"], Asked::Show));
+    assert!(rt;
+        ask_for(
+            alloc,
+            &["kangaroo", "show", "a.trace", "--key", "a%20b"],
+            Asked::ShowKey
+        )
+    );
+    assert!(rt; ask_for(alloc, &["kangaroo", "judge", "--explain"], Asked::Usage));
+    assert!(rt; ask_for(alloc, &["kangaroo", "show", "a.trace", "--explain"], Asked::Usage));
+    assert!(rt; ask_for(alloc, &["kangaroo", "judge", "a.txt", "--trace"], Asked::Usage));
 }
 
 /// The program calls itself by one name, whatever file it was started as.
@@ -83,23 +182,6 @@ fn other_command_lines_get_a_usage(rt: HostRuntime) {
         )
     );
     assert!(rt; ask_for(alloc, &["kangaroo", "cheque", "a.trace"], Asked::Usage));
-}
-
-#[test]
-fn what_is_no_file_is_no_trace(rt: HostRuntime) -> Result<(), Fail> {
-    let mut out: Vec<u8> = Vec::new(rt.alloc());
-    let absent = FileName::new(rt.alloc(), "there is no such file")?;
-    let mut told: Vec<u8> = Vec::new(rt.alloc());
-    let ended = check_file(&rt, absent, &mut out);
-    assert_eq!(rt; ended.ending, Ending::FileFault);
-    ended.tell(&mut told);
-    assert_eq!(rt;
-        told.as_slice(),
-        b"file fault\nthere is no such file: No such file or directory (os error 2)\n".as_slice()
-    );
-    let folder = FileName::new(rt.alloc(), ".")?;
-    assert_eq!(rt; check_file(&rt, folder, &mut out).ending, Ending::BadInput);
-    Ok(())
 }
 
 /// Whether a program that ended so tells these lines, and no others.
@@ -144,9 +226,7 @@ fn a_system_without_random_numbers_is_told(rt: HostRuntime) {
 
 #[test]
 fn each_ending_has_its_status(rt: HostRuntime) {
-    assert_eq!(rt; Ending::of_check(Ok(Judged::Rejected)), Ending::Rejected);
     assert_eq!(rt; Ending::Done.status(), 0);
-    assert_eq!(rt; Ending::Rejected.status(), 1);
     assert_eq!(rt; Ending::BadInput.status(), 2);
     assert_eq!(rt; Ending::FileFault.status(), 3);
 }

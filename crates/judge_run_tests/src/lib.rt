@@ -1,0 +1,5 @@
+//! Tests of judging, checking and showing, through public calls.
+#![tactic(auto)]
+
+#[cfg(test)]
+mod tests;

@@ -1,0 +1,244 @@
+// What is told of histories, of traces, and of what is neither.
+use judge_run::{JudgeEnd, Outcome, Shown, answer_check, answer_judge, answer_show};
+use std::alloc::Global;
+use std::hash::{BuildHasherDefault, FoldHasher};
+use trace_file::{Trace, write_trace};
+
+/// A text that is judged, and what is told of it.
+#[derive(Clone, Copy)]
+struct Case {
+    text: &'static str,
+    explain: bool,
+    told: &'static str,
+    end: JudgeEnd,
+}
+
+/// A stale hit.
+const STALE: &str =
+    "alice 10 14 put color red\nbob 16 21 put color blue\ncarol 25 30 hit color red\n";
+
+/// What is said of it behind its line.
+const EXPLAINED: &str = "rejected hit key color lines 1 2 3
+the hit of red (line 3) is stale: put red (line 1) ended at 14, before put blue (line 2) started at 16, which ended at 21, before the hit started at 25
+* 1  alice  10  14  put    red   []
+* 2  bob    16  21  put    blue    []
+* 3  carol  25  30  hit    red       []
+";
+
+/// Texts, each with what is told of it. The verdicts were worked out by hand.
+const CASES: [Case; 10] = [
+    Case {
+        text: "",
+        explain: true,
+        told: "accepted 0 calls\n",
+        end: JudgeEnd::Done,
+    },
+    Case {
+        text: "a 1 4 put k v\nb 2 6 hit k v\na 5 8 remove k\n",
+        explain: true,
+        told: "accepted 3 calls\n",
+        end: JudgeEnd::Done,
+    },
+    Case {
+        text: "a 5 - put k v\nb 9 12 hit k v\nc 1 2 miss k",
+        explain: false,
+        told: "accepted 3 calls\n",
+        end: JudgeEnd::Done,
+    },
+    Case {
+        text: STALE,
+        explain: false,
+        told: "rejected hit key color lines 1 2 3\n",
+        end: JudgeEnd::Rejected,
+    },
+    Case {
+        text: STALE,
+        explain: true,
+        told: EXPLAINED,
+        end: JudgeEnd::Rejected,
+    },
+    Case {
+        text: "# the clock ran back\na 9 3 put %2D -\n",
+        explain: false,
+        told: "rejected interval key %2D lines 2\n",
+        end: JudgeEnd::Rejected,
+    },
+    Case {
+        text: "a 1 10 put k x\nb 1 10 put k y\nc 11 12 hit k x\nc 13 14 hit k y\nc 15 16 hit k x\n",
+        explain: false,
+        told: "rejected crossed key k lines 1 2 4 5\n",
+        end: JudgeEnd::Rejected,
+    },
+    Case {
+        text: "a 1 2 put k v 7\nb 3 4 hit k v 7\n",
+        explain: false,
+        told: "rejected hit key k lines 1 2\n",
+        end: JudgeEnd::Rejected,
+    },
+    Case {
+        text: "a 1 9 put k v\nb 2 8 put k v\nc 3 4 hit k v\n",
+        explain: true,
+        told: "undecided 1 hits\n",
+        end: JudgeEnd::Undecided,
+    },
+    Case {
+        text: "a 1 2 put k v\n\n# bad\na 1 2 get k\n",
+        explain: true,
+        told: "bad line 4: none of put, hit, miss and remove\n",
+        end: JudgeEnd::BadInput,
+    },
+];
+
+/// Judges a text by a table that hashes by a known seed, and says how it ends.
+fn judged(alloc: Global, text: &str, explain: bool, told: &mut Vec<u8>) -> Option<Outcome> {
+    let known: BuildHasherDefault<FoldHasher> = BuildHasherDefault::new();
+    let mut reader = text.as_bytes();
+    answer_judge(alloc, known, explain, &mut reader, told).ok()
+}
+
+/// Whether a case is told as it should be.
+fn is_as_told(alloc: Global, case: &Case) -> bool {
+    let mut told: Vec<u8> = Vec::new(alloc);
+    match judged(alloc, case.text, case.explain, &mut told) {
+        Some(outcome) => {
+            told.as_slice() == case.told.as_bytes() && JudgeEnd::of_outcome(&outcome) == case.end
+        }
+        None => false,
+    }
+}
+
+#[test]
+fn each_text_has_its_verdict(rt: HostRuntime) {
+    for case in &CASES {
+        assert!(rt; is_as_told(rt.alloc(), case));
+    }
+}
+
+/// The bytes of the trace that a text gives.
+fn trace_of(alloc: Global, text: &str) -> Option<Vec<u8>> {
+    let mut told: Vec<u8> = Vec::new(alloc);
+    match judged(alloc, text, false, &mut told) {
+        Some(Outcome::Accepted(trace)) => bytes_of(alloc, &trace),
+        _ => None,
+    }
+}
+
+/// The bytes of a trace.
+fn bytes_of(alloc: Global, trace: &Trace) -> Option<Vec<u8>> {
+    let mut bytes: Vec<u8> = Vec::new(alloc);
+    match write_trace(&trace.history, &trace.certificate, &mut bytes) {
+        Ok(()) => Some(bytes),
+        Err(_) => None,
+    }
+}
+
+/// A text that is accepted, whose callers are numbered by first appearance.
+const TEXT: &str =
+    "b 2 6 hit k v\na 1 4 put k v\na 5 8 remove k\nb 7 - put %2D - 9\na 10 11 hit %2D - 3\na 10 11 miss k\n";
+
+/// The same text as it is shown.
+const SHOWN: &str =
+    "c0 2 6 hit k v\nc1 1 4 put k v\nc1 5 8 remove k\nc0 7 - put %2D - 9\nc1 10 11 hit %2D - 3\nc1 10 11 miss k\n";
+
+/// What a trace is told to be, explained.
+fn checked(alloc: Global, bytes: &[u8], told: &mut Vec<u8>) -> Option<JudgeEnd> {
+    let known: BuildHasherDefault<FoldHasher> = BuildHasherDefault::new();
+    let mut reader = bytes;
+    match answer_check(alloc, known, true, &mut reader, told) {
+        Ok(outcome) => Some(JudgeEnd::of_outcome(&outcome)),
+        Err(_) => None,
+    }
+}
+
+/// Whether these bytes are told to be this, explained, and the program ends so.
+fn is_checked(alloc: Global, bytes: &[u8], told: &str, end: JudgeEnd) -> bool {
+    let mut written: Vec<u8> = Vec::new(alloc);
+    let ended = checked(alloc, bytes, &mut written);
+    ended == Some(end) && written.as_slice() == told.as_bytes()
+}
+
+/// Whether the trace of a text is accepted.
+fn is_trace_accepted(alloc: Global) -> bool {
+    match trace_of(alloc, TEXT) {
+        Some(bytes) => is_checked(alloc, &bytes, "accepted 6 calls\n", JudgeEnd::Done),
+        None => false,
+    }
+}
+
+#[test]
+fn the_trace_of_an_accepted_text_is_accepted(rt: HostRuntime) {
+    assert!(rt; is_trace_accepted(rt.alloc()));
+}
+
+/// What is said of a trace whose certificate puts a hit before its put: positions stand in the place of lines, numbers in that of
+/// names.
+const TURNED: &str = "rejected WrongHit place 0
+the hit of v (position 1) is wrong at place 0 of the certificate: no write of its key stands before it
+  0  0  1  4  put    v  [=]
+* 1  1  2  6  hit    v   [=]
+";
+
+/// The trace of a put and its hit, with the two places of its certificate turned.
+fn turned(alloc: Global) -> Option<Vec<u8>> {
+    let mut bytes = trace_of(alloc, "a 1 4 put k v\nb 2 6 hit k v\n")?;
+    let len = bytes.len();
+    if len < 8 {
+        return None;
+    }
+    bytes[len - 5] = 1;
+    bytes[len - 1] = 0;
+    Some(bytes)
+}
+
+/// Whether that trace is told so.
+fn is_turned_explained(alloc: Global) -> bool {
+    match turned(alloc) {
+        Some(bytes) => is_checked(alloc, &bytes, TURNED, JudgeEnd::Rejected),
+        None => false,
+    }
+}
+
+#[test]
+fn a_rejected_trace_is_explained(rt: HostRuntime) {
+    assert!(rt; is_turned_explained(rt.alloc()));
+}
+
+/// Whether a trace is shown so, whole.
+fn shows(alloc: Global, bytes: &[u8], only: Option<&[u8]>, text: &str) -> bool {
+    let mut told: Vec<u8> = Vec::new(alloc);
+    let mut reader = bytes;
+    let shown = answer_show(alloc, only, &mut reader, &mut told);
+    shown == Ok(Shown::Whole) && told.as_slice() == text.as_bytes()
+}
+
+/// The calls of that text's key `-`, as they are shown.
+const SHOWN_OF_KEY: &str = "c0 7 - put %2D - 9\nc1 10 11 hit %2D - 3\n";
+
+/// Whether the trace of a text is shown as it should be, all of it and the calls of a key.
+fn is_shown(alloc: Global) -> bool {
+    match trace_of(alloc, TEXT) {
+        Some(bytes) => {
+            let key = b"-".as_slice();
+            shows(alloc, &bytes, None, SHOWN) && shows(alloc, &bytes, Some(key), SHOWN_OF_KEY)
+        }
+        None => false,
+    }
+}
+
+#[test]
+fn a_trace_is_shown_as_text(rt: HostRuntime) {
+    assert!(rt; is_shown(rt.alloc()));
+}
+
+/// The line of what is no trace.
+const NO_TRACE: &str = "bad trace BadMagic at 7\n";
+
+#[test]
+fn what_is_no_trace_is_told(rt: HostRuntime) {
+    let mut told: Vec<u8> = Vec::new(rt.alloc());
+    let mut reader = b"KGTRACE3".as_slice();
+    let shown = answer_show(rt.alloc(), None, &mut reader, &mut told);
+    assert!(rt; shown == Ok(Shown::BadTrace));
+    assert_eq!(rt; told.as_slice(), NO_TRACE.as_bytes());
+    assert!(rt; is_checked(rt.alloc(), b"KGTRACE3", NO_TRACE, JudgeEnd::BadInput));
+}
