@@ -3,4 +3,7 @@ pub mod WritingLaws
 pub mod NameLaws
 pub mod LineLaws
 pub mod CodingLaws
+pub mod WordTexts
+pub mod LineTexts
+pub mod ReadBack
 pub mod Saying

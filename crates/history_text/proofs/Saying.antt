@@ -14,7 +14,7 @@ pub said_on : {A B : Type 0} (said : Result A Cause) (rest : A → Result B Caus
 said_on said rest (Bad cause) is = ap (λ r. r >>= rest) is
 said_on said rest OutOfMemory is = tt
 
-not_less : (a b : ℕ) → b ≤ a → ltb a b ≡ false
+pub not_less : (a b : ℕ) → b ≤ a → ltb a b ≡ false
 not_less a b least = elim (cases_Bool (ltb a b)) [
   | inl less ↦ absurd (omega (arith, least, ltb-true a b less))
   | inr fails ↦ fails

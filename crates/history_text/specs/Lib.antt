@@ -6,5 +6,6 @@ pub mod Text
 pub mod Outcome
 pub mod Reading
 pub mod Writing
+pub mod ReadingBack
 pub mod Laws
 pub mod Names

@@ -26,7 +26,7 @@ pub use cause::Cause;
 pub use coding::word;
 pub use from_reader::read_text;
 pub use key_word::key_bytes;
-pub use laws::word_laws;
+pub use laws::{history_laws, word_laws};
 pub use line_fault::LineFault;
 pub use lines::MAX_TEXT_LINE_LEN;
 pub use read_text_fault::ReadTextFault;
