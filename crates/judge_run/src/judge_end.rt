@@ -1,6 +1,6 @@
 // How the program ends that judged, checked or showed.
-ghost use Rattle.std.specs.Prelude.{◌≡◌, option_map};
-ghost use Rattle.judge_run.specs.Ends.{end_of_fault, end_of_outcome, message_of, status_of};
+ghost use Rattle.std.specs.Prelude.{◌≡◌};
+ghost use Rattle.judge_run.specs.Ends.{end_of_fault, end_of_outcome, status_of};
 
 use crate::outcome::Outcome;
 use crate::tell_fault::TellFault;

@@ -3,7 +3,7 @@ ghost use Rattle.std.specs.Prelude.{◌≡◌, ◌≢◌, IfOk, IfErr, string_by
 ghost use Rattle.certificate_finder.specs.Finding.{IsFound};
 ghost use Rattle.certificate_finder.specs.Witnesses.{IsWitness};
 ghost use Rattle.history_text.specs.Text.{text_by};
-ghost use Rattle.judge_run.specs.TextTold.{IsHistoryTold, IsRejectionTold, IsTextTold, IsTextUntold, ToldText, bad_text, rejected_text};
+ghost use Rattle.judge_run.specs.TextTold.{IsHistoryTold, IsTextTold, IsTextUntold, ToldText, bad_text, rejected_text};
 
 use crate::names::copied;
 use crate::outcome::Outcome;

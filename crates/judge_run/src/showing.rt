@@ -1,5 +1,5 @@
 // Writing a trace as text.
-ghost use Rattle.std.specs.Prelude.{◌≡◌, ◌++◌, IfOk, IfErr, OnOk, codes};
+ghost use Rattle.std.specs.Prelude.{◌≡◌, ◌≢◌, ◌++◌, IfOk, IfErr, OnOk, codes};
 ghost use Rattle.std.specs.Io.KnownBytes.{Appends};
 ghost use Rattle.certificate_checker.specs.VerdictLine.{bad_trace_line};
 ghost use Rattle.history_text.specs.Writing.{named};
@@ -47,6 +47,7 @@ fn tell_bad_trace<W: Write>(
     fault: TraceFault,
     writer: &mut W,
 ) -> Result<(), TellFault>
+    ensures other { OnOk result (fault ≢ TraceFault.OutOfMemory) }
     ensures ok { OnOk result (Appends (W.contents writer.old) (W.contents writer.new)
         (bad_trace_line fault ++ codes "\n")) }
     ensures err { IfErr result (IsBadTraceUntold fault (W.contents writer.old) (W.contents writer.new)) }
