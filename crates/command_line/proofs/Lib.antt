@@ -1,2 +1,4 @@
 pub mod FoundLaws
 pub mod Refusals
+pub mod CommandLaws
+pub mod AskedFiles

@@ -90,10 +90,21 @@ serve_command =
 abbrev pub program_top : App
 program_top = record { top = record (new_app (codes "kangaroo")).top { subcommand_required = true; has_version = true }; subs = [] }
 
+-- the program with the subcommand of scripts
+abbrev pub scripts_program : App
+scripts_program = with_subcommand program_top script_command.top
+
+-- a program with the subcommands that judge and show
+abbrev pub with_judging : App → App
+with_judging app = with_subcommand (with_subcommand (with_subcommand app check_command.top) judge_command.top) show_command.top
+
+-- a program with the subcommands that load a cache
+abbrev pub with_loads : App → App
+with_loads app = with_subcommand (with_subcommand app run_command.top) serve_command.top
+
 -- the program with its subcommands
 abbrev pub program : App
-program =
-    with_subcommand (with_subcommand (with_subcommand (with_subcommand (with_subcommand (with_subcommand program_top script_command.top) check_command.top) judge_command.top) show_command.top) run_command.top) serve_command.top
+program = with_loads (with_judging scripts_program)
 
 -- ---- what its words ask for
 

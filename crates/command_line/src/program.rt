@@ -1,7 +1,7 @@
 // The program's command line, as `clap` reads it.
 ghost use Rattle.std.specs.Prelude.{◌≡◌, IfOk, false};
 ghost use Rattle.clap.specs.Words.{app_of, rule_of};
-ghost use Rattle.command_line.specs.CommandLine.{check_command, device_rule, explain_rule, file_rule, judge_command, key_rule, option_rule, out_rule, picture_rule, program, run_command, script_command, serve_command, show_command, size_rule, trace_rule};
+ghost use Rattle.command_line.specs.CommandLine.{check_command, device_rule, explain_rule, file_rule, judge_command, key_rule, option_rule, out_rule, picture_rule, program, run_command, script_command, scripts_program, serve_command, show_command, size_rule, trace_rule, with_judging, with_loads};
 
 use clap::{Arg, ArgAction, Command};
 use load::{SERVED_SETTINGS, SETTINGS, Setting, SizeSetting};
@@ -17,15 +17,39 @@ const VERSION: &str = "0.1.0";
 pub fn program<'a>(alloc: Global) -> Result<Command<'a>, AllocError>
     ensures { IfOk result (λ c. app_of c ≡ program) }
 {
-    let kangaroo = Command::new(alloc, NAME)
+    let kangaroo = with_script(alloc)?;
+    let kangaroo = with_judging(alloc, kangaroo)?;
+    match with_loads(alloc, kangaroo) {
+        Ok(kangaroo) => Ok(kangaroo),
+        Err(refused) => Err(refused),
+    }
+}
+
+/// The program with the subcommand of scripts.
+fn with_script<'a>(alloc: Global) -> Result<Command<'a>, AllocError>
+    ensures { IfOk result (λ c. app_of c ≡ scripts_program) }
+{
+    Command::new(alloc, NAME)
         .about("A flash cache for tiny objects, and a checker of recorded histories")
         .version(VERSION)
         .bin_name(NAME)?
         .subcommand_required(true)
-        .subcommand(script(alloc))?;
+        .subcommand(script(alloc))
+}
+
+/// A program with the subcommands that judge and show.
+fn with_judging<'a>(alloc: Global, kangaroo: Command<'a>) -> Result<Command<'a>, AllocError>
+    ensures { IfOk result (λ c. app_of c ≡ with_judging (app_of kangaroo.entry)) }
+{
     let kangaroo = kangaroo.subcommand(check(alloc)?)?;
     let kangaroo = kangaroo.subcommand(judge(alloc)?)?;
-    let kangaroo = kangaroo.subcommand(show(alloc)?)?;
+    kangaroo.subcommand(show(alloc)?)
+}
+
+/// A program with the subcommands that load a cache.
+fn with_loads<'a>(alloc: Global, kangaroo: Command<'a>) -> Result<Command<'a>, AllocError>
+    ensures { IfOk result (λ c. app_of c ≡ with_loads (app_of kangaroo.entry)) }
+{
     let kangaroo = kangaroo.subcommand(run(alloc)?)?;
     kangaroo.subcommand(serve(alloc)?)
 }

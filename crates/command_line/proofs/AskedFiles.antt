@@ -1,0 +1,36 @@
+-- What is asked of files, by the rows of what was found.
+use Rattle.std.proofs.Common.{◌≡◌, ◌∙◌, Bool, IsSome, List, Option, Some, None, ap, ap₂, codes, option_map, sym}
+use Rattle.clap.specs.Words.{Row, Text, first_of}
+use Rattle.command_line.specs.CommandLine.{Checked, Judged, Shown, Wanted, check_wanted, is_on, judge_wanted, show_wanted}
+
+-- with no file nothing is asked for
+no_file : (f : Text → Wanted) (file : Option Text) → None ≡ file → IsSome (option_map f file) → ⊥
+no_file f None is some = absurd cc
+no_file f (Some file) is some = absurd cc
+
+module _ (rows : List Row) where
+  pub no_check : None ≡ first_of (codes "FILE") rows → IsSome (check_wanted rows) → ⊥
+  no_check is some = no_file _ (first_of (codes "FILE") rows) is some
+
+  pub no_judging : None ≡ first_of (codes "FILE") rows → IsSome (judge_wanted rows) → ⊥
+  no_judging is some = no_file _ (first_of (codes "FILE") rows) is some
+
+  pub no_showing : None ≡ first_of (codes "FILE") rows → IsSome (show_wanted rows) → ⊥
+  no_showing is some = no_file _ (first_of (codes "FILE") rows) is some
+
+  module _ (file : Text) (found : Some file ≡ first_of (codes "FILE") rows) where
+    pub asks_check : (explain : Bool) (picture : Option Text) → explain ≡ is_on (codes "explain") rows → picture ≡ first_of (codes "picture") rows → check_wanted rows ≡ Some (Checked file explain picture)
+    asks_check explain picture e p =
+        ap (option_map (λ f. Checked f (is_on (codes "explain") rows) (first_of (codes "picture") rows))) (sym found)
+        ∙ ap₂ (λ (on : Bool) (out : Option Text). Some (Checked file on out)) (sym e) (sym p)
+
+    pub asks_judging : (explain : Bool) (picture trace : Option Text) → explain ≡ is_on (codes "explain") rows → picture ≡ first_of (codes "picture") rows → trace ≡ first_of (codes "trace") rows → judge_wanted rows ≡ Some (Judged file explain picture trace)
+    asks_judging explain picture trace e p t =
+        ap (option_map (λ f. Judged f (is_on (codes "explain") rows) (first_of (codes "picture") rows) (first_of (codes "trace") rows))) (sym found)
+        ∙ ap₂ (λ (on : Bool) (out : Option Text). Some (Judged file on out (first_of (codes "trace") rows))) (sym e) (sym p)
+        ∙ ap (λ (out : Option Text). Some (Judged file explain picture out)) (sym t)
+
+    pub asks_showing : (key : Option Text) → key ≡ first_of (codes "key") rows → show_wanted rows ≡ Some (Shown file key)
+    asks_showing key k =
+        ap (option_map (λ f. Shown f (first_of (codes "key") rows))) (sym found)
+        ∙ ap (λ (word : Option Text). Some (Shown file word)) (sym k)

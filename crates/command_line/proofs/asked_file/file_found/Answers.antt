@@ -1,0 +1,13 @@
+-- The name that was found for the option, or none.
+use Rattle.std.proofs.Common.{◌∙◌, ap, Some, None, refl}
+use Rattle.clap.specs.Words.{found_of}
+use Rattle.command_line.proofs.FoundLaws.{found_text}
+use Rattle.command_line.proofs.asked_file.file_found.Goals as goal
+
+pub returns-in_ok-name-in-Some : goal.returns-in_ok-name-in-Some
+returns-in_ok-name-in-Some c =
+    ap Some c.in_ok-name-in-Some.ensures
+    ∙ found_text (found_of c.args.found.now) c.args.option.now c.args.option.now (Some c.in-Some.file.now) refl c.in-Some.ensures
+
+pub returns-in-None : goal.returns-in-None
+returns-in-None c = found_text (found_of c.args.found.now) c.args.option.now c.args.option.now None refl c.in-None.ensures

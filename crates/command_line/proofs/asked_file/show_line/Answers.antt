@@ -1,0 +1,16 @@
+-- What was found for the subcommand's arguments.
+use Rattle.std.proofs.Common.{◌∙◌, ap, codes, Some, None, refl}
+use Rattle.clap.specs.Words.{found_of, rows_of}
+use Rattle.command_line.proofs.AskedFiles.{asks_showing, no_showing}
+use Rattle.command_line.proofs.FoundLaws.{found_text}
+use Rattle.command_line.proofs.asked_file.show_line.Goals as goal
+
+pub returns-in_default-clause-taken : goal.returns-in_default-clause-taken
+returns-in_default-clause-taken c = λ some.
+    absurd (no_showing (rows_of (found_of c.args.found.now)) (found_text (found_of c.args.found.now) (codes "FILE") (codes "FILE") None refl c.in_default.ensures) some)
+
+pub returns-clause-named : goal.returns-clause-named
+returns-clause-named c =
+    asks_showing (rows_of (found_of c.args.found.now)) c.in_ok-file.file
+    (ap Some c.in_ok-file.ensures ∙ found_text (found_of c.args.found.now) (codes "FILE") (codes "FILE") (Some c.in-Some.file.now) refl c.in-Some.ensures)
+    _ c.in_ok-key.ensures
