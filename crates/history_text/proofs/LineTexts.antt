@@ -1,5 +1,5 @@
 -- The line of a call reads back as the call.
-use Rattle.std.proofs.Common.{◌≡◌, ℕ, suc, ◌+◌, ◌*◌, ◌^◌, ◌<◌, ◌≤◌, Bool, true, false, not, ◌&&◌, ◌||◌, ◌==◌, nat_lt, nat_le, ltb, eqb, if◌then◌else◌, List, [], ◌∷◌, ◌++◌, length, All, Some, Ok, Result, refl, sym, ap, ◌∙◌, arith, inl, inr, append_assoc}
+use Rattle.std.proofs.Common.{◌≡◌, ℕ, ◌+◌, ◌^◌, ◌<◌, ◌≤◌, Bool, true, false, not, ◌&&◌, ◌||◌, ◌==◌, nat_lt, nat_le, eqb, if◌then◌else◌, List, [], ◌∷◌, ◌++◌, length, All, Some, Ok, refl, sym, ap, ◌∙◌, arith, inl, inr, append_assoc}
 use Rattle.std.specs.Prelude.{codes}
 use Rattle.std.specs.Fmt.{decimal}
 use Rattle.std.specs.List.{list_all, slice_split, onto_first}
@@ -11,7 +11,7 @@ use Rattle.std.proofs.lemmas.List.Elements.{All-weaker}
 use Rattle.std.proofs.lemmas.List.Folds.{list_all-append}
 use Rattle.std.proofs.lemmas.List.Splits.{slice_split_at, slice_split_none}
 use Rattle.std.proofs.lemmas.List.Sums.{AllPass-from_list_all}
-use borrow.Author.Tests.{lt-ltb, ltb-true, ltb-false}
+use borrow.Author.Tests.{ltb-true}
 use Rattle.record_pages.specs.Bounded.{IsKey, IsValue}
 use Rattle.record_pages.specs.Expiry.{never}
 use Rattle.script_words.specs.Lines.{lines_of}
@@ -19,15 +19,13 @@ use Rattle.script_words.specs.Words.{is_word, words_of}
 use Rattle.trace_file.specs.declared.act.Act.{Act}
 use Rattle.trace_file.specs.declared.act.Act.TheVariants.{Put, Remove, Hit, Miss}
 use Rattle.trace_file.specs.declared.call.Call.{Call}
-use Rattle.trace_file.specs.Calls.{IsCall, value_of as act_value, time_of}
-use Rattle.history_text.specs.declared.cause.Cause.{Cause}
-use Rattle.history_text.specs.declared.head.Head.{Head}
+use Rattle.trace_file.specs.Calls.{value_of as act_value, time_of}
 use Rattle.history_text.specs.declared.kind.Kind.{Kind}
 use Rattle.history_text.specs.declared.kind.Kind.TheVariants as kinds
 use Rattle.history_text.specs.Coding.{word_of}
 use Rattle.history_text.specs.ReadingBack.{IsTold, name_of}
-use Rattle.history_text.specs.Spelling.{Spelled, act_of, has_words, head_of, key_of, kind_of, returns, spelled_of, spelled_of_words, stamp_of, time_at, value_of}
-use Rattle.history_text.specs.Writing.{act_has_text, act_text, has_number, has_text, end_text, text_line}
+use Rattle.history_text.specs.Spelling.{Spelled, act_of, has_words, head_of, key_of, kind_of, returns, spelled_of, spelled_of_words, time_at, value_of}
+use Rattle.history_text.specs.Writing.{act_has_text, act_text, has_number, end_text, text_line}
 use Rattle.history_text.proofs.CodingLaws.{word_reads}
 use Rattle.history_text.proofs.WordTexts.{first_holds, plain, stamp_reads, end_reads, number_word, name_word, end_word, word_word, length_end, length_name, length_number, length_word}
 

@@ -1,6 +1,5 @@
 -- A history that was written as text reads back.
-use Rattle.std.proofs.Common.{◌≡◌, ℕ, suc, ◌+◌, ◌^◌, ◌<◌, ◌≤◌, Bool, true, false, cond, not, ◌||◌, ◌==◌, nat_lt, nat_eq, ltb, eqb, if◌then◌else◌, List, [], ◌∷◌, ◌++◌, length, All, Some, None, Ok, map, fold, refl, sym, ap, ap₂, ◌∙◌, arith, inl, inr, append_assoc}
-use Rattle.std.specs.Prelude.{codes}
+use Rattle.std.proofs.Common.{◌≡◌, ℕ, suc, ◌+◌, ◌^◌, ◌<◌, ◌≤◌, Bool, true, false, cond, not, ◌||◌, nat_lt, eqb, List, [], ◌∷◌, ◌++◌, length, All, None, Ok, map, fold, refl, sym, ap, ap₂, ◌∙◌, arith, inl, inr, append_assoc}
 use Rattle.std.specs.Fmt.{decimal}
 use Rattle.std.specs.List.{IsDistinct, list_any, position_or_len, range_with_len}
 use Rattle.std.specs.Str.{bytes_eq}
@@ -14,11 +13,11 @@ use Rattle.std.proofs.lemmas.List.Elements.{All-nil, All-cons, All-head, All-tai
 use Rattle.std.proofs.lemmas.List.Folds.{list_any-append, position_or_len_push}
 use Rattle.std.proofs.lemmas.Map.Keys.{IsDistinct-push}
 use Rattle.std.proofs.lemmas.Map.Steps.{length-le_from_distinct_below}
-use borrow.Author.Tests.{lt-ltb, ltb-true, ltb-false}
+use borrow.Author.Tests.{lt-ltb}
 use Rattle.script_words.specs.Lines.{lines_of}
 use Rattle.trace_file.specs.declared.call.Call.{Call}
-use Rattle.history_text.specs.ReadingBack.{IsTold, callers_of, met, name_of, numbered, read_back}
-use Rattle.history_text.specs.Text.{Text, after_line, by_line, call_by, no_text, noted, number_of, recorded, text_by, text_from, text_of}
+use Rattle.history_text.specs.ReadingBack.{IsTold, met, name_of, numbered, read_back}
+use Rattle.history_text.specs.Text.{Text, after_line, by_line, call_by, noted, number_of, recorded, text_from, text_of}
 use Rattle.history_text.specs.Writing.{line_where, text_line, written}
 use Rattle.history_text.proofs.Saying.{not_less}
 use Rattle.history_text.proofs.LineTexts.{Reads, line, line_first, line_is, reads, spelled}

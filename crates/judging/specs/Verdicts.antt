@@ -1,12 +1,14 @@
 -- What telling the verdict on a text writes.
-use Rattle.std.specs.Prelude.{◌≡◌, ℕ, ◌⊎◌, List, ◌++◌, codes, Option, IfSome, Ok, Err}
+use Rattle.std.specs.Prelude.{◌≡◌, ℕ, ◌⊎◌, List, ◌++◌, codes, Option, Some, None, IfSome, Ok, Err}
 use Rattle.std.specs.Io.KnownBytes.{Appends, Keeps}
 use Rattle.trace_file.specs.Sending.{Begun}
 use Rattle.certificate_finder.specs.declared.found.Found.{Found}
 use Rattle.certificate_finder.specs.Finding.{IsFound}
 use Rattle.history_text.specs.declared.bad_line.BadLine.{BadLine}
 use Rattle.history_text.specs.Causes.{bad_line_text}
-use Rattle.history_text.specs.Text.{Text, text_of}
+use Rattle.history_text.specs.Text.{Text, text_by, text_of}
+use Rattle.judging.specs.declared.judged_text.JudgedText.{JudgedText}
+use Rattle.judging.specs.declared.told_verdict.ToldVerdict.{ToldVerdict}
 use Rattle.judging.specs.declared.tell_fault.TellFault.{TellFault}
 use Rattle.judging.specs.declared.tell_fault.TellFault.TheVariants.{OutOfMemory, ReadFault, WriteFault}
 use Rattle.judging.specs.declared.verdict_kind.VerdictKind.{VerdictKind}
@@ -14,10 +16,8 @@ use Rattle.judging.specs.declared.verdict_kind.VerdictKind.TheVariants as kinds
 use Rattle.judging.specs.Findings.{kind_of}
 use Rattle.judging.specs.Telling.{verdict_text}
 
--- the bytes, where they are known, spell a history for which this was found, and the line tells it
-pub record TellsFound (known : Option (List ℕ)) (kind : VerdictKind) (line : List ℕ) : Type 0 where
-  pub text : Text
-  pub found : Found
+-- the bytes, where they are known, spell this text, this was found for its history, and the line tells it
+pub record TellsFound (known : Option (List ℕ)) (text : Text) (found : Found) (kind : VerdictKind) (line : List ℕ) : Type 0 where
   pub read : IfSome known (λ bytes. text_of bytes ≡ Ok text)
   pub holds : IsFound text.calls found
   pub kind_is : kind ≡ kind_of found
@@ -30,15 +30,24 @@ pub record TellsBad (known : Option (List ℕ)) (kind : VerdictKind) (line : Lis
   pub kind_is : kind ≡ kinds.BadLine
   pub line_is : line ≡ bad_line_text bad ++ codes "\n"
 
--- the line tells the verdict on the bytes, and it is of this kind
-abbrev pub IsVerdictLine : Option (List ℕ) → VerdictKind → List ℕ → Type 0
-IsVerdictLine known kind line = TellsFound known kind line ⊎ TellsBad known kind line
+-- the text that was judged
+abbrev pub text_judged : {S H : Type 0} → JudgedText S H → Text
+text_judged judged = text_by judged.text.history judged.text.lines.items judged.text.callers
 
--- the line that tells the verdict was written
-pub record WroteVerdict (known : Option (List ℕ)) (kind : VerdictKind) (old new : Option (List ℕ)) : Type 0 where
+-- the line tells what was found for the text that was judged, or, where none was judged, the first bad line
+abbrev pub Tells : {S H : Type 0} → Option (List ℕ) → Option (JudgedText S H) → VerdictKind → List ℕ → Type 0
+Tells known (Some judged) kind line = TellsFound known (text_judged judged) judged.found kind line
+Tells known None kind line = TellsBad known kind line
+
+-- the line that tells this verdict was written
+pub record WroteVerdict {S H : Type 0} (known : Option (List ℕ)) (told : ToldVerdict S H) (old new : Option (List ℕ)) : Type 0 where
   pub line : List ℕ
-  pub is : IsVerdictLine known kind line
+  pub is : Tells known told.judged told.kind line
   pub wrote : Appends old new line
+
+-- the line tells a verdict on the bytes, of this kind
+abbrev pub IsVerdictLine : Option (List ℕ) → VerdictKind → List ℕ → Type 0
+IsVerdictLine known kind line = ((text : Text) × (found : Found) × TellsFound known text found kind line) ⊎ TellsBad known kind line
 
 -- the line was not told: nothing was written of it, or a front
 abbrev pub IsUntold : Option (List ℕ) → Option (List ℕ) → List ℕ → TellFault → Type 0

@@ -1,5 +1,5 @@
 // Telling the verdict on a text.
-ghost use Rattle.std.specs.Prelude.{◌≡◌, ◌++◌, IfOk, IfErr, OnOk, codes};
+ghost use Rattle.std.specs.Prelude.{◌≡◌, ◌++◌, Some, IfOk, IfErr, IfSome, OnOk, codes, length};
 ghost use Rattle.std.specs.Io.KnownBytes.{Appends};
 ghost use Rattle.history_text.specs.Causes.{bad_line_text};
 ghost use Rattle.certificate_finder.specs.Finding.{IsFound};
@@ -20,15 +20,17 @@ use std::io::{Read, Write};
 use trace_file::{Unwritten, write_whole};
 
 /// Judges the text of a reader, and writes the line that tells its verdict, and nothing else: what was found for its history, or
-/// its first bad line. It flushes nothing. The tables hash by `hash_builder`: whoever wrote the text should not know its seed.
+/// its first bad line. It flushes nothing, and hands back the text that was judged, with what was found. The tables hash by `hash_builder`: whoever wrote the text should not know its seed.
 pub fn tell_verdict<S: BuildHasher + Copy + Drop, R: Read, W: Write>(
     alloc: Global,
     hash_builder: S,
     reader: &mut R,
     writer: &mut W,
 ) -> Result<ToldVerdict<S>, TellFault>
-    ensures ok { IfOk result (λ told. WroteVerdict (R.remaining reader.old) told.kind
+    ensures ok { IfOk result (λ told. WroteVerdict (R.remaining reader.old) told
         (W.contents writer.old) (W.contents writer.new)) }
+    ensures as_many { IfOk result (λ told. IfSome told.judged (λ judged.
+        length judged.text.lines.items ≡ length judged.text.history)) }
     ensures err { IfErr result (StoppedAt (R.remaining reader.old)
         (W.contents writer.old) (W.contents writer.new)) }
 {
@@ -56,8 +58,9 @@ fn tell_found<S: BuildHasher + Drop, W: Write>(
     writer: &mut W,
 ) -> Result<ToldVerdict<S>, TellFault>
     requires { IsFound judged.text.history judged.found }
-    ensures ok { IfOk result (λ told. (told.kind ≡ kind_of judged.found)
-        × Appends (W.contents writer.old) (W.contents writer.new)
+    ensures kind { IfOk result (λ told. told.kind ≡ kind_of judged.found) }
+    ensures judged { IfOk result (λ told. told.judged ≡ Some judged) }
+    ensures wrote { OnOk result (Appends (W.contents writer.old) (W.contents writer.new)
         (verdict_text judged.text.history judged.text.lines.items judged.found)) }
     ensures err { IfErr result (IsUntold (W.contents writer.old) (W.contents writer.new)
         (verdict_text judged.text.history judged.text.lines.items judged.found)) }

@@ -11,7 +11,7 @@ struct Row {
 }
 
 /// Each cause once, with the number of its line.
-const BAD: [Row; 32] = [
+const BAD: [Row; 36] = [
     Row {
         text: b"a 1 2 put k v\nb 1 2 put k\tv\n",
         told: b"bad line 2: not five to seven words parted by single spaces",
@@ -55,6 +55,22 @@ const BAD: [Row; 32] = [
     Row {
         text: b"a 9223372036854775808 2 put k v",
         told: b"bad line 1: the start is no number below 2^63",
+    },
+    Row {
+        text: b"a +1 2 put k v",
+        told: b"bad line 1: the start is no number below 2^63",
+    },
+    Row {
+        text: b"a x x get % %",
+        told: b"bad line 1: the start is no number below 2^63",
+    },
+    Row {
+        text: b"a 1 02 get % %",
+        told: b"bad line 1: the end is neither - nor a number below 2^63",
+    },
+    Row {
+        text: b"a 1 - hit % %",
+        told: b"bad line 1: a hit or a miss has no end",
     },
     Row {
         text: b"a 1 -2 put k v",
@@ -165,8 +181,8 @@ const RIGHT: [Row; 8] = [
         told: b"c0 0 9223372036854775807 hit %2D %2D\n",
     },
     Row {
-        text: b"x 0 1 hit a%20%0a%25%ff%7f %41- 5",
-        told: b"c0 0 1 hit a%20%0A%25%FF%7F A- 5\n",
+        text: b"x 0 1 hit a%20%0a%25%fF%7f %4a%4B- 5",
+        told: b"c0 0 1 hit a%20%0A%25%FF%7F JK- 5\n",
     },
     Row {
         text: b"\n#\ny 1 - remove --\n\nx 1 2 put k %2D 9223372036854775807\ny 1 1 miss y",
@@ -179,7 +195,7 @@ const RIGHT: [Row; 8] = [
 ];
 
 /// What reading answers.
-fn read(
+pub(super) fn read(
     alloc: Global,
     text: &[u8],
 ) -> Result<TextHistory<BuildHasherDefault<FoldHasher>>, ReadTextFault> {
@@ -225,28 +241,6 @@ fn bad_lines_have_their_number_and_their_cause(rt: HostRuntime) -> Result<(), Fa
 #[test]
 fn right_lines_are_read_and_written(rt: HostRuntime) -> Result<(), Fail> {
     assert!(rt; are_told(rt.alloc(), &RIGHT)?);
-    Ok(())
-}
-
-/// So many bytes behind a front, and then a right line.
-fn long_text(alloc: Global, front: &[u8], count: usize) -> Result<Vec<u8>, AllocError> {
-    let mut text = Vec::from_slice(alloc, front)?;
-    text.resize(count, b'x')?;
-    text.extend_from_slice(b"\na 1 2 miss k\n")?;
-    Ok(text)
-}
-
-#[test]
-fn a_line_is_too_long_from_its_8193rd_byte_on(rt: HostRuntime) -> Result<(), Fail> {
-    let fits = told(rt.alloc(), &long_text(rt.alloc(), b"#", 8192)?)?;
-    assert!(rt; fits.as_slice() == b"c0 1 2 miss k\n".as_slice());
-    let words = told(rt.alloc(), &long_text(rt.alloc(), b"", 8192)?)?;
-    assert!(rt;
-        words.as_slice()
-            == b"bad line 1: not five to seven words parted by single spaces".as_slice()
-    );
-    let long = told(rt.alloc(), &long_text(rt.alloc(), b"#", 8193)?)?;
-    assert!(rt; long.as_slice() == b"bad line 1: a line of more than 8192 bytes".as_slice());
     Ok(())
 }
 
