@@ -1,5 +1,5 @@
 -- What calls in numbers say of their history.
-use Rattle.std.proofs.Common.{◌≡◌, ◌≢◌, ℕ, ◌<◌, Some, List, [], length, refl, sym, ap, ◌∙◌, subst, arith, inl, inr}
+use Rattle.std.proofs.Common.{◌≡◌, ℕ, ◌<◌, Some, List, length, refl, sym, ap, ◌∙◌, subst, arith, inl, inr}
 use Rattle.std.specs.Prelude.{All, slice_get, IsTrue, IsSomeAnd}
 use Rattle.std.proofs.lemmas.Bool.{cases_lt}
 use Rattle.std.proofs.lemmas.List.Elements.{All-contains, All-weaker}
@@ -20,7 +20,6 @@ use Rattle.certificate_finder.specs.declared.kind.Kind.TheVariants as kinds
 use Rattle.certificate_finder.specs.declared.step.Step.{Step}
 use Rattle.certificate_finder.specs.declared.zone.Zone.{Zone}
 use Rattle.certificate_finder.specs.Excluding.{AreExcludedAt, ExcludesStep, IsExcludedStep}
-use Rattle.certificate_finder.specs.Finding.{AreUndecided}
 use Rattle.certificate_finder.specs.Lists.{TellsOne}
 use Rattle.certificate_finder.specs.Owning.{AreOwners, IsUnsure, MayRead}
 use Rattle.certificate_finder.specs.Putting.{IsOver}
@@ -207,16 +206,6 @@ module _ (history : List Call) (steps : List Step) (are : AreSteps history steps
     apart = is.several.apart;
     reads_one = could_of h is.several.one is.step is.several.first is.at is.several.one_at is.kind is.several.reads_one;
     reads_other = could_of h is.several.other is.step is.several.second is.at is.several.other_at is.kind is.several.reads_other;
-  }
-
-  -- ---- nothing was decided
-
-  pub undecided : (owners unsure : List ℕ) → AreOwners steps (length steps) owners unsure → unsure ≢ [] → AreUndecided history unsure
-  undecided owners unsure own some = record {
-    some = some;
-    each = All-weaker (IsUnsure steps) (HasSeveral history) (λ h is. has_several h is) unsure own.are_unsure;
-    all = λ h has. let is = several_of h has in own.all h (slice_get_within steps h is.step is.at) is;
-    rise = own.rise;
   }
 
   -- ---- a hit that can have read no put

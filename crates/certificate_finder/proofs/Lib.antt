@@ -21,3 +21,4 @@ pub mod FindLemmas
 pub mod TurnLemmas
 pub mod SpotLemmas
 pub mod FoundLemmas
+pub mod Settling
