@@ -3,6 +3,7 @@ pub mod CrossingLemmas
 pub mod Excluding
 pub mod Lines
 pub mod Listing
+pub mod LiveLemmas
 pub mod Merging
 pub mod NumberLemmas
 pub mod Placing
