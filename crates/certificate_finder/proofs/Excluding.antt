@@ -31,7 +31,7 @@ not_excused history hit put moment expires behind live stands (Replaced write) h
     all_at (λ call. ¬ StandsBetween hit.key put hit call) history write found.0 stands found.1 found.2
 
 -- and is none of those that are excluded
-not_this : (history : List Call) (hit put : Call) (value : List ℕ) (moment expires position : ℕ) → slice_get history position ≡ Some put → put.act ≡ Put value expires → ¬ Precedes hit put → IsTrue (is_live expires moment) → All (λ call. ¬ StandsBetween hit.key put hit call) history → (one : Excluded) → position ≡ one.put → ¬ IsExcluded history hit value moment one
+pub not_this : (history : List Call) (hit put : Call) (value : List ℕ) (moment expires position : ℕ) → slice_get history position ≡ Some put → put.act ≡ Put value expires → ¬ Precedes hit put → IsTrue (is_live expires moment) → All (λ call. ¬ StandsBetween hit.key put hit call) history → (one : Excluded) → position ≡ one.put → ¬ IsExcluded history hit value moment one
 not_this history hit put value moment expires position at is behind live stands one listed excluded =
     let both : Some excluded.put ≡ Some put = sym excluded.put_at ∙ ap (slice_get history) (sym listed) ∙ at in
     let same : excluded.put ≡ put = cc in

@@ -1,5 +1,5 @@
 -- What calls in numbers say of their history.
-use Rattle.std.proofs.Common.{◌≡◌, ◌≢◌, ℕ, ◌<◌, Some, List, [], length, refl, sym, ap, ◌∙◌, subst, arith, inl, inr}
+use Rattle.std.proofs.Common.{◌≡◌, ℕ, ◌<◌, ◌≤◌, Some, List, length, refl, sym, ap, ◌∙◌, subst, arith, inl, inr}
 use Rattle.std.specs.Prelude.{All, slice_get, IsTrue, IsSomeAnd}
 use Rattle.std.proofs.lemmas.Bool.{cases_lt}
 use Rattle.std.proofs.lemmas.List.Elements.{All-contains, All-weaker}
@@ -20,11 +20,10 @@ use Rattle.certificate_finder.specs.declared.kind.Kind.TheVariants as kinds
 use Rattle.certificate_finder.specs.declared.step.Step.{Step}
 use Rattle.certificate_finder.specs.declared.zone.Zone.{Zone}
 use Rattle.certificate_finder.specs.Excluding.{AreExcludedAt, ExcludesStep, IsExcludedStep}
-use Rattle.certificate_finder.specs.Finding.{AreUndecided}
 use Rattle.certificate_finder.specs.Lists.{TellsOne}
-use Rattle.certificate_finder.specs.Owning.{AreOwners, IsUnsure, MayRead}
+use Rattle.certificate_finder.specs.Owning.{AreOwners, HoldsOfTwo, IsLiveFor, IsUnsure, MayRead, ReadsOnly}
 use Rattle.certificate_finder.specs.Putting.{IsOver}
-use Rattle.certificate_finder.specs.Reads.{CouldRead, HasSeveral, StandsBetween}
+use Rattle.certificate_finder.specs.Reads.{CouldRead, HasBegun, HasSeveral, HoldsTwice, LivesFor, StandsBetween, StandsFor}
 use Rattle.certificate_finder.specs.Steps.{AreSteps, IsStep, IsWriting, kind_of}
 use Rattle.certificate_finder.specs.Witnesses.{AreCrossed, Excludes, GoesWith, IsExcluded, IsSide, ReadsNone}
 use Rattle.certificate_finder.specs.Writing.{Writing}
@@ -122,40 +121,33 @@ module _ (history : List Call) (steps : List Step) (are : AreSteps history steps
         omega arith,
       )
 
-  -- what a hit could read, in numbers and back
-  pub may_of : (h p : ℕ) (s t : Step) → slice_get steps h ≡ Some s → slice_get steps p ≡ Some t → CouldRead history h p → MayRead steps s t
-  may_of h p s t at_s at_t could =
-      let hs = are.each h could.hit_call s could.hit_at at_s in
-      let ps = are.each p could.put_call t could.put_at at_t in
-      let alike = are.alike p h could.put_call could.hit_call t s could.put_at could.hit_at at_t at_s in
+  -- ---- what a hit could read, in numbers and back
+
+  -- a put that a hit does not precede, in numbers: its key, its value and its start
+  begun_of : (h p : ℕ) (s t : Step) → slice_get steps h ≡ Some s → slice_get steps p ≡ Some t → HasBegun history h p → (t.kind ≡ kinds.Put) × (t.key ≡ s.key) × (t.value ≡ s.value) × (t.start ≤ s.end)
+  begun_of h p s t at_s at_t has =
+      let hs = are.each h has.hit_call s has.hit_at at_s in
+      let ps = are.each p has.put_call t has.put_at at_t in
+      let alike = are.alike p h has.put_call has.hit_call t s has.put_at has.hit_at at_t at_s in
       let a = hs.end in
       let b = ps.start in
-      let begun : ¬ (could.hit_call.end < could.put_call.start) = could.begun in
-      record {
-        kind = ps.kind ∙ ap kind_of could.put_is;
-        key = alike.keys.1 could.one_key;
-        value = alike.values.1 (ap value_of could.put_is ∙ sym (ap value_of could.hit_is));
-        begun = elim (cases_lt could.hit_call.end could.put_call.start) [ inl less ↦ absurd (begun less) | inr not ↦ omega arith ];
-        stands = λ q o at_o over. elim (cases_lt o.end s.start) [
-          | inl less ↦
-              let c = call_at q o at_o in
-              absurd (all_at (λ call. ¬ StandsBetween could.hit_call.key could.put_call could.hit_call call) history q c.0 could.stands c.1 (between h p q could.hit_call could.put_call c.0 s t o could.hit_at could.put_at c.1 at_s at_t at_o (sym could.one_key) over less))
-          | inr not ↦ omega arith
-        ];
-      }
+      let begun : ¬ (has.hit_call.end < has.put_call.start) = has.begun in (
+        ps.kind ∙ ap kind_of has.put_is,
+        alike.keys.1 has.one_key,
+        alike.values.1 (ap value_of has.put_is ∙ sym (ap value_of has.hit_is)),
+        elim (cases_lt has.hit_call.end has.put_call.start) [ inl less ↦ absurd (begun less) | inr not ↦ omega arith ],
+      )
 
-  pub could_of : (h p : ℕ) (s t : Step) → slice_get steps h ≡ Some s → slice_get steps p ≡ Some t → s.kind ≡ kinds.Hit → MayRead steps s t → CouldRead history h p
-  could_of h p s t at_s at_t hit may =
+  has_begun : (h p : ℕ) (s t : Step) → slice_get steps h ≡ Some s → slice_get steps p ≡ Some t → s.kind ≡ kinds.Hit → t.kind ≡ kinds.Put → t.key ≡ s.key → t.value ≡ s.value → t.start ≤ s.end → HasBegun history h p
+  has_begun h p s t at_s at_t hit put one_key one_value begun =
       let hc = call_at h s at_s in
       let pc = call_at p t at_t in
       let hv = hit_at h hc.0 s hc.2 hit in
-      let pv = put_at p pc.0 t pc.2 may.kind in
+      let pv = put_at p pc.0 t pc.2 put in
       let alike = are.alike p h pc.0 hc.0 t s pc.1 hc.1 at_t at_s in
-      let key : pc.0.key ≡ hc.0.key = alike.keys.0 may.key in
-      let value : pv.0 ≡ hv.0 = sym (ap value_of pv.2) ∙ alike.values.0 may.value ∙ ap value_of hv.2 in
+      let value : pv.0 ≡ hv.0 = sym (ap value_of pv.2) ∙ alike.values.0 one_value ∙ ap value_of hv.2 in
       let a = hc.2.end in
       let b = pc.2.start in
-      let begun = may.begun in
       record {
         hit_call = hc.0;
         put_call = pc.0;
@@ -166,58 +158,142 @@ module _ (history : List Call) (steps : List Step) (are : AreSteps history steps
         put_at = pc.1;
         hit_is = hv.2;
         put_is = pv.2 ∙ ap (λ v. Put v pv.1) value;
-        one_key = key;
+        one_key = alike.keys.0 one_key;
         begun = λ less. let l : hc.0.end < pc.0.start = less in absurd (omega arith);
-        stands = all_from_at (λ call. ¬ StandsBetween hc.0.key pc.0 hc.0 call) history (λ q call at stands.
-            let o = step_at q call at in
-            let over = over_between h p q hc.0 pc.0 call s t o.0 hc.1 pc.1 at at_s at_t o.1 key stands in
-            let le = may.stands q o.0 o.1 over.0 in
-            let less = over.1 in
-            omega arith);
+      }
+
+  pub may_of : (h p : ℕ) (s t : Step) → slice_get steps h ≡ Some s → slice_get steps p ≡ Some t → StandsFor history h p → MayRead steps s t
+  may_of h p s t at_s at_t could =
+      let has = could.has in
+      let b = begun_of h p s t at_s at_t has in
+      record {
+        kind = b.0;
+        key = b.1;
+        value = b.2;
+        begun = b.3;
+        stands = λ q o at_o over. elim (cases_lt o.end s.start) [
+          | inl less ↦
+              let c = call_at q o at_o in
+              absurd (all_at (λ call. ¬ StandsBetween has.hit_call.key has.put_call has.hit_call call) history q c.0 could.stands c.1 (between h p q has.hit_call has.put_call c.0 s t o has.hit_at has.put_at c.1 at_s at_t at_o (sym has.one_key) over less))
+          | inr not ↦ omega arith
+        ];
+      }
+
+  none_between : (h p : ℕ) (s t : Step) (has : HasBegun history h p) → slice_get steps h ≡ Some s → slice_get steps p ≡ Some t → MayRead steps s t → All (λ call. ¬ StandsBetween has.hit_call.key has.put_call has.hit_call call) history
+  none_between h p s t has at_s at_t may = all_from_at (λ call. ¬ StandsBetween has.hit_call.key has.put_call has.hit_call call) history (λ q call at stands.
+      let o = step_at q call at in
+      let over = over_between h p q has.hit_call has.put_call call s t o.0 has.hit_at has.put_at at at_s at_t o.1 has.one_key stands in
+      let le = may.stands q o.0 o.1 over.0 in
+      let less = over.1 in
+      omega arith)
+
+  pub stands_of : (h p : ℕ) (s t : Step) → slice_get steps h ≡ Some s → slice_get steps p ≡ Some t → s.kind ≡ kinds.Hit → MayRead steps s t → StandsFor history h p
+  stands_of h p s t at_s at_t hit may =
+      let has = has_begun h p s t at_s at_t hit may.kind may.key may.value may.begun in
+      record { has = has; stands = none_between h p s t has at_s at_t may }
+
+  times_of : (h p : ℕ) (s t : Step) (has : HasBegun history h p) → slice_get steps h ≡ Some s → slice_get steps p ≡ Some t → (s.time ≡ has.moment) × (t.time ≡ has.expires)
+  times_of h p s t has at_s at_t = (
+    (are.each h has.hit_call s has.hit_at at_s).time ∙ ap time_of has.hit_is,
+    (are.each p has.put_call t has.put_at at_t).time ∙ ap time_of has.put_is,
+  )
+
+  pub live_for_of : (h p : ℕ) (s t : Step) → slice_get steps h ≡ Some s → slice_get steps p ≡ Some t → LivesFor history h p → IsLiveFor s t
+  live_for_of h p s t at_s at_t lives =
+      let has = lives.has in
+      let b = begun_of h p s t at_s at_t has in
+      let times = times_of h p s t has at_s at_t in
+      record {
+        kind = b.0;
+        key = b.1;
+        value = b.2;
+        begun = b.3;
+        live = subst (λ e. IsTrue (is_live e s.time)) (sym times.1) (subst (λ m. IsTrue (is_live has.expires m)) (sym times.0) lives.live);
+      }
+
+  pub lives_of : (h p : ℕ) (s t : Step) → slice_get steps h ≡ Some s → slice_get steps p ≡ Some t → s.kind ≡ kinds.Hit → IsLiveFor s t → LivesFor history h p
+  lives_of h p s t at_s at_t hit live =
+      let has = has_begun h p s t at_s at_t hit live.kind live.key live.value live.begun in
+      let times = times_of h p s t has at_s at_t in
+      record {
+        has = has;
+        live = subst (λ e. IsTrue (is_live e has.moment)) times.1 (subst (λ m. IsTrue (is_live t.time m)) times.0 live.live);
+      }
+
+  -- the one that a hit may have read alone
+  pub could_of : (h p : ℕ) (s : Step) → slice_get steps h ≡ Some s → s.kind ≡ kinds.Hit → ReadsOnly steps s p → CouldRead history h p
+  could_of h p s at_s hit only = record {
+    stands = stands_of h p s only.put at_s only.at hit only.may;
+    lives = lives_of h p s only.put at_s only.at hit (record { kind = only.may.kind; key = only.may.key; value = only.may.value; begun = only.may.begun; live = only.live });
+  }
+
+  stand_twice : (h : ℕ) (s : Step) → slice_get steps h ≡ Some s → HoldsTwice (StandsFor history h) → HoldsOfTwo steps (MayRead steps s)
+  stand_twice h s at two =
+      let c = two.first.has in
+      let d = two.second.has in
+      let one = step_at two.one c.put_call c.put_at in
+      let other = step_at two.other d.put_call d.put_at in
+      record {
+        one = two.one;
+        other = two.other;
+        first = one.0;
+        second = other.0;
+        apart = two.apart;
+        one_at = one.1;
+        other_at = other.1;
+        holds_one = may_of h two.one s one.0 at one.1 two.first;
+        holds_other = may_of h two.other s other.0 at other.1 two.second;
+      }
+
+  live_twice : (h : ℕ) (s : Step) → slice_get steps h ≡ Some s → HoldsTwice (LivesFor history h) → HoldsOfTwo steps (IsLiveFor s)
+  live_twice h s at two =
+      let c = two.first.has in
+      let d = two.second.has in
+      let one = step_at two.one c.put_call c.put_at in
+      let other = step_at two.other d.put_call d.put_at in
+      record {
+        one = two.one;
+        other = two.other;
+        first = one.0;
+        second = other.0;
+        apart = two.apart;
+        one_at = one.1;
+        other_at = other.1;
+        holds_one = live_for_of h two.one s one.0 at one.1 two.first;
+        holds_other = live_for_of h two.other s other.0 at other.1 two.second;
       }
 
   pub several_of : (h : ℕ) → HasSeveral history h → IsUnsure steps h
   several_of h has =
-      let c = has.reads_one in
+      let c = has.stand.first.has in
       let s = step_at h c.hit_call c.hit_at in
-      let one = step_at has.one c.put_call c.put_at in
-      let d = has.reads_other in
-      let other = step_at has.other d.put_call d.put_at in
       record {
         step = s.0;
         at = s.1;
         kind = s.2.kind ∙ ap kind_of c.hit_is;
-        several = record {
-          one = has.one;
-          other = has.other;
-          first = one.0;
-          second = other.0;
-          apart = has.apart;
-          one_at = one.1;
-          other_at = other.1;
-          reads_one = may_of h has.one s.0 one.0 s.1 one.1 c;
-          reads_other = may_of h has.other s.0 other.0 s.1 other.1 d;
-        };
+        several = record { stand = stand_twice h s.0 s.1 has.stand; live = live_twice h s.0 s.1 has.live };
       }
 
   pub has_several : (h : ℕ) → IsUnsure steps h → HasSeveral history h
-  has_several h is = record {
-    one = is.several.one;
-    other = is.several.other;
-    apart = is.several.apart;
-    reads_one = could_of h is.several.one is.step is.several.first is.at is.several.one_at is.kind is.several.reads_one;
-    reads_other = could_of h is.several.other is.step is.several.second is.at is.several.other_at is.kind is.several.reads_other;
-  }
-
-  -- ---- nothing was decided
-
-  pub undecided : (owners unsure : List ℕ) → AreOwners steps (length steps) owners unsure → unsure ≢ [] → AreUndecided history unsure
-  undecided owners unsure own some = record {
-    some = some;
-    each = All-weaker (IsUnsure steps) (HasSeveral history) (λ h is. has_several h is) unsure own.are_unsure;
-    all = λ h has. let is = several_of h has in own.all h (slice_get_within steps h is.step is.at) is;
-    rise = own.rise;
-  }
+  has_several h is =
+      let a = is.several.stand in
+      let b = is.several.live in
+      record {
+        stand = record {
+          one = a.one;
+          other = a.other;
+          apart = a.apart;
+          first = stands_of h a.one is.step a.first is.at a.one_at is.kind a.holds_one;
+          second = stands_of h a.other is.step a.second is.at a.other_at is.kind a.holds_other;
+        };
+        live = record {
+          one = b.one;
+          other = b.other;
+          apart = b.apart;
+          first = lives_of h b.one is.step b.first is.at b.one_at is.kind b.holds_one;
+          second = lives_of h b.other is.step b.second is.at b.other_at is.kind b.holds_other;
+        };
+      }
 
   -- ---- a hit that can have read no put
 
@@ -283,8 +359,8 @@ module _ (history : List Call) (steps : List Step) (are : AreSteps history steps
             c.1,
             v.2,
             λ put could.
-                let p = step_at put could.put_call could.put_at in
-                hit.1.only put p.0 p.1 (may_of q put s p.0 at p.1 could),
+                let p = step_at put could.stands.has.put_call could.stands.has.put_at in
+                hit.1.only put p.0 p.1 (may_of q put s p.0 at p.1 could.stands) (live_for_of q put s p.0 at p.1 could.lives),
           )
     ]
   ]

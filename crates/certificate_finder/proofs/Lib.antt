@@ -3,6 +3,7 @@ pub mod CrossingLemmas
 pub mod Excluding
 pub mod Lines
 pub mod Listing
+pub mod LiveLemmas
 pub mod Merging
 pub mod NumberLemmas
 pub mod Placing
@@ -21,3 +22,4 @@ pub mod FindLemmas
 pub mod TurnLemmas
 pub mod SpotLemmas
 pub mod FoundLemmas
+pub mod Settling

@@ -39,6 +39,7 @@ module _ (steps : List Step) (writes : List Write) (are : AreWrites steps writes
         key = is.key;
         value = is.value;
         start = is.start;
+        expires = is.expires;
         dead = record {
           least = λ q other at over. absurd (nothing q other at over);
           by = subst (λ o. MatchOption o (put.dead ≡ 18446744073709551615) (EndsOver steps step put.dead)) (sym is.is_over.0) is.is_over.1;
@@ -63,6 +64,7 @@ module _ (steps : List Step) (writes : List Write) (are : AreWrites steps writes
         key = is.key;
         value = is.value;
         start = is.start;
+        expires = is.expires;
         dead = record {
           least = λ q other at over.
               let w = written q other at over.writes in
@@ -91,9 +93,11 @@ are_puts steps xs ys fit had apart moved sorted =
             let f : IsFit one.step = all_at IsFit steps one.position one.step fit one.at in
             let e : w.start ≡ one.step.start = one.told.start in
             let v : w.value ≡ one.step.value = one.told.value in
+            let x : w.expires ≡ one.step.time = one.told.expires in
             let a = f.start in
             let b = f.value in
-            record { value = omega arith; start = omega arith }) ys lists.sound;
+            let d = f.time in
+            record { value = omega arith; start = omega arith; expires = omega arith }) ys lists.sound;
         distinct = distinct_permuted (λ (put : Put). put.position) xs ys moved apart;
       };
     }

@@ -16,7 +16,7 @@ use Rattle.certificate_checker.specs.Orders.{Precedes, in_order}
 use Rattle.certificate_checker.proofs.Laying.{picked-map, cases_before}
 use Rattle.certificate_checker.proofs.Layouts.{picked_pairs}
 use Rattle.certificate_checker.proofs.Listing.{Member, member_at, picked_member, member_contained, place_of, all_member, pairs_from, pairs_at}
-use Rattle.certificate_finder.specs.Reads.{StandsBetween, CouldRead}
+use Rattle.certificate_finder.specs.Reads.{StandsBetween, HasBegun, CouldRead}
 
 -- ---- lists
 
@@ -215,9 +215,8 @@ module _ (history : List Call) (certificate : List ℕ) (a : IsAccepted history 
     pub begun : ¬ Precedes call reads.put
     begun = agrees_at reads.from place reads.position hit reads.put call reads.earlier reads.placed placed reads.at found
 
-    -- what it read is one that it could read
-    pub could_read : CouldRead history hit reads.position
-    could_read = record {
+    has_begun : HasBegun history hit reads.position
+    has_begun = record {
       hit_call = call;
       put_call = reads.put;
       value = value;
@@ -229,5 +228,12 @@ module _ (history : List Call) (certificate : List ℕ) (a : IsAccepted history 
       put_is = reads.is;
       one_key = reads.one_key;
       begun = begun;
-      stands = none_between;
+    }
+
+    -- what it read is one that it could read
+    pub could_read : CouldRead history hit reads.position
+    unfolding has_begun reads
+    could_read = record {
+      stands = record { has = has_begun; stands = none_between };
+      lives = record { has = has_begun; live = reads.live };
     }

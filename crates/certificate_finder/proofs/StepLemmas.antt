@@ -62,6 +62,7 @@ steps_go_on history upto steps known more most call step had few at is_call is k
     value = let b = numbers.below (value_of call.act) step.value value in omega arith;
     start = let s = is_call.start in let e = is.start in omega arith;
     end = let s = is_call.end in let e = is.end in omega arith;
+    time = let s = is_call.time in let e = is.time in omega arith;
   });
 }
 

@@ -1,19 +1,27 @@
 -- What is found for a history.
-use Rattle.std.specs.Prelude.{◌≢◌, ℕ, ◌<◌, ◌≤◌, List, [], All, AllPairs, Contains, IsSomeAnd, MatchOption, Option, slice_get}
+use Rattle.std.specs.Prelude.{◌≢◌, ℕ, ◌<◌, ◌≤◌, ◌⊎◌, List, [], All, AllPairs, Contains, IsSomeAnd, MatchOption, Option, slice_get}
 use Rattle.trace_file.specs.declared.call.Call.{Call}
 use Rattle.certificate_checker.specs.Acceptance.{IsAccepted}
 use Rattle.certificate_finder.specs.declared.found.Found.{Found}
 use Rattle.certificate_finder.specs.declared.found.Found.TheVariants.{Accepted, Rejected, Undecided}
 use Rattle.certificate_finder.specs.declared.witness.Witness.{Witness}
+use Rattle.certificate_finder.specs.declared.witness.Witness.TheVariants as witnesses
 use Rattle.certificate_finder.specs.Reads.{HasSeveral}
 use Rattle.certificate_finder.specs.Witnesses.{IsWitness}
 
--- these are all hits that may have read several puts, in order, and there are such
+-- a reason speaks of a hit that is listed
+abbrev pub IsOfListed : List ℕ → Witness → Type 0
+IsOfListed hits (witnesses.Interval position) = ⊥
+IsOfListed hits (witnesses.Hit hit puts) = Contains hits hit
+IsOfListed hits (witnesses.Crossed one other) = Contains hits one.early ⊎ (Contains hits one.late ⊎ (Contains hits other.early ⊎ Contains hits other.late))
+
+-- these are all hits for which several puts stand and several live, in order, and there are such; no other reason was passed over: each that the history has speaks of one of them
 pub record AreUndecided (history : List Call) (hits : List ℕ) : Type 0 where
   pub some : hits ≢ []
   pub each : All (HasSeveral history) hits
   pub all : (hit : ℕ) → HasSeveral history hit → Contains hits hit
   pub rise : AllPairs (λ earlier later. earlier < later) hits
+  pub settled : (witness : Witness) → IsWitness history witness → IsOfListed hits witness
 
 -- a fact of the certificate, where one was found
 abbrev pub IfAccepted : Found → (List ℕ → Type 0) → Type 0

@@ -4,6 +4,7 @@ pub mod Hits
 pub mod Laws
 pub mod Lining
 pub mod Lists
+pub mod Living
 pub mod Numbers
 pub mod Owning
 pub mod Points

@@ -36,6 +36,7 @@ pub record TellsPut (steps : List Step) (position : ℕ) (step : Step) (put : Pu
   pub key : put.key ≡ step.key
   pub value : put.value ≡ step.value
   pub start : put.start ≡ step.start
+  pub expires : put.expires ≡ step.time
   pub dead : IsDead steps step put.dead put.over
 
 -- the call puts
@@ -53,6 +54,7 @@ put_rank put = value_rank put.key put.value put.start
 pub record IsFitPut (put : Put) : Type 0 where
   pub value : put.value < 2 ^ 32
   pub start : put.start < 2 ^ 64
+  pub expires : put.expires < 2 ^ 64
 
 -- puts by keys, values and starts, each once
 pub record AreInOrder (puts : List Put) : Type 0 where
@@ -132,6 +134,7 @@ pub record IsPut (position : ℕ) (step : Step) (over : Option Write) (put : Put
   pub key : put.key ≡ step.key
   pub value : put.value ≡ step.value
   pub start : put.start ≡ step.start
+  pub expires : put.expires ≡ step.time
   pub is_over : MatchOption over ((put.over ≡ None) × (put.dead ≡ 18446744073709551615)) (λ write. (put.over ≡ Some write.position) × (put.dead ≡ write.end))
 
 -- the best of puts with one put more

@@ -1,5 +1,6 @@
 -- Which puts a hit can have read.
-use Rattle.std.specs.Prelude.{◌≡◌, ◌≢◌, ℕ, List, All, slice_get, Some}
+use Rattle.std.specs.Prelude.{◌≡◌, ◌≢◌, ℕ, List, All, slice_get, Some, IsTrue}
+use Rattle.record_pages.specs.Expiry.{is_live}
 use Rattle.trace_file.specs.declared.act.Act.TheVariants.{Put, Hit}
 use Rattle.trace_file.specs.declared.call.Call.{Call}
 use Rattle.certificate_checker.specs.Deeds.{deed_of}
@@ -12,8 +13,8 @@ pub record StandsBetween (key : List ℕ) (first second call : Call) : Type 0 wh
   pub behind : Precedes first call
   pub before : Precedes call second
 
--- the hit at a position may have read the put at another one, expiry aside: they have one key and one value, the hit does not precede the put, and no write of the key stands between them
-pub record CouldRead (history : List Call) (hit put : ℕ) : Type 0 where
+-- the call at a position is a hit, that at another one is a put of its key and value, and the hit does not precede the put
+pub record HasBegun (history : List Call) (hit put : ℕ) : Type 0 where
   pub hit_call : Call
   pub put_call : Call
   pub value : List ℕ
@@ -25,12 +26,31 @@ pub record CouldRead (history : List Call) (hit put : ℕ) : Type 0 where
   pub put_is : put_call.act ≡ Put value expires
   pub one_key : put_call.key ≡ hit_call.key
   pub begun : ¬ Precedes hit_call put_call
-  pub stands : All (λ call. ¬ StandsBetween hit_call.key put_call hit_call call) history
 
--- the hit at a position may have read several puts, expiry aside
-pub record HasSeveral (history : List Call) (hit : ℕ) : Type 0 where
+-- such a put, and no write of the key stands between it and the hit
+pub record StandsFor (history : List Call) (hit put : ℕ) : Type 0 where
+  pub has : HasBegun history hit put
+  pub stands : All (λ call. ¬ StandsBetween has.hit_call.key has.put_call has.hit_call call) history
+
+-- such a put, live at the hit's moment
+pub record LivesFor (history : List Call) (hit put : ℕ) : Type 0 where
+  pub has : HasBegun history hit put
+  pub live : IsTrue (is_live has.expires has.moment)
+
+-- the hit at a position may have read the put at another one: it stands, and is live
+pub record CouldRead (history : List Call) (hit put : ℕ) : Type 0 where
+  pub stands : StandsFor history hit put
+  pub lives : LivesFor history hit put
+
+-- a fact holds of two positions
+pub record HoldsTwice (P : ℕ → Type 0) : Type 0 where
   pub one : ℕ
   pub other : ℕ
   pub apart : one ≢ other
-  pub reads_one : CouldRead history hit one
-  pub reads_other : CouldRead history hit other
+  pub first : P one
+  pub second : P other
+
+-- for the hit at a position several puts stand, and several live
+pub record HasSeveral (history : List Call) (hit : ℕ) : Type 0 where
+  pub stand : HoldsTwice (StandsFor history hit)
+  pub live : HoldsTwice (LivesFor history hit)

@@ -35,6 +35,7 @@ pub record IsFit (step : Step) : Type 0 where
   pub value : step.value < 2 ^ 32
   pub start : step.start < 2 ^ 64
   pub end : step.end < 2 ^ 64
+  pub time : step.time < 2 ^ 64
 
 -- two calls and their steps: equal numbers exactly at equal keys, and at equal values
 pub record AreAlike (a b : Call) (s t : Step) : Type 0 where

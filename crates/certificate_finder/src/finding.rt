@@ -24,12 +24,15 @@ use trace_file::History;
 /// The most calls of a history that is looked at.
 pub const MAX_CALLS: usize = 2147483647;
 
-/// Finds a certificate for a history, or a reason why there can be none, or the hits for which nothing was decided: those
-/// that can have read several puts of one value. Where there is no such hit, it decides.
+/// Finds a certificate for a history, or a reason why there can be none, or the hits for which nothing was decided.
+///
+/// A put of a hit's key and value, begun before the hit ended, stands for it where no write of the key lies between them, and
+/// is live for it where it had not expired at the hit's moment. Nothing may be decided where for some hit several puts stand
+/// and several are live. Where all such puts had expired, or all but one, it is decided.
 ///
 /// Its time is `n log n` for `n` calls where the keys and values were not picked to be slow: the map that it numbers them by
 /// hashes them by a seed that anyone can read. Whoever judges a stranger's history calls `find_with_hasher`. It takes about
-/// 150 bytes a call, and copies no key and no value. `AllocError` comes where memory was refused, and where there are more than
+/// 250 bytes a call, and copies no key and no value. `AllocError` comes where memory was refused, and where there are more than
 /// `MAX_CALLS` calls.
 pub fn find(alloc: Global, history: &History) -> Result<Found, AllocError>
     ensures accepted { IfOk result (λ found. IfAccepted found (IsAccepted history.now)) }

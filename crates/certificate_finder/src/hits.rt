@@ -5,6 +5,7 @@ ghost use Rattle.certificate_finder.specs.Putting.{ArePuts};
 ghost use Rattle.certificate_finder.specs.Steps.{IsFit};
 
 use crate::excuses::excluded_of;
+use crate::lives::lives_of;
 use crate::owners::owners_of;
 use crate::owning::Owning;
 use crate::put::Put;
@@ -22,11 +23,22 @@ pub(crate) fn read_result_of(alloc: Global, steps: &[Step]) -> Result<ReadResult
     ensures { IfOk result (IsReadResult steps.now) }
 {
     let puts = all_puts_of(alloc, steps)?;
-    let bests = bests_of(alloc, puts.as_slice())?;
-    match owners_of(alloc, steps, puts.as_slice(), bests.as_slice())? {
+    let listed = puts.as_slice();
+    let bests = bests_of(alloc, listed)?;
+    let lives = lives_of(alloc, listed)?;
+    let lived = lives.as_slice();
+    let longest = bests_of(alloc, lived)?;
+    match owners_of(
+        alloc,
+        steps,
+        listed,
+        bests.as_slice(),
+        lived,
+        longest.as_slice(),
+    )? {
         Owning::Each(owners) => Ok(ReadResult::Each(owners)),
         Owning::Refused(hit) => {
-            let puts = excluded_of(alloc, steps, puts.as_slice(), hit)?;
+            let puts = excluded_of(alloc, steps, listed, hit)?;
             Ok(ReadResult::Refused(Refusal { hit, puts }))
         }
     }

@@ -14,6 +14,7 @@ mod kind;
 mod laws;
 mod lent_word;
 mod line;
+mod lives;
 mod numbering;
 mod numbers;
 mod owner;

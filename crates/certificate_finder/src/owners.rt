@@ -1,10 +1,12 @@
 // With which write each call goes.
 ghost use Rattle.std.specs.Prelude.{◌≡◌, ◌+◌, ◌<◌, ◌^◌, All, IfOk, length, slice_get, Some};
+ghost use Rattle.certificate_finder.specs.Living.{AreLives};
 ghost use Rattle.certificate_finder.specs.Owning.{IsNoted, IsOwnerAt, IsOwning};
 ghost use Rattle.certificate_finder.specs.Putting.{AreBests, ArePuts};
 ghost use Rattle.certificate_finder.specs.Steps.{IsFit};
 
 use crate::best::Best;
+use crate::lives::live_owner;
 use crate::owner::Owner;
 use crate::owning::{Owners, Owning};
 use crate::put::Put;
@@ -20,18 +22,23 @@ pub(crate) fn owners_of(
     steps: &[Step],
     puts: &[Put],
     bests: &[Best],
+    lives: &[Put],
+    longest: &[Best],
 ) -> Result<Owning, AllocError>
     requires few { length steps.now < 2 ^ 31 }
     requires fit { All IsFit steps.now }
     requires puts { ArePuts steps.now puts.now }
     requires count { length bests.now ≡ length puts.now }
     requires bests { AreBests puts.now bests.now }
+    requires lives { AreLives puts.now (length puts.now) lives.now }
+    requires count_longest { length longest.now ≡ length lives.now }
+    requires longest { AreBests lives.now longest.now }
     ensures { IfOk result (IsOwning steps.now) }
 {
     let mut owners = Vec::new(alloc);
     let mut unsure = Vec::new(alloc);
     for position in 0..steps.len() {
-        let owner = owner_at(steps, puts, bests, position);
+        let owner = owner_at(steps, puts, bests, lives, longest, position);
         let noted = note(&mut owners, &mut unsure, position as u32, owner)?;
         if !noted {
             return Ok(Owning::Refused(position as u32));
@@ -70,11 +77,21 @@ fn note(
 }
 
 /// With which write the call at a position goes.
-fn owner_at(steps: &[Step], puts: &[Put], bests: &[Best], position: usize) -> Owner
+fn owner_at(
+    steps: &[Step],
+    puts: &[Put],
+    bests: &[Best],
+    lives: &[Put],
+    longest: &[Best],
+    position: usize,
+) -> Owner
     requires fit { All IsFit steps.now }
     requires puts { ArePuts steps.now puts.now }
     requires count { length bests.now ≡ length puts.now }
     requires bests { AreBests puts.now bests.now }
+    requires lives { AreLives puts.now (length puts.now) lives.now }
+    requires count_longest { length longest.now ≡ length lives.now }
+    requires longest { AreBests lives.now longest.now }
     requires within { position < length steps.now }
     ensures { IsOwnerAt steps.now position result }
 {
@@ -84,7 +101,7 @@ fn owner_at(steps: &[Step], puts: &[Put], bests: &[Best], position: usize) -> Ow
     }
     match reading_of(puts, bests, &step) {
         Reading::Nothing => Owner::Nothing,
-        Reading::Several => Owner::Unsure,
+        Reading::Several => live_owner(puts, lives, longest, &step),
         Reading::One(put) => {
             let read = step_at(steps, put as usize);
             if is_live(read.time, step.time) {

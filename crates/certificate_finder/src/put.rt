@@ -16,6 +16,8 @@ pub(crate) struct Put {
     pub(crate) value: u32,
     /// The stamp at which it started.
     pub(crate) start: u64,
+    /// When its value expires.
+    pub(crate) expires: u64,
     /// The stamp behind which no hit that starts can have read it.
     pub(crate) dead: u64,
     /// The position of the write that ended then, if there is one.
@@ -23,6 +25,7 @@ pub(crate) struct Put {
 }
 
 impl Put {
+    ghost use Rattle.certificate_finder.specs.Living.{lived as lived_put};
     ghost use Rattle.certificate_finder.specs.Putting.{IsPut, put_rank};
 
     /// The put at this position, with the write that ends first of those behind it.
@@ -35,6 +38,7 @@ impl Put {
                 key: step.key,
                 value: step.value,
                 start: step.start,
+                expires: step.time,
                 dead: write.end,
                 over: Some(write.position),
             },
@@ -43,9 +47,25 @@ impl Put {
                 key: step.key,
                 value: step.value,
                 start: step.start,
+                expires: step.time,
                 dead: u64::MAX,
                 over: None,
             },
+        }
+    }
+
+    /// It under an index, as one that can be read until it expires.
+    pub(crate) fn lived(&self, index: u32) -> Put
+        ensures { result ≡ lived_put index self.now }
+    {
+        Put {
+            position: index,
+            key: self.key,
+            value: self.value,
+            start: self.start,
+            expires: self.expires,
+            dead: self.expires,
+            over: None,
         }
     }
 

@@ -89,6 +89,17 @@ fn found(alloc: Global, rows: &[Row]) -> Result<Option<Want>, Fail> {
     }
 }
 
+/// Each history of a table has what is to be found for it.
+fn find_each(alloc: Global, table: &[(&[Row], Want)]) -> Result<(), Fail> {
+    for (row, (rows, want)) in table.iter().enumerate() {
+        let is = found(alloc, *rows)?;
+        if is != Some(*want) {
+            return Err(Fail::new(format_args!("row {row}: {is:?}")));
+        }
+    }
+    Ok(())
+}
+
 #[test]
 fn what_is_found_for_telling_histories(rt: HostRuntime) -> Result<(), Fail> {
     let table: [(&[Row], Want); 20] = [
@@ -208,8 +219,188 @@ fn what_is_found_for_telling_histories(rt: HostRuntime) -> Result<(), Fail> {
             Want::Hit,
         ),
     ];
-    for (rows, want) in table {
-        assert_eq!(rt; found(rt.alloc(), rows)?, Some(want));
-    }
-    Ok(())
+    find_each(rt.alloc(), &table)
+}
+
+#[test]
+fn what_is_found_for_writes_that_are_crossed(rt: HostRuntime) -> Result<(), Fail> {
+    let table: [(&[Row], Want); 9] = [
+        // Between two reads of a value another one was put, or it was removed; not where the times touch.
+        (
+            &[
+                (1, 0, 9, Did::Put(1)),
+                (1, 1, 2, Did::Hit(1)),
+                (1, 3, 6, Did::Put(2)),
+                (1, 7, 8, Did::Hit(1)),
+            ],
+            Want::Crossed,
+        ),
+        (
+            &[
+                (1, 0, 9, Did::Put(1)),
+                (1, 1, 2, Did::Hit(1)),
+                (1, 3, 7, Did::Put(2)),
+                (1, 7, 8, Did::Hit(1)),
+            ],
+            Want::Accepted,
+        ),
+        (
+            &[
+                (1, 0, 9, Did::Put(1)),
+                (1, 1, 2, Did::Hit(1)),
+                (1, 2, 6, Did::Put(2)),
+                (1, 7, 8, Did::Hit(1)),
+            ],
+            Want::Accepted,
+        ),
+        (
+            &[
+                (1, 0, 9, Did::Put(1)),
+                (1, 1, 2, Did::Hit(1)),
+                (1, 3, 4, Did::Remove),
+                (1, 5, 6, Did::Hit(1)),
+            ],
+            Want::Crossed,
+        ),
+        // Puts at one time, whose reads go one behind the other, back and forth, and back and forth at equal stamps.
+        (
+            &[
+                (1, 0, 9, Did::Put(1)),
+                (1, 0, 9, Did::Put(2)),
+                (1, 0, 9, Did::Put(3)),
+                (1, 1, 2, Did::Hit(3)),
+                (1, 3, 4, Did::Hit(1)),
+                (1, 5, 6, Did::Hit(2)),
+            ],
+            Want::Accepted,
+        ),
+        (
+            &[
+                (1, 0, 9, Did::Put(1)),
+                (1, 0, 9, Did::Put(2)),
+                (1, 0, 9, Did::Put(3)),
+                (1, 1, 2, Did::Hit(3)),
+                (1, 3, 4, Did::Hit(1)),
+                (1, 5, 6, Did::Hit(3)),
+            ],
+            Want::Crossed,
+        ),
+        (
+            &[
+                (1, 0, 9, Did::Put(1)),
+                (1, 0, 9, Did::Put(2)),
+                (1, 1, 2, Did::Hit(1)),
+                (1, 2, 3, Did::Hit(2)),
+                (1, 3, 4, Did::Hit(1)),
+            ],
+            Want::Accepted,
+        ),
+        // Of two keys.
+        (
+            &[
+                (1, 0, 9, Did::Put(1)),
+                (1, 1, 2, Did::Hit(1)),
+                (2, 3, 6, Did::Put(2)),
+                (1, 7, 8, Did::Hit(1)),
+            ],
+            Want::Accepted,
+        ),
+        // Beside a hit for which nothing may be decided.
+        (
+            &[
+                (2, 0, 9, Did::Put(1)),
+                (2, 0, 9, Did::Put(1)),
+                (2, 1, 2, Did::Hit(1)),
+                (1, 0, 9, Did::Put(1)),
+                (1, 1, 2, Did::Hit(1)),
+                (1, 3, 6, Did::Remove),
+                (1, 7, 8, Did::Hit(1)),
+            ],
+            Want::Crossed,
+        ),
+    ];
+    find_each(rt.alloc(), &table)
+}
+
+#[test]
+fn what_is_found_where_values_expire(rt: HostRuntime) -> Result<(), Fail> {
+    let table: [(&[Row], Want); 8] = [
+        // Of two puts both had expired, one had, or none.
+        (
+            &[
+                (1, 0, 9, Did::Expiring(1, 5)),
+                (1, 0, 9, Did::Expiring(1, 6)),
+                (1, 1, 2, Did::HitAt(1, 6)),
+            ],
+            Want::Hit,
+        ),
+        (
+            &[
+                (1, 0, 9, Did::Expiring(1, 5)),
+                (1, 0, 9, Did::Expiring(1, 7)),
+                (1, 1, 2, Did::HitAt(1, 6)),
+            ],
+            Want::Accepted,
+        ),
+        (
+            &[
+                (1, 0, 9, Did::Expiring(1, 7)),
+                (1, 0, 9, Did::Put(1)),
+                (1, 1, 2, Did::HitAt(1, 6)),
+            ],
+            Want::Undecided,
+        ),
+        // At the greatest moments, of a put that never expires and one that expires last.
+        (
+            &[
+                (1, 0, 9, Did::Put(1)),
+                (1, 0, 9, Did::Expiring(1, 18446744073709551614)),
+                (1, 1, 2, Did::HitAt(1, 18446744073709551615)),
+                (1, 1, 2, Did::HitAt(1, 18446744073709551614)),
+            ],
+            Want::Accepted,
+        ),
+        (
+            &[
+                (1, 0, 9, Did::Put(1)),
+                (1, 0, 9, Did::Expiring(1, 18446744073709551614)),
+                (1, 1, 2, Did::HitAt(1, 18446744073709551613)),
+            ],
+            Want::Undecided,
+        ),
+        // The one that is live was removed; and beside such a one another is live that was not: it alone can have been read.
+        (
+            &[
+                (1, 0, 1, Did::Expiring(1, 9)),
+                (1, 2, 3, Did::Remove),
+                (1, 4, 9, Did::Expiring(1, 5)),
+                (1, 4, 9, Did::Expiring(1, 5)),
+                (1, 5, 6, Did::HitAt(1, 6)),
+            ],
+            Want::Hit,
+        ),
+        (
+            &[
+                (1, 0, 1, Did::Expiring(1, 9)),
+                (1, 2, 3, Did::Remove),
+                (1, 4, 9, Did::Expiring(1, 5)),
+                (1, 4, 9, Did::Expiring(1, 9)),
+                (1, 5, 6, Did::HitAt(1, 6)),
+            ],
+            Want::Undecided,
+        ),
+        // Two reads that only one of two puts explains, and between them another value.
+        (
+            &[
+                (1, 0, 9, Did::Expiring(1, 5)),
+                (1, 0, 9, Did::Expiring(1, 9)),
+                (1, 0, 9, Did::Put(2)),
+                (1, 1, 2, Did::HitAt(1, 6)),
+                (1, 3, 4, Did::Hit(2)),
+                (1, 5, 6, Did::HitAt(1, 6)),
+            ],
+            Want::Crossed,
+        ),
+    ];
+    find_each(rt.alloc(), &table)
 }

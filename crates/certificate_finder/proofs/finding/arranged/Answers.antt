@@ -1,11 +1,11 @@
 use Rattle.std.proofs.Common.{◌<◌, [], length, sym, ap, subst, arith}
-use Rattle.std.specs.Prelude.{All}
+use Rattle.std.specs.Prelude.{All, AllPairs}
 use Rattle.certificate_finder.specs.declared.found.Found.TheVariants.{Rejected}
 use Rattle.certificate_finder.specs.Finding.{IsFound}
 use Rattle.certificate_finder.specs.Owning.{AreOwners}
-use Rattle.certificate_finder.specs.Zones.{AreCrossing, AreZones}
-use Rattle.certificate_finder.proofs.FindLemmas.{undecided}
+use Rattle.certificate_finder.specs.Zones.{AreCrossing, AreZones, FollowOn, IsCrossingOrNone}
 use Rattle.certificate_finder.proofs.FoundLemmas.{found_crossed, owners_in, some_left, sure}
+use Rattle.certificate_finder.proofs.Settling.{undecided}
 use Rattle.certificate_finder.proofs.finding.arranged.Goals as goal
 
 pub zones_of-requires-clause-within : goal.zones_of-requires-clause-within
@@ -15,7 +15,14 @@ pub returns-in-Some : goal.returns-in-Some
 returns-in-Some c = λ history are intervals. subst (λ w. IsFound history (Rejected w)) (sym c.witness.ensures) (found_crossed history c.args.steps.now c.args.owners.owners.items c.args.owners.unsure.items c.in_ok-zones.zones.items c.in-Some.crossing are c.requires.owners (subst (λ os. AreZones c.args.steps.now os c.in_ok-zones.zones.items) c.as_slice-owned.ensures.value c.in_ok-zones.ensures) (subst (λ zs. AreCrossing zs c.in-Some.crossing) c.as_slice-listed.ensures.value c.in-Some.ensures))
 
 pub returns-then-not-is_empty : goal.returns-then-not-is_empty
-returns-then-not-is_empty c = λ history are intervals. record { accepted = tt; rejected = tt; undecided = undecided history c.args.steps.now are c.args.owners.owners.items c.args.owners.unsure.items c.requires.owners (some_left c.args.owners.unsure.items c.as_slice-doubtful.result.now c.as_slice-doubtful.ensures.value c.if-not-is_empty.ensures) }
+returns-then-not-is_empty c = λ history are intervals. record {
+  accepted = tt;
+  rejected = tt;
+  undecided = undecided history c.args.steps.now are c.args.owners.owners.items c.args.owners.unsure.items c.requires.owners c.in_ok-zones.zones.items
+      (subst (λ os. AreZones c.args.steps.now os c.in_ok-zones.zones.items) c.as_slice-owned.ensures.value c.in_ok-zones.ensures)
+      (subst (λ zs. AllPairs FollowOn zs) c.as_slice-listed.ensures.value (subst (λ o. IsCrossingOrNone c.as_slice-listed.result.now o) c.in_default.is c.crossing_of.ensures))
+      intervals (some_left c.args.owners.unsure.items c.as_slice-doubtful.result.now c.as_slice-doubtful.ensures.value c.if-not-is_empty.ensures);
+}
 
 pub certificate_by_zones-requires-clause-few_zones : goal.certificate_by_zones-requires-clause-few_zones
 certificate_by_zones-requires-clause-few_zones c = let l = c.in_ok-zones.ensures.lists.few in let few = c.requires.few in let same = ap length c.as_slice-listed.ensures.value in omega arith
