@@ -9,7 +9,7 @@ use certificate_finder::{Excluded, Excuse, Side};
 use std::alloc::{AllocError, Global};
 
 /// That the call at a position precedes the call at another.
-#[derive(Clone, Copy, Debug, PartialEq, Eq)]
+#[derive(Clone, Copy)]
 pub(crate) struct Arrow {
     /// The call that ended.
     pub from: u32,

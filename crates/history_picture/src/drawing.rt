@@ -24,7 +24,7 @@ const LINE: usize = 20;
 const MOST_LINES: u128 = 1000;
 
 /// Where the parts of a picture lie.
-#[derive(Debug, Drop)]
+#[derive(Drop)]
 pub struct Drawing {
     /// The stamps that have columns, and the width of callers' names.
     pub sheet: Sheet,

@@ -7,7 +7,7 @@ use std::alloc::{AllocError, Global};
 use trace_file::CallRef;
 
 /// The measures of the lines of some calls: the stamps that have columns, and the widths of the words, in characters.
-#[derive(Debug, Drop)]
+#[derive(Drop)]
 pub struct Sheet {
     /// The stamps, each once and rising.
     pub stamps: Vec<u64>,
