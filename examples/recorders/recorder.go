@@ -1,5 +1,5 @@
 // Records the calls of a cache's client as text for `kangaroo judge`: one call a line.
-// It was never compiled: no Go compiler was at hand. Each goroutine has a Recorder of its own, with a name and a writer.
+// It was not compiled: no Go compiler was at hand. Each goroutine has a Recorder of its own, with a name and a writer.
 // Values must be unique for a history to be decided: put a count and the caller's name in front of each.
 package recorder
 
@@ -18,7 +18,7 @@ type Client interface {
 	Delete(key []byte) error
 }
 
-// Recorder wraps a client.
+// Recorder wraps a client. The caller's name is a word, without spaces.
 type Recorder struct {
 	Client Client
 	Caller string
@@ -26,21 +26,21 @@ type Recorder struct {
 }
 
 var began = time.Now() // time.Since reads the monotonic clock
+var coded = strings.NewReplacer("+", "%20", "-", "%2D")
 
-func word(b []byte) string {
-	if len(b) == 0 {
-		return "-"
+// Writes a line. A put or a removal that failed has the end "-": it may have happened at any time from its start on.
+func (r *Recorder) note(start time.Duration, err error, act string, words ...[]byte) {
+	end, line := fmt.Sprint(time.Since(began).Nanoseconds()), act
+	if err != nil {
+		end = "-"
 	}
-	return strings.ReplaceAll(strings.ReplaceAll(url.QueryEscape(string(b)), "+", "%20"), "-", "%2D")
-}
-
-// A call that failed has the end "-": it may have happened at any time from its start on.
-func (r *Recorder) note(start time.Duration, err error, words ...string) {
-	end := "-"
-	if err == nil {
-		end = fmt.Sprint(time.Since(began).Nanoseconds())
+	for _, word := range words {
+		if line += " "; len(word) == 0 {
+			line += "-"
+		}
+		line += coded.Replace(url.QueryEscape(string(word)))
 	}
-	fmt.Fprintf(r.Out, "%s %d %s %s\n", r.Caller, start.Nanoseconds(), end, strings.Join(words, " "))
+	fmt.Fprintf(r.Out, "%s %d %s %s\n", r.Caller, start.Nanoseconds(), end, line)
 }
 
 // Get reads, and records what was read. A get that failed is not recorded.
@@ -48,9 +48,9 @@ func (r *Recorder) Get(key []byte) ([]byte, error) {
 	start := time.Since(began)
 	value, err := r.Client.Get(key)
 	if err == nil && value == nil {
-		r.note(start, nil, "miss", word(key))
+		r.note(start, nil, "miss", key)
 	} else if err == nil {
-		r.note(start, nil, "hit", word(key), word(value))
+		r.note(start, nil, "hit", key, value)
 	}
 	return value, err
 }
@@ -59,7 +59,7 @@ func (r *Recorder) Get(key []byte) ([]byte, error) {
 func (r *Recorder) Set(key, value []byte) error {
 	start := time.Since(began)
 	err := r.Client.Set(key, value)
-	r.note(start, err, "put", word(key), word(value))
+	r.note(start, err, "put", key, value)
 	return err
 }
 
@@ -67,6 +67,6 @@ func (r *Recorder) Set(key, value []byte) error {
 func (r *Recorder) Delete(key []byte) error {
 	start := time.Since(began)
 	err := r.Client.Delete(key)
-	r.note(start, err, "remove", word(key))
+	r.note(start, err, "remove", key)
 	return err
 }

@@ -11,7 +11,6 @@ from recorder import Recorder
 
 class Cache:
     """A table behind a lock."""
-
     def __init__(self):
         self.lock, self.table = threading.Lock(), {}
 
@@ -30,7 +29,6 @@ class Cache:
 
 class Near:
     """Keeps a copy of the last value that was read, and forgets it only when its own thread writes that key."""
-
     def __init__(self, cache):
         self.cache, self.key, self.value = cache, None, None
 
@@ -51,8 +49,7 @@ class Near:
 def work(recorder, seed):
     chance = random.Random(seed)
     for number in range(200):
-        key = b"key %d" % chance.randrange(4)
-        kind = chance.random()
+        key, kind = b"key %d" % chance.randrange(4), chance.random()
         if kind < 0.7:
             recorder.get(key)
         elif kind < 0.95:
@@ -62,20 +59,13 @@ def work(recorder, seed):
         time.sleep(0.0001)  # let the others have their turns
 
 
-def main(near):
-    cache, outs, threads = Cache(), [], []
-    for number in range(4):
-        outs.append(io.StringIO())
-        client = Near(cache) if near else cache
-        recorder = Recorder(client, "thread%d" % number, outs[-1])
-        threads.append(threading.Thread(target=work, args=(recorder, number)))
+if __name__ == "__main__":
+    cache, outs = Cache(), [io.StringIO() for _ in range(4)]
+    clients = [Near(cache) if "--near" in sys.argv[1:] else cache for _ in outs]
+    recorders = [Recorder(client, "thread%d" % n, out) for n, (client, out) in enumerate(zip(clients, outs))]
+    threads = [threading.Thread(target=work, args=(recorder, n)) for n, recorder in enumerate(recorders)]
     for thread in threads:
         thread.start()
     for thread in threads:
         thread.join()
-    for out in outs:
-        sys.stdout.write(out.getvalue())
-
-
-if __name__ == "__main__":
-    main("--near" in sys.argv[1:])
+    sys.stdout.write("".join(out.getvalue() for out in outs))

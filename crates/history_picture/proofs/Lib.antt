@@ -1,7 +1,12 @@
 mod Choosing
 mod ExplainLaws
 mod Marking
+mod Measuring
+mod Nearing
+mod PictureLaws
 mod Placing
 mod PlainLaws
+mod PlainPictures
 mod PlainTexts
+mod Scaling
 mod SentenceLaws

@@ -1,6 +1,6 @@
 -- What is written is plain.
-use Rattle.std.proofs.Common.{◌≡◌, ℕ, ◌+◌, ◌-◌, ◌/◌, ◌%◌, ◌<◌, ◌≤◌, List, [], ◌∷◌, ◌++◌, Bool, true, false, ◌&&◌, refl, sym, ap, subst, ◌∙◌, arith, length, take, get_or, replicate, Option, Some, None}
-use Rattle.std.specs.Prelude.{codes, ◌==◌, not, nat_lt, nat_le, slice_get, if◌then◌else◌}
+use Rattle.std.proofs.Common.{◌≡◌, ℕ, ◌-◌, ◌/◌, ◌%◌, ◌<◌, ◌≤◌, List, [], ◌∷◌, ◌++◌, Bool, true, false, ◌&&◌, refl, sym, subst, arith, length, take, get_or, replicate, Option, Some, None}
+use Rattle.std.specs.Prelude.{codes, ◌==◌, nat_lt, nat_le, slice_get, if◌then◌else◌}
 use Rattle.std.specs.List.{flat_map, list_any}
 use Rattle.std.specs.Str.{bytes_eq, IsAscii, IsCharBoundary}
 use Rattle.std.proofs.lemmas.List.Sums.{AllPass-from_list_all}

@@ -1,11 +1,15 @@
 // Which call precedes which, where that matters.
+ghost use Rattle.std.specs.Prelude.{◌≡◌, ◌++◌, IfOk, OnOk, take};
+ghost use Rattle.std.specs.List.{flat_map};
+ghost use Rattle.history_picture.specs.Arrows.{arrows_of, crossed_arrows, excluded_arrows};
+
 use crate::marks::first_eight;
 use crate::reason::Reason;
-use certificate_finder::{Excluded, Excuse};
+use certificate_finder::{Excluded, Excuse, Side};
 use std::alloc::{AllocError, Global};
 
 /// That the call at a position precedes the call at another.
-#[derive(Clone, Copy, Debug, PartialEq, Eq)]
+#[derive(Clone, Copy)]
 pub(crate) struct Arrow {
     /// The call that ended.
     pub from: u32,
@@ -14,42 +18,76 @@ pub(crate) struct Arrow {
 }
 
 /// What precedes what, where that matters for a reason.
-pub(crate) fn arrows(alloc: Global, reason: &Reason) -> Result<Vec<Arrow>, AllocError> {
-    let mut arrows: Vec<Arrow> = Vec::new(alloc);
+pub(crate) fn arrows(alloc: Global, reason: &Reason) -> Result<Vec<Arrow>, AllocError>
+    ensures { IfOk result (λ arrows. arrows.items ≡ arrows_of reason.now) }
+{
     match reason {
-        Reason::Hit(hit, puts) => push_hit(&mut arrows, *hit, puts.as_slice())?,
-        Reason::Crossed(one, other) => {
-            push(&mut arrows, one.early, other.late)?;
-            push(&mut arrows, other.early, one.late)?;
-        }
-        Reason::OutOfOrder(_, call, earlier) => push(&mut arrows, *call, *earlier)?,
-        _ => {}
+        Reason::Interval(_) => Ok(Vec::new(alloc)),
+        Reason::Hit(hit, puts) => hit_arrows(alloc, *hit, puts.as_slice()),
+        Reason::Crossed(one, other) => side_arrows(alloc, one, other),
+        Reason::OutOfOrder(_, call, earlier) => Ok(vec![in alloc;
+            Arrow {
+                from: *call,
+                to: *earlier
+            },
+        ]?),
+        Reason::WrongHit(..) => Ok(Vec::new(alloc)),
+        Reason::Repeated(..) => Ok(Vec::new(alloc)),
+        Reason::NotAPlace(..) => Ok(Vec::new(alloc)),
+        Reason::WrongCount => Ok(Vec::new(alloc)),
+    }
+}
+
+/// What precedes what, for a hit that can't have read its puts.
+fn hit_arrows(alloc: Global, hit: u32, puts: &[Excluded]) -> Result<Vec<Arrow>, AllocError>
+    ensures { IfOk result (λ arrows.
+        arrows.items ≡ flat_map (excluded_arrows hit) (take 8 puts.now)) }
+{
+    let mut arrows: Vec<Arrow> = Vec::new(alloc);
+    for put in first_eight(puts) {
+        push_excluded(&mut arrows, hit, put)?;
     }
     Ok(arrows)
 }
 
-/// Puts what precedes what, for a hit that can't have read its puts, behind others.
-fn push_hit(arrows: &mut Vec<Arrow>, hit: u32, puts: &[Excluded]) -> Result<(), AllocError> {
-    for excluded in first_eight(puts) {
-        push_excluded(arrows, hit, excluded)?;
-    }
-    Ok(())
-}
-
 /// Puts what precedes what, for a put that a hit can't have read, behind others.
-fn push_excluded(arrows: &mut Vec<Arrow>, hit: u32, excluded: &Excluded) -> Result<(), AllocError> {
+fn push_excluded(arrows: &mut Vec<Arrow>, hit: u32, excluded: &Excluded) -> Result<(), AllocError>
+    ensures { OnOk result (
+        arrows.new.items ≡ arrows.old.items ++ excluded_arrows hit excluded.now) }
+{
+    let put = excluded.put;
     match excluded.why {
-        Excuse::Later => push(arrows, hit, excluded.put),
+        Excuse::Later => {
+            arrows.push(Arrow { from: hit, to: put })?;
+            Ok(())
+        }
         Excuse::Expired => Ok(()),
         Excuse::Replaced(write) => {
-            push(arrows, excluded.put, write)?;
-            push(arrows, write, hit)
+            arrows.push(Arrow {
+                from: put,
+                to: write,
+            })?;
+            arrows.push(Arrow {
+                from: write,
+                to: hit,
+            })?;
+            Ok(())
         }
     }
 }
 
-/// Puts an arrow behind others.
-fn push(arrows: &mut Vec<Arrow>, from: u32, to: u32) -> Result<(), AllocError> {
-    arrows.push(Arrow { from, to })?;
-    Ok(())
+/// What precedes what, for two crossed sides.
+fn side_arrows(alloc: Global, one: &Side, other: &Side) -> Result<Vec<Arrow>, AllocError>
+    ensures { IfOk result (λ arrows. arrows.items ≡ crossed_arrows one.now other.now) }
+{
+    Ok(vec![in alloc;
+        Arrow {
+            from: one.early,
+            to: other.late
+        },
+        Arrow {
+            from: other.early,
+            to: one.late
+        },
+    ]?)
 }

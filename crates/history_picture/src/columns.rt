@@ -1,11 +1,13 @@
 // The columns of stamps.
-ghost use Rattle.std.specs.Prelude.{◌≡◌, IfOk, string_bytes};
+ghost use Rattle.std.specs.Prelude.{◌≡◌, ◌++◌, IfOk, OnOk, string_bytes};
+ghost use Rattle.std.specs.List.{flat_map};
 ghost use Rattle.history_picture.specs.Rows.{bar_text, column};
+ghost use Rattle.history_picture.specs.Scale.{IsScale, stamps_at};
 
 use crate::blanks::{Blanks, Dashes};
 use crate::call_at::call_at;
 use std::alloc::{AllocError, Global};
-use trace_file::{CallRef, History};
+use trace_file::History;
 
 /// The end of a call that never returned.
 pub(crate) const NEVER_ENDED: u64 = u64::MAX;
@@ -15,24 +17,40 @@ pub(crate) fn stamps_of(
     alloc: Global,
     history: &History,
     shown: &[u32],
-) -> Result<Vec<u64>, AllocError> {
-    let mut stamps: Vec<u64> = Vec::new(alloc);
-    for position in shown {
-        if let Some(call) = call_at(history, *position) {
-            push_stamps(&mut stamps, &call)?;
-        }
-    }
+) -> Result<Vec<u64>, AllocError>
+    ensures { IfOk result (λ stamps. IsScale history.now shown.now stamps.items) }
+{
+    let mut stamps = all_stamps(alloc, history, shown)?;
     stamps.sort_unstable();
     stamps.dedup();
     Ok(stamps)
 }
 
-/// Puts a call's start and its end behind others.
-fn push_stamps(stamps: &mut Vec<u64>, call: &CallRef<'_>) -> Result<(), AllocError> {
-    stamps.push(call.start)?;
-    if call.end != NEVER_ENDED {
-        stamps.push(call.end)?;
+/// The starts and the ends of calls, one after the other.
+fn all_stamps(alloc: Global, history: &History, shown: &[u32]) -> Result<Vec<u64>, AllocError>
+    ensures { IfOk result (λ stamps.
+        stamps.items ≡ flat_map (stamps_at history.now) shown.now) }
+{
+    let mut stamps: Vec<u64> = Vec::new(alloc);
+    for position in shown {
+        push_stamps(&mut stamps, history, *position)?;
     }
+    Ok(stamps)
+}
+
+/// Puts the start and the end of the call at a position behind others.
+fn push_stamps(stamps: &mut Vec<u64>, history: &History, position: u32) -> Result<(), AllocError>
+    ensures { OnOk result (
+        stamps.new.items ≡ stamps.old.items ++ stamps_at history.now position) }
+{
+    let Some(call) = call_at(history, position) else {
+        return Ok(());
+    };
+    stamps.push(call.start)?;
+    if call.end == NEVER_ENDED {
+        return Ok(());
+    }
+    stamps.push(call.end)?;
     Ok(())
 }
 

@@ -28,10 +28,12 @@ pub fn explanation(alloc: Global, scene: &Scene<'_>, reason: &Reason) -> Result<
         (names_of scene.now.callers.now) reason.now (string_bytes text)) }
 {
     let sentence = scene.sentence(alloc, reason)?;
-    let marks = marks(alloc, reason)?;
-    let shown = shown(alloc, scene.history, marks.as_slice(), MOST_CALLS)?;
-    let sheet = Sheet::of(alloc, scene, shown.as_slice())?;
-    let rows = scene.rows(alloc, marks.as_slice(), &sheet, shown.as_slice())?;
+    let matter = marks(alloc, reason)?;
+    let marks = matter.as_slice();
+    let chosen = shown(alloc, scene.history, marks, MOST_CALLS)?;
+    let shown = chosen.as_slice();
+    let sheet = Sheet::of(alloc, scene, shown)?;
+    let rows = scene.rows(alloc, marks, &sheet, shown)?;
     let text = format!(in alloc; "{sentence}\n{rows}")?;
     Ok(text)
 }

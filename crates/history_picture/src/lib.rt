@@ -5,6 +5,7 @@ mod arrows;
 mod bars;
 mod blanks;
 mod call_at;
+mod callers;
 mod coded;
 mod columns;
 mod drawing;

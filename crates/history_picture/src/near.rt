@@ -1,100 +1,95 @@
 // The calls of a key that are nearest in time to a call.
-ghost use Rattle.std.specs.Prelude.{◌≡◌, ◌<◌, ◌≤◌, ◌==◌, All, IfOk, List, ℕ, length};
+ghost use Rattle.std.specs.Prelude.{◌≡◌, ◌==◌, ◌^◌, ◌↔◌, Contains, IfOk, IsTrue, OnOk, slice_get};
 ghost use Rattle.std.specs.List.{list_any};
-ghost use Rattle.trace_file.specs.declared.call.Call.{Call};
-ghost use Rattle.history_picture.specs.Nearest.{AreOfKey, IsOfKey};
+ghost use Rattle.trace_file.specs.Lent.{call_shown};
+ghost use Rattle.history_picture.specs.Nearest.{AreNearest, AreOthers, IsOther, IsTakenOther, gap_from};
 
+use crate::call_at::call_at;
 use std::alloc::{AllocError, Global};
 use trace_file::{CallRef, History};
 
 /// How many positions there can be.
 const MOST_POSITIONS: usize = 4294967296;
 
-/// A call at a position, and how far in time it is from another.
-#[derive(Clone, Copy, Debug, PartialEq, Eq)]
-pub(crate) struct Near {
-    /// How far, in stamps: 0 where the two overlap.
-    pub gap: u64,
-    /// The call's position.
-    pub position: u32,
-}
-
-/// The calls of a call's key that are nearest to it in time, at most so many, and none at these positions. Of equally near
-/// ones the earlier positions are taken.
+/// The positions of the calls of a call's key that are nearest to it in time, at most so many, and none of these.
 pub(crate) fn nearest(
     alloc: Global,
     history: &History,
     call: &CallRef<'_>,
     without: &[u32],
     most: usize,
-) -> Result<Vec<Near>, AllocError>
-    ensures few { IfOk result (λ near. length near.items ≤ most) }
-    ensures of_key { IfOk result (λ near.
-        All (IsOfKey history.now call.now.key.now) near.items) }
+) -> Result<Vec<u32>, AllocError>
+    ensures { IfOk result (λ near.
+        AreNearest history.now (call_shown call.now) without.now most near.items) }
 {
-    let mut near: Vec<Near> = Vec::new(alloc);
-    for position in 0..history.len().min(MOST_POSITIONS) {
-        let other = history.at(position);
-        if other.key == call.key && !is_among(without, position as u32) {
-            let one = Near {
-                gap: gap_between(call, &other),
-                position: position as u32,
-            };
-            keep(&mut near, one, most)?;
-        }
-    }
+    let mut near = others(alloc, history, call.key, without)?;
+    near.sort_unstable_by_key(|position| gap_between(history, call, *position));
+    near.truncate(most);
     Ok(near)
+}
+
+/// The positions of the calls of a key, without these.
+fn others(
+    alloc: Global,
+    history: &History,
+    key: &[u8],
+    without: &[u32],
+) -> Result<Vec<u32>, AllocError>
+    ensures { IfOk result (λ others.
+        AreOthers history.now key.now without.now (2 ^ 32) others.items) }
+{
+    let mut others: Vec<u32> = Vec::new(alloc);
+    for position in 0..history.len().min(MOST_POSITIONS) {
+        take_other(history, key, without, &mut others, position as u32)?;
+    }
+    Ok(others)
+}
+
+/// Puts a position behind others, if its call is of a key and it is none of these.
+fn take_other(
+    history: &History,
+    key: &[u8],
+    without: &[u32],
+    others: &mut Vec<u32>,
+    position: u32,
+) -> Result<(), AllocError>
+    ensures { OnOk result (IsTakenOther history.now key.now without.now position
+        others.old.items others.new.items) }
+{
+    let is = is_other(history, key, without, position);
+    if !is {
+        return Ok(());
+    }
+    others.push(position)?;
+    Ok(())
+}
+
+/// Whether the call at a position is of a key, and is none of these.
+fn is_other(history: &History, key: &[u8], without: &[u32], position: u32) -> bool
+    ensures { IsTrue result ↔ IsOther history.now key.now without.now position }
+{
+    let Some(call) = call_at(history, position) else {
+        return false;
+    };
+    call.key == key && !is_among(without, position)
 }
 
 /// Whether a position is among others.
 pub(crate) fn is_among(positions: &[u32], position: u32) -> bool
-    ensures { result ≡ list_any (λ one. one == position) positions.now }
+    ensures test { result ≡ list_any (λ one. one == position) positions.now }
+    ensures among { IsTrue result ↔ Contains positions.now position }
 {
     positions.iter().any(|one| *one == position)
 }
 
-/// How many stamps lie between two calls, 0 where they overlap.
-fn gap_between(call: &CallRef<'_>, other: &CallRef<'_>) -> u64 {
-    if other.end < call.start {
-        call.start - other.end
-    } else if call.end < other.start {
-        other.start - call.end
-    } else {
-        0
-    }
-}
-
-/// Keeps a call among the nearest where there is room, or where one of them is farther, which is dropped then.
-fn keep(near: &mut Vec<Near>, one: Near, most: usize) -> Result<(), AllocError>
-    requires { length near.old.items ≤ most }
-    ensures few { length near.new.items ≤ most }
-    ensures kept { (history : List Call) (key : List ℕ) → AreOfKey history key near.old.items
-        → IsOfKey history key one → AreOfKey history key near.new.items }
+/// How many stamps lie between a call and the one at a position, 0 where they overlap.
+fn gap_between(history: &History, call: &CallRef<'_>, position: u32) -> u64
+    ensures { result ≡ gap_from (call_shown call.now) (slice_get history.now position) }
 {
-    if near.len() < most {
-        near.push(one)?;
-        return Ok(());
-    }
-    if near.is_empty() {
-        return Ok(());
-    }
-    let farthest = farthest(near.as_slice());
-    if one.gap < near[farthest].gap {
-        near[farthest] = one;
-    }
-    Ok(())
-}
-
-/// The index of the farthest of some calls, the first of several.
-fn farthest(near: &[Near]) -> usize
-    requires { 0 < length near.now }
-    ensures { result < length near.now }
-{
-    let mut farthest = 0;
-    for index in 0..near.len() {
-        if near[farthest].gap < near[index].gap {
-            farthest = index;
-        }
-    }
-    farthest
+    let Some(other) = call_at(history, position) else {
+        return 0;
+    };
+    let before = call.start.saturating_sub(other.end);
+    let behind = other.start.saturating_sub(call.end);
+    before.max(behind)
 }

@@ -1,10 +1,10 @@
 // Which calls are shown.
-ghost use Rattle.std.specs.Prelude.{◌≡◌, ◌≤◌, ◌++◌, IfOk, OnOk, length, map};
-ghost use Rattle.history_picture.specs.Shown.{AreShown};
+ghost use Rattle.std.specs.Prelude.{◌≡◌, ◌≤◌, IfOk, OnOk, length};
+ghost use Rattle.history_picture.specs.Shown.{AreShown, AreTaken, started};
 ghost use Rattle.history_picture.specs.Chosen.{AreAdded, AreChosen, IsTakenNew, IsTakenUp};
 
 use crate::call_at::call_at;
-use crate::near::{Near, is_among, nearest};
+use crate::near::{is_among, nearest};
 use std::alloc::{AllocError, Global};
 use trace_file::History;
 
@@ -32,7 +32,7 @@ fn taken(
     most: usize,
 ) -> Result<Vec<u32>, AllocError>
     requires { length marks.now ≤ most }
-    ensures { IfOk result (λ shown. AreShown history.now marks.now most shown.items) }
+    ensures { IfOk result (λ shown. AreTaken history.now marks.now most shown.items) }
 {
     let mut shown = marked(alloc, history, marks)?;
     let Some(first) = marks.first() else {
@@ -92,23 +92,14 @@ fn push_nearest(
     };
     let room = most.saturating_sub(shown.len());
     let near = nearest(alloc, history, &call, shown.as_slice(), room)?;
-    push_all(shown, near.as_slice())?;
+    shown.extend_from_slice(near.as_slice())?;
     Ok(())
 }
 
-/// Puts positions behind others.
-fn push_all(shown: &mut Vec<u32>, near: &[Near]) -> Result<(), AllocError>
-    ensures { OnOk result (
-        shown.new.items ≡ shown.old.items ++ map (λ one. one.position) near.now) }
+/// The start of the call at a position, 0 of none.
+fn start_of(history: &History, position: u32) -> u64
+    ensures { result ≡ started history.now position }
 {
-    for one in near {
-        shown.push(one.position)?;
-    }
-    Ok(())
-}
-
-/// The start of the call at a position.
-fn start_of(history: &History, position: u32) -> u64 {
     match call_at(history, position) {
         Some(call) => call.start,
         None => 0,

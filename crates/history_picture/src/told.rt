@@ -9,7 +9,7 @@ use std::alloc::{AllocError, Global};
 use trace_file::ActRef;
 
 /// What is told of a call.
-#[derive(Debug, Drop)]
+#[derive(Drop)]
 pub(crate) struct Told {
     /// What it did, and where it was recorded.
     pub name: String,

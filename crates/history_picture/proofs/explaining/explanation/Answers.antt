@@ -5,12 +5,12 @@ use Rattle.history_picture.proofs.ExplainLaws.{explained, room_for_marks}
 use Rattle.history_picture.proofs.explaining.explanation.Goals as goal
 
 pub shown-requires : goal.shown-requires
-shown-requires c = room_for_marks c.args.reason.now c.as_slice.result.now 24 (c.as_slice.ensures.value ∙ c.in_ok-marks.ensures) (omega arith)
+shown-requires c = room_for_marks c.args.reason.now c.as_slice-marks.result.now 24 (c.as_slice-marks.ensures.value ∙ c.in_ok-matter.ensures) (omega arith)
 
 pub returns : goal.returns
 returns c =
     explained c.args.scene.now.history.now c.args.scene.now.lines.now (names_of c.args.scene.now.callers.now) c.args.reason.now
-    c.as_slice.result.now c.as_slice-3.result.now c.as_slice-4.result.now c.in_ok-shown.shown.items c.in_ok-sheet.sheet
+    c.as_slice-marks.result.now c.as_slice-shown.result.now c.in_ok-chosen.chosen.items c.in_ok-sheet.sheet
     (string_bytes c.in_ok-sentence.sentence) (string_bytes c.in_ok-rows.rows) (string_bytes c.in_ok-text.text)
-    (c.as_slice.ensures.value ∙ c.in_ok-marks.ensures) (c.as_slice-3.ensures.value ∙ c.in_ok-marks.ensures) c.as_slice-4.ensures.value
-    c.in_ok-shown.ensures c.in_ok-sentence.ensures c.in_ok-rows.ensures c.in_ok-text.ensures.ok
+    (c.as_slice-marks.ensures.value ∙ c.in_ok-matter.ensures) c.as_slice-shown.ensures.value
+    c.in_ok-chosen.ensures c.in_ok-sheet.ensures c.in_ok-sentence.ensures c.in_ok-rows.ensures c.in_ok-text.ensures.ok

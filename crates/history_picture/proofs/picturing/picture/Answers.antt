@@ -1,21 +1,16 @@
-use Rattle.std.proofs.Common.{refl, sym, subst, ◌∙◌, arith}
-use Rattle.std.specs.Prelude.{codes}
-use Rattle.history_picture.specs.Plain.{IsPlain}
+use Rattle.std.proofs.Common.{◌∙◌, arith}
+use Rattle.std.specs.Prelude.{string_bytes}
+use Rattle.history_picture.specs.Names.{names_of}
 use Rattle.history_picture.proofs.ExplainLaws.{room_for_marks}
-use Rattle.history_picture.proofs.PlainLaws.{plain_append, plain_lit}
-use Rattle.history_picture.proofs.PlainTexts.{plain_escaped, plain_of}
+use Rattle.history_picture.proofs.PictureLaws.{pictured}
 use Rattle.history_picture.proofs.picturing.picture.Goals as goal
 
 pub shown-requires : goal.shown-requires
-shown-requires c = room_for_marks c.args.reason.now c.as_slice.result.now 50 (c.as_slice.ensures.value ∙ c.in_ok-marks.ensures) (omega arith)
-
-pub head-requires : goal.head-requires
-head-requires c = plain_of c.as_str-2.result.now _ (c.as_str-2.ensures.value ∙ c.in_ok-sentence-2.ensures) (plain_escaped c.as_str.result.now)
+shown-requires c = room_for_marks c.args.reason.now c.as_slice-marks.result.now 50 (c.as_slice-marks.ensures.value ∙ c.in_ok-matter.ensures) (omega arith)
 
 pub returns : goal.returns
 returns c =
-    subst IsPlain (sym c.in_ok-text.ensures.ok)
-    (plain_append _ _ c.in_ok-head.ensures
-    (plain_append _ _ c.in_ok-body.ensures
-    (plain_append _ _ c.in_ok-arrows-2.ensures
-    (plain_lit (codes "</svg>\n") refl))))
+    pictured c.args.scene.now.history.now c.args.scene.now.lines.now (names_of c.args.scene.now.callers.now) c.args.reason.now
+    c.as_str.result.now c.as_slice-marks.result.now c.as_slice-shown.result.now c.in_ok-chosen.chosen.items c.as_slice-arrows.result.now c.in_ok-drawing.drawing
+    (string_bytes c.in_ok-text.text) (c.as_str.ensures.value ∙ c.in_ok-sentence.ensures) (c.as_slice-marks.ensures.value ∙ c.in_ok-matter.ensures)
+    c.as_slice-shown.ensures.value (c.as_slice-arrows.ensures.value ∙ c.in_ok-known.ensures) c.in_ok-chosen.ensures c.in_ok-drawing.ensures c.in_ok-text.ensures

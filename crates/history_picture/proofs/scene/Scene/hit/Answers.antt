@@ -1,10 +1,7 @@
-use Rattle.std.proofs.Common.{◌≡◌, ◌<◌, ◌++◌, ◌∙◌, ap, sym, true, length, take, arith}
-use Rattle.std.specs.Prelude.{codes, nat_lt, if◌then◌else◌}
-use Rattle.std.specs.Fmt.{decimal}
+use Rattle.std.proofs.Common.{◌∙◌, ap, arith}
 use Rattle.std.specs.List.{flat_map}
-use Rattle.std.proofs.lemmas.Bool.{lt-ltb}
 use Rattle.std.proofs.lemmas.Result.{IfOk-weaker}
-use Rattle.history_picture.specs.Sentences.{also_words, hit_words, lone_words}
+use Rattle.history_picture.specs.Sentences.{also_words}
 use Rattle.history_picture.proofs.SentenceLaws.{several}
 use Rattle.history_picture.proofs.scene.Scene.hit.Goals as goal
 
