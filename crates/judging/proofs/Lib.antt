@@ -1,2 +1,1 @@
 pub mod TellingLaws
-pub mod TellingVerdicts

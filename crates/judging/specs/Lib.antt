@@ -1,3 +1,1 @@
-pub mod Findings
 pub mod Telling
-pub mod Verdicts

@@ -36,10 +36,10 @@ excluded_positions excluded = excluded.put ∷ excuse_positions excluded.why
 abbrev pub side_positions : Side → List ℕ
 side_positions side = side.write ∷ side.early ∷ side.late ∷ []
 
--- the calls that a reason speaks of; of the puts that a hit can't have read, the first seven
+-- the calls that a reason speaks of; of the puts that a hit can't have read, the first eight
 abbrev pub witness_positions : Witness → List ℕ
 witness_positions (Interval call) = call ∷ []
-witness_positions (Hit hit puts) = hit ∷ flat_map excluded_positions (take 7 puts.items)
+witness_positions (Hit hit puts) = hit ∷ flat_map excluded_positions (take 8 puts.items)
 witness_positions (Crossed one other) = side_positions one ++ side_positions other
 
 -- the lines of calls

@@ -7,7 +7,7 @@ use certificate_finder::{Excluded, Excuse, Side, Witness};
 use std::alloc::{AllocError, Global};
 
 /// The most puts of a hit that are told.
-const MOST_PUTS: usize = 7;
+const MOST_PUTS: usize = 8;
 
 /// Puts a position behind others.
 fn add(positions: &mut Vec<u32>, position: u32) -> Result<(), AllocError>
@@ -34,7 +34,7 @@ fn add_excluded(positions: &mut Vec<u32>, excluded: &Excluded) -> Result<(), All
 /// Puts the positions of the first few puts that were not read behind others.
 fn add_puts(positions: &mut Vec<u32>, puts: &[Excluded]) -> Result<(), AllocError>
     ensures { OnOk result (positions.new.items
-        ≡ positions.old.items ++ flat_map excluded_positions (take 7 puts.now)) }
+        ≡ positions.old.items ++ flat_map excluded_positions (take 8 puts.now)) }
 {
     let few = &puts[..puts.len().min(MOST_PUTS)];
     for excluded in few {

@@ -18,8 +18,8 @@ appends_kept (Some us) None c xs h k = absurd h
 appends_kept (Some us) (Some vs) None xs h k = absurd k
 appends_kept (Some us) (Some vs) (Some ws) xs h k = k ∙ h
 
-all_written : (old mid new : Option (List ℕ)) (ended : Scripted) (whole : Transcript) → IsWhole old mid ended whole → Keeps mid new → IsAllWritten old new (ending_of_script (Ok ended)) whole
-all_written old mid new ended whole h kept = record {
+all_written : (old mid new : Option (List ℕ)) (end : Scripted) (whole : Transcript) → IsWhole old mid end whole → Keeps mid new → IsAllWritten old new (ending_of_script (Ok end)) whole
+all_written old mid new end whole h kept = record {
   ended = ap (λ (e : Scripted). ending_of_script (Ok e)) h.ended;
   wrote = appends_kept old mid new _ h.wrote kept;
 }
