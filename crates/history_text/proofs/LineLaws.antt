@@ -1,12 +1,12 @@
 -- Taking the next line of a reader.
-use Rattle.std.proofs.Common.{◌≡◌, ℕ, ◌-◌, ◌++◌, true, false, if◌then◌else◌, inl, inr, List, [], length, Option, Some, None, refl, sym, ap, subst, ◌∙◌}
+use Rattle.std.proofs.Common.{◌≡◌, ℕ, ◌-◌, ◌≤◌, ◌++◌, ◌∷◌, true, false, eqb, if◌then◌else◌, inl, inr, List, [], length, arith, Option, Some, None, refl, sym, ap, subst, ◌∙◌}
 use Rattle.std.specs.Io.KnownBytes.{IsAtEnd, Keeps, prepend_known}
 use Rattle.std.proofs.lemmas.Bool.{cases_Bool}
 use Rattle.script_words.specs.declared.line_read.LineRead.{LineRead}
 use Rattle.script_words.specs.declared.line_read.LineRead.TheVariants.{Line, TooLong, End}
-use Rattle.script_words.specs.Lines.{Ahead, GivesNext, TakesWithin, is_ready_within}
-use Rattle.script_words.proofs.NextLine.{reads}
-use Rattle.history_text.specs.Reading.{GivesLine, IsAhead}
+use Rattle.script_words.specs.Lines.{Ahead, GivesNext, TakesWithin, feeds, is_ready_within, after_line as behind}
+use Rattle.script_words.proofs.NextLine.{reads, through, through_after}
+use Rattle.history_text.specs.Reading.{GivesLine, IsAhead, TakesOff}
 
 -- how often a reader is asked before a line can be taken: each read brings a byte, or is the last
 abbrev pub reads_left : Ahead → ℕ
@@ -43,6 +43,42 @@ pub at_end : (mid new : Ahead) (left : Option (List ℕ)) (read : LineRead) (lin
 at_end mid new left Line line ready ahead takes bad = cc
 at_end mid new left TooLong line ready ahead takes bad = cc
 at_end mid new left End line ready ahead takes same = ahead (over_last mid takes.0 ready)
+
+-- a first line has one line feed at most
+through_one : (bytes : List ℕ) → feeds (through bytes) ≤ 1
+through_one [] = omega arith
+through_one (b ∷ bs) = elim (cases_Bool (eqb b 10)) [
+  | inl feed ↦ rw (feed, feed) (omega arith)
+  | inr other ↦ rw (other, other) (through_one bs)
+]
+
+-- what was taken, and what is left of the bytes read ahead
+pub takes_off : (old mid new : Ahead) (unread left : Option (List ℕ)) (read : LineRead) (line : List ℕ) → length mid.bytes ≤ 12288 → Keeps (prepend_known old.bytes unread) (prepend_known mid.bytes left) → TakesWithin 8192 mid read line new → TakesOff (prepend_known old.bytes unread) new.bytes left
+takes_off old mid new unread left Line line few kept takes =
+    let rest : new.bytes ≡ behind mid.bytes = ap (λ (a : Ahead). a.bytes) takes.3 in
+    let whole : through mid.bytes ++ new.bytes ≡ mid.bytes = ap (λ zs. through mid.bytes ++ zs) rest ∙ sym (through_after mid.bytes) in
+    record {
+      front = through mid.bytes;
+      keeps = subst (λ (bytes : List ℕ). Keeps (prepend_known old.bytes unread) (prepend_known bytes left)) (sym whole) kept;
+      few = omega (arith, ap length whole, few);
+      one = through_one mid.bytes;
+    }
+takes_off old mid new unread left TooLong line few kept takes =
+    let same : new.bytes ≡ mid.bytes = ap (λ (a : Ahead). a.bytes) takes.1 in
+    record {
+      front = [];
+      keeps = subst (λ (bytes : List ℕ). Keeps (prepend_known old.bytes unread) (prepend_known bytes left)) (sym same) kept;
+      few = omega (arith, ap length same, few);
+      one = omega arith;
+    }
+takes_off old mid new unread left End line few kept takes =
+    let same : new.bytes ≡ mid.bytes = ap (λ (a : Ahead). a.bytes) takes.1 in
+    record {
+      front = [];
+      keeps = subst (λ (bytes : List ℕ). Keeps (prepend_known old.bytes unread) (prepend_known bytes left)) (sym same) kept;
+      few = omega (arith, ap length same, few);
+      one = omega arith;
+    }
 
 -- ---- reading once more
 

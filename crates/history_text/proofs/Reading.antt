@@ -1,18 +1,22 @@
 -- A text as far as its lines were taken.
-use Rattle.std.proofs.Common.{◌≡◌, ◌≢◌, ℕ, suc, ◌+◌, ◌<◌, true, false, List, [], length, Option, Some, None, IfSome, IsSomeAnd, Result, Ok, Err, sym, ap, ◌∙◌, refl, add-one, subst}
-use Rattle.std.specs.Io.KnownBytes.{prepend_known}
+use Rattle.std.proofs.Common.{◌≡◌, ◌≢◌, ℕ, suc, ◌+◌, ◌<◌, ◌≤◌, ◌++◌, ◌∷◌, true, false, List, [], length, Option, Some, None, IfErr, IfSome, IsSomeAnd, Result, Ok, Err, sym, ap, ◌∙◌, refl, add-one, append_assoc, arith, subst}
+use Rattle.std.specs.Io.KnownBytes.{Consumes, Keeps, prepend_known}
 use borrow.Author.Tests.{lt-ltb}
 use Rattle.script_words.specs.declared.line_read.LineRead.TheVariants.{Line, TooLong, End}
-use Rattle.script_words.specs.Lines.{Ahead, lines_of, first_line, after_line as behind_line}
-use Rattle.script_words.proofs.NextLine.{next_lines}
+use Rattle.script_words.specs.declared.read_line_fault.ReadLineFault as line_faults
+use Rattle.script_words.specs.declared.read_line_fault.ReadLineFault.TheVariants as line_kinds
+use Rattle.script_words.specs.Lines.{Ahead, feeds, lines_of, first_line, after_line as behind_line}
+use Rattle.script_words.proofs.NextLine.{feeds-append, next_lines}
 use Rattle.trace_file.specs.declared.call.Call.{Call}
 use Rattle.history_text.specs.declared.cause.Cause.{Cause}
 use Rattle.history_text.specs.declared.cause.Cause.TheVariants as causes
 use Rattle.history_text.specs.declared.bad_line.BadLine.{BadLine}
 use Rattle.history_text.specs.declared.line_fault.LineFault.{LineFault}
 use Rattle.history_text.specs.declared.line_fault.LineFault.TheVariants as taking
-use Rattle.history_text.specs.Outcome.{IsFaultOf, fault_at}
-use Rattle.history_text.specs.Reading.{GivesLine, IsAhead}
+use Rattle.history_text.specs.declared.read_text_fault.ReadTextFault.{ReadTextFault}
+use Rattle.history_text.specs.declared.read_text_fault.ReadTextFault.TheVariants.{ReadFault}
+use Rattle.history_text.specs.Outcome.{IsFaultOf, Left, fault_at, of_read_line}
+use Rattle.history_text.specs.Reading.{GivesLine, IsAhead, TakesNone, TakesOff}
 use Rattle.history_text.specs.Spelled.{IsSaid}
 use Rattle.history_text.specs.Text.{Text, no_text, after_line, text_by, text_from, by_line, text_of}
 
@@ -88,3 +92,94 @@ begins_ahead all ahead none = λ over. let going = ap (λ (a : Ahead). a.over) n
 pub begins_even : (calls : List Call) (lines : List ℕ) (callers : List (List ℕ)) → text_by calls lines callers ≡ no_text → length lines ≡ length calls
 begins_even calls lines callers empty =
     ap (λ (t : Text). length t.lines) empty ∙ sym (ap (λ (t : Text). length t.calls) empty)
+
+-- ---- how far a reader was read
+
+read_failed : (fault : line_faults.ReadLineFault) → of_read_line fault ≡ ReadFault → fault ≡ line_kinds.ReadFault
+read_failed line_kinds.OutOfMemory is = cc
+read_failed line_kinds.ReadFault is = refl
+
+-- whole lines were read and taken
+pub record ReadOff (all left : Option (List ℕ)) (number : ℕ) : Type 0 where
+  pub lines : List ℕ
+  pub taken : Consumes all left lines
+  pub low : feeds lines < number
+
+consume : (all left unread : Option (List ℕ)) (lines bytes : List ℕ) → Consumes all left lines → Keeps left (prepend_known bytes unread) → Consumes all unread (lines ++ bytes)
+consume None left unread lines bytes taken keeps = tt
+consume (Some xs) None unread lines bytes taken keeps = absurd taken
+consume (Some xs) (Some rest) None lines bytes taken keeps = absurd keeps
+consume (Some xs) (Some rest) (Some ys) lines bytes taken keeps =
+    taken ∙ ap (λ zs. lines ++ zs) (sym keeps) ∙ sym (append_assoc lines bytes ys)
+
+regroup : (left unread : Option (List ℕ)) (front ahead : List ℕ) → Keeps left (prepend_known (front ++ ahead) unread) → Keeps left (prepend_known front (prepend_known ahead unread))
+regroup None unread front ahead keeps = tt
+regroup (Some rest) None front ahead keeps = absurd keeps
+regroup (Some rest) (Some ys) front ahead keeps = sym (append_assoc front ahead ys) ∙ keeps
+
+pub off_none : (all : Option (List ℕ)) (ahead : Ahead) → ahead ≡ record { bytes = []; over = false } → ReadOff all (prepend_known ahead.bytes all) 1
+off_none None ahead is = record { lines = []; taken = tt; low = omega arith }
+off_none (Some bytes) ahead is = record {
+  lines = [];
+  taken = sym (ap (λ (a : Ahead). a.bytes ++ bytes) is);
+  low = omega arith;
+}
+
+pub off_more : (all left unread : Option (List ℕ)) (ahead : List ℕ) (number : ℕ) → ReadOff all left number → TakesOff left ahead unread → ReadOff all (prepend_known ahead unread) (number + 1)
+off_more all left unread ahead number off takes =
+    let low = off.low in
+    let one = takes.one in
+    record {
+      lines = off.lines ++ takes.front;
+      taken = consume all left (prepend_known ahead unread) off.lines takes.front off.taken (regroup left unread takes.front ahead takes.keeps);
+      low = omega (arith, feeds-append off.lines takes.front, low, one);
+    }
+
+-- a bad line is not before the first one
+by_line_least : (number : ℕ) (said : Result Text Cause) (rest : Text → Result Text BadLine) (first : BadLine) → ((t : Text) → rest t ≡ Err first → suc number ≤ first.number) → by_line number said rest ≡ Err first → number ≤ first.number
+by_line_least number (Ok t) rest first later is = let more = later t is in omega (arith, more)
+by_line_least number (Err cause) rest first later is =
+    let same : bad number cause ≡ first = cc in
+    let at = ap (λ (b : BadLine). b.number) same in omega (arith, at)
+
+least : (text : Text) (number : ℕ) (lines : List (List ℕ)) (first : BadLine) → text_from text number lines ≡ Err first → number ≤ first.number
+least text number [] first is = cc
+least text number (line ∷ lines) first is =
+    by_line_least number (after_line text number line) (λ t. text_from t (suc number) lines) first (λ t later. least t (suc number) lines first later) is
+
+passed : (count number : ℕ) (read : Result Text BadLine) → count < number → ((first : BadLine) → read ≡ Err first → number ≤ first.number) → IfErr read (λ first. count < first.number)
+passed count number (Ok t) low later = tt
+passed count number (Err first) low later = let more = later first refl in omega (arith, low, more)
+
+good : (all left : Option (List ℕ)) (text : Text) (number count : ℕ) → Spells all left text number → count < number → IfSome all (λ bytes. IfErr (text_of bytes) (λ first. count < first.number))
+good None left text number count spells low = tt
+good (Some bytes) None text number count spells low = absurd spells
+good (Some bytes) (Some rest) text number count spells low =
+    passed count number (text_of bytes) low (λ first is. least text number (lines_of rest) first (sym spells ∙ is))
+
+pub not_read : (number : ℕ) (fault : LineFault) → fault_at number fault ≡ ReadFault → ⊥
+not_read number (taking.Bad cause) is = cc
+not_read number taking.OutOfMemory is = cc
+
+module _ (all left unread : Option (List ℕ)) (text : Text) (number : ℕ) (ahead : List ℕ) (spells : Spells all left text number) (off : ReadOff all left number) where
+  -- a line that was taken is bad, or too long, or memory was refused
+  pub left_off : (fault : ReadTextFault) → (fault ≡ ReadFault → ⊥) → TakesOff left ahead unread → Left all unread fault
+  left_off fault other takes = record {
+    lines = off.lines;
+    ahead = takes.front ++ ahead;
+    taken = consume all left unread off.lines (takes.front ++ ahead) off.taken takes.keeps;
+    good = good all left text number (feeds off.lines) spells off.low;
+    few = takes.few;
+    unfed = λ is. absurd (other is);
+  }
+
+  -- no line could be taken
+  pub left_none : (fault : line_faults.ReadLineFault) → TakesNone left ahead unread fault → Left all unread (of_read_line fault)
+  left_none fault takes = record {
+    lines = off.lines;
+    ahead = ahead;
+    taken = consume all left unread off.lines ahead off.taken takes.keeps;
+    good = good all left text number (feeds off.lines) spells off.low;
+    few = takes.few;
+    unfed = λ is. takes.unfed (read_failed fault is);
+  }

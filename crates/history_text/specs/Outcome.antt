@@ -1,7 +1,9 @@
 -- Why a text was not read.
-use Rattle.std.specs.Prelude.{◌≡◌, ℕ, ◌≤◌, List, Err}
+use Rattle.std.specs.Prelude.{◌≡◌, ℕ, ◌<◌, ◌≤◌, List, ◌++◌, length, Option, Err, IfErr, IfSome}
+use Rattle.std.specs.Io.KnownBytes.{Consumes}
 use Rattle.script_words.specs.declared.read_line_fault.ReadLineFault as line_faults
 use Rattle.script_words.specs.declared.read_line_fault.ReadLineFault.TheVariants as line
+use Rattle.script_words.specs.Lines.{feeds}
 use Rattle.history_text.specs.declared.cause.Cause.TheVariants.{TooManyCallers}
 use Rattle.history_text.specs.declared.line_fault.LineFault.{LineFault}
 use Rattle.history_text.specs.declared.line_fault.LineFault.TheVariants as taking
@@ -29,3 +31,12 @@ abbrev pub IsFaultOf : List ℕ → ReadTextFault → Type 0
 IsFaultOf bytes (Bad bad) = text_of bytes ≡ Err bad
 IsFaultOf bytes ReadFault = Unit {0}
 IsFaultOf bytes OutOfMemory = Unit {0}
+
+-- what was read of a text that has a fault: whole lines, none of them bad, and at most 12,288 bytes behind those. At a failed read no line of the latter is whole, so a bad line that was read is told first
+pub record Left (old new : Option (List ℕ)) (fault : ReadTextFault) : Type 0 where
+  pub lines : List ℕ
+  pub ahead : List ℕ
+  pub taken : Consumes old new (lines ++ ahead)
+  pub good : IfSome old (λ bytes. IfErr (text_of bytes) (λ bad. feeds lines < bad.number))
+  pub few : length ahead ≤ 12288
+  pub unfed : fault ≡ ReadFault → feeds ahead ≡ 0

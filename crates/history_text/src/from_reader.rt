@@ -2,7 +2,7 @@
 ghost use Rattle.std.specs.Prelude.{◌≡◌, Ok, IfOk, IfErr, IfSome, OnOk, length};
 ghost use Rattle.std.specs.Io.KnownBytes.{IsAtEnd};
 ghost use Rattle.history_text.specs.Text.{text_by, text_of};
-ghost use Rattle.history_text.specs.Outcome.{IsFaultOf, fault_at};
+ghost use Rattle.history_text.specs.Outcome.{IsFaultOf, Left, fault_at};
 
 use crate::bad_line::BadLine;
 use crate::cause::Cause;
@@ -31,6 +31,7 @@ pub fn read_text<S: BuildHasher + Drop, R: Read>(
         text_of bytes ≡ Ok (text_by text.history text.lines.items text.callers))) }
     ensures fault { IfErr result (λ fault. IfSome (R.remaining reader.old) (λ bytes.
         IsFaultOf bytes fault)) }
+    ensures left { IfErr result (Left (R.remaining reader.old) (R.remaining reader.new)) }
     ensures as_many { IfOk result (λ text. length text.lines.items ≡ length text.history) }
     ensures end { OnOk result (IsAtEnd (R.remaining reader.new)) }
 {

@@ -1,8 +1,8 @@
 // The lines of a reader.
-ghost use Rattle.std.specs.Prelude.{◌≡◌, ◌≤◌, IfOk, OnOk, length, true};
+ghost use Rattle.std.specs.Prelude.{◌≡◌, ◌≤◌, IfErr, IfOk, OnErr, OnOk, length, true};
 ghost use Rattle.std.specs.Io.KnownBytes.{IsAtEnd, Keeps, prepend_known};
-ghost use Rattle.script_words.specs.Lines.{is_ready_within};
-ghost use Rattle.history_text.specs.Reading.{IsAhead, GivesLine};
+ghost use Rattle.script_words.specs.Lines.{feeds, is_ready_within};
+ghost use Rattle.history_text.specs.Reading.{GivesLine, IsAhead, TakesNone, TakesOff};
 
 use script_words::{LineRead, ReadAhead, ReadLineFault};
 use std::io::Read;
@@ -20,6 +20,8 @@ fn make_ready<R: Read>(
     ensures ahead { IsAhead ahead.new (R.remaining reader.new) }
     ensures kept { Keeps (prepend_known ahead.old.bytes (R.remaining reader.old))
         (prepend_known ahead.new.bytes (R.remaining reader.new)) }
+    ensures few { length ahead.new.bytes ≤ 12288 }
+    ensures unfed { OnErr result (feeds ahead.new.bytes ≡ 0) }
 {
     while !ahead.is_ready() {
         ahead.fill(reader)?;
@@ -40,6 +42,10 @@ pub(crate) fn next_line<R: Read>(
         (prepend_known ahead.new.bytes (R.remaining reader.new))) }
     ensures room { OnOk result (length line.new.items ≤ 8192) }
     ensures end { IfOk result (λ read. read ≡ LineRead.End → IsAtEnd (R.remaining reader.new)) }
+    ensures off { OnOk result (TakesOff (prepend_known ahead.old.bytes (R.remaining reader.old))
+        ahead.new.bytes (R.remaining reader.new)) }
+    ensures stop { IfErr result (TakesNone (prepend_known ahead.old.bytes (R.remaining reader.old))
+        ahead.new.bytes (R.remaining reader.new)) }
 {
     make_ready(reader, ahead)?;
     match ahead.take_line(line) {

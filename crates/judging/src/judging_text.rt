@@ -1,7 +1,7 @@
 // Judging the history that a text spells.
-ghost use Rattle.std.specs.Prelude.{◌≡◌, Ok, IfOk, IfErr, IfSome, OnOk, length};
+ghost use Rattle.std.specs.Prelude.{◌≡◌, ◌≢◌, Ok, IfOk, IfErr, IfSome, OnOk, length};
 ghost use Rattle.std.specs.Io.KnownBytes.{IsAtEnd};
-ghost use Rattle.history_text.specs.Outcome.{IsFaultOf};
+ghost use Rattle.history_text.specs.Outcome.{IsFaultOf, Left};
 ghost use Rattle.history_text.specs.Text.{text_by, text_of};
 ghost use Rattle.certificate_finder.specs.Finding.{IsFound};
 
@@ -30,6 +30,8 @@ pub fn judge_text<S: BuildHasher + Copy + Drop, R: Read>(
     ensures end { OnOk result (IsAtEnd (R.remaining reader.new)) }
     ensures fault { IfErr result (λ fault. IfSome (R.remaining reader.old) (λ bytes.
         IsFaultOf bytes fault)) }
+    ensures left { IfErr result (λ fault. fault ≢ ReadTextFault.OutOfMemory
+        → Left (R.remaining reader.old) (R.remaining reader.new) fault) }
 {
     let text = match read_text(alloc, hash_builder, reader) {
         Ok(text) => text,

@@ -26,7 +26,7 @@ the hit of red (line 3) is stale: put red (line 1) ended at 14, before put blue 
 ";
 
 /// Texts, each with what is told of it. The verdicts were worked out by hand.
-const CASES: [Case; 10] = [
+const CASES: [Case; 14] = [
     Case {
         text: "",
         explain: true,
@@ -73,6 +73,30 @@ const CASES: [Case; 10] = [
         text: "a 1 2 put k v 7\nb 3 4 hit k v 7\n",
         explain: false,
         told: "rejected hit key k lines 1 2\n",
+        end: JudgeEnd::Rejected,
+    },
+    Case {
+        text: "a 1 2 put k v 7\nb 3 4 hit k v 6\n",
+        explain: true,
+        told: "accepted 2 calls\n",
+        end: JudgeEnd::Done,
+    },
+    Case {
+        text: "a 1 2 miss x\na 1 2 hit %2D -",
+        explain: false,
+        told: "rejected hit key %2D lines 2\n",
+        end: JudgeEnd::Rejected,
+    },
+    Case {
+        text: "b 20 21 hit k%20 v\n\n#\na 5 6 put k%20 w\na 1 2 put k%20 v\n",
+        explain: false,
+        told: "rejected hit key k%20 lines 1 4 5\n",
+        end: JudgeEnd::Rejected,
+    },
+    Case {
+        text: "a 1 2 put j v\na 5 6 put k w\nb 20 21 hit k v\n",
+        explain: false,
+        told: "rejected hit key k lines 3\n",
         end: JudgeEnd::Rejected,
     },
     Case {
