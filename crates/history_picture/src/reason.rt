@@ -4,7 +4,7 @@ use certificate_finder::{Excluded, Side, Witness};
 
 /// Why a history is rejected, with a certificate or with none. A place is an index into the certificate, and each other
 /// number a position of the history.
-#[derive(Debug, Drop)]
+#[derive(Drop)]
 pub enum Reason {
     /// The call here ends before it starts.
     Interval(u32),

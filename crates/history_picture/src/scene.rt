@@ -19,8 +19,21 @@ impl Scene<'_> {
     ghost use Rattle.std.specs.Prelude.{◌≡◌, IfOk, slice_get, string_bytes};
     ghost use Rattle.history_picture.specs.Naming.{end_of, moment_of, name_of, start_of};
 
-    /// What is told of the call at a position.
+    /// The call at a position in words: what it did, and where it was recorded.
     #[tactic(auto, unfolding(crate::specs::Naming::name_of))]
+    pub(crate) fn name(&self, alloc: Global, position: u32) -> Result<String, AllocError>
+        ensures { IfOk result (λ name. string_bytes name
+            ≡ name_of self.now.history.now self.now.lines.now position) }
+    {
+        let label = label(alloc, self.lines, position)?;
+        let Some(call) = call_at(self.history, position) else {
+            return format!(in alloc; "a call that is not there ({label})");
+        };
+        let act = act_text(alloc, &call.act)?;
+        format!(in alloc; "{act} ({label})")
+    }
+
+    /// What is told of the call at a position.
     pub(crate) fn told(&self, alloc: Global, position: u32) -> Result<Told, AllocError>
         ensures name { IfOk result (λ told. string_bytes told.name
             ≡ name_of self.now.history.now self.now.lines.now position) }
@@ -31,18 +44,17 @@ impl Scene<'_> {
         ensures time { IfOk result (λ told.
             told.time ≡ moment_of (slice_get self.now.history.now position)) }
     {
-        let label = label(alloc, self.lines, position)?;
+        let name = self.name(alloc, position)?;
         let Some(call) = call_at(self.history, position) else {
             return Ok(Told {
-                name: format!(in alloc; "a call that is not there ({label})")?,
+                name,
                 start: 0,
                 end: 0,
                 time: 0,
             });
         };
-        let act = act_text(alloc, &call.act)?;
         Ok(Told {
-            name: format!(in alloc; "{act} ({label})")?,
+            name,
             start: call.start,
             end: call.end,
             time: call.act.time(),

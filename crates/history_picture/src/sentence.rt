@@ -115,12 +115,9 @@ impl Scene<'_> {
         if many <= 1 {
             return self.lone(alloc, hit, puts.first());
         }
-        let told = self.told(alloc, hit)?;
+        let name = self.name(alloc, hit)?;
         let also = self.also(alloc, hit, first_eight(puts))?;
-        format!(in alloc;
-            "{} can have read none of the {many} puts of its value{also}",
-            told.name
-        )
+        format!(in alloc; "{name} can have read none of the {many} puts of its value{also}")
     }
 
     /// A hit whose key and value no call puts, or one put.
@@ -128,8 +125,7 @@ impl Scene<'_> {
         ensures { IfOk result (λ text. string_bytes text
             ≡ lone_words self.now.history.now self.now.lines.now hit (option_copied put.entry)) }
     {
-        let told = self.told(alloc, hit)?;
-        let name = told.name;
+        let name = self.name(alloc, hit)?;
         let Some(put) = put else {
             return format!(in alloc; "{name} is of a value that no call puts at its key");
         };
@@ -167,13 +163,12 @@ impl Scene<'_> {
         ensures { IfOk result (λ text. string_bytes text
             ≡ crossed_words self.now.history.now self.now.lines.now one.now other.now) }
     {
-        let first = self.told(alloc, one.write)?;
-        let second = self.told(alloc, other.write)?;
+        let first = self.name(alloc, one.write)?;
+        let second = self.name(alloc, other.write)?;
         let forth = self.order(alloc, one.early, other.late)?;
         let back = self.order(alloc, other.early, one.late)?;
         format!(in alloc;
-            "{} and {} have no order: {forth}, so the first has to stand before the second; and {back}, so the second has to stand before the first",
-            first.name, second.name
+            "{first} and {second} have no order: {forth}, so the first has to stand before the second; and {back}, so the second has to stand before the first"
         )
     }
 
@@ -207,12 +202,9 @@ impl Scene<'_> {
         ensures { IfOk result (λ text. string_bytes text
             ≡ wrong_hit_words self.now.history.now self.now.lines.now place hit latest) }
     {
-        let told = self.told(alloc, hit)?;
+        let name = self.name(alloc, hit)?;
         let latest = self.latest(alloc, hit, latest)?;
-        format!(in alloc;
-            "{} is wrong at place {place} of the certificate: {latest}",
-            told.name
-        )
+        format!(in alloc; "{name} is wrong at place {place} of the certificate: {latest}")
     }
 
     /// Which write is the latest before a hit.
@@ -223,8 +215,8 @@ impl Scene<'_> {
         match latest {
             Latest::Nothing => String::from_str(alloc, "no write of its key stands before it"),
             Latest::Other(write) => {
-                let told = self.told(alloc, write)?;
-                format!(in alloc; "the latest write of its key before it is {}", told.name)
+                let name = self.name(alloc, write)?;
+                format!(in alloc; "the latest write of its key before it is {name}")
             }
             Latest::Expired(put) => self.expired(alloc, hit, put),
         }
@@ -236,8 +228,8 @@ impl Scene<'_> {
         ensures { IfOk result (λ text. string_bytes text
             ≡ repeated_words self.now.history.now self.now.lines.now place position) }
     {
-        let told = self.told(alloc, position)?;
-        format!(in alloc; "place {place} of the certificate repeats {}", told.name)
+        let name = self.name(alloc, position)?;
+        format!(in alloc; "place {place} of the certificate repeats {name}")
     }
 }
 

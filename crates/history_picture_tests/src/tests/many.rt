@@ -1,16 +1,22 @@
 // Very many calls of one key, with bytes that no terminal should see.
+use super::texts::hit;
 use certificate_finder::Witness;
 use history_picture::{Reason, Scene, explanation};
 use std::alloc::{AllocError, Global};
 use std::test::Fail;
-use super::texts::hit;
 use trace_file::History;
 
 /// A thousand hits of one key, ten stamps apart.
 fn thousand(alloc: Global) -> Result<History, AllocError> {
     let mut history = History::new(alloc);
     for number in 0..1000u64 {
-        hit(alloc, &mut history, 0, [10 * number, 10 * number + 5], b"\x1b[2J\n\xff")?;
+        hit(
+            alloc,
+            &mut history,
+            0,
+            [10 * number, 10 * number + 5],
+            b"\x1b[2J\n\xff",
+        )?;
     }
     Ok(history)
 }
@@ -45,7 +51,11 @@ fn is_shown(byte: u8) -> bool {
 #[test]
 fn the_nearest_of_a_thousand_are_shown(rt: HostRuntime) -> Result<(), Fail> {
     let text = said(rt.alloc())?;
-    let lines = text.as_bytes().iter().filter(|byte| **byte == b'\n').count();
+    let lines = text
+        .as_bytes()
+        .iter()
+        .filter(|byte| **byte == b'\n')
+        .count();
     assert_eq!(rt; lines, 25);
     assert!(rt; text.as_str().contains("\n  489  "));
     assert!(rt; text.as_str().contains("\n* 500  "));

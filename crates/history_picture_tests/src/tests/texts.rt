@@ -174,8 +174,14 @@ fn a_picture_is_one_element_and_escaped(rt: HostRuntime) -> Result<(), Fail> {
 #[test]
 fn arrows_lead_from_the_earlier_call_to_the_later(rt: HostRuntime) -> Result<(), Fail> {
     let text = drawn(rt.alloc())?;
-    assert!(rt; text.as_str().contains("<path d=\"M 64 108 C 88 108 64 154 88 154\""));
-    assert!(rt; text.as_str().contains("<path d=\"M 112 154 C 136 154 112 108 136 108\""));
+    assert!(rt;
+        text.as_str()
+            .contains("<path d=\"M 64 108 C 88 108 64 154 88 154\"")
+    );
+    assert!(rt;
+        text.as_str()
+            .contains("<path d=\"M 112 154 C 136 154 112 108 136 108\"")
+    );
     Ok(())
 }
 

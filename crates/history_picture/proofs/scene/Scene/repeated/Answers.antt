@@ -8,4 +8,4 @@ use Rattle.history_picture.proofs.scene.Scene.repeated.Goals as goal
 pub returns : goal.returns
 unfolding repeated_words
 returns c =
-    IfOk-weaker c.format.result _ _ (λ s e. e ∙ (λ i. codes "place " ++ (decimal c.args.place ++ (codes " of the certificate repeats " ++ c.in_ok-told.ensures.name i)))) c.format.ensures.ok
+    IfOk-weaker c.format.result _ _ (λ s e. e ∙ (λ i. codes "place " ++ (decimal c.args.place ++ (codes " of the certificate repeats " ++ c.in_ok-name.ensures i)))) c.format.ensures.ok

@@ -8,4 +8,4 @@ use Rattle.history_picture.proofs.scene.Scene.wrong_hit.Goals as goal
 pub returns : goal.returns
 unfolding wrong_hit_words
 returns c =
-    IfOk-weaker c.format.result _ _ (λ s e. e ∙ (λ i. c.in_ok-told.ensures.name i ++ (codes " is wrong at place " ++ (decimal c.args.place ++ (codes " of the certificate: " ++ c.in_ok-latest.ensures i))))) c.format.ensures.ok
+    IfOk-weaker c.format.result _ _ (λ s e. e ∙ (λ i. c.in_ok-name.ensures i ++ (codes " is wrong at place " ++ (decimal c.args.place ++ (codes " of the certificate: " ++ c.in_ok-latest.ensures i))))) c.format.ensures.ok
