@@ -261,7 +261,7 @@ fn a_get_done_behind_a_put_finds_its_value(rt: HostRuntime) -> Result<(), Fail> 
     Ok(())
 }
 
-// The same, done before it.
+// The same, done before it; and a put too large for a page, which its refusal ends.
 const ACT_OF_A_GET_FIRST: Row = Row {
     lanes: 1,
     sets: 1,
@@ -273,6 +273,9 @@ const ACT_OF_A_GET_FIRST: Row = Row {
         (Happens::Act(0), b'p'),
         (Happens::End(1), b'e'),
         (Happens::End(0), b'e'),
+        (Happens::Put(0, b"ax", &[7; 225]), b'b'),
+        (Happens::Act(0), b'x'),
+        (Happens::End(0), b'-'),
     ],
     history: &[
         Called(1, 2, 5, b"a", b'm', b""),

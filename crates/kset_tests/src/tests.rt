@@ -7,6 +7,7 @@ mod finding;
 mod into;
 mod owner;
 mod retried;
+mod rows;
 mod step;
 mod striking;
 

@@ -1,10 +1,12 @@
 //! An index with a few entries, by each of its calls.
-ghost use Rattle.std.specs.Prelude.{◌≡◌};
+ghost use Rattle.std.specs.Prelude.{◌≡◌, ◌<◌, ◌≤◌};
 
 mod compared;
 mod plain_index;
+mod which;
 mod whole;
 
+use self::which::Which;
 use klog_index::{EntriesOf, Entry, LogIndex, Place};
 use record_pages::Prediction;
 use std::alloc::Global;
@@ -22,6 +24,8 @@ enum Look {
     /// Of a segment, where some sets are passed over.
     FirstOf(u16, &'static [u32], Option<Seen>),
     OldestBut(u16, &'static [u32], Option<Seen>),
+    /// The entries that a walk over a set gives.
+    Walk(u32, &'static [Seen]),
 }
 
 /// An entry: its set and tag, the segment, page and slot of its place, and its prediction.
@@ -54,7 +58,18 @@ fn shows(index: &LogIndex, look: &Look) -> bool {
         Look::Oldest(seen) => is_seen(index.oldest(), *seen),
         Look::FirstOf(segment, sets, seen) => is_seen(index.first_of(*segment, sets), *seen),
         Look::OldestBut(segment, sets, seen) => is_seen(index.oldest_but(*segment, sets), *seen),
+        Look::Walk(set, seen) => gives(index.entries_of(*set), seen),
     }
+}
+
+// Whether a walk gives just these entries, and no more when it is asked again.
+fn gives(mut walk: EntriesOf<'_>, seen: &[Seen]) -> bool {
+    for wanted in seen {
+        if !is_seen(walk.next(), Some(*wanted)) {
+            return false;
+        }
+    }
+    walk.next().is_none() && walk.next().is_none()
 }
 
 // The number of the first look that shows something else than is written.
@@ -67,94 +82,183 @@ fn strayed(index: &LogIndex, looks: &[Look]) -> Option<usize> {
     None
 }
 
-fn place(segment: u16, slot: u8) -> Place
-    ensures { result ≡ record { segment = segment; page = 1; slot = slot } }
+/// A call of an index, and what it gives.
+#[derive(Clone, Copy)]
+enum Step {
+    /// An entry is added, at a place that is free then: whether there is room.
+    Add(Seen, bool),
+    Drop(Which),
+    Lower(Which),
+    /// What is to be seen.
+    Looks(&'static [Look]),
+}
+
+// Adds an entry at a place, which is made free before, and says whether there was room.
+fn enters(index: &mut LogIndex, set: u32, tag: u16, place: Place, prediction: Prediction) -> bool
+    requires set { set < index.old.sets }
+    requires segment { place.segment < 258 }
+    requires page { place.page < 64 }
+    requires slot { place.slot < 64 }
+    ensures { index.new.sets ≡ index.old.sets }
 {
-    Place {
-        segment,
-        page: 1,
-        slot,
+    index.drop_at(place);
+    index.add(set, tag, place, prediction).is_ok()
+}
+
+// Adds the entry that is to be seen.
+fn adds(index: &mut LogIndex, seen: &Seen) -> bool
+    requires { index.old.sets ≡ 65536 }
+    ensures { index.new.sets ≡ 65536 }
+{
+    let Some(prediction) = Prediction::new(seen.5) else {
+        return false;
+    };
+    let place = Place {
+        segment: seen.2 % 258,
+        page: seen.3 % 64,
+        slot: seen.4 % 64,
+    };
+    enters(index, seen.0 % 65536, seen.1, place, prediction)
+}
+
+fn drops(index: &mut LogIndex, which: Which)
+    ensures { index.new.sets ≡ index.old.sets }
+{
+    match which {
+        Which::OfTag(set, tag) => index.drop_tag(set, tag),
+        Which::At(place) => index.drop_at(place),
+        Which::In(set, place) => index.drop_in(set, place),
+        Which::OnPage(segment, page) => index.drop_page(segment, page),
+        Which::OfSet(_) => (),
     }
 }
 
-// Room for three entries, of which there are two: an older one of segment 257 and a newer one of segment 7.
-fn with_two(alloc: Global) -> Result<LogIndex, Fail> {
-    let six = Prediction::new(6).unwrap();
-    let mut index = LogIndex::open(alloc, 4, 3)?;
-    index.add(2, 9, place(257, 1), six)?;
-    index.add(2, 8, place(7, 0), six)?;
-    Ok(index)
+fn lowers(index: &mut LogIndex, which: Which)
+    ensures { index.new.sets ≡ index.old.sets }
+{
+    match which {
+        Which::At(place) => index.lower(place),
+        Which::In(set, place) => index.lower_in(set, place),
+        _ => (),
+    }
 }
 
-const OLDER: Option<Seen> = Some(Seen(2, 9, 257, 1, 1, 6));
+// Whether a step gives what is written beside it.
+fn does(index: &mut LogIndex, step: &Step) -> bool
+    requires { index.old.sets ≡ 65536 }
+    ensures { index.new.sets ≡ 65536 }
+{
+    match step {
+        Step::Add(seen, room) => adds(index, seen) == *room,
+        Step::Drop(which) => {
+            drops(index, *which);
+            true
+        }
+        Step::Lower(which) => {
+            lowers(index, *which);
+            true
+        }
+        Step::Looks(looks) => strayed(index, looks).is_none(),
+    }
+}
 
-const NEWER: Option<Seen> = Some(Seen(2, 8, 7, 1, 0, 6));
+// The number of the first step of an empty index for so many entries that gives something else than is written.
+fn run(alloc: Global, limit: u32, steps: &[Step]) -> Result<Option<usize>, Fail>
+    requires { limit ≤ 1048576 }
+{
+    let mut index = LogIndex::open(alloc, 65536, limit)?;
+    for number in 0..steps.len() {
+        if !does(&mut index, &steps[number]) {
+            return Ok(Some(number));
+        }
+    }
+    Ok(None)
+}
+
+const OLDER: Seen = Seen(2, 9, 257, 1, 1, 6);
+
+const NEWER: Seen = Seen(2, 8, 7, 1, 0, 6);
+
+const OF_OLDER: Place = Place {
+    segment: 257,
+    page: 1,
+    slot: 1,
+};
+
+const OF_NEWER: Place = Place {
+    segment: 7,
+    page: 1,
+    slot: 0,
+};
 
 const BOTH: [Look; 10] = [
     Look::Len(2, true),
     Look::Count(2, 2),
-    Look::OfSet(2, 0, NEWER),
-    Look::OfSet(2, 1, OLDER),
+    Look::OfSet(2, 0, Some(NEWER)),
+    Look::OfSet(2, 1, Some(OLDER)),
     Look::OfSet(2, 2, None),
-    Look::Oldest(OLDER),
-    Look::Find(2, 9, 0, OLDER),
+    Look::Oldest(Some(OLDER)),
+    Look::Find(2, 9, 0, Some(OLDER)),
     Look::Find(2, 9, 1, None),
-    Look::FirstOf(257, &[], OLDER),
+    Look::FirstOf(257, &[], Some(OLDER)),
     Look::FirstOf(8, &[], None),
 ];
 
+// They stand newest first, and are dropped by kind.
+const OF_TWO: [Step; 12] = [
+    Step::Add(OLDER, true),
+    Step::Add(NEWER, true),
+    Step::Looks(&BOTH),
+    Step::Drop(Which::OfTag(2, 7)),
+    Step::Drop(Which::In(3, OF_NEWER)),
+    Step::Drop(Which::OnPage(7, 0)),
+    Step::Drop(Which::At(Place {
+        slot: 2,
+        ..OF_OLDER
+    })),
+    Step::Looks(&BOTH),
+    Step::Drop(Which::In(2, OF_NEWER)),
+    Step::Looks(&[Look::Len(1, true), Look::Oldest(Some(OLDER))]),
+    Step::Drop(Which::OfTag(2, 9)),
+    Step::Looks(&[Look::Len(0, true)]),
+];
+
 #[test]
-fn entries_stand_newest_first(rt: HostRuntime) -> Result<(), Fail> {
-    let index = with_two(rt.alloc())?;
-    assert_eq!(rt; strayed(&index, &BOTH), None);
+fn entries_stand_newest_first_and_are_dropped_by_kind(rt: HostRuntime) -> Result<(), Fail> {
+    assert_eq!(rt; run(rt.alloc(), 3, &OF_TWO)?, None);
+    Ok(())
+}
+
+const WITHOUT_A_PAGE: [Step; 4] = [
+    Step::Add(OLDER, true),
+    Step::Add(NEWER, true),
+    Step::Drop(Which::OnPage(257, 1)),
+    Step::Looks(&[Look::Len(1, true), Look::Oldest(Some(NEWER))]),
+];
+
+#[test]
+fn a_page_is_dropped(rt: HostRuntime) -> Result<(), Fail> {
+    assert_eq!(rt; run(rt.alloc(), 3, &WITHOUT_A_PAGE)?, None);
     Ok(())
 }
 
 // Room for three entries, of which two are of set 2 and one, the second, is of set 3.
-fn of_two_sets(alloc: Global) -> Result<LogIndex, Fail> {
-    let six = Prediction::new(6).unwrap();
-    let mut index = LogIndex::open(alloc, 4, 3)?;
-    index.add(2, 9, place(1, 0), six)?;
-    index.add(3, 9, place(1, 1), six)?;
-    index.add(2, 9, place(1, 2), six)?;
-    Ok(index)
-}
-
-const FULL: [Look; 2] = [
-    Look::Len(3, false),
-    Look::Oldest(Some(Seen(2, 9, 1, 1, 0, 6))),
+const OF_TWO_SETS: [Step; 4] = [
+    Step::Add(Seen(2, 9, 1, 1, 0, 6), true),
+    Step::Add(Seen(3, 9, 1, 1, 1, 6), true),
+    Step::Add(Seen(2, 9, 1, 1, 2, 6), true),
+    Step::Looks(&[
+        Look::Len(3, false),
+        Look::Oldest(Some(Seen(2, 9, 1, 1, 0, 6))),
+        Look::Walk(2, &[Seen(2, 9, 1, 1, 2, 6), Seen(2, 9, 1, 1, 0, 6)]),
+        Look::Walk(1, &[]),
+    ]),
 ];
-
-// Whether a walk gives just these entries, and no more when it is asked again.
-fn gives(mut walk: EntriesOf<'_>, seen: &[Seen]) -> bool {
-    for wanted in seen {
-        if !is_seen(walk.next(), Some(*wanted)) {
-            return false;
-        }
-    }
-    walk.next().is_none() && walk.next().is_none()
-}
-
-const OF_SET_2: [Seen; 2] = [Seen(2, 9, 1, 1, 2, 6), Seen(2, 9, 1, 1, 0, 6)];
 
 #[test]
 fn a_walk_gives_the_entries_of_one_set(rt: HostRuntime) -> Result<(), Fail> {
-    let index = of_two_sets(rt.alloc())?;
-    assert_eq!(rt; strayed(&index, &FULL), None);
-    assert!(rt; gives(index.entries_of(2), &OF_SET_2));
-    assert!(rt; gives(index.entries_of(1), &[]));
+    assert_eq!(rt; run(rt.alloc(), 3, &OF_TWO_SETS)?, None);
     Ok(())
-}
-
-// Oldest first: an entry of set 2, one of set 3 and one of set 2 of segment 5, then one of set 1 of segment 6.
-fn of_two_segments(alloc: Global) -> Result<LogIndex, Fail> {
-    let six = Prediction::new(6).unwrap();
-    let mut index = LogIndex::open(alloc, 4, 8)?;
-    index.add(2, 7, place(5, 4), six)?;
-    index.add(3, 8, place(5, 9), six)?;
-    index.add(2, 9, place(5, 0), six)?;
-    index.add(1, 7, place(6, 2), six)?;
-    Ok(index)
 }
 
 const OLDEST: Option<Seen> = Some(Seen(2, 7, 5, 1, 4, 6));
@@ -191,49 +295,37 @@ const PASSED_OVER_IN_THE_NEXT: [Look; 4] = [
     Look::OldestBut(6, &[1], None),
 ];
 
-#[test]
-fn some_sets_are_passed_over(rt: HostRuntime) -> Result<(), Fail> {
-    let mut index = of_two_segments(rt.alloc())?;
-    assert_eq!(rt; strayed(&index, &PASSED_OVER), None);
-    index.drop_page(5, 1);
-    assert_eq!(rt; strayed(&index, &PASSED_OVER_IN_THE_NEXT), None);
-    Ok(())
-}
-
-const NOTHING_PASSED_OVER: [Look; 2] = [
-    Look::OldestBut(5, &[], None),
-    Look::OldestBut(5, &[2], None),
+// Oldest first: an entry of set 2, one of set 3 and one of set 2 of segment 5, then one of set 1 of segment 6.
+const OF_TWO_SEGMENTS: [Step; 8] = [
+    Step::Looks(&[
+        Look::OldestBut(5, &[], None),
+        Look::OldestBut(5, &[2], None),
+    ]),
+    Step::Add(Seen(2, 7, 5, 1, 4, 6), true),
+    Step::Add(Seen(3, 8, 5, 1, 9, 6), true),
+    Step::Add(Seen(2, 9, 5, 1, 0, 6), true),
+    Step::Add(Seen(1, 7, 6, 1, 2, 6), true),
+    Step::Looks(&PASSED_OVER),
+    Step::Drop(Which::OnPage(5, 1)),
+    Step::Looks(&PASSED_OVER_IN_THE_NEXT),
 ];
 
 #[test]
-fn an_empty_index_has_no_oldest_entry(rt: HostRuntime) -> Result<(), Fail> {
-    let index = LogIndex::open(rt.alloc(), 4, 8)?;
-    assert_eq!(rt; strayed(&index, &NOTHING_PASSED_OVER), None);
+fn some_sets_are_passed_over(rt: HostRuntime) -> Result<(), Fail> {
+    assert_eq!(rt; run(rt.alloc(), 8, &OF_TWO_SEGMENTS)?, None);
     Ok(())
 }
 
 // The widest numbers that an entry may have.
-const WIDEST: Place = Place {
+const WIDEST: Seen = Seen(65535, 65535, 257, 63, 63, 7);
+
+const OF_WIDEST: Place = Place {
     segment: 257,
     page: 63,
     slot: 63,
 };
 
-const PREDICTED_7: Option<Seen> = Some(Seen(65535, 65535, 257, 63, 63, 7));
-
-const PREDICTED_0: Option<Seen> = Some(Seen(65535, 65535, 257, 63, 63, 0));
-
-const FULL_OF_ONE: [Look; 4] = [
-    Look::Len(1, false),
-    Look::Find(65535, 65535, 0, PREDICTED_7),
-    Look::Find(65535, 65535, 1, None),
-    Look::Oldest(PREDICTED_7),
-];
-
-const LOWERED: [Look; 2] = [
-    Look::Len(1, false),
-    Look::Find(65535, 65535, 0, PREDICTED_0),
-];
+const LOW: Option<Seen> = Some(Seen(65535, 65535, 257, 63, 63, 5));
 
 const EMPTIED: [Look; 3] = [
     Look::Len(0, true),
@@ -241,50 +333,40 @@ const EMPTIED: [Look; 3] = [
     Look::Oldest(None),
 ];
 
+const OF_ONE: [Step; 6] = [
+    Step::Add(WIDEST, true),
+    Step::Add(Seen(0, 0, 0, 1, 0, 7), false),
+    Step::Looks(&[
+        Look::Len(1, false),
+        Look::Find(65535, 65535, 0, Some(WIDEST)),
+        Look::Find(65535, 65535, 1, None),
+        Look::Oldest(Some(WIDEST)),
+    ]),
+    Step::Lower(Which::At(OF_WIDEST)),
+    Step::Lower(Which::In(65535, OF_WIDEST)),
+    Step::Looks(&[Look::Len(1, false), Look::Find(65535, 65535, 0, LOW)]),
+];
+
 #[test]
 fn the_entry_past_the_limit_is_refused(rt: HostRuntime) -> Result<(), Fail> {
-    let seven = Prediction::new(7).unwrap();
-    let mut index = LogIndex::open(rt.alloc(), 65536, 1)?;
-    index.add(65535, 65535, WIDEST, seven)?;
-    assert!(rt; index.add(0, 0, place(0, 0), seven).is_err());
-    assert_eq!(rt; strayed(&index, &FULL_OF_ONE), None);
+    assert_eq!(rt; run(rt.alloc(), 1, &OF_ONE)?, None);
     Ok(())
 }
+
+const LOWERED_TO_0: [Step; 6] = [
+    Step::Add(Seen(65535, 65535, 257, 63, 63, 1), true),
+    Step::Lower(Which::At(OF_WIDEST)),
+    Step::Lower(Which::In(65535, OF_WIDEST)),
+    Step::Looks(&[
+        Look::Len(1, false),
+        Look::Find(65535, 65535, 0, Some(Seen(65535, 65535, 257, 63, 63, 0))),
+    ]),
+    Step::Drop(Which::At(OF_WIDEST)),
+    Step::Looks(&EMPTIED),
+];
 
 #[test]
 fn the_widest_entry_is_lowered_to_0_and_dropped(rt: HostRuntime) -> Result<(), Fail> {
-    let mut index = LogIndex::open(rt.alloc(), 65536, 1)?;
-    index.add(65535, 65535, WIDEST, Prediction::new(1).unwrap())?;
-    index.lower(WIDEST);
-    index.lower_in(65535, WIDEST);
-    assert_eq!(rt; strayed(&index, &LOWERED), None);
-    index.drop_at(WIDEST);
-    assert_eq!(rt; strayed(&index, &EMPTIED), None);
-    Ok(())
-}
-
-const WITHOUT_THE_NEWER: [Look; 2] = [Look::Len(1, true), Look::Oldest(OLDER)];
-
-const WITHOUT_THE_OLDER: [Look; 2] = [Look::Len(1, true), Look::Oldest(NEWER)];
-
-#[test]
-fn entries_are_dropped_by_kind(rt: HostRuntime) -> Result<(), Fail> {
-    let mut index = with_two(rt.alloc())?;
-    index.drop_tag(2, 7);
-    index.drop_in(3, place(7, 0));
-    index.drop_page(7, 0);
-    assert_eq!(rt; strayed(&index, &BOTH), None);
-    index.drop_in(2, place(7, 0));
-    assert_eq!(rt; strayed(&index, &WITHOUT_THE_NEWER), None);
-    index.drop_tag(2, 9);
-    assert!(rt; index.is_empty());
-    Ok(())
-}
-
-#[test]
-fn a_page_is_dropped(rt: HostRuntime) -> Result<(), Fail> {
-    let mut index = with_two(rt.alloc())?;
-    index.drop_page(257, 1);
-    assert_eq!(rt; strayed(&index, &WITHOUT_THE_OLDER), None);
+    assert_eq!(rt; run(rt.alloc(), 1, &LOWERED_TO_0)?, None);
     Ok(())
 }

@@ -16,6 +16,8 @@ fn one_seat_draws_stamps_until_the_clock_is_full(rt: HostRuntime) -> Result<(), 
     assert_eq!(rt; clock.tick(&mut seat), Ok(2));
     clock.observe(&mut seat, 9);
     assert_eq!(rt; clock.tick(&mut seat), Ok(10));
+    clock.observe(&mut seat, 4);
+    assert_eq!(rt; seat.seen(), 10);
     clock.observe(&mut seat, LAST_STAMP);
     assert_eq!(rt; clock.tick(&mut seat), Err(ClockFull));
     assert_eq!(rt; seat.meet(LAST_STAMP + 1), Err(ClockFull));

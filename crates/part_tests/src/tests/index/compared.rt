@@ -2,6 +2,8 @@
 ghost use Rattle.std.specs.Prelude.{◌≡◌, ◌<◌};
 
 use crate::tests::index::plain_index::PlainIndex;
+use crate::tests::index::which::Which;
+use crate::tests::index::{drops, enters, lowers};
 use klog_index::{Entry, LogIndex, Place};
 use record_pages::Prediction;
 use std::alloc::Global;
@@ -88,56 +90,28 @@ fn step_both(index: &mut LogIndex, plain: &mut PlainIndex, step: Step) -> Result
     };
     match act {
         Act::Add => return add_both(index, plain, set, tag, place),
-        Act::Lower => lower_both(index, plain, place),
-        Act::LowerIn => lower_in_both(index, plain, set, place),
-        Act::DropTag => drop_tag_both(index, plain, set, tag),
-        Act::DropAt => drop_at_both(index, plain, place),
-        Act::DropIn => drop_in_both(index, plain, set, place),
-        Act::DropPage => drop_page_both(index, plain, place),
+        Act::Lower => lower_both(index, plain, Which::At(place)),
+        Act::LowerIn => lower_both(index, plain, Which::In(set, place)),
+        Act::DropTag => drop_both(index, plain, Which::OfTag(set, tag)),
+        Act::DropAt => drop_both(index, plain, Which::At(place)),
+        Act::DropIn => drop_both(index, plain, Which::In(set, place)),
+        Act::DropPage => drop_both(index, plain, Which::OnPage(place.segment, place.page)),
     }
     Ok(true)
 }
 
-fn lower_both(index: &mut LogIndex, plain: &mut PlainIndex, place: Place)
+fn lower_both(index: &mut LogIndex, plain: &mut PlainIndex, which: Which)
     ensures { index.new.sets ≡ index.old.sets }
 {
-    index.lower(place);
-    plain.lower(place);
+    lowers(index, which);
+    plain.lower(which);
 }
 
-fn lower_in_both(index: &mut LogIndex, plain: &mut PlainIndex, set: u32, place: Place)
+fn drop_both(index: &mut LogIndex, plain: &mut PlainIndex, which: Which)
     ensures { index.new.sets ≡ index.old.sets }
 {
-    index.lower_in(set, place);
-    plain.lower_in(set, place);
-}
-
-fn drop_tag_both(index: &mut LogIndex, plain: &mut PlainIndex, set: u32, tag: u16)
-    ensures { index.new.sets ≡ index.old.sets }
-{
-    index.drop_tag(set, tag);
-    plain.drop_tag(set, tag);
-}
-
-fn drop_at_both(index: &mut LogIndex, plain: &mut PlainIndex, place: Place)
-    ensures { index.new.sets ≡ index.old.sets }
-{
-    index.drop_at(place);
-    plain.drop_at(place);
-}
-
-fn drop_in_both(index: &mut LogIndex, plain: &mut PlainIndex, set: u32, place: Place)
-    ensures { index.new.sets ≡ index.old.sets }
-{
-    index.drop_in(set, place);
-    plain.drop_in(set, place);
-}
-
-fn drop_page_both(index: &mut LogIndex, plain: &mut PlainIndex, place: Place)
-    ensures { index.new.sets ≡ index.old.sets }
-{
-    index.drop_page(place.segment, place.page);
-    plain.drop_page(place.segment, place.page);
+    drops(index, which);
+    plain.drop(which);
 }
 
 fn add_both(
@@ -155,9 +129,8 @@ fn add_both(
     ensures { index.new.sets ≡ 256 }
 {
     let prediction = Prediction::new(6).unwrap();
-    index.drop_at(place);
-    plain.drop_at(place);
-    let added = index.add(set, tag, place, prediction).is_ok();
+    let added = enters(index, set, tag, place, prediction);
+    plain.drop(Which::At(place));
     let entry = Entry {
         set,
         tag,
@@ -171,35 +144,42 @@ fn add_both(
 fn agree(index: &LogIndex, plain: &PlainIndex) -> bool {
     index.len() == plain.len()
         && index.oldest() == plain.oldest()
-        && (0..5).all(|set| agree_on_set(index, plain, set))
-        && [1, 2, 3, 4, 7, 200, 255, 9]
-            .iter()
-            .all(|segment| agree_on_segment(index, plain, *segment))
+        && agree_on_sets(index, plain)
+        && agree_on_tags(index, plain)
+        && agree_on_segments(index, plain)
 }
 
-// Sets that are passed over.
-const PASSED: [&[u32]; 6] = [&[], &[0], &[1], &[2, 4], &[1, 0], &[3, 2, 1, 0]];
+// The sets, and one that has no entry.
+const SETS: [u32; 5] = [0, 1, 2, 3, 4];
 
-fn agree_on_segment(index: &LogIndex, plain: &PlainIndex, segment: u16) -> bool {
-    PASSED.iter().all(|sets| {
-        index.first_of(segment, sets) == plain.first_of(segment, sets)
-            && index.oldest_but(segment, sets) == plain.oldest_but(segment, sets)
-    })
+fn agree_on_sets(index: &LogIndex, plain: &PlainIndex) -> bool {
+    for set in &SETS {
+        if !plain.has_just(Which::OfSet(*set), index.count(*set))
+            || !walk_agrees(index, plain, *set)
+        {
+            return false;
+        }
+    }
+    true
 }
 
-fn agree_on_set(index: &LogIndex, plain: &PlainIndex, set: u32) -> bool {
-    index.count(set) == plain.count(set)
-        && walk_agrees(index, plain, set)
-        && (0..6usize).all(|k| index.of_set(set, k) == plain.of_set(set, k))
-        && [0, 1, 2, 7, 8, 9, 65535]
-            .iter()
-            .all(|tag| agree_on_tag(index, plain, set, *tag))
-}
-
+// Of a set, by a walk and one by one.
 fn walk_agrees(index: &LogIndex, plain: &PlainIndex, set: u32) -> bool {
     let mut walk = index.entries_of(set);
     for k in 0..6usize {
-        if walk.next() != plain.of_set(set, k) {
+        let entry = plain.nth(Which::OfSet(set), k);
+        if walk.next() != entry || index.of_set(set, k) != entry {
+            return false;
+        }
+    }
+    true
+}
+
+const TAGS: [u16; 7] = [0, 1, 2, 7, 8, 9, 65535];
+
+fn agree_on_tags(index: &LogIndex, plain: &PlainIndex) -> bool {
+    for number in 0..35usize {
+        if !agree_on_tag(index, plain, SETS[number / 7], TAGS[number % 7]) {
             return false;
         }
     }
@@ -207,7 +187,31 @@ fn walk_agrees(index: &LogIndex, plain: &PlainIndex, set: u32) -> bool {
 }
 
 fn agree_on_tag(index: &LogIndex, plain: &PlainIndex, set: u32, tag: u16) -> bool {
-    (0..4usize).all(|k| index.find(set, tag, k) == plain.find(set, tag, k))
+    for k in 0..4usize {
+        if index.find(set, tag, k) != plain.nth(Which::OfTag(set, tag), k) {
+            return false;
+        }
+    }
+    true
+}
+
+const SEGMENTS: [u16; 8] = [1, 2, 3, 4, 7, 200, 255, 9];
+
+// Sets that are passed over.
+const PASSED: [&[u32]; 6] = [&[], &[0], &[1], &[2, 4], &[1, 0], &[3, 2, 1, 0]];
+
+fn agree_on_segments(index: &LogIndex, plain: &PlainIndex) -> bool {
+    for number in 0..48usize {
+        if !agree_on_segment(index, plain, SEGMENTS[number / 6], PASSED[number % 6]) {
+            return false;
+        }
+    }
+    true
+}
+
+fn agree_on_segment(index: &LogIndex, plain: &PlainIndex, segment: u16, sets: &[u32]) -> bool {
+    index.first_of(segment, sets) == plain.first_of(segment, sets)
+        && index.oldest_but(segment, sets) == plain.oldest_but(segment, sets)
 }
 
 // Whether all steps leave both with the same answers, with room for so many entries.

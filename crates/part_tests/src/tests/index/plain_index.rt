@@ -1,5 +1,6 @@
 // The index as a plain list, with which the packed one is compared.
-use klog_index::{Entry, Place};
+use crate::tests::index::which::Which;
+use klog_index::Entry;
 use record_pages::Prediction;
 use std::alloc::{AllocError, Global};
 
@@ -31,28 +32,27 @@ impl PlainIndex {
         Ok(true)
     }
 
-    pub fn find(&self, set: u32, tag: u16, skip: usize) -> Option<Entry> {
-        self.entries
-            .iter()
-            .filter(|e| e.set == set && e.tag == tag)
-            .nth(skip)
-            .copied()
+    /// The newest of these entries behind so many of them.
+    pub fn nth(&self, which: Which, skip: usize) -> Option<Entry> {
+        let mut left = skip;
+        for entry in self.entries.iter() {
+            if which.has(entry) {
+                if left == 0 {
+                    return Some(*entry);
+                }
+                left -= 1;
+            }
+        }
+        None
     }
 
-    pub fn of_set(&self, set: u32, skip: usize) -> Option<Entry> {
-        self.entries
-            .iter()
-            .filter(|e| e.set == set)
-            .nth(skip)
-            .copied()
-    }
-
-    pub fn count(&self, set: u32) -> usize {
-        self.entries.iter().filter(|e| e.set == set).count()
+    /// Whether there are so many of these entries.
+    pub fn has_just(&self, which: Which, count: usize) -> bool {
+        self.nth(which, count).is_none() && (count == 0 || self.nth(which, count - 1).is_some())
     }
 
     pub fn oldest(&self) -> Option<Entry> {
-        self.entries.iter().last().copied()
+        self.entries.last().copied()
     }
 
     /// From the end of the list on, as far as the entries are of the segment, the first that is of none of these sets.
@@ -61,7 +61,7 @@ impl PlainIndex {
             if entry.place.segment != segment {
                 return None;
             }
-            if !is_of_any(sets, entry) {
+            if !sets.contains(&entry.set) {
                 return Some(*entry);
             }
         }
@@ -71,56 +71,29 @@ impl PlainIndex {
     /// Of the entries that are of none of these sets, the earliest one of the segment.
     pub fn first_of(&self, segment: u16, sets: &[u32]) -> Option<Entry> {
         let mut first: Option<Entry> = None;
-        for entry in self.entries.iter().filter(|e| !is_of_any(sets, e)) {
-            first = earlier(segment, first, entry);
+        for entry in self.entries.iter() {
+            if entry.place.segment == segment && !sets.contains(&entry.set) {
+                first = earlier(first, entry);
+            }
         }
         first
     }
 
-    pub fn drop_tag(&mut self, set: u32, tag: u16) {
-        self.entries.retain(|e| !(e.set == set && e.tag == tag));
+    pub fn drop(&mut self, which: Which) {
+        self.entries.retain(|e| !which.has(e));
     }
 
-    pub fn drop_at(&mut self, place: Place) {
-        self.entries.retain(|e| e.place != place);
-    }
-
-    pub fn drop_in(&mut self, set: u32, place: Place) {
-        self.entries.retain(|e| !(e.set == set && e.place == place));
-    }
-
-    pub fn drop_page(&mut self, segment: u16, page: u8) {
-        self.entries
-            .retain(|e| !(e.place.segment == segment && e.place.page == page));
-    }
-
-    pub fn lower(&mut self, place: Place) {
+    pub fn lower(&mut self, which: Which) {
         for entry in self.entries.iter_mut() {
-            if entry.place == place {
-                entry.prediction = sooner(entry.prediction);
-            }
-        }
-    }
-
-    pub fn lower_in(&mut self, set: u32, place: Place) {
-        for entry in self.entries.iter_mut() {
-            if entry.set == set && entry.place == place {
+            if which.has(entry) {
                 entry.prediction = sooner(entry.prediction);
             }
         }
     }
 }
 
-// Whether an entry is of one of these sets.
-fn is_of_any(sets: &[u32], entry: &Entry) -> bool {
-    sets.iter().any(|set| *set == entry.set)
-}
-
-// The earlier one of a segment, by page and slot.
-fn earlier(segment: u16, first: Option<Entry>, entry: &Entry) -> Option<Entry> {
-    if entry.place.segment != segment {
-        return first;
-    }
+// The earlier one, by page and slot.
+fn earlier(first: Option<Entry>, entry: &Entry) -> Option<Entry> {
     match first {
         Some(e) if (e.place.page, e.place.slot) <= (entry.place.page, entry.place.slot) => Some(e),
         _ => Some(*entry),

@@ -5,7 +5,7 @@ use Rattle.std.proofs.lemmas.List.Elements.{All-weaker, filter_passes}
 use Rattle.klog_index.specs.declared.entry.Entry.{Entry}
 use Rattle.klog_index.specs.declared.place.Place.{Place}
 use Rattle.klog_index.specs.Entries.{Entries, IsFree, is_at, without}
-use Rattle.part_tests.proofs.tests.index.compared.add_both.Goals as goal
+use Rattle.part_tests.proofs.tests.index.enters.Goals as goal
 
 at_place : (place : Place) (e : Entry) → e.place ≡ place → is_at place e ≡ true
 at_place place e same =
