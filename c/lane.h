@@ -77,10 +77,11 @@ void kl_place_of(const kl_seed *seed, uint32_t lanes, const uint8_t *key, size_t
  * memory_bytes. threshold and admit of *to are not written, and nothing is at a fault. */
 uint32_t kl_shape_of(const kl_wanted *wanted, kl_shape *to);
 
-/* 0, or the number of the first field out of its range, from 1 shards to 10 admit, in the order of kl_shape. */
-uint32_t kl_test_shape(const kl_shape *shape);
+/* Where shape->lease_slots is 0, it becomes as many as kl_shape_of gives with so many sets. 0, or the number of the first
+ * field out of its range then, from 1 shards to 10 admit, in the order of kl_shape. */
+uint32_t kl_complete_shape(kl_shape *shape);
 
-/* Sizes of a shape: all zeros for one that kl_test_shape does not find right. */
+/* Sizes of a shape: all zeros for one with a field out of its range. */
 void kl_sizes_of(const kl_shape *shape, uint32_t object_bytes, kl_sizes *to);
 
 /* Pages of 4,096 bytes that are lent; at is not NULL, also where there are none. */

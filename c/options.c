@@ -92,8 +92,7 @@ static void take_given_shape(const kangaroo_options *options, kl_shape *shape) {
 }
 
 /* Works the shape out of what is wanted, or takes it over where all seven numbers are given. Then flash and memory are
- * not looked at: plenty of both is asked for, so that the other two alone are judged, and slots for leases are those of
- * as many sets. */
+ * not looked at: plenty of both is asked for, so that the other two alone are judged. */
 static kangaroo_status find_shape(const kangaroo_options *options, kl_shape *shape, const char **field) {
     kl_wanted wanted = {options->flash_bytes, options->memory_bytes, options->object_bytes, options->threads};
     bool is_given = given_numbers(options) != 0;
@@ -102,10 +101,7 @@ static kangaroo_status find_shape(const kangaroo_options *options, kl_shape *sha
         wanted.memory_bytes = (uint64_t)1 << 50;
     }
     kangaroo_status status = shape_of_wanted(&wanted, shape, field);
-    if (status == KANGAROO_OK && is_given) {
-        take_given_shape(options, shape);
-        shape->lease_slots = options->sets < 1024 ? 1024 : options->sets;
-    }
+    if (status == KANGAROO_OK && is_given) take_given_shape(options, shape);
     return status;
 }
 
@@ -141,10 +137,10 @@ kangaroo_status resolve_options(kangaroo_options *options, kl_shape *shape, cons
     if (options->threads == 0) options->threads = processors();
     status = find_shape(options, shape, field);
     if (status != KANGAROO_OK) return status;
-    if (options->lease_slots != 0) shape->lease_slots = options->lease_slots;
+    shape->lease_slots = options->lease_slots;
     shape->threshold = options->threshold;
     shape->admit = options->admit;
-    uint32_t fault = kl_test_shape(shape);
+    uint32_t fault = kl_complete_shape(shape);
     if (fault != 0) return wrong(field, name_of_shape_fault(fault));
     write_shape(shape, options);
     return KANGAROO_OK;

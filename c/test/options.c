@@ -103,11 +103,27 @@ static void shows_faults_of_a_shape(void) {
     show("each faulty field of a shape is named, and one that is missing beside the others");
 }
 
+/* The slots for leases of a shape of one's own, beside so many sets, where so many are given. */
+static uint32_t slots_with(uint32_t sets, uint32_t given) {
+    kangaroo_options options = small_options();
+    options.sets = sets;
+    options.lease_slots = given;
+    expect_status(kangaroo_options_resolve(&options, NULL), KANGAROO_OK, "a shape of one's own");
+    return options.lease_slots;
+}
+
+static void shows_slots_of_a_shape(void) {
+    expect(slots_with(1, 0) == 1024 && slots_with(1025, 0) == 1025, "as many slots as sets, 1,024 at least");
+    expect(slots_with(1025, 1) == 1 && slots_with(1, 1048576) == 1048576, "slots that are given stay");
+    show("slots for leases of a shape of one's own: worked out where 0 are given");
+}
+
 int main(void) {
     expect_status(kangaroo_options_resolve(NULL, NULL), KANGAROO_WRONG_ARGUMENT, "no options");
     shows_resolved();
     shows_the_example();
     shows_faults_of_what_is_wanted();
     shows_faults_of_a_shape();
+    shows_slots_of_a_shape();
     return 0;
 }

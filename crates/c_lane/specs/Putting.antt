@@ -1,5 +1,6 @@
 -- What puts, fills and removals answer and leave.
-use Rattle.std.specs.Prelude.{◌≡◌, ◌⊎◌, ℕ, List}
+use Rattle.std.specs.Prelude.{◌≡◌, ◌<◌, ◌⊎◌, ◌↔◌, ℕ, List, length}
+use Rattle.record_pages.specs.Bounded.{IsKey}
 use Rattle.record_pages.specs.Expiry.{timed}
 use Rattle.record_pages.specs.declared.pushed.Pushed.{Pushed}
 use Rattle.record_pages.specs.declared.put_fault.PutFault.TheVariants.{OutOfMemory}
@@ -104,3 +105,28 @@ abbrev pub RemoveLeaves : {D : Type 0} → Laws D → List ℕ → LaneState D �
 RemoveLeaves laws key old statuses.Done new = LaneRemoves laws key old new
 RemoveLeaves laws key old statuses.WrongKey new = new ≡ old
 RemoveLeaves laws key old status new = ⊥
+
+-- When bytes are refused, and by which status: for the key, which is looked at first, or for the value.
+pub record RefusesBytes (key value : List ℕ) (status : Status) : Type 0 where
+  pub wrong_key : (status ≡ statuses.WrongKey) ↔ (¬ IsKey key)
+  pub too_large : (status ≡ statuses.TooLarge) ↔ (IsKey key × (2048 < length value))
+
+-- A put, whole: when its bytes are refused, and what it leaves.
+pub record Puts {D : Type 0} (laws : Laws D) (key value : List ℕ) (expires : ℕ) (old : LaneState D) (status : Status) (new : LaneState D) : Type 0 where
+  pub refuses : RefusesBytes key value status
+  pub leaves : PutLeaves laws key value expires old status new
+
+-- A put or a removal in its place, whole.
+pub record PutsOrRemoves {D : Type 0} (laws : Laws D) (key value : List ℕ) (expires : ℕ) (old : LaneState D) (status : Status) (new : LaneState D) : Type 0 where
+  pub refuses : RefusesBytes key value status
+  pub leaves : PutOrRemoveLeaves laws key value expires old status new
+
+-- A fill, whole.
+pub record FillsOrNot {D : Type 0} (laws : Laws D) (writes : ℕ) (key value : List ℕ) (expires : ℕ) (old : LaneState D) (status : Status) (new : LaneState D) : Type 0 where
+  pub refuses : RefusesBytes key value status
+  pub leaves : FillLeaves laws writes key value expires old status new
+
+-- A removal, whole: what is no key is refused, and nothing else.
+pub record RemovesKey {D : Type 0} (laws : Laws D) (key : List ℕ) (old : LaneState D) (status : Status) (new : LaneState D) : Type 0 where
+  pub wrong_key : (status ≡ statuses.WrongKey) ↔ (¬ IsKey key)
+  pub leaves : RemoveLeaves laws key old status new

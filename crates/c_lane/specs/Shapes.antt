@@ -1,9 +1,10 @@
 -- Shapes and sizes as C has them.
-use Rattle.std.specs.Prelude.{◌≡◌, ℕ, ◌≤◌, List, [], ◌∷◌, Option, Some, None, option_map, find, Bool, not, ◌&&◌, nat_le}
+use Rattle.std.specs.Prelude.{◌≡◌, ℕ, ◌≤◌, List, [], ◌∷◌, Option, Some, None, option_map, find, Bool, not, ◌&&◌, nat_le, ◌==◌, if◌then◌else◌}
 use Rattle.cache_sizes.specs.declared.shape.Shape.{Shape}
 use Rattle.cache_sizes.specs.declared.wanted.Wanted.{Wanted}
 use Rattle.cache_sizes.specs.declared.size_fault.SizeFault.{SizeFault}
 use Rattle.cache_sizes.specs.declared.size_fault.SizeFault.TheVariants as faults
+use Rattle.cache_sizes.specs.Memory.{lease_slots_of}
 use Rattle.cache_sizes.specs.Shapes.{IsShapeFor, flash_bytes_of, file_pages_of, fixed_bytes_of, memory_bytes_of, objects_in_memory_of, objects_in_logs_of, objects_in_sets_of}
 use Rattle.c_lane.specs.declared.lane_shape.LaneShape.{LaneShape}
 use Rattle.c_lane.specs.declared.shape_field.ShapeField.{ShapeField}
@@ -56,6 +57,10 @@ number_of_field fields.LogObjects = 7
 number_of_field fields.LeaseSlots = 8
 number_of_field fields.Threshold = 9
 number_of_field fields.Admit = 10
+
+-- the shape with slots for leases: where it has none, as many as sizes would give a lane of its sets
+abbrev pub with_slots : LaneShape → LaneShape
+with_slots s = record s { lease_slots = if s.lease_slots == 0 then lease_slots_of s.sets else s.lease_slots }
 
 -- the shape has the parts that C's has
 pub record HasPartsOf (shape : Shape) (s : LaneShape) : Type 0 where

@@ -12,6 +12,7 @@ use rand_pcg::Lcg64Xsh32;
 use service_lane::ServiceLane;
 use std::alloc::Global;
 use std::marker::Model;
+use value_buffer::ValueBuffer;
 
 mod get;
 mod put;
@@ -26,6 +27,8 @@ pub struct CLane<D: PageDevice<4096>> {
     // The device lies in memory of its own, so that the lane's size is known whatever the device.
     lane: ServiceLane<Counted<Boxed<D>>, 4096>,
     words: Lcg64Xsh32,
+    // Room for the value of a hit, which is made once: a get writes as many bytes of it as the value has.
+    found: ValueBuffer,
 }
 
 impl<D: PageDevice<4096>> Model for CLane<D> {
@@ -70,7 +73,11 @@ impl<D: PageDevice<4096>> CLane<D> {
         let counted = Counted::new(boxed);
         let table_seed = seed.derive(number);
         match ServiceLane::open(alloc, &config, shape.lease_slots, counted, table_seed) {
-            Ok(lane) => Ok(CLane { lane, words }),
+            Ok(lane) => Ok(CLane {
+                lane,
+                words,
+                found: ValueBuffer::empty(),
+            }),
             // Nothing but memory can be refused here.
             Err(_) => Err(Status::NoMemory),
         }

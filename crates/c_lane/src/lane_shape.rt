@@ -2,7 +2,7 @@
 ghost use Rattle.std.specs.Prelude.{◌≡◌, None, Some, MatchResult};
 
 use crate::shape_field::ShapeField;
-use cache_sizes::Shape;
+use cache_sizes::{MIN_LEASE_SLOTS, Shape};
 
 /// The shape of a cache, and the two numbers that say what enters and leaves its log.
 #[repr(C)]
@@ -31,7 +31,17 @@ pub struct LaneShape {
 }
 
 impl LaneShape {
-    ghost use Rattle.c_lane.specs.Shapes.{first_faulty_field, HasPartsOf};
+    ghost use Rattle.c_lane.specs.Shapes.{first_faulty_field, HasPartsOf, with_slots};
+
+    /// Gives the shape slots for leases, where it has 0: as many as sizes would give a lane of its sets.
+    #[tactic(auto, unfolding(cache_sizes::specs::Memory::lease_slots_of))]
+    pub fn give_slots(&mut self)
+        ensures { self.new ≡ with_slots self.old }
+    {
+        if self.lease_slots == 0 {
+            self.lease_slots = self.sets.max(MIN_LEASE_SLOTS);
+        }
+    }
 
     /// The shape, without `threshold` and `admit`, or the first field that is out of its range.
     pub fn check(&self) -> Result<Shape, ShapeField>

@@ -189,6 +189,25 @@ fn sizes_become_a_shape_and_a_shape_sizes(rt: HostRuntime) -> Result<(), Fail> {
     Ok(())
 }
 
+// The slots for leases of a shape with so many sets and so many slots, behind `give_slots`.
+fn slots(sets: u32, lease_slots: u32) -> u32 {
+    let mut shape = LaneShape {
+        sets,
+        lease_slots,
+        ..SHAPE
+    };
+    shape.give_slots();
+    shape.lease_slots
+}
+
+#[test]
+fn a_shape_without_slots_gets_as_many_as_sets(rt: HostRuntime) {
+    assert_eq!(rt;
+        (slots(1, 0), slots(1025, 0), slots(1025, 7)),
+        (1024, 1025, 7)
+    );
+}
+
 #[test]
 fn keys_lie_in_all_lanes(rt: HostRuntime) {
     let mut seen = [0u32; 4];

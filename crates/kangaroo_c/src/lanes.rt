@@ -2,7 +2,7 @@
 ghost use Rattle.std.specs.Prelude.{◌≡◌, None};
 ghost use Rattle.record_pages.specs.Bounded.{IsKey};
 ghost use Rattle.c_lane.specs.Getting.{Answers, AnswersOrLeases, RefusesGet};
-ghost use Rattle.c_lane.specs.Putting.{PutLeaves, PutOrRemoveLeaves, FillLeaves, RemoveLeaves};
+ghost use Rattle.c_lane.specs.Putting.{Puts, PutsOrRemoves, FillsOrNot, RemovesKey};
 ghost use Rattle.kangaroo_c.specs.Telling.{IsFull, Tells, TellsOpening, page_laws};
 
 use crate::handle::Handle;
@@ -98,7 +98,7 @@ pub extern "C" fn kl_put(
     expires: u64,
 ) -> i32
     requires { IsFull lane.old.lane }
-    ensures { Tells (λ status old new. PutLeaves page_laws key.now value.now expires old status new)
+    ensures { Tells (λ status old new. Puts page_laws key.now value.now expires old status new)
         result lane.old.lane lane.new.lane }
 {
     let mut kept = taken(alloc, lane);
@@ -117,7 +117,7 @@ pub extern "C" fn kl_put_or_remove(
     expires: u64,
 ) -> i32
     requires { IsFull lane.old.lane }
-    ensures { Tells (λ status old new. PutOrRemoveLeaves page_laws key.now value.now expires old status new)
+    ensures { Tells (λ status old new. PutsOrRemoves page_laws key.now value.now expires old status new)
         result lane.old.lane lane.new.lane }
 {
     let mut kept = taken(alloc, lane);
@@ -137,7 +137,7 @@ pub extern "C" fn kl_fill(
     expires: u64,
 ) -> i32
     requires { IsFull lane.old.lane }
-    ensures { Tells (λ status old new. FillLeaves page_laws writes key.now value.now expires old status new)
+    ensures { Tells (λ status old new. FillsOrNot page_laws writes key.now value.now expires old status new)
         result lane.old.lane lane.new.lane }
 {
     let mut kept = taken(alloc, lane);
@@ -150,7 +150,7 @@ pub extern "C" fn kl_fill(
 #[unsafe(no_mangle)]
 pub extern "C" fn kl_remove(alloc: Global, lane: &mut Handle, key: &[u8]) -> i32
     requires { IsFull lane.old.lane }
-    ensures { Tells (λ status old new. RemoveLeaves page_laws key.now old status new)
+    ensures { Tells (λ status old new. RemovesKey page_laws key.now old status new)
         result lane.old.lane lane.new.lane }
 {
     let mut kept = taken(alloc, lane);

@@ -1,7 +1,7 @@
 // Sizes both ways, and where a key is.
 ghost use Rattle.std.specs.Prelude.{◌≡◌, ◌≤◌, None, Some};
 ghost use Rattle.c_lane.specs.Placing.{place_in};
-ghost use Rattle.c_lane.specs.Shapes.{SizesOf};
+ghost use Rattle.c_lane.specs.Shapes.{SizesOf, with_slots};
 ghost use Rattle.kangaroo_c.specs.Sizing.{number_of_faulty, ShapeIsWritten};
 
 use c_lane::{LaneShape, Place, Seed, Sizes, WantedSizes, number_of_fault, place_of};
@@ -26,11 +26,13 @@ pub extern "C" fn kl_shape_of(wanted: &WantedSizes, to: &mut LaneShape) -> u32
     }
 }
 
-/// The number of the first field that is out of its range, or 0.
+/// Gives a shape slots for leases, where it has 0. The number of the first field that is out of its range then, or 0.
 #[unsafe(no_mangle)]
-pub extern "C" fn kl_test_shape(shape: &LaneShape) -> u32
-    ensures { result ≡ number_of_faulty shape.now }
+pub extern "C" fn kl_complete_shape(shape: &mut LaneShape) -> u32
+    ensures completed { shape.new ≡ with_slots shape.old }
+    ensures number { result ≡ number_of_faulty shape.new }
 {
+    shape.give_slots();
     match shape.check() {
         Ok(_) => 0,
         Err(field) => field.number(),

@@ -26,15 +26,14 @@ impl<D: PageDevice<4096>> CLane<D> {
         ensures wrong_key { (IsKey key.now → ⊥) →
             RefusesGet into.old self.old result self.new into.new hit.new }
     {
-        let mut found = ValueBuffer::empty();
-        let seen = match self.lane.get(key, moment, &mut found) {
+        let seen = match self.lane.get(key, moment, &mut self.found) {
             Ok(seen) => seen,
             Err(_) => {
                 *hit = Hit::none();
                 return Status::WrongKey;
             }
         };
-        told(seen, &found, into, hit)
+        told(seen, &self.found, into, hit)
     }
 
     /// Looks a key up as `get` does, and leases it at a miss: `writes` becomes the number of the lease then, and stays at any
