@@ -41,8 +41,8 @@ of_pair known left explain trace (Accepted pair) told read end is = (
 of_pair known left explain trace (Rejected rejection) told read end is = (
   record { trace = trace; read = read; end = end; is = is },
   begins known left explain rejection (verdict_line (verdicts.Rejected is.fault) (length trace.history)) told
-  (line_on_trace known left trace kinds.Rejected (verdict_line (verdicts.Rejected is.fault) (length trace.history)) read end (record { verdict = verdicts.Rejected is.fault; is = is.first; kind = refl; line_is = refl }))
-  is.behind,
+      (line_on_trace known left trace kinds.Rejected (verdict_line (verdicts.Rejected is.fault) (length trace.history)) read end (record { verdict = verdicts.Rejected is.fault; is = is.first; kind = refl; line_is = refl }))
+      is.behind,
 )
 of_pair known left explain trace Undecided told read end is = absurd is
 of_pair known left explain trace Bad told read end is = absurd is

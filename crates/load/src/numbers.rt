@@ -3,9 +3,9 @@ ghost use Rattle.std.specs.Prelude.{◌≡◌, ◌≤◌, length};
 ghost use Rattle.load.specs.Settings.{AreAdmitted, served_settings, settings};
 ghost use Rattle.load.specs.Asked.{IsLayoutOf, numbers_of, served_numbers_of};
 
-use file_requests::FileName;
 use crate::load::Load;
 use crate::served_load::ServedLoad;
+use file_requests::FileName;
 use record_pages::Layout;
 
 /// The cache with the first eight of these numbers, in the order of the settings.

@@ -148,8 +148,20 @@ fn judging_and_showing_are_asked_for(rt: HostRuntime) {
         )
     );
     assert!(rt; ask_for(alloc, &["kangaroo", "judge", "--explain"], Asked::Usage));
-    assert!(rt; ask_for(alloc, &["kangaroo", "show", "a.trace", "--explain"], Asked::Usage));
-    assert!(rt; ask_for(alloc, &["kangaroo", "judge", "a.txt", "--trace"], Asked::Usage));
+    assert!(rt;
+        ask_for(
+            alloc,
+            &["kangaroo", "show", "a.trace", "--explain"],
+            Asked::Usage
+        )
+    );
+    assert!(rt;
+        ask_for(
+            alloc,
+            &["kangaroo", "judge", "a.txt", "--trace"],
+            Asked::Usage
+        )
+    );
 }
 
 /// The program calls itself by one name, whatever file it was started as.
