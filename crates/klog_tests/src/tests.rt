@@ -66,6 +66,22 @@ fn log<D: PageDevice<PAGE>, const PAGE: usize>(
     }
 }
 
+// The same, tried once more where the first opening lacks memory.
+fn log_of<D: PageDevice<PAGE>, const PAGE: usize>(
+    alloc: Global,
+    config: Config,
+    first: D,
+    second: D,
+) -> Result<Owner<D, PAGE>, Fail>
+    requires { IsPageSize PAGE }
+{
+    match Owner::open(alloc, &layout(&config)?, first) {
+        Ok(Some(owner)) => Ok(owner),
+        Ok(None) => Err("a device that is large enough".into()),
+        Err(_) => log(alloc, config, second),
+    }
+}
+
 fn layout(config: &Config) -> Result<Layout, Fail> {
     match config.check() {
         Ok(layout) => Ok(layout),
@@ -73,17 +89,32 @@ fn layout(config: &Config) -> Result<Layout, Fail> {
     }
 }
 
-// A log on a device that refuses no call; an opening that lacks memory is tried once more.
-fn sound_log(alloc: Global) -> Result<Owner<Fused, 256>, Fail> {
-    match open(alloc, &layout(&ONE_SET)?) {
-        Ok(Some(owner)) => Ok(owner),
-        Ok(None) => Err("a device that is large enough".into()),
-        Err(_) => log(alloc, ONE_SET, FuseDevice::one(device(alloc)?, 0)),
-    }
+// A device that refuses no call.
+fn sound(alloc: Global) -> Result<Fused, AllocError> {
+    Ok(FuseDevice::one(device(alloc)?, 0))
 }
 
-fn open(alloc: Global, layout: &Layout) -> Result<Option<Owner<Fused, 256>>, AllocError> {
-    Owner::open(alloc, layout, FuseDevice::one(device(alloc)?, 0))
+// A log on such a device; an opening that lacks memory is tried once more.
+fn sound_log(alloc: Global) -> Result<Owner<Fused, 256>, Fail> {
+    log_of(alloc, ONE_SET, sound(alloc)?, sound(alloc)?)
+}
+
+// Makes these calls of a log over a device. It alone holds a log of this kind: who calls it is cheap to prove.
+fn on(
+    rt: &impl Abort,
+    alloc: Global,
+    config: Config,
+    device: Fused,
+    steps: &[Step],
+) -> Result<(), Fail> {
+    let mut owner: Owner<Fused, 256> = log(alloc, config, device)?;
+    run(rt, alloc, &mut owner, steps)
+}
+
+// Makes these calls of a log over a device of which each page is read as zeros.
+fn on_blank(rt: &impl Abort, alloc: Global, steps: &[Step]) -> Result<(), Fail> {
+    let mut owner: Owner<BlankDevice, 256> = log(alloc, ONE_SET, BlankDevice(3))?;
+    run(rt, alloc, &mut owner, steps)
 }
 
 // Makes these calls of a log on a device that refuses no call.
@@ -93,8 +124,7 @@ fn on_sound(rt: &impl Abort, alloc: Global, steps: &[Step]) -> Result<(), Fail> 
 
 // The same on a device that refuses each call.
 fn on_refusing(rt: &impl Abort, alloc: Global, config: Config, steps: &[Step]) -> Result<(), Fail> {
-    let mut owner: Owner<Fused, 256> = log(alloc, config, refusing(alloc)?)?;
-    run(rt, alloc, &mut owner, steps)
+    on(rt, alloc, config, refusing(alloc)?, steps)
 }
 
 const ADDED: Option<Appended> = Some(Appended::Appended);

@@ -29,8 +29,9 @@ const B_TAKEN: Kept = Kept {
 };
 
 // Two records fill a page each. They are looked up while they lie in the filling buffer and in the flushing one, and on
-// the device; then they are taken, readmitted, found in the buffer again, struck and freed.
-const STEPS: [Step; 18] = [
+// the device; then they are taken, readmitted, found in the buffer again, struck and freed. The pages that they were readmitted
+// to are written all the same.
+const STEPS: [Step; 22] = [
     Step::Append(b"ax", &[1; 200], ADDED),
     Step::Append(b"bx", &[2; 200], ADDED),
     Step::Look(b"ax", A),
@@ -49,10 +50,15 @@ const STEPS: [Step; 18] = [
     Step::Strike(b"bx"),
     Step::Look(b"bx", Seen::Absent),
     Step::Free(true),
+    Step::Strike(b"ax"),
+    Step::Flush(Flushed::Sealed),
+    Step::Flush(Flushed::Wrote),
+    Step::Flush(Flushed::Wrote),
 ];
 
-// Two writes by flushing; a read by each look-up on the device; two by the taking, newest first; one by each readmission.
-const PLAN: [Asked; 8] = [
+// Two writes by flushing; a read by each look-up on the device; two by the taking, newest first; one by each readmission; and the
+// writes of two pages on which nothing is live.
+const PLAN: [Asked; 10] = [
     Asked::Write(1),
     Asked::Write(2),
     Asked::Read(1),
@@ -61,6 +67,8 @@ const PLAN: [Asked; 8] = [
     Asked::Read(1),
     Asked::Read(1),
     Asked::Read(2),
+    Asked::Write(3),
+    Asked::Write(4),
 ];
 
 // Three keys with one tag, of which two have a record: the newer one is read first, and where it has the key no other.

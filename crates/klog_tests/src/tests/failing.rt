@@ -154,13 +154,23 @@ const REFUSED: [(&[Step], &[Step]); 7] = [
 ];
 
 fn refused_alone(rt: &impl Abort, alloc: Global, call: u32, steps: &[Step]) -> Result<(), Fail> {
-    let mut owner: Owner<Fused, 256> = log(alloc, ONE_SET, FuseDevice::one(device(alloc)?, call))?;
-    run(rt, alloc, &mut owner, steps)
+    on(
+        rt,
+        alloc,
+        ONE_SET,
+        FuseDevice::one(device(alloc)?, call),
+        steps,
+    )
 }
 
 fn refused_from(rt: &impl Abort, alloc: Global, call: u32, steps: &[Step]) -> Result<(), Fail> {
-    let mut owner: Owner<Fused, 256> = log(alloc, ONE_SET, FuseDevice::from(device(alloc)?, call))?;
-    run(rt, alloc, &mut owner, steps)
+    on(
+        rt,
+        alloc,
+        ONE_SET,
+        FuseDevice::from(device(alloc)?, call),
+        steps,
+    )
 }
 
 #[test]

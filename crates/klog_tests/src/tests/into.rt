@@ -31,8 +31,7 @@ const IN_BUFFERS_AND_ON_THE_PAGE: [Step; 16] = [
 fn a_hit_is_in_the_buffer_and_a_miss_leaves_it(rt: HostRuntime) -> Result<(), Fail> {
     let alloc = rt.alloc();
     let fused = FuseDevice::one(device(alloc)?, 2);
-    let mut owner: Owner<Fused, 256> = log(alloc, ONE_SET, fused)?;
-    run(&rt, alloc, &mut owner, &IN_BUFFERS_AND_ON_THE_PAGE)
+    on(&rt, alloc, ONE_SET, fused, &IN_BUFFERS_AND_ON_THE_PAGE)
 }
 
 const LOST: [Step; 4] = [
@@ -44,7 +43,5 @@ const LOST: [Step; 4] = [
 
 #[test]
 fn a_lost_page_leaves_the_buffer(rt: HostRuntime) -> Result<(), Fail> {
-    let alloc = rt.alloc();
-    let mut owner: Owner<BlankDevice, 256> = log(alloc, ONE_SET, BlankDevice(3))?;
-    run(&rt, alloc, &mut owner, &LOST)
+    on_blank(&rt, rt.alloc(), &LOST)
 }

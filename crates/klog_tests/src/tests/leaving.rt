@@ -1,4 +1,6 @@
 //! What leaves the log: sets that are taken, and records that are readmitted.
+ghost use Rattle.record_pages.specs.Sizes.{IsPageSize};
+
 use super::retried::{append, take};
 use super::*;
 
@@ -31,27 +33,39 @@ fn a_set_is_taken_from_memory_newest_first(rt: HostRuntime) -> Result<(), Fail> 
     on_refusing(&rt, rt.alloc(), ONE_SET, &TAKEN_FROM_MEMORY)
 }
 
-// Makes calls, takes the set, makes more calls, drops what was taken, and makes the last ones.
-fn drops_what_was_taken(
-    rt: &impl Abort,
-    alloc: Global,
-    before: &[Step],
-    between: &[Step],
-    behind: &[Step],
-) -> Result<(), Fail> {
-    let mut owner = sound_log(alloc)?;
-    run(rt, alloc, &mut owner, before)?;
-    let taken = taken(alloc, &mut owner)?;
-    run(rt, alloc, &mut owner, between)?;
-    owner.drop_taken(0, &taken);
-    run(rt, alloc, &mut owner, behind)
+/// Calls before a taking of the set, between that and the dropping of what was taken, and behind it.
+#[derive(Clone, Copy)]
+struct Dropping {
+    before: &'static [Step],
+    between: &'static [Step],
+    behind: &'static [Step],
 }
 
-// What is taken of the set.
-fn taken(alloc: Global, owner: &mut Owner<Fused, 256>) -> Result<TakenRecords, Fail> {
-    match take(alloc, owner)? {
+// Makes calls of a log over a device, takes the set, makes more calls, drops what was taken, and makes the last ones.
+fn drops_over<D: PageDevice<PAGE>, const PAGE: usize>(
+    rt: &impl Abort,
+    alloc: Global,
+    owner: &mut Owner<D, PAGE>,
+    calls: &Dropping,
+) -> Result<(), Fail>
+    requires { IsPageSize PAGE }
+{
+    run(rt, alloc, owner, calls.before)?;
+    let taken = taken(take(alloc, owner)?)?;
+    run(rt, alloc, owner, calls.between)?;
+    owner.drop_taken(0, &taken);
+    run(rt, alloc, owner, calls.behind)
+}
+
+fn drops_what_was_taken(rt: &impl Abort, alloc: Global, calls: &Dropping) -> Result<(), Fail> {
+    drops_over(rt, alloc, &mut sound_log(alloc)?, calls)
+}
+
+// The records that are taken.
+fn taken(taken: SetTaken) -> Result<TakenRecords, &'static str> {
+    match taken {
         SetTaken::Records(records) => Ok(records),
-        SetTaken::PageLost => Err("a lost page".into()),
+        SetTaken::PageLost => Err("a lost page"),
     }
 }
 
@@ -69,10 +83,15 @@ const THE_THIRD_ALONE: [Step; 4] = [
     Step::Look(b"cx", Seen::Value(b"3")),
 ];
 
+const ALONE: Dropping = Dropping {
+    before: &TWO_IN_MEMORY,
+    between: &A_THIRD,
+    behind: &THE_THIRD_ALONE,
+};
+
 #[test]
 fn what_was_taken_is_dropped_alone(rt: HostRuntime) -> Result<(), Fail> {
-    let alloc = rt.alloc();
-    drops_what_was_taken(&rt, alloc, &TWO_IN_MEMORY, &A_THIRD, &THE_THIRD_ALONE)
+    drops_what_was_taken(&rt, rt.alloc(), &ALONE)
 }
 
 // Segments 0 to 3 come and go, and then the name of segment 0 comes again.
@@ -114,9 +133,15 @@ const STAYS: [Step; 2] = [
     }]),
 ];
 
+const AT_ONE_PLACE: Dropping = Dropping {
+    before: &IN_SEGMENT_0,
+    between: &IN_SEGMENT_4,
+    behind: &STAYS,
+};
+
 #[test]
 fn a_later_record_at_the_place_of_a_taken_one_stays(rt: HostRuntime) -> Result<(), Fail> {
-    drops_what_was_taken(&rt, rt.alloc(), &IN_SEGMENT_0, &IN_SEGMENT_4, &STAYS)
+    drops_what_was_taken(&rt, rt.alloc(), &AT_ONE_PLACE)
 }
 
 type Wide = FuseDevice<MemoryDevice<4096>>;
@@ -202,14 +227,6 @@ fn a_page_has_64_records_and_a_taking_32(rt: HostRuntime) -> Result<(), Fail> {
     run(&rt, alloc, &mut owner, &LOSES_THE_SECOND_PAGE)
 }
 
-// Two records of 100 bytes on the only segment of the device.
-const TWO_STORED: [Step; 4] = [
-    Step::Append(b"ax", &[1; 100], ADDED),
-    Step::Append(b"bx", &[2; 100], ADDED),
-    Step::Flush(Flushed::Sealed),
-    Step::Flush(Flushed::Wrote),
-];
-
 const READMITTED_OR_LOST: [Step; 14] = [
     Step::Append(b"ax", &[1; 100], ADDED),
     Step::Append(b"bx", &[2; 100], ADDED),
@@ -251,7 +268,11 @@ fn a_readmitted_record_is_the_newest_or_it_is_lost(rt: HostRuntime) -> Result<()
     on_sound(&rt, rt.alloc(), &READMITTED_OR_LOST)
 }
 
-const READMITTED_FROM_A_LOST_PAGE: [Step; 5] = [
+const READMITTED_FROM_A_LOST_PAGE: [Step; 9] = [
+    Step::Append(b"ax", &[1; 100], ADDED),
+    Step::Append(b"bx", &[2; 100], ADDED),
+    Step::Flush(Flushed::Sealed),
+    Step::Flush(Flushed::Wrote),
     Step::Look(b"ax", Seen::Damaged),
     Step::Count(2),
     Step::Readmit(Some(Readmitted::Damaged)),
@@ -259,14 +280,14 @@ const READMITTED_FROM_A_LOST_PAGE: [Step; 5] = [
     Step::Look(b"bx", Seen::Absent),
 ];
 
-const TAKEN_FROM_A_LOST_PAGE: [Step; 2] = [Step::TakeLost, Step::Take(&[])];
-
-// Stores two records on a device of which each page is read as zeros, and makes these calls.
-fn on_blank(rt: &impl Abort, alloc: Global, steps: &[Step]) -> Result<(), Fail> {
-    let mut owner: Owner<BlankDevice, 256> = log(alloc, ONE_SET, BlankDevice(3))?;
-    run(rt, alloc, &mut owner, &TWO_STORED)?;
-    run(rt, alloc, &mut owner, steps)
-}
+const TAKEN_FROM_A_LOST_PAGE: [Step; 6] = [
+    Step::Append(b"ax", &[1; 100], ADDED),
+    Step::Append(b"bx", &[2; 100], ADDED),
+    Step::Flush(Flushed::Sealed),
+    Step::Flush(Flushed::Wrote),
+    Step::TakeLost,
+    Step::Take(&[]),
+];
 
 #[test]
 fn a_readmission_from_a_page_that_is_not_the_logs_loses_it(rt: HostRuntime) -> Result<(), Fail> {

@@ -161,14 +161,12 @@ const REFUSED: [(&[Step], &[Step]); 9] = [
 
 fn refused_alone(rt: &impl Abort, alloc: Global, call: u32, steps: &[Step]) -> Result<(), Fail> {
     let device = FuseDevice::one(MemoryDevice::new(alloc, 5)?, call);
-    let mut owner: Owner<Fused, 256> = log(alloc, TWO_PAGES, device)?;
-    run(rt, alloc, &mut owner, steps)
+    on(rt, alloc, TWO_PAGES, device, steps)
 }
 
 fn refused_from(rt: &impl Abort, alloc: Global, call: u32, steps: &[Step]) -> Result<(), Fail> {
     let device = FuseDevice::from(MemoryDevice::new(alloc, 5)?, call);
-    let mut owner: Owner<Fused, 256> = log(alloc, TWO_PAGES, device)?;
-    run(rt, alloc, &mut owner, steps)
+    on(rt, alloc, TWO_PAGES, device, steps)
 }
 
 #[test]

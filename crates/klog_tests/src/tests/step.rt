@@ -1,6 +1,7 @@
 //! Calls of a log, each with what it gives.
 ghost use Rattle.record_pages.specs.Sizes.{IsPageSize};
 
+use super::passing::{Told, told_by};
 use super::retried::{EXPIRES, append, look, look_at, strike, take};
 use super::*;
 use value_buffer::ValueBuffer;
@@ -33,6 +34,8 @@ pub enum Step {
     Flush(Flushed),
     /// The oldest segment's first record: its tag, place and prediction.
     First(u16, Place, u8),
+    /// What is told of the oldest segment where entries of these sets are passed over.
+    Oldest(&'static [u32], Told),
     /// No segment is on the device.
     NoSegment,
     /// The oldest segment has no live record.
@@ -96,6 +99,7 @@ fn moves<D: PageDevice<PAGE>, const PAGE: usize>(owner: &mut Owner<D, PAGE>, ste
         }
         Step::Flush(wanted) => owner.flush() == *wanted,
         Step::First(tag, place, prediction) => is_first(owner.oldest(), *tag, *place, *prediction),
+        Step::Oldest(passed, told) => told_by(owner.oldest_but(passed)) == *told,
         Step::NoSegment => owner.oldest() == Oldest::NoSegment,
         Step::Empty => owner.oldest() == Oldest::Empty,
         Step::Readmit(wanted) => owner.readmit() == *wanted,
