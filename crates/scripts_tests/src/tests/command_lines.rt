@@ -155,13 +155,6 @@ fn judging_and_showing_are_asked_for(rt: HostRuntime) {
             Asked::Usage
         )
     );
-    assert!(rt;
-        ask_for(
-            alloc,
-            &["kangaroo", "judge", "a.txt", "--trace"],
-            Asked::Usage
-        )
-    );
 }
 
 /// The program calls itself by one name, whatever file it was started as.
