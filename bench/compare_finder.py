@@ -94,7 +94,7 @@ def some_order(history, done=(), state={}):
 
 
 def doubtful(history):
-    """The hits for which nothing may be decided: several puts stand, and several are live."""
+    """The hits for which nothing may be decided: each can have read several puts."""
     hits = []
     for place, hit in enumerate(history):
         if hit[ACT] != HIT:
@@ -102,7 +102,7 @@ def doubtful(history):
         begun = [put for put in history if put[:2] == (PUT, hit[KEY]) and put[VALUE] == hit[VALUE] and put[START] <= hit[END]]
         writes = [write for write in history if write[ACT] in (PUT, REMOVE) and write[KEY] == hit[KEY]]
         stand = [put for put in begun if not any(put[END] < w[START] and w[END] < hit[START] for w in writes)]
-        if len(stand) > 1 and sum(live(put[TIME], hit[TIME]) for put in begun) > 1:
+        if sum(live(put[TIME], hit[TIME]) for put in stand) > 1:
             hits.append(place)
     return hits
 

@@ -16,14 +16,14 @@ found_at (x ∷ xs) zero less = (x, refl)
 found_at (x ∷ xs) (suc k) less = found_at xs k (omega arith)
 
 -- what is at an index after a write there, and elsewhere
-pub at_set_same : (xs : List ℕ) (i v k x : ℕ) → k ≡ i → slice_get (set xs i v) k ≡ Some x → x ≡ v
+pub at_set_same : {X : Type 0} (xs : List X) (i : ℕ) (v : X) (k : ℕ) (x : X) → k ≡ i → slice_get (set xs i v) k ≡ Some x → x ≡ v
 at_set_same xs i v k x same at =
     let within = slice_get_within (set xs i v) k x at in
     let len = length-set xs i v in
     let here : get_or (set xs i v) i x ≡ v = get_or-set_same xs i v x (omega arith) in
     sym (get_or_from_slice_get (set xs i v) k x x at) ∙ ap (λ q. get_or (set xs i v) q x) same ∙ here
 
-pub at_set_other : (xs : List ℕ) (i v k x : ℕ) → (k ≡ i → ⊥) → slice_get (set xs i v) k ≡ Some x → slice_get xs k ≡ Some x
+pub at_set_other : {X : Type 0} (xs : List X) (i : ℕ) (v : X) (k : ℕ) (x : X) → (k ≡ i → ⊥) → slice_get (set xs i v) k ≡ Some x → slice_get xs k ≡ Some x
 at_set_other xs i v k x other at =
     let within = slice_get_within (set xs i v) k x at in
     let len = length-set xs i v in

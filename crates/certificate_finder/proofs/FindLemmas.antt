@@ -21,9 +21,9 @@ use Rattle.certificate_finder.specs.declared.step.Step.{Step}
 use Rattle.certificate_finder.specs.declared.zone.Zone.{Zone}
 use Rattle.certificate_finder.specs.Excluding.{AreExcludedAt, ExcludesStep, IsExcludedStep}
 use Rattle.certificate_finder.specs.Lists.{TellsOne}
-use Rattle.certificate_finder.specs.Owning.{AreOwners, HoldsOfTwo, IsLiveFor, IsUnsure, MayRead, ReadsOnly}
+use Rattle.certificate_finder.specs.Owning.{AreOwners, IsUnsure, MayRead, ReadsLive, ReadsOnly}
 use Rattle.certificate_finder.specs.Putting.{IsOver}
-use Rattle.certificate_finder.specs.Reads.{CouldRead, HasBegun, HasSeveral, HoldsTwice, LivesFor, StandsBetween, StandsFor}
+use Rattle.certificate_finder.specs.Reads.{CouldRead, HasBegun, HasSeveral, StandsBetween, StandsFor}
 use Rattle.certificate_finder.specs.Steps.{AreSteps, IsStep, IsWriting, kind_of}
 use Rattle.certificate_finder.specs.Witnesses.{AreCrossed, Excludes, GoesWith, IsExcluded, IsSide, ReadsNone}
 use Rattle.certificate_finder.specs.Writing.{Writing}
@@ -198,101 +198,66 @@ module _ (history : List Call) (steps : List Step) (are : AreSteps history steps
     (are.each p has.put_call t has.put_at at_t).time ∙ ap time_of has.put_is,
   )
 
-  pub live_for_of : (h p : ℕ) (s t : Step) → slice_get steps h ≡ Some s → slice_get steps p ≡ Some t → LivesFor history h p → IsLiveFor s t
-  live_for_of h p s t at_s at_t lives =
-      let has = lives.has in
-      let b = begun_of h p s t at_s at_t has in
+  -- a put that the hit could read, in numbers and back
+  pub reads_of : (h p : ℕ) (s t : Step) → slice_get steps h ≡ Some s → slice_get steps p ≡ Some t → CouldRead history h p → ReadsLive steps s t
+  reads_of h p s t at_s at_t could =
+      let has = could.lives.has in
       let times = times_of h p s t has at_s at_t in
       record {
-        kind = b.0;
-        key = b.1;
-        value = b.2;
-        begun = b.3;
-        live = subst (λ e. IsTrue (is_live e s.time)) (sym times.1) (subst (λ m. IsTrue (is_live has.expires m)) (sym times.0) lives.live);
+        may = may_of h p s t at_s at_t could.stands;
+        live = subst (λ e. IsTrue (is_live e s.time)) (sym times.1) (subst (λ m. IsTrue (is_live has.expires m)) (sym times.0) could.lives.live);
       }
 
-  pub lives_of : (h p : ℕ) (s t : Step) → slice_get steps h ≡ Some s → slice_get steps p ≡ Some t → s.kind ≡ kinds.Hit → IsLiveFor s t → LivesFor history h p
-  lives_of h p s t at_s at_t hit live =
-      let has = has_begun h p s t at_s at_t hit live.kind live.key live.value live.begun in
+  pub could_by : (h p : ℕ) (s t : Step) → slice_get steps h ≡ Some s → slice_get steps p ≡ Some t → s.kind ≡ kinds.Hit → ReadsLive steps s t → CouldRead history h p
+  could_by h p s t at_s at_t hit reads =
+      let may = reads.may in
+      let has = has_begun h p s t at_s at_t hit may.kind may.key may.value may.begun in
       let times = times_of h p s t has at_s at_t in
       record {
-        has = has;
-        live = subst (λ e. IsTrue (is_live e has.moment)) times.1 (subst (λ m. IsTrue (is_live t.time m)) times.0 live.live);
+        stands = stands_of h p s t at_s at_t hit may;
+        lives = record {
+          has = has;
+          live = subst (λ e. IsTrue (is_live e has.moment)) times.1 (subst (λ m. IsTrue (is_live t.time m)) times.0 reads.live);
+        };
       }
 
   -- the one that a hit may have read alone
   pub could_of : (h p : ℕ) (s : Step) → slice_get steps h ≡ Some s → s.kind ≡ kinds.Hit → ReadsOnly steps s p → CouldRead history h p
-  could_of h p s at_s hit only = record {
-    stands = stands_of h p s only.put at_s only.at hit only.may;
-    lives = lives_of h p s only.put at_s only.at hit (record { kind = only.may.kind; key = only.may.key; value = only.may.value; begun = only.may.begun; live = only.live });
-  }
-
-  stand_twice : (h : ℕ) (s : Step) → slice_get steps h ≡ Some s → HoldsTwice (StandsFor history h) → HoldsOfTwo steps (MayRead steps s)
-  stand_twice h s at two =
-      let c = two.first.has in
-      let d = two.second.has in
-      let one = step_at two.one c.put_call c.put_at in
-      let other = step_at two.other d.put_call d.put_at in
-      record {
-        one = two.one;
-        other = two.other;
-        first = one.0;
-        second = other.0;
-        apart = two.apart;
-        one_at = one.1;
-        other_at = other.1;
-        holds_one = may_of h two.one s one.0 at one.1 two.first;
-        holds_other = may_of h two.other s other.0 at other.1 two.second;
-      }
-
-  live_twice : (h : ℕ) (s : Step) → slice_get steps h ≡ Some s → HoldsTwice (LivesFor history h) → HoldsOfTwo steps (IsLiveFor s)
-  live_twice h s at two =
-      let c = two.first.has in
-      let d = two.second.has in
-      let one = step_at two.one c.put_call c.put_at in
-      let other = step_at two.other d.put_call d.put_at in
-      record {
-        one = two.one;
-        other = two.other;
-        first = one.0;
-        second = other.0;
-        apart = two.apart;
-        one_at = one.1;
-        other_at = other.1;
-        holds_one = live_for_of h two.one s one.0 at one.1 two.first;
-        holds_other = live_for_of h two.other s other.0 at other.1 two.second;
-      }
+  could_of h p s at_s hit only = could_by h p s only.put at_s only.at hit only.reads
 
   pub several_of : (h : ℕ) → HasSeveral history h → IsUnsure steps h
-  several_of h has =
-      let c = has.stand.first.has in
+  several_of h two =
+      let c = two.first.stands.has in
+      let d = two.second.stands.has in
       let s = step_at h c.hit_call c.hit_at in
+      let one = step_at two.one c.put_call c.put_at in
+      let other = step_at two.other d.put_call d.put_at in
       record {
         step = s.0;
         at = s.1;
         kind = s.2.kind ∙ ap kind_of c.hit_is;
-        several = record { stand = stand_twice h s.0 s.1 has.stand; live = live_twice h s.0 s.1 has.live };
+        several = record {
+          one = two.one;
+          other = two.other;
+          first = one.0;
+          second = other.0;
+          apart = two.apart;
+          one_at = one.1;
+          other_at = other.1;
+          holds_one = reads_of h two.one s.0 one.0 s.1 one.1 two.first;
+          holds_other = reads_of h two.other s.0 other.0 s.1 other.1 two.second;
+        };
       }
 
   pub has_several : (h : ℕ) → IsUnsure steps h → HasSeveral history h
   has_several h is =
-      let a = is.several.stand in
-      let b = is.several.live in
+      let a = is.several in
       record {
-        stand = record {
-          one = a.one;
-          other = a.other;
-          apart = a.apart;
-          first = stands_of h a.one is.step a.first is.at a.one_at is.kind a.holds_one;
-          second = stands_of h a.other is.step a.second is.at a.other_at is.kind a.holds_other;
-        };
-        live = record {
-          one = b.one;
-          other = b.other;
-          apart = b.apart;
-          first = lives_of h b.one is.step b.first is.at b.one_at is.kind b.holds_one;
-          second = lives_of h b.other is.step b.second is.at b.other_at is.kind b.holds_other;
-        };
+        one = a.one;
+        other = a.other;
+        apart = a.apart;
+        first = could_by h a.one is.step a.first is.at a.one_at is.kind a.holds_one;
+        second = could_by h a.other is.step a.second is.at a.other_at is.kind a.holds_other;
       }
 
   -- ---- a hit that can have read no put
@@ -360,7 +325,7 @@ module _ (history : List Call) (steps : List Step) (are : AreSteps history steps
             v.2,
             λ put could.
                 let p = step_at put could.stands.has.put_call could.stands.has.put_at in
-                hit.1.only put p.0 p.1 (may_of q put s p.0 at p.1 could.stands) (live_for_of q put s p.0 at p.1 could.lives),
+                hit.1.only put p.0 p.1 (reads_of q put s p.0 at p.1 could),
           )
     ]
   ]

@@ -3,7 +3,6 @@ pub mod CrossingLemmas
 pub mod Excluding
 pub mod Lines
 pub mod Listing
-pub mod LiveLemmas
 pub mod Merging
 pub mod NumberLemmas
 pub mod Placing
@@ -23,3 +22,8 @@ pub mod TurnLemmas
 pub mod SpotLemmas
 pub mod FoundLemmas
 pub mod Settling
+pub mod BestLemmas
+pub mod ReadingLemmas
+pub mod TreeLemmas
+pub mod LeafLemmas
+pub mod AskLemmas

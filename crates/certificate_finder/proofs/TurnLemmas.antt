@@ -130,9 +130,9 @@ module _ (history : List Call) (steps : List Step) (are : AreSteps history steps
   placed p step at some = elim (hit_or_write step.kind some) [
     | inl hit ↦
         let r = hit_reads p step at hit in
-        let writes : Writing r.put = subst IsWriting (sym r.may.kind) tt in
+        let writes : Writing r.put = subst IsWriting (sym r.reads.may.kind) tt in
         let z = zone_of (get_or owners p 0) r.put r.at writes in
-        record { zone = z.0; owner = r.put; owner_at = r.at; writes = writes; zone_at = z.1; tells = z.2; goes = inr (owner_of p step at); one_key = r.may.key }
+        record { zone = z.0; owner = r.put; owner_at = r.at; writes = writes; zone_at = z.1; tells = z.2; goes = inr (owner_of p step at); one_key = r.reads.may.key }
     | inr writes ↦
         let same = write_owns p step at writes in
         let at' : slice_get steps (get_or owners p 0) ≡ Some step = ap (slice_get steps) same ∙ at in
@@ -173,23 +173,23 @@ module _ (history : List Call) (steps : List Step) (are : AreSteps history steps
         let kind : s.0.kind ≡ kinds.Hit = s.2.kind ∙ ap kind_of is.is in
         let r = hit_reads h s.0 s.1 kind in
         let c = call_at history steps are (get_or owners h 0) r.put r.at in
-        let v = put_at history steps are (get_or owners h 0) c.0 r.put c.2 r.may.kind in
+        let v = put_at history steps are (get_or owners h 0) c.0 r.put c.2 r.reads.may.kind in
         let alike = are.alike (get_or owners h 0) h c.0 is.call r.put s.0 c.1 is.at r.at s.1 in
-        let same : v.0 ≡ value = sym (ap value_of v.2) ∙ alike.values.0 r.may.value ∙ ap value_of is.is in
+        let same : v.0 ≡ value = sym (ap value_of v.2) ∙ alike.values.0 r.reads.may.value ∙ ap value_of is.is in
         let time : s.0.time ≡ moment = s.2.time ∙ ap time_of is.is in
         record {
           call = c.0;
           expires = v.1;
           at = c.1;
-          one_key = alike.keys.0 r.may.key ∙ is.one_key;
+          one_key = alike.keys.0 r.reads.may.key ∙ is.one_key;
           is = v.2 ∙ ap (λ w. Put w v.1) same;
-          live = subst (λ e. IsTrue (is_live e moment)) v.3 (subst (λ m. IsTrue (is_live r.put.time m)) time r.live);
+          live = subst (λ e. IsTrue (is_live e moment)) v.3 (subst (λ m. IsTrue (is_live r.put.time m)) time r.reads.live);
         };
     behind = λ h key value moment is.
         let s = step_at history steps are h is.call is.at in
         let kind : s.0.kind ≡ kinds.Hit = s.2.kind ∙ ap kind_of is.is in
         let r = hit_reads h s.0 s.1 kind in
-        let writes : Writing r.put = subst IsWriting (sym r.may.kind) tt in
+        let writes : Writing r.put = subst IsWriting (sym r.reads.may.kind) tt in
         let own' = write_owns (get_or owners h 0) r.put r.at writes in
         let place : place_at owners places (get_or owners h 0) ≡ place_at owners places h = ap (λ o. get_or places o 0) own' in
         let a = turn_is (get_or owners h 0) r.put r.at in
@@ -201,7 +201,7 @@ module _ (history : List Call) (steps : List Step) (are : AreSteps history steps
         let s = step_at history steps are h is.call is.at in
         let kind : s.0.kind ≡ kinds.Hit = s.2.kind ∙ ap kind_of is.is in
         let r = hit_reads h s.0 s.1 kind in
-        let o_writes : Writing r.put = subst IsWriting (sym r.may.kind) tt in
+        let o_writes : Writing r.put = subst IsWriting (sym r.reads.may.kind) tt in
         let x = step_at history steps are w writes.call writes.at in
         let x_writes : Writing x.0 = subst IsWriting (sym x.2.kind) (writing_of writes.call.act writes.writes.1) in
         let own' = write_owns (get_or owners h 0) r.put r.at o_writes in
@@ -270,7 +270,7 @@ module _ (history : List Call) (steps : List Step) (are : AreSteps history steps
                     let r = hit_reads q t.0 t.1 hit in
                     let own' = write_owns p s.0 s.1 write in
                     let is = same_at steps p (get_or owners q 0) s.0 r.put (sym own' ∙ owner) s.1 r.at in
-                    let begun = subst (λ (o : Step). o.start ≤ t.0.end) (sym is) r.may.begun in
+                    let begun = subst (λ (o : Step). o.start ≤ t.0.end) (sym is) r.reads.may.begun in
                     omega arith
                 | inr write_too ↦ absurd (differ (sym (write_owns p s.0 s.1 write) ∙ owner ∙ write_owns q t.0 t.1 write_too))
               ]

@@ -15,7 +15,7 @@ IsOfListed hits (witnesses.Interval position) = ⊥
 IsOfListed hits (witnesses.Hit hit puts) = Contains hits hit
 IsOfListed hits (witnesses.Crossed one other) = Contains hits one.early ⊎ (Contains hits one.late ⊎ (Contains hits other.early ⊎ Contains hits other.late))
 
--- these are all hits for which several puts stand and several live, in order, and there are such; no other reason was passed over: each that the history has speaks of one of them
+-- these are all hits that may have read several puts, in order, and there are such; no other reason was passed over: each that the history has speaks of one of them
 pub record AreUndecided (history : List Call) (hits : List ℕ) : Type 0 where
   pub some : hits ≢ []
   pub each : All (HasSeveral history) hits

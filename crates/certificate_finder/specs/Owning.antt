@@ -17,21 +17,17 @@ pub record MayRead (steps : List Step) (hit put : Step) : Type 0 where
   pub begun : put.start ≤ hit.end
   pub stands : (position : ℕ) (other : Step) → slice_get steps position ≡ Some other → IsOver put other → hit.start ≤ other.end
 
--- a put of a hit's key and value, which the hit does not precede, is live at the hit's moment
-pub record IsLiveFor (hit put : Step) : Type 0 where
-  pub kind : put.kind ≡ kinds.Put
-  pub key : put.key ≡ hit.key
-  pub value : put.value ≡ hit.value
-  pub begun : put.start ≤ hit.end
+-- a hit may have read a put
+pub record ReadsLive (steps : List Step) (hit put : Step) : Type 0 where
+  pub may : MayRead steps hit put
   pub live : IsTrue (is_live put.time hit.time)
 
--- a hit may have read the put at a position, which is live at the hit's moment, and no other one that is
+-- a hit may have read the put at a position, and no other one
 pub record ReadsOnly (steps : List Step) (hit : Step) (position : ℕ) : Type 0 where
   pub put : Step
   pub at : slice_get steps position ≡ Some put
-  pub may : MayRead steps hit put
-  pub live : IsTrue (is_live put.time hit.time)
-  pub only : (other : ℕ) (step : Step) → slice_get steps other ≡ Some step → MayRead steps hit step → IsLiveFor hit step → other ≡ position
+  pub reads : ReadsLive steps hit put
+  pub only : (other : ℕ) (step : Step) → slice_get steps other ≡ Some step → ReadsLive steps hit step → other ≡ position
 
 -- a fact holds of two calls
 pub record HoldsOfTwo (steps : List Step) (P : Step → Type 0) : Type 0 where
@@ -45,10 +41,9 @@ pub record HoldsOfTwo (steps : List Step) (P : Step → Type 0) : Type 0 where
   pub holds_one : P first
   pub holds_other : P second
 
--- a hit may have read several puts, expiry aside, and several of those that it does not precede are live
-pub record ReadsSeveral (steps : List Step) (hit : Step) : Type 0 where
-  pub stand : HoldsOfTwo steps (MayRead steps hit)
-  pub live : HoldsOfTwo steps (IsLiveFor hit)
+-- a hit may have read several puts
+abbrev pub ReadsSeveral : List Step → Step → Type 0
+ReadsSeveral steps hit = HoldsOfTwo steps (ReadsLive steps hit)
 
 -- no put that a hit may have read is live at the hit's moment
 abbrev pub ReadsNoLive : List Step → Step → Type 0
@@ -57,7 +52,7 @@ ReadsNoLive steps hit = (position : ℕ) (put : Step) → slice_get steps positi
 -- with which write a call goes
 abbrev pub IsOwner : List Step → Step → Owner → Type 0
 IsOwner steps step owner.Itself = ¬ (step.kind ≡ kinds.Hit)
-IsOwner steps step (owner.Put position) = (step.kind ≡ kinds.Hit) × ReadsOnly steps step position × (¬ ReadsSeveral steps step)
+IsOwner steps step (owner.Put position) = (step.kind ≡ kinds.Hit) × ReadsOnly steps step position
 IsOwner steps step owner.Unsure = (step.kind ≡ kinds.Hit) × ReadsSeveral steps step
 IsOwner steps step owner.Nothing = (step.kind ≡ kinds.Hit) × ReadsNoLive steps step
 

@@ -1,12 +1,10 @@
 -- The puts of a history, and which of them a hit can have read.
-use Rattle.std.specs.Prelude.{◌≡◌, ◌≢◌, ℕ, ◌+◌, ◌*◌, ◌^◌, ◌<◌, ◌≤◌, ◌⊎◌, max, List, All, AllPairs, Contains, length, slice_get, Some, None, Option, MatchOption}
+use Rattle.std.specs.Prelude.{◌≡◌, ◌≢◌, ℕ, ◌+◌, ◌*◌, ◌^◌, ◌<◌, ◌≤◌, List, All, AllPairs, length, slice_get, Some, None, Option, MatchOption, IsTrue}
 use Rattle.std.specs.Option.{option_map_or}
 use Rattle.std.specs.List.Sorted.{IsNonDecreasingBy}
-use Rattle.certificate_finder.specs.declared.best.Best.{Best}
+use Rattle.record_pages.specs.Expiry.{is_live}
 use Rattle.certificate_finder.specs.declared.kind.Kind.TheVariants as kinds
 use Rattle.certificate_finder.specs.declared.put.Put.{Put}
-use Rattle.certificate_finder.specs.declared.reads.Reading.{Reading}
-use Rattle.certificate_finder.specs.declared.reads.Reading.TheVariants.{Nothing, One, Several}
 use Rattle.certificate_finder.specs.declared.step.Step.{Step}
 use Rattle.certificate_finder.specs.declared.write.Write.{Write}
 use Rattle.certificate_finder.specs.Lists.{Lists}
@@ -50,11 +48,20 @@ value_rank key value stamp = (key * 2 ^ 32 + value) * 2 ^ 64 + stamp
 abbrev pub put_rank : Put → ℕ
 put_rank put = value_rank put.key put.value put.start
 
+-- the rank of the last stamp at which a put can be read
+abbrev pub last_rank : Put → ℕ
+last_rank put = value_rank put.key put.value put.dead
+
+-- when the put at an index expires
+abbrev pub expiry_at : List Put → ℕ → ℕ
+expiry_at puts index = option_map_or (λ (put : Put). put.expires) (slice_get puts index) 0
+
 -- a put's numbers are in their ranges
 pub record IsFitPut (put : Put) : Type 0 where
   pub value : put.value < 2 ^ 32
   pub start : put.start < 2 ^ 64
   pub expires : put.expires < 2 ^ 64
+  pub dead : put.dead < 2 ^ 64
 
 -- puts by keys, values and starts, each once
 pub record AreInOrder (puts : List Put) : Type 0 where
@@ -67,36 +74,6 @@ pub record ArePuts (steps : List Step) (puts : List Put) : Type 0 where
   pub lists : Lists steps Putting (TellsPut steps) (length steps) puts
   pub in_order : AreInOrder puts
 
--- two puts are of one key and value
-pub record AreLike (one other : Put) : Type 0 where
-  pub key : one.key ≡ other.key
-  pub value : one.value ≡ other.value
-
--- a put that is not at a position can be read no longer than this, which one of them can
-pub record IsNext (puts : List Put) (last : Put) (upto position next : ℕ) : Type 0 where
-  pub most : (k : ℕ) (put : Put) → k < upto → slice_get puts k ≡ Some put → AreLike put last → put.position ≢ position → put.dead ≤ next
-  pub index : ℕ
-  pub put : Put
-  pub below : index < upto
-  pub at : slice_get puts index ≡ Some put
-  pub like : AreLike put last
-  pub apart : put.position ≢ position
-  pub dead : put.dead ≡ next
-
--- of the puts below an index that are like one, the two that can be read longest
-pub record IsBest (puts : List Put) (last : Put) (upto : ℕ) (best : Best) : Type 0 where
-  pub index : ℕ
-  pub put : Put
-  pub below : index < upto
-  pub at : slice_get puts index ≡ Some put
-  pub like : AreLike put last
-  pub position : put.position ≡ best.put
-  pub dead : put.dead ≡ best.dead
-  pub most : (k : ℕ) (other : Put) → k < upto → slice_get puts k ≡ Some other → AreLike other last → other.dead ≤ best.dead
-  pub next : MatchOption best.next
-      ((k : ℕ) (other : Put) → k < upto → slice_get puts k ≡ Some other → AreLike other last → other.position ≡ best.put)
-      (IsNext puts last upto best.put)
-
 -- a hit can have read a put, expiry aside
 pub record CanRead (hit : Step) (put : Put) : Type 0 where
   pub key : put.key ≡ hit.key
@@ -104,29 +81,12 @@ pub record CanRead (hit : Step) (put : Put) : Type 0 where
   pub begun : put.start ≤ hit.end
   pub stands : hit.start ≤ put.dead
 
--- a hit can have read two puts
-pub record CanReadTwo (puts : List Put) (hit : Step) : Type 0 where
-  pub one : Put
-  pub other : Put
-  pub one_listed : Contains puts one
-  pub other_listed : Contains puts other
-  pub apart : one.position ≢ other.position
-  pub reads_one : CanRead hit one
-  pub reads_other : CanRead hit other
-
--- a hit can have read the put at a position, and no put at another one
-pub record CanReadOne (puts : List Put) (hit : Step) (position : ℕ) : Type 0 where
+-- a hit can have read the put at an index
+pub record GivesAt (puts : List Put) (hit : Step) (index : ℕ) : Type 0 where
   pub put : Put
-  pub listed : Contains puts put
-  pub is : put.position ≡ position
+  pub at : slice_get puts index ≡ Some put
   pub reads : CanRead hit put
-  pub only : All (λ other. CanRead hit other → other.position ≡ position) puts
-
--- which puts a hit can have read
-abbrev pub IsReading : List Put → Step → Reading → Type 0
-IsReading puts hit Nothing = All (λ put. ¬ CanRead hit put) puts
-IsReading puts hit (One position) = CanReadOne puts hit position
-IsReading puts hit Several = CanReadTwo puts hit
+  pub live : IsTrue (is_live put.expires hit.time)
 
 -- the put at a position, with the write that is over it, if there is one
 pub record IsPut (position : ℕ) (step : Step) (over : Option Write) (put : Put) : Type 0 where
@@ -136,25 +96,3 @@ pub record IsPut (position : ℕ) (step : Step) (over : Option Write) (put : Put
   pub start : put.start ≡ step.start
   pub expires : put.expires ≡ step.time
   pub is_over : MatchOption over ((put.over ≡ None) × (put.dead ≡ 18446744073709551615)) (λ write. (put.over ≡ Some write.position) × (put.dead ≡ write.end))
-
--- the best of puts with one put more
-abbrev pub IsWith : Best → Put → Best → Type 0
-IsWith old put new =
-    ((old.dead < put.dead) × (new ≡ record { put = put.position; dead = put.dead; next = Some old.dead }))
-    ⊎ ((put.dead ≤ old.dead) × (new ≡ record { put = old.put; dead = old.dead; next = Some (option_map_or (λ next. max next put.dead) old.next put.dead) }))
-
--- which of the puts a hit that starts then can have read
-abbrev pub SaysReading : Best → ℕ → Reading → Type 0
-SaysReading best start Nothing = best.dead < start
-SaysReading best start (One position) = (start ≤ best.dead) × (position ≡ best.put) × MatchOption best.next (Unit {0}) (λ next. next < start)
-SaysReading best start Several = (start ≤ best.dead) × MatchOption best.next ⊥ (λ next. start ≤ next)
-
--- the best of the put at an index and the earlier ones like it
-pub record IsBestAt (puts : List Put) (index : ℕ) (best : Best) : Type 0 where
-  pub put : Put
-  pub at : slice_get puts index ≡ Some put
-  pub is : IsBest puts put (index + 1) best
-
--- for each put that has one the best of it and the earlier ones of its key and value
-abbrev pub AreBests : List Put → List Best → Type 0
-AreBests puts bests = (k : ℕ) (best : Best) → slice_get bests k ≡ Some best → IsBestAt puts k best

@@ -50,7 +50,6 @@ pub record HoldsTwice (P : ℕ → Type 0) : Type 0 where
   pub first : P one
   pub second : P other
 
--- for the hit at a position several puts stand, and several live
-pub record HasSeveral (history : List Call) (hit : ℕ) : Type 0 where
-  pub stand : HoldsTwice (StandsFor history hit)
-  pub live : HoldsTwice (LivesFor history hit)
+-- the hit at a position may have read several puts
+abbrev pub HasSeveral : List Call → ℕ → Type 0
+HasSeveral history hit = HoldsTwice (CouldRead history hit)

@@ -1,84 +1,74 @@
-// Which puts of a value can be read longest.
-ghost use Rattle.std.specs.Prelude.{◌≡◌, ◌<◌, Some, length, slice_get};
+// Of some puts the two that expire last.
+ghost use Rattle.std.specs.Prelude.{◌≡◌, ◌<◌, length};
 
-use crate::put::Put;
+use crate::put::{Put, expiry};
 use crate::reads::Reading;
+use record_pages::is_live;
 
-/// Of some puts of one key and value, the two that can be read longest.
+/// Of some puts, by their indexes, the two that expire last.
 #[derive(Clone, Copy)]
-pub(crate) struct Best {
-    /// The position of the one that can be read longest.
-    pub(crate) put: u32,
-    /// Until when it can be read.
-    pub(crate) dead: u64,
-    /// Until when any other can be read, if there are others.
-    pub(crate) next: Option<u64>,
+pub(crate) enum Best {
+    /// There is none.
+    Empty,
+    /// There is this one.
+    One(u32),
+    /// Of several the one that expires last, and the one of the others that does.
+    Two(u32, u32),
 }
 
 impl Best {
-    ghost use Rattle.std.specs.Prelude.{None};
-    ghost use Rattle.certificate_finder.specs.Putting.{IsWith, SaysReading};
-
-    /// Of one put.
-    pub(crate) fn of(put: &Put) -> Best
-        ensures { result ≡ record { put = put.now.position; dead = put.now.dead; next = None } }
-    {
-        Best {
-            put: put.position,
-            dead: put.dead,
-            next: None,
-        }
-    }
+    ghost use Rattle.certificate_finder.specs.Bests.{AreAmong, IsWith, SaysLive};
 
     /// With one put more.
-    pub(crate) fn with(self, put: &Put) -> Best
-        ensures { IsWith self put.now result }
+    pub(crate) fn with(self, puts: &[Put], index: u32) -> Best
+        requires among { AreAmong puts.now self }
+        requires within { index < length puts.now }
+        ensures { IsWith puts.now self index result }
     {
-        if self.dead < put.dead {
-            return Best {
-                put: put.position,
-                dead: put.dead,
-                next: Some(self.dead),
-            };
-        }
-        match self.next {
-            Some(next) => Best {
-                put: self.put,
-                dead: self.dead,
-                next: Some(next.max(put.dead)),
-            },
-            None => Best {
-                put: self.put,
-                dead: self.dead,
-                next: Some(put.dead),
-            },
-        }
-    }
-
-    /// Which of the puts a hit that starts then can have read.
-    pub(crate) fn reading(self, start: u64) -> Reading
-        ensures { SaysReading self start result }
-    {
-        if self.dead < start {
-            return Reading::Nothing;
-        }
-        match self.next {
-            Some(next) => {
-                if next < start {
-                    Reading::One(self.put)
+        match self {
+            Best::Empty => Best::One(index),
+            Best::One(first) => {
+                if expiry(puts, first) < expiry(puts, index) {
+                    Best::Two(index, first)
                 } else {
-                    Reading::Several
+                    Best::Two(first, index)
                 }
             }
-            None => Reading::One(self.put),
+            Best::Two(first, second) => {
+                if expiry(puts, first) < expiry(puts, index) {
+                    Best::Two(index, first)
+                } else if expiry(puts, second) < expiry(puts, index) {
+                    Best::Two(first, index)
+                } else {
+                    Best::Two(first, second)
+                }
+            }
         }
     }
-}
 
-/// The best at an index.
-pub(crate) fn best_at(bests: &[Best], index: usize) -> Best
-    requires { index < length bests.now }
-    ensures { slice_get bests.now index ≡ Some result }
-{
-    bests[index]
+    /// Which of them are live at a moment.
+    pub(crate) fn reading(self, puts: &[Put], moment: u64) -> Reading
+        requires { AreAmong puts.now self }
+        ensures { SaysLive puts.now moment self result }
+    {
+        match self {
+            Best::Empty => Reading::Nothing,
+            Best::One(first) => {
+                if is_live(expiry(puts, first), moment) {
+                    Reading::One(first)
+                } else {
+                    Reading::Nothing
+                }
+            }
+            Best::Two(first, second) => {
+                if is_live(expiry(puts, second), moment) {
+                    Reading::Several
+                } else if is_live(expiry(puts, first), moment) {
+                    Reading::One(first)
+                } else {
+                    Reading::Nothing
+                }
+            }
+        }
+    }
 }

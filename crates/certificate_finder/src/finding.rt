@@ -26,9 +26,8 @@ pub const MAX_CALLS: usize = 2147483647;
 
 /// Finds a certificate for a history, or a reason why there can be none, or the hits for which nothing was decided.
 ///
-/// A put of a hit's key and value, begun before the hit ended, stands for it where no write of the key lies between them, and
-/// is live for it where it had not expired at the hit's moment. Nothing may be decided where for some hit several puts stand
-/// and several are live. Where all such puts had expired, or all but one, it is decided.
+/// A hit can have read a put of its key and value that began before the hit ended and had not expired at its moment, and behind
+/// which no write of the key lies that ended before the hit began. Where each hit can have read at most one, it is decided.
 ///
 /// Its time is `n log n` for `n` calls where the keys and values were not picked to be slow: the map that it numbers them by
 /// hashes them by a seed that anyone can read. Whoever judges a stranger's history calls `find_with_hasher`. It takes about

@@ -9,7 +9,7 @@ pub enum Found {
     Accepted(Certificate),
     /// It is accepted with none, for this reason.
     Rejected(Witness),
-    /// Of each of the hits at these positions, at least one, several puts stand and several are live. There is no reason that
-    /// speaks of none of them; whether there is a certificate was not decided.
+    /// Each of the hits at these positions, at least one, can have read several puts. There is no reason that speaks of none of
+    /// them; whether there is a certificate was not decided.
     Undecided(Vec<u32>),
 }

@@ -5,12 +5,12 @@ ghost use Rattle.certificate_finder.specs.Putting.{ArePuts};
 ghost use Rattle.certificate_finder.specs.Steps.{IsFit};
 
 use crate::excuses::excluded_of;
-use crate::lives::lives_of;
 use crate::owners::owners_of;
 use crate::owning::Owning;
 use crate::put::Put;
-use crate::puts::{bests_of, puts_of};
+use crate::puts::puts_of;
 use crate::read_result::ReadResult;
+use crate::readings::readings_of;
 use crate::refusal::Refusal;
 use crate::step::Step;
 use crate::writes::{soonest_of, writes_of};
@@ -24,18 +24,8 @@ pub(crate) fn read_result_of(alloc: Global, steps: &[Step]) -> Result<ReadResult
 {
     let puts = all_puts_of(alloc, steps)?;
     let listed = puts.as_slice();
-    let bests = bests_of(alloc, listed)?;
-    let lives = lives_of(alloc, listed)?;
-    let lived = lives.as_slice();
-    let longest = bests_of(alloc, lived)?;
-    match owners_of(
-        alloc,
-        steps,
-        listed,
-        bests.as_slice(),
-        lived,
-        longest.as_slice(),
-    )? {
+    let readings = readings_of(alloc, steps, listed)?;
+    match owners_of(alloc, steps, listed, readings.as_slice())? {
         Owning::Each(owners) => Ok(ReadResult::Each(owners)),
         Owning::Refused(hit) => {
             let puts = excluded_of(alloc, steps, listed, hit)?;

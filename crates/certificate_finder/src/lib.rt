@@ -1,6 +1,7 @@
 //! Finds a certificate for a history that brings none, or says why there can be none.
 #![tactic(auto)]
 
+mod asked;
 mod best;
 mod crossing;
 mod crossings;
@@ -12,9 +13,9 @@ mod found;
 mod hits;
 mod kind;
 mod laws;
+mod leaves;
 mod lent_word;
 mod line;
-mod lives;
 mod numbering;
 mod numbers;
 mod owner;
@@ -24,9 +25,12 @@ mod put;
 mod puts;
 mod ranked;
 mod read_result;
+mod readings;
 mod reads;
 mod refusal;
+mod shape;
 mod step;
+mod tree;
 mod witness;
 mod write;
 mod writes;

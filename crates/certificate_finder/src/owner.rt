@@ -5,9 +5,9 @@
 pub(crate) enum Owner {
     /// It is a write or a miss, and goes by itself.
     Itself,
-    /// It is a hit that can have read the put at this position alone, live at its moment.
+    /// It is a hit that can have read the put at this position alone.
     Put(u32),
-    /// It is a hit that can have read several puts, expiry aside, and several are live for it.
+    /// It is a hit that can have read several puts.
     Unsure,
     /// It is a hit that can have read no put.
     Nothing,

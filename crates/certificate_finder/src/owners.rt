@@ -1,19 +1,15 @@
 // With which write each call goes.
-ghost use Rattle.std.specs.Prelude.{◌≡◌, ◌+◌, ◌<◌, ◌^◌, All, IfOk, length, slice_get, Some};
-ghost use Rattle.certificate_finder.specs.Living.{AreLives};
+ghost use Rattle.std.specs.Prelude.{◌≡◌, ◌<◌, ◌^◌, All, IfOk, length, slice_get, Some};
+ghost use Rattle.certificate_finder.specs.Asking.{AreReadings};
 ghost use Rattle.certificate_finder.specs.Owning.{IsNoted, IsOwnerAt, IsOwning};
-ghost use Rattle.certificate_finder.specs.Putting.{AreBests, ArePuts};
+ghost use Rattle.certificate_finder.specs.Putting.{ArePuts};
 ghost use Rattle.certificate_finder.specs.Steps.{IsFit};
 
-use crate::best::Best;
-use crate::lives::live_owner;
 use crate::owner::Owner;
 use crate::owning::{Owners, Owning};
-use crate::put::Put;
-use crate::puts::reading_of;
+use crate::put::{Put, put_at};
 use crate::reads::Reading;
 use crate::step::{Step, step_at};
-use record_pages::is_live;
 use std::alloc::{AllocError, Global};
 
 /// With which write each call goes.
@@ -21,24 +17,18 @@ pub(crate) fn owners_of(
     alloc: Global,
     steps: &[Step],
     puts: &[Put],
-    bests: &[Best],
-    lives: &[Put],
-    longest: &[Best],
+    readings: &[Reading],
 ) -> Result<Owning, AllocError>
     requires few { length steps.now < 2 ^ 31 }
     requires fit { All IsFit steps.now }
     requires puts { ArePuts steps.now puts.now }
-    requires count { length bests.now ≡ length puts.now }
-    requires bests { AreBests puts.now bests.now }
-    requires lives { AreLives puts.now (length puts.now) lives.now }
-    requires count_longest { length longest.now ≡ length lives.now }
-    requires longest { AreBests lives.now longest.now }
+    requires readings { AreReadings steps.now puts.now readings.now }
     ensures { IfOk result (IsOwning steps.now) }
 {
     let mut owners = Vec::new(alloc);
     let mut unsure = Vec::new(alloc);
     for position in 0..steps.len() {
-        let owner = owner_at(steps, puts, bests, lives, longest, position);
+        let owner = owner_at(steps, puts, readings, position);
         let noted = note(&mut owners, &mut unsure, position as u32, owner)?;
         if !noted {
             return Ok(Owning::Refused(position as u32));
@@ -77,21 +67,10 @@ fn note(
 }
 
 /// With which write the call at a position goes.
-fn owner_at(
-    steps: &[Step],
-    puts: &[Put],
-    bests: &[Best],
-    lives: &[Put],
-    longest: &[Best],
-    position: usize,
-) -> Owner
+fn owner_at(steps: &[Step], puts: &[Put], readings: &[Reading], position: usize) -> Owner
     requires fit { All IsFit steps.now }
     requires puts { ArePuts steps.now puts.now }
-    requires count { length bests.now ≡ length puts.now }
-    requires bests { AreBests puts.now bests.now }
-    requires lives { AreLives puts.now (length puts.now) lives.now }
-    requires count_longest { length longest.now ≡ length lives.now }
-    requires longest { AreBests lives.now longest.now }
+    requires readings { AreReadings steps.now puts.now readings.now }
     requires within { position < length steps.now }
     ensures { IsOwnerAt steps.now position result }
 {
@@ -99,16 +78,20 @@ fn owner_at(
     if !step.kind.is_hit() {
         return Owner::Itself;
     }
-    match reading_of(puts, bests, &step) {
+    match reading_at(readings, position) {
         Reading::Nothing => Owner::Nothing,
-        Reading::Several => live_owner(puts, lives, longest, &step),
-        Reading::One(put) => {
-            let read = step_at(steps, put as usize);
-            if is_live(read.time, step.time) {
-                Owner::Put(put)
-            } else {
-                Owner::Nothing
-            }
+        Reading::One(index) => {
+            let put = put_at(puts, index as usize);
+            Owner::Put(put.position)
         }
+        Reading::Several => Owner::Unsure,
     }
+}
+
+/// The reading at an index.
+fn reading_at(readings: &[Reading], index: usize) -> Reading
+    requires { index < length readings.now }
+    ensures { slice_get readings.now index ≡ Some result }
+{
+    readings[index]
 }

@@ -5,7 +5,7 @@
 pub(crate) struct Owners {
     /// For each position that of the put that its hit has read, or else the position itself.
     pub(crate) owners: Vec<u32>,
-    /// The positions of the hits for which several puts stand and several are live.
+    /// The positions of the hits that can have read several puts.
     pub(crate) unsure: Vec<u32>,
 }
 

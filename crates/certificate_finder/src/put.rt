@@ -1,6 +1,6 @@
 // A put, and until when it can be read.
 ghost use Rattle.std.specs.Prelude.{◌≡◌, ◌<◌, ◌↔◌, IsTrue, Some, length, slice_get};
-ghost use Rattle.certificate_finder.specs.Putting.{value_rank as rank_of_value};
+ghost use Rattle.certificate_finder.specs.Putting.{expiry_at, value_rank as rank_of_value};
 
 use crate::step::Step;
 use crate::write::Write;
@@ -25,8 +25,7 @@ pub(crate) struct Put {
 }
 
 impl Put {
-    ghost use Rattle.certificate_finder.specs.Living.{lived as lived_put};
-    ghost use Rattle.certificate_finder.specs.Putting.{IsPut, put_rank};
+    ghost use Rattle.certificate_finder.specs.Putting.{IsPut, last_rank, put_rank};
 
     /// The put at this position, with the write that ends first of those behind it.
     pub(crate) fn of(position: u32, step: &Step, over: Option<Write>) -> Put
@@ -54,26 +53,18 @@ impl Put {
         }
     }
 
-    /// It under an index, as one that can be read until it expires.
-    pub(crate) fn lived(&self, index: u32) -> Put
-        ensures { result ≡ lived_put index self.now }
-    {
-        Put {
-            position: index,
-            key: self.key,
-            value: self.value,
-            start: self.start,
-            expires: self.expires,
-            dead: self.expires,
-            over: None,
-        }
-    }
-
     /// By keys, values and starts.
     pub(crate) fn rank(&self) -> u128
         ensures { result ≡ put_rank self.now }
     {
         value_rank(self.key, self.value, self.start)
+    }
+
+    /// By keys, values and the last stamps at which they can be read.
+    pub(crate) fn last(&self) -> u128
+        ensures { result ≡ last_rank self.now }
+    {
+        value_rank(self.key, self.value, self.dead)
     }
 
     /// Whether it puts what the call puts or reads.
@@ -97,4 +88,13 @@ pub(crate) fn put_at(puts: &[Put], index: usize) -> Put
     ensures { slice_get puts.now index ≡ Some result }
 {
     puts[index]
+}
+
+/// When the put at an index expires.
+pub(crate) fn expiry(puts: &[Put], index: u32) -> u64
+    requires { index < length puts.now }
+    ensures { result ≡ expiry_at puts.now index }
+{
+    let put = put_at(puts, index as usize);
+    put.expires
 }

@@ -25,7 +25,6 @@ pub(crate) struct Step {
 
 impl Step {
     ghost use Rattle.trace_file.specs.Lent.{call_shown};
-    ghost use Rattle.certificate_finder.specs.Living.{IsAsking};
     ghost use Rattle.certificate_finder.specs.Steps.{IsStep};
 
     /// The call with these numbers.
@@ -42,20 +41,6 @@ impl Step {
             start: call.start,
             end: call.end,
             time: call.act.time(),
-        }
-    }
-
-    /// It as it asks for puts that are live at its moment: it starts at the least expiry of such.
-    pub(crate) fn asking(&self) -> Step
-        ensures { IsAsking self.now result }
-    {
-        Step {
-            key: self.key,
-            value: self.value,
-            kind: self.kind,
-            start: self.time.saturating_add(1),
-            end: self.end,
-            time: self.time,
         }
     }
 }

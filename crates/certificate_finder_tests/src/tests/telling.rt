@@ -324,7 +324,7 @@ fn what_is_found_for_writes_that_are_crossed(rt: HostRuntime) -> Result<(), Fail
 
 #[test]
 fn what_is_found_where_values_expire(rt: HostRuntime) -> Result<(), Fail> {
-    let table: [(&[Row], Want); 8] = [
+    let table: [(&[Row], Want); 10] = [
         // Of two puts both had expired, one had, or none.
         (
             &[
@@ -386,6 +386,31 @@ fn what_is_found_where_values_expire(rt: HostRuntime) -> Result<(), Fail> {
                 (1, 4, 9, Did::Expiring(1, 5)),
                 (1, 4, 9, Did::Expiring(1, 9)),
                 (1, 5, 6, Did::HitAt(1, 6)),
+            ],
+            Want::Accepted,
+        ),
+        // Beside puts of another key and of another value: one that stands and is live, and two.
+        (
+            &[
+                (1, 0, 1, Did::Expiring(1, 9)),
+                (1, 2, 3, Did::Remove),
+                (1, 4, 5, Did::Expiring(1, 4)),
+                (1, 4, 9, Did::Expiring(1, 9)),
+                (2, 4, 9, Did::Expiring(1, 9)),
+                (1, 4, 9, Did::Expiring(2, 9)),
+                (1, 6, 7, Did::HitAt(1, 5)),
+            ],
+            Want::Accepted,
+        ),
+        (
+            &[
+                (1, 0, 1, Did::Expiring(1, 9)),
+                (1, 2, 3, Did::Remove),
+                (1, 4, 5, Did::Expiring(1, 8)),
+                (1, 4, 9, Did::Expiring(1, 9)),
+                (2, 4, 9, Did::Expiring(1, 9)),
+                (1, 4, 9, Did::Expiring(2, 9)),
+                (1, 6, 7, Did::HitAt(1, 5)),
             ],
             Want::Undecided,
         ),

@@ -1,0 +1,19 @@
+-- Which of some indexes are so.
+use Rattle.std.specs.Prelude.{◌≡◌, ◌≢◌, ℕ, ◌⊎◌}
+use Rattle.certificate_finder.specs.declared.reads.Reading.{Reading}
+use Rattle.certificate_finder.specs.declared.reads.Reading.TheVariants.{Nothing, One, Several}
+use Rattle.certificate_finder.specs.Reads.{HoldsTwice}
+
+-- no index is so, this one alone, or several are
+abbrev pub Says : (ℕ → Type 0) → Reading → Type 0
+Says P Nothing = (index : ℕ) → ¬ P index
+Says P (One index) = P index × ((other : ℕ) → P other → other ≡ index)
+Says P Several = HoldsTwice P
+
+-- what two readings of indexes say of all of them
+abbrev pub IsJoined : Reading → Reading → Reading → Type 0
+IsJoined Nothing other joined = joined ≡ other
+IsJoined (One one) Nothing joined = joined ≡ One one
+IsJoined (One one) (One other) joined = ((one ≡ other) × (joined ≡ One one)) ⊎ ((one ≢ other) × (joined ≡ Several))
+IsJoined (One one) Several joined = joined ≡ Several
+IsJoined Several other joined = joined ≡ Several
