@@ -92,34 +92,11 @@ const SECOND_IS_REFUSED: [Step; 4] = [
     Step::Read(1, 0),
 ];
 
-#[test]
-fn a_fuse_refuses_one_call(rt: HostRuntime) -> Result<(), Fail> {
-    let device = FuseDevice::one(two_pages(rt.alloc())?, 2);
-    assert_eq!(rt; strayed(device, &SECOND_IS_REFUSED), None);
-    Ok(())
-}
-
 const SECOND_IS_THE_LAST: [Step; 3] = [Step::Write(0, 7), Step::NoWrite(1, 8), Step::NoRead(0)];
-
-#[test]
-fn a_fuse_refuses_all_calls_from_one_on(rt: HostRuntime) -> Result<(), Fail> {
-    let device = FuseDevice::from(two_pages(rt.alloc())?, 2);
-    assert_eq!(rt; strayed(device, &SECOND_IS_THE_LAST), None);
-    Ok(())
-}
 
 const NONE_IS_REFUSED: [Step; 2] = [Step::Write(0, 7), Step::Read(0, 7)];
 
 const ALL_ARE_REFUSED: [Step; 2] = [Step::NoWrite(0, 7), Step::NoRead(0)];
-
-#[test]
-fn number_zero_stands_before_the_first_call(rt: HostRuntime) -> Result<(), Fail> {
-    let never = FuseDevice::one(two_pages(rt.alloc())?, 0);
-    assert_eq!(rt; strayed(never, &NONE_IS_REFUSED), None);
-    let always = FuseDevice::from(two_pages(rt.alloc())?, 0);
-    assert_eq!(rt; strayed(always, &ALL_ARE_REFUSED), None);
-    Ok(())
-}
 
 const THIRD_IS_MADE_AGAIN: [Step; 4] = [
     Step::Write(0, 7),
@@ -127,6 +104,27 @@ const THIRD_IS_MADE_AGAIN: [Step; 4] = [
     Step::NoRead(0),
     Step::Read(0, 7),
 ];
+
+// Which step of two pages strays where one call is refused, none where the number is 0.
+fn strayed_at_one(alloc: Global, number: u32, steps: &[Step]) -> Result<Option<usize>, Fail> {
+    Ok(strayed(FuseDevice::one(two_pages(alloc)?, number), steps))
+}
+
+// Which step strays where all calls from one on are refused.
+fn strayed_from(alloc: Global, number: u32, steps: &[Step]) -> Result<Option<usize>, Fail> {
+    Ok(strayed(FuseDevice::from(two_pages(alloc)?, number), steps))
+}
+
+/// Number 0 stands before the first call.
+#[test]
+fn a_fuse_refuses_by_number(rt: HostRuntime) -> Result<(), Fail> {
+    let alloc = rt.alloc();
+    assert_eq!(rt; strayed_at_one(alloc, 2, &SECOND_IS_REFUSED)?, None);
+    assert_eq!(rt; strayed_at_one(alloc, 0, &NONE_IS_REFUSED)?, None);
+    assert_eq!(rt; strayed_from(alloc, 2, &SECOND_IS_THE_LAST)?, None);
+    assert_eq!(rt; strayed_from(alloc, 0, &ALL_ARE_REFUSED)?, None);
+    Ok(())
+}
 
 /// A write or a read that was passed on twice would be the third call below too soon.
 #[test]
