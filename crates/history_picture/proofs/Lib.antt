@@ -1,5 +1,6 @@
 mod Choosing
 mod ExplainLaws
+mod Listing
 mod Marking
 mod Measuring
 mod Nearing

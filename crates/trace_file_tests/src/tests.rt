@@ -13,6 +13,7 @@ use trace_file::{
 };
 
 mod effects;
+mod rows;
 
 /// One put of `1` at `a`, from stamp 1 to stamp 3, by caller 0, and its certificate.
 const ONE_PUT: [u8; 40] = [
@@ -117,18 +118,25 @@ fn has_one_put(trace: &Trace) -> bool {
 }
 
 /// Whether the trace is that of `ONE_PUT`, and is written in the newer form.
-fn is_one_put(alloc: Global, trace: &Trace) -> Result<bool, Fail> {
-    let written = written(alloc, trace)?;
-    Ok(has_one_put(trace) && written.as_slice() == TIMED_PUT.as_slice())
+fn is_one_put(alloc: Global, trace: &Trace) -> bool {
+    match written(alloc, trace) {
+        Ok(written) => has_one_put(trace) && written.as_slice() == TIMED_PUT.as_slice(),
+        Err(_) => false,
+    }
+}
+
+/// Whether these bytes are read as that trace.
+fn are_one_put(alloc: Global, bytes: &[u8]) -> bool {
+    match trace_of(alloc, bytes) {
+        Ok(trace) => is_one_put(alloc, &trace),
+        Err(_) => false,
+    }
 }
 
 #[test]
-fn one_put_is_read_and_written_again(rt: HostRuntime) -> Result<(), Fail> {
-    for text in [ONE_PUT.as_slice(), TIMED_PUT.as_slice()] {
-        let trace = trace_of(rt.alloc(), text)?;
-        assert!(rt; is_one_put(rt.alloc(), &trace)?);
-    }
-    Ok(())
+fn one_put_is_read_and_written_again(rt: HostRuntime) {
+    assert!(rt; are_one_put(rt.alloc(), &ONE_PUT));
+    assert!(rt; are_one_put(rt.alloc(), &TIMED_PUT));
 }
 
 /// Whether a call has this caller, these stamps and this key.
@@ -155,54 +163,85 @@ fn are_each_kind(history: &History, expires: u64, moment: u64) -> bool {
         && matches!(missed.act, ActRef::Miss)
 }
 
+/// Whether these bytes are read as those calls.
+fn have_each_kind(alloc: Global, bytes: &[u8], expires: u64, moment: u64) -> bool {
+    match trace_of(alloc, bytes) {
+        Ok(trace) => are_each_kind(&trace.history, expires, moment),
+        Err(_) => false,
+    }
+}
+
 #[test]
 fn each_kind_is_read_and_written_again(rt: HostRuntime) -> Result<(), Fail> {
-    let trace = trace_of(rt.alloc(), &EACH_KIND)?;
-    assert!(rt; are_each_kind(&trace.history, u64::MAX, 0));
-    let timed = trace_of(rt.alloc(), &TIMED_KINDS)?;
-    assert!(rt; are_each_kind(&timed.history, 0x0102_0304_0506_0708, 0x090a_0b0c_0d0e_0f10));
+    assert!(rt; have_each_kind(rt.alloc(), &EACH_KIND, u64::MAX, 0));
+    assert!(rt;
+        have_each_kind(
+            rt.alloc(),
+            &TIMED_KINDS,
+            0x0102_0304_0506_0708,
+            0x090a_0b0c_0d0e_0f10
+        )
+    );
     assert_eq!(rt; come_back(rt.alloc(), &TIMED_KINDS)?, Some(4));
     Ok(())
 }
 
+/// The first length, if there is one, at which a trace that is cut there is not told to be.
+fn untold_cut(alloc: Global, whole: &[u8]) -> Option<usize> {
+    for len in 0..whole.len() {
+        let want = Some(TraceFault::Truncated { at: len as u64 });
+        if fault_of(alloc, &whole[..len]) != want {
+            return Some(len);
+        }
+    }
+    None
+}
+
 #[test]
 fn a_trace_cut_anywhere_is_truncated_there(rt: HostRuntime) {
-    for whole in [ONE_PUT.as_slice(), TIMED_PUT.as_slice()] {
-        for len in 0..whole.len() {
-            let want = Some(TraceFault::Truncated { at: len as u64 });
-            assert_eq!(rt; fault_of(rt.alloc(), &whole[..len]), want, "at {len}");
-        }
-        assert_eq!(rt; fault_of(rt.alloc(), whole), None);
+    let alloc = rt.alloc();
+    assert_eq!(rt; untold_cut(alloc, &ONE_PUT), None);
+    assert_eq!(rt; untold_cut(alloc, &TIMED_PUT), None);
+    assert!(rt; fault_of(alloc, &ONE_PUT).is_none() && fault_of(alloc, &TIMED_PUT).is_none());
+    assert!(rt; fault_of(alloc, &EMPTY).is_none());
+}
+
+/// A byte that is put at a place of `ONE_PUT`, and the fault that it gives.
+#[derive(Clone, Copy)]
+struct Changed(usize, u8, TraceFault);
+
+const FAULTS: [Changed; 16] = [
+    Changed(0, 0x4c, TraceFault::BadMagic { at: 0 }),
+    Changed(1, 0, TraceFault::BadMagic { at: 1 }),
+    Changed(2, 0, TraceFault::BadMagic { at: 2 }),
+    Changed(3, 0, TraceFault::BadMagic { at: 3 }),
+    Changed(4, 0, TraceFault::BadMagic { at: 4 }),
+    Changed(5, 0, TraceFault::BadMagic { at: 5 }),
+    Changed(6, 0x58, TraceFault::BadMagic { at: 6 }),
+    Changed(7, 0x39, TraceFault::BadMagic { at: 7 }),
+    Changed(7, 0x32, TraceFault::Truncated { at: 40 }),
+    Changed(8, 0x10, TraceFault::TooMany { at: 8 }),
+    Changed(12, 0, TraceFault::BadKind { at: 12 }),
+    Changed(12, 5, TraceFault::BadKind { at: 12 }),
+    Changed(31, 0, TraceFault::BadKey { at: 31 }),
+    Changed(33, 8, TraceFault::BadValue { at: 33 }),
+    Changed(12, 2, TraceFault::TrailingBytes { at: 37 }),
+    Changed(11, 2, TraceFault::BadKind { at: 36 }),
+];
+
+/// Whether a changed byte gives its fault.
+fn is_told(alloc: Global, changed: &Changed) -> bool {
+    let mut bytes = ONE_PUT;
+    if changed.0 < bytes.len() {
+        bytes[changed.0] = changed.1;
     }
-    assert_eq!(rt; fault_of(rt.alloc(), &EMPTY), None);
+    fault_of(alloc, &bytes) == Some(changed.2)
 }
 
 #[test]
 fn each_fault_has_its_offset(rt: HostRuntime) {
-    let faults = [
-        (0, 0x4c, TraceFault::BadMagic { at: 0 }),
-        (1, 0, TraceFault::BadMagic { at: 1 }),
-        (2, 0, TraceFault::BadMagic { at: 2 }),
-        (3, 0, TraceFault::BadMagic { at: 3 }),
-        (4, 0, TraceFault::BadMagic { at: 4 }),
-        (5, 0, TraceFault::BadMagic { at: 5 }),
-        (6, 0x58, TraceFault::BadMagic { at: 6 }),
-        (7, 0x39, TraceFault::BadMagic { at: 7 }),
-        (7, 0x32, TraceFault::Truncated { at: 40 }),
-        (8, 0x10, TraceFault::TooMany { at: 8 }),
-        (12, 0, TraceFault::BadKind { at: 12 }),
-        (12, 5, TraceFault::BadKind { at: 12 }),
-        (31, 0, TraceFault::BadKey { at: 31 }),
-        (33, 8, TraceFault::BadValue { at: 33 }),
-        (12, 2, TraceFault::TrailingBytes { at: 37 }),
-        (11, 2, TraceFault::BadKind { at: 36 }),
-    ];
-    for (at, byte, want) in faults {
-        let mut bytes = ONE_PUT;
-        if at < bytes.len() {
-            bytes[at] = byte;
-        }
-        assert_eq!(rt; fault_of(rt.alloc(), &bytes), Some(want), "{byte} at {at}");
+    for number in 0..FAULTS.len() {
+        assert!(rt; is_told(rt.alloc(), &FAULTS[number]), "fault {number}");
     }
 }
 
@@ -225,16 +264,21 @@ fn in_pieces(alloc: Global, bytes: &[u8], size: usize) -> Result<(u64, Trace), T
     Ok((fed, parts.finish()?))
 }
 
-#[test]
-fn pieces_give_what_the_whole_gives(rt: HostRuntime) -> Result<(), Fail> {
-    for size in 1..8usize {
-        let (fed, trace) = in_pieces(rt.alloc(), &TIMED_PUT, size)?;
-        assert!(rt;
-            fed == 48 && is_one_put(rt.alloc(), &trace)?,
-            "pieces of {size}"
-        );
+// Whether pieces of this size give the trace of one put.
+fn is_whole_in(alloc: Global, size: usize) -> bool
+    requires { 0 < size }
+{
+    match in_pieces(alloc, &TIMED_PUT, size) {
+        Ok((fed, trace)) => fed == 48 && is_one_put(alloc, &trace),
+        Err(_) => false,
     }
-    Ok(())
+}
+
+#[test]
+fn pieces_give_what_the_whole_gives(rt: HostRuntime) {
+    for size in 1..8usize {
+        assert!(rt; is_whole_in(rt.alloc(), size), "pieces of {size}");
+    }
 }
 
 // Whether a reader refuses a piece so, or takes it.
@@ -258,27 +302,33 @@ fn what_is_missing_is_told_at_the_end(rt: HostRuntime) {
     assert_eq!(rt; parts.finish().err(), Some(TraceFault::Truncated { at: 9 }));
 }
 
-#[test]
-fn a_failed_read_is_not_tried_again(rt: HostRuntime) {
-    for (most, fails_before, want) in [
-        (4096, 0, Some(TraceFault::ReadFault { at: 0 })),
-        (4096, 20, Some(TraceFault::ReadFault { at: 20 })),
-        (1, 40, Some(TraceFault::ReadFault { at: 40 })),
-        (1, usize::MAX, None),
-    ] {
-        let mut reader = Uneven {
-            bytes: ONE_PUT.as_slice(),
-            most,
-            fails_before,
-        };
-        let result = read_trace(rt.alloc(), &mut reader).err();
-        assert_eq!(rt; result, want, "before byte {fails_before}");
-    }
+// The fault of `ONE_PUT` where at most so many bytes are read at a time, and a read fails once before a byte.
+fn fault_before(alloc: Global, most: usize, fails_before: usize) -> Option<TraceFault> {
+    let mut reader = Uneven {
+        bytes: ONE_PUT.as_slice(),
+        most,
+        fails_before,
+    };
+    read_trace(alloc, &mut reader).err()
 }
 
-fn trace_of(alloc: Global, bytes: &[u8]) -> Result<Trace, Fail> {
+// Whether that fault is of the failed read, at that byte.
+fn fails_there(alloc: Global, most: usize, fails_before: usize) -> bool {
+    let at = fails_before as u64;
+    fault_before(alloc, most, fails_before) == Some(TraceFault::ReadFault { at })
+}
+
+#[test]
+fn a_failed_read_is_not_tried_again(rt: HostRuntime) {
+    let alloc = rt.alloc();
+    assert!(rt; fails_there(alloc, 4096, 0) && fails_there(alloc, 4096, 20));
+    assert!(rt; fails_there(alloc, 1, 40));
+    assert!(rt; fault_before(alloc, 1, usize::MAX).is_none());
+}
+
+fn trace_of(alloc: Global, bytes: &[u8]) -> Result<Trace, TraceFault> {
     let mut reader = bytes;
-    Ok(read_trace(alloc, &mut reader)?)
+    read_trace(alloc, &mut reader)
 }
 
 // Whether a trace is written, or why not, to a writer with room for so many bytes.
@@ -287,21 +337,20 @@ fn written_within(trace: &Trace, room: usize) -> Result<(), WriteTraceFault> {
     write_trace(&trace.history, &trace.certificate, &mut writer)
 }
 
-#[test]
-fn a_write_that_fails_is_a_write_fault(rt: HostRuntime) -> Result<(), Fail> {
-    let trace = trace_of(rt.alloc(), &ONE_PUT)?;
+// Whether a trace of 48 bytes is written where there is room, and is a write fault where there is too little.
+fn needs_room(trace: &Trace) -> bool {
     let fault = Err(WriteTraceFault::WriteFault);
-    assert_eq!(rt; written_within(&trace, 0), fault);
-    assert_eq!(rt; written_within(&trace, 47), fault);
-    assert_eq!(rt; written_within(&trace, 49), Ok(()));
-    Ok(())
+    written_within(trace, 0) == fault
+        && written_within(trace, 47) == fault
+        && written_within(trace, 49).is_ok()
 }
 
 #[test]
-fn a_certificate_of_another_length_is_not_written(rt: HostRuntime) -> Result<(), Fail> {
+fn no_room_and_a_certificate_of_another_length_are_told(rt: HostRuntime) -> Result<(), Fail> {
     let mut trace = trace_of(rt.alloc(), &ONE_PUT)?;
+    assert!(rt; needs_room(&trace));
     trace.certificate.push(0)?;
-    assert_eq!(rt; written_within(&trace, 0), Err(WriteTraceFault::WrongCount));
+    assert!(rt; written_within(&trace, 0) == Err(WriteTraceFault::WrongCount));
     Ok(())
 }
 
@@ -351,7 +400,7 @@ fn large_calls(alloc: Global, count: u32, kinds: u32) -> Result<Trace, Fail>
     })
 }
 
-fn written(alloc: Global, trace: &Trace) -> Result<Vec<u8>, Fail> {
+fn written(alloc: Global, trace: &Trace) -> Result<Vec<u8>, WriteTraceFault> {
     let mut written = Vec::new(alloc);
     write_trace(&trace.history, &trace.certificate, &mut written)?;
     Ok(written)

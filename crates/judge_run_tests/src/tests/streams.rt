@@ -49,25 +49,20 @@ fn fault_of_text<R: Read, W: Write>(
     answer_judge(alloc, known, true, reader, writer).err()
 }
 
-/// A read that failed is not tried again, and nothing is told.
-#[test]
-fn a_text_that_is_not_read_is_not_told(rt: HostRuntime) {
-    let mut told: Vec<u8> = Vec::new(rt.alloc());
+/// Whether a text that is not read is a fault, and nothing is told.
+fn is_unread_text_told(alloc: Global) -> bool {
+    let mut told: Vec<u8> = Vec::new(alloc);
     let mut reader = unasked();
-    let fault = fault_of_text(rt.alloc(), &mut reader, &mut told);
-    assert!(rt; fault == Some(TellFault::ReadFault));
-    assert_eq!(rt; reader.calls, 1);
-    assert!(rt; told.is_empty());
+    let fault = fault_of_text(alloc, &mut reader, &mut told);
+    fault == Some(TellFault::ReadFault) && reader.calls == 1 && told.is_empty()
 }
 
-/// A write that failed is not tried again.
-#[test]
-fn a_verdict_that_is_not_written_is_a_fault(rt: HostRuntime) {
+/// Whether a verdict that is not written is a fault.
+fn is_unwritten_verdict_told(alloc: Global) -> bool {
     let mut writer = unasked();
     let mut reader = b"a 1 4 put k v\n".as_slice();
-    let fault = fault_of_text(rt.alloc(), &mut reader, &mut writer);
-    assert!(rt; fault == Some(TellFault::WriteFault));
-    assert_eq!(rt; writer.calls, 2);
+    let fault = fault_of_text(alloc, &mut reader, &mut writer);
+    fault == Some(TellFault::WriteFault) && writer.calls == 2
 }
 
 /// Whether a trace was told to be bad.
@@ -78,13 +73,21 @@ fn is_bad(outcome: &Result<Outcome, TellFault>) -> bool {
     }
 }
 
-#[test]
-fn a_trace_that_is_not_read_is_a_bad_one(rt: HostRuntime) {
+/// Whether a trace that is not read is a bad one.
+fn is_unread_trace_bad(alloc: Global) -> bool {
     let known: BuildHasherDefault<FoldHasher> = BuildHasherDefault::new();
-    let mut told: Vec<u8> = Vec::new(rt.alloc());
+    let mut told: Vec<u8> = Vec::new(alloc);
     let mut reader = unasked();
-    let outcome = answer_check(rt.alloc(), known, true, &mut reader, &mut told);
-    assert!(rt; is_bad(&outcome));
-    assert_eq!(rt; reader.calls, 1);
-    assert_eq!(rt; told.as_slice(), b"bad trace ReadFault at 0\n".as_slice());
+    let outcome = answer_check(alloc, known, true, &mut reader, &mut told);
+    is_bad(&outcome)
+        && reader.calls == 1
+        && told.as_slice() == b"bad trace ReadFault at 0\n".as_slice()
+}
+
+/// Neither a read nor a write that failed is tried again.
+#[test]
+fn streams_that_fail_are_told(rt: HostRuntime) {
+    assert!(rt; is_unread_text_told(rt.alloc()));
+    assert!(rt; is_unwritten_verdict_told(rt.alloc()));
+    assert!(rt; is_unread_trace_bad(rt.alloc()));
 }

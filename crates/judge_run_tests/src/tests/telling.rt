@@ -189,11 +189,6 @@ fn is_trace_accepted(alloc: Global) -> bool {
     }
 }
 
-#[test]
-fn the_trace_of_an_accepted_text_is_accepted(rt: HostRuntime) {
-    assert!(rt; is_trace_accepted(rt.alloc()));
-}
-
 /// What is said of a trace whose certificate puts a hit before its put: positions stand in the place of lines, numbers in that of
 /// names.
 const TURNED: &str = "rejected WrongHit place 0
@@ -222,11 +217,6 @@ fn is_turned_explained(alloc: Global) -> bool {
     }
 }
 
-#[test]
-fn a_rejected_trace_is_explained(rt: HostRuntime) {
-    assert!(rt; is_turned_explained(rt.alloc()));
-}
-
 /// Whether a trace is shown so, whole.
 fn shows(alloc: Global, bytes: &[u8], only: Option<&[u8]>, text: &str) -> bool {
     let mut told: Vec<u8> = Vec::new(alloc);
@@ -249,20 +239,23 @@ fn is_shown(alloc: Global) -> bool {
     }
 }
 
-#[test]
-fn a_trace_is_shown_as_text(rt: HostRuntime) {
-    assert!(rt; is_shown(rt.alloc()));
-}
-
 /// The line of what is no trace.
 const NO_TRACE: &str = "bad trace BadMagic at 7\n";
 
-#[test]
-fn what_is_no_trace_is_told(rt: HostRuntime) {
-    let mut told: Vec<u8> = Vec::new(rt.alloc());
+/// Whether what is no trace is told to be none, where it is to be shown and where it is checked.
+fn is_no_trace_told(alloc: Global) -> bool {
+    let mut told: Vec<u8> = Vec::new(alloc);
     let mut reader = b"KGTRACE3".as_slice();
-    let shown = answer_show(rt.alloc(), None, &mut reader, &mut told);
-    assert!(rt; shown == Ok(Shown::BadTrace));
-    assert_eq!(rt; told.as_slice(), NO_TRACE.as_bytes());
-    assert!(rt; is_checked(rt.alloc(), b"KGTRACE3", NO_TRACE, JudgeEnd::BadInput));
+    let shown = answer_show(alloc, None, &mut reader, &mut told);
+    shown == Ok(Shown::BadTrace)
+        && told.as_slice() == NO_TRACE.as_bytes()
+        && is_checked(alloc, b"KGTRACE3", NO_TRACE, JudgeEnd::BadInput)
+}
+
+#[test]
+fn traces_are_checked_explained_and_shown(rt: HostRuntime) {
+    assert!(rt; is_trace_accepted(rt.alloc()));
+    assert!(rt; is_turned_explained(rt.alloc()));
+    assert!(rt; is_shown(rt.alloc()));
+    assert!(rt; is_no_trace_told(rt.alloc()));
 }

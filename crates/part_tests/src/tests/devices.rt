@@ -69,10 +69,6 @@ fn strayed<D: PageDevice<256>>(mut device: D, steps: &[Step]) -> Option<usize> {
     None
 }
 
-fn two_pages(alloc: Global) -> Result<MemoryDevice<256>, Fail> {
-    Ok(MemoryDevice::new(alloc, 2)?)
-}
-
 #[test]
 fn a_page_is_read_back_through_the_trait(rt: HostRuntime) -> Result<(), Fail> {
     let mut device = MemoryDevice::<256>::new(rt.alloc(), 2)?;
@@ -92,34 +88,11 @@ const SECOND_IS_REFUSED: [Step; 4] = [
     Step::Read(1, 0),
 ];
 
-#[test]
-fn a_fuse_refuses_one_call(rt: HostRuntime) -> Result<(), Fail> {
-    let device = FuseDevice::one(two_pages(rt.alloc())?, 2);
-    assert_eq!(rt; strayed(device, &SECOND_IS_REFUSED), None);
-    Ok(())
-}
-
 const SECOND_IS_THE_LAST: [Step; 3] = [Step::Write(0, 7), Step::NoWrite(1, 8), Step::NoRead(0)];
-
-#[test]
-fn a_fuse_refuses_all_calls_from_one_on(rt: HostRuntime) -> Result<(), Fail> {
-    let device = FuseDevice::from(two_pages(rt.alloc())?, 2);
-    assert_eq!(rt; strayed(device, &SECOND_IS_THE_LAST), None);
-    Ok(())
-}
 
 const NONE_IS_REFUSED: [Step; 2] = [Step::Write(0, 7), Step::Read(0, 7)];
 
 const ALL_ARE_REFUSED: [Step; 2] = [Step::NoWrite(0, 7), Step::NoRead(0)];
-
-#[test]
-fn number_zero_stands_before_the_first_call(rt: HostRuntime) -> Result<(), Fail> {
-    let never = FuseDevice::one(two_pages(rt.alloc())?, 0);
-    assert_eq!(rt; strayed(never, &NONE_IS_REFUSED), None);
-    let always = FuseDevice::from(two_pages(rt.alloc())?, 0);
-    assert_eq!(rt; strayed(always, &ALL_ARE_REFUSED), None);
-    Ok(())
-}
 
 const THIRD_IS_MADE_AGAIN: [Step; 4] = [
     Step::Write(0, 7),
@@ -128,11 +101,45 @@ const THIRD_IS_MADE_AGAIN: [Step; 4] = [
     Step::Read(0, 7),
 ];
 
+// Whether two pages give what is written where one call is refused, none where the number is 0.
+fn gives_at_one(alloc: Global, number: u32, steps: &[Step]) -> bool {
+    match MemoryDevice::<256>::new(alloc, 2) {
+        Ok(device) => strayed(FuseDevice::one(device, number), steps).is_none(),
+        Err(_) => false,
+    }
+}
+
+// Whether they do where all calls from one on are refused.
+fn gives_from(alloc: Global, number: u32, steps: &[Step]) -> bool {
+    match MemoryDevice::<256>::new(alloc, 2) {
+        Ok(device) => strayed(FuseDevice::from(device, number), steps).is_none(),
+        Err(_) => false,
+    }
+}
+
+/// Number 0 stands before the first call.
+#[test]
+fn a_fuse_refuses_by_number(rt: HostRuntime) {
+    let alloc = rt.alloc();
+    assert!(rt; gives_at_one(alloc, 2, &SECOND_IS_REFUSED));
+    assert!(rt; gives_at_one(alloc, 0, &NONE_IS_REFUSED));
+    assert!(rt; gives_from(alloc, 2, &SECOND_IS_THE_LAST));
+    assert!(rt; gives_from(alloc, 0, &ALL_ARE_REFUSED));
+}
+
+// Whether two pages give what is written through a fuse that refuses no call, over one that refuses the third.
+fn gives_over_a_fuse(alloc: Global, steps: &[Step]) -> bool {
+    match MemoryDevice::<256>::new(alloc, 2) {
+        Ok(device) => {
+            let below = FuseDevice::one(device, 3);
+            strayed(FuseDevice::one(below, 0), steps).is_none()
+        }
+        Err(_) => false,
+    }
+}
+
 /// A write or a read that was passed on twice would be the third call below too soon.
 #[test]
-fn a_fuse_over_a_fuse_passes_each_call_on_once(rt: HostRuntime) -> Result<(), Fail> {
-    let below = FuseDevice::one(two_pages(rt.alloc())?, 3);
-    let device = FuseDevice::one(below, 0);
-    assert_eq!(rt; strayed(device, &THIRD_IS_MADE_AGAIN), None);
-    Ok(())
+fn a_fuse_over_a_fuse_passes_each_call_on_once(rt: HostRuntime) {
+    assert!(rt; gives_over_a_fuse(rt.alloc(), &THIRD_IS_MADE_AGAIN));
 }

@@ -223,24 +223,12 @@ const OF_TWO: [Step; 12] = [
     Step::Looks(&[Look::Len(0, true)]),
 ];
 
-#[test]
-fn entries_stand_newest_first_and_are_dropped_by_kind(rt: HostRuntime) -> Result<(), Fail> {
-    assert_eq!(rt; run(rt.alloc(), 3, &OF_TWO)?, None);
-    Ok(())
-}
-
 const WITHOUT_A_PAGE: [Step; 4] = [
     Step::Add(OLDER, true),
     Step::Add(NEWER, true),
     Step::Drop(Which::OnPage(257, 1)),
     Step::Looks(&[Look::Len(1, true), Look::Oldest(Some(NEWER))]),
 ];
-
-#[test]
-fn a_page_is_dropped(rt: HostRuntime) -> Result<(), Fail> {
-    assert_eq!(rt; run(rt.alloc(), 3, &WITHOUT_A_PAGE)?, None);
-    Ok(())
-}
 
 // Room for three entries, of which two are of set 2 and one, the second, is of set 3.
 const OF_TWO_SETS: [Step; 4] = [
@@ -254,12 +242,6 @@ const OF_TWO_SETS: [Step; 4] = [
         Look::Walk(1, &[]),
     ]),
 ];
-
-#[test]
-fn a_walk_gives_the_entries_of_one_set(rt: HostRuntime) -> Result<(), Fail> {
-    assert_eq!(rt; run(rt.alloc(), 3, &OF_TWO_SETS)?, None);
-    Ok(())
-}
 
 const OLDEST: Option<Seen> = Some(Seen(2, 7, 5, 1, 4, 6));
 
@@ -310,12 +292,6 @@ const OF_TWO_SEGMENTS: [Step; 8] = [
     Step::Looks(&PASSED_OVER_IN_THE_NEXT),
 ];
 
-#[test]
-fn some_sets_are_passed_over(rt: HostRuntime) -> Result<(), Fail> {
-    assert_eq!(rt; run(rt.alloc(), 8, &OF_TWO_SEGMENTS)?, None);
-    Ok(())
-}
-
 // The widest numbers that an entry may have.
 const WIDEST: Seen = Seen(65535, 65535, 257, 63, 63, 7);
 
@@ -347,12 +323,6 @@ const OF_ONE: [Step; 6] = [
     Step::Looks(&[Look::Len(1, false), Look::Find(65535, 65535, 0, LOW)]),
 ];
 
-#[test]
-fn the_entry_past_the_limit_is_refused(rt: HostRuntime) -> Result<(), Fail> {
-    assert_eq!(rt; run(rt.alloc(), 1, &OF_ONE)?, None);
-    Ok(())
-}
-
 const LOWERED_TO_0: [Step; 6] = [
     Step::Add(Seen(65535, 65535, 257, 63, 63, 1), true),
     Step::Lower(Which::At(OF_WIDEST)),
@@ -365,8 +335,29 @@ const LOWERED_TO_0: [Step; 6] = [
     Step::Looks(&EMPTIED),
 ];
 
+/// The room of an index, and its steps.
+#[derive(Clone, Copy)]
+struct Case(u8, &'static [Step]);
+
+const CASES: [Case; 6] = [
+    // entries stand newest first and are dropped by kind
+    Case(3, &OF_TWO),
+    // a page is dropped
+    Case(3, &WITHOUT_A_PAGE),
+    // a walk gives the entries of one set
+    Case(3, &OF_TWO_SETS),
+    // some sets are passed over
+    Case(8, &OF_TWO_SEGMENTS),
+    // the entry past the limit is refused
+    Case(1, &OF_ONE),
+    // the widest entry is lowered to 0 and dropped
+    Case(1, &LOWERED_TO_0),
+];
+
 #[test]
-fn the_widest_entry_is_lowered_to_0_and_dropped(rt: HostRuntime) -> Result<(), Fail> {
-    assert_eq!(rt; run(rt.alloc(), 1, &LOWERED_TO_0)?, None);
+fn each_step_gives_what_is_written(rt: HostRuntime) -> Result<(), Fail> {
+    for case in &CASES {
+        assert_eq!(rt; run(rt.alloc(), u32::from(case.0), case.1)?, None);
+    }
     Ok(())
 }

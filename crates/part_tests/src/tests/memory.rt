@@ -12,10 +12,17 @@ use std::test::Fail;
 enum Step {
     /// A key, its value, and the pair that is pushed out.
     Put(&'static [u8], &'static [u8], Option<(&'static [u8], &'static [u8])>),
-    Get(&'static [u8], Option<&'static [u8]>),
-    Peek(&'static [u8], Option<&'static [u8]>),
-    Remove(&'static [u8], Option<&'static [u8]>),
+    /// What a call with a key gives.
+    Ask(Call, &'static [u8], Option<&'static [u8]>),
     Len(usize),
+}
+
+/// A call with a key.
+#[derive(Clone, Copy)]
+enum Call {
+    Get,
+    Peek,
+    Remove,
 }
 
 /// When each value of these tests expires. A memory keeps it, and does not look at it.
@@ -80,6 +87,14 @@ fn put(
     }
 }
 
+fn tells(memory: &mut MemoryCache, call: Call, key: &Key, value: Option<&[u8]>) -> bool {
+    match call {
+        Call::Get => is_value(memory.get(key), value),
+        Call::Peek => is_value(memory.peek(key), value),
+        Call::Remove => is_taken(memory.remove(key), value),
+    }
+}
+
 fn gives(
     rt: &impl Abort,
     alloc: Global,
@@ -88,9 +103,10 @@ fn gives(
 ) -> Result<bool, Fail> {
     match step {
         Step::Put(key, value, out) => Ok(is_out(put(rt, alloc, memory, key, value)?, *out)),
-        Step::Get(key, value) => Ok(is_value(memory.get(&Key::new(alloc, key)?), *value)),
-        Step::Peek(key, value) => Ok(is_value(memory.peek(&Key::new(alloc, key)?), *value)),
-        Step::Remove(key, value) => Ok(is_taken(memory.remove(&Key::new(alloc, key)?), *value)),
+        Step::Ask(call, key, value) => {
+            let key = Key::new(alloc, key)?;
+            Ok(tells(memory, *call, &key, *value))
+        }
         Step::Len(len) => Ok(memory.len() == *len && memory.is_empty() == (*len == 0)),
     }
 }
@@ -118,15 +134,15 @@ const OF_TWO: [Step; 13] = [
     Step::Put(b"a", b"1", None),
     Step::Len(1),
     Step::Put(b"b", b"2", None),
-    Step::Get(b"a", Some(b"1")),
+    Step::Ask(Call::Get, b"a", Some(b"1")),
     Step::Put(b"c", b"3", Some((b"b", b"2"))),
-    Step::Peek(b"a", Some(b"1")),
+    Step::Ask(Call::Peek, b"a", Some(b"1")),
     Step::Put(b"d", b"4", Some((b"a", b"1"))),
     Step::Len(2),
-    Step::Peek(b"a", None),
-    Step::Get(b"a", None),
-    Step::Peek(b"c", Some(b"3")),
-    Step::Peek(b"d", Some(b"4")),
+    Step::Ask(Call::Peek, b"a", None),
+    Step::Ask(Call::Get, b"a", None),
+    Step::Ask(Call::Peek, b"c", Some(b"3")),
+    Step::Ask(Call::Peek, b"d", Some(b"4")),
 ];
 
 #[test]
@@ -140,9 +156,9 @@ const OF_ONE: [Step; 8] = [
     Step::Put(b"a", b"", None),
     Step::Len(1),
     Step::Put(b"b", b"2", Some((b"a", b""))),
-    Step::Remove(b"a", None),
-    Step::Remove(b"b", Some(b"2")),
-    Step::Remove(b"b", None),
+    Step::Ask(Call::Remove, b"a", None),
+    Step::Ask(Call::Remove, b"b", Some(b"2")),
+    Step::Ask(Call::Remove, b"b", None),
     Step::Len(0),
 ];
 

@@ -124,31 +124,74 @@ fn are_ages(job: &Job, ages: &[u8]) -> bool {
     true
 }
 
-#[test]
-fn fresh_items_are_kept_first(rt: HostRuntime) -> Result<(), Fail> {
-    let job = job(rt.alloc(), &FIVE)?;
-    assert_eq!(rt; job.items.len(), 5);
-    assert!(rt; !job.items.is_empty());
-    assert!(rt; job.items.at(4).fresh);
-    let plan = through_the_bound(&Fifo, rt.alloc(), &job)?;
-    assert!(rt; is_plan(&plan, &[(3, 6), (4, 2), (0, 3), (1, 5)]));
-    Ok(())
+/// How a plan is asked for.
+#[derive(Clone, Copy)]
+enum By {
+    Fifo,
+    FifoThroughTheBound,
+    Rriparoo,
+    RriparooThroughTheBound,
+}
+
+fn planned(alloc: Global, by: By, job: &Job) -> Result<Plan, AllocError> {
+    match by {
+        By::Fifo => Fifo.choose(alloc, job),
+        By::FifoThroughTheBound => through_the_bound(&Fifo, alloc, job),
+        By::Rriparoo => Rriparoo.choose(alloc, job),
+        By::RriparooThroughTheBound => through_the_bound(&Rriparoo, alloc, job),
+    }
+}
+
+/// Items, the ages of the first of them, how they are planned, and which items the plan keeps with which predictions.
+#[derive(Clone, Copy)]
+struct Case(&'static [Row], &'static [u8], By, &'static [(usize, u8)]);
+
+const CASES: [Case; 4] = [
+    // fresh items are kept first
+    Case(
+        &FIVE,
+        &[],
+        By::FifoThroughTheBound,
+        &[(3, 6), (4, 2), (0, 3), (1, 5)],
+    ),
+    // a smaller item is kept behind one that does not fit
+    Case(&SMALLER_BEHIND, &[], By::Fifo, &[(0, 3), (2, 3)]),
+    // the farthest item is left out
+    Case(
+        &FIVE,
+        &[0, 7, 6, 6],
+        By::RriparooThroughTheBound,
+        &[(0, 0), (4, 2), (2, 6), (3, 6)],
+    ),
+    // items age where all fit
+    Case(&ALL_FIT, &[5, 7], By::Rriparoo, &[(0, 5), (1, 7)]),
+];
+
+/// Whether the items of a job are these.
+fn are_items(job: &Job, rows: &[Row]) -> bool {
+    if job.items.len() != rows.len() || job.items.is_empty() {
+        return false;
+    }
+    for index in 0..rows.len() {
+        if job.items.at(index).fresh != rows[index].3 {
+            return false;
+        }
+    }
+    true
+}
+
+/// Whether items have their ages and are planned so.
+fn is_met(alloc: Global, case: &Case) -> Result<bool, Fail> {
+    let job = job(alloc, case.0)?;
+    let plan = planned(alloc, case.2, &job)?;
+    Ok(are_items(&job, case.0) && are_ages(&job, case.1) && is_plan(&plan, case.3))
 }
 
 #[test]
-fn a_smaller_item_is_kept_behind_one_that_does_not_fit(rt: HostRuntime) -> Result<(), Fail> {
-    let job = job(rt.alloc(), &SMALLER_BEHIND)?;
-    let plan = Fifo.choose(rt.alloc(), &job)?;
-    assert!(rt; is_plan(&plan, &[(0, 3), (2, 3)]));
-    Ok(())
-}
-
-#[test]
-fn the_farthest_item_is_left_out(rt: HostRuntime) -> Result<(), Fail> {
-    let job = job(rt.alloc(), &FIVE)?;
-    assert!(rt; are_ages(&job, &[0, 7, 6, 6]));
-    let plan = through_the_bound(&Rriparoo, rt.alloc(), &job)?;
-    assert!(rt; is_plan(&plan, &[(0, 0), (4, 2), (2, 6), (3, 6)]));
+fn items_are_planned_as_is_written(rt: HostRuntime) -> Result<(), Fail> {
+    for case in &CASES {
+        assert!(rt; is_met(rt.alloc(), case)?);
+    }
     Ok(())
 }
 
@@ -156,14 +199,6 @@ fn the_farthest_item_is_left_out(rt: HostRuntime) -> Result<(), Fail> {
 fn promoted_and_fresh_items_age_no_other(rt: HostRuntime) -> Result<(), Fail> {
     let job = job(rt.alloc(), &PROMOTED_FROM_AFAR)?;
     assert!(rt; are_ages(&job, &[0, 7, 5]));
-    Ok(())
-}
-
-#[test]
-fn items_age_where_all_fit(rt: HostRuntime) -> Result<(), Fail> {
-    let job = job(rt.alloc(), &ALL_FIT)?;
-    let plan = Rriparoo.choose(rt.alloc(), &job)?;
-    assert!(rt; is_plan(&plan, &[(0, 5), (1, 7)]));
     Ok(())
 }
 

@@ -70,24 +70,49 @@ impl Write for CountedWrites {
     }
 }
 
-// Whether a reader of these bytes whose read of this number fails is called so often, for 4,096 bytes each time, and this
-// is the fault.
-fn is_read(
-    alloc: Global,
-    rest: &[u8],
-    fails_at: u32,
-    calls: u32,
-    want: Option<TraceFault>,
-) -> bool {
+/// What is read, the long trace where nothing is named, the number of the read that fails, how often the reader is called, and the
+/// fault.
+#[derive(Clone, Copy)]
+struct Reads(Option<&'static [u8]>, u32, u32, Option<TraceFault>);
+
+const READS: [Reads; 9] = [
+    Reads(None, 0, 59, None),
+    Reads(None, 1, 1, Some(TraceFault::ReadFault { at: 0 })),
+    Reads(None, 30, 30, Some(TraceFault::ReadFault { at: 118_784 })),
+    Reads(None, 59, 59, Some(TraceFault::ReadFault { at: 233_712 })),
+    Reads(Some(&MOST), 0, 2, Some(TraceFault::Truncated { at: 12 })),
+    Reads(Some(&MOST), 2, 2, Some(TraceFault::ReadFault { at: 12 })),
+    Reads(
+        Some(b"KGTRACE9"),
+        0,
+        1,
+        Some(TraceFault::BadMagic { at: 7 }),
+    ),
+    Reads(
+        Some(b"KGTRACE9"),
+        2,
+        1,
+        Some(TraceFault::BadMagic { at: 7 }),
+    ),
+    Reads(
+        Some(b"KGTRACE1\x00\x00\x00\x00\x00"),
+        2,
+        1,
+        Some(TraceFault::TrailingBytes { at: 12 }),
+    ),
+];
+
+// Whether a reader is called so, for 4,096 bytes each time, and this is the fault.
+fn is_read(alloc: Global, long: &[u8], row: &Reads) -> bool {
     let mut reader = CountedReads {
-        rest,
-        fails_at,
+        rest: row.0.unwrap_or(long),
+        fails_at: row.1,
         calls: 0,
         least: usize::MAX,
         most: 0,
     };
     let fault = read_trace(alloc, &mut reader).err();
-    fault == want && (reader.calls, reader.least, reader.most) == (calls, 4096, 4096)
+    fault == row.3 && (reader.calls, reader.least, reader.most) == (row.2, 4096, 4096)
 }
 
 #[test]
@@ -97,27 +122,8 @@ fn a_piece_is_read_at_a_time_and_no_read_follows_a_failed_one_or_a_fault(
     let trace = large_calls(rt.alloc(), CALLS, 1)?;
     let long = written(rt.alloc(), &trace)?;
     assert_eq!(rt; long.len(), LONG);
-    let table: [(&[u8], u32, u32, Option<TraceFault>); 9] = [
-        (&long, 0, 59, None),
-        (&long, 1, 1, Some(TraceFault::ReadFault { at: 0 })),
-        (&long, 30, 30, Some(TraceFault::ReadFault { at: 118_784 })),
-        (&long, 59, 59, Some(TraceFault::ReadFault { at: 233_712 })),
-        (&MOST, 0, 2, Some(TraceFault::Truncated { at: 12 })),
-        (&MOST, 2, 2, Some(TraceFault::ReadFault { at: 12 })),
-        (b"KGTRACE9", 0, 1, Some(TraceFault::BadMagic { at: 7 })),
-        (b"KGTRACE9", 2, 1, Some(TraceFault::BadMagic { at: 7 })),
-        (
-            b"KGTRACE1\x00\x00\x00\x00\x00",
-            2,
-            1,
-            Some(TraceFault::TrailingBytes { at: 12 }),
-        ),
-    ];
-    for (rest, fails_at, calls, want) in table {
-        assert!(rt;
-            is_read(rt.alloc(), rest, fails_at, calls, want),
-            "where read {fails_at} fails"
-        );
+    for number in 0..READS.len() {
+        assert!(rt; is_read(rt.alloc(), &long, &READS[number]), "row {number}");
     }
     Ok(())
 }

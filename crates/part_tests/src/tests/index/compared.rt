@@ -214,14 +214,23 @@ fn agree_on_segment(index: &LogIndex, plain: &PlainIndex, segment: u16, sets: &[
         && index.oldest_but(segment, sets) == plain.oldest_but(segment, sets)
 }
 
+// Whether both give the same answers behind a step.
+fn step_agrees(index: &mut LogIndex, plain: &mut PlainIndex, step: Step) -> Result<bool, Fail>
+    requires { index.old.sets ≡ 256 }
+    ensures { index.new.sets ≡ 256 }
+{
+    let both = step_both(index, plain, step)?;
+    Ok(both && agree(index, plain))
+}
+
 // Whether all steps leave both with the same answers, with room for so many entries.
 fn all_agree(alloc: Global, limit: u32) -> Result<bool, Fail>
     requires { limit < 1000 }
 {
     let mut index = LogIndex::open(alloc, 256, limit)?;
     let mut plain = PlainIndex::open(alloc, limit);
-    for step in STEPS {
-        if !step_both(&mut index, &mut plain, step)? || !agree(&index, &plain) {
+    for step in &STEPS {
+        if !step_agrees(&mut index, &mut plain, *step)? {
             return Ok(false);
         }
     }
