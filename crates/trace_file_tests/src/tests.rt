@@ -13,7 +13,6 @@ use trace_file::{
 };
 
 mod effects;
-mod rows;
 
 /// One put of `1` at `a`, from stamp 1 to stamp 3, by caller 0, and its certificate.
 const ONE_PUT: [u8; 40] = [
