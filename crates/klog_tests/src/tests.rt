@@ -42,14 +42,38 @@ const ONE_SET: Config = Config {
     admit: 65536,
 };
 
-// The pages of a set and of two segments.
-fn device(alloc: Global) -> Result<MemoryDevice<256>, AllocError> {
-    MemoryDevice::new(alloc, 3)
+/// Which call of a device is refused, alone or with all later ones: of number 0 alone none, and for good all.
+#[derive(Clone, Copy)]
+struct Refused {
+    call: u32,
+    for_good: bool,
 }
 
-// A device that refuses each call.
-fn refusing(alloc: Global) -> Result<Fused, AllocError> {
-    Ok(FuseDevice::from(device(alloc)?, 1))
+const NONE_REFUSED: Refused = Refused {
+    call: 0,
+    for_good: false,
+};
+
+const ALL_REFUSED: Refused = Refused {
+    call: 0,
+    for_good: true,
+};
+
+// The pages of the sets and of the segments.
+fn pages_of(config: &Config) -> u32 {
+    config
+        .sets
+        .wrapping_add(config.segments.wrapping_mul(config.segment_pages))
+}
+
+// A device that refuses these calls.
+fn device(alloc: Global, config: &Config, refused: Refused) -> Result<Fused, AllocError> {
+    let pages = MemoryDevice::new(alloc, pages_of(config))?;
+    Ok(if refused.for_good {
+        FuseDevice::from(pages, refused.call)
+    } else {
+        FuseDevice::one(pages, refused.call)
+    })
 }
 
 fn log<D: PageDevice<PAGE>, const PAGE: usize>(
@@ -66,22 +90,6 @@ fn log<D: PageDevice<PAGE>, const PAGE: usize>(
     }
 }
 
-// The same, tried once more where the first opening lacks memory.
-fn log_of<D: PageDevice<PAGE>, const PAGE: usize>(
-    alloc: Global,
-    config: Config,
-    first: D,
-    second: D,
-) -> Result<Owner<D, PAGE>, Fail>
-    requires { IsPageSize PAGE }
-{
-    match Owner::open(alloc, &layout(&config)?, first) {
-        Ok(Some(owner)) => Ok(owner),
-        Ok(None) => Err("a device that is large enough".into()),
-        Err(_) => log(alloc, config, second),
-    }
-}
-
 fn layout(config: &Config) -> Result<Layout, Fail> {
     match config.check() {
         Ok(layout) => Ok(layout),
@@ -89,26 +97,55 @@ fn layout(config: &Config) -> Result<Layout, Fail> {
     }
 }
 
-// A device that refuses no call.
-fn sound(alloc: Global) -> Result<Fused, AllocError> {
-    Ok(FuseDevice::one(device(alloc)?, 0))
+// A log over a device that refuses these calls; an opening that lacks memory is tried once more. It alone opens a log of this
+// kind: who calls it is cheap to prove.
+fn refusing_log(
+    alloc: Global,
+    config: &Config,
+    refused: Refused,
+) -> Result<Owner<Fused, 256>, Fail> {
+    match Owner::open(alloc, &layout(config)?, device(alloc, config, refused)?) {
+        Ok(Some(owner)) => Ok(owner),
+        Ok(None) => Err("a device that is large enough".into()),
+        Err(_) => log(alloc, *config, device(alloc, config, refused)?),
+    }
 }
 
-// A log on such a device; an opening that lacks memory is tried once more.
-fn sound_log(alloc: Global) -> Result<Owner<Fused, 256>, Fail> {
-    log_of(alloc, ONE_SET, sound(alloc)?, sound(alloc)?)
-}
-
-// Makes these calls of a log over a device. It alone holds a log of this kind: who calls it is cheap to prove.
+// Makes these calls of a log over a device that refuses these calls.
 fn on(
     rt: &impl Abort,
     alloc: Global,
-    config: Config,
-    device: Fused,
+    config: &Config,
+    refused: Refused,
     steps: &[Step],
 ) -> Result<(), Fail> {
-    let mut owner: Owner<Fused, 256> = log(alloc, config, device)?;
-    run(rt, alloc, &mut owner, steps)
+    run(rt, alloc, &mut refusing_log(alloc, config, refused)?, steps)
+}
+
+// What comes where the call behind so many is refused alone, and where it is refused with all later ones.
+fn refused_in_turn(
+    rt: &impl Abort,
+    alloc: Global,
+    config: &Config,
+    before: usize,
+    (alone, for_good): (&[Step], &[Step]),
+) -> Result<(), Fail> {
+    let call = (before % 65536) as u32 + 1;
+    let for_all = Refused {
+        call,
+        for_good: true,
+    };
+    on(
+        rt,
+        alloc,
+        config,
+        Refused {
+            call,
+            ..NONE_REFUSED
+        },
+        alone,
+    )?;
+    on(rt, alloc, config, for_all, for_good)
 }
 
 // Makes these calls of a log over a device of which each page is read as zeros.
@@ -119,12 +156,7 @@ fn on_blank(rt: &impl Abort, alloc: Global, steps: &[Step]) -> Result<(), Fail> 
 
 // Makes these calls of a log on a device that refuses no call.
 fn on_sound(rt: &impl Abort, alloc: Global, steps: &[Step]) -> Result<(), Fail> {
-    run(rt, alloc, &mut sound_log(alloc)?, steps)
-}
-
-// The same on a device that refuses each call.
-fn on_refusing(rt: &impl Abort, alloc: Global, config: Config, steps: &[Step]) -> Result<(), Fail> {
-    on(rt, alloc, config, refusing(alloc)?, steps)
+    on(rt, alloc, &ONE_SET, NONE_REFUSED, steps)
 }
 
 const ADDED: Option<Appended> = Some(Appended::Appended);

@@ -1,11 +1,11 @@
 //! A store from end to end: what was put is found in each tier in turn, until it is struck, moved, dropped or lost.
+//! Each test is a table of rows, which one function runs: it alone opens a store of its kind.
 mod calls;
 mod expiring;
 mod failing;
 mod filling;
 mod going_back;
 mod into;
-mod losing;
 mod moving;
 mod opening;
 mod rows;
@@ -17,19 +17,19 @@ mod through_lane;
 mod untrue;
 mod untrue_device;
 
-use self::losing::LosingDevice;
 use self::run::{Found, Step, run};
 use klog::Flushed;
 use mover::{Moved, OpenFault, Store};
 use page_device::{FuseDevice, MemoryDevice, PageDevice};
 use record_pages::{Config, Field, Pushed};
 use rriparoo::Rriparoo;
-use std::alloc::Global;
+use stale_device::StaleDevice;
+use std::alloc::{AllocError, Global};
 use std::process::Abort;
 use std::test::Fail;
-use test_steps::{key, value};
+use test_steps::{Asked, PlannedDevice, key, value};
 
-// One lane of one set, with one object in memory and two segments of one page.
+// One lane of one set, with one object in memory and two segments of one page. Page 0 is the set's, pages 1 and 2 are the log's.
 const ONE_SET: Config = Config {
     lanes: 1,
     sets: 1,
@@ -41,40 +41,75 @@ const ONE_SET: Config = Config {
     admit: 65536,
 };
 
-// The pages of a set and of two segments.
-fn device(alloc: Global) -> Result<MemoryDevice<256>, Fail> {
-    match MemoryDevice::new(alloc, 3) {
-        Ok(device) => Ok(device),
-        Err(_) => Ok(MemoryDevice::new(alloc, 3)?),
-    }
-}
-
-// An empty store of this configuration over a device in memory.
-fn store(alloc: Global, config: &Config) -> Result<Store<MemoryDevice<256>, 256>, Fail> {
-    match Store::open(alloc, config, device(alloc)?) {
-        Ok(store) => Ok(store),
-        Err(_) => Ok(Store::open(alloc, config, device(alloc)?)?),
-    }
-}
-
-/// An empty store's configuration, and tables of its calls, which are made one after the other.
+/// An empty store's configuration, what its device does, and tables of calls, which are made one after the other.
 #[derive(Clone, Copy)]
 pub struct Row {
     config: Config,
+    /// The page that is read as it was before its last write, and the number of the write from which on it is.
+    stale: u32,
+    writes: u32,
+    /// The number of the device's call that is refused, from 1, or 0.
+    refused: u32,
     tables: &'static [&'static [Step]],
+    /// What the calls ask of the device, in this order, where that is told.
+    asked: Option<&'static [Asked]>,
+}
+
+// No call of a store of one set, over a device that refuses none and gives what was written.
+const ROW: Row = Row {
+    config: ONE_SET,
+    stale: u32::MAX,
+    writes: 1,
+    refused: 0,
+    tables: &[],
+    asked: None,
+};
+
+type Tried = PlannedDevice<FuseDevice<StaleDevice<256>>>;
+
+// The pages of the sets and of the segments.
+fn device(alloc: Global, row: &Row) -> Result<Tried, AllocError> {
+    let config = &row.config;
+    let pages = config
+        .sets
+        .wrapping_add(config.segments.wrapping_mul(config.segment_pages));
+    let stale = StaleDevice::new(alloc, pages, row.stale, row.writes)?;
+    let asked = row.asked.unwrap_or(&[]);
+    Ok(PlannedDevice::new(FuseDevice::one(stale, row.refused), asked))
+}
+
+// An empty store over this device.
+fn over(alloc: Global, config: &Config, device: Tried) -> Result<Store<Tried, 256>, Fail> {
+    Ok(Store::open(alloc, config, device)?)
+}
+
+// An empty store, opened once more where memory was refused.
+fn store(alloc: Global, row: &Row) -> Result<Store<Tried, 256>, Fail> {
+    match Store::open(alloc, &row.config, device(alloc, row)?) {
+        Ok(store) => Ok(store),
+        Err(_) => over(alloc, &row.config, device(alloc, row)?),
+    }
+}
+
+// Makes the calls of a row, and gives the device back.
+fn device_behind(rt: &impl Abort, alloc: Global, row: &Row) -> Result<Tried, Fail> {
+    let mut opened = store(alloc, row)?;
+    run_tables(rt, alloc, &mut opened, row.tables)?;
+    Ok(opened.into_device())
+}
+
+// Makes the calls of a row, and says whether they asked for just what is told.
+fn asks(rt: &impl Abort, alloc: Global, row: &Row) -> Result<bool, Fail> {
+    let device = device_behind(rt, alloc, row)?;
+    Ok(row.asked.is_none() || device.is_as_planned())
 }
 
 // Makes the calls of each row, of a store of its own.
 fn run_rows(rt: &impl Abort, alloc: Global, rows: &[Row]) -> Result<(), Fail> {
     for number in 0..rows.len() {
-        run_row(rt, alloc, &rows[number])?;
+        assert!(rt; asks(rt, alloc, &rows[number])?, "row {number}");
     }
     Ok(())
-}
-
-fn run_row(rt: &impl Abort, alloc: Global, row: &Row) -> Result<(), Fail> {
-    let mut opened = store(alloc, &row.config)?;
-    run_tables(rt, alloc, &mut opened, row.tables)
 }
 
 // Makes the calls of these tables, one after the other.

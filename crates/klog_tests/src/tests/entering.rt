@@ -52,12 +52,12 @@ const ONE_ENTRY: Config = Config {
 
 #[test]
 fn a_record_without_room_is_refused(rt: HostRuntime) -> Result<(), Fail> {
-    on_refusing(&rt, rt.alloc(), ONE_SET, &NO_BUFFER_HAS_ROOM)
+    on(&rt, rt.alloc(), &ONE_SET, ALL_REFUSED, &NO_BUFFER_HAS_ROOM)
 }
 
 #[test]
 fn a_record_past_the_last_entry_is_refused(rt: HostRuntime) -> Result<(), Fail> {
-    on_refusing(&rt, rt.alloc(), ONE_ENTRY, &THE_INDEX_IS_FULL)
+    on(&rt, rt.alloc(), &ONE_ENTRY, ALL_REFUSED, &THE_INDEX_IS_FULL)
 }
 
 const JUST_A_PAGES_ROOM: [Step; 6] = [
@@ -95,14 +95,4 @@ const TWO_KEYS_OF_ONE_TAG: [Step; 14] = [
 #[test]
 fn keys_of_one_tag_are_found_apart_and_struck_together(rt: HostRuntime) -> Result<(), Fail> {
     on_sound(&rt, rt.alloc(), &TWO_KEYS_OF_ONE_TAG)
-}
-
-#[test]
-fn a_device_that_is_too_small_has_no_owner(rt: HostRuntime) -> Result<(), Fail> {
-    let alloc = rt.alloc();
-    let layout = layout(&ONE_SET)?;
-    let device = FuseDevice::one(MemoryDevice::new(alloc, 2)?, 0);
-    let small: Option<Owner<Fused, 256>> = Owner::open(alloc, &layout, device)?;
-    assert!(rt; small.is_none());
-    Ok(())
 }

@@ -153,33 +153,10 @@ const REFUSED: [(&[Step], &[Step]); 7] = [
     (&WHOLE, &WHOLE),
 ];
 
-fn refused_alone(rt: &impl Abort, alloc: Global, call: u32, steps: &[Step]) -> Result<(), Fail> {
-    on(
-        rt,
-        alloc,
-        ONE_SET,
-        FuseDevice::one(device(alloc)?, call),
-        steps,
-    )
-}
-
-fn refused_from(rt: &impl Abort, alloc: Global, call: u32, steps: &[Step]) -> Result<(), Fail> {
-    on(
-        rt,
-        alloc,
-        ONE_SET,
-        FuseDevice::from(device(alloc)?, call),
-        steps,
-    )
-}
-
 #[test]
 fn each_refused_call_of_the_device_is_told(rt: HostRuntime) -> Result<(), Fail> {
-    let alloc = rt.alloc();
-    for number in 0..7u32 {
-        let (alone, for_good) = REFUSED[number as usize];
-        refused_alone(&rt, alloc, number + 1, alone)?;
-        refused_from(&rt, alloc, number + 1, for_good)?;
+    for number in 0..REFUSED.len() {
+        refused_in_turn(&rt, rt.alloc(), &ONE_SET, number, REFUSED[number])?;
     }
     Ok(())
 }

@@ -29,9 +29,17 @@ const IN_BUFFERS_AND_ON_THE_PAGE: [Step; 16] = [
 
 #[test]
 fn a_hit_is_in_the_buffer_and_a_miss_leaves_it(rt: HostRuntime) -> Result<(), Fail> {
-    let alloc = rt.alloc();
-    let fused = FuseDevice::one(device(alloc)?, 2);
-    on(&rt, alloc, ONE_SET, fused, &IN_BUFFERS_AND_ON_THE_PAGE)
+    let second = Refused {
+        call: 2,
+        for_good: false,
+    };
+    on(
+        &rt,
+        rt.alloc(),
+        &ONE_SET,
+        second,
+        &IN_BUFFERS_AND_ON_THE_PAGE,
+    )
 }
 
 const LOST: [Step; 4] = [

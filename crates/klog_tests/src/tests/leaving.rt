@@ -30,7 +30,7 @@ const SECOND: Place = Place { slot: 1, ..FIRST };
 
 #[test]
 fn a_set_is_taken_from_memory_newest_first(rt: HostRuntime) -> Result<(), Fail> {
-    on_refusing(&rt, rt.alloc(), ONE_SET, &TAKEN_FROM_MEMORY)
+    on(&rt, rt.alloc(), &ONE_SET, ALL_REFUSED, &TAKEN_FROM_MEMORY)
 }
 
 /// Calls before a taking of the set, between that and the dropping of what was taken, and behind it.
@@ -58,7 +58,12 @@ fn drops_over<D: PageDevice<PAGE>, const PAGE: usize>(
 }
 
 fn drops_what_was_taken(rt: &impl Abort, alloc: Global, calls: &Dropping) -> Result<(), Fail> {
-    drops_over(rt, alloc, &mut sound_log(alloc)?, calls)
+    drops_over(
+        rt,
+        alloc,
+        &mut refusing_log(alloc, &ONE_SET, NONE_REFUSED)?,
+        calls,
+    )
 }
 
 // The records that are taken.

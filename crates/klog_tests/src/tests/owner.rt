@@ -122,8 +122,13 @@ impl<D: PageDevice<PAGE>, const PAGE: usize> Owner<D, PAGE> {
         self.log.drop_taken(set, taken);
     }
 
-    pub(super) fn drop_entry(&mut self, entry: &Entry) {
-        self.log.drop_entry(entry);
+    /// Drops what `oldest` tells, and says whether it tells of an entry.
+    pub(super) fn drop_oldest(&mut self) -> bool {
+        let Oldest::First(entry) = self.log.oldest(&[]) else {
+            return false;
+        };
+        self.log.drop_entry(&entry);
+        true
     }
 
     /// Readmits what `oldest` tells, or nothing where it tells of no entry.

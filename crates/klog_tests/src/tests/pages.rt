@@ -159,23 +159,10 @@ const REFUSED: [(&[Step], &[Step]); 9] = [
     (&WHOLE, &WHOLE),
 ];
 
-fn refused_alone(rt: &impl Abort, alloc: Global, call: u32, steps: &[Step]) -> Result<(), Fail> {
-    let device = FuseDevice::one(MemoryDevice::new(alloc, 5)?, call);
-    on(rt, alloc, TWO_PAGES, device, steps)
-}
-
-fn refused_from(rt: &impl Abort, alloc: Global, call: u32, steps: &[Step]) -> Result<(), Fail> {
-    let device = FuseDevice::from(MemoryDevice::new(alloc, 5)?, call);
-    on(rt, alloc, TWO_PAGES, device, steps)
-}
-
 #[test]
 fn each_page_is_lost_alone(rt: HostRuntime) -> Result<(), Fail> {
-    let alloc = rt.alloc();
-    for number in 0..9u32 {
-        let (alone, for_good) = REFUSED[number as usize];
-        refused_alone(&rt, alloc, number + 1, alone)?;
-        refused_from(&rt, alloc, number + 1, for_good)?;
+    for number in 0..REFUSED.len() {
+        refused_in_turn(&rt, rt.alloc(), &TWO_PAGES, number, REFUSED[number])?;
     }
     Ok(())
 }

@@ -47,15 +47,9 @@ const ONE_BY_ONE: [Step; 21] = [
     Step::Oldest(&[0, 1], Told::Empty),
 ];
 
-// Makes these calls of a log of two sets.
-fn on_two_sets(rt: &impl Abort, alloc: Global, steps: &[Step]) -> Result<(), Fail> {
-    let device = FuseDevice::one(MemoryDevice::new(alloc, 4)?, 0);
-    on(rt, alloc, TWO_SETS, device, steps)
-}
-
 #[test]
 fn entries_of_some_sets_are_passed_over(rt: HostRuntime) -> Result<(), Fail> {
-    on_two_sets(&rt, rt.alloc(), &ONE_BY_ONE)
+    on(&rt, rt.alloc(), &TWO_SETS, NONE_REFUSED, &ONE_BY_ONE)
 }
 
 // An entry of a younger segment is not told of, where all of the oldest one are passed over.
@@ -72,5 +66,5 @@ const IN_TWO_SEGMENTS: [Step; 8] = [
 
 #[test]
 fn a_younger_segment_is_not_looked_into(rt: HostRuntime) -> Result<(), Fail> {
-    on_two_sets(&rt, rt.alloc(), &IN_TWO_SEGMENTS)
+    on(&rt, rt.alloc(), &TWO_SETS, NONE_REFUSED, &IN_TWO_SEGMENTS)
 }

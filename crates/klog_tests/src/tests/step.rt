@@ -45,6 +45,8 @@ pub enum Step {
     /// A taking that meets a lost page.
     TakeLost,
     Readmit(Option<Readmitted>),
+    /// Whether the oldest segment's first record is dropped.
+    DropOldest(bool),
     /// Whether the oldest segment is freed.
     Free(bool),
     /// How many live records there are.
@@ -103,6 +105,7 @@ fn moves<D: PageDevice<PAGE>, const PAGE: usize>(owner: &mut Owner<D, PAGE>, ste
         Step::NoSegment => owner.oldest() == Oldest::NoSegment,
         Step::Empty => owner.oldest() == Oldest::Empty,
         Step::Readmit(wanted) => owner.readmit() == *wanted,
+        Step::DropOldest(wanted) => owner.drop_oldest() == *wanted,
         Step::Free(wanted) => owner.free() == *wanted,
         Step::Count(wanted) => owner.len() == *wanted,
         _ => false,

@@ -3,48 +3,6 @@
 use super::run::Began;
 use super::*;
 use mover::Aborted;
-use test_steps::{Asked, PlannedDevice};
-
-// Page 0 is the set's, pages 1 and 2 are the log's.
-type Asking = PlannedDevice<FuseDevice<LosingDevice>>;
-
-/// Calls of a store over a device that loses the writes of one page and refuses one call, and what they ask of it.
-#[derive(Clone, Copy)]
-struct Script {
-    lost: u32,
-    refused: u32,
-    steps: &'static [Step],
-    asked: &'static [Asked],
-}
-
-fn asking(alloc: Global, script: &Script) -> Result<Asking, Fail> {
-    let losing = LosingDevice {
-        pages: device(alloc)?,
-        lost: script.lost,
-    };
-    Ok(PlannedDevice::new(FuseDevice::one(losing, script.refused), script.asked))
-}
-
-fn asking_store(alloc: Global, script: &Script) -> Result<Store<Asking, 256>, Fail> {
-    match Store::open(alloc, &ONE_SET, asking(alloc, script)?) {
-        Ok(store) => Ok(store),
-        Err(_) => Ok(Store::open(alloc, &ONE_SET, asking(alloc, script)?)?),
-    }
-}
-
-// Whether the steps ask for what is written beside them, in this order, and for nothing else.
-fn asks_so(rt: &impl Abort, alloc: Global, script: &Script) -> Result<bool, Fail> {
-    let mut store = asking_store(alloc, script)?;
-    run(rt, alloc, &mut store, script.steps)?;
-    Ok(store.into_device().is_as_planned())
-}
-
-fn ask_all(rt: &impl Abort, alloc: Global, scripts: &[Script]) -> Result<(), Fail> {
-    for number in 0..scripts.len() {
-        assert!(rt; asks_so(rt, alloc, &scripts[number])?, "script {number}");
-    }
-    Ok(())
-}
 
 // Of two keys of one tag `a` is visible in the set and `b` on the log's second page, where a look-up of `a` begins. Once
 // `b` is removed, the value of `a` is found where it was all the time.
@@ -96,12 +54,11 @@ const FAULT_ABOVE_INTO: [Step; 12] = [
 ];
 
 // Neither the log's page nor, where it fails, the set's is asked for again.
-const ENDED: [Script; 3] = [
-    Script {
-        lost: 2,
-        refused: 0,
-        steps: &DAMAGED_ABOVE,
-        asked: &[
+const ENDED: [Row; 3] = [
+    Row {
+        stale: 2,
+        tables: &[&DAMAGED_ABOVE],
+        asked: Some(&[
             Asked::Write(1),
             Asked::Read(1),
             Asked::Write(0),
@@ -109,39 +66,40 @@ const ENDED: [Script; 3] = [
             Asked::Read(2),
             Asked::Read(2),
             Asked::Read(0),
-        ],
+        ]),
+        ..ROW
     },
-    Script {
-        lost: 3,
+    Row {
         refused: 5,
-        steps: &FAULT_ABOVE,
-        asked: &[
+        tables: &[&FAULT_ABOVE],
+        asked: Some(&[
             Asked::Write(1),
             Asked::Read(1),
             Asked::Write(0),
             Asked::Write(2),
             Asked::Read(2),
             Asked::Read(0),
-        ],
+        ]),
+        ..ROW
     },
-    Script {
-        lost: 3,
+    Row {
         refused: 5,
-        steps: &FAULT_ABOVE_INTO,
-        asked: &[
+        tables: &[&FAULT_ABOVE_INTO],
+        asked: Some(&[
             Asked::Write(1),
             Asked::Read(1),
             Asked::Write(0),
             Asked::Write(2),
             Asked::Read(2),
             Asked::Read(0),
-        ],
+        ]),
+        ..ROW
     },
 ];
 
 #[test]
 fn a_get_ends_at_a_page_that_it_does_not_have(rt: HostRuntime) -> Result<(), Fail> {
-    ask_all(&rt, rt.alloc(), &ENDED)
+    run_rows(&rt, rt.alloc(), &ENDED)
 }
 
 // Objects in memory and in both of the log's buffers.
@@ -170,30 +128,28 @@ const IN_THE_SET: [Step; 10] = [
     Step::Get(b"dx", Found::Absent),
 ];
 
-const READ_ONCE: [Script; 2] = [
-    Script {
-        lost: 3,
-        refused: 0,
-        steps: &BUFFERED,
-        asked: &[],
+const READ_ONCE: [Row; 2] = [
+    Row {
+        tables: &[&BUFFERED],
+        asked: Some(&[]),
+        ..ROW
     },
-    Script {
-        lost: 3,
-        refused: 0,
-        steps: &IN_THE_SET,
-        asked: &[
+    Row {
+        tables: &[&IN_THE_SET],
+        asked: Some(&[
             Asked::Write(1),
             Asked::Read(1),
             Asked::Write(0),
             Asked::Write(2),
             Asked::Read(0),
-        ],
+        ]),
+        ..ROW
     },
 ];
 
 #[test]
 fn a_get_reads_one_page_or_none(rt: HostRuntime) -> Result<(), Fail> {
-    ask_all(&rt, rt.alloc(), &READ_ONCE)
+    run_rows(&rt, rt.alloc(), &READ_ONCE)
 }
 
 // The set's page and each of the log's have one object.
@@ -218,11 +174,9 @@ const ON_THREE_PAGES: [Step; 17] = [
 ];
 
 // The log's pages are read newest first, then the set's; the calls behind the beginning ask for none.
-const GATHERED: [Script; 1] = [Script {
-    lost: 3,
-    refused: 0,
-    steps: &ON_THREE_PAGES,
-    asked: &[
+const GATHERED: [Row; 1] = [Row {
+    tables: &[&ON_THREE_PAGES],
+    asked: Some(&[
         Asked::Write(1),
         Asked::Read(1),
         Asked::Write(0),
@@ -231,10 +185,11 @@ const GATHERED: [Script; 1] = [Script {
         Asked::Read(1),
         Asked::Read(2),
         Asked::Read(0),
-    ],
+    ]),
+    ..ROW
 }];
 
 #[test]
 fn a_move_reads_each_page_once(rt: HostRuntime) -> Result<(), Fail> {
-    ask_all(&rt, rt.alloc(), &GATHERED)
+    run_rows(&rt, rt.alloc(), &GATHERED)
 }

@@ -35,8 +35,8 @@ const STAYS_BEHIND: [Step; 5] = [
 
 pub const EXPIRING: [Row; 2] = [
     Row {
-        config: ONE_SET,
         tables: &[&IN_EACH_TIER],
+        ..ROW
     },
     Row {
         config: Config {
@@ -44,6 +44,7 @@ pub const EXPIRING: [Row; 2] = [
             ..ONE_SET
         },
         tables: &[&STAYS_BEHIND],
+        ..ROW
     },
 ];
 

@@ -22,8 +22,8 @@ const BOTH_SEGMENTS: [Step; 17] = [
 ];
 
 pub const WAITING: [Row; 1] = [Row {
-    config: ONE_SET,
     tables: &[&BOTH_SEGMENTS],
+    ..ROW
 }];
 
 #[test]
@@ -59,10 +59,11 @@ pub const NO_PLACE: [Row; 2] = [
             ..ONE_SET
         },
         tables: &[&ONE_ENTRY],
+        ..ROW
     },
     Row {
-        config: ONE_SET,
         tables: &[&BOTH_BUFFERS],
+        ..ROW
     },
 ];
 
@@ -83,8 +84,8 @@ const BY_SIZE: [Step; 3] = [
 ];
 
 pub const SIZES: [Row; 1] = [Row {
-    config: ONE_SET,
     tables: &[&BY_SIZE],
+    ..ROW
 }];
 
 #[test]

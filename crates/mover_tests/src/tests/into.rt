@@ -49,8 +49,8 @@ const REMOVED: [Step; 11] = [
 
 pub const INTO: [Row; 2] = [
     Row {
-        config: ONE_SET,
         tables: &[&IN_EACH_TIER],
+        ..ROW
     },
     Row {
         config: Config {
@@ -58,6 +58,7 @@ pub const INTO: [Row; 2] = [
             ..ONE_SET
         },
         tables: &[&REMOVED],
+        ..ROW
     },
 ];
 

@@ -13,6 +13,7 @@ pub const MEMORY: [Row; 1] = [Row {
         ..ONE_SET
     },
     tables: &[&IN_MEMORY],
+    ..ROW
 }];
 
 #[test]
@@ -44,8 +45,8 @@ const THROUGH_ALL_TIERS: [Step; 20] = [
 ];
 
 pub const TIERS: [Row; 1] = [Row {
-    config: ONE_SET,
     tables: &[&THROUGH_ALL_TIERS],
+    ..ROW
 }];
 
 #[test]
@@ -86,6 +87,7 @@ pub const ALONE: [Row; 2] = [
             ..ONE_SET
         },
         tables: &[&DROPPED],
+        ..ROW
     },
     Row {
         config: Config {
@@ -93,6 +95,7 @@ pub const ALONE: [Row; 2] = [
             ..ONE_SET
         },
         tables: &[&READMITTED],
+        ..ROW
     },
 ];
 

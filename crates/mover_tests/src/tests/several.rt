@@ -21,21 +21,15 @@ const SIXTEEN_SETS: Config = Config {
     ..ONE_SET
 };
 
-// Makes these calls of an empty store of this configuration, over as many pages as it asks for.
-fn run_in(
-    rt: &impl Abort,
-    alloc: Global,
-    config: &Config,
-    pages: u32,
-    steps: &[Step],
-) -> Result<(), Fail> {
-    let device = match MemoryDevice::<256>::new(alloc, pages) {
-        Ok(device) => device,
-        Err(_) => MemoryDevice::new(alloc, pages)?,
-    };
-    let mut store = Store::open(alloc, config, device)?;
-    run(rt, alloc, &mut store, steps)
-}
+const IN_TWO_SETS: Row = Row {
+    config: TWO_SETS,
+    ..ROW
+};
+
+const IN_SIXTEEN_SETS: Row = Row {
+    config: SIXTEEN_SETS,
+    ..ROW
+};
 
 // Two moves end in the other order.
 const BOTH: [Step; 13] = [
@@ -54,9 +48,14 @@ const BOTH: [Step; 13] = [
     Step::Begin(Began::Freed),
 ];
 
+const ENDED: [Row; 1] = [Row {
+    tables: &[&BOTH],
+    ..IN_TWO_SETS
+}];
+
 #[test]
 fn two_moves_end_in_either_order(rt: HostRuntime) -> Result<(), Fail> {
-    run_in(&rt, rt.alloc(), &TWO_SETS, 4, &BOTH)
+    run_rows(&rt, rt.alloc(), &ENDED)
 }
 
 // While a move is in flight four segments are freed, and one with the name of the first is filled. What the commit drops is
@@ -93,9 +92,14 @@ const OVER_A_NAME: [Step; 29] = [
     Step::Begin(Began::Nothing),
 ];
 
+const NAMED_AGAIN: [Row; 1] = [Row {
+    tables: &[&OVER_A_NAME],
+    ..ROW
+}];
+
 #[test]
 fn a_commit_drops_what_was_taken_and_not_what_lies_there_now(rt: HostRuntime) -> Result<(), Fail> {
-    run_in(&rt, rt.alloc(), &ONE_SET, 3, &OVER_A_NAME)
+    run_rows(&rt, rt.alloc(), &NAMED_AGAIN)
 }
 
 // The oldest segment has objects of nine sets.
@@ -152,15 +156,14 @@ const NINTH: [Step; 34] = [
     Step::Get(b"jx", Found::Memory(b"0")),
 ];
 
+const EIGHT: [Row; 1] = [Row {
+    tables: &[&OF_NINE_SETS, &NINTH],
+    ..IN_SIXTEEN_SETS
+}];
+
 #[test]
 fn no_more_than_eight_moves_are_in_flight(rt: HostRuntime) -> Result<(), Fail> {
-    let alloc = rt.alloc();
-    let device = match MemoryDevice::<256>::new(alloc, 18) {
-        Ok(device) => device,
-        Err(_) => MemoryDevice::new(alloc, 18)?,
-    };
-    let mut store = Store::open(alloc, &SIXTEEN_SETS, device)?;
-    run_tables(&rt, alloc, &mut store, &[&OF_NINE_SETS, &NINTH])
+    run_rows(&rt, rt.alloc(), &EIGHT)
 }
 
 // Of three moves the second is given up, and its set begins anew with the next number.
@@ -196,9 +199,14 @@ const MIDDLE: [Step; 22] = [
     Step::Begin(Began::Freed),
 ];
 
+const ABORTED: [Row; 1] = [Row {
+    tables: &[&MIDDLE],
+    ..IN_SIXTEEN_SETS
+}];
+
 #[test]
 fn an_abort_ends_its_move_alone(rt: HostRuntime) -> Result<(), Fail> {
-    run_in(&rt, rt.alloc(), &SIXTEEN_SETS, 18, &MIDDLE)
+    run_rows(&rt, rt.alloc(), &ABORTED)
 }
 
 // The first move has a plan that does not fit, and stays where it was.
@@ -222,9 +230,14 @@ const BAD_FIRST: [Step; 17] = [
     Step::Begin(Began::Freed),
 ];
 
+const BAD: [Row; 1] = [Row {
+    tables: &[&BAD_FIRST],
+    ..IN_TWO_SETS
+}];
+
 #[test]
 fn a_bad_plan_leaves_its_move_in_flight(rt: HostRuntime) -> Result<(), Fail> {
-    run_in(&rt, rt.alloc(), &TWO_SETS, 4, &BAD_FIRST)
+    run_rows(&rt, rt.alloc(), &BAD)
 }
 
 // While two moves are in flight, of each one object is struck.
@@ -251,9 +264,14 @@ const STRUCK_IN_BOTH: [Step; 20] = [
     Step::Begin(Began::Freed),
 ];
 
+const STRUCK: [Row; 1] = [Row {
+    tables: &[&STRUCK_IN_BOTH],
+    ..IN_TWO_SETS
+}];
+
 #[test]
 fn what_is_struck_is_written_by_no_move(rt: HostRuntime) -> Result<(), Fail> {
-    run_in(&rt, rt.alloc(), &TWO_SETS, 4, &STRUCK_IN_BOTH)
+    run_rows(&rt, rt.alloc(), &STRUCK)
 }
 
 // No move begins with an object of a younger segment, while the oldest has one.
@@ -294,12 +312,22 @@ const WHOLE_BESIDE: [Step; 14] = [
     Step::Begin(Began::Freed),
 ];
 
+const OLDEST: [Row; 1] = [Row {
+    tables: &[&YOUNGER],
+    ..IN_TWO_SETS
+}];
+
 #[test]
 fn moves_begin_in_the_oldest_segment_alone(rt: HostRuntime) -> Result<(), Fail> {
-    run_in(&rt, rt.alloc(), &TWO_SETS, 4, &YOUNGER)
+    run_rows(&rt, rt.alloc(), &OLDEST)
 }
+
+const BESIDE: [Row; 1] = [Row {
+    tables: &[&WHOLE_BESIDE],
+    ..IN_TWO_SETS
+}];
 
 #[test]
 fn a_whole_move_goes_on_beside_another(rt: HostRuntime) -> Result<(), Fail> {
-    run_in(&rt, rt.alloc(), &TWO_SETS, 4, &WHOLE_BESIDE)
+    run_rows(&rt, rt.alloc(), &BESIDE)
 }

@@ -1,5 +1,4 @@
 //! Moves that begin in one call and end in another.
-use super::failing::run_refusing;
 use super::run::{Began, Known};
 use super::*;
 use mover::{Aborted, Committed};
@@ -70,14 +69,15 @@ const STRUCK: [Row; 3] = [
             ..ONE_SET
         },
         tables: &[&PUT_BETWEEN],
+        ..ROW
     },
     Row {
-        config: ONE_SET,
         tables: &[&REMOVED_BETWEEN],
+        ..ROW
     },
     Row {
-        config: ONE_SET,
         tables: &[&STRUCK_BETWEEN],
+        ..ROW
     },
 ];
 
@@ -114,29 +114,21 @@ const OTHER_SET: [Step; 9] = [
     Step::Get(b"a", Found::Set(b"1")),
 ];
 
-const ONE_TAG: [Row; 1] = [Row {
-    config: ONE_SET,
-    tables: &[&NEIGHBOUR],
-}];
-
-// A store of two sets.
-fn two_sets(alloc: Global) -> Result<Store<MemoryDevice<256>, 256>, Fail> {
-    let config = Config { sets: 2, ..ONE_SET };
-    let device = match MemoryDevice::new(alloc, 4) {
-        Ok(device) => device,
-        Err(_) => MemoryDevice::new(alloc, 4)?,
-    };
-    Ok(Store::open(alloc, &config, device)?)
-}
-
-fn run_in_two_sets(rt: &impl Abort, alloc: Global, steps: &[Step]) -> Result<(), Fail> {
-    run(rt, alloc, &mut two_sets(alloc)?, steps)
-}
+const ONE_TAG: [Row; 2] = [
+    Row {
+        tables: &[&NEIGHBOUR],
+        ..ROW
+    },
+    Row {
+        config: Config { sets: 2, ..ONE_SET },
+        tables: &[&OTHER_SET],
+        ..ROW
+    },
+];
 
 #[test]
 fn a_key_of_the_same_tag_leaves_the_item(rt: HostRuntime) -> Result<(), Fail> {
-    run_rows(&rt, rt.alloc(), &ONE_TAG)?;
-    run_in_two_sets(&rt, rt.alloc(), &OTHER_SET)
+    run_rows(&rt, rt.alloc(), &ONE_TAG)
 }
 
 // Ten objects are in the set, and one more is to join them.
@@ -175,6 +167,7 @@ const FORGOTTEN: [Row; 1] = [Row {
         ..ONE_SET
     },
     tables: &[&striking::ELEVEN, &TEN_AND_ONE, &NINE_BETWEEN],
+    ..ROW
 }];
 
 #[test]
@@ -233,11 +226,27 @@ const SECOND_FORGOTTEN: [Step; 15] = [
     Step::Get(b"ax", Found::Absent),
 ];
 
+const REFUSED: [Row; 3] = [
+    Row {
+        refused: 3,
+        tables: &[&LOST_BETWEEN],
+        ..ROW
+    },
+    Row {
+        refused: 3,
+        tables: &[&FIRST_FORGOTTEN],
+        ..ROW
+    },
+    Row {
+        refused: 8,
+        tables: &[&SECOND_FORGOTTEN],
+        ..ROW
+    },
+];
+
 #[test]
 fn a_refused_call_between_loses_what_it_must(rt: HostRuntime) -> Result<(), Fail> {
-    run_refusing(&rt, rt.alloc(), 3, &LOST_BETWEEN)?;
-    run_refusing(&rt, rt.alloc(), 3, &FIRST_FORGOTTEN)?;
-    run_refusing(&rt, rt.alloc(), 8, &SECOND_FORGOTTEN)
+    run_rows(&rt, rt.alloc(), &REFUSED)
 }
 
 // A move that is given up leaves its records where they were; its number is never good again.
@@ -275,8 +284,8 @@ const KEPT_NOTHING: [Step; 3] = [
 ];
 
 const NUMBERED: [Row; 1] = [Row {
-    config: ONE_SET,
     tables: &[&GIVEN_UP, &KEPT_NOTHING],
+    ..ROW
 }];
 
 #[test]
@@ -306,8 +315,8 @@ const TOO_LARGE_TOGETHER: [Step; 13] = [
 ];
 
 const FITTING: [Row; 1] = [Row {
-    config: ONE_SET,
     tables: &[&TOO_LARGE_TOGETHER],
+    ..ROW
 }];
 
 #[test]

@@ -11,8 +11,8 @@ const ONE_TAG: [Step; 5] = [
 ];
 
 pub const NEIGHBOURS: [Row; 1] = [Row {
-    config: ONE_SET,
     tables: &[&ONE_TAG],
+    ..ROW
 }];
 
 #[test]
@@ -41,6 +41,7 @@ pub const HIDDEN: [Row; 1] = [Row {
         ..ONE_SET
     },
     tables: &[&PUT_ANEW],
+    ..ROW
 }];
 
 #[test]
@@ -60,6 +61,7 @@ pub const LOST: [Row; 1] = [Row {
         ..ONE_SET
     },
     tables: &[&NONE_ADMITTED],
+    ..ROW
 }];
 
 #[test]
@@ -107,6 +109,7 @@ pub const NINTH: [Row; 1] = [Row {
         ..ONE_SET
     },
     tables: &[&ELEVEN, &NINE_STRIKES],
+    ..ROW
 }];
 
 #[test]

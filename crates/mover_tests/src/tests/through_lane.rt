@@ -8,12 +8,17 @@ use value_buffer::ValueBuffer;
 
 type Lane = ServiceLane<MemoryDevice<256>, 256>;
 
+// The pages of a set and of two segments.
+fn pages(alloc: Global) -> Result<MemoryDevice<256>, AllocError> {
+    MemoryDevice::new(alloc, 3)
+}
+
 // An empty lane of this configuration over a device in memory.
 fn lane(alloc: Global, config: &Config) -> Result<Lane, Fail> {
     let seed = RandomSeed::fixed();
-    match Lane::open(alloc, config, 1, device(alloc)?, seed) {
+    match Lane::open(alloc, config, 1, pages(alloc)?, seed) {
         Ok(lane) => Ok(lane),
-        Err(_) => Ok(Lane::open(alloc, config, 1, device(alloc)?, seed)?),
+        Err(_) => Ok(Lane::open(alloc, config, 1, pages(alloc)?, seed)?),
     }
 }
 
@@ -96,46 +101,68 @@ fn gives<D: PageDevice<PAGE>, const PAGE: usize>(
     }
 }
 
-// Whether all calls of these tables, one after the other, give what is written beside them.
+// Whether all these calls give what is written beside them.
 fn all_give<D: PageDevice<PAGE>, const PAGE: usize>(
     alloc: Global,
     lane: &mut ServiceLane<D, PAGE>,
-    tables: &[&[Step]],
+    steps: &[Step],
 ) -> Result<bool, Fail> {
-    for table in tables {
-        for step in *table {
-            if !gives(alloc, lane, step)? {
-                return Ok(false);
-            }
-        }
-    }
-    Ok(true)
-}
-
-// Whether each row does so, of a lane of its own.
-fn rows_give(alloc: Global, rows: &[Row]) -> Result<bool, Fail> {
-    for number in 0..rows.len() {
-        let mut opened = lane(alloc, &rows[number].config)?;
-        if !all_give(alloc, &mut opened, rows[number].tables)? {
+    for number in 0..steps.len() {
+        if !gives(alloc, lane, &steps[number])? {
             return Ok(false);
         }
     }
     Ok(true)
 }
 
+// The same of the calls of these tables, one after the other.
+fn tables_give<D: PageDevice<PAGE>, const PAGE: usize>(
+    alloc: Global,
+    lane: &mut ServiceLane<D, PAGE>,
+    tables: &[&[Step]],
+) -> Result<bool, Fail> {
+    for number in 0..tables.len() {
+        if !all_give(alloc, lane, tables[number])? {
+            return Ok(false);
+        }
+    }
+    Ok(true)
+}
+
+// Whether the calls of a row do so, of a lane of its own.
+fn row_gives(alloc: Global, row: &Row) -> Result<bool, Fail> {
+    tables_give(alloc, &mut lane(alloc, &row.config)?, row.tables)
+}
+
+// Whether those of each row do.
+fn rows_give(alloc: Global, rows: &[Row]) -> Result<bool, Fail> {
+    for number in 0..rows.len() {
+        if !row_gives(alloc, &rows[number])? {
+            return Ok(false);
+        }
+    }
+    Ok(true)
+}
+
+const ALIKE: [&[Row]; 12] = [
+    &moving::MEMORY,
+    &moving::TIERS,
+    &moving::ALONE,
+    &filling::WAITING,
+    &filling::NO_PLACE,
+    &filling::SIZES,
+    &expiring::EXPIRING,
+    &into::INTO,
+    &striking::NEIGHBOURS,
+    &striking::HIDDEN,
+    &striking::LOST,
+    &striking::NINTH,
+];
+
 #[test]
 fn a_lane_that_serves_answers_alike(rt: HostRuntime) -> Result<(), Fail> {
-    assert!(rt; rows_give(rt.alloc(), &moving::MEMORY)?);
-    assert!(rt; rows_give(rt.alloc(), &moving::TIERS)?);
-    assert!(rt; rows_give(rt.alloc(), &moving::ALONE)?);
-    assert!(rt; rows_give(rt.alloc(), &filling::WAITING)?);
-    assert!(rt; rows_give(rt.alloc(), &filling::NO_PLACE)?);
-    assert!(rt; rows_give(rt.alloc(), &filling::SIZES)?);
-    assert!(rt; rows_give(rt.alloc(), &expiring::EXPIRING)?);
-    assert!(rt; rows_give(rt.alloc(), &into::INTO)?);
-    assert!(rt; rows_give(rt.alloc(), &striking::NEIGHBOURS)?);
-    assert!(rt; rows_give(rt.alloc(), &striking::HIDDEN)?);
-    assert!(rt; rows_give(rt.alloc(), &striking::LOST)?);
-    assert!(rt; rows_give(rt.alloc(), &striking::NINTH)?);
+    for number in 0..ALIKE.len() {
+        assert!(rt; rows_give(rt.alloc(), ALIKE[number])?, "rows {number}");
+    }
     Ok(())
 }

@@ -1,6 +1,6 @@
 use Rattle.std.proofs.Common.{refl}
 use Rattle.klog_tests.proofs.OwnerLaws.{kept}
-use Rattle.klog_tests.proofs.tests.owner.Owner.drop_entry.Goals as goal
+use Rattle.klog_tests.proofs.tests.owner.Owner.drop_oldest.Goals as goal
 
 pub invariant_of-self : goal.invariant_of-self
 invariant_of-self g c =
