@@ -100,7 +100,7 @@ fn calls(
 fn pages_that_were_never_written_end_no_call(rt: HostRuntime) -> Result<(), Fail> {
     let alloc = rt.alloc();
     let untrue = AtomicU32::new(0);
-    let device = UntrueDevice::new(alloc, 5, &untrue)?;
+    let device = UntrueDevice::new(MemoryDevice::new(alloc, 5)?, &untrue);
     let mut store = Store::open(alloc, &SMALL, device)?;
     let mut words = Lcg64Xsh32::new(1, 1);
     let mut seen = Seen {

@@ -1,10 +1,9 @@
 //! A device that gives pages which were never written.
-ghost use Rattle.std.specs.Prelude.{◌≡◌, IfOk, None, false, length};
+ghost use Rattle.std.specs.Prelude.{None, false, length};
 
 use page_device::{DeviceFault, MemoryDevice, PageDevice};
 use rand_core::utils::NextWord;
 use rand_pcg::Lcg64Xsh32;
-use std::alloc::{AllocError, Global};
 use std::sync::atomic::{AtomicU32, Ordering};
 
 /// Pages in memory. Of four reads one gives the page as it is, one words of a generator and two the page with one bit turned;
@@ -17,15 +16,13 @@ pub struct UntrueDevice<'a> {
 }
 
 impl<'a> UntrueDevice<'a> {
-    /// So many pages.
-    pub fn new(alloc: Global, pages: u32, untrue: &'a AtomicU32) -> Result<Self, AllocError>
-        ensures { IfOk result (λ device. length device.pages ≡ pages) }
-    {
-        Ok(UntrueDevice {
-            pages: MemoryDevice::new(alloc, pages)?,
+    /// Over these pages.
+    pub fn new(pages: MemoryDevice<256>, untrue: &'a AtomicU32) -> Self {
+        UntrueDevice {
+            pages,
             words: Lcg64Xsh32::new(2, 2),
             untrue,
-        })
+        }
     }
 }
 
