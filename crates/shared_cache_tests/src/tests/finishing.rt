@@ -1,50 +1,51 @@
 //! When a cache is not finished: a pass is missing, or the passes do not list just the calls that were recorded.
-use super::*;
+use super::opened::{ONE_SET, PLAIN, Setup, TWO_LANES};
+use super::played::{NOTHING, Play, Played, run_play};
+use super::run::{Found, Step};
+use super::test_device::TestDevice;
+use record_pages::{Config, Pushed};
+use shared_cache::{FinishFault, Finished, Pass};
+use std::alloc::Global;
 use std::sync::Wait;
+use std::test::Fail;
 use std::thread::Threads;
 
-// Why a cache of two callers is not finished without the pass at one place.
-fn without<R: Threads + Sync>(
-    rt: &R,
-    alloc: Global,
-    place: usize,
-) -> Result<Option<FinishFault>, Fail> {
-    let (cache, passes) = opened(alloc, &ONE_SET, 2)?;
-    let mut passes = passes;
-    if place < passes.len() {
-        passes.swap_remove(place);
-    }
-    fault_of(cache.finish(rt, passes))
-}
-
-#[test]
-fn each_caller_gives_its_pass_back(rt: HostRuntime) -> Result<(), Fail> {
-    let alloc = rt.alloc();
-    let first = Some(FinishFault::MissingPass { caller: 0 });
-    let second = Some(FinishFault::MissingPass { caller: 1 });
-    assert_eq!(rt; without(&rt, alloc, 0)?, first);
-    assert_eq!(rt; without(&rt, alloc, 1)?, second);
-    assert_eq!(rt; without(&rt, alloc, 2)?, None);
-    Ok(())
-}
-
-/// The calls of a cache, those of another one of the same numbers, which passes the cache is finished with, and why it is
-/// not.
+/// The calls of a cache, those of another one, which passes the cache is finished with, and why it is not.
 #[derive(Clone, Copy)]
 struct Row {
     own: &'static [Step],
+    // The numbers of the other cache.
+    wider: Config,
     other: &'static [Step],
     given: Given,
     fault: Option<FinishFault>,
 }
 
-/// Which passes a cache is finished with.
+/// Which passes a cache is finished with, from one place to another: of its first and second caller, and of the other's
+/// first and second. The second callers made no call.
 #[derive(Clone, Copy)]
-enum Given {
-    Own,
-    Others,
-    Both,
+struct Given {
+    from: usize,
+    to: usize,
 }
+
+const OWN: Given = Given { from: 0, to: 2 };
+
+const FIRST: Given = Given { from: 0, to: 1 };
+
+const SECOND: Given = Given { from: 1, to: 2 };
+
+const OTHERS: Given = Given { from: 2, to: 4 };
+
+const BOTH: Given = Given { from: 0, to: 3 };
+
+const FINISHES: Row = Row {
+    own: &NO_CALL,
+    wider: TWO_LANES,
+    other: &NO_CALL,
+    given: OWN,
+    fault: None,
+};
 
 const NO_CALL: [Step; 0] = [];
 
@@ -78,146 +79,169 @@ const FOUR_LANES: Config = Config {
     ..ONE_SET
 };
 
-const ROWS: [Row; 10] = [
+const ROWS: [Row; 13] = [
     Row {
         own: &PUT_TWO,
-        other: &NO_CALL,
-        given: Given::Own,
-        fault: None,
+        given: OWN,
+        ..FINISHES
+    },
+    // A pass is missing.
+    Row {
+        given: SECOND,
+        fault: Some(FinishFault::MissingPass { caller: 0 }),
+        ..FINISHES
+    },
+    Row {
+        given: FIRST,
+        fault: Some(FinishFault::MissingPass { caller: 1 }),
+        ..FINISHES
     },
     // The very same calls.
     Row {
         own: &PUT_TWO,
         other: &PUT_TWO,
-        given: Given::Others,
-        fault: None,
+        given: OTHERS,
+        ..FINISHES
     },
     // Another value.
     Row {
         own: &PUT,
         other: &PUT_ELSE,
-        given: Given::Others,
+        given: OTHERS,
         fault: Some(FinishFault::Strange { caller: 0, call: 0 }),
+        ..FINISHES
     },
     // A call past the last one.
     Row {
         own: &PUT,
         other: &PUT_AND_GET,
-        given: Given::Others,
+        given: OTHERS,
         fault: Some(FinishFault::Strange { caller: 0, call: 1 }),
+        ..FINISHES
     },
     // A call of each lane: the first by its place, not by its lane.
     Row {
         own: &PUT_TWO,
         other: &PUT_TWO_ELSE,
-        given: Given::Others,
+        given: OTHERS,
         fault: Some(FinishFault::Strange { caller: 0, call: 0 }),
+        ..FINISHES
     },
     // In the lane before it a call is not listed, which is told later.
     Row {
         own: &PUT_TWO,
         other: &PUT_OTHER_ELSE,
-        given: Given::Others,
+        given: OTHERS,
         fault: Some(FinishFault::Strange { caller: 0, call: 0 }),
+        ..FINISHES
     },
     // A call that is listed twice.
     Row {
         own: &PUT,
         other: &PUT,
-        given: Given::Both,
+        given: BOTH,
         fault: Some(FinishFault::Strange { caller: 0, call: 0 }),
+        ..FINISHES
     },
     Row {
         own: &PUT,
         other: &NO_CALL,
-        given: Given::Others,
+        given: OTHERS,
         fault: Some(FinishFault::Unlisted {
             lane: 0,
             position: 0,
         }),
+        ..FINISHES
     },
     Row {
         own: &PUT_AND_GET,
         other: &PUT,
-        given: Given::Others,
+        given: OTHERS,
         fault: Some(FinishFault::Unlisted {
             lane: 0,
             position: 1,
         }),
+        ..FINISHES
     },
     Row {
         own: &PUT_TWO,
         other: &PUT,
-        given: Given::Others,
+        given: OTHERS,
         fault: Some(FinishFault::Unlisted {
             lane: 1,
             position: 0,
         }),
+        ..FINISHES
+    },
+    // A call of a lane that the cache has not.
+    Row {
+        own: &PUT_OTHER,
+        wider: FOUR_LANES,
+        other: &PUT_OTHER,
+        given: OTHERS,
+        fault: Some(FinishFault::Strange { caller: 0, call: 0 }),
+        ..FINISHES
     },
 ];
 
-// The pass after so many calls, if each was made at once: it took three stamps, and no memory was refused, for a call that
-// is made once more starts later than the other cache's.
-fn at_once(ran: Ran, calls: usize) -> Result<Pass, Fail> {
-    let pass = as_written(ran)?;
-    let seen = pass.seen();
-    if pass.len() != calls || seen % 3 != 0 || seen / 3 != calls as u64 {
-        return Err("out of memory at a call".into());
+// The calls of the first caller of a cache of these numbers.
+fn play_of(config: &Config, steps: &'static [Step]) -> Play {
+    Play {
+        setup: Setup {
+            config: *config,
+            ..PLAIN
+        },
+        alone: steps,
+        ..NOTHING
     }
-    Ok(pass)
 }
 
-// A cache of one caller, after these calls, and its pass.
-fn called<R: Wait>(
-    rt: &R,
-    alloc: Global,
-    config: &Config,
-    steps: &[Step],
-) -> Result<(Cache, Pass), Fail> {
-    let (cache, passes) = opened(alloc, config, 1)?;
-    let ran = run(rt, alloc, &cache, only(&cache, passes)?, steps);
-    Ok((cache, at_once(ran, steps.len())?))
+// Whether all calls of a cache, so many, were made at once: each took three stamps, and no memory was refused, for a call
+// that is made once more starts later than the other cache's.
+fn is_at_once(played: &Played, calls: usize) -> bool {
+    let seen = played.first.seen();
+    played.first.len() == calls && seen % 3 == 0 && seen / 3 == calls as u64
 }
 
-// Why the cache of a row is not finished.
+// Those of four passes that are given.
+fn passes_of(alloc: Global, given: Given, four: [Pass; 4]) -> Result<Vec<Pass>, Fail> {
+    let mut passes = Vec::from_array(alloc, four)?;
+    passes.truncate(given.to);
+    let from = given.from.min(passes.len());
+    Ok(passes.split_off(from)?)
+}
+
+// Why the cache of a row is not finished. It fails where memory was refused.
 fn fault<R: Threads + Wait + Sync>(
     rt: &R,
     alloc: Global,
     row: &Row,
 ) -> Result<Option<FinishFault>, Fail> {
-    let (cache, own) = called(rt, alloc, &TWO_LANES, row.own)?;
-    let (_, other) = called(rt, alloc, &TWO_LANES, row.other)?;
-    let given = match row.given {
-        Given::Own => listed(alloc, own)?,
-        Given::Others => listed(alloc, other)?,
-        Given::Both => both(alloc, own, other)?,
-    };
-    fault_of(cache.finish(rt, given))
+    let own = run_play(rt, alloc, &play_of(&TWO_LANES, row.own))?;
+    let other = run_play(rt, alloc, &play_of(&row.wider, row.other))?;
+    if !is_at_once(&own, row.own.len()) || !is_at_once(&other, row.other.len()) {
+        return Err("out of memory at a call".into());
+    }
+    let four = [own.first, own.second, other.first, other.second];
+    let passes = passes_of(alloc, row.given, four)?;
+    fault_of(own.cache.finish(rt, passes))
+}
+
+// Whether the cache of a row is finished, or not, as is written.
+fn holds<R: Threads + Wait + Sync>(rt: &R, alloc: Global, row: &Row) -> Result<bool, Fail> {
+    Ok(fault(rt, alloc, row)? == row.fault)
 }
 
 #[test]
 fn the_passes_list_just_the_recorded_calls(rt: HostRuntime) -> Result<(), Fail> {
     for number in 0..ROWS.len() {
-        let row = &ROWS[number];
-        assert_eq!(rt; fault(&rt, rt.alloc(), row)?, row.fault, "row {number}");
+        assert!(rt; holds(&rt, rt.alloc(), &ROWS[number])?, "row {number}");
     }
     Ok(())
 }
 
-#[test]
-fn a_call_of_no_lane_is_strange(rt: HostRuntime) -> Result<(), Fail> {
-    let alloc = rt.alloc();
-    let (cache, _) = called(&rt, alloc, &TWO_LANES, &PUT_OTHER)?;
-    let (_, wider) = called(&rt, alloc, &FOUR_LANES, &PUT_OTHER)?;
-    let fault = fault_of(cache.finish(&rt, listed(alloc, wider)?))?;
-    assert_eq!(rt; fault, Some(FinishFault::Strange { caller: 0, call: 0 }));
-    Ok(())
-}
-
 // Why a cache is not finished. It fails where memory was refused.
-fn fault_of(
-    ended: Result<Finished<MemoryDevice<256>>, FinishFault>,
-) -> Result<Option<FinishFault>, Fail> {
+fn fault_of(ended: Result<Finished<TestDevice>, FinishFault>) -> Result<Option<FinishFault>, Fail> {
     match ended {
         Ok(_) => Ok(None),
         Err(FinishFault::OutOfMemory) => Err(FinishFault::OutOfMemory.into()),

@@ -1,11 +1,16 @@
 //! Many callers at once, beside workers that flush and move.
 ghost use Rattle.std.specs.Prelude.{◌≡◌, ◌≤◌, All};
 
-use super::*;
-use record_pages::{Answer, Key, Tier, Value};
-use shared_cache::CallFault;
-use std::sync::Wait;
+use super::gate::Gate;
+use super::opened::{Cache, PLAIN, Setup, opened};
+use super::played::has_calls;
+use super::test_device::TestDevice;
+use record_pages::{Answer, Config, Key, NEVER, Pushed, Tier, Value};
+use shared_cache::{CallFault, Finished, Pass};
+use std::alloc::{AllocError, Global};
 use std::sync::atomic::{AtomicBool, AtomicU32, Ordering};
+use std::sync::{Arc, Wait};
+use std::test::Fail;
 use std::thread::{Threads, join, map_vec, yield_now};
 
 // Four lanes of four sets, in which all is small.
@@ -20,9 +25,12 @@ const SMALL: Config = Config {
     admit: 32768,
 };
 
-const PAGES: u32 = 12;
-
-const CALLERS: u16 = 8;
+const OF_EIGHT: Setup = Setup {
+    config: SMALL,
+    pages: 12,
+    callers: 8,
+    ..PLAIN
+};
 
 // How many calls each caller makes.
 const CALLS: u32 = 100_000;
@@ -49,7 +57,7 @@ struct Progress {
 }
 
 /// How many calls went each way.
-#[derive(Clone, Copy, Debug, PartialEq, Eq)]
+#[derive(Clone, Copy)]
 struct Tally {
     memory: u32,
     log: u32,
@@ -313,15 +321,31 @@ fn gathered(alloc: Global, called: Vec<Called>) -> Result<(Vec<Pass>, Tally), Fa
     Ok((passes, tally))
 }
 
+// What is left of a cache behind the calls of its callers, and how they went.
+fn left<R: Threads + Wait + Sync>(
+    rt: &R,
+    alloc: Global,
+    cache: Cache,
+    passes: Vec<Pass>,
+) -> Result<(Finished<TestDevice>, Tally), Fail>
+    requires ties { All (λ p. p.sight.clock ≡ cache.clock) passes.items }
+    requires lanes { 4 ≤ cache.layout.lanes }
+{
+    let called = beside_workers(rt, alloc, &cache, passes)?;
+    let (passes, tally) = gathered(alloc, called)?;
+    Ok((cache.finish(rt, passes)?, tally))
+}
+
+// Whether no call was refused, and values were found in each tier.
+fn is_in_all(tally: &Tally) -> bool {
+    tally.refused == 0 && tally.memory > 0 && tally.log > 0 && tally.set > 0
+}
+
 #[test]
 fn many_threads_find_values_in_all_tiers(rt: HostRuntime) -> Result<(), Fail> {
-    let alloc = rt.alloc();
-    let devices = so_many(alloc, 4, PAGES)?;
-    let (cache, passes) = Cache::open(alloc, &SMALL, devices, Rriparoo, CALLERS)?;
-    let (passes, tally) = gathered(alloc, beside_workers(&rt, alloc, &cache, passes)?)?;
-    assert_eq!(rt; tally.refused, 0);
-    assert!(rt; tally.memory > 0 && tally.log > 0 && tally.set > 0);
-    let ended = cache.finish(&rt, passes);
-    assert_eq!(rt; accepted(alloc, ended)?, Some(800_000));
+    let gate = Arc::new(rt.alloc(), Gate::new())?;
+    let (cache, passes) = opened(rt.alloc(), &OF_EIGHT, &gate)?;
+    let (finished, tally) = left(&rt, rt.alloc(), cache, passes)?;
+    assert!(rt; is_in_all(&tally) && has_calls(rt.alloc(), &finished, 800_000));
     Ok(())
 }

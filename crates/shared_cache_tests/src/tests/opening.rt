@@ -1,7 +1,11 @@
 //! When a cache is opened.
-use super::*;
-use record_pages::Field;
-use shared_cache::OpenCacheFault;
+use super::opened::{ONE_SET, TWO_LANES};
+use page_device::MemoryDevice;
+use record_pages::{Config, Field};
+use rriparoo::Rriparoo;
+use shared_cache::{OpenCacheFault, SharedCache};
+use std::alloc::Global;
+use std::test::Fail;
 
 /// An opening, and why it is refused.
 #[derive(Clone, Copy)]
@@ -64,6 +68,19 @@ const NARROW: Row = Row {
     fault: Some(OpenCacheFault::WrongPage),
     ..OPENS
 };
+
+// So many devices of so many pages.
+fn so_many<const PAGE: usize>(
+    alloc: Global,
+    count: u32,
+    pages: u32,
+) -> Result<Vec<MemoryDevice<PAGE>>, Fail> {
+    let mut devices = Vec::new(alloc);
+    for _ in 0..count {
+        devices.push(MemoryDevice::new(alloc, pages)?)?;
+    }
+    Ok(devices)
+}
 
 // Why a cache with pages of this size is not opened so. It fails where memory was refused.
 fn fault<const PAGE: usize>(alloc: Global, row: &Row) -> Result<Option<OpenCacheFault>, Fail> {

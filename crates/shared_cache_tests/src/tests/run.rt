@@ -1,9 +1,11 @@
 //! Calls of a shared cache, each with what it gives.
 ghost use Rattle.std.specs.Prelude.{◌≡◌, ◌<◌};
 
-use super::*;
-use record_pages::{Answer, Key, MissCause, Tier, Value};
-use shared_cache::CallFault;
+use super::opened::Cache;
+use klog::Flushed;
+use record_pages::{Answer, Key, MissCause, NEVER, Pushed, Tier, Value};
+use shared_cache::{CallFault, Moved, Pass};
+use std::alloc::Global;
 use std::sync::Wait;
 
 /// What a get is to find.
@@ -29,10 +31,12 @@ pub enum Step {
     Get(&'static [u8], Found),
     /// A key.
     Remove(&'static [u8]),
-    /// A step of flushing lane 0.
+    /// A step of flushing the lane of the rounds.
     Flush(Flushed),
-    /// A move of lane 0.
+    /// A move of the lane of the rounds.
     Move(Moved),
+    /// A move of the lane of the rounds of which the plan is refused.
+    MoveRefused,
     /// A stamp that the pass is told of.
     Meet(u64),
     /// A key, of which a get is refused since the clock is full.
@@ -46,21 +50,32 @@ pub struct Ran {
     pub strayed: Option<usize>,
 }
 
+impl Ran {
+    /// A pass with which no call is made.
+    pub fn nothing(pass: Pass) -> Ran {
+        Ran {
+            pass,
+            strayed: None,
+        }
+    }
+}
+
 /// Makes each of these calls, up to the first that does not give what is written beside it.
-pub fn run<D: PageDevice<PAGE>, P: EvictionPolicy + Drop, const PAGE: usize, R: Wait>(
+pub fn run<R: Wait>(
     rt: &R,
     alloc: Global,
-    cache: &SharedCache<D, P, PAGE>,
+    cache: &Cache,
     mut pass: Pass,
+    lane: u32,
     steps: &[Step],
 ) -> Ran
     requires clock { pass.sight.clock ≡ cache.now.clock }
-    requires lane { 0 < cache.now.layout.lanes }
+    requires lane { lane < cache.now.layout.lanes }
     ensures { result.pass.sight.clock ≡ cache.now.clock }
 {
     let mut strayed = None;
     for number in 0..steps.len() {
-        if !gives(rt, alloc, cache, &mut pass, &steps[number]) {
+        if !gives(rt, alloc, cache, &mut pass, lane, &steps[number]) {
             strayed = Some(number);
             break;
         }
@@ -69,15 +84,16 @@ pub fn run<D: PageDevice<PAGE>, P: EvictionPolicy + Drop, const PAGE: usize, R: 
 }
 
 // Whether a call gives what is written beside it.
-fn gives<D: PageDevice<PAGE>, P: EvictionPolicy + Drop, const PAGE: usize, R: Wait>(
+fn gives<R: Wait>(
     rt: &R,
     alloc: Global,
-    cache: &SharedCache<D, P, PAGE>,
+    cache: &Cache,
     pass: &mut Pass,
+    lane: u32,
     step: &Step,
 ) -> bool
     requires clock { pass.old.sight.clock ≡ cache.now.clock }
-    requires lane { 0 < cache.now.layout.lanes }
+    requires lane { lane < cache.now.layout.lanes }
     ensures { pass.new.sight.clock ≡ cache.now.clock }
 {
     match step {
@@ -90,18 +106,19 @@ fn gives<D: PageDevice<PAGE>, P: EvictionPolicy + Drop, const PAGE: usize, R: Wa
         ) == Some(*wanted),
         Step::Get(name, wanted) => is_found(&gets(rt, alloc, cache, pass, name), wanted),
         Step::Remove(name) => removes(rt, alloc, cache, pass, name),
-        Step::Flush(wanted) => cache.flush_round(rt, 0) == *wanted,
-        Step::Move(wanted) => moves(rt, cache) == Some(*wanted),
+        Step::Flush(wanted) => cache.flush_round(rt, lane) == *wanted,
+        Step::Move(wanted) => moves(rt, cache, lane) == Some(*wanted),
+        Step::MoveRefused => cache.move_round(rt, lane).is_err(),
         Step::Meet(stamp) => pass.meet(*stamp).is_ok(),
         Step::ClockFull(name) => is_full(rt, alloc, cache, pass, name),
     }
 }
 
 // Puts a pair by this word and with this expiry, once more where memory was refused.
-fn puts<D: PageDevice<PAGE>, P: EvictionPolicy + Drop, const PAGE: usize, R: Wait>(
+fn puts<R: Wait>(
     rt: &R,
     alloc: Global,
-    cache: &SharedCache<D, P, PAGE>,
+    cache: &Cache,
     pass: &mut Pass,
     name: &[u8],
     bytes: &[u8],
@@ -138,10 +155,10 @@ fn puts<D: PageDevice<PAGE>, P: EvictionPolicy + Drop, const PAGE: usize, R: Wai
 }
 
 // Looks a key up at moment 5, once more where memory was refused.
-fn gets<D: PageDevice<PAGE>, P: EvictionPolicy + Drop, const PAGE: usize, R: Wait>(
+fn gets<R: Wait>(
     rt: &R,
     alloc: Global,
-    cache: &SharedCache<D, P, PAGE>,
+    cache: &Cache,
     pass: &mut Pass,
     name: &[u8],
 ) -> Result<Answer, CallFault>
@@ -159,13 +176,7 @@ fn gets<D: PageDevice<PAGE>, P: EvictionPolicy + Drop, const PAGE: usize, R: Wai
 }
 
 // Removes a key, once more where memory was refused.
-fn removes<D: PageDevice<PAGE>, P: EvictionPolicy + Drop, const PAGE: usize, R: Wait>(
-    rt: &R,
-    alloc: Global,
-    cache: &SharedCache<D, P, PAGE>,
-    pass: &mut Pass,
-    name: &[u8],
-) -> bool
+fn removes<R: Wait>(rt: &R, alloc: Global, cache: &Cache, pass: &mut Pass, name: &[u8]) -> bool
     requires { pass.old.sight.clock ≡ cache.now.clock }
     ensures { pass.new.sight.clock ≡ cache.now.clock }
 {
@@ -179,27 +190,18 @@ fn removes<D: PageDevice<PAGE>, P: EvictionPolicy + Drop, const PAGE: usize, R: 
     }
 }
 
-// Moves the objects of lane 0, once more where memory was refused.
-fn moves<D: PageDevice<PAGE>, P: EvictionPolicy + Drop, const PAGE: usize, R: Wait>(
-    rt: &R,
-    cache: &SharedCache<D, P, PAGE>,
-) -> Option<Moved>
-    requires { 0 < cache.now.layout.lanes }
+// Moves the objects of a lane, once more where memory was refused.
+fn moves<R: Wait>(rt: &R, cache: &Cache, lane: u32) -> Option<Moved>
+    requires { lane < cache.now.layout.lanes }
 {
-    match cache.move_round(rt, 0) {
+    match cache.move_round(rt, lane) {
         Ok(moved) => Some(moved),
-        Err(_) => cache.move_round(rt, 0).ok(),
+        Err(_) => cache.move_round(rt, lane).ok(),
     }
 }
 
 // Whether a get of a key is refused since the clock is full, and the pass lists no call more.
-fn is_full<D: PageDevice<PAGE>, P: EvictionPolicy + Drop, const PAGE: usize, R: Wait>(
-    rt: &R,
-    alloc: Global,
-    cache: &SharedCache<D, P, PAGE>,
-    pass: &mut Pass,
-    name: &[u8],
-) -> bool
+fn is_full<R: Wait>(rt: &R, alloc: Global, cache: &Cache, pass: &mut Pass, name: &[u8]) -> bool
     requires { pass.old.sight.clock ≡ cache.now.clock }
     ensures { pass.new.sight.clock ≡ cache.now.clock }
 {
@@ -209,7 +211,7 @@ fn is_full<D: PageDevice<PAGE>, P: EvictionPolicy + Drop, const PAGE: usize, R: 
 }
 
 // The key of these bytes, made once more where memory was refused.
-pub fn key(alloc: Global, bytes: &[u8]) -> Option<Key> {
+fn key(alloc: Global, bytes: &[u8]) -> Option<Key> {
     match Key::new(alloc, bytes) {
         Ok(key) => Some(key),
         Err(_) => Key::new(alloc, bytes).ok(),
@@ -217,7 +219,7 @@ pub fn key(alloc: Global, bytes: &[u8]) -> Option<Key> {
 }
 
 // The value of these bytes, made once more where memory was refused.
-pub fn value(alloc: Global, bytes: &[u8]) -> Option<Value> {
+fn value(alloc: Global, bytes: &[u8]) -> Option<Value> {
     match Value::new(alloc, bytes) {
         Ok(value) => Some(value),
         Err(_) => Value::new(alloc, bytes).ok(),

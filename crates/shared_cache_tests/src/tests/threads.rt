@@ -1,14 +1,17 @@
 //! Callers in threads of their own.
-ghost use Rattle.std.specs.Prelude.{◌≡◌, ◌<◌};
-
-use super::*;
-use std::sync::Wait;
-use std::thread::{Threads, join};
+use super::opened::{ONE_SET, PLAIN, Setup, TWO_LANES};
+use super::played::{NOTHING, Play, Way, ended, is_accepted};
+use super::run::{Found, Step};
+use record_pages::{Config, Pushed};
+use std::test::Fail;
 use trace_file::History;
 
-const MANY: Config = Config {
-    memory: 64,
-    ..ONE_SET
+const MANY: Setup = Setup {
+    config: Config {
+        memory: 64,
+        ..ONE_SET
+    },
+    ..PLAIN
 };
 
 const FIRST: [Step; 4] = [
@@ -25,60 +28,17 @@ const SECOND: [Step; 4] = [
     Step::Get(b"ux", Found::Absent),
 ];
 
-// Two callers, each in a thread of its own.
-fn in_threads<R: Threads + Wait + Sync>(
-    rt: &R,
-    alloc: Global,
-    cache: &Cache,
-    first: Pass,
-    second: Pass,
-) -> (Ran, Ran)
-    requires first { first.sight.clock ≡ cache.now.clock }
-    requires second { second.sight.clock ≡ cache.now.clock }
-    requires lane { 0 < cache.now.layout.lanes }
-{
-    join(
-        rt,
-        || -> Ran
-            requires { (first.sight.clock ≡ cache.now.clock) × (0 < cache.now.layout.lanes) }
-        { run(rt, alloc, cache, first, &FIRST) },
-        || -> Ran
-            requires { (second.sight.clock ≡ cache.now.clock) × (0 < cache.now.layout.lanes) }
-        { run(rt, alloc, cache, second, &SECOND) },
-    )
-}
+const SIDE_BY_SIDE: Play = Play {
+    setup: MANY,
+    first: &FIRST,
+    second: &SECOND,
+    ..NOTHING
+};
 
 #[test]
 fn two_threads_each_find_their_own(rt: HostRuntime) -> Result<(), Fail> {
-    let alloc = rt.alloc();
-    let (cache, passes) = opened(alloc, &MANY, 2)?;
-    let (first, second) = two_of(&cache, passes)?;
-    let (one, two) = in_threads(&rt, alloc, &cache, first, second);
-    let passes = both(alloc, as_written(one)?, as_written(two)?)?;
-    let ended = cache.finish(&rt, passes);
-    assert_eq!(rt; accepted(alloc, ended)?, Some(8));
+    assert!(rt; is_accepted(&rt, rt.alloc(), &SIDE_BY_SIDE, 8)?);
     Ok(())
-}
-
-// A caller in a thread of its own.
-fn in_a_thread<R: Threads + Wait + Sync>(
-    rt: &R,
-    alloc: Global,
-    cache: &Cache,
-    pass: Pass,
-    steps: &[Step],
-) -> Ran
-    requires clock { pass.sight.clock ≡ cache.now.clock }
-    requires lane { 0 < cache.now.layout.lanes }
-{
-    let (ran, ()) = join(
-        rt,
-        || -> Ran
-            requires { (pass.sight.clock ≡ cache.now.clock) × (0 < cache.now.layout.lanes) }
-        { run(rt, alloc, cache, pass, steps) },
-        || (),
-    );
-    ran
 }
 
 // Whether each call of the second caller starts above each end of the first one's.
@@ -97,16 +57,21 @@ fn is_after(history: &History) -> bool {
 }
 
 // The first key is of lane 1, the other of lane 0, so that nothing but the clock is between them.
+const ONE_BY_ONE: Play = Play {
+    setup: Setup {
+        config: TWO_LANES,
+        ..PLAIN
+    },
+    way: Way::OneByOne,
+    first: &FIRST,
+    second: &SECOND,
+    ..NOTHING
+};
+
 #[test]
 fn a_later_thread_starts_above_the_ends_of_a_joined_one(rt: HostRuntime) -> Result<(), Fail> {
-    let alloc = rt.alloc();
-    let (cache, passes) = opened(alloc, &TWO_LANES, 2)?;
-    let (first, second) = two_of(&cache, passes)?;
-    let one = in_a_thread(&rt, alloc, &cache, first, &FIRST);
-    let two = in_a_thread(&rt, alloc, &cache, second, &SECOND);
-    let finished = cache.finish(&rt, both(alloc, as_written(one)?, as_written(two)?)?)?;
-    assert_eq!(rt; finished.history.len(), 8);
-    assert!(rt; is_after(&finished.history));
+    let finished = ended(&rt, rt.alloc(), &ONE_BY_ONE)?;
+    assert!(rt; finished.history.len() == 8 && is_after(&finished.history));
     Ok(())
 }
 
@@ -120,12 +85,14 @@ const UNTIL_FULL: [Step; 4] = [
     Step::ClockFull(b"tx"),
 ];
 
+const FULL: Play = Play {
+    setup: MANY,
+    alone: &UNTIL_FULL,
+    ..NOTHING
+};
+
 #[test]
 fn a_full_clock_refuses_calls_and_records_none(rt: HostRuntime) -> Result<(), Fail> {
-    let alloc = rt.alloc();
-    let (cache, passes) = opened(alloc, &MANY, 1)?;
-    let ran = run(&rt, alloc, &cache, only(&cache, passes)?, &UNTIL_FULL);
-    let ended = cache.finish(&rt, listed(alloc, as_written(ran)?)?);
-    assert_eq!(rt; accepted(alloc, ended)?, Some(1));
+    assert!(rt; is_accepted(&rt, rt.alloc(), &FULL, 1)?);
     Ok(())
 }

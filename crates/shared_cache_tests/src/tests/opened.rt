@@ -1,0 +1,132 @@
+//! The cache of each test: what it is made of, and how it is opened.
+ghost use Rattle.std.specs.Prelude.{◌≡◌, All, IfOk};
+
+use super::gate::Gate;
+use super::test_device::TestDevice;
+use super::test_policy::TestPolicy;
+use record_pages::Config;
+use shared_cache::{Pass, SharedCache};
+use stale_device::StaleDevice;
+use std::alloc::Global;
+use std::sync::Arc;
+use std::test::Fail;
+
+/// A cache whose devices and policy do what a test asks for.
+pub type Cache = SharedCache<TestDevice, TestPolicy, 256>;
+
+/// What waits at the gate.
+#[derive(Clone, Copy)]
+pub enum Held {
+    /// Nothing.
+    Nothing,
+    /// The reads of lane 0.
+    Reads,
+    /// The plans.
+    Plans,
+}
+
+/// What a cache is made of.
+#[derive(Clone, Copy)]
+pub struct Setup {
+    /// The numbers of its lanes.
+    pub config: Config,
+    /// How many pages each device has.
+    pub pages: u32,
+    /// How many callers there are.
+    pub callers: u16,
+    /// What waits at the gate.
+    pub held: Held,
+    /// How many plans are refused.
+    pub refused: u32,
+    /// How many plans are to be begun before one is made.
+    pub together: u32,
+    /// After how many writes the first page of a device goes back to what it was before the last.
+    pub stale: u32,
+}
+
+/// One lane of one set, with one object in memory and two segments of one page.
+pub const ONE_SET: Config = Config {
+    lanes: 1,
+    sets: 1,
+    memory: 1,
+    segments: 2,
+    segment_pages: 1,
+    entries: 8,
+    threshold: 1,
+    admit: 65536,
+};
+
+/// The same with another lane beside it.
+pub const TWO_LANES: Config = Config {
+    lanes: 2,
+    ..ONE_SET
+};
+
+/// A cache of two callers, of which nothing is special.
+pub const PLAIN: Setup = Setup {
+    config: ONE_SET,
+    pages: 3,
+    callers: 2,
+    held: Held::Nothing,
+    refused: 0,
+    together: 0,
+    stale: u32::MAX,
+};
+
+/// An empty cache and its passes.
+pub fn opened(
+    alloc: Global,
+    setup: &Setup,
+    gate: &Arc<Gate, Global>,
+) -> Result<(Cache, Vec<Pass>), Fail>
+    ensures ties { IfOk result (λ o. All (λ p. p.sight.clock ≡ o.0.clock) o.1.items) }
+    ensures lanes { IfOk result (λ o. o.0.layout.lanes ≡ setup.now.config.lanes) }
+{
+    let devices = devices_of(alloc, setup, gate)?;
+    let policy = policy_of(setup, gate)?;
+    Ok(Cache::open(alloc, &setup.config, devices, policy, setup.callers)?)
+}
+
+// The policy of its moves.
+fn policy_of(setup: &Setup, gate: &Arc<Gate, Global>) -> Result<TestPolicy, Fail> {
+    let gate = match setup.held {
+        Held::Plans => Some(Arc::try_clone(gate)?),
+        _ => None,
+    };
+    Ok(TestPolicy::new(gate, setup.refused, setup.together))
+}
+
+// A device for each lane, told apart by their numbers.
+fn devices_of(
+    alloc: Global,
+    setup: &Setup,
+    gate: &Arc<Gate, Global>,
+) -> Result<Vec<TestDevice>, Fail> {
+    let mut devices = Vec::new(alloc);
+    for number in 0..setup.config.lanes {
+        devices.push(device(alloc, setup, gate, number)?)?;
+    }
+    Ok(devices)
+}
+
+// A lane's device.
+fn device(
+    alloc: Global,
+    setup: &Setup,
+    gate: &Arc<Gate, Global>,
+    number: u32,
+) -> Result<TestDevice, Fail> {
+    let gate = match (setup.held, number) {
+        (Held::Reads, 0) => Some(Arc::try_clone(gate)?),
+        _ => None,
+    };
+    Ok(TestDevice {
+        pages: StaleDevice::new(alloc, setup.pages, 0, setup.stale)?,
+        gate,
+        number,
+        sets: setup.config.sets,
+        log_writes: 0,
+        set_writes: 0,
+        failures: 0,
+    })
+}
