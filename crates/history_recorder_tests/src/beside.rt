@@ -1,9 +1,5 @@
-//! Several moves of a lane in flight at once, played in a world and beside it on plain lists: each answer is the same.
-use super::plain_lane::{Pair, PlainLane};
-use super::worlds::{Happens, Row, is_accepted, letter, played};
-use history_recorder::Reply;
-use record_pages::Answer;
-use std::alloc::{AllocError, Global};
+//! Several moves of a lane in flight at once, and calls of keys of their sets between their steps.
+use super::worlds::{Begins, Called, Happens, Row, plays};
 use std::test::Fail;
 
 // Two workers of one lane, whose moves of different sets are in flight at once and end in another order than they began;
@@ -14,220 +10,105 @@ const MOVES: Row = Row {
     sets: 4,
     memory: 1,
     events: &[
-        (Happens::Put(0, b"ax", b"1"), b'b'),
-        (Happens::Act(0), b'p'),
-        (Happens::End(0), b'e'),
-        (Happens::Put(0, b"bx", b"2"), b'b'),
-        (Happens::Act(0), b'p'),
-        (Happens::End(0), b'e'),
-        (Happens::Put(0, b"cx", b"3"), b'b'),
-        (Happens::Act(0), b'p'),
-        (Happens::End(0), b'e'),
-        (Happens::Put(0, b"dx", b"4"), b'b'),
-        (Happens::Act(0), b'p'),
-        (Happens::End(0), b'e'),
-        (Happens::Put(0, b"ex", b"5"), b'b'),
-        (Happens::Act(0), b'p'),
-        (Happens::End(0), b'e'),
-        (Happens::Flush(0), b's'),
-        (Happens::Flush(0), b'w'),
+        Happens::Whole(Begins::Put(0, b"ax", b"1")),
+        Happens::Whole(Begins::Put(0, b"bx", b"2")),
+        Happens::Whole(Begins::Put(0, b"cx", b"3")),
+        Happens::Whole(Begins::Put(0, b"dx", b"4")),
+        Happens::Whole(Begins::Put(0, b"ex", b"5")),
+        Happens::Flush(0),
+        Happens::Flush(0),
         // Two moves are in flight, and of the first the only item is struck.
-        (Happens::MoveBegin(0), b'j'),
-        (Happens::MoveBegin(0), b'j'),
-        (Happens::Get(0, b"ax"), b'b'),
-        (Happens::Act(0), b'h'),
-        (Happens::End(0), b'e'),
-        (Happens::Get(0, b"bx"), b'b'),
-        (Happens::Act(0), b'h'),
-        (Happens::End(0), b'e'),
-        (Happens::Put(0, b"ax", b"9"), b'b'),
-        (Happens::Act(0), b'p'),
-        (Happens::End(0), b'e'),
-        (Happens::Commit(0, 0, 2), b'W'),
-        (Happens::Get(0, b"bx"), b'b'),
-        (Happens::Act(0), b'h'),
-        (Happens::End(0), b'e'),
+        Happens::MoveBegin(0),
+        Happens::MoveBegin(0),
+        Happens::Whole(Begins::Get(0, b"ax")),
+        Happens::Whole(Begins::Get(0, b"bx")),
+        Happens::Whole(Begins::Put(0, b"ax", b"9")),
+        Happens::Commit(0, 0, 2),
+        Happens::Whole(Begins::Get(0, b"bx")),
         // Then three, and no set is left of which a move could begin.
-        (Happens::MoveBegin(0), b'j'),
-        (Happens::MoveBegin(0), b'j'),
-        (Happens::MoveBegin(0), b'n'),
-        (Happens::Abort(0, 3), b'A'),
-        (Happens::Get(0, b"cx"), b'b'),
-        (Happens::Act(0), b'h'),
-        (Happens::End(0), b'e'),
-        (Happens::Remove(0, b"dx"), b'b'),
-        (Happens::Act(0), b'r'),
-        (Happens::End(0), b'e'),
-        (Happens::Commit(0, 0, 4), b'W'),
-        (Happens::Get(0, b"dx"), b'b'),
-        (Happens::Act(0), b'm'),
-        (Happens::End(0), b'e'),
-        (Happens::Commit(0, 0, 1), b'W'),
-        (Happens::Get(0, b"ax"), b'b'),
-        (Happens::Act(0), b'h'),
-        (Happens::End(0), b'e'),
-        (Happens::MoveBegin(0), b'j'),
-        (Happens::Commit(0, 1, 5), b'B'),
-        (Happens::Commit(0, 0, 5), b'W'),
-        (Happens::Commit(0, 0, 3), b'S'),
-        (Happens::Abort(0, 5), b'S'),
-        (Happens::Get(0, b"cx"), b'b'),
-        (Happens::Act(0), b'h'),
-        (Happens::End(0), b'e'),
-        (Happens::MoveBegin(0), b'n'),
+        Happens::MoveBegin(0),
+        Happens::MoveBegin(0),
+        Happens::MoveBegin(0),
+        Happens::Abort(0, 3),
+        Happens::Whole(Begins::Get(0, b"cx")),
+        Happens::Whole(Begins::Remove(0, b"dx")),
+        Happens::Commit(0, 0, 4),
+        Happens::Whole(Begins::Get(0, b"dx")),
+        Happens::Commit(0, 0, 1),
+        Happens::Whole(Begins::Get(0, b"ax")),
+        Happens::MoveBegin(0),
+        Happens::Commit(0, 1, 5),
+        Happens::Commit(0, 0, 5),
+        Happens::Commit(0, 0, 3),
+        Happens::Abort(0, 5),
+        Happens::Whole(Begins::Get(0, b"cx")),
+        Happens::MoveBegin(0),
         // Another segment, with records of sets that have some on their pages.
-        (Happens::Put(0, b"fx", b"6"), b'b'),
-        (Happens::Act(0), b'p'),
-        (Happens::End(0), b'e'),
-        (Happens::Put(0, b"gx", b"7"), b'b'),
-        (Happens::Act(0), b'p'),
-        (Happens::End(0), b'e'),
-        (Happens::Put(0, b"hx", b"8"), b'b'),
-        (Happens::Act(0), b'p'),
-        (Happens::End(0), b'e'),
-        (Happens::Flush(0), b's'),
-        (Happens::Flush(0), b'w'),
-        (Happens::MoveBegin(0), b'j'),
-        (Happens::MoveBegin(0), b'j'),
-        (Happens::MoveBegin(0), b'j'),
-        (Happens::MoveBegin(0), b'n'),
-        (Happens::Get(0, b"ax"), b'b'),
-        (Happens::Act(0), b'h'),
-        (Happens::End(0), b'e'),
-        (Happens::Get(0, b"fx"), b'b'),
-        (Happens::Act(0), b'h'),
-        (Happens::End(0), b'e'),
-        (Happens::Remove(0, b"bx"), b'b'),
-        (Happens::Act(0), b'r'),
-        (Happens::End(0), b'e'),
-        (Happens::Put(0, b"fx", b"1"), b'b'),
-        (Happens::Act(0), b'p'),
-        (Happens::End(0), b'e'),
-        (Happens::Commit(0, 1, 8), b'W'),
-        (Happens::Get(0, b"cx"), b'b'),
-        (Happens::Act(0), b'm'),
-        (Happens::End(0), b'e'),
-        (Happens::Get(0, b"gx"), b'b'),
-        (Happens::Act(0), b'h'),
-        (Happens::End(0), b'e'),
-        (Happens::Commit(0, 1, 6), b'W'),
-        (Happens::Get(0, b"ex"), b'b'),
-        (Happens::Act(0), b'h'),
-        (Happens::End(0), b'e'),
-        (Happens::Get(0, b"ax"), b'b'),
-        (Happens::Act(0), b'm'),
-        (Happens::End(0), b'e'),
-        (Happens::Abort(0, 7), b'A'),
-        (Happens::Get(0, b"fx"), b'b'),
-        (Happens::Act(0), b'h'),
-        (Happens::End(0), b'e'),
-        (Happens::Get(0, b"bx"), b'b'),
-        (Happens::Act(0), b'm'),
-        (Happens::End(0), b'e'),
-        (Happens::MoveBegin(0), b'n'),
-        (Happens::Get(0, b"hx"), b'b'),
-        (Happens::Act(0), b'h'),
-        (Happens::End(0), b'e'),
+        Happens::Whole(Begins::Put(0, b"fx", b"6")),
+        Happens::Whole(Begins::Put(0, b"gx", b"7")),
+        Happens::Whole(Begins::Put(0, b"hx", b"8")),
+        Happens::Flush(0),
+        Happens::Flush(0),
+        Happens::MoveBegin(0),
+        Happens::MoveBegin(0),
+        Happens::MoveBegin(0),
+        Happens::MoveBegin(0),
+        Happens::Whole(Begins::Get(0, b"ax")),
+        Happens::Whole(Begins::Get(0, b"fx")),
+        Happens::Whole(Begins::Remove(0, b"bx")),
+        Happens::Whole(Begins::Put(0, b"fx", b"1")),
+        Happens::Commit(0, 1, 8),
+        Happens::Whole(Begins::Get(0, b"cx")),
+        Happens::Whole(Begins::Get(0, b"gx")),
+        Happens::Commit(0, 1, 6),
+        Happens::Whole(Begins::Get(0, b"ex")),
+        Happens::Whole(Begins::Get(0, b"ax")),
+        Happens::Abort(0, 7),
+        Happens::Whole(Begins::Get(0, b"fx")),
+        Happens::Whole(Begins::Get(0, b"bx")),
+        Happens::MoveBegin(0),
+        Happens::Whole(Begins::Get(0, b"hx")),
     ],
-    history: &[],
-    certificate: &[],
+    replies: b"bpebpebpebpebpeswjjbhebhebpeWbhejjyAbhebreWbmeWbhejBWSSbhenbpebpebpeswjjjybhebhebrebpeWbmebheWbhebmeAbhebmenbhe",
+    // What plain lists of the lane's live records answer: its object in memory, the log's records, and those that its sets show.
+    history: &[
+        Called(0, 1, 3, b"ax", b'p', b"1"),
+        Called(0, 4, 6, b"bx", b'p', b"2"),
+        Called(0, 7, 9, b"cx", b'p', b"3"),
+        Called(0, 10, 12, b"dx", b'p', b"4"),
+        Called(0, 13, 15, b"ex", b'p', b"5"),
+        Called(0, 16, 18, b"ax", b'h', b"1"),
+        Called(0, 19, 21, b"bx", b'h', b"2"),
+        Called(0, 22, 24, b"ax", b'p', b"9"),
+        Called(0, 25, 27, b"bx", b'h', b"2"),
+        Called(0, 28, 30, b"cx", b'h', b"3"),
+        Called(0, 31, 33, b"dx", b'r', b""),
+        Called(0, 34, 36, b"dx", b'm', b""),
+        Called(0, 37, 39, b"ax", b'h', b"9"),
+        Called(0, 40, 42, b"cx", b'h', b"3"),
+        Called(0, 43, 45, b"fx", b'p', b"6"),
+        Called(0, 46, 48, b"gx", b'p', b"7"),
+        Called(0, 49, 51, b"hx", b'p', b"8"),
+        Called(0, 52, 54, b"ax", b'h', b"9"),
+        Called(0, 55, 57, b"fx", b'h', b"6"),
+        Called(0, 58, 60, b"bx", b'r', b""),
+        Called(0, 61, 63, b"fx", b'p', b"1"),
+        Called(0, 64, 66, b"cx", b'm', b""),
+        Called(0, 67, 69, b"gx", b'h', b"7"),
+        Called(0, 70, 72, b"ex", b'h', b"5"),
+        Called(0, 73, 75, b"ax", b'm', b""),
+        Called(0, 76, 78, b"fx", b'h', b"1"),
+        Called(0, 79, 81, b"bx", b'm', b""),
+        Called(0, 82, 84, b"hx", b'h', b"8"),
+    ],
+    certificate: &[
+        0, 1, 2, 3, 4, 5, 6, 7, 8, 9, 10, 11, 12, 13, 14, 15, 16, 17, 18, 19, 20, 21, 22, 23, 24,
+        25, 26, 27,
+    ],
 };
-
-/// What an event answers: the letter of its reply, and the value of a hit.
-#[derive(Clone, Copy, PartialEq, Eq)]
-struct Told {
-    letter: u8,
-    value: Option<u8>,
-}
-
-// The first letter of a text.
-fn first_of(text: &[u8]) -> u8 {
-    match text.first() {
-        Some(letter) => *letter,
-        None => 0,
-    }
-}
-
-fn plainly(letter: u8) -> Told {
-    Told {
-        letter,
-        value: None,
-    }
-}
-
-// What the act of a call does on the plain lists.
-fn acted(lane: &mut PlainLane, begun: &Happens) -> Result<Told, AllocError> {
-    match begun {
-        Happens::Put(_, key, value) => {
-            lane.put(Pair {
-                key: first_of(key),
-                value: first_of(value),
-            })?;
-            Ok(plainly(b'p'))
-        }
-        Happens::Remove(_, key) => {
-            lane.remove(first_of(key));
-            Ok(plainly(b'r'))
-        }
-        Happens::Get(_, key) => match lane.get(first_of(key)) {
-            Some(value) => Ok(Told {
-                letter: b'h',
-                value: Some(value),
-            }),
-            None => Ok(plainly(b'm')),
-        },
-        _ => Ok(plainly(b'-')),
-    }
-}
-
-// What an event does on the plain lists, behind the call that began last.
-fn answered(lane: &mut PlainLane, begun: &Happens, happens: &Happens) -> Result<Told, AllocError> {
-    match happens {
-        Happens::Act(_) => acted(lane, begun),
-        Happens::End(_) => Ok(plainly(b'e')),
-        Happens::Flush(_) => Ok(plainly(lane.flush())),
-        Happens::MoveBegin(_) => Ok(plainly(lane.begin()?)),
-        Happens::Commit(_, item, number) => Ok(plainly(lane.commit(*item, *number)?)),
-        Happens::Abort(_, number) => Ok(plainly(lane.abort(*number))),
-        _ => Ok(plainly(b'b')),
-    }
-}
-
-// The same of a reply.
-fn replied(reply: &Reply) -> Told {
-    let value = match reply {
-        Reply::Got(Ok(Answer::Hit(value, _))) => Some(first_of(value.bytes())),
-        _ => None,
-    };
-    Told {
-        letter: letter(reply),
-        value,
-    }
-}
-
-// Whether each event of a row is answered as it is on the plain lists, and as is written beside it.
-fn agrees(alloc: Global, row: &Row) -> Result<bool, Fail> {
-    let played = played(alloc, row)?;
-    if played.replies.len() != row.events.len() {
-        return Ok(false);
-    }
-    let mut lane = PlainLane::new(alloc);
-    let mut begun = Happens::End(0);
-    for number in 0..row.events.len() {
-        let (happens, wanted) = &row.events[number];
-        let plain = answered(&mut lane, &begun, happens)?;
-        if plain.letter == b'b' {
-            begun = *happens;
-        }
-        if replied(played.replies.at(number)) != plain || plain.letter != *wanted {
-            return Ok(false);
-        }
-    }
-    is_accepted(alloc, &played)
-}
 
 #[test]
 fn several_moves_are_answered_as_on_plain_lists(rt: HostRuntime) -> Result<(), Fail> {
-    assert!(rt; agrees(rt.alloc(), &MOVES)?);
+    assert!(rt; plays(rt.alloc(), &MOVES)?);
     Ok(())
 }

@@ -1,9 +1,8 @@
 //! Each call of a lane's device refused, alone and with all behind it, over memory and over a file: what is answered then, and
 //! that the history and its certificate are accepted all the same.
-use super::counted_device::CountedDevice;
 use super::worlds::{
-    Happens, OVER_A_NAME, REMOVED_IN_FLIGHT, Row, TWO_OF_A_LANE, config, events, is_accepted,
-    letter,
+    Begins, Happens, OVER_A_NAME, REMOVED_IN_FLIGHT, Row, TWO_OF_A_LANE, are_replied, config,
+    events, is_accepted, letter, pages_of,
 };
 use file_device::FileDevice;
 use history_recorder::{Played, Reply, World, play};
@@ -15,7 +14,6 @@ use std::alloc::Global;
 use std::fs;
 use std::fs::File;
 use std::rt::Files;
-use std::sync::atomic::{AtomicU32, Ordering};
 use std::test::Fail;
 
 // Two puts, of which the second pushes the first into the log; a segment that is written; a move; and a get. Four calls of the
@@ -25,20 +23,15 @@ const ONE_MOVE: Row = Row {
     sets: 1,
     memory: 1,
     events: &[
-        (Happens::Put(0, b"ax", b"1"), b'b'),
-        (Happens::Act(0), b'p'),
-        (Happens::End(0), b'e'),
-        (Happens::Put(0, b"bx", b"2"), b'b'),
-        (Happens::Act(0), b'p'),
-        (Happens::End(0), b'e'),
-        (Happens::Flush(0), b's'),
-        (Happens::Flush(0), b'w'),
-        (Happens::MoveBegin(0), b'j'),
-        (Happens::Commit(0, 0, 1), b'W'),
-        (Happens::Get(0, b"ax"), b'b'),
-        (Happens::Act(0), b'h'),
-        (Happens::End(0), b'e'),
+        Happens::Whole(Begins::Put(0, b"ax", b"1")),
+        Happens::Whole(Begins::Put(0, b"bx", b"2")),
+        Happens::Flush(0),
+        Happens::Flush(0),
+        Happens::MoveBegin(0),
+        Happens::Commit(0, 0, 1),
+        Happens::Whole(Begins::Get(0, b"ax")),
     ],
+    replies: b"bpebpeswjWbhe",
     // What is recorded is judged here, and not compared.
     history: &[],
     certificate: &[],
@@ -121,8 +114,8 @@ fn fused<D>(inner: D, refused: Refused) -> FuseDevice<D> {
 }
 
 // What is played of a row over memory of which these calls are refused.
-fn over_memory(alloc: Global, row: &Row, pages: u32, refused: Refused) -> Result<Played, Fail> {
-    let memory = MemoryDevice::<256>::new(alloc, pages)?;
+fn over_memory(alloc: Global, row: &Row, refused: Refused) -> Result<Played, Fail> {
+    let memory = MemoryDevice::<256>::new(alloc, pages_of(row))?;
     played_over(alloc, row, fused(memory, refused))
 }
 
@@ -131,11 +124,10 @@ fn over_file<R: Files<File = File>>(
     rt: &R,
     alloc: Global,
     row: &Row,
-    pages: u32,
     refused: Refused,
 ) -> Result<Played, Fail> {
     let _ = fs::remove_file(rt, "fused.pages");
-    let file = FileDevice::<256>::open(rt, "fused.pages", pages)?;
+    let file = FileDevice::<256>::open(rt, "fused.pages", pages_of(row))?;
     let played = played_over(alloc, row, fused(file, refused))?;
     fs::remove_file(rt, "fused.pages")?;
     Ok(played)
@@ -146,77 +138,58 @@ fn is_as_told(alloc: Global, played: &Played, letters: &[u8]) -> Result<bool, Fa
     Ok(are_told(played, letters) && played.history.len() == 3 && is_accepted(alloc, played)?)
 }
 
+// Whether a row is played so with these calls refused, over memory and over a file.
+fn is_told<R: Files<File = File>>(
+    rt: &R,
+    alloc: Global,
+    row: &Row,
+    refused: Refused,
+    letters: &[u8],
+) -> Result<bool, Fail> {
+    let memory = over_memory(alloc, row, refused)?;
+    let file = over_file(rt, alloc, row, refused)?;
+    Ok(is_as_told(alloc, &memory, letters)? && is_as_told(alloc, &file, letters)?)
+}
+
 #[test]
 fn each_refused_call_is_told_and_accepted(rt: HostRuntime) -> Result<(), Fail> {
-    let alloc = rt.alloc();
     for place in 0..10usize {
         let refused = Refused {
             number: (place / 2) as u32 + 1,
             for_good: place % 2 == 1,
         };
-        let letters = REPLIES[place / 2];
-        let memory = over_memory(alloc, &ONE_MOVE, 3, refused)?;
-        assert!(rt; is_as_told(alloc, &memory, letters)?);
-        let file = over_file(&rt, alloc, &ONE_MOVE, 3, refused)?;
-        assert!(rt; is_as_told(alloc, &file, letters)?);
+        assert!(rt; is_told(&rt, rt.alloc(), &ONE_MOVE, refused, REPLIES[place / 2])?);
     }
     Ok(())
 }
 
-// How many calls of the device come of a row, where none is refused.
-fn calls_of(alloc: Global, row: &Row, pages: u32) -> Result<u32, Fail> {
-    let calls = AtomicU32::new(0);
-    let device = CountedDevice {
-        inner: MemoryDevice::<256>::new(alloc, pages)?,
-        calls: &calls,
-    };
-    let played = played_over(alloc, row, device)?;
-    drop(played);
-    Ok(calls.load(Ordering::SeqCst))
-}
+// More than any of the rows makes of calls of the device.
+const BEHIND_THE_LAST: u32 = 12;
 
-// Whether a row is accepted with these calls refused, over memory and over a file.
+// Whether a row is accepted with these calls refused, over memory and over a file; and where none of its calls is, whether the
+// replies are as it says.
 fn is_accepted_refusing<R: Files<File = File>>(
     rt: &R,
     alloc: Global,
     row: &Row,
     refused: Refused,
 ) -> Result<bool, Fail> {
-    let memory = over_memory(alloc, row, 6, refused)?;
-    let file = over_file(rt, alloc, row, 6, refused)?;
-    Ok(is_accepted(alloc, &memory)? && is_accepted(alloc, &file)?)
+    let memory = over_memory(alloc, row, refused)?;
+    let file = over_file(rt, alloc, row, refused)?;
+    let is_replied = refused.number < BEHIND_THE_LAST || are_replied(&memory.replies, row.replies);
+    Ok(is_replied && is_accepted(alloc, &memory)? && is_accepted(alloc, &file)?)
 }
 
-// Whether a row is accepted whichever of its calls is refused, alone or with all behind it.
-fn is_accepted_over_each<R: Files<File = File>>(
-    rt: &R,
-    alloc: Global,
-    row: &Row,
-) -> Result<bool, Fail> {
-    for number in 1..=calls_of(alloc, row, 6)? {
-        let alone = Refused {
-            number,
-            for_good: false,
-        };
-        let on = Refused {
-            number,
-            for_good: true,
-        };
-        if !is_accepted_refusing(rt, alloc, row, alone)?
-            || !is_accepted_refusing(rt, alloc, row, on)?
-        {
-            return Ok(false);
-        }
-    }
-    Ok(true)
-}
+const JUDGED: [Row; 3] = [REMOVED_IN_FLIGHT, TWO_OF_A_LANE, OVER_A_NAME];
 
 #[test]
 fn whichever_call_is_refused_the_history_is_accepted(rt: HostRuntime) -> Result<(), Fail> {
-    let alloc = rt.alloc();
-    assert_eq!(rt; calls_of(alloc, &ONE_MOVE, 3)?, 4);
-    for row in &[REMOVED_IN_FLIGHT, TWO_OF_A_LANE, OVER_A_NAME] {
-        assert!(rt; is_accepted_over_each(&rt, alloc, row)?);
+    for place in 0..72usize {
+        let refused = Refused {
+            number: (place / 6) as u32 + 1,
+            for_good: place % 2 == 1,
+        };
+        assert!(rt; is_accepted_refusing(&rt, rt.alloc(), &JUDGED[place / 2 % 3], refused)?);
     }
     Ok(())
 }

@@ -4,13 +4,9 @@
 #[cfg(test)]
 mod beside;
 #[cfg(test)]
-mod counted_device;
-#[cfg(test)]
 mod fuses;
 #[cfg(test)]
 mod layouts;
-#[cfg(test)]
-mod plain_lane;
 #[cfg(test)]
 mod tests;
 #[cfg(test)]

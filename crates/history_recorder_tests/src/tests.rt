@@ -1,20 +1,18 @@
 //! A recorded lane from end to end: each call with its reply and its record, in memory, in the log and in its set.
 mod run;
 
-ghost use Rattle.std.specs.Prelude.{◌≡◌, ◌<◌};
-
-use self::run::{Found, Step, as_written, run, tell_of};
-use history_recorder::{NotedRef, RecordFault, RecordPutFault, RecordedLane, RecordedParts};
+use self::run::{Found, Step, as_written, stamps_of, tell_of};
+use history_recorder::{NotedRef, RecordFault, RecordPutFault, RecordedLane};
 use klog::Flushed;
 use mover::{Moved, OpenFault};
 use page_device::{FuseDevice, MemoryDevice, PageDevice};
 use record_pages::{Answer, Config, Field, Key, MissCause, NEVER, Pushed, Tier};
 use rriparoo::Rriparoo;
 use set_hash::place;
-use std::alloc::Global;
+use std::alloc::{AllocError, Global};
 use std::test::Fail;
 use test_steps::{key, value};
-use trace_file::{Act, ActRef, History};
+use trace_file::{ActRef, History};
 
 // One lane of one set, with one object in memory and two segments of one page.
 const ONE_SET: Config = Config {
@@ -34,40 +32,66 @@ const TWO_LANES: Config = Config {
     ..ONE_SET
 };
 
-// The pages of a set and of two segments.
-fn device(alloc: Global) -> Result<MemoryDevice<256>, Fail> {
-    match MemoryDevice::new(alloc, 3) {
-        Ok(device) => Ok(device),
-        Err(_) => Ok(MemoryDevice::new(alloc, 3)?),
-    }
-}
+type Fused = FuseDevice<MemoryDevice<256>>;
 
-// A lane of these numbers over a device in memory, opened once more where memory was refused.
-fn lane(
-    alloc: Global,
-    config: &Config,
+/// A lane of a configuration, the device's call that is refused, calls of the lane, each with what it gives, and the letters of the
+/// acts that are recorded.
+#[derive(Clone, Copy)]
+struct Row {
+    config: Config,
     number: u32,
-) -> Result<RecordedLane<MemoryDevice<256>, 256>, Fail>
-    requires { number < config.now.lanes }
-{
-    match RecordedLane::open(alloc, config, number, device(alloc)?) {
+    /// From 1; 0 is none.
+    refused: u32,
+    steps: &'static [Step],
+    letters: &'static [u8],
+}
+
+const ROW: Row = Row {
+    config: ONE_SET,
+    number: 0,
+    refused: 0,
+    steps: &[],
+    letters: b"",
+};
+
+// The pages of a set and of two segments.
+const PAGES: u32 = 3;
+
+fn device(alloc: Global, row: &Row) -> Result<Fused, AllocError> {
+    Ok(FuseDevice::one(MemoryDevice::new(alloc, PAGES)?, row.refused))
+}
+
+// The lane of a row, opened once more where memory was refused.
+fn lane(alloc: Global, row: &Row) -> Result<RecordedLane<Fused, 256>, Fail> {
+    if row.number >= row.config.lanes {
+        return Err("a lane that is not there".into());
+    }
+    match RecordedLane::open(alloc, &row.config, row.number, device(alloc, row)?) {
         Ok(lane) => Ok(lane),
-        Err(_) => Ok(RecordedLane::open(alloc, config, number, device(alloc)?)?),
+        Err(_) => Ok(RecordedLane::open(alloc, &row.config, row.number, device(alloc, row)?)?),
     }
 }
 
-// A lane over a device that refuses one call.
-fn refusing(
-    alloc: Global,
-    call: u32,
-) -> Result<RecordedLane<FuseDevice<MemoryDevice<256>>, 256>, Fail> {
-    match RecordedLane::open(alloc, &ONE_SET, 0, FuseDevice::one(device(alloc)?, call)) {
-        Ok(lane) => Ok(lane),
-        Err(_) => {
-            let again = FuseDevice::one(device(alloc)?, call);
-            Ok(RecordedLane::open(alloc, &ONE_SET, 0, again)?)
-        }
+// Whether the lane of a row has its number and configuration, its calls give what is written beside them and are recorded, and
+// the calls and the device are given back.
+fn is_as_written(alloc: Global, row: &Row) -> Result<bool, Fail> {
+    let mut lane = lane(alloc, row)?;
+    let is_its = lane.lane() == row.number && lane.config() == row.config;
+    let told = tell_of(alloc, &mut lane, row.steps, row.letters)?;
+    let parts = lane.into_parts();
+    let are_back = ends_as_written(&parts.calls, row.letters) && parts.device.pages() == PAGES;
+    Ok(is_its && told == as_written(row.letters.len()) && are_back)
+}
+
+// Whether there are as many calls as letters, and the last ends at the last stamp.
+fn ends_as_written(calls: &History, letters: &[u8]) -> bool {
+    if calls.len() != letters.len() {
+        return false;
     }
+    if calls.len() == 0 {
+        return true;
+    }
+    calls.at(calls.len() - 1).end == stamps_of(letters.len())
 }
 
 const EACH_TIER: [Step; 14] = [
@@ -87,36 +111,12 @@ const EACH_TIER: [Step; 14] = [
     Step::Get(b"bx", Found::Absent),
 ];
 
-#[test]
-fn a_value_is_a_hit_in_each_tier_and_each_call_is_recorded(rt: HostRuntime) -> Result<(), Fail> {
-    let lane = lane(rt.alloc(), &ONE_SET, 0)?;
-    let told = tell_of(rt.alloc(), lane, &EACH_TIER, b"mphphhhrmm")?;
-    assert_eq!(rt; told, as_written(10));
-    Ok(())
-}
-
-#[test]
-fn a_lane_is_opened_with_no_call(rt: HostRuntime) -> Result<(), Fail> {
-    let lane = lane(rt.alloc(), &ONE_SET, 0)?;
-    let told = tell_of(rt.alloc(), lane, &[], b"")?;
-    assert_eq!(rt; told, as_written(0));
-    Ok(())
-}
-
 const REFUSED: [Step; 4] = [
     Step::Put(b"ax", b"1", 0, Pushed::Nobody),
     Step::TooLarge(b"ax", &[7; 225]),
     Step::Get(b"ax", Found::Memory(b"1")),
     Step::Put(b"bx", &[7; 224], 0, Pushed::Logged),
 ];
-
-#[test]
-fn a_refused_put_leaves_the_older_value(rt: HostRuntime) -> Result<(), Fail> {
-    let lane = lane(rt.alloc(), &ONE_SET, 0)?;
-    let told = tell_of(rt.alloc(), lane, &REFUSED, b"php")?;
-    assert_eq!(rt; told, as_written(3));
-    Ok(())
-}
 
 // The write of the log's page is the first call of the device, and the second is refused.
 const FAULT: [Step; 6] = [
@@ -128,45 +128,12 @@ const FAULT: [Step; 6] = [
     Step::Get(b"ax", Found::Log(b"1")),
 ];
 
-#[test]
-fn a_fault_is_recorded_as_a_miss(rt: HostRuntime) -> Result<(), Fail> {
-    let lane = refusing(rt.alloc(), 2)?;
-    let told = tell_of(rt.alloc(), lane, &FAULT, b"ppmh")?;
-    assert_eq!(rt; told, as_written(4));
-    Ok(())
-}
-
 const PARTS: [Step; 4] = [
     Step::Put(b"ax", b"1", 0, Pushed::Nobody),
     Step::Get(b"ax", Found::Memory(b"1")),
     Step::Put(b"bx", b"2", 65535, Pushed::Logged),
     Step::Remove(b"ax"),
 ];
-
-#[test]
-fn the_calls_and_the_device_are_given_back(rt: HostRuntime) -> Result<(), Fail> {
-    let lane = lane(rt.alloc(), &ONE_SET, 0)?;
-    let parts = parts_behind(rt.alloc(), lane, &PARTS)?;
-    assert_eq!(rt; parts.calls.len(), 4);
-    assert!(rt; ends_at(&parts.calls, 3, 8));
-    assert_eq!(rt; parts.device.pages(), 3);
-    Ok(())
-}
-
-// The calls and the device of a lane behind these calls.
-fn parts_behind<D: PageDevice<PAGE>, const PAGE: usize>(
-    alloc: Global,
-    mut lane: RecordedLane<D, PAGE>,
-    steps: &[Step],
-) -> Result<RecordedParts<D>, Fail> {
-    let _strayed = run(alloc, &mut lane, steps)?;
-    Ok(lane.into_parts())
-}
-
-// Whether the call at a position ends there.
-fn ends_at(calls: &History, position: usize, end: u64) -> bool {
-    position < calls.len() && calls.at(position).end == end
-}
 
 // Keys of the second of two lanes.
 const SECOND: [Step; 3] = [
@@ -175,63 +142,110 @@ const SECOND: [Step; 3] = [
     Step::Get(b"b", Found::Log(b"1")),
 ];
 
+// The lanes: a value is a hit in each tier; none is called; a refused put leaves the older value; a fault is recorded as a miss; one
+// object leaves memory by its word; and the second of two lanes has its own keys.
+const ROWS: [Row; 6] = [
+    Row {
+        steps: &EACH_TIER,
+        letters: b"mphphhhrmm",
+        ..ROW
+    },
+    ROW,
+    Row {
+        steps: &REFUSED,
+        letters: b"php",
+        ..ROW
+    },
+    Row {
+        refused: 2,
+        steps: &FAULT,
+        letters: b"ppmh",
+        ..ROW
+    },
+    Row {
+        steps: &PARTS,
+        letters: b"phpr",
+        ..ROW
+    },
+    Row {
+        config: TWO_LANES,
+        number: 1,
+        steps: &SECOND,
+        letters: b"pph",
+        ..ROW
+    },
+];
+
 #[test]
-fn a_lane_has_its_number_and_its_keys(rt: HostRuntime) -> Result<(), Fail> {
-    let second = lane(rt.alloc(), &TWO_LANES, 1)?;
-    let (number, config) = (second.lane(), second.config());
-    let told = tell_of(rt.alloc(), second, &SECOND, b"pph")?;
-    assert_eq!(rt; (number, config), (1, TWO_LANES));
-    assert_eq!(rt; told, as_written(3));
+fn each_call_gives_what_it_must_and_is_recorded(rt: HostRuntime) -> Result<(), Fail> {
+    for number in 0..ROWS.len() {
+        assert!(rt; is_as_written(rt.alloc(), &ROWS[number])?, "row {number}");
+    }
     Ok(())
 }
 
-/// An opening of a lane over so many pages, and why it is refused.
+/// An opening of a lane over so many pages, of 128 bytes or of 256, and why it is refused.
 #[derive(Clone, Copy)]
 struct Opening {
     config: Config,
+    is_narrow: bool,
     pages: u32,
     fault: Option<OpenFault>,
 }
 
-const OPENS: Opening = Opening {
-    config: ONE_SET,
-    pages: 3,
-    fault: None,
-};
-
-// The refusals, each where all behind it apply too.
-const NO_SET: Opening = Opening {
-    config: Config { sets: 0, ..ONE_SET },
-    pages: 2,
-    fault: Some(OpenFault::ConfigFault { field: Field::Sets }),
-};
-
-const NARROW: Opening = Opening {
-    pages: 2,
-    fault: Some(OpenFault::WrongPage),
-    ..OPENS
-};
-
-const SMALL: Opening = Opening {
-    pages: 2,
-    fault: Some(OpenFault::DeviceTooSmall),
-    ..OPENS
-};
+// Each refusal comes where all behind it apply too; the last opening is not refused.
+const OPENINGS: [Opening; 4] = [
+    Opening {
+        config: Config { sets: 0, ..ONE_SET },
+        is_narrow: true,
+        pages: 2,
+        fault: Some(OpenFault::ConfigFault { field: Field::Sets }),
+    },
+    Opening {
+        config: ONE_SET,
+        is_narrow: true,
+        pages: 2,
+        fault: Some(OpenFault::WrongPage),
+    },
+    Opening {
+        config: ONE_SET,
+        is_narrow: false,
+        pages: 2,
+        fault: Some(OpenFault::DeviceTooSmall),
+    },
+    Opening {
+        config: ONE_SET,
+        is_narrow: false,
+        pages: 3,
+        fault: None,
+    },
+];
 
 // Why a lane of pages of this size is not opened so.
-fn fault<const PAGE: usize>(alloc: Global, row: &Opening) -> Result<Option<OpenFault>, Fail>
-    requires { 0 < row.now.config.lanes }
-{
+fn fault<const PAGE: usize>(alloc: Global, row: &Opening) -> Result<Option<OpenFault>, Fail> {
+    if row.config.lanes == 0 {
+        return Err("a lane that is not there".into());
+    }
     let device = MemoryDevice::<PAGE>::new(alloc, row.pages)?;
     Ok(RecordedLane::open(alloc, &row.config, 0, device).err())
 }
 
+fn is_refused_so(alloc: Global, row: &Opening) -> Result<bool, Fail> {
+    let fault = if row.is_narrow {
+        fault::<128>(alloc, row)?
+    } else {
+        fault::<256>(alloc, row)?
+    };
+    Ok(fault == row.fault)
+}
+
 #[test]
 fn a_lane_is_opened_over_enough_pages(rt: HostRuntime) -> Result<(), Fail> {
-    let alloc = rt.alloc();
-    assert_eq!(rt; fault::<256>(alloc, &OPENS)?, OPENS.fault);
-    assert_eq!(rt; fault::<128>(alloc, &NO_SET)?, NO_SET.fault);
-    assert_eq!(rt; fault::<128>(alloc, &NARROW)?, NARROW.fault);
-    assert_eq!(rt; fault::<256>(alloc, &SMALL)?, SMALL.fault);
+    for number in 0..OPENINGS.len() {
+        assert!(rt;
+            is_refused_so(rt.alloc(), &OPENINGS[number])?,
+            "opening {number}"
+        );
+    }
     Ok(())
 }

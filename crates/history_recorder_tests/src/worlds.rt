@@ -11,12 +11,20 @@ use std::test::Fail;
 use test_steps::{key, value};
 use trace_file::{ActRef, CallRef, Certificate, History};
 
-/// An event.
+/// A call of a caller that begins.
 #[derive(Clone, Copy)]
-pub(crate) enum Happens {
+pub(crate) enum Begins {
     Get(u16, &'static [u8]),
     Put(u16, &'static [u8], &'static [u8]),
     Remove(u16, &'static [u8]),
+}
+
+/// An event, or those of a whole call.
+#[derive(Clone, Copy)]
+pub(crate) enum Happens {
+    /// A call that begins, is done and ends, with nothing between.
+    Whole(Begins),
+    Begin(Begins),
     Act(u16),
     End(u16),
     Flush(u32),
@@ -28,7 +36,14 @@ pub(crate) enum Happens {
 
 /// A call of a history: its caller, start, end, key, and what it did: p, h, m or r, with the value.
 #[derive(Clone, Copy)]
-pub(crate) struct Called(u16, u64, u64, &'static [u8], u8, &'static [u8]);
+pub(crate) struct Called(
+    pub(crate) u16,
+    pub(crate) u64,
+    pub(crate) u64,
+    pub(crate) &'static [u8],
+    pub(crate) u8,
+    pub(crate) &'static [u8],
+);
 
 /// A world of so many lanes of so many sets, with room for so many objects in memory, and of three callers.
 #[derive(Clone, Copy)]
@@ -36,8 +51,9 @@ pub(crate) struct Row {
     pub(crate) lanes: u32,
     pub(crate) sets: u32,
     pub(crate) memory: u32,
-    /// Each event, and the letter of its reply.
-    pub(crate) events: &'static [(Happens, u8)],
+    pub(crate) events: &'static [Happens],
+    /// The letter of each reply: three of a whole call, one of any other event.
+    pub(crate) replies: &'static [u8],
     pub(crate) history: &'static [Called],
     pub(crate) certificate: &'static [u32],
 }
@@ -47,6 +63,7 @@ pub(crate) fn config(row: &Row) -> Config {
         lanes: row.lanes,
         sets: row.sets,
         memory: row.memory,
+        entries: 16,
         ..ONE_LANE
     }
 }
@@ -64,27 +81,49 @@ fn devices<const PAGE: usize>(
     Ok(devices)
 }
 
-// The pages of four sets and of two segments.
-const PAGES: u32 = 6;
+// The pages of the sets and of two segments.
+pub(crate) fn pages_of(row: &Row) -> u32 {
+    row.sets.wrapping_add(2)
+}
 
 fn world(alloc: Global, row: &Row) -> Result<World<MemoryDevice<256>, 256>, Fail> {
-    let devices = devices(alloc, row.lanes, PAGES)?;
+    let devices = devices(alloc, row.lanes, pages_of(row))?;
     Ok(World::open(alloc, &config(row), devices, 3)?)
 }
 
-pub(crate) fn event(alloc: Global, happens: &Happens) -> Result<Event, Fail> {
-    match happens {
-        Happens::Get(caller, name) => Ok(Event::Begin(
-            *caller,
-            Operation::Get(key(alloc, name)?, 0),
-        )),
-        Happens::Put(caller, name, bytes) => {
+// The call that begins, and its caller.
+fn begin(alloc: Global, begins: &Begins) -> Result<(u16, Operation), Fail> {
+    match begins {
+        Begins::Get(caller, name) => Ok((*caller, Operation::Get(key(alloc, name)?, 0))),
+        Begins::Put(caller, name, bytes) => {
             let operation = Operation::Put(key(alloc, name)?, value(alloc, bytes)?, 0, NEVER);
-            Ok(Event::Begin(*caller, operation))
+            Ok((*caller, operation))
         }
-        Happens::Remove(caller, name) => {
-            Ok(Event::Begin(*caller, Operation::Remove(key(alloc, name)?)))
+        Begins::Remove(caller, name) => Ok((*caller, Operation::Remove(key(alloc, name)?))),
+    }
+}
+
+// Adds an event, or those of a whole call.
+fn add(alloc: Global, events: &mut Vec<Event>, happens: &Happens) -> Result<(), Fail> {
+    match happens {
+        Happens::Whole(begins) => {
+            let (caller, operation) = begin(alloc, begins)?;
+            events.push(Event::Begin(caller, operation))?;
+            events.push(Event::Act(caller))?;
+            events.push(Event::End(caller))?;
         }
+        Happens::Begin(begins) => {
+            let (caller, operation) = begin(alloc, begins)?;
+            events.push(Event::Begin(caller, operation))?;
+        }
+        other => events.push(event(alloc, other)?)?,
+    }
+    Ok(())
+}
+
+// An event that begins no call.
+fn event(alloc: Global, happens: &Happens) -> Result<Event, Fail> {
+    match happens {
         Happens::Act(caller) => Ok(Event::Act(*caller)),
         Happens::End(caller) => Ok(Event::End(*caller)),
         Happens::Flush(lane) => Ok(Event::Flush(*lane)),
@@ -93,6 +132,7 @@ pub(crate) fn event(alloc: Global, happens: &Happens) -> Result<Event, Fail> {
             Ok(Event::Commit(*lane, plan(alloc, *item)?, *number))
         }
         Happens::Abort(lane, number) => Ok(Event::Abort(*lane, *number)),
+        _ => Err("a call that begins".into()),
     }
 }
 
@@ -106,7 +146,7 @@ fn plan(alloc: Global, item: usize) -> Result<Plan, Fail> {
 pub(crate) fn events(alloc: Global, row: &Row) -> Result<Vec<Event>, Fail> {
     let mut events = Vec::new(alloc);
     for happens in row.events {
-        events.push(event(alloc, &happens.0)?)?;
+        add(alloc, &mut events, happens)?;
     }
     Ok(events)
 }
@@ -128,6 +168,7 @@ pub(crate) fn letter(reply: &Reply) -> u8 {
         Reply::Flushed(Flushed::Wrote) => b'w',
         Reply::Flushed(_) => b'f',
         Reply::MoveBegun(Ok(Begin::Job(_))) => b'j',
+        Reply::MoveBegun(Ok(Begin::Busy)) => b'y',
         Reply::MoveBegun(Ok(_)) => b'n',
         Reply::MoveBegun(Err(_)) => b'x',
         Reply::Committed(Committed::Written) => b'W',
@@ -139,12 +180,13 @@ pub(crate) fn letter(reply: &Reply) -> u8 {
     }
 }
 
-fn are_replied(replies: &Replies, events: &[(Happens, u8)]) -> bool {
-    if replies.len() != events.len() {
+// Whether these are the letters of the replies.
+pub(crate) fn are_replied(replies: &Replies, letters: &[u8]) -> bool {
+    if replies.len() != letters.len() {
         return false;
     }
-    for number in 0..events.len() {
-        if letter(replies.at(number)) != events[number].1 {
+    for number in 0..letters.len() {
+        if letter(replies.at(number)) != letters[number] {
             return false;
         }
     }
@@ -189,14 +231,14 @@ fn lists(certificate: &Certificate, positions: &[u32]) -> bool {
 }
 
 fn is_played(played: &Played, row: &Row) -> bool {
-    are_replied(&played.replies, row.events)
+    are_replied(&played.replies, row.replies)
         && is_history(&played.history, row.history)
         && lists(&played.certificate, row.certificate)
 }
 
 // Whether a row is played as it says, and accepted. Where memory was refused to one of its acts or moves, what was answered
 // is accepted too, and it is played once more.
-fn plays(alloc: Global, row: &Row) -> Result<bool, Fail> {
+pub(crate) fn plays(alloc: Global, row: &Row) -> Result<bool, Fail> {
     let first = played(alloc, row)?;
     let accepted = is_accepted(alloc, &first)?;
     Ok(accepted && (is_played(&first, row) || is_refused(&first) && plays_again(alloc, row)?))
@@ -209,7 +251,7 @@ fn plays_again(alloc: Global, row: &Row) -> Result<bool, Fail> {
 }
 
 // What is played of a row, once more where memory was refused to `play` itself.
-pub(crate) fn played(alloc: Global, row: &Row) -> Result<Played, Fail> {
+fn played(alloc: Global, row: &Row) -> Result<Played, Fail> {
     let events = events(alloc, row)?;
     match play(alloc, world(alloc, row)?, events.as_slice()) {
         Ok(played) => Ok(played),
@@ -241,13 +283,14 @@ const ACT_OF_A_PUT_FIRST: Row = Row {
     sets: 1,
     memory: 4,
     events: &[
-        (Happens::Put(0, b"a", b"1"), b'b'),
-        (Happens::Get(1, b"a"), b'b'),
-        (Happens::Act(0), b'p'),
-        (Happens::Act(1), b'h'),
-        (Happens::End(1), b'e'),
-        (Happens::End(0), b'e'),
+        Happens::Begin(Begins::Put(0, b"a", b"1")),
+        Happens::Begin(Begins::Get(1, b"a")),
+        Happens::Act(0),
+        Happens::Act(1),
+        Happens::End(1),
+        Happens::End(0),
     ],
+    replies: b"bbphee",
     history: &[
         Called(0, 1, 6, b"a", b'p', b"1"),
         Called(1, 2, 5, b"a", b'h', b"1"),
@@ -267,16 +310,15 @@ const ACT_OF_A_GET_FIRST: Row = Row {
     sets: 1,
     memory: 4,
     events: &[
-        (Happens::Put(0, b"a", b"1"), b'b'),
-        (Happens::Get(1, b"a"), b'b'),
-        (Happens::Act(1), b'm'),
-        (Happens::Act(0), b'p'),
-        (Happens::End(1), b'e'),
-        (Happens::End(0), b'e'),
-        (Happens::Put(0, b"ax", &[7; 225]), b'b'),
-        (Happens::Act(0), b'x'),
-        (Happens::End(0), b'-'),
+        Happens::Begin(Begins::Put(0, b"a", b"1")),
+        Happens::Begin(Begins::Get(1, b"a")),
+        Happens::Act(1),
+        Happens::Act(0),
+        Happens::End(1),
+        Happens::End(0),
+        Happens::Whole(Begins::Put(0, b"ax", &[7; 225])),
     ],
+    replies: b"bbmpeebx-",
     history: &[
         Called(1, 2, 5, b"a", b'm', b""),
         Called(0, 1, 6, b"a", b'p', b"1"),
@@ -296,13 +338,14 @@ const SECOND_LANE_FIRST: Row = Row {
     sets: 1,
     memory: 4,
     events: &[
-        (Happens::Put(0, b"a", b"1"), b'b'),
-        (Happens::Put(1, b"b", b"2"), b'b'),
-        (Happens::Act(1), b'p'),
-        (Happens::Act(0), b'p'),
-        (Happens::End(0), b'e'),
-        (Happens::End(1), b'e'),
+        Happens::Begin(Begins::Put(0, b"a", b"1")),
+        Happens::Begin(Begins::Put(1, b"b", b"2")),
+        Happens::Act(1),
+        Happens::Act(0),
+        Happens::End(0),
+        Happens::End(1),
     ],
+    replies: b"bbppee",
     history: &[
         Called(0, 1, 5, b"a", b'p', b"1"),
         Called(1, 2, 6, b"b", b'p', b"2"),
@@ -322,24 +365,21 @@ pub(crate) const REMOVED_IN_FLIGHT: Row = Row {
     sets: 1,
     memory: 1,
     events: &[
-        (Happens::Put(0, b"ax", b"1"), b'b'),
-        (Happens::Act(0), b'p'),
-        (Happens::End(0), b'e'),
-        (Happens::Put(0, b"bx", b"2"), b'b'),
-        (Happens::Act(0), b'p'),
-        (Happens::End(0), b'e'),
-        (Happens::Flush(0), b's'),
-        (Happens::Flush(0), b'w'),
-        (Happens::MoveBegin(0), b'j'),
-        (Happens::Remove(0, b"ax"), b'b'),
-        (Happens::Act(0), b'r'),
-        (Happens::Commit(0, 0, 1), b'W'),
-        (Happens::Get(0, b"ax"), b'-'),
-        (Happens::End(0), b'e'),
-        (Happens::Get(0, b"ax"), b'b'),
-        (Happens::Act(0), b'm'),
-        (Happens::MoveBegin(3), b'-'),
+        Happens::Whole(Begins::Put(0, b"ax", b"1")),
+        Happens::Whole(Begins::Put(0, b"bx", b"2")),
+        Happens::Flush(0),
+        Happens::Flush(0),
+        Happens::MoveBegin(0),
+        Happens::Begin(Begins::Remove(0, b"ax")),
+        Happens::Act(0),
+        Happens::Commit(0, 0, 1),
+        Happens::Begin(Begins::Get(0, b"ax")),
+        Happens::End(0),
+        Happens::Begin(Begins::Get(0, b"ax")),
+        Happens::Act(0),
+        Happens::MoveBegin(3),
     ],
+    replies: b"bpebpeswjbrW-ebm-",
     history: &[
         Called(0, 1, 3, b"ax", b'p', b"1"),
         Called(0, 4, 6, b"bx", b'p', b"2"),
@@ -361,26 +401,27 @@ const STRANGERS: Row = Row {
     sets: 1,
     memory: 1,
     events: &[
-        (Happens::Get(3, b"ax"), b'-'),
-        (Happens::Act(0), b'-'),
-        (Happens::End(0), b'-'),
-        (Happens::Put(2, b"ax", b"1"), b'b'),
-        (Happens::Act(2), b'p'),
-        (Happens::Act(2), b'-'),
-        (Happens::End(2), b'e'),
-        (Happens::End(2), b'-'),
-        (Happens::Put(2, b"bx", b"2"), b'b'),
-        (Happens::Act(2), b'p'),
-        (Happens::Flush(0), b's'),
-        (Happens::Flush(0), b'w'),
-        (Happens::Commit(0, 0, 1), b'S'),
-        (Happens::MoveBegin(0), b'j'),
-        (Happens::MoveBegin(0), b'n'),
-        (Happens::Commit(0, 1, 1), b'B'),
-        (Happens::Abort(0, 2), b'S'),
-        (Happens::Abort(0, 1), b'A'),
-        (Happens::Get(1, b"ax"), b'b'),
+        Happens::Begin(Begins::Get(3, b"ax")),
+        Happens::Act(0),
+        Happens::End(0),
+        Happens::Begin(Begins::Put(2, b"ax", b"1")),
+        Happens::Act(2),
+        Happens::Act(2),
+        Happens::End(2),
+        Happens::End(2),
+        Happens::Begin(Begins::Put(2, b"bx", b"2")),
+        Happens::Act(2),
+        Happens::Flush(0),
+        Happens::Flush(0),
+        Happens::Commit(0, 0, 1),
+        Happens::MoveBegin(0),
+        Happens::MoveBegin(0),
+        Happens::Commit(0, 1, 1),
+        Happens::Abort(0, 2),
+        Happens::Abort(0, 1),
+        Happens::Begin(Begins::Get(1, b"ax")),
     ],
+    replies: b"---bp-e-bpswSjyBSAb",
     history: &[
         Called(2, 1, 3, b"ax", b'p', b"1"),
         Called(2, 4, 7, b"bx", b'p', b"2"),
@@ -400,37 +441,26 @@ const BOTH_IN_FLIGHT: Row = Row {
     sets: 1,
     memory: 1,
     events: &[
-        (Happens::Put(0, b"a", b"1"), b'b'),
-        (Happens::Act(0), b'p'),
-        (Happens::End(0), b'e'),
-        (Happens::Put(0, b"c", b"2"), b'b'),
-        (Happens::Act(0), b'p'),
-        (Happens::End(0), b'e'),
-        (Happens::Put(1, b"b", b"3"), b'b'),
-        (Happens::Act(1), b'p'),
-        (Happens::End(1), b'e'),
-        (Happens::Put(1, b"d", b"4"), b'b'),
-        (Happens::Act(1), b'p'),
-        (Happens::End(1), b'e'),
-        (Happens::Flush(0), b's'),
-        (Happens::Flush(1), b's'),
-        (Happens::Flush(0), b'w'),
-        (Happens::Flush(1), b'w'),
-        (Happens::MoveBegin(0), b'j'),
-        (Happens::MoveBegin(1), b'j'),
-        (Happens::Put(2, b"a", b"5"), b'b'),
-        (Happens::Act(2), b'p'),
-        (Happens::Commit(1, 0, 1), b'W'),
-        (Happens::Commit(0, 0, 1), b'W'),
-        (Happens::Abort(1, 1), b'S'),
-        (Happens::End(2), b'e'),
-        (Happens::Get(0, b"b"), b'b'),
-        (Happens::Act(0), b'h'),
-        (Happens::End(0), b'e'),
-        (Happens::Get(1, b"a"), b'b'),
-        (Happens::Act(1), b'h'),
-        (Happens::End(1), b'e'),
+        Happens::Whole(Begins::Put(0, b"a", b"1")),
+        Happens::Whole(Begins::Put(0, b"c", b"2")),
+        Happens::Whole(Begins::Put(1, b"b", b"3")),
+        Happens::Whole(Begins::Put(1, b"d", b"4")),
+        Happens::Flush(0),
+        Happens::Flush(1),
+        Happens::Flush(0),
+        Happens::Flush(1),
+        Happens::MoveBegin(0),
+        Happens::MoveBegin(1),
+        Happens::Begin(Begins::Put(2, b"a", b"5")),
+        Happens::Act(2),
+        Happens::Commit(1, 0, 1),
+        Happens::Commit(0, 0, 1),
+        Happens::Abort(1, 1),
+        Happens::End(2),
+        Happens::Whole(Begins::Get(0, b"b")),
+        Happens::Whole(Begins::Get(1, b"a")),
     ],
+    replies: b"bpebpebpebpesswwjjbpWWSebhebhe",
     history: &[
         Called(0, 1, 3, b"a", b'p', b"1"),
         Called(0, 4, 6, b"c", b'p', b"2"),
@@ -455,30 +485,21 @@ pub(crate) const TWO_OF_A_LANE: Row = Row {
     sets: 2,
     memory: 1,
     events: &[
-        (Happens::Put(0, b"ax", b"1"), b'b'),
-        (Happens::Act(0), b'p'),
-        (Happens::End(0), b'e'),
-        (Happens::Put(0, b"bx", b"2"), b'b'),
-        (Happens::Act(0), b'p'),
-        (Happens::End(0), b'e'),
-        (Happens::Put(0, b"cx", b"3"), b'b'),
-        (Happens::Act(0), b'p'),
-        (Happens::End(0), b'e'),
-        (Happens::Flush(0), b's'),
-        (Happens::Flush(0), b'w'),
-        (Happens::MoveBegin(0), b'j'),
-        (Happens::MoveBegin(0), b'j'),
-        (Happens::MoveBegin(0), b'n'),
-        (Happens::Commit(0, 0, 2), b'W'),
-        (Happens::Commit(0, 0, 1), b'W'),
-        (Happens::Get(0, b"ax"), b'b'),
-        (Happens::Act(0), b'h'),
-        (Happens::End(0), b'e'),
-        (Happens::Get(0, b"bx"), b'b'),
-        (Happens::Act(0), b'h'),
-        (Happens::End(0), b'e'),
-        (Happens::MoveBegin(0), b'n'),
+        Happens::Whole(Begins::Put(0, b"ax", b"1")),
+        Happens::Whole(Begins::Put(0, b"bx", b"2")),
+        Happens::Whole(Begins::Put(0, b"cx", b"3")),
+        Happens::Flush(0),
+        Happens::Flush(0),
+        Happens::MoveBegin(0),
+        Happens::MoveBegin(0),
+        Happens::MoveBegin(0),
+        Happens::Commit(0, 0, 2),
+        Happens::Commit(0, 0, 1),
+        Happens::Whole(Begins::Get(0, b"ax")),
+        Happens::Whole(Begins::Get(0, b"bx")),
+        Happens::MoveBegin(0),
     ],
+    replies: b"bpebpebpeswjjyWWbhebhen",
     history: &[
         Called(0, 1, 3, b"ax", b'p', b"1"),
         Called(0, 4, 6, b"bx", b'p', b"2"),
@@ -495,54 +516,33 @@ pub(crate) const OVER_A_NAME: Row = Row {
     sets: 1,
     memory: 1,
     events: &[
-        (Happens::Put(0, b"a", b"1"), b'b'),
-        (Happens::Act(0), b'p'),
-        (Happens::End(0), b'e'),
-        (Happens::Put(0, b"bx", b"2"), b'b'),
-        (Happens::Act(0), b'p'),
-        (Happens::End(0), b'e'),
-        (Happens::Flush(0), b's'),
-        (Happens::Flush(0), b'w'),
-        (Happens::MoveBegin(0), b'j'),
-        (Happens::Put(0, b"c", b"3"), b'b'),
-        (Happens::Act(0), b'p'),
-        (Happens::End(0), b'e'),
-        (Happens::MoveBegin(0), b'n'),
-        (Happens::Flush(0), b's'),
-        (Happens::Flush(0), b'w'),
-        (Happens::Remove(0, b"bx"), b'b'),
-        (Happens::Act(0), b'r'),
-        (Happens::End(0), b'e'),
-        (Happens::MoveBegin(0), b'n'),
-        (Happens::Put(0, b"dx", b"4"), b'b'),
-        (Happens::Act(0), b'p'),
-        (Happens::End(0), b'e'),
-        (Happens::Flush(0), b's'),
-        (Happens::Flush(0), b'w'),
-        (Happens::Remove(0, b"c"), b'b'),
-        (Happens::Act(0), b'r'),
-        (Happens::End(0), b'e'),
-        (Happens::MoveBegin(0), b'n'),
-        (Happens::Put(0, b"ex", b"5"), b'b'),
-        (Happens::Act(0), b'p'),
-        (Happens::End(0), b'e'),
-        (Happens::Flush(0), b's'),
-        (Happens::Flush(0), b'w'),
-        (Happens::Remove(0, b"dx"), b'b'),
-        (Happens::Act(0), b'r'),
-        (Happens::End(0), b'e'),
-        (Happens::MoveBegin(0), b'n'),
-        (Happens::Put(0, b"fx", b"6"), b'b'),
-        (Happens::Act(0), b'p'),
-        (Happens::End(0), b'e'),
-        (Happens::Commit(0, 0, 1), b'W'),
-        (Happens::Get(0, b"ex"), b'b'),
-        (Happens::Act(0), b'h'),
-        (Happens::End(0), b'e'),
-        (Happens::Get(0, b"a"), b'b'),
-        (Happens::Act(0), b'h'),
-        (Happens::End(0), b'e'),
+        Happens::Whole(Begins::Put(0, b"a", b"1")),
+        Happens::Whole(Begins::Put(0, b"bx", b"2")),
+        Happens::Flush(0),
+        Happens::Flush(0),
+        Happens::MoveBegin(0),
+        Happens::Whole(Begins::Put(0, b"c", b"3")),
+        Happens::MoveBegin(0),
+        Happens::Flush(0),
+        Happens::Flush(0),
+        Happens::Whole(Begins::Remove(0, b"bx")),
+        Happens::MoveBegin(0),
+        Happens::Whole(Begins::Put(0, b"dx", b"4")),
+        Happens::Flush(0),
+        Happens::Flush(0),
+        Happens::Whole(Begins::Remove(0, b"c")),
+        Happens::MoveBegin(0),
+        Happens::Whole(Begins::Put(0, b"ex", b"5")),
+        Happens::Flush(0),
+        Happens::Flush(0),
+        Happens::Whole(Begins::Remove(0, b"dx")),
+        Happens::MoveBegin(0),
+        Happens::Whole(Begins::Put(0, b"fx", b"6")),
+        Happens::Commit(0, 0, 1),
+        Happens::Whole(Begins::Get(0, b"ex")),
+        Happens::Whole(Begins::Get(0, b"a")),
     ],
+    replies: b"bpebpeswjbpenswbrenbpeswbrenbpeswbrenbpeWbhebhe",
     history: &[
         Called(0, 1, 3, b"a", b'p', b"1"),
         Called(0, 4, 6, b"bx", b'p', b"2"),
@@ -578,10 +578,11 @@ pub(crate) const ONE_LANE: Config = Config {
     admit: 65536,
 };
 
-/// An opening of a world, and why it is refused.
+/// An opening of a world over pages of 128 bytes or of 256, and why it is refused.
 #[derive(Clone, Copy)]
 struct Opening {
     config: Config,
+    is_narrow: bool,
     /// How many devices, of how many pages each.
     devices: u32,
     pages: u32,
@@ -591,48 +592,52 @@ struct Opening {
 
 const OPENS: Opening = Opening {
     config: ONE_LANE,
+    is_narrow: false,
     devices: 1,
     pages: 3,
     callers: 1,
     fault: None,
 };
 
-// The refusals, each where all behind it apply too.
-const NO_SET: Opening = Opening {
-    config: Config {
-        sets: 0,
-        ..ONE_LANE
+// Each refusal comes where all behind it apply too; the last opening is not refused.
+const OPENINGS: [Opening; 6] = [
+    Opening {
+        config: Config {
+            sets: 0,
+            ..ONE_LANE
+        },
+        is_narrow: true,
+        devices: 0,
+        callers: 0,
+        fault: Some(OpenWorldFault::ConfigFault { field: Field::Sets }),
+        ..OPENS
     },
-    devices: 0,
-    callers: 0,
-    fault: Some(OpenWorldFault::ConfigFault { field: Field::Sets }),
-    ..OPENS
-};
-
-const NO_CALLERS: Opening = Opening {
-    devices: 0,
-    callers: 0,
-    fault: Some(OpenWorldFault::NoCallers),
-    ..OPENS
-};
-
-const NO_DEVICE: Opening = Opening {
-    devices: 0,
-    fault: Some(OpenWorldFault::DeviceCount),
-    ..OPENS
-};
-
-const NARROW: Opening = Opening {
-    pages: 2,
-    fault: Some(OpenWorldFault::WrongPage),
-    ..OPENS
-};
-
-const SMALL: Opening = Opening {
-    pages: 2,
-    fault: Some(OpenWorldFault::DeviceTooSmall),
-    ..OPENS
-};
+    Opening {
+        is_narrow: true,
+        devices: 0,
+        callers: 0,
+        fault: Some(OpenWorldFault::NoCallers),
+        ..OPENS
+    },
+    Opening {
+        is_narrow: true,
+        devices: 0,
+        fault: Some(OpenWorldFault::DeviceCount),
+        ..OPENS
+    },
+    Opening {
+        is_narrow: true,
+        pages: 2,
+        fault: Some(OpenWorldFault::WrongPage),
+        ..OPENS
+    },
+    Opening {
+        pages: 2,
+        fault: Some(OpenWorldFault::DeviceTooSmall),
+        ..OPENS
+    },
+    OPENS,
+];
 
 // Why a world of pages of this size is not opened so.
 fn fault<const PAGE: usize>(alloc: Global, row: &Opening) -> Result<Option<OpenWorldFault>, Fail> {
@@ -641,14 +646,22 @@ fn fault<const PAGE: usize>(alloc: Global, row: &Opening) -> Result<Option<OpenW
     Ok(opened.err())
 }
 
+fn is_refused_so(alloc: Global, row: &Opening) -> Result<bool, Fail> {
+    let fault = if row.is_narrow {
+        fault::<128>(alloc, row)?
+    } else {
+        fault::<256>(alloc, row)?
+    };
+    Ok(fault == row.fault)
+}
+
 #[test]
 fn a_world_is_opened_over_a_device_a_lane(rt: HostRuntime) -> Result<(), Fail> {
-    let alloc = rt.alloc();
-    assert_eq!(rt; fault::<256>(alloc, &OPENS)?, OPENS.fault);
-    assert_eq!(rt; fault::<128>(alloc, &NO_SET)?, NO_SET.fault);
-    assert_eq!(rt; fault::<128>(alloc, &NO_CALLERS)?, NO_CALLERS.fault);
-    assert_eq!(rt; fault::<128>(alloc, &NO_DEVICE)?, NO_DEVICE.fault);
-    assert_eq!(rt; fault::<128>(alloc, &NARROW)?, NARROW.fault);
-    assert_eq!(rt; fault::<256>(alloc, &SMALL)?, SMALL.fault);
+    for number in 0..OPENINGS.len() {
+        assert!(rt;
+            is_refused_so(rt.alloc(), &OPENINGS[number])?,
+            "opening {number}"
+        );
+    }
     Ok(())
 }

@@ -41,12 +41,17 @@ pub struct Told {
     pub is_empty: bool,
 }
 
+/// The last stamp of so many recorded calls.
+pub fn stamps_of(calls: usize) -> u64 {
+    (calls as u64).wrapping_mul(2)
+}
+
 /// What is told of a lane whose calls all gave what is written beside them, behind so many recorded calls.
-pub fn as_written(calls: u32) -> Told {
+pub fn as_written(calls: usize) -> Told {
     Told {
         strayed: None,
         has_acts: true,
-        last_point: 2 * u64::from(calls),
+        last_point: stamps_of(calls),
         is_empty: calls == 0,
     }
 }
@@ -54,14 +59,14 @@ pub fn as_written(calls: u32) -> Told {
 /// Makes these calls of a lane, and tells of it.
 pub fn tell_of<D: PageDevice<PAGE>, const PAGE: usize>(
     alloc: Global,
-    mut lane: RecordedLane<D, PAGE>,
+    lane: &mut RecordedLane<D, PAGE>,
     steps: &[Step],
     letters: &[u8],
 ) -> Result<Told, Fail> {
-    let strayed = run(alloc, &mut lane, steps)?;
+    let strayed = run(alloc, lane, steps)?;
     Ok(Told {
         strayed,
-        has_acts: has_acts(&lane, letters),
+        has_acts: has_acts(lane, letters),
         last_point: lane.last_point(),
         is_empty: lane.is_empty(),
     })
@@ -69,7 +74,7 @@ pub fn tell_of<D: PageDevice<PAGE>, const PAGE: usize>(
 
 /// Makes each of these calls, up to the first that does not give what is written beside it, or is not recorded, last, or is
 /// recorded and no call of the history; its number. The caller is the step's number, and each call takes two stamps.
-pub fn run<D: PageDevice<PAGE>, const PAGE: usize>(
+fn run<D: PageDevice<PAGE>, const PAGE: usize>(
     alloc: Global,
     lane: &mut RecordedLane<D, PAGE>,
     steps: &[Step],
