@@ -64,15 +64,7 @@ fn is_in_range(alloc: Global, setting: Setting) -> Result<bool, AllocError> {
 fn takes(alloc: Global, setting: Setting, number: u64) -> Result<bool, AllocError> {
     let option = format!(in alloc; "--{}", setting.name())?;
     let word = format!(in alloc; "{number}")?;
-    let words = [
-        "kangaroo",
-        "run",
-        "--trace",
-        "t",
-        option.as_str(),
-        word.as_str(),
-    ];
-    let line = parse_line(alloc, &words);
+    let line = line_with(alloc, option.as_str(), word.as_str());
     Ok(gives(&line, setting, (number % 4294967296) as u32))
 }
 
@@ -80,16 +72,13 @@ fn takes(alloc: Global, setting: Setting, number: u64) -> Result<bool, AllocErro
 fn refuses(alloc: Global, setting: Setting, number: u64) -> Result<bool, AllocError> {
     let option = format!(in alloc; "--{}", setting.name())?;
     let word = format!(in alloc; "{number}")?;
-    let words = [
-        "kangaroo",
-        "run",
-        "--trace",
-        "t",
-        option.as_str(),
-        word.as_str(),
-    ];
-    let line = parse_line(alloc, &words);
+    let line = line_with(alloc, option.as_str(), word.as_str());
     Ok(is_refused(&line, option.as_str()))
+}
+
+/// The line of a run with this option.
+fn line_with(alloc: Global, option: &str, word: &str) -> Result<Line, LineFault> {
+    parse_line(alloc, &["kangaroo", "run", "--trace", "t", option, word])
 }
 
 #[test]
@@ -130,24 +119,24 @@ fn is_folder(load: &Load, folder: Option<&str>) -> bool {
     }
 }
 
+/// Words, and the folder that they give.
+const FOLDERS: [(&[&str], Option<&str>); 3] = [
+    (&["k", "run", "--trace", "t"], None),
+    (
+        &["k", "run", "--trace", "t", "--device", "a folder"],
+        Some("a folder"),
+    ),
+    (
+        &["k", "run", "--device=d", "--lanes", "2", "--trace", "t"],
+        Some("d"),
+    ),
+];
+
 #[test]
 fn a_folder_is_that_of_its_option(rt: HostRuntime) {
-    let alloc = rt.alloc();
-    assert!(rt; gives_folder(alloc, &["k", "run", "--trace", "t"], None));
-    assert!(rt;
-        gives_folder(
-            alloc,
-            &["k", "run", "--trace", "t", "--device", "a folder"],
-            Some("a folder")
-        )
-    );
-    assert!(rt;
-        gives_folder(
-            alloc,
-            &["k", "run", "--device=d", "--lanes", "2", "--trace", "t"],
-            Some("d")
-        )
-    );
+    for (words, folder) in &FOLDERS {
+        assert!(rt; gives_folder(rt.alloc(), words, *folder));
+    }
 }
 
 /// Whether these words are told a usage that has this text.
@@ -156,48 +145,27 @@ fn tells<'a>(alloc: Global, words: &'a [&'a str], text: &str) -> bool {
     is_refused(&line, text)
 }
 
+/// Words that are no run, and what their usage names.
+const NO_RUNS: [(&[&str], &str); 9] = [
+    (&["k", "run"], "--trace"),
+    (&["k", "run", "--trace"], "--trace"),
+    (&["k", "run", "--trace", "t", "--lanes", "x"], "--lanes"),
+    (&["k", "run", "--trace", "t", "--lanes", ""], "--lanes"),
+    (&["k", "run", "--trace", "t", "--lanes=4.0"], "--lanes"),
+    (
+        &["k", "run", "--trace", "t", "--lanes=18446744073709551620"],
+        "--lanes",
+    ),
+    (&["k", "run", "--trace", "t", "--device"], "--device"),
+    (&["k", "run", "--trace", "t", "--devices", "d"], "--devices"),
+    (&["k", "run", "--trace", "t", "more"], "more"),
+];
+
 #[test]
 fn what_is_no_run_gets_a_usage(rt: HostRuntime) {
-    let alloc = rt.alloc();
-    assert!(rt; tells(alloc, &["k", "run"], "--trace"));
-    assert!(rt; tells(alloc, &["k", "run", "--trace"], "--trace"));
-    assert!(rt;
-        tells(
-            alloc,
-            &["k", "run", "--trace", "t", "--lanes", "x"],
-            "--lanes"
-        )
-    );
-    assert!(rt;
-        tells(
-            alloc,
-            &["k", "run", "--trace", "t", "--lanes", ""],
-            "--lanes"
-        )
-    );
-    assert!(rt;
-        tells(
-            alloc,
-            &["k", "run", "--trace", "t", "--lanes=4.0"],
-            "--lanes"
-        )
-    );
-    assert!(rt;
-        tells(
-            alloc,
-            &["k", "run", "--trace", "t", "--lanes=18446744073709551620"],
-            "--lanes"
-        )
-    );
-    assert!(rt; tells(alloc, &["k", "run", "--trace", "t", "--device"], "--device"));
-    assert!(rt;
-        tells(
-            alloc,
-            &["k", "run", "--trace", "t", "--devices", "d"],
-            "--devices"
-        )
-    );
-    assert!(rt; tells(alloc, &["k", "run", "--trace", "t", "more"], "more"));
+    for (words, named) in &NO_RUNS {
+        assert!(rt; tells(rt.alloc(), words, named));
+    }
 }
 
 /// Whether the first operation of caller 54 is the put of PCG's reference words for the seed 42 and the stream 54, where
@@ -223,37 +191,39 @@ fn is_first_put(alloc: Global, load: &Load) -> Result<bool, AllocError> {
 /// The value of caller 54 at its first operation.
 const FIRST_VALUE: &[u8] = &[0, 0x36, 0, 0, 0, 0, 0, 0x36];
 
+/// The words of a load of puts, and of one of gets.
+const PUTS: &[&str] = &[
+    "bench",
+    "run",
+    "--value-bytes",
+    "8",
+    "--keys",
+    "1",
+    "--gets",
+    "0",
+    "--removes",
+    "0",
+    "--trace",
+    "t",
+];
+
+const GETS: &[&str] = &[
+    "bench",
+    "run",
+    "--value-bytes",
+    "8",
+    "--keys",
+    "1",
+    "--gets",
+    "100",
+    "--removes",
+    "0",
+    "--trace",
+    "t",
+];
+
 #[test]
 fn a_load_gives_the_operations_of_its_options(rt: HostRuntime) -> Result<(), Fail> {
-    let put = [
-        "bench",
-        "run",
-        "--value-bytes",
-        "8",
-        "--keys",
-        "1",
-        "--gets",
-        "0",
-        "--removes",
-        "0",
-        "--trace",
-        "t",
-    ];
-    assert!(rt; puts_first(rt.alloc(), &put)?);
-    let get = [
-        "bench",
-        "run",
-        "--value-bytes",
-        "8",
-        "--keys",
-        "1",
-        "--gets",
-        "100",
-        "--removes",
-        "0",
-        "--trace",
-        "t",
-    ];
-    assert!(rt; !puts_first(rt.alloc(), &get)?);
+    assert!(rt; puts_first(rt.alloc(), PUTS)? && !puts_first(rt.alloc(), GETS)?);
     Ok(())
 }

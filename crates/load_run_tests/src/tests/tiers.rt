@@ -2,19 +2,16 @@
 ghost use Rattle.std.specs.Prelude.{◌≡◌, ◌<◌};
 ghost use Rattle.shared_cache.specs.Caches.{KeepsTie};
 
-use command_line::{Line, parse_line};
+use super::runs::load_of;
+use super::seen::{CountedCache, Seen};
 use history_recorder::Operation;
 use load::{Load, next_operation};
-use page_device::MemoryDevice;
 use rand_pcg::Lcg64Xsh32;
-use record_pages::{Answer, Config, Tier};
-use rriparoo::Rriparoo;
-use shared_cache::{CallFault, Pass, SharedCache};
+use record_pages::{Answer, Tier};
+use shared_cache::{CallFault, Pass};
 use std::alloc::Global;
 use std::sync::Wait;
 use std::test::Fail;
-
-type Cache = SharedCache<MemoryDevice<4096>, Rriparoo, 4096>;
 
 /// Hits by tier, and calls that were refused.
 #[derive(Clone, Copy)]
@@ -56,7 +53,7 @@ fn with_refusal(tally: Tally) -> Tally {
 /// Makes a call, and a round of each kind in the one lane.
 fn step<R: Wait>(
     rt: &R,
-    cache: &Cache,
+    cache: &CountedCache,
     pass: &mut Pass,
     operation: Operation,
     tally: Tally,
@@ -83,7 +80,7 @@ fn step<R: Wait>(
 }
 
 /// Makes the operations of a load's first caller.
-fn drive<R: Wait>(rt: &R, alloc: Global, cache: &Cache, load: &Load, mut pass: Pass) -> Tally
+fn drive<R: Wait>(rt: &R, alloc: Global, cache: &CountedCache, load: &Load, mut pass: Pass) -> Tally
     requires ties { pass.sight.clock ≡ cache.now.clock }
     requires lanes { 0 < cache.now.layout.lanes }
 {
@@ -103,21 +100,26 @@ fn drive<R: Wait>(rt: &R, alloc: Global, cache: &Cache, load: &Load, mut pass: P
     tally
 }
 
-/// One lane of small sets.
-const SMALL: Config = Config {
-    lanes: 1,
-    sets: 4,
-    memory: 4,
-    segments: 4,
-    segment_pages: 1,
-    entries: 64,
-    threshold: 1,
-    admit: 32768,
-};
-
+/// One lane of small sets, and 20,000 operations.
 const WORDS: &[&str] = &[
     "k",
     "run",
+    "--lanes",
+    "1",
+    "--sets",
+    "4",
+    "--memory",
+    "4",
+    "--segments",
+    "4",
+    "--segment-pages",
+    "1",
+    "--entries",
+    "64",
+    "--threshold",
+    "1",
+    "--admit",
+    "32768",
     "--operations",
     "20000",
     "--keys",
@@ -126,18 +128,27 @@ const WORDS: &[&str] = &[
     "t",
 ];
 
+/// The tally of a load's first caller, over a cache of its own.
+fn tally_of<R: Wait>(rt: &R, alloc: Global, load: &Load) -> Result<Option<Tally>, Fail> {
+    let seen = Seen::new(alloc, load, 1)?;
+    let (cache, mut passes) = seen.open(alloc, load, 1)?;
+    match passes.pop() {
+        Some(pass) => Ok(Some(drive(rt, alloc, &cache, load, pass))),
+        None => Ok(None),
+    }
+}
+
+/// Whether each tier was hit, and no call refused.
+fn has_each(tally: Option<Tally>) -> bool {
+    match tally {
+        Some(tally) => { tally.memory > 0 && tally.log > 0 && tally.set > 0 && tally.refused == 0 }
+        None => false,
+    }
+}
+
 #[test]
 fn a_load_hits_in_each_tier(rt: HostRuntime) -> Result<(), Fail> {
-    let Ok(Line::Run(load)) = parse_line(rt.alloc(), WORDS) else {
-        panic!(rt; "a load")
-    };
-    let mut devices: Vec<MemoryDevice<4096>> = Vec::new(rt.alloc());
-    devices.push(MemoryDevice::new(rt.alloc(), 8)?)?;
-    let (cache, mut passes) = SharedCache::open(rt.alloc(), &SMALL, devices, Rriparoo, 1)?;
-    let Some(pass) = passes.pop() else {
-        panic!(rt; "a pass")
-    };
-    let tally = drive(&rt, rt.alloc(), &cache, &load, pass);
-    assert!(rt; tally.memory > 0 && tally.log > 0 && tally.set > 0 && tally.refused == 0);
+    let load = load_of(rt.alloc(), WORDS).ok_or("a load")?;
+    assert!(rt; has_each(tally_of(&rt, rt.alloc(), &load)?));
     Ok(())
 }
