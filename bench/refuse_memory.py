@@ -1,7 +1,8 @@
 #!/usr/bin/env python3
-"""Judges traces with memory refused, each request for it in turn. No part of the gate.
+"""Judges traces, or texts, with memory refused, each request for it in turn. No part of the gate.
 
-usage: refuse_memory.py [PROGRAM]
+usage: refuse_memory.py [PROGRAM]             traces of its own, by `check`
+       refuse_memory.py PROGRAM TEXT...       these texts, by `judge`
 
 It loads refuse_memory.c, which it compiles with cc, into the program (crates/bench_driver/out/bench_driver
 if not given), whose malloc and realloc then refuse one request, or each of more than so many bytes. A check to
@@ -25,11 +26,10 @@ def trace(calls):
     return subprocess.run(made, stdout=subprocess.PIPE, check=True).stdout
 
 
-def run(library, program, file, name, number):
+def run(library, words, name, number):
     """Whether memory was refused, and what the program answered."""
     told, tell = os.pipe()
     environment = {"LD_PRELOAD": library, name: str(number), "REFUSE_TOLD": str(tell)}
-    words = [program, "check", file]
     ended = subprocess.run(words, capture_output=True, env=environment, pass_fds=[tell])
     os.close(tell)
     refused = os.read(told, 1) != b""
@@ -37,17 +37,26 @@ def run(library, program, file, name, number):
     return refused, (ended.returncode, ended.stdout, ended.stderr)
 
 
-def each_request(library, program, file, answer):
+def each_request(library, words, answer):
     """How many requests were refused, each in a run of its own, and how many of the runs told it."""
     count = told = 0
     while True:
-        refused, given = run(library, program, file, "REFUSE_AT", count + 1)
+        refused, given = run(library, words, "REFUSE_AT", count + 1)
         if given not in ([REFUSED, answer] if refused else [answer]):
             sys.exit(f"request {count + 1} refused: {refused}, answer {given}")
         if not refused:
             return count, told
         count += 1
         told += given == REFUSED
+
+
+def judge_texts(library, program, texts):
+    """Judges each of these texts with each request refused in turn."""
+    for text in texts:
+        words = [program, "judge", text]
+        _, answer = run(library, words, "REFUSE_AT", 0)
+        count, told = each_request(library, words, answer)
+        print(f"{text}: `{answer[1].decode().strip()}`; of {count} requests, each refused in turn, {told} were told")
 
 
 def main():
@@ -67,18 +76,21 @@ def main():
         library = os.path.join(folder, "refuse_memory.so")
         source = os.path.join(HERE, "refuse_memory.c")
         subprocess.run(["cc", "-shared", "-fPIC", "-O1", "-o", library, source], check=True)
+        if len(sys.argv) > 2:
+            return judge_texts(library, program, sys.argv[2:])
         file = os.path.join(folder, "trace")
+        words = [program, "check", file]
         for name, content, status, line in cases:
             with open(file, "wb") as out:
                 out.write(content)
-            _, answer = run(library, program, file, "REFUSE_AT", 0)
+            _, answer = run(library, words, "REFUSE_AT", 0)
             if answer[0] != status or line not in (None, answer[1]):
                 sys.exit(f"{name}: {answer}")
-            count, told = each_request(library, program, file, answer)
+            count, told = each_request(library, words, answer)
             line = answer[1].decode().strip()
             print(f"{name}: `{line}`; of {count} requests, each refused in turn, {told} were told")
             if content == header:
-                refused, given = run(library, program, file, "REFUSE_ABOVE", 1 << 16)
+                refused, given = run(library, words, "REFUSE_ABOVE", 1 << 16)
                 if refused or given != answer:
                     sys.exit(f"{name}: it asks for more than 64 KiB")
 
