@@ -8,6 +8,8 @@ pub struct CheckRequest {
     pub file: FileName,
     /// Whether it is said why the trace is rejected.
     pub explain: bool,
+    /// Whether the answer is a JSON object and not lines.
+    pub json: bool,
     /// The file that a picture of why it is rejected is drawn to.
     pub picture: Option<FileName>,
 }

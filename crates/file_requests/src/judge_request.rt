@@ -8,6 +8,8 @@ pub struct JudgeRequest {
     pub file: FileName,
     /// Whether it is said why the history is rejected.
     pub explain: bool,
+    /// Whether the answer is a JSON object and not lines.
+    pub json: bool,
     /// The file that a picture of why it is rejected is drawn to.
     pub picture: Option<FileName>,
     /// The file that an accepted history is written to, as a trace with the certificate that was found.

@@ -30,9 +30,15 @@ ghost use Rattle.load.specs.Settings.{layout_settings};
 
 /// The load with these numbers, one for each of `SETTINGS` in their order, whose devices are files of this
 /// folder, or in memory where there is none, and which writes its trace to this file.
-pub fn load_with(numbers: &[u32; 17], device: Option<FileName>, trace: FileName) -> Load
+pub fn load_with(
+    numbers: &[u32; 17],
+    json: bool,
+    device: Option<FileName>,
+    trace: FileName,
+) -> Load
     requires { AreAdmitted settings numbers.now }
     ensures numbers { numbers_of result ≡ numbers.now }
+    ensures json { result.json ≡ json }
     ensures device { result.device ≡ device }
     ensures trace { result.trace ≡ trace }
 {
@@ -47,6 +53,7 @@ pub fn load_with(numbers: &[u32; 17], device: Option<FileName>, trace: FileName)
         workers: numbers[14],
         seed: numbers[15],
         ttl: numbers[16],
+        json,
         device,
         trace,
     }
@@ -58,12 +65,14 @@ pub fn served_with(
     numbers: &[u32; 19],
     size: Option<u64>,
     memory_bytes: Option<u64>,
+    json: bool,
     device: Option<FileName>,
 ) -> ServedLoad
     requires { AreAdmitted served_settings numbers.now }
     ensures numbers { served_numbers_of result ≡ numbers.now }
     ensures size { result.size ≡ size }
     ensures memory { result.memory_bytes ≡ memory_bytes }
+    ensures json { result.json ≡ json }
     ensures device { result.device ≡ device }
 {
     ServedLoad {
@@ -81,6 +90,7 @@ pub fn served_with(
         leases: numbers[18],
         size,
         memory_bytes,
+        json,
         device,
     }
 }

@@ -37,6 +37,8 @@ pub struct ServedLoad {
     pub size: Option<u64>,
     /// Bytes of memory that the cache is to be made for, where a size is given; none for a part of the size.
     pub memory_bytes: Option<u64>,
+    /// Whether what is told is a JSON object and not lines.
+    pub json: bool,
     /// The folder of the lanes' files; none for devices in memory.
     pub device: Option<FileName>,
     ghost callers_range: { (1 ≤ callers) × (callers ≤ 64) },

@@ -1,0 +1,9 @@
+//! Names with figures, told one after another: as lines for a reader, or as one JSON object for a machine.
+#![tactic(auto)]
+
+mod figure;
+mod form;
+mod telling;
+
+pub use figure::Figure;
+pub use form::Form;
