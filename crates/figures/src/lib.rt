@@ -4,6 +4,8 @@
 mod figure;
 mod form;
 mod telling;
+mod verdicts;
 
 pub use figure::Figure;
 pub use form::Form;
+pub use verdicts::tell_verdict;
