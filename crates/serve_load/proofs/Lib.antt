@@ -1,2 +1,3 @@
 pub mod Repeating
+pub mod Rows
 pub mod Saying

@@ -1,5 +1,6 @@
 -- What was written where the callers of a load ended.
 use Rattle.std.proofs.Common.{◌==◌, ℕ, Bool, true, false, List, Option, if◌then◌else◌, inl, inr, refl, subst, sym}
+use Rattle.figures.specs.Figures.{form_of}
 use Rattle.load.specs.declared.served_load.ServedLoad.{ServedLoad}
 use Rattle.serve_load.specs.declared.report.Report.{Report}
 use Rattle.serve_load.specs.declared.serve_end.ServeEnd.{ServeEnd}
@@ -12,7 +13,7 @@ by_wrong load old new true told = told
 by_wrong load old new false told = told
 
 -- the end of a load whose report was written is one at which it is
-pub said_report : (load : ServedLoad) (report : Report) (old new : Option (List ℕ)) (end : ServeEnd) → IsMade load report → IsSaid report old new end → WroteReport load old new end
+pub said_report : (load : ServedLoad) (report : Report) (old new : Option (List ℕ)) (end : ServeEnd) → IsMade load report → IsSaid (form_of load.json) report old new end → WroteReport load old new end
 said_report load report old new end made (inl told) =
     subst (λ (e : ServeEnd). WroteReport load old new e) (sym told.1) (by_wrong load old new (report.wrong_hits == 0) (record {
       report = report;

@@ -21,20 +21,20 @@ status_of ends.FileFault = 3
 
 -- what is told of a size that no cache has
 abbrev pub size_message_of : SizeFault → List ℕ
-size_message_of faults.FlashTooSmall = codes "flash_bytes is too small for a lane"
-size_message_of faults.FlashTooLarge = codes "flash_bytes is too large for the most lanes"
-size_message_of faults.NoObjectBytes = codes "object_bytes is 0"
-size_message_of faults.ObjectTooLarge = codes "object_bytes is too large for an object"
-size_message_of faults.NoThreads = codes "threads is 0"
-size_message_of faults.TooManyThreads = codes "threads is too large"
-size_message_of faults.MemoryTooSmall = codes "memory_bytes is too small for the lanes"
+size_message_of faults.FlashTooSmall = codes "--size is too small for a cache"
+size_message_of faults.FlashTooLarge = codes "--size is too large for a cache"
+size_message_of faults.NoObjectBytes = codes "--value-bytes is too small for an object"
+size_message_of faults.ObjectTooLarge = codes "--value-bytes is too large for an object"
+size_message_of faults.NoThreads = codes "--callers is 0"
+size_message_of faults.TooManyThreads = codes "--callers is too large for a cache"
+size_message_of faults.MemoryTooSmall = codes "--memory-bytes is too small for a cache of this --size"
 
 -- the line that is written to standard error
 abbrev pub message_of : ServeEnd → Option (List ℕ)
 message_of ends.Right = None
 message_of ends.WrongHit = Some (codes "a hit was wrong")
 message_of ends.SharesExceed = Some (codes "gets and removes exceed 100")
-message_of ends.NoSize = Some (codes "memory-bytes is given without size")
+message_of ends.NoSize = Some (codes "--memory-bytes is given without --size")
 message_of (ends.Size fault) = Some (size_message_of fault)
 message_of ends.OutOfMemory = Some (codes "out of memory")
 message_of ends.FileFault = Some (codes "file fault")

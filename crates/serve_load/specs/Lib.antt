@@ -2,9 +2,10 @@ pub mod Objects
 pub mod Words
 pub mod Calls
 pub mod Wanting
-pub mod Forms
+pub mod Shapes
 pub mod Totals
-pub mod Lines
+pub mod Rows
+pub mod Closing
 pub mod Reports
 pub mod Ends
 pub mod Serving

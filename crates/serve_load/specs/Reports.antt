@@ -1,30 +1,52 @@
 -- The text of a report.
-use Rattle.std.specs.Prelude.{◌≡◌, ◌≤◌, ◌*◌, ℕ, List, ◌++◌, codes}
+use Rattle.std.specs.Prelude.{◌≡◌, ◌≤◌, ◌*◌, ℕ, List, [], ◌∷◌, ◌++◌, codes}
+use Rattle.figures.specs.declared.form.Form.{Form}
+use Rattle.figures.specs.Figures.{Row, number, row, thousandths, with_rows}
 use Rattle.load.specs.declared.served_load.ServedLoad.{ServedLoad}
 use Rattle.serve_load.specs.declared.report.Report.{Report}
-use Rattle.serve_load.specs.Lines.{fills_lines, hits_lines, last_lines, misses_lines, moves_lines, pages_lines, pushed_lines, puts_lines, rate_line, rate_of, time_lines, upkeep_lines}
+use Rattle.serve_load.specs.Closing.{closed}
+use Rattle.serve_load.specs.Rows.{fill_rows, get_latency_rows, hit_rows, miss_rows, move_rows, page_rows, pushed_rows, put_latency_rows, put_rows, rate_of, ratio_rows, upkeep_rows}
 
--- what the last line says
-abbrev pub last_line : List ℕ
-last_line = codes "no history was recorded, so nothing was judged beyond each caller's check of the hits of its own keys\n"
+-- how many operations, and in what time
+abbrev pub run_rows : Report → List Row
+run_rows r =
+    row (codes "operations") (number r.operations)
+    ∷ row (codes "seconds") (thousandths r.milliseconds)
+    ∷ row (codes "operations-a-second") (number (rate_of r.operations r.milliseconds))
+    ∷ []
+
+-- removals, what is left at the end, and what the callers found
+abbrev pub last_rows : Report → List Row
+last_rows r =
+    row (codes "removals") (number r.counts.removals)
+    ∷ row (codes "memory-objects") (number r.memory_objects)
+    ∷ row (codes "log-records") (number r.log_records)
+    ∷ row (codes "refused") (number r.refused)
+    ∷ row (codes "wrong-hits") (number r.wrong_hits)
+    ∷ []
 
 -- how many operations, in what time, and how gets were answered
-abbrev pub first_part : Report → List ℕ
-first_part r = time_lines r.operations r.milliseconds ++ (rate_line (rate_of r.operations r.milliseconds) ++ (hits_lines r.counts.gets ++ misses_lines r.counts.gets))
+abbrev pub call_rows : Report → List Row
+call_rows r =
+    run_rows r
+    ++ (ratio_rows r.counts.gets ++ (get_latency_rows r.timed.gets ++ (put_latency_rows r.timed.puts ++ (hit_rows r.counts.gets ++ miss_rows r.counts.gets))))
 
 -- what was stored, and what was pushed out of memory for it
-abbrev pub middle_part : Report → List ℕ
-middle_part r = puts_lines r.counts.puts ++ (fills_lines r.counts.fills r.counts.leases ++ pushed_lines r.counts.pushed)
+abbrev pub store_rows : Report → List Row
+store_rows r = put_rows r.counts.puts ++ (fill_rows r.counts.fills r.counts.leases ++ pushed_rows r.counts.pushed)
 
 -- what upkeep did, what is left, and what the callers found
-abbrev pub last_part : Report → List ℕ
-last_part r =
-    pages_lines r.counts.steps ++ (moves_lines r.counts.steps ++ (upkeep_lines r.counts.upkeep
-    ++ last_lines r.counts.removals r.memory_objects r.log_records r.refused r.wrong_hits))
+abbrev pub work_rows : Report → List Row
+work_rows r =
+    page_rows r.counts.steps ++ (move_rows r.counts.steps ++ (upkeep_rows r.counts.upkeep ++ last_rows r))
 
--- the lines of all numbers, and the last one
-unfoldable pub report_of : Report → List ℕ
-report_of r = first_part r ++ (middle_part r ++ (last_part r ++ last_line))
+-- all rows
+abbrev pub rows_of : Report → List Row
+rows_of r = call_rows r ++ (store_rows r ++ work_rows r)
+
+-- all rows, and the end
+unfoldable pub report_of : Form → Report → List ℕ
+report_of form r = closed form (with_rows form [] (rows_of r))
 
 -- the callers made all operations of the load, or a hit was wrong and they made some
 pub record IsMade (load : ServedLoad) (report : Report) : Type 0 where

@@ -1,6 +1,8 @@
 -- What a load wrote, by how it ended.
 use Rattle.std.specs.Prelude.{◌≡◌, ◌⊎◌, ◌<◌, ◌+◌, ℕ, List, Option, IsNone, IsSome}
 use Rattle.std.specs.Io.KnownBytes.{Appends, Keeps}
+use Rattle.figures.specs.declared.form.Form.{Form}
+use Rattle.figures.specs.Figures.{form_of}
 use Rattle.load.specs.declared.served_load.ServedLoad.{ServedLoad}
 use Rattle.serve_load.specs.declared.report.Report.{Report}
 use Rattle.serve_load.specs.declared.serve_end.ServeEnd.{ServeEnd}
@@ -9,11 +11,11 @@ use Rattle.serve_load.specs.Ends.{end_of_wrong_hits, status_of}
 use Rattle.serve_load.specs.Wanting.{RefusesSize}
 use Rattle.serve_load.specs.Reports.{IsMade, report_of}
 
--- the text of a report was written, whose operations fit the load, and the load ended as its wrong hits say
+-- the text of a report was written, in the form that the load wants, whose operations fit the load, and the load ended as its wrong hits say
 pub record IsTold (load : ServedLoad) (old new : Option (List ℕ)) (end : ServeEnd) : Type 0 where
   pub report : Report
   pub made : IsMade load report
-  pub wrote : Appends old new (report_of report)
+  pub wrote : Appends old new (report_of (form_of load.json) report)
   pub ended : end ≡ end_of_wrong_hits report.wrong_hits
 
 -- what was written where a load ended so: a report where its callers ended, else nothing, and where a file, the output or the clock
@@ -28,9 +30,9 @@ WroteReport load old new ends.OutOfMemory = Keeps old new
 WroteReport load old new ends.FileFault = Unit {0}
 
 -- the report was written, or memory was refused and nothing was, or the output failed
-abbrev pub IsSaid : Report → Option (List ℕ) → Option (List ℕ) → ServeEnd → Type 0
-IsSaid report old new end =
-    (Appends old new (report_of report) × (end ≡ end_of_wrong_hits report.wrong_hits))
+abbrev pub IsSaid : Form → Report → Option (List ℕ) → Option (List ℕ) → ServeEnd → Type 0
+IsSaid form report old new end =
+    (Appends old new (report_of form report) × (end ≡ end_of_wrong_hits report.wrong_hits))
     ⊎ ((end ≡ ends.OutOfMemory) × Keeps old new)
     ⊎ (end ≡ ends.FileFault)
 

@@ -1,11 +1,12 @@
 // A caller of a load.
 ghost use Rattle.std.specs.Prelude.{◌≡◌, ◌<◌, ◌≤◌, ◌+◌, IfOk, length, slice_index};
 ghost use Rattle.load.specs.Operations.{past};
-ghost use Rattle.load.specs.Served.{served_next_of};
+ghost use Rattle.load.specs.Served.{key_number_of, served_next_of};
 ghost use Rattle.serve_load.specs.Calls.{IsEnded};
 ghost use Rattle.serve_load.specs.Words.{Fills, JudgesHit, Knows, Sets, word_after_put};
 ghost use Rattle.serve_load.specs.Objects.{key_of, value_of};
 
+use crate::call_times::{CallTimes, TIMED};
 use crate::objects::{expires_of, key, key_bytes, moment_of, value};
 use crate::right::is_right;
 use crate::words::{Step, step_of_fill, word_after_fill};
@@ -20,6 +21,7 @@ use service_lane::Lease;
 use std::alloc::{AllocError, Global};
 use std::sync::Wait;
 use std::sync::atomic::{AtomicU64, Ordering};
+use std::time::{Clock, Instant};
 use value_buffer::ValueBuffer;
 
 /// A caller: its number, the generator of its random words, and what it knows of its keys, a word for each.
@@ -31,7 +33,7 @@ pub(crate) struct Caller {
 }
 
 /// How a caller ended.
-#[derive(Clone, Copy, Debug, PartialEq, Eq)]
+#[derive(Drop)]
 pub(crate) struct Tally {
     /// Operations that it made.
     pub(crate) operations: u32,
@@ -39,6 +41,8 @@ pub(crate) struct Tally {
     pub(crate) refused: u32,
     /// Hits that were not right: it stops at the first.
     pub(crate) wrong_hits: u32,
+    /// How long its calls took; none if memory for them was refused, and then it made no operation.
+    pub(crate) times: Option<CallTimes>,
 }
 
 impl Caller {
@@ -53,13 +57,13 @@ impl Caller {
         })
     }
 
-    /// Makes its operations, until all are made, a hit is not right, or the load is halted; and halts the load at such a hit.
-    /// They are counted by the thousand.
+    /// Makes its operations, until all are made, a hit is not right, or the load is halted; and halts the load at such a hit, or if
+    /// memory for its times is refused. They are counted by the thousand.
     pub(crate) fn make_all<
         D: PageDevice<PAGE>,
         P: EvictionPolicy + Drop,
         const PAGE: usize,
-        R: Wait,
+        R: Wait + Clock,
     >(
         mut self,
         rt: &R,
@@ -72,6 +76,15 @@ impl Caller {
         requires { length self.words.items ≡ load.now.keys }
         ensures { IsEnded load.now result }
     {
+        let Ok(mut times) = CallTimes::new(alloc) else {
+            halted.store(1, Ordering::SeqCst);
+            return Tally {
+                operations: 0,
+                refused: 0,
+                wrong_hits: 0,
+                times: None,
+            };
+        };
         let mut found = ValueBuffer::empty();
         let mut refused = 0;
         for number in 0..load.operations {
@@ -80,9 +93,10 @@ impl Caller {
                     operations: number,
                     refused,
                     wrong_hits: 0,
+                    times: Some(times),
                 };
             }
-            match self.make_next(rt, alloc, cache, load, number, &mut found) {
+            match self.make_next(rt, alloc, cache, load, number, &mut times, &mut found) {
                 Step::Done => {}
                 Step::Refused => refused += 1,
                 Step::WrongHit => {
@@ -91,6 +105,7 @@ impl Caller {
                         operations: number + 1,
                         refused,
                         wrong_hits: 1,
+                        times: Some(times),
                     };
                 }
             }
@@ -100,17 +115,24 @@ impl Caller {
             operations: load.operations,
             refused,
             wrong_hits: 0,
+            times: Some(times),
         }
     }
 
-    /// Makes its operation with this number.
-    fn make_next<D: PageDevice<PAGE>, P: EvictionPolicy + Drop, const PAGE: usize, R: Wait>(
+    /// Makes its operation with this number, and times one of sixteen.
+    fn make_next<
+        D: PageDevice<PAGE>,
+        P: EvictionPolicy + Drop,
+        const PAGE: usize,
+        R: Wait + Clock,
+    >(
         &mut self,
         rt: &R,
         alloc: Global,
         cache: &ServiceCache<D, P, PAGE>,
         load: &ServedLoad,
         number: u32,
+        times: &mut CallTimes,
         found: &mut ValueBuffer,
     ) -> Step
         requires keys { length self.old.words.items ≡ load.now.keys }
@@ -120,7 +142,36 @@ impl Caller {
         ensures generator { self.new.generator ≡ past (past self.old.generator) }
         ensures keys { length self.new.words.items ≡ load.now.keys }
     {
-        match ServedOperation::next(&mut self.generator, load) {
+        let operation = ServedOperation::next(&mut self.generator, load);
+        if number % TIMED != 0 {
+            return self.make(rt, alloc, cache, load, operation, number, found);
+        }
+        let start = Instant::now(rt);
+        let step = self.make(rt, alloc, cache, load, operation, number, found);
+        if let Ok(start) = &start {
+            times.note(rt, operation, start);
+        }
+        step
+    }
+
+    /// Makes an operation, which has this number.
+    fn make<D: PageDevice<PAGE>, P: EvictionPolicy + Drop, const PAGE: usize, R: Wait>(
+        &mut self,
+        rt: &R,
+        alloc: Global,
+        cache: &ServiceCache<D, P, PAGE>,
+        load: &ServedLoad,
+        operation: ServedOperation,
+        number: u32,
+        found: &mut ValueBuffer,
+    ) -> Step
+        requires key { key_number_of operation < length self.old.words.items }
+        requires number { number < 4294967295 }
+        ensures words { Knows load.now operation number result
+            self.old.words.items self.new.words.items }
+        ensures generator { self.new.generator ≡ self.old.generator }
+    {
+        match operation {
             ServedOperation::Get(key) => {
                 if load.leases == 0 {
                     self.get(rt, cache, load, key, number, found)

@@ -17,13 +17,26 @@ pub(crate) enum Cause {
 }
 
 impl Cause {
-    /// Tells it in a line, which names the file that failed, where one did. What `err` refuses is not told.
+    /// Tells it, with the file that failed, if one did, and what to do. What `err` refuses is not told.
     pub(crate) fn tell<E: Write>(&self, err: &mut E) {
         let _ = match self {
-            Cause::Device(path, fault) => write!(err, "{}: {fault}\n", path.as_str()),
-            Cause::Output => write!(err, "the report was not written whole\n"),
-            Cause::Random(error) => write!(err, "no random numbers: {error}\n"),
-            Cause::Clock(error) => write!(err, "no time: {error}\n"),
+            Cause::Device(path, fault) => write!(
+                err,
+                "{}: {fault}\ncheck the folder that --device names: each lane has a file there\n",
+                path.as_str()
+            ),
+            Cause::Output => write!(
+                err,
+                "standard output: the report was not written whole: check that it is open and has room\n"
+            ),
+            Cause::Random(error) => write!(
+                err,
+                "no random numbers: {error}\nthey are the seed of the cache: try again\n"
+            ),
+            Cause::Clock(error) => write!(
+                err,
+                "no time: {error}\nthe load is timed by the clock: try again\n"
+            ),
         };
     }
 }

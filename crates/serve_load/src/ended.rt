@@ -1,8 +1,10 @@
 // How a load ended, with what failed.
 ghost use Rattle.std.specs.Prelude.{◌≡◌};
 
+use crate::advice::advise;
 use crate::cause::Cause;
 use crate::serve_end::ServeEnd;
+use load::ServedLoad;
 use std::io::Write;
 
 /// How a load ended, and what failed, where the system did.
@@ -30,14 +32,15 @@ impl Ended {
         }
     }
 
-    /// Writes the line of the end, where it has one, and what failed. What `err` refuses is not told.
-    pub(crate) fn tell<E: Write>(&self, err: &mut E) {
+    /// Writes the line of the end, if it has one, then what failed, and what to do. What `err` refuses is not told.
+    pub(crate) fn tell<E: Write>(&self, load: &ServedLoad, err: &mut E) {
         if let Some(message) = self.end.message() {
             let _ = write!(err, "{message}\n");
         }
         if let Some(cause) = &self.cause {
             cause.tell(err);
         }
+        advise(err, load, self.end);
         let _ = err.flush();
     }
 }

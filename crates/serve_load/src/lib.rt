@@ -2,11 +2,13 @@
 //! is told of it.
 #![tactic(auto)]
 
+mod advice;
+mod cache_shape;
+mod call_times;
 mod caller;
 mod cause;
 mod crew;
 mod ended;
-mod form;
 mod made;
 mod objects;
 mod report;
@@ -18,8 +20,8 @@ mod totals;
 mod words;
 mod worker;
 
-pub use form::Form;
+pub use cache_shape::CacheShape;
 pub use objects::KEY_BYTES;
-pub use report::Report;
+pub use report::{Report, Timed};
 pub use serve_end::ServeEnd;
 pub use serving::{serve_load, serve_over};

@@ -4,6 +4,7 @@ ghost use Rattle.service_cache.specs.Serving.{lanes_of};
 ghost use Rattle.serve_load.specs.Ends.{IsFailure};
 ghost use Rattle.serve_load.specs.Reports.{IsMade};
 
+use crate::call_times::CallTimes;
 use crate::caller::{Caller, Tally};
 use crate::cause::Cause;
 use crate::crew::{operations, run_crew};
@@ -25,11 +26,12 @@ use std::thread::Threads;
 use std::time::{Clock, Instant};
 
 /// What all callers did together.
-#[derive(Clone, Copy)]
+#[derive(Drop)]
 struct Sums {
     operations: u64,
     refused: u64,
     wrong_hits: u64,
+    times: CallTimes,
 }
 
 /// Runs the threads of a load over a cache that was just opened, and says what they made.
@@ -67,7 +69,9 @@ pub(crate) fn make<
         Ok(milliseconds) => milliseconds,
         Err(error) => return Err(Ended::failed(Cause::Clock(error))),
     };
-    let sums = sums_of(rt, load, &from);
+    let Ok(sums) = sums_of(rt, alloc, load, &from) else {
+        return Err(Ended::plain(ServeEnd::OutOfMemory));
+    };
     if sums.wrong_hits == 0 && sums.operations < operations(load) {
         return Err(Ended::plain(ServeEnd::OutOfMemory));
     }
@@ -93,23 +97,32 @@ fn milliseconds_since<R: Clock>(rt: &R, start: &Instant) -> io::Result<u64> {
 }
 
 /// What the callers that ended did together. One that had no thread left nothing.
-fn sums_of<R: Wait>(rt: &R, load: &ServedLoad, from: &Receiver<Tally>) -> Sums
-    ensures { result.operations ≤ load.now.callers * load.now.operations }
+fn sums_of<R: Wait>(
+    rt: &R,
+    alloc: Global,
+    load: &ServedLoad,
+    from: &Receiver<Tally>,
+) -> Result<Sums, AllocError>
+    ensures { IfOk result (λ sums. sums.operations ≤ load.now.callers * load.now.operations) }
 {
     let mut sums = Sums {
         operations: 0,
         refused: 0,
         wrong_hits: 0,
+        times: CallTimes::new(alloc)?,
     };
     for _ in 0..load.callers {
         let Ok(tally) = from.try_recv(rt) else {
-            return sums;
+            return Ok(sums);
         };
         sums.operations += u64::from(tally.operations.min(load.operations));
         sums.refused += u64::from(tally.refused);
         sums.wrong_hits += u64::from(tally.wrong_hits);
+        if let Some(times) = &tally.times {
+            sums.times.merge(times);
+        }
     }
-    sums
+    Ok(sums)
 }
 
 /// The report on what the callers did together in so many milliseconds, with the counters of all lanes of their cache.
@@ -137,6 +150,7 @@ fn report_of<D: PageDevice<PAGE>, P: EvictionPolicy + Drop, const PAGE: usize, R
         refused: sums.refused,
         wrong_hits: sums.wrong_hits,
         milliseconds,
+        timed: sums.times.timed(),
         counts,
         memory_objects,
         log_records,

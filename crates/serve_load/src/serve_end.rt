@@ -56,7 +56,7 @@ impl ServeEnd {
             ServeEnd::Right => None,
             ServeEnd::WrongHit => Some("a hit was wrong"),
             ServeEnd::SharesExceed => Some("gets and removes exceed 100"),
-            ServeEnd::NoSize => Some("memory-bytes is given without size"),
+            ServeEnd::NoSize => Some("--memory-bytes is given without --size"),
             ServeEnd::Size(fault) => Some(size_message(fault)),
             ServeEnd::OutOfMemory => Some("out of memory"),
             ServeEnd::FileFault => Some("file fault"),
@@ -71,12 +71,12 @@ fn size_message(fault: SizeFault) -> &'static str
     ensures { result.now ≡ size_message_of fault }
 {
     match fault {
-        SizeFault::FlashTooSmall => "flash_bytes is too small for a lane",
-        SizeFault::FlashTooLarge => "flash_bytes is too large for the most lanes",
-        SizeFault::NoObjectBytes => "object_bytes is 0",
-        SizeFault::ObjectTooLarge => "object_bytes is too large for an object",
-        SizeFault::NoThreads => "threads is 0",
-        SizeFault::TooManyThreads => "threads is too large",
-        SizeFault::MemoryTooSmall => "memory_bytes is too small for the lanes",
+        SizeFault::FlashTooSmall => "--size is too small for a cache",
+        SizeFault::FlashTooLarge => "--size is too large for a cache",
+        SizeFault::NoObjectBytes => "--value-bytes is too small for an object",
+        SizeFault::ObjectTooLarge => "--value-bytes is too large for an object",
+        SizeFault::NoThreads => "--callers is 0",
+        SizeFault::TooManyThreads => "--callers is too large for a cache",
+        SizeFault::MemoryTooSmall => "--memory-bytes is too small for a cache of this --size",
     }
 }

@@ -2,14 +2,16 @@
 ghost use Rattle.std.specs.Prelude.{◌≡◌, ◌≢◌, ◌↔◌, ◌⊎◌, ◌<◌, ◌+◌, IfErr, IfOk};
 ghost use Rattle.service_cache.specs.Serving.{lanes_of};
 ghost use Rattle.serve_load.specs.Ends.{IsFailure, status_of};
+ghost use Rattle.figures.specs.Figures.{form_of};
 ghost use Rattle.serve_load.specs.Serving.{IsServed, IsServedOver, IsSaid, IsRefusedFirst, WroteReport};
 
 use crate::cause::Cause;
 use crate::ended::Ended;
-use crate::form::Form;
+use crate::cache_shape::CacheShape;
 use crate::made::make;
 use crate::report::Report;
 use crate::serve_end::ServeEnd;
+use figures::Form;
 use file_device::FileDevice;
 use key_hash::RandomSeed;
 use lane_files::{LaneFileFault, lanes_in_files, lanes_in_memory, taken_places};
@@ -52,22 +54,22 @@ pub fn serve_load<
 {
     let _places = taken_places(rt);
     let ended = serve_to_end(rt, load, out, err);
-    ended.tell(err);
+    ended.tell(load, err);
     ended.end.status()
 }
 
-/// Runs a load over devices that the caller has, one for each lane of a form, and answers the status that the program ends with.
-/// Which of the load's numbers the form has is the caller's affair; gets and removes may exceed 100 per cent, and count up to that.
+/// Runs a load over devices that the caller has, one for each lane of a shape, and answers the status that the program ends with.
+/// Which of the load's numbers the shape has is the caller's affair; gets and removes may exceed 100 per cent, and count up to that.
 pub fn serve_over<
     D: PageDevice<PAGE> + Send,
     R: Threads + Wait + Sync + AllocGlobal + Clock + RandomSource,
     O: Write,
     E: Write + IsTerminal,
->(rt: &R, load: &ServedLoad, form: &Form, devices: Vec<D>, out: &mut O, err: &mut E) -> u8
+>(rt: &R, load: &ServedLoad, shape: &CacheShape, devices: Vec<D>, out: &mut O, err: &mut E) -> u8
     ensures { IsServedOver load.now (O.contents out.old) (O.contents out.new) result }
 {
-    let ended = over(rt, load, form, devices, out, err);
-    ended.tell(err);
+    let ended = over(rt, load, shape, devices, out, err);
+    ended.tell(load, err);
     ended.end.status()
 }
 
@@ -86,32 +88,32 @@ fn serve_to_end<
     if load.size.is_none() && load.memory_bytes.is_some() {
         return Ended::plain(ServeEnd::NoSize);
     }
-    let form = match Form::of(load) {
-        Ok(form) => form,
+    let shape = match CacheShape::of(load) {
+        Ok(shape) => shape,
         Err(fault) => return Ended::plain(ServeEnd::Size(fault)),
     };
     match &load.device {
-        Some(folder) => match in_files(rt, rt.alloc(), &form, folder) {
-            Ok(devices) => over(rt, load, &form, devices, out, err),
+        Some(folder) => match in_files(rt, rt.alloc(), &shape, folder) {
+            Ok(devices) => over(rt, load, &shape, devices, out, err),
             Err(ended) => ended,
         },
-        None => match lanes_in_memory(rt.alloc(), form.lanes(), form.pages()) {
-            Ok(devices) => over(rt, load, &form, devices, out, err),
+        None => match lanes_in_memory(rt.alloc(), shape.lanes(), shape.pages()) {
+            Ok(devices) => over(rt, load, &shape, devices, out, err),
             Err(_) => Ended::plain(ServeEnd::OutOfMemory),
         },
     }
 }
 
-/// A device in a file of this folder for each lane of a form.
+/// A device in a file of this folder for each lane of a shape.
 fn in_files<R: Files<File = File>>(
     rt: &R,
     alloc: Global,
-    form: &Form,
+    shape: &CacheShape,
     folder: &FileName,
 ) -> Result<Vec<FileDevice<PAGE>>, Ended>
     ensures { IfErr result (λ ended. IsFailure ended.end) }
 {
-    match lanes_in_files(rt, alloc, folder.as_str(), form.lanes(), form.pages()) {
+    match lanes_in_files(rt, alloc, folder.as_str(), shape.lanes(), shape.pages()) {
         Ok(devices) => Ok(devices),
         Err(LaneFileFault::OutOfMemory) => Err(Ended::plain(ServeEnd::OutOfMemory)),
         Err(LaneFileFault::Unopened(path, fault)) => Err(Ended::failed(Cause::Device(path, fault))),
@@ -124,7 +126,7 @@ fn over<
     R: Threads + Wait + Sync + AllocGlobal + Clock + RandomSource,
     O: Write,
     E: Write + IsTerminal,
->(rt: &R, load: &ServedLoad, form: &Form, devices: Vec<D>, out: &mut O, err: &mut E) -> Ended
+>(rt: &R, load: &ServedLoad, shape: &CacheShape, devices: Vec<D>, out: &mut O, err: &mut E) -> Ended
     ensures late { IsLate result.end }
     ensures wrote { WroteReport load.now (O.contents out.old) (O.contents out.new) result.end }
 {
@@ -132,21 +134,21 @@ fn over<
         Ok(seed) => seed,
         Err(error) => return Ended::failed(Cause::Random(error)),
     };
-    let Ok(cache) = open(rt.alloc(), form, devices, seed) else {
+    let Ok(cache) = open(rt.alloc(), shape, devices, seed) else {
         return Ended::plain(ServeEnd::OutOfMemory);
     };
     match make(rt, rt.alloc(), load, &cache, err) {
-        Ok(report) => write_report(rt.alloc(), &report, out),
+        Ok(report) => write_report(rt.alloc(), load, &report, out),
         Err(ended) => ended,
     }
 }
 
 ghost use Rattle.serve_load.specs.Serving.{IsLate};
 
-/// A cache of a form over its devices.
+/// A cache of a shape over its devices.
 fn open<D: PageDevice<PAGE>>(
     alloc: Global,
-    form: &Form,
+    shape: &CacheShape,
     devices: Vec<D>,
     seed: RandomSeed,
 ) -> Result<Cache<D>, AllocError>
@@ -154,25 +156,26 @@ fn open<D: PageDevice<PAGE>>(
 {
     match ServiceCache::open(
         alloc,
-        &config_of(&form.layout),
-        form.shards,
-        form.lease_slots,
+        &config_of(&shape.layout),
+        shape.shards,
+        shape.lease_slots,
         devices,
         Rriparoo,
         seed,
     ) {
         Ok(cache) => Ok(cache),
-        // The numbers of a form are in their ranges, and there is a device for each lane with pages enough, so nothing but
+        // The numbers of a shape are in their ranges, and there is a device for each lane with pages enough, so nothing but
         // memory is refused.
         Err(_) => Err(AllocError),
     }
 }
 
-/// Writes a report, and answers how the load ended.
-fn write_report<O: Write>(alloc: Global, report: &Report, out: &mut O) -> Ended
-    ensures { IsSaid report.now (O.contents out.old) (O.contents out.new) result.end }
+/// Writes a report in the form that a load wants, and answers how the load ended.
+fn write_report<O: Write>(alloc: Global, load: &ServedLoad, report: &Report, out: &mut O) -> Ended
+    ensures { IsSaid (form_of load.now.json) report.now
+        (O.contents out.old) (O.contents out.new) result.end }
 {
-    let Ok(text) = report.text(alloc) else {
+    let Ok(text) = report.text(alloc, Form::of(load.json)) else {
         return Ended::plain(ServeEnd::OutOfMemory);
     };
     if out.write_all(text.as_bytes()).is_err() {

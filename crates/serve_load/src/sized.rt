@@ -5,19 +5,19 @@ ghost use Rattle.serve_load.specs.Wanting.{IsSizedFor, wanted_by};
 
 use crate::objects::KEY_BYTES;
 use cache_sizes::{Shape, SizeFault, Wanted};
-use load::ServedLoad;
+use load::{ServedLoad, SizeSetting};
 use record_pages::Layout;
 
 /// The numbers of a cache of a size.
 #[derive(Clone, Copy)]
-pub(crate) struct SizedForm {
+pub(crate) struct SizedShape {
     pub(crate) layout: Layout,
     pub(crate) shards: u32,
     ghost shards_range: { (1 ≤ shards) × (shards ≤ 1024) },
 }
 
 /// The numbers of a cache for a load of so many bytes of flash.
-pub(crate) fn sized_form(load: &ServedLoad, size: u64) -> Result<SizedForm, SizeFault>
+pub(crate) fn sized_shape(load: &ServedLoad, size: u64) -> Result<SizedShape, SizeFault>
     ensures sized { IfOk result (λ sized. IsSizedFor (wanted_by load.now size)
         load.now.layout sized.layout sized.shards) }
     ensures refused { IfErr result (λ fault.
@@ -28,12 +28,23 @@ pub(crate) fn sized_form(load: &ServedLoad, size: u64) -> Result<SizedForm, Size
         .config(load.layout.threshold, load.layout.admit)
         .check()
     {
-        Ok(layout) => Ok(SizedForm {
+        Ok(layout) => Ok(SizedShape {
             layout,
             shards: shape.shards,
         }),
         Err(_) => unreachable!(),
     }
+}
+
+/// The least memory that a cache of a size takes, of a load whose other numbers such a cache can have.
+pub(crate) fn least_memory(load: &ServedLoad, size: u64) -> Option<u64> {
+    let mut plenty = wanted(load, size);
+    plenty.memory_bytes = SizeSetting::MOST;
+    let Ok(mut shape) = Shape::of(&plenty) else {
+        return None;
+    };
+    shape.memory_objects = 1;
+    Some(shape.memory_bytes(plenty.object_bytes))
 }
 
 /// What a load wants of a cache of a size.

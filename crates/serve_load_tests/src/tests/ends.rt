@@ -21,17 +21,17 @@ const ROWS: [Row; 5] = [
     Row {
         words: &["k", "serve-load", "--gets", "60", "--removes", "41"],
         status: 2,
-        line: b"gets and removes exceed 100\n",
+        line: b"gets and removes exceed 100\n--gets 60 and --removes 41 add to 101 per cent: lower one of them\n",
     },
     Row {
         words: &["k", "serve-load", "--memory-bytes", "1000000"],
         status: 2,
-        line: b"memory-bytes is given without size\n",
+        line: b"--memory-bytes is given without --size\ngive --size too, or leave --memory-bytes out\n",
     },
     Row {
         words: &["k", "serve-load", "--size", "12287"],
         status: 2,
-        line: b"flash_bytes is too small for a lane\n",
+        line: b"--size is too small for a cache\n--size 12287: the least is 12288 bytes\n",
     },
     Row {
         words: &[
@@ -43,12 +43,12 @@ const ROWS: [Row; 5] = [
             "1000",
         ],
         status: 2,
-        line: b"memory_bytes is too small for the lanes\n",
+        line: b"--memory-bytes is too small for a cache of this --size\n1000 bytes of memory for --size 1048576: the least is LEAST bytes; give --memory-bytes more, or make --size smaller\n",
     },
     Row {
         words: &["k", "serve-load", "--device", "no such folder"],
         status: 3,
-        line: b"file fault\nno such folder/lane-0.dev: the file can't be opened: No such file or directory (os error 2)\n",
+        line: b"file fault\nno such folder/lane-0.dev: the file can't be opened: No such file or directory (os error 2)\ncheck the folder that --device names: each lane has a file there\n",
     },
 ];
 
@@ -61,22 +61,48 @@ fn each_refusal_tells_its_line(rt: HostRuntime) -> Result<(), Fail> {
     Ok(())
 }
 
-/// The sizes that no cache has, of which each tells what its fault does.
-const FAULTS: [SizeFault; 7] = [
-    SizeFault::FlashTooSmall,
-    SizeFault::FlashTooLarge,
-    SizeFault::NoObjectBytes,
-    SizeFault::ObjectTooLarge,
-    SizeFault::NoThreads,
-    SizeFault::TooManyThreads,
-    SizeFault::MemoryTooSmall,
+/// A size that no cache has, and what is told of it: the option whose number is wrong.
+#[derive(Clone, Copy)]
+struct Told {
+    fault: SizeFault,
+    line: &'static str,
+}
+
+const FAULTS: [Told; 7] = [
+    Told {
+        fault: SizeFault::FlashTooSmall,
+        line: "--size is too small for a cache",
+    },
+    Told {
+        fault: SizeFault::FlashTooLarge,
+        line: "--size is too large for a cache",
+    },
+    Told {
+        fault: SizeFault::NoObjectBytes,
+        line: "--value-bytes is too small for an object",
+    },
+    Told {
+        fault: SizeFault::ObjectTooLarge,
+        line: "--value-bytes is too large for an object",
+    },
+    Told {
+        fault: SizeFault::NoThreads,
+        line: "--callers is 0",
+    },
+    Told {
+        fault: SizeFault::TooManyThreads,
+        line: "--callers is too large for a cache",
+    },
+    Told {
+        fault: SizeFault::MemoryTooSmall,
+        line: "--memory-bytes is too small for a cache of this --size",
+    },
 ];
 
 #[test]
-fn a_size_that_no_cache_has_is_told_as_its_fault_is(rt: HostRuntime) -> Result<(), Fail> {
-    for fault in &FAULTS {
-        let text = format!(in rt.alloc(); "{fault}")?;
-        assert!(rt; ServeEnd::Size(*fault).message() == Some(text.as_str()));
+fn a_size_that_no_cache_has_names_its_option(rt: HostRuntime) -> Result<(), Fail> {
+    for told in &FAULTS {
+        assert!(rt; ServeEnd::Size(told.fault).message() == Some(told.line));
     }
     Ok(())
 }

@@ -3,7 +3,7 @@ use super::screen::Screen;
 use command_line::{Line, parse_line};
 use load::ServedLoad;
 use page_device::PageDevice;
-use serve_load::{Form, serve_load, serve_over};
+use serve_load::{CacheShape, serve_load, serve_over};
 use stale_device::StaleDevice;
 use std::alloc::Global;
 use std::fs;
@@ -43,13 +43,13 @@ pub fn run_of<
 fn run_over<
     D: PageDevice<4096> + Send,
     R: Threads + Wait + Sync + AllocGlobal + Clock + RandomSource,
->(rt: &R, load: &ServedLoad, form: &Form, devices: Vec<D>) -> Ran {
+>(rt: &R, load: &ServedLoad, shape: &CacheShape, devices: Vec<D>) -> Ran {
     let mut out: Vec<u8> = Vec::new(rt.alloc());
     let mut screen = Screen {
         bytes: Vec::new(rt.alloc()),
         is_terminal: false,
     };
-    let status = serve_over(rt, load, form, devices, &mut out, &mut screen);
+    let status = serve_over(rt, load, shape, devices, &mut out, &mut screen);
     Ran {
         status,
         out,
@@ -192,18 +192,18 @@ const STALE: &[&str] = &[
 ];
 
 /// A device whose first page goes back to what it was before its last write.
-fn stale_devices(alloc: Global, form: &Form) -> Result<Vec<StaleDevice<4096>>, Fail> {
+fn stale_devices(alloc: Global, shape: &CacheShape) -> Result<Vec<StaleDevice<4096>>, Fail> {
     let mut devices = Vec::new(alloc);
-    devices.push(StaleDevice::new(alloc, form.pages(), 0, 4)?)?;
+    devices.push(StaleDevice::new(alloc, shape.pages(), 0, 4)?)?;
     Ok(devices)
 }
 
 #[test]
 fn a_page_that_goes_back_is_found_as_a_wrong_hit(rt: HostRuntime) -> Result<(), Fail> {
     let load = load_of(rt.alloc(), STALE).ok_or("a load")?;
-    let form = Form::of(&load)?;
-    let devices = stale_devices(rt.alloc(), &form)?;
-    let ran = run_over(&rt, &load, &form, devices);
+    let shape = CacheShape::of(&load)?;
+    let devices = stale_devices(rt.alloc(), &shape)?;
+    let ran = run_over(&rt, &load, &shape, devices);
     assert!(rt; ran.status == 1 && ran.err.as_slice() == b"a hit was wrong\n".as_slice());
     assert!(rt;
         ran.out.as_slice().starts_with(b"operations ") && !ran.out.as_slice().ends_with(RIGHT)

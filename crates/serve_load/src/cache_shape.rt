@@ -2,14 +2,14 @@
 ghost use Rattle.std.specs.Prelude.{◌≡◌, ◌≤◌, ◌*◌, ◌+◌, IfErr, IfOk};
 ghost use Rattle.serve_load.specs.Wanting.{RefusesSize};
 
-use crate::sized::sized_form;
+use crate::sized::sized_shape;
 use cache_sizes::SizeFault;
 use load::{ServedLoad, pages_of};
 use record_pages::Layout;
 
 /// What a load's cache is made of.
 #[derive(Clone, Copy, Debug, PartialEq, Eq)]
-pub struct Form {
+pub struct CacheShape {
     /// The numbers of each shard.
     pub layout: Layout,
     /// Groups of as many lanes, 1 to 1,024.
@@ -20,26 +20,26 @@ pub struct Form {
     ghost lease_slots_range: { (1 ≤ lease_slots) × (lease_slots ≤ 1048576) },
 }
 
-impl Form {
-    ghost use Rattle.serve_load.specs.Forms.{IsFormOf};
+impl CacheShape {
+    ghost use Rattle.serve_load.specs.Shapes.{IsShapeOf};
 
-    /// The form of a load: that of its numbers, or the one for its size, where it has one. With a size, memory that is not given
+    /// The shape of a load: that of its numbers, or the one for its size, where it has one. With a size, memory that is not given
     /// is an eighth of it, an object has as many bytes as a key and a value of the load, and the threads are the callers.
     ///
     /// The refusals are those of `Shape::of`.
-    pub fn of(load: &ServedLoad) -> Result<Form, SizeFault>
-        ensures formed { IfOk result (λ form. IsFormOf load.now load.now.size form) }
+    pub fn of(load: &ServedLoad) -> Result<CacheShape, SizeFault>
+        ensures formed { IfOk result (λ shape. IsShapeOf load.now load.now.size shape) }
         ensures refused { IfErr result (λ fault. RefusesSize load.now load.now.size fault) }
     {
         let lease_slots = load.leases.max(1);
         match load.size {
-            None => Ok(Form {
+            None => Ok(CacheShape {
                 layout: load.layout,
                 shards: load.shards,
                 lease_slots,
             }),
-            Some(size) => match sized_form(load, size) {
-                Ok(sized) => Ok(Form {
+            Some(size) => match sized_shape(load, size) {
+                Ok(sized) => Ok(CacheShape {
                     layout: sized.layout,
                     shards: sized.shards,
                     lease_slots,

@@ -2,7 +2,7 @@
 use Rattle.std.proofs.Common.{refl, subst}
 use Rattle.record_pages.specs.Asked.{HasNumbersOf}
 use Rattle.cache_sizes.specs.Shapes.{IsShapeFor}
-use Rattle.serve_load.proofs.sized.sized_form.Goals as goal
+use Rattle.serve_load.proofs.sized.sized_shape.Goals as goal
 
 pub returns-clause-sized : goal.returns-clause-sized
 returns-clause-sized c = record {

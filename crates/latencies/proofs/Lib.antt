@@ -1,0 +1,4 @@
+pub mod TopLaws
+pub mod SumLaws
+pub mod CountLaws
+pub mod HoldingLaws

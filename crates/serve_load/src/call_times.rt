@@ -1,0 +1,55 @@
+// How long the calls of callers took.
+ghost use Rattle.std.specs.Prelude.{◌≡◌};
+
+use crate::report::Timed;
+use latencies::Histogram;
+use load::ServedOperation;
+use std::alloc::{AllocError, Global};
+use std::time::{Clock, Instant};
+
+/// Of so many operations of a caller, one is timed.
+pub(crate) const TIMED: u32 = 16;
+
+/// How long gets took, and how long puts took, of the calls that were timed. A get's time has the fill after a miss.
+#[derive(Drop)]
+pub(crate) struct CallTimes {
+    gets: Histogram,
+    puts: Histogram,
+}
+
+impl CallTimes {
+    /// No times.
+    pub(crate) fn new(alloc: Global) -> Result<CallTimes, AllocError> {
+        Ok(CallTimes {
+            gets: Histogram::new(alloc)?,
+            puts: Histogram::new(alloc)?,
+        })
+    }
+
+    /// Adds the time since an operation began, if the clock tells it. Removals are not timed.
+    pub(crate) fn note<R: Clock>(&mut self, rt: &R, operation: ServedOperation, start: &Instant) {
+        let Ok(taken) = start.elapsed(rt) else {
+            return;
+        };
+        let nanoseconds = u64::try_from(taken.as_nanos()).unwrap_or(u64::MAX);
+        match operation {
+            ServedOperation::Get(_) => self.gets.add(nanoseconds),
+            ServedOperation::Put(_) => self.puts.add(nanoseconds),
+            ServedOperation::Remove(_) => {}
+        }
+    }
+
+    /// Adds the times of other calls.
+    pub(crate) fn merge(&mut self, other: &CallTimes) {
+        self.gets.merge(&other.gets);
+        self.puts.merge(&other.puts);
+    }
+
+    /// What is told of them.
+    pub(crate) fn timed(&self) -> Timed {
+        Timed {
+            gets: self.gets.quantiles(),
+            puts: self.puts.quantiles(),
+        }
+    }
+}
