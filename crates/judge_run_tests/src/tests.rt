@@ -1,4 +1,5 @@
 //! What is told, and how the program ends.
 mod files;
+mod json;
 mod streams;
 mod telling;
