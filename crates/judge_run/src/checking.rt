@@ -72,7 +72,8 @@ fn told_pair<S: BuildHasher + Drop>(
     trace: Trace,
     explain: bool,
 ) -> Result<Told, AllocError>
-    ensures { IfOk result (λ told. IsPairTold form trace explain told.outcome (string_bytes told.text)) }
+    ensures { IfOk result (λ told.
+        IsPairTold form trace explain told.outcome (string_bytes told.text)) }
 {
     let verdict = check_with_hasher(alloc, hash_builder, &trace.history, &trace.certificate)?;
     let text = verdict_begun(alloc, form, verdict, trace.history.len())?;

@@ -46,7 +46,8 @@ impl Rejection {
         begun: String,
         explain: bool,
     ) -> Result<String, AllocError>
-        ensures { IfOk result (λ text. IsBehind form explain self.now (string_bytes begun) (string_bytes text)) }
+        ensures { IfOk result (λ text.
+            IsBehind form explain self.now (string_bytes begun) (string_bytes text)) }
     {
         if !explain {
             return ended(form, begun);

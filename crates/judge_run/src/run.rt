@@ -35,7 +35,8 @@ pub fn run_judge<R: AllocGlobal + Files + Input + RandomSource, O: Write, E: Wri
     out: &mut O,
     err: &mut E,
 ) -> u8
-    ensures { IsJudgeRun (form_of request.now.json) request.now.explain (O.contents out.old) (O.contents out.new) result }
+    ensures { IsJudgeRun (form_of request.now.json) request.now.explain
+        (O.contents out.old) (O.contents out.new) result }
 {
     let seed = match RandomSeed::draw(rt) {
         Ok(seed) => seed,
@@ -59,13 +60,14 @@ fn judge_from<R: AllocGlobal + Files, I: Read, O: Write, E: Write>(
     out: &mut O,
     err: &mut E,
 ) -> u8
-    ensures { IsJudgeRun (form_of request.now.json) request.now.explain (O.contents out.old) (O.contents out.new) result }
+    ensures { IsJudgeRun (form_of request.now.json) request.now.explain
+        (O.contents out.old) (O.contents out.new) result }
 {
     let form = Form::of(request.json);
     let answer = answer_judge(rt.alloc(), seed, form, request.explain, reader, out);
     let trace = request.trace.as_ref();
     let picture = request.picture.as_ref();
-    let end = ended(rt, &request.file, answer, trace, picture, err);
+    let end = settled(rt, &request.file, answer, trace, picture, err);
     end.status()
 }
 
@@ -78,7 +80,8 @@ pub fn run_check<R: AllocGlobal + Files + Input + RandomSource, O: Write, E: Wri
     out: &mut O,
     err: &mut E,
 ) -> u8
-    ensures { IsCheckRun (form_of request.now.json) request.now.explain (O.contents out.old) (O.contents out.new) result }
+    ensures { IsCheckRun (form_of request.now.json) request.now.explain
+        (O.contents out.old) (O.contents out.new) result }
 {
     let seed = match RandomSeed::draw(rt) {
         Ok(seed) => seed,
@@ -102,17 +105,18 @@ fn check_from<R: AllocGlobal + Files, I: Read, O: Write, E: Write>(
     out: &mut O,
     err: &mut E,
 ) -> u8
-    ensures { IsCheckRun (form_of request.now.json) request.now.explain (O.contents out.old) (O.contents out.new) result }
+    ensures { IsCheckRun (form_of request.now.json) request.now.explain
+        (O.contents out.old) (O.contents out.new) result }
 {
     let form = Form::of(request.json);
     let answer = answer_check(rt.alloc(), seed, form, request.explain, reader, out);
     let picture = request.picture.as_ref();
-    let end = ended(rt, &request.file, answer, None, picture, err);
+    let end = settled(rt, &request.file, answer, None, picture, err);
     end.status()
 }
 
 /// How the program ends after an answer to the input of a file: what is to be saved is saved, and what failed is told.
-fn ended<R: AllocGlobal + Files, E: Write>(
+fn settled<R: AllocGlobal + Files, E: Write>(
     rt: &R,
     file: &FileName,
     answer: Result<Outcome, TellFault>,
