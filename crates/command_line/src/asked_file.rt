@@ -28,7 +28,7 @@ pub(crate) fn file_found<'a>(
 }
 
 /// Whether a flag is on.
-fn is_on<'a>(found: &ArgMatches<'a>, flag: &str) -> bool
+pub(crate) fn is_on<'a>(found: &ArgMatches<'a>, flag: &str) -> bool
     ensures { result ≡ is_on flag.now (rows_of (found_of found.now)) }
 {
     match found.get_str(flag) {
@@ -67,10 +67,12 @@ pub(crate) fn check_line<'a>(alloc: Global, found: &ArgMatches<'a>) -> Result<Li
     };
     let file = FileName::new(alloc, file)?;
     let explain = is_on(found, "explain");
+    let json = is_on(found, "json");
     let picture = file_found(alloc, found, "picture")?;
     Ok(Line::Check(CheckRequest {
         file,
         explain,
+        json,
         picture,
     }))
 }
@@ -87,11 +89,13 @@ pub(crate) fn judge_line<'a>(alloc: Global, found: &ArgMatches<'a>) -> Result<Li
     };
     let file = FileName::new(alloc, file)?;
     let explain = is_on(found, "explain");
+    let json = is_on(found, "json");
     let picture = file_found(alloc, found, "picture")?;
     let trace = file_found(alloc, found, "trace")?;
     Ok(Line::Judge(JudgeRequest {
         file,
         explain,
+        json,
         picture,
         trace,
     }))

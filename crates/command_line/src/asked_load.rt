@@ -3,7 +3,7 @@ ghost use Rattle.std.specs.Prelude.{◌≡◌, ◌≤◌, IfOk, IfErr, OnErr, Is
 ghost use Rattle.clap.specs.Words.{first_of, found_of, rows_of};
 ghost use Rattle.command_line.specs.CommandLine.{bytes_found, has_numbers, has_sizes, load_wanted, number_found, served_wanted, wanted_of, IsUsage};
 
-use crate::asked_file::file_found;
+use crate::asked_file::{file_found, is_on};
 use crate::line::Line;
 use crate::line_fault::LineFault;
 use crate::telling::{Loading, no_bytes, no_number, usage};
@@ -72,7 +72,8 @@ pub fn run_line<'a>(alloc: Global, found: &ArgMatches<'a>) -> Result<Line, LineF
         Ok(numbers) => {
             let folder = file_found(alloc, found, "device")?;
             let file = FileName::new(alloc, trace)?;
-            Ok(Line::Run(load_with(&numbers, folder, file)))
+            let json = is_on(found, "json");
+            Ok(Line::Run(load_with(&numbers, json, folder, file)))
         }
         Err(setting) => Err(no_number(alloc, Loading::Run, setting)),
     }
@@ -112,7 +113,8 @@ pub fn serve_line<'a>(alloc: Global, found: &ArgMatches<'a>) -> Result<Line, Lin
     match sizes_of(found) {
         Ok(sizes) => {
             let folder = file_found(alloc, found, "device")?;
-            Ok(Line::Serve(served_with(&numbers, sizes.size, sizes.memory_bytes, folder)))
+            let json = is_on(found, "json");
+            Ok(Line::Serve(served_with(&numbers, sizes.size, sizes.memory_bytes, json, folder)))
         }
         Err(size) => Err(no_bytes(alloc, size)),
     }

@@ -1,7 +1,7 @@
 // The program's command line, as `clap` reads it.
 ghost use Rattle.std.specs.Prelude.{◌≡◌, IfOk, false};
 ghost use Rattle.clap.specs.Words.{app_of, rule_of};
-ghost use Rattle.command_line.specs.CommandLine.{check_command, device_rule, explain_rule, file_rule, judge_command, key_rule, option_rule, out_rule, picture_rule, program, run_command, script_command, scripts_program, serve_command, show_command, size_rule, trace_rule, with_judging, with_loads};
+ghost use Rattle.command_line.specs.CommandLine.{check_command, device_rule, explain_rule, file_rule, json_rule, judge_command, key_rule, option_rule, out_rule, picture_rule, program, run_command, script_command, scripts_program, serve_command, show_command, size_rule, trace_rule, with_history, with_judging, with_loads};
 
 use clap::{Arg, ArgAction, Command};
 use load::{SERVED_SETTINGS, SETTINGS, Setting, SizeSetting};
@@ -66,9 +66,10 @@ fn check<'a>(alloc: Global) -> Result<Command<'a>, AllocError>
     ensures { IfOk result (λ c. app_of c ≡ check_command) }
 {
     let check = Command::new(alloc, "check").about("Judges the trace in a file");
-    let check = check.arg(file(alloc, "The file of the trace"))?;
-    let explained = check.arg(explain(alloc))?;
-    explained.arg(picture(alloc))
+    match with_history(alloc, check, "The file of the trace") {
+        Ok(check) => Ok(check),
+        Err(refused) => Err(refused),
+    }
 }
 
 /// The subcommand `judge`.
@@ -78,10 +79,26 @@ fn judge<'a>(alloc: Global) -> Result<Command<'a>, AllocError>
     let judge = Command::new(alloc, "judge").about(
         "Judges a history that brings no certificate, written as text, a call a line",
     );
-    let judge = judge.arg(file(alloc, "The file of the text, or - for standard input"))?;
-    let explained = judge.arg(explain(alloc))?;
-    let pictured = explained.arg(picture(alloc))?;
-    pictured.arg(out(alloc))
+    let judge = with_history(
+        alloc,
+        judge,
+        "The file of the text, or - for standard input",
+    )?;
+    judge.arg(out(alloc))
+}
+
+/// A command that judges the history in a file, which means this.
+fn with_history<'a>(
+    alloc: Global,
+    command: Command<'a>,
+    meaning: &'a str,
+) -> Result<Command<'a>, AllocError>
+    ensures { IfOk result (λ c. app_of c ≡ with_history (app_of command.entry)) }
+{
+    let command = command.arg(file(alloc, meaning))?;
+    let explained = command.arg(explain(alloc))?;
+    let told = explained.arg(json(alloc))?;
+    told.arg(picture(alloc))
 }
 
 /// The subcommand `show`.
@@ -112,6 +129,17 @@ fn explain<'a>(alloc: Global) -> Arg<'a>
         .long("explain")
         .action(ArgAction::SetTrue)
         .help("Says why the history is rejected, with the calls round the place")
+}
+
+/// Whether what is told is a JSON object and not lines.
+fn json<'a>(alloc: Global) -> Arg<'a>
+    ensures rule { rule_of result ≡ json_rule }
+    ensures local { result.global ≡ false }
+{
+    Arg::new(alloc, "json")
+        .long("json")
+        .action(ArgAction::SetTrue)
+        .help("Print one JSON object instead of lines")
 }
 
 /// The file that a picture is drawn to.
@@ -157,7 +185,8 @@ pub fn run<'a>(alloc: Global) -> Result<Command<'a>, AllocError>
         run = run.arg(option(alloc, *setting))?;
     }
     let over_files = run.arg(device(alloc))?;
-    over_files.arg(trace(alloc))
+    let traced = over_files.arg(trace(alloc))?;
+    traced.arg(json(alloc))
 }
 
 /// The subcommand `serve-load`.
@@ -172,7 +201,8 @@ pub fn serve<'a>(alloc: Global) -> Result<Command<'a>, AllocError>
     }
     let sized = serve.arg(size(alloc, SizeSetting::Size))?;
     let sized = sized.arg(size(alloc, SizeSetting::MemoryBytes))?;
-    sized.arg(device(alloc))
+    let over_files = sized.arg(device(alloc))?;
+    over_files.arg(json(alloc))
 }
 
 /// The option of a size.
