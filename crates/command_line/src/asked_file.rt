@@ -5,7 +5,7 @@ ghost use Rattle.command_line.specs.CommandLine.{check_wanted, is_on, judge_want
 
 use crate::line::Line;
 use crate::line_fault::LineFault;
-use crate::telling::usage;
+use crate::telling::no_file;
 use clap::ArgMatches;
 use file_requests::{CheckRequest, FileName, JudgeRequest, ShowRequest};
 use std::alloc::{AllocError, Global};
@@ -63,7 +63,7 @@ pub(crate) fn check_line<'a>(alloc: Global, found: &ArgMatches<'a>) -> Result<Li
         → IfErr result (λ fault. fault ≡ LineFault.OutOfMemory) }
 {
     let Some(file) = found.get_str("FILE") else {
-        return Err(usage(alloc, "no file\n"));
+        return Err(no_file(alloc, "check"));
     };
     let file = FileName::new(alloc, file)?;
     let explain = is_on(found, "explain");
@@ -85,7 +85,7 @@ pub(crate) fn judge_line<'a>(alloc: Global, found: &ArgMatches<'a>) -> Result<Li
         → IfErr result (λ fault. fault ≡ LineFault.OutOfMemory) }
 {
     let Some(file) = found.get_str("FILE") else {
-        return Err(usage(alloc, "no file\n"));
+        return Err(no_file(alloc, "judge"));
     };
     let file = FileName::new(alloc, file)?;
     let explain = is_on(found, "explain");
@@ -109,7 +109,7 @@ pub(crate) fn show_line<'a>(alloc: Global, found: &ArgMatches<'a>) -> Result<Lin
         → IfErr result (λ fault. fault ≡ LineFault.OutOfMemory) }
 {
     let Some(file) = found.get_str("FILE") else {
-        return Err(usage(alloc, "no file\n"));
+        return Err(no_file(alloc, "show"));
     };
     let file = FileName::new(alloc, file)?;
     let key = word_found(alloc, found, "key")?;

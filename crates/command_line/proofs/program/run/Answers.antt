@@ -10,7 +10,7 @@ use Rattle.command_line.specs.CommandLine.{device_rule, trace_rule, with_option}
 use Rattle.command_line.proofs.program.run.Goals as goal
 
 pub loop-setting-init : goal.loop-setting-init
-loop-setting-init c = rw c.about-run.ensures c.new.ensures.app
+loop-setting-init c = c.command-run.ensures
 
 pub loop-setting-preserved : goal.loop-setting-preserved
 loop-setting-preserved c =

@@ -11,7 +11,7 @@ use Rattle.command_line.specs.CommandLine.{device_rule, size_rule, with_option}
 use Rattle.command_line.proofs.program.serve.Goals as goal
 
 pub loop-setting-init : goal.loop-setting-init
-loop-setting-init c = rw c.about-serve.ensures c.new.ensures.app
+loop-setting-init c = c.command-serve.ensures
 
 pub loop-setting-preserved : goal.loop-setting-preserved
 loop-setting-preserved c =
