@@ -13,7 +13,7 @@ pub struct Help {
 /// That of the program.
 pub const PROGRAM: Help = Help {
     about: "A flash cache for small objects, and a checker of recorded histories",
-    notes: "Ask for the options of a command with: kangaroo COMMAND --help\n\nExample:\n  kangaroo run --trace run.trace && kangaroo check run.trace\n\nExit status: 0 done or accepted, 1 rejected, 2 bad input, 3 memory, a file or the system failed,\n             4 undecided\nManual: man kangaroo, or docs/CLI.md",
+    notes: "Ask for the options of a command with: kangaroo COMMAND --help\n\nExample:\n  kangaroo run --trace run.trace && kangaroo check run.trace\n\nExit status: 0 done or accepted, 1 rejected or a wrong hit, 2 bad input, 3 memory, a file or the\n             system failed, 4 undecided\nManual: man kangaroo, or docs/CLI.md",
 };
 
 /// That of `script`.

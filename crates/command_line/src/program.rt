@@ -78,7 +78,7 @@ fn check<'a>(alloc: Global) -> Result<Command<'a>, AllocError>
     ensures { IfOk result (λ c. app_of c ≡ check_command) }
 {
     let check = command(alloc, "check", &help::CHECK);
-    match with_history(alloc, check, "File of the trace") {
+    match with_history(alloc, check, "File of the trace, or - for standard input") {
         Ok(check) => Ok(check),
         Err(refused) => Err(refused),
     }
@@ -112,7 +112,7 @@ fn show<'a>(alloc: Global) -> Result<Command<'a>, AllocError>
     ensures { IfOk result (λ c. app_of c ≡ show_command) }
 {
     let show = command(alloc, "show", &help::SHOW);
-    let show = show.arg(file(alloc, "File of the trace"))?;
+    let show = show.arg(file(alloc, "File of the trace, or - for standard input"))?;
     show.arg(key(alloc))
 }
 
@@ -246,7 +246,7 @@ fn device<'a>(alloc: Global) -> Arg<'a>
         .long("device")
         .value_name("FOLDER")
         .help(
-            "Keep the lanes in files of this folder, lane-0.dev and so on; the folder must exist,\nand older files of these names lose what they hold. Without it the lanes are in\nmemory.",
+            "Keep the lanes in files of this folder, lane-0.dev and so on. The folder\nmust exist; older files of these names lose what they hold. Without it\nthe lanes are in memory.",
         )
 }
 
