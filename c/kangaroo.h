@@ -208,8 +208,8 @@ KANGAROO_API kangaroo_status kangaroo_options_init(kangaroo_options *options, si
  * Never blocks, opens nothing.
  *   KANGAROO_OK
  *   KANGAROO_WRONG_OPTIONS: options are unchanged. Also if memory_bytes is too small for the flash (the field is then
- *     memory_bytes), if flash_bytes is too large for 1,024 shards, if some of the seven fields of the shape are 0 and
- *     some are not, or if bytes of a newer version's fields are not 0
+ *     memory_bytes), or if flash_bytes is too large for 1,024 shards. Also if some of the seven fields of the shape are
+ *     0 and some are not, or if bytes of a newer version's fields are not 0
  *   KANGAROO_WRONG_ARGUMENT: options is NULL, or its size field is below that of version 1.0 or above 4,096 */
 KANGAROO_CHECKED KANGAROO_API kangaroo_status kangaroo_options_resolve(kangaroo_options *options, const char **field);
 
@@ -324,7 +324,7 @@ KANGAROO_API kangaroo_status kangaroo_remove(kangaroo_cache *cache, const void *
  * The rules:
  *   - a writer writes to the database, commits, and then removes the key;
  *   - a reader reads the database after the miss has returned, and sees what is committed by then: no transaction or
- *     snapshot that was begun before, no replica that lags behind;
+ *     snapshot that was begun before, no replica that lags;
  *   - what was read comes into the cache by kangaroo_fill with the lease of that miss, not by kangaroo_put.
  * A writer that commits and dies before it removes leaves the old value: if that can happen, give values an expiry.
  *
@@ -382,10 +382,11 @@ KANGAROO_API kangaroo_status kangaroo_upkeep(kangaroo_cache *cache, uint32_t ste
 /* --------------------------------------------------------------------------------------------------------- counters */
 
 /* Counts since the cache was opened, modulo 2^64, and numbers of the present. All fields are uint64_t; later versions
- * add theirs at the end. Sums that hold when nobody calls meanwhile:
- *   calls of get that were not refused = memory_hits + log_hits + set_hits + absent + expired + unreadable + damaged
- *   leases_given >= fills_stored + fills_stale + leases_dropped, if no lease was copied
- *   declined + logged + log_full + index_full: objects that left memory by a put or fill */
+ * add theirs at the end. If nobody calls meanwhile:
+ *   - the calls of get that were not refused are memory_hits + log_hits + set_hits + absent + expired + unreadable +
+ *     damaged;
+ *   - if no lease was copied, leases_given is at least fills_stored + fills_stale + leases_dropped;
+ *   - declined + logged + log_full + index_full objects left memory by a put or fill. */
 typedef struct kangaroo_counters {
     uint64_t memory_hits, log_hits, set_hits;      /* hits by tier, including those that a buffer was too short for */
     uint64_t absent, expired, unreadable, damaged; /* misses by cause */
@@ -424,7 +425,7 @@ KANGAROO_API const char *kangaroo_counter_name(size_t index);
 
 /* ------------------------------------------------------------------------------------------------- check of a trace */
 
-/* Checks a recorded history of calls with its certificate, of this cache or of another, as `kangaroo check` does: in
+/* Checks a recorded history of calls with its certificate, of this cache or of another, as `kangaroo check` does. In
  * the certificate's order, did each hit read the right value? docs/FORMATS.md has the bytes of a trace, docs/JUDGING.md
  * says how to record one. It needs no open cache and touches none.
  *

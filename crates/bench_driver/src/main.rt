@@ -36,7 +36,7 @@ fn main(rt: HostRuntime) -> ExitCode {
         }
         Err(LineFault::Usage(text)) => {
             let _ = eprint!(rt; "{text}");
-            Ended::plain(Ending::BadInput)
+            Ended::plain(Ending::BadWords)
         }
         Err(LineFault::Help(text)) => Ended::plain(tell_help(&mut output, text.as_str())),
         Err(LineFault::OutOfMemory) => Ended::plain(Ending::OutOfMemory),

@@ -1,5 +1,5 @@
 -- What is asked of files, by the rows of what was found.
-use Rattle.std.proofs.Common.{◌≡◌, ◌∙◌, Bool, IsSome, List, Option, Some, None, ap, ap₂, codes, option_map, sym}
+use Rattle.std.proofs.Common.{◌≡◌, ◌∙◌, Bool, IsSome, List, Option, Some, None, ap, codes, option_map, sym}
 use Rattle.clap.specs.Words.{Row, Text, first_of}
 use Rattle.command_line.specs.CommandLine.{Checked, Judged, Shown, Wanted, check_wanted, is_on, judge_wanted, show_wanted}
 
@@ -19,16 +19,15 @@ module _ (rows : List Row) where
   no_showing is some = no_file _ (first_of (codes "FILE") rows) is some
 
   module _ (file : Text) (found : Some file ≡ first_of (codes "FILE") rows) where
-    pub asks_check : (explain : Bool) (picture : Option Text) → explain ≡ is_on (codes "explain") rows → picture ≡ first_of (codes "picture") rows → check_wanted rows ≡ Some (Checked file explain picture)
-    asks_check explain picture e p =
-        ap (option_map (λ f. Checked f (is_on (codes "explain") rows) (first_of (codes "picture") rows))) (sym found)
-        ∙ ap₂ (λ (on : Bool) (out : Option Text). Some (Checked file on out)) (sym e) (sym p)
+    pub asks_check : (explain json : Bool) (picture : Option Text) → explain ≡ is_on (codes "explain") rows → json ≡ is_on (codes "json") rows → picture ≡ first_of (codes "picture") rows → check_wanted rows ≡ Some (Checked file explain json picture)
+    asks_check explain json picture e j p =
+        ap (option_map (λ f. Checked f (is_on (codes "explain") rows) (is_on (codes "json") rows) (first_of (codes "picture") rows))) (sym found)
+        ∙ (λ i. Some (Checked file (sym e i) (sym j i) (sym p i)))
 
-    pub asks_judging : (explain : Bool) (picture trace : Option Text) → explain ≡ is_on (codes "explain") rows → picture ≡ first_of (codes "picture") rows → trace ≡ first_of (codes "trace") rows → judge_wanted rows ≡ Some (Judged file explain picture trace)
-    asks_judging explain picture trace e p t =
-        ap (option_map (λ f. Judged f (is_on (codes "explain") rows) (first_of (codes "picture") rows) (first_of (codes "trace") rows))) (sym found)
-        ∙ ap₂ (λ (on : Bool) (out : Option Text). Some (Judged file on out (first_of (codes "trace") rows))) (sym e) (sym p)
-        ∙ ap (λ (out : Option Text). Some (Judged file explain picture out)) (sym t)
+    pub asks_judging : (explain json : Bool) (picture trace : Option Text) → explain ≡ is_on (codes "explain") rows → json ≡ is_on (codes "json") rows → picture ≡ first_of (codes "picture") rows → trace ≡ first_of (codes "trace") rows → judge_wanted rows ≡ Some (Judged file explain json picture trace)
+    asks_judging explain json picture trace e j p t =
+        ap (option_map (λ f. Judged f (is_on (codes "explain") rows) (is_on (codes "json") rows) (first_of (codes "picture") rows) (first_of (codes "trace") rows))) (sym found)
+        ∙ (λ i. Some (Judged file (sym e i) (sym j i) (sym p i) (sym t i)))
 
     pub asks_showing : (key : Option Text) → key ≡ first_of (codes "key") rows → show_wanted rows ≡ Some (Shown file key)
     asks_showing key k =

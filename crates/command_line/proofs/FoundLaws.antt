@@ -16,7 +16,7 @@ use Rattle.clap.proofs.WalkLemmas.{first_value-rows}
 use Rattle.load.specs.declared.setting.Setting.{Setting}
 use Rattle.load.specs.declared.setting.Setting.TheVariants.{Lanes}
 use Rattle.load.specs.Settings.{AreAdmitted, bytes_in, is_admitted, is_decimal, number_in, row_of, served_settings, settings, value_of_text}
-use Rattle.command_line.specs.CommandLine.{Loaded, Served, Wanted, bytes_found, bytes_given, has_numbers, has_sizes, load_wanted, number_found, numbers_found, served_wanted, wanted_of}
+use Rattle.command_line.specs.CommandLine.{Loaded, Served, Wanted, bytes_found, bytes_given, has_numbers, has_sizes, is_on, load_wanted, number_found, numbers_found, served_wanted, wanted_of}
 
 -- a text that was found for a name is that of the name's rows
 pub found_text : (found : Found) (id name : Text) (text : Option Text) → id ≡ name → text ≡ first_value found id → text ≡ first_of name (rows_of found)
@@ -69,14 +69,15 @@ all_found f (s ∷ settings) (n ∷ numbers) e =
     rw one (all_found f settings numbers rest)
 
 -- the load with the numbers that were found is the one that the rows ask for
-pub asks : (rows : List Row) (load : Load) (numbers : List ℕ) (folder : Option Text) (trace : Text) → map (number_found rows) settings ≡ map Some numbers → numbers_of load ≡ numbers → load.device ≡ folder → folder ≡ first_of (codes "device") rows → load.trace ≡ trace → Some trace ≡ first_of (codes "trace") rows → load_wanted rows ≡ Some (wanted_of (Run load))
-asks rows load numbers folder trace e has is_device found_device is_trace found =
+pub asks : (rows : List Row) (load : Load) (numbers : List ℕ) (json : Bool) (folder : Option Text) (trace : Text) → map (number_found rows) settings ≡ map Some numbers → numbers_of load ≡ numbers → load.json ≡ json → json ≡ is_on (codes "json") rows → load.device ≡ folder → folder ≡ first_of (codes "device") rows → load.trace ≡ trace → Some trace ≡ first_of (codes "trace") rows → load_wanted rows ≡ Some (wanted_of (Run load))
+asks rows load numbers json folder trace e has is_json found_json is_device found_device is_trace found =
     let given : has_numbers settings rows ≡ true = all_found (number_found rows) settings numbers e in
     let all : numbers_found settings rows ≡ numbers_of load = or_zero (number_found rows) settings numbers e ∙ sym has in
     let device : first_of (codes "device") rows ≡ load.device = sym (is_device ∙ found_device) in
-    let loaded : Loaded (numbers_found settings rows) (first_of (codes "device") rows) trace ≡ wanted_of (Run load) =
-    (λ i. Loaded (all i) (device i) (sym is_trace i)) in
-    rw given (ap (option_map (Loaded (numbers_found settings rows) (first_of (codes "device") rows))) (sym found) ∙ ap Some loaded)
+    let flag : is_on (codes "json") rows ≡ load.json = sym (is_json ∙ found_json) in
+    let loaded : Loaded (numbers_found settings rows) (is_on (codes "json") rows) (first_of (codes "device") rows) trace ≡ wanted_of (Run load) =
+    (λ i. Loaded (all i) (flag i) (device i) (sym is_trace i)) in
+    rw given (ap (option_map (Loaded (numbers_found settings rows) (is_on (codes "json") rows) (first_of (codes "device") rows))) (sym found) ∙ ap Some loaded)
 
 served_if : (a b : Bool) → a ≡ true → b ≡ true → (w : Wanted) → (if a && b then Some w else None) ≡ Some w
 served_if true true is_a is_b w = refl
@@ -84,16 +85,17 @@ served_if true false is_a is_b w = absurd cc
 served_if false b is_a is_b w = absurd cc
 
 -- and so is the load of a cache that serves
-pub asks_served : (rows : List Row) (load : ServedLoad) (numbers : List ℕ) (size memory : Option ℕ) (folder : Option Text) → map (number_found rows) served_settings ≡ map Some numbers → bytes_found rows Size ≡ Some size → bytes_found rows MemoryBytes ≡ Some memory → served_numbers_of load ≡ numbers → load.size ≡ size → load.memory_bytes ≡ memory → load.device ≡ folder → folder ≡ first_of (codes "device") rows → served_wanted rows ≡ Some (wanted_of (Serve load))
-asks_served rows load numbers size memory folder e found_size found_memory has is_size is_memory is_device found_device =
+pub asks_served : (rows : List Row) (load : ServedLoad) (numbers : List ℕ) (size memory : Option ℕ) (json : Bool) (folder : Option Text) → map (number_found rows) served_settings ≡ map Some numbers → bytes_found rows Size ≡ Some size → bytes_found rows MemoryBytes ≡ Some memory → served_numbers_of load ≡ numbers → load.size ≡ size → load.memory_bytes ≡ memory → load.json ≡ json → json ≡ is_on (codes "json") rows → load.device ≡ folder → folder ≡ first_of (codes "device") rows → served_wanted rows ≡ Some (wanted_of (Serve load))
+asks_served rows load numbers size memory json folder e found_size found_memory has is_size is_memory is_json found_json is_device found_device =
     let given : has_numbers served_settings rows ≡ true = all_found (number_found rows) served_settings numbers e in
     let sized : has_sizes rows ≡ true = rw (found_size, found_memory) refl in
     let all : numbers_found served_settings rows ≡ served_numbers_of load = or_zero (number_found rows) served_settings numbers e ∙ sym has in
     let of_size : unwrap_or (bytes_found rows Size) None ≡ load.size = ap (λ o. unwrap_or o None) found_size ∙ sym is_size in
     let of_memory : unwrap_or (bytes_found rows MemoryBytes) None ≡ load.memory_bytes = ap (λ o. unwrap_or o None) found_memory ∙ sym is_memory in
     let device : first_of (codes "device") rows ≡ load.device = sym (is_device ∙ found_device) in
-    let served : Served (numbers_found served_settings rows) (unwrap_or (bytes_found rows Size) None) (unwrap_or (bytes_found rows MemoryBytes) None) (first_of (codes "device") rows) ≡ wanted_of (Serve load) =
-    (λ i. Served (all i) (of_size i) (of_memory i) (device i)) in
+    let flag : is_on (codes "json") rows ≡ load.json = sym (is_json ∙ found_json) in
+    let served : Served (numbers_found served_settings rows) (unwrap_or (bytes_found rows Size) None) (unwrap_or (bytes_found rows MemoryBytes) None) (is_on (codes "json") rows) (first_of (codes "device") rows) ≡ wanted_of (Serve load) =
+    (λ i. Served (all i) (of_size i) (of_memory i) (flag i) (device i)) in
     served_if _ _ given sized _ ∙ ap Some served
 
 all_at : {X : Type 0} (p : X → Bool) (xs : List X) (i : ℕ) (d : X) → i < length xs → list_all p xs ≡ true → p (get_or xs i d) ≡ true

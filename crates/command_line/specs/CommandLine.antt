@@ -48,6 +48,10 @@ script_command = new_app (codes "script")
 abbrev pub explain_rule : Rule
 explain_rule = record (new_rule (codes "explain")) { long = Some (codes "explain"); action = Some SetTrue }
 
+-- whether what is told is a JSON object and not lines
+abbrev pub json_rule : Rule
+json_rule = record (new_rule (codes "json")) { long = Some (codes "json"); action = Some SetTrue }
+
 -- the file that a picture of why it is rejected is drawn to
 abbrev pub picture_rule : Rule
 picture_rule = record (new_rule (codes "picture")) { long = Some (codes "picture"); value_names = 1 }
@@ -60,14 +64,17 @@ out_rule = record (new_rule (codes "trace")) { long = Some (codes "trace"); valu
 abbrev pub key_rule : Rule
 key_rule = record (new_rule (codes "key")) { long = Some (codes "key"); value_names = 1 }
 
--- check FILE, with a flag and an option
-abbrev pub check_command : App
-check_command = with_rule (with_rule (with_rule (new_app (codes "check")) file_rule) explain_rule) picture_rule
+-- a command that judges the history in a file, with two flags and an option
+abbrev pub with_history : App → App
+with_history app = with_rule (with_rule (with_rule (with_rule app file_rule) explain_rule) json_rule) picture_rule
 
--- judge FILE, with a flag and two options
+-- check FILE, with two flags and an option
+abbrev pub check_command : App
+check_command = with_history (new_app (codes "check"))
+
+-- judge FILE, with two flags and two options
 abbrev pub judge_command : App
-judge_command =
-    with_rule (with_rule (with_rule (with_rule (new_app (codes "judge")) file_rule) explain_rule) picture_rule) out_rule
+judge_command = with_rule (with_history (new_app (codes "judge"))) out_rule
 
 -- show FILE, with an option
 abbrev pub show_command : App
@@ -77,14 +84,14 @@ show_command = with_rule (with_rule (new_app (codes "show")) file_rule) key_rule
 abbrev pub with_option : App → Setting → App
 with_option command setting = with_rule command (option_rule setting)
 
--- run, with an option for each setting, one for the folder of the lanes' files and one for the file of the trace
+-- run, with an option for each setting, one for the folder of the lanes' files, one for the file of the trace, and a flag
 abbrev pub run_command : App
-run_command = with_rule (with_rule (fold with_option (new_app (codes "run")) settings) device_rule) trace_rule
+run_command = with_rule (with_rule (with_rule (fold with_option (new_app (codes "run")) settings) device_rule) trace_rule) json_rule
 
--- serve-load, with an option for each of its settings and sizes, and one for the folder of the lanes' files
+-- serve-load, with an option for each of its settings and sizes, one for the folder of the lanes' files, and a flag
 abbrev pub serve_command : App
 serve_command =
-    with_rule (with_rule (with_rule (fold with_option (new_app (codes "serve-load")) served_settings) (size_rule Size)) (size_rule MemoryBytes)) device_rule
+    with_rule (with_rule (with_rule (with_rule (fold with_option (new_app (codes "serve-load")) served_settings) (size_rule Size)) (size_rule MemoryBytes)) device_rule) json_rule
 
 -- the program, of which one subcommand has to be named
 abbrev pub program_top : App
@@ -108,28 +115,29 @@ program = with_loads (with_judging scripts_program)
 
 -- ---- what its words ask for
 
--- that a script is answered; that the trace in a file of this name is judged, with why it is rejected where the flag is on, and drawn to
--- this file where one is named; that the history in a file of this name is judged so, and written to this file as a trace where
--- one is named; that the trace in a file of this name is written as text, the calls of this key alone where one is named; that a load with these numbers, one for each of its
--- settings in their order, is run, over files of this folder or in memory where there is none, and its trace written to a file of
--- this name; or that a load of a cache that serves is run with such numbers, for so many bytes of flash and of memory where they are
--- given, over files of this folder or in memory where there is none
+-- that a script is answered; that the trace in a file of this name is judged, with why it is rejected if the first flag is on, told as
+-- a JSON object if the second is, and drawn to this file if one is named; that the history in a file of this name is judged so, and
+-- written to this file as a trace if one is named; that the trace in a file of this name is written as text, only the calls of this
+-- key if one is named; that a load with these numbers, one for each of its settings in their order, is run, told as a JSON object if
+-- the flag is on, over files of this folder or in memory if there is none, and its trace written to a file of this name; or that a
+-- load of a cache that serves is run with such numbers, for so many bytes of flash and of memory if they are given, told as a JSON
+-- object if the flag is on, over files of this folder or in memory if there is none
 pub data Wanted : Type 0 where
   Replies : Wanted
-  Checked : Text → Bool → Option Text → Wanted
-  Judged : Text → Bool → Option Text → Option Text → Wanted
+  Checked : Text → Bool → Bool → Option Text → Wanted
+  Judged : Text → Bool → Bool → Option Text → Option Text → Wanted
   Shown : Text → Option Text → Wanted
-  Loaded : List ℕ → Option Text → Text → Wanted
-  Served : List ℕ → Option ℕ → Option ℕ → Option Text → Wanted
+  Loaded : List ℕ → Bool → Option Text → Text → Wanted
+  Served : List ℕ → Option ℕ → Option ℕ → Bool → Option Text → Wanted
 
 -- what a line asks for
 abbrev pub wanted_of : Line → Wanted
 wanted_of Script = Replies
-wanted_of (Check request) = Checked request.file request.explain request.picture
-wanted_of (Judge request) = Judged request.file request.explain request.picture request.trace
+wanted_of (Check request) = Checked request.file request.explain request.json request.picture
+wanted_of (Judge request) = Judged request.file request.explain request.json request.picture request.trace
 wanted_of (Show request) = Shown request.file (option_map string_bytes request.key)
-wanted_of (Run load) = Loaded (numbers_of load) load.device load.trace
-wanted_of (Serve load) = Served (served_numbers_of load) load.size load.memory_bytes load.device
+wanted_of (Run load) = Loaded (numbers_of load) load.json load.device load.trace
+wanted_of (Serve load) = Served (served_numbers_of load) load.size load.memory_bytes load.json load.device
 
 -- a flag is on
 abbrev pub is_on : Text → List Row → Bool
@@ -138,12 +146,12 @@ is_on flag rows = option_map_or (λ word. bytes_eq word (codes "true")) (first_o
 -- the check that was found
 abbrev pub check_wanted : List Row → Option Wanted
 check_wanted rows =
-    option_map (λ file. Checked file (is_on (codes "explain") rows) (first_of (codes "picture") rows)) (first_of (codes "FILE") rows)
+    option_map (λ file. Checked file (is_on (codes "explain") rows) (is_on (codes "json") rows) (first_of (codes "picture") rows)) (first_of (codes "FILE") rows)
 
 -- the judging that was found
 abbrev pub judge_wanted : List Row → Option Wanted
 judge_wanted rows =
-    option_map (λ file. Judged file (is_on (codes "explain") rows) (first_of (codes "picture") rows) (first_of (codes "trace") rows)) (first_of (codes "FILE") rows)
+    option_map (λ file. Judged file (is_on (codes "explain") rows) (is_on (codes "json") rows) (first_of (codes "picture") rows) (first_of (codes "trace") rows)) (first_of (codes "FILE") rows)
 
 -- the showing that was found
 abbrev pub show_wanted : List Row → Option Wanted
@@ -178,14 +186,14 @@ has_sizes rows = is_some (bytes_found rows Size) && is_some (bytes_found rows Me
 abbrev pub load_wanted : List Row → Option Wanted
 load_wanted rows =
     if has_numbers settings rows
-    then option_map (Loaded (numbers_found settings rows) (first_of (codes "device") rows)) (first_of (codes "trace") rows)
+    then option_map (Loaded (numbers_found settings rows) (is_on (codes "json") rows) (first_of (codes "device") rows)) (first_of (codes "trace") rows)
     else None
 
 -- the load of a cache that serves that was found, where each setting and each size that is given has a number
 abbrev pub served_wanted : List Row → Option Wanted
 served_wanted rows =
     if has_numbers served_settings rows && has_sizes rows
-    then Some (Served (numbers_found served_settings rows) (unwrap_or (bytes_found rows Size) None) (unwrap_or (bytes_found rows MemoryBytes) None) (first_of (codes "device") rows))
+    then Some (Served (numbers_found served_settings rows) (unwrap_or (bytes_found rows Size) None) (unwrap_or (bytes_found rows MemoryBytes) None) (is_on (codes "json") rows) (first_of (codes "device") rows))
     else None
 
 -- what a subcommand asks for, by its name and what was found for its arguments

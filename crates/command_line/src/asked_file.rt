@@ -5,7 +5,7 @@ ghost use Rattle.command_line.specs.CommandLine.{check_wanted, is_on, judge_want
 
 use crate::line::Line;
 use crate::line_fault::LineFault;
-use crate::telling::usage;
+use crate::telling::no_file;
 use clap::ArgMatches;
 use file_requests::{CheckRequest, FileName, JudgeRequest, ShowRequest};
 use std::alloc::{AllocError, Global};
@@ -28,7 +28,7 @@ pub(crate) fn file_found<'a>(
 }
 
 /// Whether a flag is on.
-fn is_on<'a>(found: &ArgMatches<'a>, flag: &str) -> bool
+pub(crate) fn is_on<'a>(found: &ArgMatches<'a>, flag: &str) -> bool
     ensures { result ≡ is_on flag.now (rows_of (found_of found.now)) }
 {
     match found.get_str(flag) {
@@ -63,14 +63,16 @@ pub(crate) fn check_line<'a>(alloc: Global, found: &ArgMatches<'a>) -> Result<Li
         → IfErr result (λ fault. fault ≡ LineFault.OutOfMemory) }
 {
     let Some(file) = found.get_str("FILE") else {
-        return Err(usage(alloc, "no file\n"));
+        return Err(no_file(alloc, "check"));
     };
     let file = FileName::new(alloc, file)?;
     let explain = is_on(found, "explain");
+    let json = is_on(found, "json");
     let picture = file_found(alloc, found, "picture")?;
     Ok(Line::Check(CheckRequest {
         file,
         explain,
+        json,
         picture,
     }))
 }
@@ -83,15 +85,17 @@ pub(crate) fn judge_line<'a>(alloc: Global, found: &ArgMatches<'a>) -> Result<Li
         → IfErr result (λ fault. fault ≡ LineFault.OutOfMemory) }
 {
     let Some(file) = found.get_str("FILE") else {
-        return Err(usage(alloc, "no file\n"));
+        return Err(no_file(alloc, "judge"));
     };
     let file = FileName::new(alloc, file)?;
     let explain = is_on(found, "explain");
+    let json = is_on(found, "json");
     let picture = file_found(alloc, found, "picture")?;
     let trace = file_found(alloc, found, "trace")?;
     Ok(Line::Judge(JudgeRequest {
         file,
         explain,
+        json,
         picture,
         trace,
     }))
@@ -105,7 +109,7 @@ pub(crate) fn show_line<'a>(alloc: Global, found: &ArgMatches<'a>) -> Result<Lin
         → IfErr result (λ fault. fault ≡ LineFault.OutOfMemory) }
 {
     let Some(file) = found.get_str("FILE") else {
-        return Err(usage(alloc, "no file\n"));
+        return Err(no_file(alloc, "show"));
     };
     let file = FileName::new(alloc, file)?;
     let key = word_found(alloc, found, "key")?;

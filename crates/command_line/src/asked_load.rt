@@ -3,7 +3,7 @@ ghost use Rattle.std.specs.Prelude.{◌≡◌, ◌≤◌, IfOk, IfErr, OnErr, Is
 ghost use Rattle.clap.specs.Words.{first_of, found_of, rows_of};
 ghost use Rattle.command_line.specs.CommandLine.{bytes_found, has_numbers, has_sizes, load_wanted, number_found, served_wanted, wanted_of, IsUsage};
 
-use crate::asked_file::file_found;
+use crate::asked_file::{file_found, is_on};
 use crate::line::Line;
 use crate::line_fault::LineFault;
 use crate::telling::{Loading, no_bytes, no_number, usage};
@@ -58,6 +58,14 @@ fn bytes_of<'a>(found: &ArgMatches<'a>, size: SizeSetting) -> Result<Option<u64>
     }
 }
 
+/// The text that was found for an option, to be repeated; an empty one if none was.
+fn given<'a>(found: &ArgMatches<'a>, option: &str) -> &'a str {
+    match found.get_str(option) {
+        Some(text) => text,
+        None => "",
+    }
+}
+
 /// What `run` asks for.
 pub fn run_line<'a>(alloc: Global, found: &ArgMatches<'a>) -> Result<Line, LineFault>
     ensures named { IfOk result (λ line. load_wanted (rows_of (found_of found.now)) ≡ Some (wanted_of line)) }
@@ -66,15 +74,19 @@ pub fn run_line<'a>(alloc: Global, found: &ArgMatches<'a>) -> Result<Line, LineF
         → IfErr result (λ fault. fault ≡ LineFault.OutOfMemory) }
 {
     let Some(trace) = found.get_str("trace") else {
-        return Err(usage(alloc, "no trace\n"));
+        return Err(usage(
+            alloc,
+            "error: the file of the trace is missing: name it with --trace FILE\n\nFor more information, try 'kangaroo run --help'.\n",
+        ));
     };
     match numbers_of(found, &SETTINGS) {
         Ok(numbers) => {
             let folder = file_found(alloc, found, "device")?;
             let file = FileName::new(alloc, trace)?;
-            Ok(Line::Run(load_with(&numbers, folder, file)))
+            let json = is_on(found, "json");
+            Ok(Line::Run(load_with(&numbers, json, folder, file)))
         }
-        Err(setting) => Err(no_number(alloc, Loading::Run, setting)),
+        Err(setting) => Err(no_number(alloc, Loading::Run, setting, given(found, setting.name()))),
     }
 }
 
@@ -107,13 +119,17 @@ pub fn serve_line<'a>(alloc: Global, found: &ArgMatches<'a>) -> Result<Line, Lin
 {
     let numbers = match numbers_of(found, &SERVED_SETTINGS) {
         Ok(numbers) => numbers,
-        Err(setting) => return Err(no_number(alloc, Loading::Serve, setting)),
+        Err(setting) => {
+            let given = given(found, setting.name());
+            return Err(no_number(alloc, Loading::Serve, setting, given));
+        }
     };
     match sizes_of(found) {
         Ok(sizes) => {
             let folder = file_found(alloc, found, "device")?;
-            Ok(Line::Serve(served_with(&numbers, sizes.size, sizes.memory_bytes, folder)))
+            let json = is_on(found, "json");
+            Ok(Line::Serve(served_with(&numbers, sizes.size, sizes.memory_bytes, json, folder)))
         }
-        Err(size) => Err(no_bytes(alloc, size)),
+        Err(size) => Err(no_bytes(alloc, size, given(found, size.name()))),
     }
 }

@@ -1,4 +1,4 @@
-// How the program ends behind a script, help, or words that it does not take.
+// How the program ends after a script, help, or words that it does not take.
 ghost use Rattle.std.specs.Prelude.{◌≡◌};
 ghost use Rattle.std.specs.Option.{option_map};
 ghost use Rattle.std.specs.Process.{exit_status};
@@ -12,8 +12,12 @@ use std::process::ExitCode;
 pub enum Ending {
     /// All was done: the script ended, or help was given.
     Done,
-    /// The input was bad: a line, a configuration, or the words of the command line.
-    BadInput,
+    /// The words of the command line were bad.
+    BadWords,
+    /// A line of a script was bad.
+    BadLine,
+    /// A field of a script's configuration was out of its range.
+    BadConfig,
     /// Memory was refused.
     OutOfMemory,
     /// The input of a script failed, and the output did not.
@@ -29,7 +33,8 @@ impl Ending {
     {
         match outcome {
             Ok(Scripted::Ended) => Ending::Done,
-            Ok(Scripted::BadLine | Scripted::BadConfig) => Ending::BadInput,
+            Ok(Scripted::BadLine) => Ending::BadLine,
+            Ok(Scripted::BadConfig) => Ending::BadConfig,
             Err(ScriptFault::OutOfMemory) => Ending::OutOfMemory,
             Err(ScriptFault::ReadFault) => Ending::ReadFault,
             Err(ScriptFault::WriteFault) => Ending::FileFault,
@@ -42,7 +47,7 @@ impl Ending {
     {
         match self {
             Ending::Done => 0,
-            Ending::BadInput => 2,
+            Ending::BadWords | Ending::BadLine | Ending::BadConfig => 2,
             Ending::OutOfMemory | Ending::ReadFault | Ending::FileFault => 3,
         }
     }
@@ -59,7 +64,7 @@ impl Ending {
         ensures { option_map (λ m. m.now) result ≡ message_of self }
     {
         match self {
-            Ending::Done | Ending::BadInput => None,
+            Ending::Done | Ending::BadWords | Ending::BadLine | Ending::BadConfig => None,
             Ending::OutOfMemory => Some("out of memory"),
             Ending::ReadFault | Ending::FileFault => Some("file fault"),
         }

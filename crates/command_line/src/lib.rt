@@ -7,6 +7,7 @@ mod asked_load;
 mod asking;
 mod ended;
 mod ending;
+mod help;
 mod line;
 mod line_fault;
 mod parse;

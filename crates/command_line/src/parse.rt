@@ -64,7 +64,10 @@ fn line_met<'a>(alloc: Global, matches: &ArgMatches<'a>) -> Result<Line, LineFau
             Ok(line) => Ok(line),
             Err(fault) => Err(fault),
         },
-        None => Err(usage(alloc, "no subcommand\n")),
+        None => Err(usage(
+            alloc,
+            "error: a command is missing: name one, as in kangaroo check FILE\n\nFor more information, try 'kangaroo --help'.\n",
+        )),
     }
 }
 

@@ -1,8 +1,10 @@
 // The program's command line, as `clap` reads it.
 ghost use Rattle.std.specs.Prelude.{◌≡◌, IfOk, false};
-ghost use Rattle.clap.specs.Words.{app_of, rule_of};
-ghost use Rattle.command_line.specs.CommandLine.{check_command, device_rule, explain_rule, file_rule, judge_command, key_rule, option_rule, out_rule, picture_rule, program, run_command, script_command, scripts_program, serve_command, show_command, size_rule, trace_rule, with_judging, with_loads};
+ghost use Rattle.clap.specs.Words.{app_of, new_app, rule_of};
+ghost use Rattle.command_line.specs.CommandLine.{check_command, device_rule, explain_rule, file_rule, json_rule, judge_command, key_rule, option_rule, out_rule, picture_rule, program, run_command, script_command, scripts_program, serve_command, show_command, size_rule, trace_rule, with_history, with_judging, with_loads};
 
+use crate::help;
+use crate::help::Help;
 use clap::{Arg, ArgAction, Command};
 use load::{SERVED_SETTINGS, SETTINGS, Setting, SizeSetting};
 use std::alloc::{AllocError, Global};
@@ -11,7 +13,7 @@ use std::alloc::{AllocError, Global};
 const NAME: &str = "kangaroo";
 
 /// The version that it tells.
-const VERSION: &str = "0.1.0";
+const VERSION: &str = "1.0.0";
 
 /// The program's command line.
 pub fn program<'a>(alloc: Global) -> Result<Command<'a>, AllocError>
@@ -30,7 +32,8 @@ fn with_script<'a>(alloc: Global) -> Result<Command<'a>, AllocError>
     ensures { IfOk result (λ c. app_of c ≡ scripts_program) }
 {
     Command::new(alloc, NAME)
-        .about("A flash cache for tiny objects, and a checker of recorded histories")
+        .about(help::PROGRAM.about)
+        .after_help(help::PROGRAM.notes)
         .version(VERSION)
         .bin_name(NAME)?
         .subcommand_required(true)
@@ -58,40 +61,58 @@ fn with_loads<'a>(alloc: Global, kangaroo: Command<'a>) -> Result<Command<'a>, A
 fn script<'a>(alloc: Global) -> Command<'a>
     ensures { app_of result ≡ script_command }
 {
-    Command::new(alloc, "script").about("Answers the script of standard input")
+    command(alloc, "script", &help::SCRIPT)
+}
+
+/// A command of this name, with what its help says.
+fn command<'a>(alloc: Global, name: &'a str, help: &Help) -> Command<'a>
+    ensures { app_of result ≡ new_app name.entry.now }
+{
+    Command::new(alloc, name)
+        .about(help.about)
+        .after_help(help.notes)
 }
 
 /// The subcommand `check`.
 fn check<'a>(alloc: Global) -> Result<Command<'a>, AllocError>
     ensures { IfOk result (λ c. app_of c ≡ check_command) }
 {
-    let check = Command::new(alloc, "check").about("Judges the trace in a file");
-    let check = check.arg(file(alloc, "The file of the trace"))?;
-    let explained = check.arg(explain(alloc))?;
-    explained.arg(picture(alloc))
+    let check = command(alloc, "check", &help::CHECK);
+    match with_history(alloc, check, "File of the trace, or - for standard input") {
+        Ok(check) => Ok(check),
+        Err(refused) => Err(refused),
+    }
 }
 
 /// The subcommand `judge`.
 fn judge<'a>(alloc: Global) -> Result<Command<'a>, AllocError>
     ensures { IfOk result (λ c. app_of c ≡ judge_command) }
 {
-    let judge = Command::new(alloc, "judge").about(
-        "Judges a history that brings no certificate, written as text, a call a line",
-    );
-    let judge = judge.arg(file(alloc, "The file of the text, or - for standard input"))?;
-    let explained = judge.arg(explain(alloc))?;
-    let pictured = explained.arg(picture(alloc))?;
-    pictured.arg(out(alloc))
+    let judge = command(alloc, "judge", &help::JUDGE);
+    let judge = with_history(alloc, judge, "File of the text, or - for standard input")?;
+    judge.arg(out(alloc))
+}
+
+/// A command that judges the history in a file, which means this.
+fn with_history<'a>(
+    alloc: Global,
+    command: Command<'a>,
+    meaning: &'a str,
+) -> Result<Command<'a>, AllocError>
+    ensures { IfOk result (λ c. app_of c ≡ with_history (app_of command.entry)) }
+{
+    let command = command.arg(file(alloc, meaning))?;
+    let explained = command.arg(explain(alloc))?;
+    let told = explained.arg(json(alloc))?;
+    told.arg(picture(alloc))
 }
 
 /// The subcommand `show`.
 fn show<'a>(alloc: Global) -> Result<Command<'a>, AllocError>
     ensures { IfOk result (λ c. app_of c ≡ show_command) }
 {
-    let show = Command::new(alloc, "show").about(
-        "Writes the trace in a file as text, a call a line",
-    );
-    let show = show.arg(file(alloc, "The file of the trace"))?;
+    let show = command(alloc, "show", &help::SHOW);
+    let show = show.arg(file(alloc, "File of the trace, or - for standard input"))?;
     show.arg(key(alloc))
 }
 
@@ -111,7 +132,18 @@ fn explain<'a>(alloc: Global) -> Arg<'a>
     Arg::new(alloc, "explain")
         .long("explain")
         .action(ArgAction::SetTrue)
-        .help("Says why the history is rejected, with the calls round the place")
+        .help("Explain why the history is rejected, and show the calls around the place")
+}
+
+/// Whether what is told is a JSON object and not lines.
+fn json<'a>(alloc: Global) -> Arg<'a>
+    ensures rule { rule_of result ≡ json_rule }
+    ensures local { result.global ≡ false }
+{
+    Arg::new(alloc, "json")
+        .long("json")
+        .action(ArgAction::SetTrue)
+        .help("Print one JSON object instead of lines")
 }
 
 /// The file that a picture is drawn to.
@@ -122,7 +154,7 @@ fn picture<'a>(alloc: Global) -> Arg<'a>
     Arg::new(alloc, "picture")
         .long("picture")
         .value_name("OUT")
-        .help("The file that a picture of why the history is rejected is drawn to, as SVG")
+        .help("Draw why the history is rejected to this file, as SVG")
 }
 
 /// The file that an accepted history is written to.
@@ -133,7 +165,7 @@ fn out<'a>(alloc: Global) -> Arg<'a>
     Arg::new(alloc, "trace")
         .long("trace")
         .value_name("OUT")
-        .help("The file that an accepted history is written to, as a trace that check accepts")
+        .help("Write an accepted history to this file, as a trace that check accepts")
 }
 
 /// The key whose calls alone are written.
@@ -141,38 +173,37 @@ fn key<'a>(alloc: Global) -> Arg<'a>
     ensures rule { rule_of result ≡ key_rule }
     ensures local { result.global ≡ false }
 {
-    Arg::new(alloc, "key").long("key").value_name("KEY").help(
-        "The key whose calls alone are written, percent-coded as in the text",
-    )
+    Arg::new(alloc, "key")
+        .long("key")
+        .value_name("KEY")
+        .help("Print only the calls on this key (percent-encoded)")
 }
 
 /// The subcommand `run`.
 pub fn run<'a>(alloc: Global) -> Result<Command<'a>, AllocError>
     ensures { IfOk result (λ c. app_of c ≡ run_command) }
 {
-    let mut run = Command::new(alloc, "run").about(
-        "Runs threads on a cache, and judges their history",
-    );
+    let mut run = command(alloc, "run", &help::RUN);
     for setting in &SETTINGS {
         run = run.arg(option(alloc, *setting))?;
     }
     let over_files = run.arg(device(alloc))?;
-    over_files.arg(trace(alloc))
+    let traced = over_files.arg(trace(alloc))?;
+    traced.arg(json(alloc))
 }
 
 /// The subcommand `serve-load`.
 pub fn serve<'a>(alloc: Global) -> Result<Command<'a>, AllocError>
     ensures { IfOk result (λ c. app_of c ≡ serve_command) }
 {
-    let mut serve = Command::new(alloc, "serve-load").about(
-        "Runs threads on a cache that serves, each of which checks the hits of its own keys; nothing is recorded",
-    );
+    let mut serve = command(alloc, "serve-load", &help::SERVE);
     for setting in &SERVED_SETTINGS {
         serve = serve.arg(option(alloc, *setting))?;
     }
     let sized = serve.arg(size(alloc, SizeSetting::Size))?;
     let sized = sized.arg(size(alloc, SizeSetting::MemoryBytes))?;
-    sized.arg(device(alloc))
+    let over_files = sized.arg(device(alloc))?;
+    over_files.arg(json(alloc))
 }
 
 /// The option of a size.
@@ -186,6 +217,7 @@ fn size<'a>(alloc: Global, size: SizeSetting) -> Arg<'a>
         .long(name)
         .value_name("BYTES")
         .help(meaning)
+        .help_heading("Cache options")
 }
 
 /// The option of a setting.
@@ -196,11 +228,13 @@ fn option<'a>(alloc: Global, setting: Setting) -> Arg<'a>
     let name: &'a str = setting.name();
     let word: &'a str = setting.default_word();
     let meaning: &'a str = setting.meaning();
+    let heading: &'a str = setting.heading();
     Arg::new(alloc, name)
         .long(name)
         .value_name("NUMBER")
         .default_value(word)
         .help(meaning)
+        .help_heading(heading)
 }
 
 /// The folder of the lanes' files.
@@ -212,7 +246,7 @@ fn device<'a>(alloc: Global) -> Arg<'a>
         .long("device")
         .value_name("FOLDER")
         .help(
-            "The folder of the lanes' files, lane-0.dev and so on; without it the lanes are in memory",
+            "Keep the lanes in files of this folder, lane-0.dev and so on. The folder\nmust exist; older files of these names lose what they hold. Without it\nthe lanes are in memory.",
         )
 }
 
@@ -225,5 +259,5 @@ fn trace<'a>(alloc: Global) -> Arg<'a>
         .long("trace")
         .value_name("FILE")
         .required(true)
-        .help("The file that the trace is written to")
+        .help("Write the trace of all calls to this file, which kangaroo check reads")
 }

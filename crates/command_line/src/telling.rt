@@ -40,6 +40,19 @@ pub fn usage(alloc: Global, text: &str) -> LineFault
     }
 }
 
+/// A usage of a subcommand of which the file is missing.
+pub fn no_file(alloc: Global, subcommand: &str) -> LineFault
+    ensures { IsUsage result }
+{
+    let text = format!(in alloc;
+        "error: the name of the file is missing: name it, as in kangaroo {subcommand} FILE\n\nFor more information, try 'kangaroo {subcommand} --help'.\n"
+    );
+    match text {
+        Ok(text) => LineFault::Usage(text),
+        Err(_) => LineFault::OutOfMemory,
+    }
+}
+
 /// What a subcommand loads.
 #[derive(Clone, Copy, Debug, PartialEq, Eq)]
 pub enum Loading {
@@ -49,23 +62,43 @@ pub enum Loading {
     Serve,
 }
 
-/// What is told where the number that was given for a setting is none, or out of its range.
-pub fn no_number(alloc: Global, loading: Loading, setting: Setting) -> LineFault
-    ensures { IsUsage result }
-{
-    let least = u64::from(setting.least());
-    let greatest = u64::from(setting.greatest());
-    match range_error(alloc, loading, setting.name(), least, greatest) {
-        Ok(error) => usage_of(alloc, &error),
-        Err(_) => LineFault::OutOfMemory,
-    }
+/// The numbers that an option takes.
+#[derive(Clone, Copy, Debug)]
+struct Range {
+    name: &'static str,
+    least: u64,
+    greatest: u64,
 }
 
-/// What is told where the number that was given for a size is none, or out of its range.
-pub fn no_bytes(alloc: Global, size: SizeSetting) -> LineFault
+/// What is told if the text that was given for a setting is no number, or one out of its range.
+pub fn no_number(alloc: Global, loading: Loading, setting: Setting, given: &str) -> LineFault
     ensures { IsUsage result }
 {
-    match range_error(alloc, Loading::Serve, size.name(), 0, SizeSetting::MOST) {
+    let range = Range {
+        name: setting.name(),
+        least: u64::from(setting.least()),
+        greatest: u64::from(setting.greatest()),
+    };
+    no_range(alloc, loading, &range, given)
+}
+
+/// What is told if the text that was given for a size is no number, or one out of its range.
+pub fn no_bytes(alloc: Global, size: SizeSetting, given: &str) -> LineFault
+    ensures { IsUsage result }
+{
+    let range = Range {
+        name: size.name(),
+        least: 0,
+        greatest: SizeSetting::MOST,
+    };
+    no_range(alloc, Loading::Serve, &range, given)
+}
+
+/// What is told if the text that was given for an option is no number of its range.
+fn no_range(alloc: Global, loading: Loading, range: &Range, given: &str) -> LineFault
+    ensures { IsUsage result }
+{
+    match range_error(alloc, loading, range, given) {
         Ok(error) => usage_of(alloc, &error),
         Err(_) => LineFault::OutOfMemory,
     }
@@ -81,18 +114,28 @@ fn usage_of(alloc: Global, error: &clap::Error) -> LineFault
     }
 }
 
-/// That an option takes a number of a range, as `clap` words it.
+/// That an option takes a number of a range and not this text, as `clap` words it.
 fn range_error(
     alloc: Global,
     loading: Loading,
-    name: &str,
-    least: u64,
-    greatest: u64,
+    range: &Range,
+    given: &str,
 ) -> Result<clap::Error, AllocError> {
     let mut command = match loading {
         Loading::Run => run(alloc)?.bin_name("kangaroo run")?,
         Loading::Serve => serve(alloc)?.bin_name("kangaroo serve-load")?,
     };
-    let message = format!(in alloc; "--{name} takes a number from {least} to {greatest}")?;
+    let message = range_message(alloc, range, given)?;
     command.error(ErrorKind::ValueValidation, message.as_str())
+}
+
+/// The same in words. A text that is a number is repeated as it is, and another one in backquotes.
+fn range_message(alloc: Global, range: &Range, given: &str) -> Result<String, AllocError> {
+    let name = range.name;
+    let least = range.least;
+    let greatest = range.greatest;
+    if given.parse::<u64>().is_ok() {
+        return format!(in alloc; "--{name} takes a number from {least} to {greatest}, not {given}");
+    }
+    format!(in alloc; "--{name} takes a number from {least} to {greatest}, not `{given}`")
 }

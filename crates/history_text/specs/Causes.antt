@@ -5,24 +5,24 @@ use Rattle.history_text.specs.declared.bad_line.BadLine.{BadLine}
 use Rattle.history_text.specs.declared.cause.Cause.{Cause}
 use Rattle.history_text.specs.declared.cause.Cause.TheVariants.{TooLong, TooManyLines, NotWords, BadStart, BadEnd, BadKind, WrongCount, NoReturn, BadKeyCode, BadKeyLen, BadValueCode, BadValueLen, BadExpiry, BadMoment, TooManyCalls, TooManyCallers}
 
--- a cause in words
+-- the message of a cause: what is wrong, and what is wanted
 abbrev pub cause_text : Cause → List ℕ
-cause_text TooLong = codes "a line of more than 8192 bytes"
-cause_text TooManyLines = codes "more than 4294967295 lines"
-cause_text NotWords = codes "not five to seven words parted by single spaces"
-cause_text BadStart = codes "the start is no number below 2^63"
-cause_text BadEnd = codes "the end is neither - nor a number below 2^63"
-cause_text BadKind = codes "none of put, hit, miss and remove"
-cause_text WrongCount = codes "too few or too many words for such a call"
-cause_text NoReturn = codes "a hit or a miss has no end"
-cause_text BadKeyCode = codes "in the key a % stands before no two hexadecimal digits"
-cause_text BadKeyLen = codes "the key does not have 1 to 255 bytes"
-cause_text BadValueCode = codes "in the value a % stands before no two hexadecimal digits"
-cause_text BadValueLen = codes "the value has more than 2048 bytes"
-cause_text BadExpiry = codes "the expiry is no number below 2^63"
-cause_text BadMoment = codes "the moment is no number below 2^63"
-cause_text TooManyCalls = codes "more than 268435456 calls"
-cause_text TooManyCallers = codes "more than 65536 callers"
+cause_text TooLong = codes "the line is too long: a line has at most 8192 bytes"
+cause_text TooManyLines = codes "too many lines: a text has at most 4294967295"
+cause_text NotWords = codes "a line has five to seven words of printable ASCII, separated by single spaces: CALLER START END put|hit|miss|remove KEY [VALUE [TIME]]"
+cause_text BadStart = codes "START must be a number below 2^63, in decimal without leading zeros"
+cause_text BadEnd = codes "END must be a number below 2^63, in decimal without leading zeros, or - if the call never returned"
+cause_text BadKind = codes "the fourth word must be put, hit, miss or remove"
+cause_text WrongCount = codes "wrong number of words: put and hit have KEY VALUE and at most one time after them, miss and remove have only KEY"
+cause_text NoReturn = codes "END of a hit or a miss must be a number: leave out gets that never returned"
+cause_text BadKeyCode = codes "bad percent-encoding in the key: % must be followed by two hexadecimal digits"
+cause_text BadKeyLen = codes "the key must have 1 to 255 bytes after percent-decoding: - means no bytes, %2D is a hyphen"
+cause_text BadValueCode = codes "bad percent-encoding in the value: % must be followed by two hexadecimal digits"
+cause_text BadValueLen = codes "the value must have at most 2048 bytes after percent-decoding"
+cause_text BadExpiry = codes "the expiry of a put must be a number below 2^63, in decimal without leading zeros: leave it out if the value never expires"
+cause_text BadMoment = codes "the moment of a hit must be a number below 2^63, in decimal without leading zeros: leave it out to mean 0"
+cause_text TooManyCalls = codes "too many calls: a history has at most 268435456"
+cause_text TooManyCallers = codes "too many callers: a history has at most 65536"
 
 -- a bad line in words: its number, and the cause
 abbrev pub bad_line_text : BadLine → List ℕ

@@ -3,37 +3,37 @@ ghost use Rattle.std.specs.Prelude.{◌≡◌, Some};
 
 use std::fmt;
 
-/// Why a line of a text is bad. A line is told by the first cause in this order, in which those of the whole line come
-/// first, then its words from the first to the last, and then what the history has no room for.
+/// Why a line of a text is bad. A line has the first cause in this order: those of the whole line, then those of its words
+/// from the first to the last, and then those of a history that is full.
 #[derive(Clone, Copy, Debug, PartialEq, Eq)]
 pub enum Cause {
     /// The line has more than 8,192 bytes.
     TooLong,
     /// There are more than 4,294,967,295 lines.
     TooManyLines,
-    /// The line is not five to seven words, parted by single spaces, of the bytes 21 to 7e.
+    /// The line does not have five to seven words of the bytes 21 to 7e, separated by single spaces.
     NotWords,
-    /// The start is no number below 2^63.
+    /// The start is not a number below 2^63.
     BadStart,
     /// The end is neither `-` nor a number below 2^63.
     BadEnd,
     /// What the call did is none of `put`, `hit`, `miss` and `remove`.
     BadKind,
-    /// There are more or fewer words than such a call has.
+    /// The line has more or fewer words than such a call has.
     WrongCount,
-    /// A hit or a miss has the end `-`, and what never returned read nothing.
+    /// A hit or a miss has the end `-`. A get that never returned read nothing.
     NoReturn,
-    /// In the key a `%` stands before no two hexadecimal digits.
+    /// A `%` in the key is not followed by two hexadecimal digits.
     BadKeyCode,
     /// The key does not have 1 to 255 bytes.
     BadKeyLen,
-    /// In the value a `%` stands before no two hexadecimal digits.
+    /// A `%` in the value is not followed by two hexadecimal digits.
     BadValueCode,
     /// The value has more than 2,048 bytes.
     BadValueLen,
-    /// The expiry of a put is no number below 2^63.
+    /// The expiry of a put is not a number below 2^63.
     BadExpiry,
-    /// The moment of a hit is no number below 2^63.
+    /// The moment of a hit is not a number below 2^63.
     BadMoment,
     /// There are more than 268,435,456 calls, the most of a trace.
     TooManyCalls,
@@ -44,27 +44,37 @@ pub enum Cause {
 impl Cause {
     ghost use Rattle.history_text.specs.Causes.{cause_text};
 
-    /// What is told of a line with this cause.
+    /// The message of a line with this cause: what is wrong, and what is wanted.
     pub fn text(self) -> &'static str
         ensures { result.now ≡ cause_text self }
     {
         match self {
-            Cause::TooLong => "a line of more than 8192 bytes",
-            Cause::TooManyLines => "more than 4294967295 lines",
-            Cause::NotWords => "not five to seven words parted by single spaces",
-            Cause::BadStart => "the start is no number below 2^63",
-            Cause::BadEnd => "the end is neither - nor a number below 2^63",
-            Cause::BadKind => "none of put, hit, miss and remove",
-            Cause::WrongCount => "too few or too many words for such a call",
-            Cause::NoReturn => "a hit or a miss has no end",
-            Cause::BadKeyCode => "in the key a % stands before no two hexadecimal digits",
-            Cause::BadKeyLen => "the key does not have 1 to 255 bytes",
-            Cause::BadValueCode => "in the value a % stands before no two hexadecimal digits",
-            Cause::BadValueLen => "the value has more than 2048 bytes",
-            Cause::BadExpiry => "the expiry is no number below 2^63",
-            Cause::BadMoment => "the moment is no number below 2^63",
-            Cause::TooManyCalls => "more than 268435456 calls",
-            Cause::TooManyCallers => "more than 65536 callers",
+            Cause::TooLong => "the line is too long: a line has at most 8192 bytes",
+            Cause::TooManyLines => "too many lines: a text has at most 4294967295",
+            Cause::NotWords =>
+                "a line has five to seven words of printable ASCII, separated by single spaces: CALLER START END put|hit|miss|remove KEY [VALUE [TIME]]",
+            Cause::BadStart =>
+                "START must be a number below 2^63, in decimal without leading zeros",
+            Cause::BadEnd =>
+                "END must be a number below 2^63, in decimal without leading zeros, or - if the call never returned",
+            Cause::BadKind => "the fourth word must be put, hit, miss or remove",
+            Cause::WrongCount =>
+                "wrong number of words: put and hit have KEY VALUE and at most one time after them, miss and remove have only KEY",
+            Cause::NoReturn =>
+                "END of a hit or a miss must be a number: leave out gets that never returned",
+            Cause::BadKeyCode =>
+                "bad percent-encoding in the key: % must be followed by two hexadecimal digits",
+            Cause::BadKeyLen =>
+                "the key must have 1 to 255 bytes after percent-decoding: - means no bytes, %2D is a hyphen",
+            Cause::BadValueCode =>
+                "bad percent-encoding in the value: % must be followed by two hexadecimal digits",
+            Cause::BadValueLen => "the value must have at most 2048 bytes after percent-decoding",
+            Cause::BadExpiry =>
+                "the expiry of a put must be a number below 2^63, in decimal without leading zeros: leave it out if the value never expires",
+            Cause::BadMoment =>
+                "the moment of a hit must be a number below 2^63, in decimal without leading zeros: leave it out to mean 0",
+            Cause::TooManyCalls => "too many calls: a history has at most 268435456",
+            Cause::TooManyCallers => "too many callers: a history has at most 65536",
         }
     }
 }

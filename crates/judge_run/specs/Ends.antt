@@ -3,18 +3,19 @@ use Rattle.std.specs.Prelude.{◌≡◌, ◌⊎◌, ℕ, Result, Ok, Err}
 use Rattle.judge_run.specs.declared.judge_end.JudgeEnd.{JudgeEnd}
 use Rattle.judge_run.specs.declared.judge_end.JudgeEnd.TheVariants as ends
 use Rattle.judge_run.specs.declared.outcome.Outcome.{Outcome}
-use Rattle.judge_run.specs.declared.outcome.Outcome.TheVariants.{Accepted, Rejected, Undecided, Bad}
+use Rattle.judge_run.specs.declared.outcome.Outcome.TheVariants.{Accepted, Rejected, Undecided, BadLine, BadTrace}
 use Rattle.judge_run.specs.declared.tell_fault.TellFault.{TellFault}
 use Rattle.judge_run.specs.declared.tell_fault.TellFault.TheVariants.{OutOfMemory, ReadFault, WriteFault}
 
--- how it ends behind what came of judging
+-- how it ends after what came of judging
 abbrev pub end_of_outcome : Outcome → JudgeEnd
 end_of_outcome (Accepted trace) = ends.Done
 end_of_outcome (Rejected rejection) = ends.Rejected
-end_of_outcome Undecided = ends.Undecided
-end_of_outcome Bad = ends.BadInput
+end_of_outcome (Undecided hits) = ends.Undecided
+end_of_outcome (BadLine bad) = ends.BadInput
+end_of_outcome (BadTrace fault) = ends.BadInput
 
--- how it ends where not all was told
+-- how it ends if not all was told
 abbrev pub end_of_fault : TellFault → JudgeEnd
 end_of_fault OutOfMemory = ends.OutOfMemory
 end_of_fault ReadFault = ends.FileFault
@@ -37,7 +38,7 @@ IsFault end = (end ≡ ends.OutOfMemory) ⊎ (end ≡ ends.FileFault)
 abbrev pub IsSaved : Outcome → JudgeEnd → Type 0
 IsSaved outcome end = (end ≡ end_of_outcome outcome) ⊎ IsFault end
 
--- how it ends behind an answer
+-- how it ends after an answer
 abbrev pub IsEnded : Result Outcome TellFault → JudgeEnd → Type 0
 IsEnded (Ok outcome) end = IsSaved outcome end
 IsEnded (Err fault) end = end ≡ end_of_fault fault

@@ -1,5 +1,7 @@
+pub mod Answers
 pub mod Told
 pub mod TextTold
+pub mod TraceRows
 pub mod TraceTold
 pub mod Showing
 pub mod Ends

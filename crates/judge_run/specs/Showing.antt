@@ -27,8 +27,7 @@ pub record ShownWhole (known only old new : Option (List ℕ)) : Type 0 where
   pub wrote : Appends old new (written only trace.history)
 
 -- the bytes, where they are known, are no trace for this reason, whose line was written
-pub record ShownBad (known old new : Option (List ℕ)) : Type 0 where
-  pub fault : TraceFault
+pub record ShownBad (known : Option (List ℕ)) (fault : TraceFault) (old new : Option (List ℕ)) : Type 0 where
   pub other : fault ≢ faults.OutOfMemory
   pub read : IfSome known (λ bytes. IsFaultOf bytes fault)
   pub wrote : Appends old new (bad_trace_text fault)
@@ -40,10 +39,10 @@ pub record ShownBefore (known only old new : Option (List ℕ)) (position : ℕ)
   pub first : IsFirstWithout only trace.history (writing.TooLate position)
   pub wrote : WroteBefore only trace.history old new (writing.TooLate position)
 
--- what was written where showing ended so
+-- what was written if showing ended so
 abbrev pub HasShown : Option (List ℕ) → Option (List ℕ) → Shown → Option (List ℕ) → Option (List ℕ) → Type 0
 HasShown known only Whole old new = ShownWhole known only old new
-HasShown known only BadTrace old new = ShownBad known old new
+HasShown known only (BadTrace fault) old new = ShownBad known fault old new
 HasShown known only (TooLate position) old new = ShownBefore known only old new position
 
 -- the text is that of the bytes' trace

@@ -1,36 +1,40 @@
 // Judging a trace, and telling its verdict.
-ghost use Rattle.std.specs.Prelude.{◌≡◌, ◌≢◌, ◌++◌, IfOk, IfErr, codes, string_bytes};
-ghost use Rattle.certificate_checker.specs.VerdictLine.{bad_trace_line, verdict_line};
-ghost use Rattle.judge_run.specs.TraceTold.{IsPairTold, IsRejectionOf, IsTraceTold, IsTraceUntold, ToldTrace};
+ghost use Rattle.std.specs.Prelude.{◌≡◌, ◌≢◌, IfOk, IfErr, string_bytes};
+ghost use Rattle.judge_run.specs.TraceTold.{IsPairTold, IsRejectionOf, IsTraceTold, IsTraceUntold, ToldTrace, bad_trace_answer};
 
+use crate::answers::ended;
 use crate::outcome::Outcome;
 use crate::rejection::Rejection;
 use crate::tell_fault::TellFault;
 use crate::told::Told;
+use crate::trace_answers::{bad_trace_answer, verdict_begun};
 use certificate_checker::{Fault, Verdict, check_with_hasher};
+use figures::Form;
 use history_picture::Reason;
 use std::alloc::{AllocError, Global};
 use std::hash::BuildHasher;
 use std::io::{Read, Write};
 use trace_file::{Trace, TraceFault, Unwritten, read_trace, write_whole};
 
-/// Judges the trace of a reader, and tells its verdict: the line, and behind it, where the trace is rejected and that is wanted, why.
-/// It flushes nothing. The checker's table hashes keys by `hash_builder`, which whoever wrote the trace should not know.
+/// Judges the trace of a reader, and tells its verdict in this form. If the trace is rejected and that is wanted, it tells why
+/// after the verdict. It flushes nothing. The checker's table hashes keys by `hash_builder`. Whoever wrote the trace should not
+/// know its seed.
 ///
 /// A reader that fails is a bad trace, `ReadFault`. Neither a failed read nor a failed write is tried again.
 pub fn answer_check<S: BuildHasher + Drop, R: Read, W: Write>(
     alloc: Global,
     hash_builder: S,
+    form: Form,
     explain: bool,
     reader: &mut R,
     writer: &mut W,
 ) -> Result<Outcome, TellFault>
-    ensures ok { IfOk result (λ outcome. ToldTrace (R.remaining reader.old)
+    ensures ok { IfOk result (λ outcome. ToldTrace form (R.remaining reader.old)
         (R.remaining reader.new) explain outcome (W.contents writer.old) (W.contents writer.new)) }
-    ensures err { IfErr result (λ fault. IsTraceUntold (R.remaining reader.old)
+    ensures err { IfErr result (λ fault. IsTraceUntold form (R.remaining reader.old)
         (R.remaining reader.new) explain (W.contents writer.old) (W.contents writer.new) fault) }
 {
-    let told = told_trace(alloc, hash_builder, explain, reader)?;
+    let told = told_trace(alloc, hash_builder, form, explain, reader)?;
     match write_whole(writer, told.text.as_bytes()) {
         Ok(()) => Ok(told.outcome),
         Err(Unwritten) => Err(TellFault::WriteFault),
@@ -41,18 +45,19 @@ pub fn answer_check<S: BuildHasher + Drop, R: Read, W: Write>(
 fn told_trace<S: BuildHasher + Drop, R: Read>(
     alloc: Global,
     hash_builder: S,
+    form: Form,
     explain: bool,
     reader: &mut R,
 ) -> Result<Told, AllocError>
-    ensures { IfOk result (λ told. IsTraceTold (R.remaining reader.old)
+    ensures { IfOk result (λ told. IsTraceTold form (R.remaining reader.old)
         (R.remaining reader.new) explain told.outcome (string_bytes told.text)) }
 {
     match read_trace(alloc, reader) {
-        Ok(trace) => match told_pair(alloc, hash_builder, trace, explain) {
+        Ok(trace) => match told_pair(alloc, hash_builder, form, trace, explain) {
             Ok(told) => Ok(told),
             Err(refused) => Err(refused),
         },
-        Err(fault) => match told_bad_trace(alloc, fault) {
+        Err(fault) => match told_bad_trace(alloc, form, fault) {
             Ok(told) => Ok(told),
             Err(refused) => Err(refused),
         },
@@ -63,34 +68,27 @@ fn told_trace<S: BuildHasher + Drop, R: Read>(
 fn told_pair<S: BuildHasher + Drop>(
     alloc: Global,
     hash_builder: S,
+    form: Form,
     trace: Trace,
     explain: bool,
 ) -> Result<Told, AllocError>
-    ensures { IfOk result (λ told. IsPairTold trace explain told.outcome (string_bytes told.text)) }
+    ensures { IfOk result (λ told.
+        IsPairTold form trace explain told.outcome (string_bytes told.text)) }
 {
     let verdict = check_with_hasher(alloc, hash_builder, &trace.history, &trace.certificate)?;
-    let text = line_of(alloc, verdict, trace.history.len())?;
+    let text = verdict_begun(alloc, form, verdict, trace.history.len())?;
     match verdict {
         Verdict::Accepted => {
+            let text = ended(form, text)?;
             let outcome = Outcome::Accepted(trace);
             Ok(Told { text, outcome })
         }
         Verdict::Rejected(fault) => {
             let rejection = rejection_of(alloc, trace, fault);
-            let text = rejection.told_behind(alloc, text, explain)?;
+            let text = rejection.told_behind(alloc, form, text, explain)?;
             let outcome = Outcome::Rejected(rejection);
             Ok(Told { text, outcome })
         }
-    }
-}
-
-/// The line of a verdict on so many calls, with its line feed.
-fn line_of(alloc: Global, verdict: Verdict, calls: usize) -> Result<String, AllocError>
-    ensures { IfOk result (λ line. string_bytes line ≡ verdict_line verdict calls ++ codes "\n") }
-{
-    match verdict {
-        Verdict::Accepted => format!(in alloc; "accepted {calls} calls\n"),
-        Verdict::Rejected(fault) => format!(in alloc; "rejected {fault}\n"),
     }
 }
 
@@ -107,17 +105,20 @@ fn rejection_of(alloc: Global, trace: Trace, fault: Fault) -> Rejection
     }
 }
 
-/// What is told of what is no trace. A trace for which memory was refused is told nothing.
-pub(crate) fn told_bad_trace(alloc: Global, fault: TraceFault) -> Result<Told, AllocError>
+/// What is told of what is no trace. If memory was refused to a trace, nothing is told of it.
+pub(crate) fn told_bad_trace(
+    alloc: Global,
+    form: Form,
+    fault: TraceFault,
+) -> Result<Told, AllocError>
     ensures fault { IfOk result (λ _. fault ≢ TraceFault.OutOfMemory) }
-    ensures bad { IfOk result (λ told. told.outcome ≡ Outcome.Bad) }
-    ensures text { IfOk result (λ told. string_bytes told.text ≡ bad_trace_line fault ++ codes "\n") }
+    ensures bad { IfOk result (λ told. told.outcome ≡ Outcome.BadTrace fault) }
+    ensures text { IfOk result (λ told. string_bytes told.text ≡ bad_trace_answer form fault) }
 {
     if let TraceFault::OutOfMemory = fault {
         return Err(AllocError);
     }
-    Ok(Told {
-        text: format!(in alloc; "bad trace {fault}\n")?,
-        outcome: Outcome::Bad,
-    })
+    let text = bad_trace_answer(alloc, form, fault)?;
+    let outcome = Outcome::BadTrace(fault);
+    Ok(Told { text, outcome })
 }

@@ -30,8 +30,8 @@ impl JudgeEnd {
         match outcome {
             Outcome::Accepted(_) => JudgeEnd::Done,
             Outcome::Rejected(_) => JudgeEnd::Rejected,
-            Outcome::Undecided => JudgeEnd::Undecided,
-            Outcome::Bad => JudgeEnd::BadInput,
+            Outcome::Undecided(_) => JudgeEnd::Undecided,
+            Outcome::BadLine(_) | Outcome::BadTrace(_) => JudgeEnd::BadInput,
         }
     }
 

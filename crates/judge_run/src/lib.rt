@@ -1,10 +1,13 @@
 //! What `judge`, `check` and `show` do: histories and traces judged, explained, drawn and written as text.
 #![tactic(auto)]
 
+mod answers;
 mod checking;
+mod inputs;
 mod judge_end;
 mod judging_texts;
 mod names;
+mod notes;
 mod outcome;
 mod rejection;
 mod run;
@@ -13,7 +16,9 @@ mod showing;
 mod shown;
 mod tell_fault;
 mod telling;
+mod text_answers;
 mod told;
+mod trace_answers;
 
 pub use checking::answer_check;
 pub use judge_end::JudgeEnd;

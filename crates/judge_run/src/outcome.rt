@@ -1,6 +1,7 @@
-// What came of judging, beside what is told of it.
+// What came of judging, besides what is told of it.
 use crate::rejection::Rejection;
-use trace_file::Trace;
+use history_text::BadLine;
+use trace_file::{Trace, TraceFault};
 
 /// What came of judging a history or a trace.
 #[derive(Drop)]
@@ -9,8 +10,10 @@ pub enum Outcome {
     Accepted(Trace),
     /// The history is rejected, for this reason.
     Rejected(Rejection),
-    /// Nothing was found wrong, and there are hits that can have read several puts.
-    Undecided,
-    /// The input was no history.
-    Bad,
+    /// Nothing was found wrong, and so many hits can have read several puts.
+    Undecided(usize),
+    /// The input was a text with this first bad line.
+    BadLine(BadLine),
+    /// The input was no trace, for this reason.
+    BadTrace(TraceFault),
 }

@@ -1,9 +1,12 @@
 // A history that is rejected, and why.
-ghost use Rattle.std.specs.Prelude.{◌≡◌, ◌++◌, IfOk, string_bytes};
+ghost use Rattle.std.specs.Prelude.{◌≡◌, IfOk, OnOk, string_bytes};
 ghost use Rattle.history_picture.specs.Names.{names_of};
 ghost use Rattle.history_picture.specs.Shown.{IsExplanation};
+ghost use Rattle.judge_run.specs.Answers.{with_why};
 ghost use Rattle.judge_run.specs.Told.{IsBehind};
 
+use crate::answers::ended;
+use figures::{Figure, Form};
 use history_picture::{Reason, Scene, explanation};
 use std::alloc::{AllocError, Global};
 use trace_file::History;
@@ -35,21 +38,36 @@ impl Rejection {
         }
     }
 
-    /// What is told of it behind the line of its verdict: its explanation, where that is wanted.
+    /// The answer that was begun with its verdict, and after that its explanation, if that is wanted.
     pub(crate) fn told_behind(
         &self,
         alloc: Global,
-        line: String,
+        form: Form,
+        begun: String,
         explain: bool,
     ) -> Result<String, AllocError>
-        ensures { IfOk result (λ text. IsBehind explain self.now (string_bytes line) (string_bytes text)) }
+        ensures { IfOk result (λ text.
+            IsBehind form explain self.now (string_bytes begun) (string_bytes text)) }
     {
         if !explain {
-            return Ok(line);
+            return ended(form, begun);
         }
         let why = explanation(alloc, &self.scene(), &self.reason)?;
-        let mut text = line;
-        text.push_str(why.as_str())?;
-        Ok(text)
+        let mut text = begun;
+        tell_why(alloc, form, &mut text, why.as_str())?;
+        match ended(form, text) {
+            Ok(text) => Ok(text),
+            Err(refused) => Err(refused),
+        }
+    }
+}
+
+/// Tells why a history is rejected, after the answer that was begun.
+fn tell_why(alloc: Global, form: Form, text: &mut String, why: &str) -> Result<(), AllocError>
+    ensures { OnOk result (string_bytes text.new ≡ with_why form (string_bytes text.old) why.now) }
+{
+    match form {
+        Form::Lines => text.push_str(why),
+        Form::Json => form.tell(alloc, text, "explanation", Figure::Word(why)),
     }
 }

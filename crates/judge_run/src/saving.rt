@@ -13,8 +13,8 @@ use std::io::{BufWriter, Write};
 use std::rt::Files;
 use trace_file::{Trace, write_trace};
 
-/// Writes the trace of an accepted history, or the picture of a rejected one, to its file, where that is wanted, and says how the
-/// program ends. A file of which nothing is to be written is left as it is.
+/// Writes the trace of an accepted history, or the picture of a rejected one, to its file, if that is wanted, and says how the
+/// program ends. A file to which nothing is to be written is left as it is.
 pub(crate) fn save<R: AllocGlobal + Files, E: Write>(
     rt: &R,
     trace: Option<&FileName>,
@@ -33,7 +33,7 @@ pub(crate) fn save<R: AllocGlobal + Files, E: Write>(
             Some(name) => save_picture(rt, name, rejection, err),
             None => Ok(()),
         },
-        Outcome::Undecided | Outcome::Bad => Ok(()),
+        Outcome::Undecided(_) | Outcome::BadLine(_) | Outcome::BadTrace(_) => Ok(()),
     };
     match saved {
         Ok(()) => JudgeEnd::of_outcome(outcome),
@@ -41,7 +41,7 @@ pub(crate) fn save<R: AllocGlobal + Files, E: Write>(
     }
 }
 
-/// Writes a trace to a file, which is made where it is absent and else emptied.
+/// Writes a trace to a file, which is made if it is absent, and else emptied.
 fn save_trace<R: AllocGlobal + Files, E: Write>(
     rt: &R,
     name: &FileName,
@@ -55,7 +55,7 @@ fn save_trace<R: AllocGlobal + Files, E: Write>(
         Err(error) => return Err(unopened(err, name, &error)),
     };
     let Ok(mut writer) = BufWriter::new(rt.alloc(), file) else {
-        return Err(out_of_memory(err));
+        return Err(out_of_memory(err, name.as_str()));
     };
     if write_trace(&trace.history, &trace.certificate, &mut writer).is_err() {
         return Err(unwritten(err, name));
@@ -66,7 +66,7 @@ fn save_trace<R: AllocGlobal + Files, E: Write>(
     Ok(())
 }
 
-/// Draws a picture to a file, which is made where it is absent and else emptied.
+/// Draws a picture to a file, which is made if it is absent, and else emptied.
 fn save_picture<R: AllocGlobal + Files, E: Write>(
     rt: &R,
     name: &FileName,
@@ -81,7 +81,7 @@ fn save_picture<R: AllocGlobal + Files, E: Write>(
     };
     match draw(rt.alloc(), &rejection.scene(), &rejection.reason, &mut file) {
         Ok(()) => Ok(()),
-        Err(ExplainFault::OutOfMemory) => Err(out_of_memory(err)),
+        Err(ExplainFault::OutOfMemory) => Err(out_of_memory(err, name.as_str())),
         Err(ExplainFault::WriteFault) => Err(unwritten(err, name)),
     }
 }

@@ -8,6 +8,7 @@ ghost use Rattle.judge_run.specs.Showing.{HasShown, IsBadTraceUntold, IsUnshown}
 use crate::checking::told_bad_trace;
 use crate::shown::Shown;
 use crate::tell_fault::TellFault;
+use figures::Form;
 use history_text::{WriteTextFault, write_text};
 use std::alloc::{AllocError, Global};
 use std::io::{Read, Write};
@@ -29,8 +30,8 @@ pub fn answer_show<R: Read, W: Write>(
     let trace = match read_trace(alloc, reader) {
         Ok(trace) => trace,
         Err(fault) => match tell_bad_trace(alloc, fault, writer) {
-            Ok(()) => return Ok(Shown::BadTrace),
-            Err(fault) => return Err(fault),
+            Ok(()) => return Ok(Shown::BadTrace(fault)),
+            Err(untold) => return Err(untold),
         },
     };
     match write_text(alloc, &trace.history, only, writer) {
@@ -52,7 +53,7 @@ fn tell_bad_trace<W: Write>(
         (bad_trace_line fault ++ codes "\n")) }
     ensures err { IfErr result (IsBadTraceUntold fault (W.contents writer.old) (W.contents writer.new)) }
 {
-    let told = told_bad_trace(alloc, fault)?;
+    let told = told_bad_trace(alloc, Form::Lines, fault)?;
     match write_whole(writer, told.text.as_bytes()) {
         Ok(()) => Ok(()),
         Err(Unwritten) => Err(TellFault::WriteFault),

@@ -1,12 +1,13 @@
 // What came of writing a trace as text.
+use trace_file::TraceFault;
 
 /// What came of writing a trace as text.
 #[derive(Clone, Copy, Debug, PartialEq, Eq)]
 pub enum Shown {
     /// All was written.
     Whole,
-    /// The input is no trace, and a line was written that says why.
-    BadTrace,
+    /// The input is no trace for this reason, and a line was written that says so.
+    BadTrace(TraceFault),
     /// The call at this position has a stamp or a time of 2^63 or more, which has no text. The lines of the calls before it were written.
     TooLate {
         /// The position of the call.

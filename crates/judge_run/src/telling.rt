@@ -1,4 +1,4 @@
-// What is told on standard error.
+// What is told on standard error of failures.
 ghost use Rattle.std.specs.Prelude.{◌≡◌};
 ghost use Rattle.judge_run.specs.Ends.{end_of_fault};
 
@@ -13,7 +13,11 @@ use std::io::Write;
 pub(crate) fn unopened<E: Write>(err: &mut E, name: &FileName, error: &io::Error) -> JudgeEnd
     ensures { result ≡ JudgeEnd.FileFault }
 {
-    let _ = write!(err, "file fault\n{}: {error}\n", name.as_str());
+    let _ = write!(
+        err,
+        "file fault\n{}: {error}\ncheck the name of the file and its permissions\n",
+        name.as_str()
+    );
     let _ = err.flush();
     JudgeEnd::FileFault
 }
@@ -24,7 +28,7 @@ pub(crate) fn unwritten<E: Write>(err: &mut E, name: &FileName) -> JudgeEnd
 {
     let _ = write!(
         err,
-        "file fault\n{}: the file was not written whole\n",
+        "file fault\n{}: the file was not written whole: check that its disk has room\n",
         name.as_str()
     );
     let _ = err.flush();
@@ -35,30 +39,59 @@ pub(crate) fn unwritten<E: Write>(err: &mut E, name: &FileName) -> JudgeEnd
 pub(crate) fn without_random<E: Write>(err: &mut E, error: &io::Error) -> JudgeEnd
     ensures { result ≡ JudgeEnd.FileFault }
 {
-    let _ = write!(err, "file fault\nno random numbers: {error}\n");
+    let _ = write!(
+        err,
+        "file fault\nno random numbers: {error}\nthey are the seed of the tables: try again\n"
+    );
     let _ = err.flush();
     JudgeEnd::FileFault
 }
 
-/// Tells that memory was refused.
-pub(crate) fn out_of_memory<E: Write>(err: &mut E) -> JudgeEnd
+/// Tells that memory was refused while a file of this name was read or written.
+pub(crate) fn out_of_memory<E: Write>(err: &mut E, name: &str) -> JudgeEnd
     ensures { result ≡ JudgeEnd.OutOfMemory }
 {
-    let _ = write!(err, "out of memory\n");
+    let _ = write!(
+        err,
+        "out of memory\n{name}: memory was refused: free memory, and try again\n"
+    );
     let _ = err.flush();
     JudgeEnd::OutOfMemory
 }
 
-/// Tells why no verdict was told, or not all of it.
-pub(crate) fn untold<E: Write>(err: &mut E, fault: TellFault) -> JudgeEnd
+/// Tells why no verdict on the input of this name was told, or not all of it.
+pub(crate) fn untold<E: Write>(err: &mut E, name: &str, fault: TellFault) -> JudgeEnd
     ensures { result ≡ end_of_fault fault }
 {
-    let _ = match fault {
-        TellFault::OutOfMemory => write!(err, "{fault}\n"),
-        TellFault::ReadFault | TellFault::WriteFault => write!(err, "file fault\n{fault}\n"),
-    };
+    match fault {
+        TellFault::OutOfMemory => out_of_memory(err, name),
+        TellFault::ReadFault => unread(err, name),
+        TellFault::WriteFault => unsaid(err),
+    }
+}
+
+/// Tells that the input of this name was not read whole.
+fn unread<E: Write>(err: &mut E, name: &str) -> JudgeEnd
+    ensures { result ≡ JudgeEnd.FileFault }
+{
+    let _ = write!(
+        err,
+        "file fault\n{name}: the input was not read whole: check that this is a readable file, and try again\n"
+    );
     let _ = err.flush();
-    JudgeEnd::of_fault(fault)
+    JudgeEnd::FileFault
+}
+
+/// Tells that the answer was not written whole.
+fn unsaid<E: Write>(err: &mut E) -> JudgeEnd
+    ensures { result ≡ JudgeEnd.FileFault }
+{
+    let _ = write!(
+        err,
+        "file fault\nstandard output: the answer was not written whole: check that the output is open and has room\n"
+    );
+    let _ = err.flush();
+    JudgeEnd::FileFault
 }
 
 /// Tells why a word writes no key.
@@ -76,7 +109,7 @@ pub(crate) fn too_late<E: Write>(err: &mut E, position: usize) -> JudgeEnd
 {
     let _ = write!(
         err,
-        "the call at position {position} has a stamp or a time of 2^63 or more, which has no text\n"
+        "the call at position {position} has a stamp or a time of 2^63 or more, which has no text\nthe calls before it were written; use --key to show those of another key\n"
     );
     let _ = err.flush();
     JudgeEnd::BadInput

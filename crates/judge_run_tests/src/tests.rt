@@ -1,4 +1,6 @@
 //! What is told, and how the program ends.
 mod files;
+mod json;
+mod rows;
 mod streams;
 mod telling;

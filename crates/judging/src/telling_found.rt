@@ -1,38 +1,16 @@
 // The line that tells what was found for the history of a text.
-ghost use Rattle.std.specs.Prelude.{◌≡◌, ◌<◌, IfOk, length, string_bytes};
+ghost use Rattle.std.specs.Prelude.{◌≡◌, IfOk, length, string_bytes};
 ghost use Rattle.certificate_finder.specs.Witnesses.{IsWitness};
 ghost use Rattle.certificate_finder.specs.Finding.{IsFound};
-ghost use Rattle.judging.specs.Telling.{first_position, verdict_text, witness_word};
+ghost use Rattle.judging.specs.Telling.{verdict_text};
 
 use crate::judged_text::JudgedText;
+use crate::key_word::{key_word, kind_word};
 use crate::told_lines::{lines_of, spaced};
 use certificate_finder::{Found, Witness};
-use history_text::word;
 use std::alloc::{AllocError, Global};
 use std::hash::BuildHasher;
 use trace_file::History;
-
-/// The kind of a reason.
-fn kind_word(witness: &Witness) -> &'static str
-    ensures { result.now ≡ witness_word witness.now }
-{
-    match witness {
-        Witness::Interval(_) => "interval",
-        Witness::Hit(..) => "hit",
-        Witness::Crossed(..) => "crossed",
-    }
-}
-
-/// The call whose key a reason is about.
-fn first_position(witness: &Witness) -> u32
-    ensures { result ≡ first_position witness.now }
-{
-    match witness {
-        Witness::Interval(call) => *call,
-        Witness::Hit(hit, _) => *hit,
-        Witness::Crossed(one, _) => one.write,
-    }
-}
 
 /// The line that tells why a history is rejected.
 fn rejected_text(
@@ -45,8 +23,7 @@ fn rejected_text(
     ensures { IfOk result (λ text.
         string_bytes text ≡ verdict_text history.now lines.now (Found.Rejected witness.now)) }
 {
-    let call = history.at(first_position(witness) as usize);
-    let key = word(alloc, call.key)?;
+    let key = key_word(alloc, history, witness)?;
     let kind = kind_word(witness);
     let told = lines_of(alloc, lines, witness)?;
     let numbers = spaced(alloc, &told)?;

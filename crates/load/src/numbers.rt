@@ -30,12 +30,7 @@ ghost use Rattle.load.specs.Settings.{layout_settings};
 
 /// The load with these numbers, one for each of `SETTINGS` in their order, whose devices are files of this
 /// folder, or in memory where there is none, and which writes its trace to this file.
-pub fn load_with(
-    numbers: &[u32; 17],
-    json: bool,
-    device: Option<FileName>,
-    trace: FileName,
-) -> Load
+pub fn load_with(numbers: &[u32; 17], json: bool, device: Option<FileName>, trace: FileName) -> Load
     requires { AreAdmitted settings numbers.now }
     ensures numbers { numbers_of result ≡ numbers.now }
     ensures json { result.json ≡ json }

@@ -125,36 +125,95 @@ impl Setting {
         }
     }
 
-    /// What it is, with its range, for the help of its option.
+    /// What it is, its range, and what a larger number does, for the help of its option, in lines that fit 100 columns there.
     pub fn meaning(self) -> &'static str {
         match self {
-            Setting::Lanes => "Lanes of the cache, 1 to 16",
-            Setting::Sets => "Sets of each lane, 1 to 65536",
-            Setting::Memory => "Objects in memory of each lane, 1 to 1048576",
-            Setting::Segments => "Log segments of each lane, 2 to 256",
-            Setting::SegmentPages => "Pages of a segment, 1 to 64",
-            Setting::Entries => "Entries of each lane's log index, 1 to 1048576",
-            Setting::Threshold => "Objects of a set that move together at least, 1 to 32",
-            Setting::Admit => "How many of 65536 objects enter the log, 0 to 65536",
-            Setting::Callers => "Threads that call, 1 to 64",
-            Setting::Operations => "Operations of each caller, 1 to 1000000",
-            Setting::Keys => "Keys that the callers share, 1 to 1000000",
-            Setting::ValueBytes => "Bytes of each value, 0 to 2048",
-            Setting::Gets => "Gets, 0 to 100 per cent",
-            Setting::Removes => "Removes, 0 to 100 per cent",
-            Setting::Workers => "Threads that flush and move, 1 to 16",
-            Setting::Seed => "The seed of the callers' random words, 0 to 4294967295",
+            Setting::Lanes => {
+                "Lanes (parts of the cache, each with its own lock and device), 1 to\n16. More lanes let more calls run side by side."
+            }
+            Setting::Sets => {
+                "Sets (flash pages of 4,096 bytes that hold objects) per lane, 1 to\n65536. More sets hold more objects on flash."
+            }
+            Setting::Memory => {
+                "Objects kept in memory per lane, 1 to 1048576. A larger number takes\nmore memory and pushes fewer objects out to flash."
+            }
+            Setting::Segments => {
+                "Log segments on flash per lane, 2 to 256. More segments keep objects\nin the log for longer before they move to sets."
+            }
+            Setting::SegmentPages => {
+                "Flash pages of 4,096 bytes per log segment, 1 to 64. A larger number\nkeeps objects longer in the log and takes more memory."
+            }
+            Setting::Entries => {
+                "Entries of the log's index per lane, 1 to 1048576. More entries let\nmore objects be in the log and take more memory."
+            }
+            Setting::Threshold => {
+                "Minimum number of objects moved to a set at once, 1 to 32. A larger\nnumber writes less to flash and drops more objects."
+            }
+            Setting::Admit => {
+                "Objects admitted to flash, of each 65536 pushed out of memory, 0 to\n65536. A larger number keeps more objects, and writes more to\nflash."
+            }
+            Setting::Callers => {
+                "Threads that call the cache, 1 to 64. More threads make more calls\nat once."
+            }
+            Setting::Operations => {
+                "Operations per caller, 1 to 1000000. More operations take more time\nand more memory, and write a larger trace."
+            }
+            Setting::Keys => {
+                "Keys that the callers share, 1 to 1000000. With fewer keys callers\nmeet more often on the same key."
+            }
+            Setting::ValueBytes => {
+                "Bytes of each value, 0 to 2048. With larger values fewer objects fit\non a flash page."
+            }
+            Setting::Gets => {
+                "Share of gets, 0 to 100 per cent. What --gets and --removes leave is\nthe share of puts."
+            }
+            Setting::Removes => {
+                "Share of removes, 0 to 100 per cent. With --gets it is 100 per cent\nat most."
+            }
+            Setting::Workers => {
+                "Threads that write the log and move objects to sets, 1 to 16. More\nthreads keep up with more puts."
+            }
+            Setting::Seed => {
+                "Seed of the random choices, 0 to 4294967295. With the same seed each\ncaller makes the same operations. How the threads interleave\ndiffers."
+            }
             Setting::Ttl => {
-                "Operations of its caller after which a put expires, 0 to 1000000; 0 for never"
+                "Lifetime of a value, counted in its caller's operations, 0 to\n1000000; 0 means forever."
             }
-            Setting::Shards => "Groups of as many lanes, 1 to 1024",
-            Setting::Leases => "Slots of each lane for leases, 0 to 1048576; 0 for no leases",
-            Setting::ServedOperations => "Operations of each caller, 1 to 1000000000",
-            Setting::ServedKeys => "Keys of each caller, 1 to 100000000",
-            Setting::ServedValueBytes => "Bytes of each value, 8 to 2048",
+            Setting::Shards => {
+                "Shards (groups of --lanes lanes), 1 to 1024. More shards hold more\nobjects and let more calls run side by side."
+            }
+            Setting::Leases => {
+                "Lease slots per lane, 0 to 1048576; 0 turns leases off: gets that\nmiss do not fill. More slots make fewer fills stale."
+            }
+            Setting::ServedOperations => {
+                "Operations per caller, 1 to 1000000000. More operations take more\ntime, and no more memory."
+            }
+            Setting::ServedKeys => {
+                "Keys of each caller, 1 to 100000000. No other caller uses them. Each\nkey takes 4 bytes of memory."
+            }
+            Setting::ServedValueBytes => {
+                "Bytes of each value, 8 to 2048. With larger values fewer objects fit\non a flash page."
+            }
             Setting::ServedTtl => {
-                "Operations of its caller after which a put expires, 0 to 1000000000; 0 for never"
+                "Lifetime of a value, counted in its caller's operations, 0 to\n1000000000; 0 means forever."
             }
+        }
+    }
+
+    /// The heading under which the help has its option.
+    pub fn heading(self) -> &'static str {
+        match self {
+            Setting::Lanes
+            | Setting::Sets
+            | Setting::Memory
+            | Setting::Segments
+            | Setting::SegmentPages
+            | Setting::Entries
+            | Setting::Threshold
+            | Setting::Admit
+            | Setting::Shards
+            | Setting::Leases => "Cache options",
+            _ => "Load options",
         }
     }
 

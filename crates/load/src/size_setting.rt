@@ -27,14 +27,14 @@ impl SizeSetting {
         }
     }
 
-    /// What it is, with its range, for the help of its option.
+    /// What it is, its range, and what it changes, for the help of its option, in lines that fit 100 columns there.
     pub fn meaning(self) -> &'static str {
         match self {
             SizeSetting::Size => {
-                "Bytes of flash, 0 to 1125899906842624: the numbers of shards, lanes, sets, segments, segment pages, entries and memory are worked out from it"
+                "Bytes of flash for all lanes together, 0 to 1125899906842624. The\nprogram works out --shards, --lanes, --sets, --segments,\n--segment-pages, --entries and --memory from it, and ignores the\nnumbers that you give for them."
             }
             SizeSetting::MemoryBytes => {
-                "Bytes of memory with a size, 0 to 1125899906842624, as they are estimated; without it an eighth of the size"
+                "Bytes of memory for the cache, an estimate, 0 to 1125899906842624.\nGive it only with --size; without it, it is an eighth of the size."
             }
         }
     }

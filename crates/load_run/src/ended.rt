@@ -1,8 +1,11 @@
 // How a run ended, with what failed.
 ghost use Rattle.std.specs.Prelude.{◌≡◌};
+ghost use Rattle.load_run.specs.Ends.{IsRefusal, end_of_finish, end_of_verdict};
 
 use crate::cause::Cause;
 use crate::run_end::RunEnd;
+use crate::summary::Summary;
+use shared_cache::FinishFault;
 
 /// How a run ended, and what failed, where a file, the output or the system did.
 #[derive(Debug, Drop)]
@@ -17,6 +20,27 @@ impl Ended {
         ensures { result.end ≡ end }
     {
         Ended { end, cause: None }
+    }
+
+    /// A run that was judged, of which this is to be told. If callers stopped, it keeps how many.
+    pub fn judged(summary: &Summary) -> Ended
+        ensures { result.end ≡ end_of_verdict summary.now.verdict summary.now.stopped }
+    {
+        Ended {
+            end: RunEnd::of_verdict(summary.verdict, summary.stopped),
+            cause: Some(Cause::Stopped(summary.stopped)),
+        }
+    }
+
+    /// A run whose cache was not finished, for this fault.
+    pub fn unfinished(fault: FinishFault) -> Ended
+        ensures end { result.end ≡ end_of_finish fault }
+        ensures refusal { IsRefusal result.end }
+    {
+        Ended {
+            end: RunEnd::of_finish(fault),
+            cause: Some(Cause::Unfinished(fault)),
+        }
     }
 
     /// A run of which this failed.

@@ -1,17 +1,15 @@
 // The history that a run made.
-ghost use Rattle.std.specs.Prelude.{◌≡◌, All, IfOk, IfErr, IsTrue, count_by, length};
+ghost use Rattle.std.specs.Prelude.{◌≡◌, All, IfOk, IsTrue, count_by, length};
 ghost use Rattle.certificate_checker.specs.Acceptance.{IsAccepted};
-ghost use Rattle.load_run.specs.Ends.{IsRefusal};
 ghost use Rattle.load_run.specs.Wholes.{IsWhole, is_short};
 
 use crate::crew::run_crew;
-use crate::run_end::RunEnd;
 use crate::telling::tell_step;
 use crossbeam_channel::{Receiver, bounded};
 use load::Load;
 use page_device::PageDevice;
 use policy_laws::EvictionPolicy;
-use shared_cache::{Finished, Pass, SharedCache};
+use shared_cache::{FinishFault, Finished, Pass, SharedCache};
 use std::alloc::{AllocError, Global};
 use std::io::{IsTerminal, Write};
 use std::sync::Wait;
@@ -41,8 +39,9 @@ pub struct Made<D> {
 /// left out. The numbers of the cache are its own: of those that the load has for one only that of the lanes has to be the
 /// same. How many calls were made is told to `err` meanwhile, where that is a terminal.
 ///
-/// `OutOfMemory` where memory was refused outside a caller, or a thread to a caller; `FinishFault` where the cache was not
-/// finished, as where it has more callers than there are passes. The cache, the passes and the devices are dropped with each.
+/// `OutOfMemory` if memory was refused outside a caller, or a thread to a caller; any other fault is the one for which the cache
+/// was not finished, as `MissingPass` if it has more callers than there are passes. The cache, the passes and the devices are
+/// dropped with each.
 pub fn make_history<
     D: PageDevice<PAGE> + Send,
     P: EvictionPolicy + Drop + Sync,
@@ -56,7 +55,7 @@ pub fn make_history<
     cache: SharedCache<D, P, PAGE>,
     passes: Vec<Pass>,
     err: &mut E,
-) -> Result<Made<D>, RunEnd>
+) -> Result<Made<D>, FinishFault>
     requires lanes { load.now.layout.lanes ≡ cache.layout.lanes }
     requires ties { All (λ p. p.sight.clock ≡ cache.clock) passes.items }
     requires callers { length passes.items ≡ load.now.callers }
@@ -67,14 +66,13 @@ pub fn make_history<
         length made.finished.devices.items ≡ load.now.layout.lanes) }
     ensures whole { IfOk result (λ made.
         IsWhole load.now (length made.finished.history) made.stopped) }
-    ensures refused { IfErr result (λ end. IsRefusal end) }
 {
     let Ok((to, from)) = bounded::<Pass, _>(alloc, load.callers as usize) else {
-        return Err(RunEnd::OutOfMemory);
+        return Err(FinishFault::OutOfMemory);
     };
     run_crew(rt, alloc, &cache, load, passes, &to, err);
     let Ok(left) = take_left(rt, alloc, load, &from) else {
-        return Err(RunEnd::OutOfMemory);
+        return Err(FinishFault::OutOfMemory);
     };
     tell_step(err, load, "laying the calls out");
     match cache.finish(rt, left.passes) {
@@ -82,7 +80,7 @@ pub fn make_history<
             finished,
             stopped: left.stopped,
         }),
-        Err(fault) => Err(RunEnd::of_finish(fault)),
+        Err(fault) => Err(fault),
     }
 }
 

@@ -1,8 +1,9 @@
 // A run, from its load to its status.
 ghost use Rattle.std.specs.Prelude.{◌≡◌, ◌≢◌, ◌↔◌, ◌⊎◌, ◌<◌, ◌+◌, All, IfOk, IfErr, IsTrue, None, length};
 ghost use Rattle.certificate_checker.specs.Acceptance.{IsAccepted};
-ghost use Rattle.load_run.specs.Ends.{IsRefusal, status_of};
-ghost use Rattle.load_run.specs.Runs.{IsRunOf, IsSaid, IsSummaryOf, WroteLines};
+ghost use Rattle.figures.specs.Figures.{form_of};
+ghost use Rattle.load_run.specs.Ends.{status_of};
+ghost use Rattle.load_run.specs.Runs.{IsRunOf, IsSaid, IsSummaryOf, WroteSummary};
 ghost use Rattle.load_run.specs.Wholes.{IsWhole};
 
 use crate::cause::Cause;
@@ -13,12 +14,14 @@ use crate::made::{Made, make_history};
 use crate::run_end::RunEnd;
 use crate::shared::{PAGE, open};
 use crate::summary::Summary;
-use crate::telling::tell_step;
+use crate::telling::{tell_end, tell_step};
 use certificate_checker::check_with_hasher;
+use figures::Form;
 use key_hash::RandomSeed;
 use lane_files::{lanes_in_memory, taken_places};
 use load::{FileName, Load, pages_of};
 use page_device::PageDevice;
+use shared_cache::FinishFault;
 use std::alloc::{AllocError, Global};
 use std::fs::{File, OpenOptions};
 use std::io::{BufWriter, IsTerminal, Write};
@@ -39,9 +42,9 @@ use trace_file::{Certificate, History, write_trace};
 ///
 /// Each caller has a thread, its pass and a generator of its own, and stops at its first refusal; the workers flush and move
 /// beside them. Then the history is judged, by a table with a seed that is drawn for it, the trace is written to its file, and
-/// the four lines are written to `out`. What went wrong else is told to `err`, in a line, and where a file failed in a second
-/// one, which names it with the system's cause. Where `err` is a terminal it is told too how many calls were made, at most
-/// twice a second while they are, and of a long run what is done with them behind that.
+/// four lines are written to `out`, or a JSON object if the load wants that. What went wrong else is told to `err`, in a line,
+/// and after it in further lines what failed, with the file and the system's cause, and what to do. If `err` is a terminal, it
+/// is told too how many calls were made, at most twice a second while they are, and of a long run what is done after that.
 pub fn run_load<
     R: Threads + Wait + Sync + AllocGlobal + Files<File = File> + Clock + RandomSource,
     O: Write,
@@ -51,17 +54,8 @@ pub fn run_load<
 {
     let _places = taken_places(rt);
     let ended = run_to_end(rt, load, out, err);
-    tell(err, load, &ended);
+    tell_end(err, load, &ended);
     ended.end.status()
-}
-
-/// Writes the line of an end, where it has one, and what failed. What `err` refuses is not told.
-fn tell<E: Write>(err: &mut E, load: &Load, ended: &Ended) {
-    let _ = ended.end.tell(err);
-    if let Some(cause) = &ended.cause {
-        cause.tell(&load.trace, err);
-    }
-    let _ = err.flush();
 }
 
 /// Runs a load, and answers how it ended.
@@ -71,7 +65,7 @@ fn run_to_end<
     E: Write + IsTerminal,
 >(rt: &R, load: &Load, out: &mut O, err: &mut E) -> Ended
     ensures shares { (result.end ≡ RunEnd.SharesExceed) ↔ (100 < load.now.gets + load.now.removes) }
-    ensures wrote { WroteLines load.now (O.contents out.old) (O.contents out.new) result.end }
+    ensures wrote { WroteSummary load.now (O.contents out.old) (O.contents out.new) result.end }
     ensures accepted { load.now.device ≡ None → result.end ≢ RunEnd.Rejected }
 {
     if load.gets + load.removes > 100 {
@@ -101,7 +95,7 @@ fn run_over<
     E: Write + IsTerminal,
 >(rt: &R, load: &Load, devices: Vec<D>, out: &mut O, err: &mut E) -> Ended
     ensures shares { result.end ≢ RunEnd.SharesExceed }
-    ensures wrote { WroteLines load.now (O.contents out.old) (O.contents out.new) result.end }
+    ensures wrote { WroteSummary load.now (O.contents out.old) (O.contents out.new) result.end }
     ensures accepted { ((d : D) → IsTrue (D.honest d)) → result.end ≢ RunEnd.Rejected }
 {
     let seed = match RandomSeed::draw(rt) {
@@ -110,7 +104,7 @@ fn run_over<
     };
     let made = match run_cache(rt, rt.alloc(), load, devices, err) {
         Ok(made) => made,
-        Err(end) => return Ended::plain(end),
+        Err(fault) => return Ended::unfinished(fault),
     };
     tell_step(err, load, "judging");
     let Ok(summary) = summary_of(rt.alloc(), seed, &made) else {
@@ -125,7 +119,7 @@ fn run_over<
     ) {
         return ended;
     }
-    write_lines(rt.alloc(), &summary, out)
+    write_summary(rt.alloc(), Form::of(load.json), &summary, out)
 }
 
 /// Runs the threads of a load over a new cache.
@@ -135,20 +129,19 @@ fn run_cache<D: PageDevice<PAGE> + Send, R: Threads + Wait + Sync + Clock, E: Wr
     load: &Load,
     devices: Vec<D>,
     err: &mut E,
-) -> Result<Made<D>, RunEnd>
+) -> Result<Made<D>, FinishFault>
     ensures accepted { IfOk result (λ made.
         All (λ d. IsTrue (D.honest d)) made.finished.devices.items
         → IsAccepted made.finished.history made.finished.certificate) }
     ensures whole { IfOk result (λ made.
         IsWhole load.now (length made.finished.history) made.stopped) }
-    ensures refused { IfErr result (λ end. IsRefusal end) }
 {
     let Ok((cache, passes)) = open(alloc, load, devices) else {
-        return Err(RunEnd::OutOfMemory);
+        return Err(FinishFault::OutOfMemory);
     };
     match make_history(rt, alloc, load, cache, passes, err) {
         Ok(made) => Ok(made),
-        Err(end) => Err(end),
+        Err(fault) => Err(fault),
     }
 }
 
@@ -199,18 +192,18 @@ fn save<R: AllocGlobal + Files>(
     Ok(())
 }
 
-/// Writes the four lines of a run that was judged, and answers how the run ended.
-fn write_lines<O: Write>(alloc: Global, summary: &Summary, out: &mut O) -> Ended
-    ensures { IsSaid summary.now (O.contents out.old) (O.contents out.new) result.end }
+/// Writes what is told of a run that was judged, and answers how the run ended.
+fn write_summary<O: Write>(alloc: Global, form: Form, summary: &Summary, out: &mut O) -> Ended
+    ensures { IsSaid form summary.now (O.contents out.old) (O.contents out.new) result.end }
 {
-    let Ok(lines) = summary.lines(alloc) else {
+    let Ok(text) = summary.text(alloc, form) else {
         return Ended::plain(RunEnd::OutOfMemory);
     };
-    if out.write_all(lines.as_bytes()).is_err() {
+    if out.write_all(text.as_bytes()).is_err() {
         return Ended::failed(Cause::Output);
     }
     if out.flush().is_err() {
         return Ended::failed(Cause::Output);
     }
-    Ended::plain(RunEnd::of_verdict(summary.verdict, summary.stopped))
+    Ended::judged(summary)
 }

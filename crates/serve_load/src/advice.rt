@@ -40,7 +40,11 @@ fn advise_on_size<E: Write>(err: &mut E, load: &ServedLoad, fault: SizeFault) {
         SizeFault::FlashTooLarge => write!(err, "--size {size}: give fewer bytes\n"),
         SizeFault::MemoryTooSmall => return advise_on_memory(err, load, size),
         SizeFault::NoObjectBytes | SizeFault::ObjectTooLarge => {
-            write!(err, "--value-bytes {}: give another number\n", load.value_bytes)
+            write!(
+                err,
+                "--value-bytes {}: give another number\n",
+                load.value_bytes
+            )
         }
         SizeFault::NoThreads | SizeFault::TooManyThreads => {
             write!(err, "--callers {}: give another number\n", load.callers)

@@ -120,12 +120,7 @@ impl Caller {
     }
 
     /// Makes its operation with this number, and times one of sixteen.
-    fn make_next<
-        D: PageDevice<PAGE>,
-        P: EvictionPolicy + Drop,
-        const PAGE: usize,
-        R: Wait + Clock,
-    >(
+    fn make_next<D: PageDevice<PAGE>, P: EvictionPolicy + Drop, const PAGE: usize, R: Wait + Clock>(
         &mut self,
         rt: &R,
         alloc: Global,

@@ -91,7 +91,12 @@ impl Report {
     {
         let rate = self.operations_a_second();
         form.tell(alloc, text, "operations", Figure::Count(self.operations))?;
-        form.tell(alloc, text, "seconds", Figure::Thousandths(self.milliseconds))?;
+        form.tell(
+            alloc,
+            text,
+            "seconds",
+            Figure::Thousandths(self.milliseconds),
+        )?;
         form.tell(alloc, text, "operations-a-second", Figure::Count(rate))
     }
 
@@ -128,7 +133,12 @@ impl Report {
             ≡ with_rows form (string_bytes text.old) (last_rows self.now)) }
     {
         form.tell(alloc, text, "removals", Figure::Count(self.counts.removals))?;
-        form.tell(alloc, text, "memory-objects", Figure::Count(self.memory_objects))?;
+        form.tell(
+            alloc,
+            text,
+            "memory-objects",
+            Figure::Count(self.memory_objects),
+        )?;
         form.tell(alloc, text, "log-records", Figure::Count(self.log_records))?;
         form.tell(alloc, text, "refused", Figure::Count(self.refused))?;
         form.tell(alloc, text, "wrong-hits", Figure::Count(self.wrong_hits))
@@ -169,7 +179,10 @@ ghost use Rattle.serve_load.specs.Rows.{answered_of};
 fn answered(gets: &GetCounts) -> u64
     ensures { result ≡ answered_of gets.now }
 {
-    let hits = gets.memory_hits.wrapping_add(gets.log_hits).wrapping_add(gets.set_hits);
+    let hits = gets
+        .memory_hits
+        .wrapping_add(gets.log_hits)
+        .wrapping_add(gets.set_hits);
     let kept = gets.absent.wrapping_add(gets.expired);
     let failed = gets.faults.wrapping_add(gets.damaged);
     hits.wrapping_add(kept).wrapping_add(failed)
@@ -279,7 +292,12 @@ fn tell_fills(
     form.tell(alloc, text, "leases", Figure::Count(leases.given))?;
     form.tell(alloc, text, "fills-stored", Figure::Count(fills.stored))?;
     form.tell(alloc, text, "fills-bytes", Figure::Count(fills.bytes))?;
-    form.tell(alloc, text, "fills-refused", Figure::Count(refused_of(fills)))?;
+    form.tell(
+        alloc,
+        text,
+        "fills-refused",
+        Figure::Count(refused_of(fills)),
+    )?;
     form.tell(alloc, text, "fills-stale", Figure::Count(leases.stale))
 }
 
@@ -293,10 +311,25 @@ fn tell_pushed(
     ensures { OnOk result (string_bytes text.new
         ≡ with_rows form (string_bytes text.old) (pushed_rows pushed.now)) }
 {
-    form.tell(alloc, text, "pushed-declined", Figure::Count(pushed.declined))?;
+    form.tell(
+        alloc,
+        text,
+        "pushed-declined",
+        Figure::Count(pushed.declined),
+    )?;
     form.tell(alloc, text, "pushed-logged", Figure::Count(pushed.logged))?;
-    form.tell(alloc, text, "pushed-log-full", Figure::Count(pushed.log_full))?;
-    form.tell(alloc, text, "pushed-index-full", Figure::Count(pushed.index_full))
+    form.tell(
+        alloc,
+        text,
+        "pushed-log-full",
+        Figure::Count(pushed.log_full),
+    )?;
+    form.tell(
+        alloc,
+        text,
+        "pushed-index-full",
+        Figure::Count(pushed.index_full),
+    )
 }
 
 /// Tells which pages were written, and which were not.
@@ -309,10 +342,25 @@ fn tell_pages(
     ensures { OnOk result (string_bytes text.new
         ≡ with_rows form (string_bytes text.old) (page_rows steps.now)) }
 {
-    form.tell(alloc, text, "pages-written", Figure::Count(steps.pages_written))?;
+    form.tell(
+        alloc,
+        text,
+        "pages-written",
+        Figure::Count(steps.pages_written),
+    )?;
     form.tell(alloc, text, "pages-lost", Figure::Count(steps.pages_lost))?;
-    form.tell(alloc, text, "sets-written", Figure::Count(steps.sets_written))?;
-    form.tell(alloc, text, "sets-forgotten", Figure::Count(steps.sets_forgotten))
+    form.tell(
+        alloc,
+        text,
+        "sets-written",
+        Figure::Count(steps.sets_written),
+    )?;
+    form.tell(
+        alloc,
+        text,
+        "sets-forgotten",
+        Figure::Count(steps.sets_forgotten),
+    )
 }
 
 /// Tells what moves did besides.
@@ -325,10 +373,25 @@ fn tell_moves(
     ensures { OnOk result (string_bytes text.new
         ≡ with_rows form (string_bytes text.old) (move_rows steps.now)) }
 {
-    form.tell(alloc, text, "segments-freed", Figure::Count(steps.segments_freed))?;
-    form.tell(alloc, text, "moves-readmitted", Figure::Count(steps.readmitted))?;
+    form.tell(
+        alloc,
+        text,
+        "segments-freed",
+        Figure::Count(steps.segments_freed),
+    )?;
+    form.tell(
+        alloc,
+        text,
+        "moves-readmitted",
+        Figure::Count(steps.readmitted),
+    )?;
     form.tell(alloc, text, "moves-dropped", Figure::Count(steps.dropped))?;
-    form.tell(alloc, text, "moves-refused", Figure::Count(steps.out_of_memory))
+    form.tell(
+        alloc,
+        text,
+        "moves-refused",
+        Figure::Count(steps.out_of_memory),
+    )
 }
 
 /// Tells how many steps of upkeep were done.

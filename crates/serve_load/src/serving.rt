@@ -5,9 +5,9 @@ ghost use Rattle.serve_load.specs.Ends.{IsFailure, status_of};
 ghost use Rattle.figures.specs.Figures.{form_of};
 ghost use Rattle.serve_load.specs.Serving.{IsServed, IsServedOver, IsSaid, IsRefusedFirst, WroteReport};
 
+use crate::cache_shape::CacheShape;
 use crate::cause::Cause;
 use crate::ended::Ended;
-use crate::cache_shape::CacheShape;
 use crate::made::make;
 use crate::report::Report;
 use crate::serve_end::ServeEnd;

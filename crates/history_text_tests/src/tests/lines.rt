@@ -14,147 +14,147 @@ struct Row {
 const BAD: [Row; 36] = [
     Row {
         text: b"a 1 2 put k v\nb 1 2 put k\tv\n",
-        told: b"bad line 2: not five to seven words parted by single spaces",
+        told: b"bad line 2: a line has five to seven words of printable ASCII, separated by single spaces: CALLER START END put|hit|miss|remove KEY [VALUE [TIME]]",
     },
     Row {
         text: b"# x\n\na 1 2 put k v\r\n",
-        told: b"bad line 3: not five to seven words parted by single spaces",
+        told: b"bad line 3: a line has five to seven words of printable ASCII, separated by single spaces: CALLER START END put|hit|miss|remove KEY [VALUE [TIME]]",
     },
     Row {
         text: b"a 1 2 put",
-        told: b"bad line 1: not five to seven words parted by single spaces",
+        told: b"bad line 1: a line has five to seven words of printable ASCII, separated by single spaces: CALLER START END put|hit|miss|remove KEY [VALUE [TIME]]",
     },
     Row {
         text: b"a 1 2 put k v 1 1",
-        told: b"bad line 1: not five to seven words parted by single spaces",
+        told: b"bad line 1: a line has five to seven words of printable ASCII, separated by single spaces: CALLER START END put|hit|miss|remove KEY [VALUE [TIME]]",
     },
     Row {
         text: b"a  1 2 put k v",
-        told: b"bad line 1: not five to seven words parted by single spaces",
+        told: b"bad line 1: a line has five to seven words of printable ASCII, separated by single spaces: CALLER START END put|hit|miss|remove KEY [VALUE [TIME]]",
     },
     Row {
         text: b" a 1 2 put k v",
-        told: b"bad line 1: not five to seven words parted by single spaces",
+        told: b"bad line 1: a line has five to seven words of printable ASCII, separated by single spaces: CALLER START END put|hit|miss|remove KEY [VALUE [TIME]]",
     },
     Row {
         text: b"a 1 2 put k v ",
-        told: b"bad line 1: not five to seven words parted by single spaces",
+        told: b"bad line 1: a line has five to seven words of printable ASCII, separated by single spaces: CALLER START END put|hit|miss|remove KEY [VALUE [TIME]]",
     },
     Row {
         text: b"a x 2 put k v",
-        told: b"bad line 1: the start is no number below 2^63",
+        told: b"bad line 1: START must be a number below 2^63, in decimal without leading zeros",
     },
     Row {
         text: b"a 01 2 put k v",
-        told: b"bad line 1: the start is no number below 2^63",
+        told: b"bad line 1: START must be a number below 2^63, in decimal without leading zeros",
     },
     Row {
         text: b"a - 2 put k v",
-        told: b"bad line 1: the start is no number below 2^63",
+        told: b"bad line 1: START must be a number below 2^63, in decimal without leading zeros",
     },
     Row {
         text: b"a 9223372036854775808 2 put k v",
-        told: b"bad line 1: the start is no number below 2^63",
+        told: b"bad line 1: START must be a number below 2^63, in decimal without leading zeros",
     },
     Row {
         text: b"a +1 2 put k v",
-        told: b"bad line 1: the start is no number below 2^63",
+        told: b"bad line 1: START must be a number below 2^63, in decimal without leading zeros",
     },
     Row {
         text: b"a x x get % %",
-        told: b"bad line 1: the start is no number below 2^63",
+        told: b"bad line 1: START must be a number below 2^63, in decimal without leading zeros",
     },
     Row {
         text: b"a 1 02 get % %",
-        told: b"bad line 1: the end is neither - nor a number below 2^63",
+        told: b"bad line 1: END must be a number below 2^63, in decimal without leading zeros, or - if the call never returned",
     },
     Row {
         text: b"a 1 - hit % %",
-        told: b"bad line 1: a hit or a miss has no end",
+        told: b"bad line 1: END of a hit or a miss must be a number: leave out gets that never returned",
     },
     Row {
         text: b"a 1 -2 put k v",
-        told: b"bad line 1: the end is neither - nor a number below 2^63",
+        told: b"bad line 1: END must be a number below 2^63, in decimal without leading zeros, or - if the call never returned",
     },
     Row {
         text: b"a 1 9223372036854775808 put k v",
-        told: b"bad line 1: the end is neither - nor a number below 2^63",
+        told: b"bad line 1: END must be a number below 2^63, in decimal without leading zeros, or - if the call never returned",
     },
     Row {
         text: b"a 1 2 get k v",
-        told: b"bad line 1: none of put, hit, miss and remove",
+        told: b"bad line 1: the fourth word must be put, hit, miss or remove",
     },
     Row {
         text: b"a 1 2 put k",
-        told: b"bad line 1: too few or too many words for such a call",
+        told: b"bad line 1: wrong number of words: put and hit have KEY VALUE and at most one time after them, miss and remove have only KEY",
     },
     Row {
         text: b"a 1 2 miss k v",
-        told: b"bad line 1: too few or too many words for such a call",
+        told: b"bad line 1: wrong number of words: put and hit have KEY VALUE and at most one time after them, miss and remove have only KEY",
     },
     Row {
         text: b"a 1 2 remove k v 3",
-        told: b"bad line 1: too few or too many words for such a call",
+        told: b"bad line 1: wrong number of words: put and hit have KEY VALUE and at most one time after them, miss and remove have only KEY",
     },
     Row {
         text: b"a 1 - hit k v",
-        told: b"bad line 1: a hit or a miss has no end",
+        told: b"bad line 1: END of a hit or a miss must be a number: leave out gets that never returned",
     },
     Row {
         text: b"a 1 - miss k",
-        told: b"bad line 1: a hit or a miss has no end",
+        told: b"bad line 1: END of a hit or a miss must be a number: leave out gets that never returned",
     },
     Row {
         text: b"a 1 2 miss k%2",
-        told: b"bad line 1: in the key a % stands before no two hexadecimal digits",
+        told: b"bad line 1: bad percent-encoding in the key: % must be followed by two hexadecimal digits",
     },
     Row {
         text: b"a 1 2 miss %",
-        told: b"bad line 1: in the key a % stands before no two hexadecimal digits",
+        told: b"bad line 1: bad percent-encoding in the key: % must be followed by two hexadecimal digits",
     },
     Row {
         text: b"a 1 2 miss %g0",
-        told: b"bad line 1: in the key a % stands before no two hexadecimal digits",
+        told: b"bad line 1: bad percent-encoding in the key: % must be followed by two hexadecimal digits",
     },
     Row {
         text: b"a 1 2 miss %%41",
-        told: b"bad line 1: in the key a % stands before no two hexadecimal digits",
+        told: b"bad line 1: bad percent-encoding in the key: % must be followed by two hexadecimal digits",
     },
     Row {
         text: b"a 1 2 miss -",
-        told: b"bad line 1: the key does not have 1 to 255 bytes",
+        told: b"bad line 1: the key must have 1 to 255 bytes after percent-decoding: - means no bytes, %2D is a hyphen",
     },
     Row {
         text: b"a 1 2 hit k %2",
-        told: b"bad line 1: in the value a % stands before no two hexadecimal digits",
+        told: b"bad line 1: bad percent-encoding in the value: % must be followed by two hexadecimal digits",
     },
     Row {
         text: b"a 1 2 put k v -",
-        told: b"bad line 1: the expiry is no number below 2^63",
+        told: b"bad line 1: the expiry of a put must be a number below 2^63, in decimal without leading zeros: leave it out if the value never expires",
     },
     Row {
         text: b"a 1 2 put k v 18446744073709551615",
-        told: b"bad line 1: the expiry is no number below 2^63",
+        told: b"bad line 1: the expiry of a put must be a number below 2^63, in decimal without leading zeros: leave it out if the value never expires",
     },
     Row {
         text: b"a 1 2 hit k v x",
-        told: b"bad line 1: the moment is no number below 2^63",
+        told: b"bad line 1: the moment of a hit must be a number below 2^63, in decimal without leading zeros: leave it out to mean 0",
     },
     Row {
         text: b"\n\n\n\na 1 2 hit k v x\na",
-        told: b"bad line 5: the moment is no number below 2^63",
+        told: b"bad line 5: the moment of a hit must be a number below 2^63, in decimal without leading zeros: leave it out to mean 0",
     },
     Row {
         text: b"a 1 2 put k v\na 1 2 put k v\na",
-        told: b"bad line 3: not five to seven words parted by single spaces",
+        told: b"bad line 3: a line has five to seven words of printable ASCII, separated by single spaces: CALLER START END put|hit|miss|remove KEY [VALUE [TIME]]",
     },
     Row {
         text: b"\ta 1 2 put k v",
-        told: b"bad line 1: not five to seven words parted by single spaces",
+        told: b"bad line 1: a line has five to seven words of printable ASCII, separated by single spaces: CALLER START END put|hit|miss|remove KEY [VALUE [TIME]]",
     },
     Row {
         text: b"a 1 2 put k v#\n\n# a\nb 1 2 put k \x80",
-        told: b"bad line 4: not five to seven words parted by single spaces",
+        told: b"bad line 4: a line has five to seven words of printable ASCII, separated by single spaces: CALLER START END put|hit|miss|remove KEY [VALUE [TIME]]",
     },
 ];
 

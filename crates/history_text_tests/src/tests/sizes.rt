@@ -24,19 +24,21 @@ const SIZES: [Size; 11] = [
         front: b"#",
         piece: b"x",
         count: 8192,
-        told: Some(b"bad line 1: a line of more than 8192 bytes"),
+        told: Some(b"bad line 1: the line is too long: a line has at most 8192 bytes"),
     },
     Size {
         front: b"",
         piece: b"x",
         count: 8192,
-        told: Some(b"bad line 1: not five to seven words parted by single spaces"),
+        told: Some(
+            b"bad line 1: a line has five to seven words of printable ASCII, separated by single spaces: CALLER START END put|hit|miss|remove KEY [VALUE [TIME]]",
+        ),
     },
     Size {
         front: b"\n\n",
         piece: b"x",
         count: 8193,
-        told: Some(b"bad line 3: a line of more than 8192 bytes"),
+        told: Some(b"bad line 3: the line is too long: a line has at most 8192 bytes"),
     },
     Size {
         front: b"a 1 2 miss ",
@@ -48,7 +50,9 @@ const SIZES: [Size; 11] = [
         front: b"a 1 2 miss ",
         piece: b"x",
         count: 256,
-        told: Some(b"bad line 1: the key does not have 1 to 255 bytes"),
+        told: Some(
+            b"bad line 1: the key must have 1 to 255 bytes after percent-decoding: - means no bytes, %2D is a hyphen",
+        ),
     },
     Size {
         front: b"a 1 2 miss ",
@@ -66,7 +70,7 @@ const SIZES: [Size; 11] = [
         front: b"a 1 2 put k ",
         piece: b"x",
         count: 2049,
-        told: Some(b"bad line 1: the value has more than 2048 bytes"),
+        told: Some(b"bad line 1: the value must have at most 2048 bytes after percent-decoding"),
     },
     Size {
         front: b"a 1 2 hit k ",
@@ -78,7 +82,7 @@ const SIZES: [Size; 11] = [
         front: b"a 1 2 hit k ",
         piece: b"%2D",
         count: 2049,
-        told: Some(b"bad line 1: the value has more than 2048 bytes"),
+        told: Some(b"bad line 1: the value must have at most 2048 bytes after percent-decoding"),
     },
 ];
 

@@ -53,14 +53,19 @@ const WRITTEN: &str =
     "bad trace ReadFault at 0\naccepted 2 calls\naccepted 2 calls\nrejected hit key k lines 2\nc0 1 4 put k v\nc1 5 6 hit k v\n";
 
 /// What they tell of failures.
-const TOLD: &str =
-    "file fault\nthere is no such file: No such file or directory (os error 2)\n--key: in the key a % stands before no two hexadecimal digits\n";
+const TOLD: &str = "file fault
+there is no such file: No such file or directory (os error 2)
+check the name of the file and its permissions
+.: at offset 0: a read failed: check that this is a readable file, and try again
+--key: bad percent-encoding in the key: % must be followed by two hexadecimal digits
+";
 
 /// A check of a file, with nothing beside its verdict.
 fn check_of(alloc: Global, file: &str) -> Result<CheckRequest, AllocError> {
     Ok(CheckRequest {
         file: FileName::new(alloc, file)?,
         explain: false,
+        json: false,
         picture: None,
     })
 }
@@ -70,6 +75,7 @@ fn judge_all(alloc: Global) -> Result<JudgeRequest, AllocError> {
     Ok(JudgeRequest {
         file: FileName::new(alloc, "judged.txt")?,
         explain: false,
+        json: false,
         picture: Some(FileName::new(alloc, "judged.svg")?),
         trace: Some(FileName::new(alloc, "judged.trace")?),
     })
@@ -94,7 +100,7 @@ fn judged<R: AllocGlobal + Files + Input + RandomSource>(
 }
 
 /// The status that a check ends with.
-fn checked<R: AllocGlobal + Files + RandomSource>(
+fn checked<R: AllocGlobal + Files + Input + RandomSource>(
     rt: &R,
     file: &str,
     out: &mut Vec<u8>,
@@ -105,7 +111,7 @@ fn checked<R: AllocGlobal + Files + RandomSource>(
 }
 
 /// The status that showing ends with.
-fn shown<R: AllocGlobal + Files>(
+fn shown<R: AllocGlobal + Files + Input>(
     rt: &R,
     key: &str,
     out: &mut Vec<u8>,

@@ -1,4 +1,5 @@
 // Readers and writers that fail.
+use figures::Form;
 use judge_run::{Outcome, TellFault, answer_check, answer_judge};
 use std::alloc::Global;
 use std::hash::{BuildHasherDefault, FoldHasher};
@@ -46,7 +47,7 @@ fn fault_of_text<R: Read, W: Write>(
     writer: &mut W,
 ) -> Option<TellFault> {
     let known: BuildHasherDefault<FoldHasher> = BuildHasherDefault::new();
-    answer_judge(alloc, known, true, reader, writer).err()
+    answer_judge(alloc, known, Form::Lines, true, reader, writer).err()
 }
 
 /// Whether a text that is not read is a fault, and nothing is told.
@@ -68,7 +69,7 @@ fn is_unwritten_verdict_told(alloc: Global) -> bool {
 /// Whether a trace was told to be bad.
 fn is_bad(outcome: &Result<Outcome, TellFault>) -> bool {
     match outcome {
-        Ok(Outcome::Bad) => true,
+        Ok(Outcome::BadTrace(_)) => true,
         _ => false,
     }
 }
@@ -78,7 +79,7 @@ fn is_unread_trace_bad(alloc: Global) -> bool {
     let known: BuildHasherDefault<FoldHasher> = BuildHasherDefault::new();
     let mut told: Vec<u8> = Vec::new(alloc);
     let mut reader = unasked();
-    let outcome = answer_check(alloc, known, true, &mut reader, &mut told);
+    let outcome = answer_check(alloc, known, Form::Lines, true, &mut reader, &mut told);
     is_bad(&outcome)
         && reader.calls == 1
         && told.as_slice() == b"bad trace ReadFault at 0\n".as_slice()

@@ -1,8 +1,9 @@
 // What is told of histories, of traces, and of what is neither.
+use figures::Form;
 use judge_run::{JudgeEnd, Outcome, Shown, answer_check, answer_judge, answer_show};
 use std::alloc::Global;
 use std::hash::{BuildHasherDefault, FoldHasher};
-use trace_file::{Trace, write_trace};
+use trace_file::{Trace, TraceFault, write_trace};
 
 /// A text that is judged, and what is told of it.
 #[derive(Clone, Copy)]
@@ -17,7 +18,7 @@ struct Case {
 const STALE: &str =
     "alice 10 14 put color red\nbob 16 21 put color blue\ncarol 25 30 hit color red\n";
 
-/// What is said of it behind its line.
+/// What is said of it after its line.
 const EXPLAINED: &str = "rejected hit key color lines 1 2 3
 the hit of red (line 3) is stale: put red (line 1) ended at 14, before put blue (line 2) started at 16, which ended at 21, before the hit started at 25
 * 1  alice  10  14  put    red   []
@@ -108,7 +109,7 @@ const CASES: [Case; 14] = [
     Case {
         text: "a 1 2 put k v\n\n# bad\na 1 2 get k\n",
         explain: true,
-        told: "bad line 4: none of put, hit, miss and remove\n",
+        told: "bad line 4: the fourth word must be put, hit, miss or remove\n",
         end: JudgeEnd::BadInput,
     },
 ];
@@ -117,7 +118,7 @@ const CASES: [Case; 14] = [
 fn judged(alloc: Global, text: &str, explain: bool, told: &mut Vec<u8>) -> Option<Outcome> {
     let known: BuildHasherDefault<FoldHasher> = BuildHasherDefault::new();
     let mut reader = text.as_bytes();
-    answer_judge(alloc, known, explain, &mut reader, told).ok()
+    answer_judge(alloc, known, Form::Lines, explain, &mut reader, told).ok()
 }
 
 /// Whether a case is told as it should be.
@@ -168,7 +169,7 @@ const SHOWN: &str =
 fn checked(alloc: Global, bytes: &[u8], told: &mut Vec<u8>) -> Option<JudgeEnd> {
     let known: BuildHasherDefault<FoldHasher> = BuildHasherDefault::new();
     let mut reader = bytes;
-    match answer_check(alloc, known, true, &mut reader, told) {
+    match answer_check(alloc, known, Form::Lines, true, &mut reader, told) {
         Ok(outcome) => Some(JudgeEnd::of_outcome(&outcome)),
         Err(_) => None,
     }
@@ -189,8 +190,7 @@ fn is_trace_accepted(alloc: Global) -> bool {
     }
 }
 
-/// What is said of a trace whose certificate puts a hit before its put: positions stand in the place of lines, numbers in that of
-/// names.
+/// What is said of a trace whose certificate puts a hit before its put: with positions for lines, and numbers for names.
 const TURNED: &str = "rejected WrongHit place 0
 the hit of v (position 1) is wrong at place 0 of the certificate: no write of its key stands before it
   0  0  1  4  put    v  [=]
@@ -247,7 +247,7 @@ fn is_no_trace_told(alloc: Global) -> bool {
     let mut told: Vec<u8> = Vec::new(alloc);
     let mut reader = b"KGTRACE3".as_slice();
     let shown = answer_show(alloc, None, &mut reader, &mut told);
-    shown == Ok(Shown::BadTrace)
+    shown == Ok(Shown::BadTrace(TraceFault::BadMagic { at: 7 }))
         && told.as_slice() == NO_TRACE.as_bytes()
         && is_checked(alloc, b"KGTRACE3", NO_TRACE, JudgeEnd::BadInput)
 }

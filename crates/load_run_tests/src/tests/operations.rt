@@ -123,6 +123,7 @@ fn load_of(alloc: Global, layout: Layout, row: &Row, ttl: u32) -> Result<Load, F
         workers: 1,
         seed: 42,
         ttl: ttl.min(1000000),
+        json: false,
         device: None,
         trace: FileName::new(alloc, "t")?,
     })

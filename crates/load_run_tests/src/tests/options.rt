@@ -146,10 +146,22 @@ fn tells<'a>(alloc: Global, words: &'a [&'a str], text: &str) -> bool {
 }
 
 /// Words that are no run, and what their usage names.
-const NO_RUNS: [(&[&str], &str); 9] = [
+const NO_RUNS: [(&[&str], &str); 12] = [
     (&["k", "run"], "--trace"),
     (&["k", "run", "--trace"], "--trace"),
-    (&["k", "run", "--trace", "t", "--lanes", "x"], "--lanes"),
+    (
+        &["k", "run", "--trace", "t", "--lanes", "x"],
+        "error: --lanes takes a number from 1 to 16, not `x`\n",
+    ),
+    (
+        &["k", "run", "--trace", "t", "--lanes=17"],
+        "error: --lanes takes a number from 1 to 16, not 17\n",
+    ),
+    (
+        &["k", "serve-load", "--size", "1125899906842625"],
+        "error: --size takes a number from 0 to 1125899906842624, not 1125899906842625\n",
+    ),
+    (&["k", "serve-load", "--leases", "-1"], "error: "),
     (&["k", "run", "--trace", "t", "--lanes", ""], "--lanes"),
     (&["k", "run", "--trace", "t", "--lanes=4.0"], "--lanes"),
     (
@@ -166,6 +178,24 @@ fn what_is_no_run_gets_a_usage(rt: HostRuntime) {
     for (words, named) in &NO_RUNS {
         assert!(rt; tells(rt.alloc(), words, named));
     }
+}
+
+/// Whether these words give a load that is told as JSON.
+fn gives_json<'a>(alloc: Global, words: &'a [&'a str]) -> bool {
+    match parse_line(alloc, words) {
+        Ok(Line::Run(load)) => load.json,
+        Ok(Line::Serve(load)) => load.json,
+        _ => false,
+    }
+}
+
+#[test]
+fn json_is_asked_for_by_its_flag(rt: HostRuntime) {
+    let alloc = rt.alloc();
+    assert!(rt; gives_json(alloc, &["k", "run", "--json", "--trace", "t"]));
+    assert!(rt; !gives_json(alloc, &["k", "run", "--trace", "t"]));
+    assert!(rt; gives_json(alloc, &["k", "serve-load", "--json"]));
+    assert!(rt; !gives_json(alloc, &["k", "serve-load"]));
 }
 
 /// Whether the first operation of caller 54 is the put of PCG's reference words for the seed 42 and the stream 54, where

@@ -7,7 +7,8 @@ use super::runs::load_of;
 use super::screen::Screen;
 use super::seen::Seen;
 use load::Load;
-use load_run::{RunEnd, make_history};
+use load_run::make_history;
+use shared_cache::FinishFault;
 use std::alloc::Global;
 use std::sync::Wait;
 use std::test::Fail;
@@ -108,13 +109,13 @@ fn a_load_has_as_many_workers_as_it_says(rt: HostRuntime) -> Result<(), Fail> {
     Ok(())
 }
 
-/// How a run ends over a cache that has one caller more than the load.
-fn end_of_short<R: Threads + Wait + Sync + Clock>(
+/// Why the cache of a run is not finished that has one caller more than the load.
+fn fault_of_short<R: Threads + Wait + Sync + Clock>(
     rt: &R,
     alloc: Global,
     load: &Load,
     seen: &Seen,
-) -> Result<Option<RunEnd>, Fail> {
+) -> Result<Option<FinishFault>, Fail> {
     let (cache, mut passes) = seen.open(alloc, load, load.callers as u16 + 1)?;
     let Some(_) = passes.pop() else {
         return Ok(None);
@@ -125,7 +126,7 @@ fn end_of_short<R: Threads + Wait + Sync + Clock>(
     };
     match make_history(rt, alloc, load, cache, passes, &mut screen) {
         Ok(_) => Ok(None),
-        Err(end) => Ok(Some(end)),
+        Err(fault) => Ok(Some(fault)),
     }
 }
 
@@ -135,8 +136,8 @@ fn a_pass_that_is_missing_is_a_finish_fault(rt: HostRuntime) -> Result<(), Fail>
     let load = load_of(alloc, LANES).ok_or("a load")?;
     let seen = Seen::new(alloc, &load, 1)?;
     assert_eq!(rt;
-        end_of_short(&rt, alloc, &load, &seen)?,
-        Some(RunEnd::FinishFault)
+        fault_of_short(&rt, alloc, &load, &seen)?,
+        Some(FinishFault::MissingPass { caller: 2 })
     );
     Ok(())
 }

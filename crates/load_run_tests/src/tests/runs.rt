@@ -211,7 +211,10 @@ const EXCEEDING: Row = Row {
         "--trace",
         "exceeding.trace",
     ],
-    ends: Ends::Refused(2, b"gets and removes exceed 100\n"),
+    ends: Ends::Refused(
+        2,
+        b"gets and removes exceed 100\n--gets 96 and --removes 5 are 101 per cent: give shares of at most 100 per cent together\n",
+    ),
 };
 
 #[test]
@@ -231,13 +234,35 @@ const NOWHERE: Row = Row {
     ],
     ends: Ends::Refused(
         3,
-        b"file fault\nno such folder/t.trace: No such file or directory (os error 2)\n",
+        b"file fault\nno such folder/t.trace: No such file or directory (os error 2)\nname a file with --trace that can be written\n",
     ),
 };
 
 #[test]
 fn a_trace_that_can_not_be_made_is_a_file_fault(rt: HostRuntime) {
     assert!(rt; holds(&rt, &NOWHERE));
+}
+
+/// A run that is told as JSON.
+const OBJECT: Row = Row {
+    words: &[
+        "k",
+        "run",
+        "--json",
+        "--operations",
+        "100",
+        "--trace",
+        "object.trace",
+    ],
+    ends: Ends::Accepted(
+        b"{\"calls\":400,\"hits\":",
+        b",\"stopped\":0,\"verdict\":\"accepted\"}\n",
+    ),
+};
+
+#[test]
+fn a_run_can_be_told_as_an_object(rt: HostRuntime) {
+    assert!(rt; holds(&rt, &OBJECT) && is_removed(&rt, "object.trace"));
 }
 
 /// So many calls of one lane that they take longer than what lies before the first line.

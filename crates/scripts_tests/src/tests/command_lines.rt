@@ -14,10 +14,14 @@ enum Asked {
     Check,
     /// The same, explained and drawn to `a.svg`.
     CheckExplained,
+    /// The check of `a.trace` told as JSON.
+    CheckJson,
     /// The history of standard input judged.
     Judge,
     /// That of `a.txt` judged, explained, drawn to `a.svg` and written to `b.trace`.
     JudgeAll,
+    /// That of standard input judged and told as JSON.
+    JudgeJson,
     /// The trace `a.trace` shown.
     Show,
     /// Its calls of the key `a%20b`.
@@ -48,9 +52,13 @@ fn check_asked(request: &CheckRequest) -> Asked {
         return Asked::Other;
     }
     if !request.explain && is_named(&request.picture, "") {
-        return Asked::Check;
+        return if request.json {
+            Asked::CheckJson
+        } else {
+            Asked::Check
+        };
     }
-    if request.explain && is_named(&request.picture, "a.svg") {
+    if request.explain && !request.json && is_named(&request.picture, "a.svg") {
         return Asked::CheckExplained;
     }
     Asked::Other
@@ -61,9 +69,13 @@ fn judge_asked(request: &JudgeRequest) -> Asked {
     let has_all = is_named(&request.picture, "a.svg") && is_named(&request.trace, "b.trace");
     let has_none = is_named(&request.picture, "") && is_named(&request.trace, "");
     if request.file.as_str() == "-" && !request.explain && has_none {
-        return Asked::Judge;
+        return if request.json {
+            Asked::JudgeJson
+        } else {
+            Asked::Judge
+        };
     }
-    if request.file.as_str() == "a.txt" && request.explain && has_all {
+    if request.file.as_str() == "a.txt" && request.explain && !request.json && has_all {
         return Asked::JudgeAll;
     }
     Asked::Other
@@ -89,7 +101,7 @@ fn what_is_asked(line: &Result<Line, LineFault>) -> Asked {
         Ok(Line::Judge(request)) => judge_asked(request),
         Ok(Line::Show(request)) => show_asked(request),
         Err(LineFault::Usage(text)) if is_usage(text.as_str()) => Asked::Usage,
-        Err(LineFault::Help(text)) if text.as_str() == "kangaroo 0.1.0\n" => Asked::Version,
+        Err(LineFault::Help(text)) if text.as_str() == "kangaroo 1.0.0\n" => Asked::Version,
         Err(LineFault::Help(text)) if text.as_str().contains("Usage: kangaroo <COMMAND>\n") => {
             Asked::Help
         }
@@ -157,6 +169,80 @@ fn judging_and_showing_are_asked_for(rt: HostRuntime) {
     );
 }
 
+#[test]
+fn json_is_asked_for(rt: HostRuntime) {
+    let alloc = rt.alloc();
+    assert!(rt;
+        ask_for(
+            alloc,
+            &["kangaroo", "check", "a.trace", "--json"],
+            Asked::CheckJson
+        )
+    );
+    assert!(rt;
+        ask_for(
+            alloc,
+            &["kangaroo", "judge", "--json", "-"],
+            Asked::JudgeJson
+        )
+    );
+    assert!(rt; ask_for(alloc, &["kangaroo", "script", "--json"], Asked::Usage));
+    assert!(rt;
+        ask_for(
+            alloc,
+            &["kangaroo", "show", "a.trace", "--json"],
+            Asked::Usage
+        )
+    );
+    assert!(rt;
+        ask_for(
+            alloc,
+            &["kangaroo", "check", "a.trace", "--json=true"],
+            Asked::Usage
+        )
+    );
+}
+
+/// Whether words ask for a help that has these texts.
+fn helps<'a>(alloc: Global, words: &'a [&'a str], first: &str, last: &str) -> bool {
+    match parse_line(alloc, words) {
+        Err(LineFault::Help(text)) => {
+            text.as_str().starts_with(first) && text.as_str().ends_with(last)
+        }
+        _ => false,
+    }
+}
+
+#[test]
+fn a_help_begins_with_what_is_done_and_ends_with_the_manual(rt: HostRuntime) {
+    let alloc = rt.alloc();
+    let last = "\nManual: man kangaroo, or docs/CLI.md\n";
+    assert!(rt;
+        helps(
+            alloc,
+            &["kangaroo", "--help"],
+            "A flash cache for small objects, and a checker of recorded histories\n",
+            last
+        )
+    );
+    assert!(rt;
+        helps(
+            alloc,
+            &["kangaroo", "show", "--help"],
+            "Print a trace as text, one call per line\n",
+            last
+        )
+    );
+    assert!(rt;
+        helps(
+            alloc,
+            &["kangaroo", "help", "run"],
+            "Stress a recorded cache with threads, and check the history of their calls\n",
+            last
+        )
+    );
+}
+
 /// The program calls itself by one name, whatever file it was started as.
 #[test]
 fn the_program_has_one_name(rt: HostRuntime) {
@@ -213,8 +299,28 @@ fn each_ending_tells_what_failed(rt: HostRuntime) {
             b"file fault\nthe output was not written whole\n"
         )
     );
-    assert!(rt; tells(alloc, Ending::OutOfMemory, b"out of memory\n"));
-    assert!(rt; tells(alloc, Ending::BadInput, b"") && tells(alloc, Ending::Done, b""));
+    assert!(rt;
+        tells(
+            alloc,
+            Ending::OutOfMemory,
+            b"out of memory\nfree memory, or give smaller numbers to the config line of a script\n"
+        )
+    );
+    assert!(rt; tells(alloc, Ending::BadWords, b"") && tells(alloc, Ending::Done, b""));
+}
+
+/// What is told after a bad line.
+const LINES: &[u8] =
+    b"the first line is: config LANES SETS MEMORY SEGMENTS SEGMENT-PAGES ENTRIES THRESHOLD ADMIT\na later line is one of: put KEY VALUE WORD [EXPIRES], get KEY [MOMENT], remove KEY, forget KEY, flush, move, verdict, trace\nseparate words by exactly one space, write numbers without leading zeros, and end each line by a line feed\n";
+
+/// What is told after a bad configuration.
+const CONFIG: &[u8] =
+    b"config takes: LANES 1, SETS 1 to 65536, MEMORY 1 to 1048576, SEGMENTS 2 to 256, SEGMENT-PAGES 1 to 64, ENTRIES 1 to 1048576, THRESHOLD 1 to 32, ADMIT 0 to 65536\n";
+
+#[test]
+fn a_bad_script_is_told_what_its_lines_may_be(rt: HostRuntime) {
+    assert!(rt; tells(rt.alloc(), Ending::BadLine, LINES));
+    assert!(rt; tells(rt.alloc(), Ending::BadConfig, CONFIG));
 }
 
 #[test]
@@ -232,6 +338,8 @@ fn a_system_without_random_numbers_is_told(rt: HostRuntime) {
 #[test]
 fn each_ending_has_its_status(rt: HostRuntime) {
     assert_eq!(rt; Ending::Done.status(), 0);
-    assert_eq!(rt; Ending::BadInput.status(), 2);
+    assert_eq!(rt; Ending::BadWords.status(), 2);
+    assert_eq!(rt; Ending::BadLine.status(), 2);
+    assert_eq!(rt; Ending::BadConfig.status(), 2);
     assert_eq!(rt; Ending::FileFault.status(), 3);
 }

@@ -82,11 +82,14 @@ const GOOD: &[u8] = b"config 1 1 4 2 1 8 1 65536\n";
 
 const BAD: &[u8] = b"config 1 1 4 2 1 8 1 65536\nget\n";
 
+const BAD_CONFIG: &[u8] = b"config 1 0 4 2 1 8 1 65536\n";
+
 #[test]
 fn a_script_ends_the_program_by_its_last_line(rt: HostRuntime) -> Result<(), Fail> {
     let alloc = rt.alloc();
     assert!(rt; ends(alloc, GOOD, Refuses::Nothing, Ending::Done, 6)?);
-    assert!(rt; ends(alloc, BAD, Refuses::Nothing, Ending::BadInput, 17)?);
+    assert!(rt; ends(alloc, BAD, Refuses::Nothing, Ending::BadLine, 17)?);
+    assert!(rt; ends(alloc, BAD_CONFIG, Refuses::Nothing, Ending::BadConfig, 16)?);
     Ok(())
 }
 

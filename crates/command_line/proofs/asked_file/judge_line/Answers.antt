@@ -13,4 +13,4 @@ pub returns-clause-named : goal.returns-clause-named
 returns-clause-named c =
     asks_judging (rows_of (found_of c.args.found.now)) c.in_ok-file.file
     (ap Some c.in_ok-file.ensures ∙ found_text (found_of c.args.found.now) (codes "FILE") (codes "FILE") (Some c.in-Some.file.now) refl c.in-Some.ensures)
-    c.is_on-explain.result c.in_ok-picture.picture c.in_ok-trace.trace c.is_on-explain.ensures c.in_ok-picture.ensures c.in_ok-trace.ensures
+    c.is_on-explain.result c.is_on-json.result c.in_ok-picture.picture c.in_ok-trace.trace c.is_on-explain.ensures c.is_on-json.ensures c.in_ok-picture.ensures c.in_ok-trace.ensures

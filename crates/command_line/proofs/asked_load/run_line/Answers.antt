@@ -11,7 +11,7 @@ load_with-requires c = admitted settings (rows_of (found_of c.args.found.now)) c
 
 pub returns-in_ok-file-in-Ok-clause-named : goal.returns-in_ok-file-in-Ok-clause-named
 returns-in_ok-file-in-Ok-clause-named c =
-    asks (rows_of (found_of c.args.found.now)) c.load_with.result c.in-Ok.numbers c.in_ok-folder-in-Ok.folder c.in-Some.trace.now c.in-Ok.ensures.numbers c.load_with.ensures.numbers c.load_with.ensures.device c.in_ok-folder-in-Ok.ensures (c.load_with.ensures.trace ∙ c.in_ok-file-in-Ok.ensures) (found_text (found_of c.args.found.now) (codes "trace") (codes "trace") (Some c.in-Some.trace.now) refl c.in-Some.ensures)
+    asks (rows_of (found_of c.args.found.now)) c.load_with.result c.in-Ok.numbers c.is_on-json.result c.in_ok-folder-in-Ok.folder c.in-Some.trace.now c.in-Ok.ensures.numbers c.load_with.ensures.numbers c.load_with.ensures.json c.is_on-json.ensures c.load_with.ensures.device c.in_ok-folder-in-Ok.ensures (c.load_with.ensures.trace ∙ c.in_ok-file-in-Ok.ensures) (found_text (found_of c.args.found.now) (codes "trace") (codes "trace") (Some c.in-Some.trace.now) refl c.in-Some.ensures)
 
 pub returns-in_default-clause-taken : goal.returns-in_default-clause-taken
 returns-in_default-clause-taken c = λ some.

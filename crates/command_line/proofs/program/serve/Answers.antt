@@ -1,4 +1,4 @@
--- One option more for one setting more, and those of the sizes and of the folder behind them.
+-- One option more for one setting more, and after them those of the sizes and of the folder, and the flag.
 use Rattle.std.proofs.Common.{◌≡◌, ◌∙◌, ap, ap₂, codes, fold, sym, take}
 use Rattle.std.proofs.lemmas.List.{take_all}
 use Rattle.std.proofs.lemmas.List.Sums.{fold_more}
@@ -7,11 +7,11 @@ use Rattle.clap.specs.Words.{app_of, new_app, with_rule}
 use Rattle.load.specs.declared.setting.Setting.TheVariants.{Lanes}
 use Rattle.load.specs.declared.size_setting.SizeSetting.TheVariants.{MemoryBytes, Size}
 use Rattle.load.specs.Settings.{served_settings}
-use Rattle.command_line.specs.CommandLine.{size_rule, with_option}
+use Rattle.command_line.specs.CommandLine.{device_rule, size_rule, with_option}
 use Rattle.command_line.proofs.program.serve.Goals as goal
 
 pub loop-setting-init : goal.loop-setting-init
-loop-setting-init c = rw c.about-serve.ensures c.new.ensures.app
+loop-setting-init c = c.command-serve.ensures
 
 pub loop-setting-preserved : goal.loop-setting-preserved
 loop-setting-preserved c =
@@ -28,4 +28,6 @@ returns c =
     c.in_ok-sized.ensures.shape c.size.ensures.local ∙ ap₂ with_rule options c.size.ensures.rule in
     let two : app_of c.in_ok-sized-2.sized ≡ with_rule (with_rule (fold with_option (new_app (codes "serve-load")) served_settings) (size_rule Size)) (size_rule MemoryBytes) =
     c.in_ok-sized-2.ensures.shape c.size-2.ensures.local ∙ ap₂ with_rule one c.size-2.ensures.rule in
-    IfOk-weaker c.arg-4.result _ _ (λ r h. h.shape c.device.ensures.local ∙ ap₂ with_rule two c.device.ensures.rule) c.arg-4.ensures
+    let folder : app_of c.in_ok-over_files.over_files ≡ with_rule (with_rule (with_rule (fold with_option (new_app (codes "serve-load")) served_settings) (size_rule Size)) (size_rule MemoryBytes)) device_rule =
+    c.in_ok-over_files.ensures.shape c.device.ensures.local ∙ ap₂ with_rule two c.device.ensures.rule in
+    IfOk-weaker c.arg-5.result _ _ (λ r h. h.shape c.json.ensures.local ∙ ap₂ with_rule folder c.json.ensures.rule) c.arg-5.ensures

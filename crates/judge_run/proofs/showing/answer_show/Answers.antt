@@ -4,7 +4,6 @@ use Rattle.judge_run.proofs.showing.answer_show.Goals as goal
 
 pub returns-in-Ok-tell_bad_trace-clause-ok : goal.returns-in-Ok-tell_bad_trace-clause-ok
 returns-in-Ok-tell_bad_trace-clause-ok g c = record {
-  fault = c.in-Err.fault;
   other = c.in-Ok-tell_bad_trace.ensures.other;
   read = c.in-Err.ensures.fault;
   wrote = c.in-Ok-tell_bad_trace.ensures.ok;

@@ -1,8 +1,6 @@
 -- The pieces of the line, grouped as the definition has them.
-use Rattle.std.proofs.Common.{◌≡◌, ℕ, List, Result, Ok, Err, Some, IfOk, string_bytes, ◌++◌, ap, sym, ◌∙◌, append_assoc}
-use Rattle.std.specs.Prelude.{codes, slice_get, option_map, unwrap_or, []}
-use Rattle.trace_file.specs.declared.call.Call.{Call}
-use Rattle.trace_file.specs.Lent.{call_shown}
+use Rattle.std.proofs.Common.{◌≡◌, ℕ, List, Result, Ok, Err, IfOk, string_bytes, ◌++◌, ap, sym, ◌∙◌, append_assoc}
+use Rattle.std.specs.Prelude.{codes}
 use Rattle.history_text.specs.Coding.{word_of}
 use Rattle.judging.specs.Telling.{ascending, first_position, key_at, lines_at, spaced, witness_positions, witness_word}
 use Rattle.judging.proofs.telling_found.rejected_text.Goals as goal
@@ -19,14 +17,9 @@ told bytes (Ok text) a b c d e f g kind key numbers p q r h =
     ∙ ap (λ x. a ++ b ++ c ++ d ++ e ++ x ++ g) r
 told bytes (Err refused) a b c d e f g kind key numbers p q r h = tt
 
-key_here : (calls : List Call) (p q : ℕ) (call : Call) → p ≡ q → slice_get calls p ≡ Some call → call.key ≡ key_at calls q
-key_here calls p q call same at =
-    sym (ap (λ i. key_at calls i) (sym same) ∙ ap (λ o. unwrap_or (option_map (λ (x : Call). x.key) o) []) at)
-
 pub returns : goal.returns
 returns c =
     let first = first_position c.args.witness.now in
     let lines = ascending (lines_at c.args.lines.now (witness_positions c.args.witness.now)) in
-    let key = c.in_ok-key.ensures ∙ ap word_of (key_here c.args.history.now c.first_position.result first (call_shown c.at-call.result) c.first_position.ensures c.at-call.ensures.call) in
     let numbers = c.in_ok-numbers.ensures ∙ ap spaced (c.deref.ensures.value ∙ c.in_ok-told.ensures) in
-    told (λ text. string_bytes text) c.format.result (codes "rejected ") (witness_word c.args.witness.now) (codes " key ") (word_of (key_at c.args.history.now first)) (codes " lines") (spaced lines) (codes "\n") c.kind_word-kind.result.now (string_bytes c.in_ok-key.key) (string_bytes c.in_ok-numbers.numbers) c.kind_word-kind.ensures key numbers c.format.ensures.ok
+    told (λ text. string_bytes text) c.format.result (codes "rejected ") (witness_word c.args.witness.now) (codes " key ") (word_of (key_at c.args.history.now first)) (codes " lines") (spaced lines) (codes "\n") c.kind_word-kind.result.now (string_bytes c.in_ok-key.key) (string_bytes c.in_ok-numbers.numbers) c.kind_word-kind.ensures c.in_ok-key.ensures numbers c.format.ensures.ok

@@ -1,13 +1,16 @@
--- The explanation stands behind the line.
-use Rattle.std.proofs.Common.{◌∙◌, ◌++◌, List, ℕ, ap, string_bytes}
+-- The explanation stands after the answer that was begun.
+use Rattle.std.proofs.Common.{◌∙◌, ap, string_bytes}
+use Rattle.figures.specs.Figures.{ended}
+use Rattle.judge_run.specs.Answers.{with_why}
 use Rattle.judge_run.proofs.rejection.Rejection.told_behind.Goals as goal
 
-pub returns : goal.returns
-returns c =
+pub returns-in-Ok : goal.returns-in-Ok
+returns-in-Ok c =
+    let form = c.args.form in
     let why = rw (c.scene.ensures.history, c.scene.ensures.lines, c.scene.ensures.callers) at c.in_ok-why.ensures in
     rw c.if-not-explain.false
     (record {
       why = string_bytes c.in_ok-why.why;
       is = why;
-      text_is = c.in_ok-push_str.ensures.bytes ∙ ap (λ (xs : List ℕ). string_bytes c.args.line ++ xs) c.as_str.ensures.value;
+      text_is = c.in-Ok.ensures ∙ ap (ended form) (c.in_ok-tell_why.ensures ∙ ap (with_why form (string_bytes c.args.begun)) c.as_str.ensures.value);
     })

@@ -1,0 +1,73 @@
+// The answers to texts.
+ghost use Rattle.std.specs.Prelude.{◌≡◌, IfOk, OnOk, string_bytes};
+ghost use Rattle.certificate_finder.specs.Finding.{IsFound};
+ghost use Rattle.figures.specs.Figures.{with_rows};
+ghost use Rattle.judge_run.specs.TextTold.{bad_answer, bad_line_rows, found_begun};
+
+use figures::{Figure, Form};
+use history_text::BadLine;
+use judging::{JudgedText, tell_found, verdict_text};
+use std::alloc::{AllocError, Global};
+use std::hash::BuildHasher;
+
+/// The answer to a text that was judged, begun.
+pub(crate) fn found_begun<S: BuildHasher>(
+    alloc: Global,
+    form: Form,
+    judged: &JudgedText<S>,
+) -> Result<String, AllocError>
+    requires { IsFound judged.now.text.history judged.now.found }
+    ensures { IfOk result (λ text. string_bytes text
+        ≡ found_begun form judged.now.text.history judged.now.text.lines.items judged.now.found) }
+{
+    match form {
+        Form::Lines => match verdict_text(alloc, judged) {
+            Ok(line) => Ok(line),
+            Err(refused) => Err(refused),
+        },
+        Form::Json => {
+            let mut text = String::new(alloc);
+            match tell_found(alloc, form, &mut text, judged) {
+                Ok(()) => Ok(text),
+                Err(refused) => Err(refused),
+            }
+        }
+    }
+}
+
+/// The answer to a text with a bad line.
+pub(crate) fn bad_answer(alloc: Global, form: Form, bad: BadLine) -> Result<String, AllocError>
+    ensures { IfOk result (λ text. string_bytes text ≡ bad_answer form bad) }
+{
+    match form {
+        Form::Lines => format!(in alloc; "{bad}\n"),
+        Form::Json => bad_line_object(alloc, bad),
+    }
+}
+
+/// The JSON object that tells a bad line.
+fn bad_line_object(alloc: Global, bad: BadLine) -> Result<String, AllocError>
+    ensures { IfOk result (λ text. string_bytes text ≡ bad_answer Form.Json bad) }
+{
+    let mut text = String::new(alloc);
+    tell_bad_line(alloc, Form::Json, &mut text, bad)?;
+    match Form::Json.end(&mut text) {
+        Ok(()) => Ok(text),
+        Err(refused) => Err(refused),
+    }
+}
+
+/// Tells a bad line: its number, and why it is bad.
+fn tell_bad_line(
+    alloc: Global,
+    form: Form,
+    text: &mut String,
+    bad: BadLine,
+) -> Result<(), AllocError>
+    ensures { OnOk result (string_bytes text.new
+        ≡ with_rows form (string_bytes text.old) (bad_line_rows bad)) }
+{
+    form.tell(alloc, text, "verdict", Figure::Word("bad line"))?;
+    form.tell(alloc, text, "line", Figure::Count(bad.number))?;
+    form.tell(alloc, text, "cause", Figure::Word(bad.cause.text()))
+}

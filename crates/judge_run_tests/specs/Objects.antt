@@ -1,0 +1,35 @@
+-- Objects that tell a verdict.
+use Rattle.std.specs.Prelude.{◌≡◌, ℕ, List, [], ◌∷◌, ◌++◌, length, codes}
+use Rattle.certificate_checker.specs.declared.fault.Fault.{Fault}
+use Rattle.certificate_checker.specs.declared.verdict.Verdict.TheVariants as verdicts
+use Rattle.certificate_finder.specs.declared.found.Found.TheVariants as found
+use Rattle.certificate_finder.specs.declared.witness.Witness.{Witness}
+use Rattle.certificate_finder.specs.Witnesses.{IsWitness}
+use Rattle.figures.specs.declared.form.Form.TheVariants.{Json}
+use Rattle.figures.specs.Figures.{number, row, text_of_rows, word}
+use Rattle.figures.specs.Verdicts.{verdict_rows}
+use Rattle.history_picture.specs.Reasons.{reason_of}
+use Rattle.judging.specs.FoundRows.{found_rows}
+use Rattle.trace_file.specs.declared.trace.Trace.{Trace}
+use Rattle.judge_run.specs.declared.rejection.Rejection.{Rejection}
+
+-- the object of a history that is accepted
+abbrev pub accepted_object : Trace → List ℕ
+accepted_object trace =
+    text_of_rows Json (row (codes "calls") (number (length trace.history)) ∷ row (codes "verdict") (word (codes "accepted")) ∷ [])
+
+-- the object of a history of so many calls that is rejected for this fault
+abbrev pub rejected_object : ℕ → Fault → List ℕ
+rejected_object calls fault = text_of_rows Json (row (codes "calls") (number calls) ∷ verdict_rows (verdicts.Rejected fault))
+
+-- a fault of the history is told, and nothing after it
+pub record IsFaultTold (rejection : Rejection) (old new : List ℕ) : Type 0 where
+  pub fault : Fault
+  pub new_is : new ≡ old ++ rejected_object (length rejection.history) fault
+
+-- a reason why no certificate is accepted is told, with its kind, its key and its lines, and nothing after it
+pub record IsReasonTold (rejection : Rejection) (old new : List ℕ) : Type 0 where
+  pub witness : Witness
+  pub is : IsWitness rejection.history witness
+  pub reason_is : rejection.reason ≡ reason_of witness
+  pub new_is : new ≡ old ++ text_of_rows Json (found_rows rejection.history rejection.lines.items (found.Rejected witness))
