@@ -1,4 +1,3 @@
-use Rattle.std.proofs.Common.{◌≡◌, rules}
 use Rattle.std.proofs.lemmas.Result.{on_ok_weaker}
 use Rattle.serve_load.proofs.Rows.{fourth}
 use Rattle.serve_load.proofs.report.tell_pages.Goals as goal

@@ -1,4 +1,3 @@
-use Rattle.std.proofs.Common.{◌≡◌, rules}
 use Rattle.std.proofs.lemmas.Result.{on_ok_weaker}
 use Rattle.serve_load.proofs.Rows.{renumbered, third}
 use Rattle.serve_load.proofs.report.Report.tell_run.Goals as goal

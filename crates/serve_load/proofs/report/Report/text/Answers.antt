@@ -1,5 +1,5 @@
 -- The text is that of all rows, ended.
-use Rattle.std.proofs.Common.{◌≡◌, ◌∙◌, ap}
+use Rattle.std.proofs.Common.{◌∙◌, ap}
 use Rattle.serve_load.specs.Closing.{closed}
 use Rattle.serve_load.specs.Reports.{call_rows, report_of, store_rows, work_rows}
 use Rattle.serve_load.proofs.Rows.{all_rows}
