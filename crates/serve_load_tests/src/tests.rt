@@ -5,3 +5,4 @@ mod operations;
 mod options;
 mod reports;
 mod screen;
+mod times;

@@ -43,7 +43,7 @@ const ROWS: [Row; 5] = [
             "1000",
         ],
         status: 2,
-        line: b"--memory-bytes is too small for a cache of this --size\n1000 bytes of memory for --size 1048576: the least is LEAST bytes; give --memory-bytes more, or make --size smaller\n",
+        line: b"--memory-bytes is too small for a cache of this --size\n1000 bytes of memory for --size 1048576: the least is 124162 bytes; give --memory-bytes more, or make --size smaller\n",
     },
     Row {
         words: &["k", "serve-load", "--device", "no such folder"],

@@ -204,7 +204,7 @@ fn a_page_that_goes_back_is_found_as_a_wrong_hit(rt: HostRuntime) -> Result<(), 
     let shape = CacheShape::of(&load)?;
     let devices = stale_devices(rt.alloc(), &shape)?;
     let ran = run_over(&rt, &load, &shape, devices);
-    assert!(rt; ran.status == 1 && ran.err.as_slice() == b"a hit was wrong\n".as_slice());
+    assert!(rt; ran.status == 1 && ran.err.as_slice().starts_with(b"a hit was wrong\n"));
     assert!(rt;
         ran.out.as_slice().starts_with(b"operations ") && !ran.out.as_slice().ends_with(RIGHT)
     );

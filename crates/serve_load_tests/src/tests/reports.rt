@@ -132,7 +132,8 @@ no history was recorded, so nothing was judged beyond each caller's check of the
 ";
 
 /// The same as one JSON object.
-const OBJECT: &str = "{\"operations\":4500,\"seconds\":2.007,\"operations-a-second\":2242,\"gets\":28,\"hit-ratio\":0.214,\"get-p50-ns\":51,\"get-p99-ns\":52,\"get-p999-ns\":53,\"get-max-ns\":54,\"put-p50-ns\":61,\"put-p99-ns\":62,\"put-p999-ns\":63,\"put-max-ns\":64,\"hits-memory\":1,\"hits-log\":2,\"hits-set\":3,\"misses-absent\":4,\"misses-expired\":5,\"misses-fault\":6,\"misses-damaged\":7,\"puts-stored\":8,\"puts-bytes\":9,\"puts-refused\":10,\"leases\":11,\"fills-stored\":12,\"fills-bytes\":13,\"fills-refused\":14,\"fills-stale\":15,\"pushed-declined\":16,\"pushed-logged\":17,\"pushed-log-full\":18,\"pushed-index-full\":19,\"pages-written\":21,\"pages-lost\":22,\"sets-written\":23,\"sets-forgotten\":24,\"segments-freed\":25,\"moves-readmitted\":26,\"moves-dropped\":27,\"moves-refused\":28,\"upkeep-steps\":29,\"upkeep-in-help\":30,\"removals\":33,\"memory-objects\":31,\"log-records\":32,\"refused\":44,\"wrong-hits\":1}\n";
+const OBJECT: &str =
+    "{\"operations\":4500,\"seconds\":2.007,\"operations-a-second\":2242,\"gets\":28,\"hit-ratio\":0.214,\"get-p50-ns\":51,\"get-p99-ns\":52,\"get-p999-ns\":53,\"get-max-ns\":54,\"put-p50-ns\":61,\"put-p99-ns\":62,\"put-p999-ns\":63,\"put-max-ns\":64,\"hits-memory\":1,\"hits-log\":2,\"hits-set\":3,\"misses-absent\":4,\"misses-expired\":5,\"misses-fault\":6,\"misses-damaged\":7,\"puts-stored\":8,\"puts-bytes\":9,\"puts-refused\":10,\"leases\":11,\"fills-stored\":12,\"fills-bytes\":13,\"fills-refused\":14,\"fills-stale\":15,\"pushed-declined\":16,\"pushed-logged\":17,\"pushed-log-full\":18,\"pushed-index-full\":19,\"pages-written\":21,\"pages-lost\":22,\"sets-written\":23,\"sets-forgotten\":24,\"segments-freed\":25,\"moves-readmitted\":26,\"moves-dropped\":27,\"moves-refused\":28,\"upkeep-steps\":29,\"upkeep-in-help\":30,\"removals\":33,\"memory-objects\":31,\"log-records\":32,\"refused\":44,\"wrong-hits\":1}\n";
 
 #[test]
 fn a_report_has_a_line_for_each_number(rt: HostRuntime) -> Result<(), Fail> {
@@ -201,7 +202,12 @@ fn a_ratio_is_rounded_down_to_three_places(rt: HostRuntime) -> Result<(), Fail> 
             faults: 0,
             damaged: 0,
         });
-        assert!(rt; report.text(rt.alloc(), Form::Lines)?.as_str().contains(ratio.row));
+        assert!(rt;
+            report
+                .text(rt.alloc(), Form::Lines)?
+                .as_str()
+                .contains(ratio.row)
+        );
     }
     Ok(())
 }
