@@ -4,6 +4,7 @@ pub mod Calls
 pub mod Wanting
 pub mod Shapes
 pub mod Totals
+pub mod Times
 pub mod Rows
 pub mod Closing
 pub mod Reports

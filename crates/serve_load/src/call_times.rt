@@ -1,5 +1,6 @@
 // How long the calls of callers took.
-ghost use Rattle.std.specs.Prelude.{◌≡◌};
+ghost use Rattle.std.specs.Prelude.{◌≡◌, IfOk, []};
+ghost use Rattle.serve_load.specs.Times.{AreTold, IsJoined, IsNoted};
 
 use crate::report::Timed;
 use latencies::Histogram;
@@ -13,13 +14,16 @@ pub(crate) const TIMED: u32 = 16;
 /// How long gets took, and how long puts took, of the calls that were timed. A get's time has the fill after a miss.
 #[derive(Drop)]
 pub(crate) struct CallTimes {
-    gets: Histogram,
-    puts: Histogram,
+    pub(crate) gets: Histogram,
+    pub(crate) puts: Histogram,
 }
 
 impl CallTimes {
     /// No times.
-    pub(crate) fn new(alloc: Global) -> Result<CallTimes, AllocError> {
+    pub(crate) fn new(alloc: Global) -> Result<CallTimes, AllocError>
+        ensures gets { IfOk result (λ times. times.gets ≡ []) }
+        ensures puts { IfOk result (λ times. times.puts ≡ []) }
+    {
         Ok(CallTimes {
             gets: Histogram::new(alloc)?,
             puts: Histogram::new(alloc)?,
@@ -27,7 +31,9 @@ impl CallTimes {
     }
 
     /// Adds the time since an operation began, if the clock tells it. Removals are not timed.
-    pub(crate) fn note<R: Clock>(&mut self, rt: &R, operation: ServedOperation, start: &Instant) {
+    pub(crate) fn note<R: Clock>(&mut self, rt: &R, operation: ServedOperation, start: &Instant)
+        ensures { IsNoted operation self.old.gets self.new.gets self.old.puts self.new.puts }
+    {
         let Ok(taken) = start.elapsed(rt) else {
             return;
         };
@@ -40,13 +46,19 @@ impl CallTimes {
     }
 
     /// Adds the times of other calls.
-    pub(crate) fn merge(&mut self, other: &CallTimes) {
+    pub(crate) fn merge(&mut self, other: &CallTimes)
+        ensures gets { IsJoined self.old.gets other.now.gets self.new.gets }
+        ensures puts { IsJoined self.old.puts other.now.puts self.new.puts }
+    {
         self.gets.merge(&other.gets);
         self.puts.merge(&other.puts);
     }
 
     /// What is told of them.
-    pub(crate) fn timed(&self) -> Timed {
+    pub(crate) fn timed(&self) -> Timed
+        ensures gets { AreTold self.now.gets result.gets }
+        ensures puts { AreTold self.now.puts result.puts }
+    {
         Timed {
             gets: self.gets.quantiles(),
             puts: self.puts.quantiles(),

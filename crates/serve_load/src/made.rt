@@ -3,6 +3,7 @@ ghost use Rattle.std.specs.Prelude.{◌≡◌, ◌≤◌, ◌<◌, ◌*◌, All,
 ghost use Rattle.service_cache.specs.Serving.{lanes_of};
 ghost use Rattle.serve_load.specs.Ends.{IsFailure};
 ghost use Rattle.serve_load.specs.Reports.{IsMade};
+ghost use Rattle.serve_load.specs.Times.{AreTold};
 
 use crate::call_times::CallTimes;
 use crate::caller::{Caller, Tally};
@@ -136,6 +137,8 @@ fn report_of<D: PageDevice<PAGE>, P: EvictionPolicy + Drop, const PAGE: usize, R
     requires lanes { 0 < lanes_of cache.now }
     ensures operations { result.operations ≡ sums.now.operations }
     ensures wrong { result.wrong_hits ≡ sums.now.wrong_hits }
+    ensures gets { AreTold sums.now.times.gets result.timed.gets }
+    ensures puts { AreTold sums.now.times.puts result.timed.puts }
 {
     let mut counts = cache.counts(rt, 0);
     let mut memory_objects = cache.memory_len(rt, 0) as u64;
