@@ -102,7 +102,10 @@ fn a_load_can_be_told_as_an_object(rt: HostRuntime) -> Result<(), Fail> {
         ran.out
             .as_slice()
             .starts_with(b"{\"operations\":4000,\"seconds\":")
-            && ran.out.as_slice().ends_with(b",\"refused\":0,\"wrong-hits\":0}\n")
+            && ran
+                .out
+                .as_slice()
+                .ends_with(b",\"refused\":0,\"wrong-hits\":0}\n")
     );
     Ok(())
 }
