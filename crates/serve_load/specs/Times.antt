@@ -1,10 +1,12 @@
 -- What is told of times: of those of gets and of those of puts.
-use Rattle.std.specs.Prelude.{◌≡◌, ◌+◌, ◌≤◌, ◌++◌, List, ℕ, length}
+use Rattle.std.specs.Prelude.{◌≡◌, ◌⊎◌, ◌+◌, ◌%◌, ◌<◌, ◌≤◌, ◌++◌, ◌∷◌, [], List, ℕ, length, min}
 use Rattle.latencies.specs.declared.histogram.Quantiles.{Quantiles}
+use Rattle.latencies.specs.Cells.{longest}
 use Rattle.latencies.specs.Holding.{most_times}
 use Rattle.latencies.specs.Quantile.{IsQuantile, greatest}
 use Rattle.load.specs.declared.served_operation.ServedOperation.{ServedOperation}
 use Rattle.load.specs.declared.served_operation.ServedOperation.TheVariants.{Get, Put, Remove}
+use Rattle.serve_load.specs.declared.call_times.TheConstants.{TIMED}
 
 -- the four numbers are those of these times
 pub record AreTold (times : List ℕ) (told : Quantiles) : Type 0 where
@@ -13,11 +15,27 @@ pub record AreTold (times : List ℕ) (told : Quantiles) : Type 0 where
   pub most_of_thousand : IsQuantile times 999 told.p999
   pub longest : told.most ≡ greatest times
 
--- an operation adds no time to those of the other kinds: a get none to those of puts, a put none to those of gets, a removal none
-abbrev pub IsNoted : ServedOperation → List ℕ → List ℕ → List ℕ → List ℕ → Type 0
-IsNoted (Get key) gets_before gets puts_before puts = puts ≡ puts_before
-IsNoted (Put key) gets_before gets puts_before puts = gets ≡ gets_before
-IsNoted (Remove key) gets_before gets puts_before puts = (gets ≡ gets_before) × (puts ≡ puts_before)
+-- these times and one more, cut at the longest, unless there are as many as there may be
+pub record HasOneMore (time : ℕ) (before times : List ℕ) : Type 0 where
+  pub added : length before < most_times → times ≡ before ++ min time longest ∷ []
+  pub full : most_times ≤ length before → times ≡ before
+
+-- an operation that took so many nanoseconds adds them to those of its kind alone: a get to those of gets, a put to those of puts,
+-- a removal to none
+abbrev pub IsNoted : ServedOperation → ℕ → List ℕ → List ℕ → List ℕ → List ℕ → Type 0
+IsNoted (Get key) time gets_before gets puts_before puts = HasOneMore time gets_before gets × (puts ≡ puts_before)
+IsNoted (Put key) time gets_before gets puts_before puts = (gets ≡ gets_before) × HasOneMore time puts_before puts
+IsNoted (Remove key) time gets_before gets puts_before puts = (gets ≡ gets_before) × (puts ≡ puts_before)
+
+-- an operation adds one time, or none if the clock does not tell it
+abbrev pub IsNotedOnce : ServedOperation → List ℕ → List ℕ → List ℕ → List ℕ → Type 0
+IsNotedOnce operation gets_before gets puts_before puts =
+    ((gets ≡ gets_before) × (puts ≡ puts_before)) ⊎ ((time : ℕ) × IsNoted operation time gets_before gets puts_before puts)
+
+-- the operation with this number adds no time, or is one of sixteen and adds one at most
+abbrev pub IsSampled : ℕ → ServedOperation → List ℕ → List ℕ → List ℕ → List ℕ → Type 0
+IsSampled number operation gets_before gets puts_before puts =
+    ((gets ≡ gets_before) × (puts ≡ puts_before)) ⊎ ((number % TIMED ≡ 0) × IsNotedOnce operation gets_before gets puts_before puts)
 
 -- these times and those of others, as many as there may be
 abbrev pub IsJoined : List ℕ → List ℕ → List ℕ → Type 0

@@ -33,33 +33,42 @@ pub(crate) fn advise<E: Write>(err: &mut E, load: &ServedLoad, end: ServeEnd) {
 /// Tells what to do about a size that no cache has.
 fn advise_on_size<E: Write>(err: &mut E, load: &ServedLoad, fault: SizeFault) {
     let size = load.size.unwrap_or(0);
-    let _ = match fault {
+    let value_bytes = u64::from(load.value_bytes);
+    let callers = u64::from(load.callers);
+    match fault {
         SizeFault::FlashTooSmall => {
-            write!(err, "--size {size}: the least is {MIN_FLASH_BYTES} bytes\n")
+            let _ = write!(err, "--size {size}: the least is {MIN_FLASH_BYTES} bytes\n");
         }
-        SizeFault::FlashTooLarge => write!(err, "--size {size}: give fewer bytes\n"),
-        SizeFault::MemoryTooSmall => return advise_on_memory(err, load, size),
-        SizeFault::NoObjectBytes | SizeFault::ObjectTooLarge => {
-            write!(
-                err,
-                "--value-bytes {}: give another number\n",
-                load.value_bytes
-            )
-        }
-        SizeFault::NoThreads | SizeFault::TooManyThreads => {
-            write!(err, "--callers {}: give another number\n", load.callers)
-        }
-    };
+        SizeFault::FlashTooLarge => ask_for(err, "--size", size, "fewer bytes"),
+        SizeFault::NoObjectBytes => ask_for(err, "--value-bytes", value_bytes, "more bytes"),
+        SizeFault::ObjectTooLarge => ask_for(err, "--value-bytes", value_bytes, "fewer bytes"),
+        SizeFault::NoThreads => ask_for(err, "--callers", callers, "one or more"),
+        SizeFault::TooManyThreads => ask_for(err, "--callers", callers, "fewer"),
+        SizeFault::MemoryTooSmall => advise_on_memory(err, load, size),
+    }
 }
 
-/// Tells how much memory a cache of a size takes.
+/// Asks for another number than the one that an option has.
+fn ask_for<E: Write>(err: &mut E, option: &str, number: u64, wanted: &str) {
+    let _ = write!(err, "{option} {number}: give {wanted}\n");
+}
+
+/// Tells how much memory a cache of a size takes, and which option to change. Memory that is not given is an eighth of the size.
 fn advise_on_memory<E: Write>(err: &mut E, load: &ServedLoad, size: u64) {
-    let given = load.memory_bytes.unwrap_or(size / 8);
-    let _ = match least_memory(load, size) {
-        Some(least) => write!(
+    let Some(least) = least_memory(load, size) else {
+        return;
+    };
+    let _ = match load.memory_bytes {
+        Some(given) => write!(
             err,
-            "{given} bytes of memory for --size {size}: the least is {least} bytes; give --memory-bytes more, or make --size smaller\n"
+            "--memory-bytes {given} for --size {size}: the least is {least} bytes; give that or more, or a smaller --size\n"
         ),
-        None => Ok(()),
+        None => {
+            let eighth = size / 8;
+            write!(
+                err,
+                "without --memory-bytes it is an eighth of --size {size}, {eighth} bytes: give --memory-bytes {least} or more\n"
+            )
+        }
     };
 }

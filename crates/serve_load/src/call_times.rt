@@ -1,6 +1,6 @@
 // How long the calls of callers took.
 ghost use Rattle.std.specs.Prelude.{◌≡◌, IfOk, []};
-ghost use Rattle.serve_load.specs.Times.{AreTold, IsJoined, IsNoted};
+ghost use Rattle.serve_load.specs.Times.{AreTold, IsJoined, IsNoted, IsNotedOnce};
 
 use crate::report::Timed;
 use latencies::Histogram;
@@ -30,14 +30,22 @@ impl CallTimes {
         })
     }
 
-    /// Adds the time since an operation began, if the clock tells it. Removals are not timed.
+    /// Adds the time since an operation began, if the clock tells it.
     pub(crate) fn note<R: Clock>(&mut self, rt: &R, operation: ServedOperation, start: &Instant)
-        ensures { IsNoted operation self.old.gets self.new.gets self.old.puts self.new.puts }
+        ensures { IsNotedOnce operation self.old.gets self.new.gets self.old.puts self.new.puts }
     {
         let Ok(taken) = start.elapsed(rt) else {
             return;
         };
         let nanoseconds = u64::try_from(taken.as_nanos()).unwrap_or(u64::MAX);
+        self.add(operation, nanoseconds);
+    }
+
+    /// Adds the time that an operation took to those of its kind. Removals are not timed.
+    fn add(&mut self, operation: ServedOperation, nanoseconds: u64)
+        ensures { IsNoted operation nanoseconds
+            self.old.gets self.new.gets self.old.puts self.new.puts }
+    {
         match operation {
             ServedOperation::Get(_) => self.gets.add(nanoseconds),
             ServedOperation::Put(_) => self.puts.add(nanoseconds),

@@ -3,6 +3,7 @@ ghost use Rattle.std.specs.Prelude.{◌≡◌, ◌<◌, ◌≤◌, ◌+◌, IfOk
 ghost use Rattle.load.specs.Operations.{past};
 ghost use Rattle.load.specs.Served.{key_number_of, served_next_of};
 ghost use Rattle.serve_load.specs.Calls.{IsEnded};
+ghost use Rattle.serve_load.specs.Times.{IsNotedOnce, IsSampled};
 ghost use Rattle.serve_load.specs.Words.{Fills, JudgesHit, Knows, Sets, word_after_put};
 ghost use Rattle.serve_load.specs.Objects.{key_of, value_of};
 
@@ -136,16 +137,46 @@ impl Caller {
             self.old.words.items self.new.words.items }
         ensures generator { self.new.generator ≡ past (past self.old.generator) }
         ensures keys { length self.new.words.items ≡ load.now.keys }
+        ensures times { IsSampled number (served_next_of load.now self.old.generator)
+            times.old.gets times.new.gets times.old.puts times.new.puts }
     {
         let operation = ServedOperation::next(&mut self.generator, load);
         if number % TIMED != 0 {
             return self.make(rt, alloc, cache, load, operation, number, found);
         }
-        let start = Instant::now(rt);
+        self.make_timed(rt, alloc, cache, load, operation, number, times, found)
+    }
+
+    /// Makes an operation, which has this number, and adds the time that it took, if the clock tells it.
+    fn make_timed<
+        D: PageDevice<PAGE>,
+        P: EvictionPolicy + Drop,
+        const PAGE: usize,
+        R: Wait + Clock,
+    >(
+        &mut self,
+        rt: &R,
+        alloc: Global,
+        cache: &ServiceCache<D, P, PAGE>,
+        load: &ServedLoad,
+        operation: ServedOperation,
+        number: u32,
+        times: &mut CallTimes,
+        found: &mut ValueBuffer,
+    ) -> Step
+        requires key { key_number_of operation < length self.old.words.items }
+        requires number { number < 4294967295 }
+        ensures words { Knows load.now operation number result
+            self.old.words.items self.new.words.items }
+        ensures generator { self.new.generator ≡ self.old.generator }
+        ensures times { IsNotedOnce operation
+            times.old.gets times.new.gets times.old.puts times.new.puts }
+    {
+        let Ok(start) = Instant::now(rt) else {
+            return self.make(rt, alloc, cache, load, operation, number, found);
+        };
         let step = self.make(rt, alloc, cache, load, operation, number, found);
-        if let Ok(start) = &start {
-            times.note(rt, operation, start);
-        }
+        times.note(rt, operation, &start);
         step
     }
 

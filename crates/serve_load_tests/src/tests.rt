@@ -6,3 +6,4 @@ mod options;
 mod reports;
 mod screen;
 mod times;
+mod told;

@@ -17,7 +17,7 @@ struct Row {
     line: &'static [u8],
 }
 
-const ROWS: [Row; 5] = [
+const ROWS: [Row; 6] = [
     Row {
         words: &["k", "serve-load", "--gets", "60", "--removes", "41"],
         status: 2,
@@ -43,7 +43,12 @@ const ROWS: [Row; 5] = [
             "1000",
         ],
         status: 2,
-        line: b"--memory-bytes is too small for a cache of this --size\n1000 bytes of memory for --size 1048576: the least is 124162 bytes; give --memory-bytes more, or make --size smaller\n",
+        line: b"--memory-bytes is too small for a cache of this --size\n--memory-bytes 1000 for --size 1048576: the least is 124162 bytes; give that or more, or a smaller --size\n",
+    },
+    Row {
+        words: &["k", "serve-load", "--size", "524288"],
+        status: 2,
+        line: b"--memory-bytes is too small for a cache of this --size\nwithout --memory-bytes it is an eighth of --size 524288, 65536 bytes: give --memory-bytes 104090 or more\n",
     },
     Row {
         words: &["k", "serve-load", "--device", "no such folder"],
