@@ -1,5 +1,5 @@
--- What a layout has of the configuration that it was checked from.
-use Rattle.std.specs.Prelude.{◌≡◌}
+-- What a layout has of the configuration that it was checked from, and the pages that it asks for.
+use Rattle.std.specs.Prelude.{◌≡◌, ◌+◌, ◌*◌, ℕ}
 use Rattle.record_pages.specs.declared.config.Config.{Config}
 use Rattle.record_pages.specs.declared.layout.Layout.{Layout}
 
@@ -13,3 +13,7 @@ pub record HasNumbersOf (layout : Layout) (config : Config) : Type 0 where
   pub entries : layout.entries ≡ config.entries
   pub threshold : layout.threshold ≡ config.threshold
   pub admit : layout.admit ≡ config.admit
+
+-- the pages of a lane's device: those of its sets and of its log
+abbrev pub layout_pages : Layout → ℕ
+layout_pages layout = layout.sets + layout.segments * layout.segment_pages

@@ -2,6 +2,7 @@ pub mod Bounded
 pub mod Expiry
 pub mod Sizes
 pub mod FieldNames
+pub mod Ranges
 pub mod Table
 pub mod Asked
 pub mod Recs

@@ -1,35 +1,34 @@
--- The table of a configuration's fields, with the least and the greatest number of each.
-use Rattle.std.specs.Prelude.{ℕ, List, [], ◌∷◌, Option, option_map, find, Bool, not, ◌&&◌, nat_le}
+-- The table of a configuration's fields, each with its number.
+use Rattle.std.specs.Prelude.{ℕ, List, [], ◌∷◌, Option, option_map, find, Bool, not}
 use Rattle.record_pages.specs.declared.config.Config.{Config}
 use Rattle.record_pages.specs.declared.field.Field.{Field}
 use Rattle.record_pages.specs.declared.field.Field.TheVariants as fields
+use Rattle.record_pages.specs.Ranges.{range_of, is_in}
 
--- a row: a field, its number, and the least and the greatest that it may be
+-- a row: a field and its number
 pub record Row : Type 0 where
   pub field : Field
   pub number : ℕ
-  pub least : ℕ
-  pub greatest : ℕ
 
-abbrev pub row : Field → ℕ → ℕ → ℕ → Row
-row field number least greatest = record { field = field; number = number; least = least; greatest = greatest }
+abbrev pub row : Field → ℕ → Row
+row field number = record { field = field; number = number }
 
 -- the table, in its order
 abbrev pub table : Config → List Row
 table c =
-    row fields.Lanes c.lanes 1 16
-    ∷ row fields.Sets c.sets 1 65536
-    ∷ row fields.Memory c.memory 1 1048576
-    ∷ row fields.Segments c.segments 2 256
-    ∷ row fields.SegmentPages c.segment_pages 1 64
-    ∷ row fields.Entries c.entries 1 1048576
-    ∷ row fields.Threshold c.threshold 1 32
-    ∷ row fields.Admit c.admit 0 65536
+    row fields.Lanes c.lanes
+    ∷ row fields.Sets c.sets
+    ∷ row fields.Memory c.memory
+    ∷ row fields.Segments c.segments
+    ∷ row fields.SegmentPages c.segment_pages
+    ∷ row fields.Entries c.entries
+    ∷ row fields.Threshold c.threshold
+    ∷ row fields.Admit c.admit
     ∷ []
 
--- a number out of its range
+-- a number out of its field's range
 abbrev pub is_faulty : Row → Bool
-is_faulty r = not (nat_le r.least r.number && nat_le r.number r.greatest)
+is_faulty r = not (is_in (range_of r.field) r.number)
 
 -- the first faulty field of the table, if there is one
 abbrev pub first_faulty : Config → Option Field

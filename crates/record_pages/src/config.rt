@@ -53,21 +53,21 @@ impl Config {
             threshold,
             admit,
         } = *self;
-        let field = if lanes < 1 || lanes > 16 {
+        let field = if !Field::Lanes.admits(lanes) {
             Field::Lanes
-        } else if sets < 1 || sets > 65536 {
+        } else if !Field::Sets.admits(sets) {
             Field::Sets
-        } else if memory < 1 || memory > 1048576 {
+        } else if !Field::Memory.admits(memory) {
             Field::Memory
-        } else if segments < 2 || segments > 256 {
+        } else if !Field::Segments.admits(segments) {
             Field::Segments
-        } else if segment_pages < 1 || segment_pages > 64 {
+        } else if !Field::SegmentPages.admits(segment_pages) {
             Field::SegmentPages
-        } else if entries < 1 || entries > 1048576 {
+        } else if !Field::Entries.admits(entries) {
             Field::Entries
-        } else if threshold < 1 || threshold > 32 {
+        } else if !Field::Threshold.admits(threshold) {
             Field::Threshold
-        } else if admit > 65536 {
+        } else if !Field::Admit.admits(admit) {
             Field::Admit
         } else {
             return Ok(Layout {

@@ -1,5 +1,5 @@
 // A configuration whose numbers were found to be in range.
-ghost use Rattle.std.specs.Prelude.{◌≤◌};
+ghost use Rattle.std.specs.Prelude.{◌≡◌, ◌≤◌};
 
 /// A configuration with each number in its range. Only `Config::check` makes one.
 #[derive(Clone, Copy, Debug, PartialEq, Eq)]
@@ -20,4 +20,16 @@ pub struct Layout {
     ghost entries_range: { (1 ≤ entries) × (entries ≤ 1048576) },
     ghost threshold_range: { (1 ≤ threshold) × (threshold ≤ 32) },
     ghost admit_range: { admit ≤ 65536 },
+}
+
+impl Layout {
+    ghost use Rattle.record_pages.specs.Asked.{layout_pages};
+
+    /// The pages that the device of each lane has at least: those of the lane's sets and of its log.
+    pub fn pages(&self) -> u32
+        ensures pages { result ≡ layout_pages self.now }
+        ensures most { result ≤ 81920 }
+    {
+        self.sets + self.segments * self.segment_pages
+    }
 }

@@ -10,8 +10,10 @@ mod found;
 mod front;
 mod key;
 mod layout;
+mod limits;
 mod log_page;
 mod log_page_writer;
+mod looked;
 mod miss_cause;
 mod object;
 mod page_body;
@@ -35,8 +37,13 @@ pub use field::Field;
 pub use found::Found;
 pub use key::{Key, KeyFault};
 pub use layout::Layout;
+pub use limits::{
+    MAX_ADMIT, MAX_ENTRIES, MAX_LANES, MAX_MEMORY, MAX_SEGMENT_PAGES, MAX_SEGMENTS, MAX_SETS,
+    MAX_THRESHOLD, MIN_SEGMENTS,
+};
 pub use log_page::LogPage;
 pub use log_page_writer::LogPageWriter;
+pub use looked::Looked;
 pub use miss_cause::MissCause;
 pub use object::{MAX_LOG_RECORDS, MAX_SET_RECORDS, PAGE_OVERHEAD, RECORD_OVERHEAD, is_too_large};
 pub use prediction::Prediction;
