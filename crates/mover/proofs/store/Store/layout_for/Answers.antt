@@ -15,5 +15,5 @@ pub returns-clause-serves : goal.returns-clause-serves
 returns-clause-serves g c = record {
   numbers = c.in_ok-layout.ensures.0;
   page_size = (omega (arith, c.if-this-lt256.false), omega (arith, c.if-this-gt4096.false));
-  large = large_enough c.in_ok-layout.layout c.args.config.now (g.D.PageDevice.page_count c.args.device.now) c.in_ok-layout.ensures.1 (omega (arith, c.if-pages-pages.false, c.pages.ensures));
+  large = large_enough c.in_ok-layout.layout c.args.config.now (g.D.PageDevice.page_count c.args.device.now) c.in_ok-layout.ensures.1 (omega (arith, c.if-pages.false, c.pages.ensures, c.pages-2.ensures.pages));
 }
