@@ -90,7 +90,7 @@ set_looks size pages honest failures held s placed key moment d was located buff
     let looked = set_looked_of located buffer in
     let after = sets_after located placed.set s.sets in
     let needs : looked ≡ look.Fault → NeedsSetPage key (lane_of held s) = λ failed.
-        subst (λ (p : Placed). lets_show (notes_of s.sets p.set) p.hash ≡ true) is (asked_page_at (lets_show (notes_of s.sets placed.set) placed.hash) located buffer _ l.denied failed) in
+    subst (λ (p : Placed). lets_show (notes_of s.sets p.set) p.hash ≡ true) is (asked_page_at (lets_show (notes_of s.sets placed.set) placed.hash) located buffer _ l.denied failed) in
     record {
       reads = record { layout = refl; honesty = l.reads.honest; failed_once = l.reads.faults ∙ ap (faults_after (failures s.device)) (sym (set_faulty looked)); same = l.reads.same };
       leaves = set_leaves s d after placed.set looked l.leaves;

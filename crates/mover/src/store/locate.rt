@@ -15,7 +15,12 @@ use value_buffer::ValueBuffer;
 
 impl<D: PageDevice<PAGE>, const PAGE: usize> Store<D, PAGE> {
     // Where a key is found below memory. Its value goes into the buffer. Nothing changes but the device.
-    pub(super) fn locate_below(&mut self, key: &[u8], moment: u64, found: &mut ValueBuffer) -> Located
+    pub(super) fn locate_below(
+        &mut self,
+        key: &[u8],
+        moment: u64,
+        found: &mut ValueBuffer,
+    ) -> Located
         ensures looks { LooksBelow PAGE D.honest D.failures D.held key.now moment self.old
             (answer_at result found.new) (touched key.now result self.new) }
         ensures unchanged { self.new ≡ record self.old { device = self.new.device } }
@@ -46,7 +51,8 @@ impl<D: PageDevice<PAGE>, const PAGE: usize> Store<D, PAGE> {
         ensures unchanged { self.new ≡ record self.old { device = self.new.device } }
         ensures stays { OnFalse (is_log_hit result) (found.new ≡ found.old) }
     {
-        self.log.locate(&mut self.device, placed, key, moment, found)
+        self.log
+            .locate(&mut self.device, placed, key, moment, found)
     }
 
     // What the set of a key has of it.

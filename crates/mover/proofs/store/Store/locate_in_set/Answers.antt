@@ -27,7 +27,7 @@ returns-clause-looks g c =
     let new : StoreState g.row.D.Denot = record { layout = s.layout; device = c.locate-located.new.device; memory = s.memory; log = s.log; sets = s.sets; flights = s.flights; moves = s.moves } in
     let is = c.requires.at ∙ ap (λ (x : StoreState g.row.D.Denot). place_in x.log.shape key) (sym c.self.view_is) in
     let looks = subst (λ (x : StoreState g.row.D.Denot). LooksInSet d.honest d.failures d.held placed key c.args.moment x (answer_of_set (looked_of located buffer)) (record new { sets = sets_after located placed.set new.sets })) c.self.view_is
-        (set_looks g.row.PAGE d.page_count d.honest d.failures d.held old placed key c.args.moment c.locate-located.new.device c.args.found.now located buffer is c.self.invariant.sets_spelled c.locate-located.ensures) in
+    (set_looks g.row.PAGE d.page_count d.honest d.failures d.held old placed key c.args.moment c.locate-located.new.device c.args.found.now located buffer is c.self.invariant.sets_spelled c.locate-located.ensures) in
     rw c.in_set.ensures
     (subst (λ a. LooksInSet d.honest d.failures d.held placed key c.args.moment c.args.self.now a (touched key (in_set placed.set located) new)) (in_set_answer placed.set located buffer)
     (subst (λ (x : StoreState g.row.D.Denot). LooksInSet d.honest d.failures d.held placed key c.args.moment c.args.self.now (answer_of_set (looked_of located buffer)) x) (in_set_touched key placed.set located new) looks))
