@@ -1,6 +1,6 @@
 use Rattle.std.proofs.Common.{◌≡◌, length}
 use Rattle.klog.specs.Find.{with_tag}
-use Rattle.klog.proofs.log.look.next_with_tag.Given as goal
+use Rattle.klog.proofs.log.locate.next_with_tag.Given as goal
 
 -- only entries with other tags were passed over
 abbrev pub invariant-loop-entry : goal.invariant-loop-entry

@@ -4,7 +4,7 @@ use Rattle.klog_index.specs.Entries.{of_tag}
 use Rattle.klog.specs.Known.{AreHeldBy, AreBuffered}
 use Rattle.klog.specs.Find.{with_tag}
 use Rattle.klog.specs.Look.{ShowsOther}
-use Rattle.klog.proofs.log.KLog.find.Given as goal
+use Rattle.klog.proofs.log.KLog.locate.Given as goal
 
 abbrev pub invariant-loop : goal.invariant-loop
 invariant-loop g l = record {

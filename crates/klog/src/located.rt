@@ -1,10 +1,11 @@
-// What a look-up in the log answers whose value goes into room of the caller's.
+// What a search for a key in the log finds.
+use klog_index::Entry;
 
-/// What a look-up in the log answers whose value goes into room of the caller's.
+/// What a search for a key in the log finds at a moment.
 #[derive(Clone, Copy, Debug, PartialEq, Eq)]
-pub enum Seen {
-    /// The newest live record with the key has not expired, and its value is in the buffer.
-    Hit,
+pub enum Located {
+    /// The newest live record with the key is this entry's. It has not expired, and its value is in the buffer.
+    Hit(Entry),
     /// The newest live record with the key has expired.
     Expired,
     /// No live record has the key.
