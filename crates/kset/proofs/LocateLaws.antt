@@ -27,6 +27,7 @@ use Rattle.kset.specs.Look.{is_set_fault, SetLookLeaves, SetLookGives}
 use Rattle.kset.specs.Locate.{looked_of, is_hit, sets_after, IsSlot, NamesFirst, SetLocates}
 use Rattle.kset.specs.Calls.{SetLooks}
 use Rattle.kset.proofs.LookLaws.{Says, told_of, first_visible-hidden}
+use Rattle.kset.proofs.ShownLaws.{shown-hit}
 
 -- what visible records say of a key is what a look-up gives
 gives : (visible : List (ℕ × Rec)) (key : List ℕ) (moment : ℕ) (buffer : List ℕ) (set : ℕ) (k : SetsState) (found : Located) → Says visible key moment buffer found →
@@ -95,6 +96,14 @@ leaves set k buffer Absent within = refl
 leaves set k buffer Fault within = refl
 leaves set k buffer Damaged within = refl
 
+-- a touch of what is located shows nothing and hides nothing
+shown_after : (held : ℕ → Option (List ℕ)) (set : ℕ) (k : SetsState) (found : Located) → set < set_count k → visible_in held (sets_after found set k) ≡ visible_in held k
+shown_after held set k (Hit slot) within = shown-hit held k set slot within
+shown_after held set k Expired within = refl
+shown_after held set k Absent within = refl
+shown_after held set k Fault within = refl
+shown_after held set k Damaged within = refl
+
 module _ {D : Type 0} (size : ℕ) (pages : D → ℕ) (honest : D → Bool) (failures : D → ℕ) (held : D → ℕ → Option (List ℕ)) (at : Placed) (key : List ℕ) (moment : ℕ) (k : SetsState) (device : D) (was : List ℕ) where
   abbrev pub Locates : Located → D → List ℕ → Type 0
   Locates found device' buffer = SetLocates size pages honest failures held at key moment k device was found device' buffer
@@ -148,13 +157,13 @@ module _ {D : Type 0} (size : ℕ) (pages : D → ℕ) (honest : D → Bool) (fa
             let damaged : OnFalse (is_set_fault (Ok (looked_of found buffer))) (found ≡ Damaged) =
             OnFalse_from _ _ (λ _. told_foreign at.set (held device at.set) bytes key moment buffer found foreign (known is) told) in
             OnTrue_from _ _ (λ _. damaged);
-        shown = λ is. ap (λ (h : ℕ → Option (List ℕ)). visible_in h k) (reads.same is);
+        shown = λ is. shown_after (held device') at.set k found within ∙ ap (λ (h : ℕ → Option (List ℕ)). visible_in h k) (reads.same is);
       }
 
   -- a look-up that touches the slot of a hit
   pub looks-hit : (device' : D) (buffer value : List ℕ) (slot : ℕ) (new : SetsState) → Locates (Hit slot) device' buffer → value ≡ buffer → new ≡ hit_in k at.set slot →
-      KeepsSets size (honest device) (held device) k (held device') new → visible_in (held device') new ≡ visible_in (held device') k → Looks (Ok (looked.Hit value)) new device'
-  looks-hit device' buffer value slot new l same touched kept stays =
+      KeepsSets size (honest device) (held device) k (held device') new → Looks (Ok (looked.Hit value)) new device'
+  looks-hit device' buffer value slot new l same touched kept =
       let noted : SetLookGives (visible_in (held device) k at.set) key moment k at.set (looked.Hit buffer) (hit_in k at.set slot) → SetLookGives (visible_in (held device) k at.set) key moment k at.set (looked.Hit value) new =
       λ gives. subst (λ (n : SetsState). SetLookGives (visible_in (held device) k at.set) key moment k at.set (looked.Hit value) n) (sym touched)
       (subst (λ (v : List ℕ). SetLookGives (visible_in (held device) k at.set) key moment k at.set (looked.Hit v) (hit_in k at.set slot)) (sym same) gives) in
@@ -166,7 +175,7 @@ module _ {D : Type 0} (size : ℕ) (pages : D → ℕ) (honest : D → Bool) (fa
         gives = λ is spelled. noted (l.gives is spelled);
         foreign = λ is foreign. OnTrue_from _ _ (λ shows. let damaged : Hit slot ≡ Damaged = OnTrue_at shows (l.foreign is foreign) in absurd (not_damaged damaged));
         short = λ _ _. tt;
-        shown = λ is. stays ∙ l.shown is;
+        shown = λ is. ap (visible_in (held device')) touched ∙ l.shown is;
       }
     where
       not_absent : Hit slot ≡ Absent → ⊥

@@ -60,4 +60,4 @@ pub record SetLocates {D : Type 0} (size : ℕ) (pages : D → ℕ) (honest : D 
       SetLookGives (visible_in (held device) k placed.set) key moment k placed.set (looked_of found buffer) (sets_after found placed.set k)
   pub foreign : IsTrue (honest device) → IsForeign placed.set (held device placed.set) → OnTrue (lets_show (notes_of k placed.set) placed.hash)
       (OnFalse (is_set_fault (Ok (looked_of found buffer))) (found ≡ located.Damaged))
-  pub shown : IsTrue (honest device) → visible_in (held device') k ≡ visible_in (held device) k
+  pub shown : IsTrue (honest device) → visible_in (held device') (sets_after found placed.set k) ≡ visible_in (held device) k

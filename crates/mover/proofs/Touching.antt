@@ -4,6 +4,7 @@ use Rattle.std.specs.Prelude.{IsTrue, IsSome, Result, Ok, Err, ◌<◌}
 use Rattle.std.specs.Bool.{OnFalse}
 use Rattle.std.specs.declared.alloc.AllocError.{AllocError}
 use Rattle.std.proofs.lemmas.Option.{none-some}
+use Rattle.std.proofs.lemmas.Bool.{false≢true}
 use Rattle.page_device.specs.Device.{faults_after}
 use Rattle.record_pages.specs.Expiry.{value_at}
 use Rattle.record_pages.specs.Recs.{Rec}
@@ -120,6 +121,11 @@ module _ {D : Type 0} (size : ℕ) (honest : D → Bool) (failures : D → ℕ) 
     gives = λ on. log_absent_gives key moment (lane_of held old) (lane_of held mid) (lane_of held new) look.Absent answer refl (l.tells on) (q.gives (l.reads.honesty ∙ on));
   }
 
+-- what is not there is not something
+not_some : {X : Type 0} (o : Option X) → o ≡ None → IsSome o → ⊥
+not_some None is some = false≢true some
+not_some (Some x) is some = none-some x (sym is)
+
 -- where memory has nothing of a key, a look below it is the get
 module _ {D : Type 0} (size : ℕ) (honest : D → Bool) (failures : D → ℕ) (held : D → ℕ → Option (List ℕ)) (key : List ℕ) (moment : ℕ) (old : StoreState D) (absent : value_in key old.memory.pairs ≡ None) where
   pub below_gets : (answer : Answer) (new : StoreState D) → LooksBelow size honest failures held key moment old answer new → StoreGets size honest failures held key moment old (Ok answer) new
@@ -133,10 +139,6 @@ module _ {D : Type 0} (size : ℕ) (honest : D → Bool) (failures : D → ℕ) 
     unasked = l.unasked;
     gives = λ on. get_below key moment answer (lane_of held old) (lane_of held new) absent (l.gives on);
   }
-    where
-      not_some : {X : Type 0} (o : Option X) → o ≡ None → IsSome o → ⊥
-      not_some None is some = absurd some
-      not_some (Some x) is some = absurd (none-some x (sym is))
 
   -- it is so too where the answer had no memory, and nothing was touched
   pub short_gets : (e : AllocError) (located : Located) (buffer : List ℕ) (mid : StoreState D) → has_value located ≡ true → mid ≡ record old { device = mid.device } →
@@ -152,10 +154,6 @@ module _ {D : Type 0} (size : ℕ) (honest : D → Bool) (failures : D → ℕ) 
     gives = λ on. tt;
   }
     where
-      not_some : {X : Type 0} (o : Option X) → o ≡ None → IsSome o → ⊥
-      not_some None is some = absurd some
-      not_some (Some x) is some = absurd (none-some x (sym is))
-
       device : (l : Located) → mid.device ≡ (touched key l mid).device
       device at.Memory = refl
       device (at.Log e) = refl

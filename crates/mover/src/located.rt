@@ -24,28 +24,28 @@ pub(crate) enum Located {
 
 impl Located {
     /// The answer whose value, if there is one, is in a buffer of the caller's.
-    pub(crate) fn seen(self) -> Seen
-        ensures answer { (buffer : List ℕ) → answer_of result buffer ≡ answer_at self buffer }
-        ensures hit { is_hit result ≡ has_value self }
+    pub(crate) fn seen(&self) -> Seen
+        ensures answer { (buffer : List ℕ) → answer_of result buffer ≡ answer_at self.now buffer }
+        ensures hit { is_hit result ≡ has_value self.now }
     {
         match self {
             Located::Memory => Seen::Hit(Tier::Memory),
             Located::Log(_) => Seen::Hit(Tier::Log),
             Located::Set { .. } => Seen::Hit(Tier::Set),
-            Located::Miss(cause) => Seen::Miss(cause),
+            Located::Miss(cause) => Seen::Miss(*cause),
         }
     }
 
     /// The answer with a copy of the value that this buffer holds, or `AllocError` where memory is refused for it.
-    pub(crate) fn answer(self, alloc: Global, buffer: &ValueBuffer) -> Result<Answer, AllocError>
-        ensures answer { IfOk result (λ answer. answer ≡ answer_at self buffer.now) }
-        ensures short { OnErr result (has_value self ≡ true) }
+    pub(crate) fn answer(&self, alloc: Global, buffer: &ValueBuffer) -> Result<Answer, AllocError>
+        ensures answer { IfOk result (λ answer. answer ≡ answer_at self.now buffer.now) }
+        ensures short { OnErr result (has_value self.now ≡ true) }
     {
         let tier = match self {
             Located::Memory => Tier::Memory,
             Located::Log(_) => Tier::Log,
             Located::Set { .. } => Tier::Set,
-            Located::Miss(cause) => return Ok(Answer::Miss(cause)),
+            Located::Miss(cause) => return Ok(Answer::Miss(*cause)),
         };
         match Value::new(alloc, buffer.bytes()) {
             Ok(value) => Ok(Answer::Hit(value, tier)),

@@ -25,10 +25,11 @@ impl<D: PageDevice<PAGE>, const PAGE: usize> Store<D, PAGE> {
     pub fn get(&mut self, key: &Key, moment: u64) -> Result<Answer, AllocError>
         ensures { StoreGets PAGE D.honest D.failures D.held key.now moment self.old result self.new }
     {
-        match self.recall(key.bytes(), moment) {
+        let key = key.bytes();
+        match self.recall(key, moment) {
             Recalled::Live(value) => {
                 let value = value.try_clone()?;
-                self.touch(key.bytes(), Located::Memory);
+                self.touch(key, &Located::Memory);
                 Ok(Answer::Hit(value, Tier::Memory))
             }
             Recalled::Expired => Ok(Answer::Miss(MissCause::Expired)),
@@ -47,7 +48,7 @@ impl<D: PageDevice<PAGE>, const PAGE: usize> Store<D, PAGE> {
         ensures stays { OnFalse (is_hit result) (found.new ≡ found.old) }
     {
         let at = self.locate(key, moment, found);
-        self.touch(key, at);
+        self.touch(key, &at);
         at.seen()
     }
 
@@ -81,27 +82,31 @@ impl<D: PageDevice<PAGE>, const PAGE: usize> Store<D, PAGE> {
     }
 
     // Notes that what was located was asked for. It cannot fail, and makes no call of the device.
-    fn touch(&mut self, key: &[u8], at: Located)
-        requires { CanTouch at self.old }
-        ensures { self.new ≡ touched key.now at self.old }
+    fn touch(&mut self, key: &[u8], at: &Located)
+        requires { CanTouch at.now self.old }
+        ensures { self.new ≡ touched key.now at.now self.old }
     {
         match at {
             Located::Memory => self.memory.raise(key),
-            Located::Log(entry) => self.log.touch(&entry),
-            Located::Set { set, slot } => self.sets.touch(set, slot),
+            Located::Log(entry) => self.log.touch(entry),
+            Located::Set { set, slot } => self.sets.touch(*set, *slot),
             Located::Miss(_) => {}
         }
     }
 
     // The value of a key that memory does not have.
-    fn get_below(&mut self, key: &Key, moment: u64) -> Result<Answer, AllocError>
+    fn get_below(&mut self, key: &[u8], moment: u64) -> Result<Answer, AllocError>
         requires { value_in key.now self.old.memory.pairs ≡ None }
         ensures { StoreGets PAGE D.honest D.failures D.held key.now moment self.old result self.new }
     {
         let mut found = ValueBuffer::empty();
-        let at = self.locate_below(key.bytes(), moment, &mut found);
-        let answer = at.answer(self.alloc, &found)?;
-        self.touch(key.bytes(), at);
-        Ok(answer)
+        let at = self.locate_below(key, moment, &mut found);
+        match at.answer(self.alloc, &found) {
+            Ok(answer) => {
+                self.touch(key, &at);
+                Ok(answer)
+            }
+            Err(short) => Err(short),
+        }
     }
 }

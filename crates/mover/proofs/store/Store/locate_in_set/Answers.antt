@@ -1,4 +1,4 @@
-use Rattle.std.proofs.Common.{◌≡◌, subst, sym, ap, ◌∙◌}
+use Rattle.std.proofs.Common.{◌≡◌, subst, sym, ap, ◌∙◌, rules}
 use Rattle.klog.specs.Shown.{place_in}
 use Rattle.kset.specs.Locate.{looked_of, sets_after}
 use Rattle.mover.specs.Get.{answer_of_set}
