@@ -112,33 +112,35 @@ module _ {D : Type 0} (size : ℕ) (pages : D → ℕ) (honest : D → Bool) (fa
   Looks result new device' = SetLooks size pages honest failures held at key moment k device result new device'
 
   -- a key that the filter denies
-  pub locates-denied : at.hash ≡ fnv1a key → lets_show (notes_of k at.set) at.hash ≡ false → Locates Absent device was
-  locates-denied hashed hidden = record {
-    reads = record { pages = refl; honest = refl; faults = refl; same = λ _. refl };
-    keeps = record { sizes = refl; spelled = λ _ spelled. spelled };
-    leaves = refl;
-    slot = tt;
-    stays = refl;
-    denied = let same : (Absent ≡ Absent) × (device ≡ device) = (refl, refl) in OnFalse_from _ _ (λ _. same);
-    names = λ _ _. tt;
-    gives = λ _ _. (first_visible-hidden (notes_of k at.set) key (sym (ap (lets_show (notes_of k at.set)) hashed) ∙ hidden) 0 (page_records (held device) k at.set), refl);
-    foreign = λ _ _. OnTrue_from _ _ (λ shows. absurd (false≢true (sym hidden ∙ shows)));
-    shown = λ _. refl;
-  }
+  pub locates-denied : (notes : Notes) → at.hash ≡ fnv1a key → notes ≡ notes_of k at.set → false ≡ lets_show notes at.hash → Locates Absent device was
+  locates-denied notes hashed noted denies =
+      let hidden : lets_show (notes_of k at.set) at.hash ≡ false = sym (denies ∙ ap (λ (n : Notes). lets_show n at.hash) noted) in
+      record {
+        reads = record { pages = refl; honest = refl; faults = refl; same = λ _. refl };
+        keeps = record { sizes = refl; spelled = λ _ spelled. spelled };
+        leaves = refl;
+        slot = tt;
+        stays = refl;
+        denied = let same : (Absent ≡ Absent) × (device ≡ device) = (refl, refl) in OnFalse_from _ _ (λ _. same);
+        names = λ _ _. tt;
+        gives = λ _ _. (first_visible-hidden (notes_of k at.set) key (sym (ap (lets_show (notes_of k at.set)) hashed) ∙ hidden) 0 (page_records (held device) k at.set), refl);
+        foreign = λ _ _. OnTrue_from _ _ (λ shows. absurd (false≢true (sym hidden ∙ shows)));
+        shown = λ _. refl;
+      }
 
   -- what is kept where pages were only read
   keeps : (device' : D) → (IsTrue (honest device) → held device' ≡ held device) → KeepsSets size (honest device) (held device) k (held device') k
   keeps device' same = record { sizes = refl; spelled = λ is spelled. subst (λ (h : ℕ → Option (List ℕ)). AreSpelledOn size h k) (sym (same is)) spelled }
 
   -- what a page tells that was read
-  pub locates-told : (device' : D) (bytes buffer : List ℕ) (found : Located) → at.hash ≡ fnv1a key → true ≡ lets_show (notes_of k at.set) at.hash → at.set < set_count k →
+  pub locates-told : (notes : Notes) (device' : D) (bytes buffer : List ℕ) (found : Located) → at.hash ≡ fnv1a key → notes ≡ notes_of k at.set → true ≡ lets_show notes at.hash → at.set < set_count k →
       OnlyReads pages honest failures held device false device' → (IsTrue (honest device) → IsKnown (held device at.set) bytes) →
       SetPageTells key moment buffer (page_if_of at.set (set_page_at bytes)) found → OnFalse (is_hit found) (buffer ≡ was) → Locates found device' buffer
-  locates-told device' bytes buffer found hashed shows within reads known told stays =
+  locates-told notes device' bytes buffer found hashed noted lets within reads known told stays =
+      let shows : true ≡ lets_show (notes_of k at.set) at.hash = lets ∙ ap (λ (n : Notes). lets_show n at.hash) noted in
       let slot : IsSlot found = told_slot key moment buffer _ found told in
-      let notes : Notes = notes_of k at.set in
       let says : IsTrue (honest device) → AreSpelledOn size (held device) k → Says (visible_in (held device) k at.set) key moment buffer found =
-      λ is spelled. told_of size (set_count k) at.set (held device) bytes key moment buffer at.hash notes found hashed shows within (spelled at.set) (known is) told in
+      λ is spelled. told_of size (set_count k) at.set (held device) bytes key moment buffer at.hash (notes_of k at.set) found hashed shows within (spelled at.set) (known is) told in
       record {
         reads = record {
           pages = reads.pages;

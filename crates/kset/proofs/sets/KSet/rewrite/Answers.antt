@@ -12,5 +12,5 @@ returns g c =
 pub returns-in_default : goal.returns-in_default
 returns-in_default g c =
     let d = g.D.PageDevice in
-    rewrites-forgotten g.row.PAGE d.page_count d.honest d.failures d.held c.args.set c.args.writer.now c.args.self.now c.args.device.now c.forget.new.self c.write.new.self c.text.new.page c.requires.set
+    rewrites-forgotten g.row.PAGE d.page_count d.honest d.failures d.held c.args.set c.args.writer.now c.args.self.now c.args.device.now _ c.write.new.self c.text.new.page c.requires.set
     c.in_default.field-0 (grind (arith, common_steps)) (search rules) (search rules) c.in_default.ensures.written
