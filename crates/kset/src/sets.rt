@@ -172,8 +172,8 @@ impl<const PAGE: usize> KSet<PAGE> {
     }
 
     /// The visible records of a set, in page order, each with whether it was hit: no more than a page holds, whatever
-    /// the device. Nothing is read where the filter is empty. Where the page is lost the set is forgotten; `AllocError`
-    /// changes nothing, and comes only where there is a record to copy.
+    /// the device. Nothing is read if the filter is empty. If the page is lost, the set is forgotten; `AllocError`
+    /// changes nothing, and comes only if there is a record to copy.
     pub fn read_set<D: PageDevice<PAGE>>(
         &mut self,
         alloc: Global,
@@ -200,9 +200,9 @@ impl<const PAGE: usize> KSet<PAGE> {
         Ok(SetRead::Records(records))
     }
 
-    /// Writes the page of a set anew, with the writer's records under its number and the next write number. Where it
-    /// is written the filter holds just those records' keys, and nothing is struck or hit. Where the device fails the
-    /// set is forgotten. Either way the write counts as tried.
+    /// Writes the page of a set anew, with the writer's records under its number and the next write number. Once it is
+    /// written, the filter holds only those records' keys, and nothing is struck or hit. If the device fails, the set
+    /// is forgotten. Either way the write counts as tried.
     pub fn rewrite<D: PageDevice<PAGE>>(
         &mut self,
         device: &mut D,
