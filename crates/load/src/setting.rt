@@ -1,6 +1,39 @@
 // The numbers of a load, with their names, ranges and defaults.
 ghost use Rattle.std.specs.Prelude.{◌≡◌, ◌≤◌};
+ghost use Rattle.record_pages.specs.Ranges.{range_of};
 ghost use Rattle.load.specs.Settings.{row_of, is_admitted, number_in};
+
+use record_pages::Field;
+
+// The numbers from one to another, both of them too.
+#[derive(Clone, Copy)]
+struct Range {
+    least: u32,
+    greatest: u32,
+    ghost order: { least ≤ greatest },
+}
+
+impl Range {
+    // The range from one number to another.
+    fn new(least: u32, greatest: u32) -> Range
+        requires { least ≤ greatest }
+        ensures from { result.least ≡ least }
+        ensures to { result.greatest ≡ greatest }
+    {
+        Range { least, greatest }
+    }
+
+    // The range of a field of a configuration.
+    fn of(field: Field) -> Range
+        ensures from { result.least ≡ (range_of field).least }
+        ensures to { result.greatest ≡ (range_of field).greatest }
+    {
+        Range {
+            least: field.least(),
+            greatest: field.greatest(),
+        }
+    }
+}
 
 /// A number of a load, which an option of its name gives.
 #[derive(Clone, Copy, Debug, PartialEq, Eq)]
@@ -217,45 +250,49 @@ impl Setting {
         }
     }
 
-    /// The least number that it may be.
-    pub fn least(self) -> u32
-        ensures value { result ≡ (row_of self).least }
-        ensures order { result ≤ (row_of self).greatest }
+    // The numbers that it may be: those of its field of a configuration, where it has one.
+    fn range(self) -> Range
+        ensures least { result.least ≡ (row_of self).range.least }
+        ensures greatest { result.greatest ≡ (row_of self).range.greatest }
     {
         match self {
-            Setting::Admit
-            | Setting::ValueBytes
-            | Setting::Gets
-            | Setting::Removes
-            | Setting::Seed
-            | Setting::Ttl
-            | Setting::Leases
-            | Setting::ServedTtl => 0,
-            Setting::Segments => 2,
-            Setting::ServedValueBytes => 8,
-            _ => 1,
+            Setting::Lanes => Range::of(Field::Lanes),
+            Setting::Sets => Range::of(Field::Sets),
+            Setting::Memory => Range::of(Field::Memory),
+            Setting::Segments => Range::of(Field::Segments),
+            Setting::SegmentPages => Range::of(Field::SegmentPages),
+            Setting::Entries => Range::of(Field::Entries),
+            Setting::Threshold => Range::of(Field::Threshold),
+            Setting::Admit => Range::of(Field::Admit),
+            Setting::Callers => Range::new(1, 64),
+            Setting::Operations | Setting::Keys => Range::new(1, 1000000),
+            Setting::ValueBytes => Range::new(0, 2048),
+            Setting::Gets | Setting::Removes => Range::new(0, 100),
+            Setting::Workers => Range::new(1, 16),
+            Setting::Seed => Range::new(0, 4294967295),
+            Setting::Ttl => Range::new(0, 1000000),
+            Setting::Shards => Range::new(1, 1024),
+            Setting::Leases => Range::new(0, 1048576),
+            Setting::ServedOperations => Range::new(1, 1000000000),
+            Setting::ServedKeys => Range::new(1, 100000000),
+            Setting::ServedValueBytes => Range::new(8, 2048),
+            Setting::ServedTtl => Range::new(0, 1000000000),
         }
+    }
+
+    /// The least number that it may be.
+    pub fn least(self) -> u32
+        ensures value { result ≡ (row_of self).range.least }
+        ensures order { result ≤ (row_of self).range.greatest }
+    {
+        self.range().least
     }
 
     /// The greatest number that it may be.
     pub fn greatest(self) -> u32
-        ensures { result ≡ (row_of self).greatest }
+        ensures { result ≡ (row_of self).range.greatest }
     {
-        match self {
-            Setting::Lanes | Setting::Workers => 16,
-            Setting::Threshold => 32,
-            Setting::SegmentPages | Setting::Callers => 64,
-            Setting::Gets | Setting::Removes => 100,
-            Setting::Segments => 256,
-            Setting::Shards => 1024,
-            Setting::ValueBytes | Setting::ServedValueBytes => 2048,
-            Setting::Sets | Setting::Admit => 65536,
-            Setting::Operations | Setting::Keys | Setting::Ttl => 1000000,
-            Setting::Memory | Setting::Entries | Setting::Leases => 1048576,
-            Setting::ServedKeys => 100000000,
-            Setting::ServedOperations | Setting::ServedTtl => 1000000000,
-            Setting::Seed => 4294967295,
-        }
+        self.range().greatest
     }
 
     /// The number that it is where none is given, in decimal.
