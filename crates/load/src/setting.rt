@@ -1,39 +1,10 @@
 // The numbers of a load, with their names, ranges and defaults.
 ghost use Rattle.std.specs.Prelude.{◌≡◌, ◌≤◌};
-ghost use Rattle.record_pages.specs.Ranges.{range_of};
+ghost use Rattle.std.specs.Range.{range_inclusive_start, range_inclusive_end};
 ghost use Rattle.load.specs.Settings.{row_of, is_admitted, number_in};
 
 use record_pages::Field;
-
-// The numbers from one to another, both of them too.
-#[derive(Clone, Copy)]
-struct Range {
-    least: u32,
-    greatest: u32,
-    ghost order: { least ≤ greatest },
-}
-
-impl Range {
-    // The range from one number to another.
-    fn new(least: u32, greatest: u32) -> Range
-        requires { least ≤ greatest }
-        ensures from { result.least ≡ least }
-        ensures to { result.greatest ≡ greatest }
-    {
-        Range { least, greatest }
-    }
-
-    // The range of a field of a configuration.
-    fn of(field: Field) -> Range
-        ensures from { result.least ≡ (range_of field).least }
-        ensures to { result.greatest ≡ (range_of field).greatest }
-    {
-        Range {
-            least: field.least(),
-            greatest: field.greatest(),
-        }
-    }
-}
+use std::ops::RangeInclusive;
 
 /// A number of a load, which an option of its name gives.
 #[derive(Clone, Copy, Debug, PartialEq, Eq)]
@@ -250,33 +221,34 @@ impl Setting {
         }
     }
 
-    // The numbers that it may be: those of its field of a configuration, where it has one.
-    fn range(self) -> Range
-        ensures least { result.least ≡ (row_of self).range.least }
-        ensures greatest { result.greatest ≡ (row_of self).range.greatest }
+    // The numbers that it may be: those of the field of a configuration, where it is one.
+    fn range(self) -> RangeInclusive<u32>
+        ensures least { range_inclusive_start result ≡ (row_of self).range.least }
+        ensures greatest { range_inclusive_end result ≡ (row_of self).range.greatest }
+        ensures order { (row_of self).range.least ≤ (row_of self).range.greatest }
     {
         match self {
-            Setting::Lanes => Range::of(Field::Lanes),
-            Setting::Sets => Range::of(Field::Sets),
-            Setting::Memory => Range::of(Field::Memory),
-            Setting::Segments => Range::of(Field::Segments),
-            Setting::SegmentPages => Range::of(Field::SegmentPages),
-            Setting::Entries => Range::of(Field::Entries),
-            Setting::Threshold => Range::of(Field::Threshold),
-            Setting::Admit => Range::of(Field::Admit),
-            Setting::Callers => Range::new(1, 64),
-            Setting::Operations | Setting::Keys => Range::new(1, 1000000),
-            Setting::ValueBytes => Range::new(0, 2048),
-            Setting::Gets | Setting::Removes => Range::new(0, 100),
-            Setting::Workers => Range::new(1, 16),
-            Setting::Seed => Range::new(0, 4294967295),
-            Setting::Ttl => Range::new(0, 1000000),
-            Setting::Shards => Range::new(1, 1024),
-            Setting::Leases => Range::new(0, 1048576),
-            Setting::ServedOperations => Range::new(1, 1000000000),
-            Setting::ServedKeys => Range::new(1, 100000000),
-            Setting::ServedValueBytes => Range::new(8, 2048),
-            Setting::ServedTtl => Range::new(0, 1000000000),
+            Setting::Lanes => range_of(Field::Lanes),
+            Setting::Sets => range_of(Field::Sets),
+            Setting::Memory => range_of(Field::Memory),
+            Setting::Segments => range_of(Field::Segments),
+            Setting::SegmentPages => range_of(Field::SegmentPages),
+            Setting::Entries => range_of(Field::Entries),
+            Setting::Threshold => range_of(Field::Threshold),
+            Setting::Admit => range_of(Field::Admit),
+            Setting::Callers => 1..=64,
+            Setting::Operations | Setting::Keys => 1..=1000000,
+            Setting::ValueBytes => 0..=2048,
+            Setting::Gets | Setting::Removes => 0..=100,
+            Setting::Workers => 1..=16,
+            Setting::Seed => 0..=4294967295,
+            Setting::Ttl => 0..=1000000,
+            Setting::Shards => 1..=1024,
+            Setting::Leases => 0..=1048576,
+            Setting::ServedOperations => 1..=1000000000,
+            Setting::ServedKeys => 1..=100000000,
+            Setting::ServedValueBytes => 8..=2048,
+            Setting::ServedTtl => 0..=1000000000,
         }
     }
 
@@ -285,14 +257,14 @@ impl Setting {
         ensures value { result ≡ (row_of self).range.least }
         ensures order { result ≤ (row_of self).range.greatest }
     {
-        self.range().least
+        *self.range().start()
     }
 
     /// The greatest number that it may be.
     pub fn greatest(self) -> u32
         ensures { result ≡ (row_of self).range.greatest }
     {
-        self.range().greatest
+        *self.range().end()
     }
 
     /// The number that it is where none is given, in decimal.
@@ -338,4 +310,15 @@ impl Setting {
             None
         }
     }
+}
+
+ghost use Rattle.record_pages.specs.Ranges.{range_of};
+
+// The numbers that a field of a configuration may be.
+fn range_of(field: Field) -> RangeInclusive<u32>
+    ensures least { range_inclusive_start result ≡ (range_of field).least }
+    ensures greatest { range_inclusive_end result ≡ (range_of field).greatest }
+    ensures order { (range_of field).least ≤ (range_of field).greatest }
+{
+    field.least()..=field.greatest()
 }
