@@ -1,9 +1,7 @@
 -- What a get gives, tier by tier.
 use Rattle.std.proofs.Common.{◌≡◌, inl, inr, ℕ, Bool, true, List, Option, Some, None, refl, sym, ap, subst, ◌∙◌}
-use Rattle.std.specs.Prelude.{IsSomeAnd, Result, Ok, Err, false}
+use Rattle.std.specs.Prelude.{IsSomeAnd, Ok, false}
 use Rattle.std.specs.Bool.{OnFalse}
-use Rattle.std.specs.Result.{IsErr}
-use Rattle.std.specs.declared.alloc.AllocError.{AllocError}
 use Rattle.set_hash.specs.declared.placed.Placed.{Placed}
 use Rattle.klog_index.specs.Entries.{of_tag}
 use Rattle.klog.specs.Known.{AreBuffered}
@@ -28,7 +26,6 @@ use Rattle.record_pages.specs.declared.tier.Tier.TheVariants.{Memory, Log, Set}
 use Rattle.memory_cache.specs.MemoryList.{value_in, after_get}
 use Rattle.record_pages.specs.declared.timed_value.TimedValue.{TimedValue}
 use Rattle.std.proofs.lemmas.Option.{none-some}
-use Rattle.std.proofs.lemmas.Bool.{false≢true}
 use Rattle.klog.specs.Shown.{place_in, live_on, newest_with}
 use Rattle.kset.specs.Sets.{SetsState, hit_in, notes_of}
 use Rattle.kset.specs.Shown.{visible_in, first_visible}
@@ -307,10 +304,6 @@ reads_after honest failures held old mid new looked failed is first next =
       failed_once = next.failed_once ∙ ap (λ n. faults_after n failed) calm.failed_once;
       same = λ on. next.same (calm.honesty ∙ on) ∙ calm.same on;
     }
-
--- where the log tells nothing of a key all stays
-pub none_leaves : {D : Type 0} (old mid : StoreState D) (at : Placed) (looked other : Looked) → looked ≡ other → LogLeaves at looked old mid → LogLeaves at other old mid
-none_leaves old mid at looked other is leaves = subst (λ l. LogLeaves at l old mid) is leaves
 
 -- a set's fault is the answer's
 pub set_faulty : (looked : Looked) → is_fault (Ok (answer_of_set looked)) ≡ is_set_fault (Ok looked)

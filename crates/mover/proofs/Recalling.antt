@@ -1,5 +1,5 @@
 -- What memory has of a key, and what a get of it answers by that.
-use Rattle.std.proofs.Common.{◌≡◌, ℕ, List, Option, Some, None, refl, sym, subst}
+use Rattle.std.proofs.Common.{◌≡◌, ℕ, List, Option, Some, None, refl, subst}
 use Rattle.std.specs.Prelude.{IsSomeAnd, option_map}
 use Rattle.record_pages.specs.Expiry.{value_at}
 use Rattle.record_pages.specs.declared.answer.Answer.TheVariants.{Hit, Miss}

@@ -1,7 +1,6 @@
 -- What the log tells of a key ends a get, or its set is asked.
-use Rattle.std.proofs.Common.{◌∙◌, ap, sym, ◌≡◌, ℕ, Bool, true, false, List, Option, Some, None, refl, subst}
+use Rattle.std.proofs.Common.{◌∙◌, ap, sym, ◌≡◌, ℕ, true, false, List, Option, Some, None, refl, subst}
 use Rattle.std.specs.Prelude.{Ok}
-use Rattle.std.specs.Bool.{OnFalse}
 use Rattle.set_hash.specs.declared.placed.Placed.{Placed}
 use Rattle.record_pages.specs.Expiry.{value_at}
 use Rattle.record_pages.specs.Recs.{Rec}
@@ -18,9 +17,8 @@ use Rattle.mover.specs.Asking.{LogLeaves, GetLeaves}
 use Rattle.mover.specs.Calls.{AnswersFromBuffers, AnswersRecord, TellsRecord}
 use Rattle.mover.specs.Get.{LogTells, NeedsFlashPage, StepGives, answer_of_log, ask_log, is_fault}
 use Rattle.mover.specs.Lane.{LaneState}
-use Rattle.mover.specs.Leaving.{HasAll}
 use Rattle.mover.specs.Store.{StoreState}
-use Rattle.mover.proofs.Getting.{hit_leaves, none_leaves, log_expired_gives, log_hit_gives, log_fault_gives}
+use Rattle.mover.proofs.Getting.{hit_leaves, log_expired_gives, log_hit_gives, log_fault_gives}
 
 abbrev given : Answer → Option Answer
 given answer = Some answer

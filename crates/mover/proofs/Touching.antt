@@ -1,20 +1,17 @@
 -- What a look gives once what it located is touched.
 use Rattle.std.proofs.Common.{◌≡◌, ℕ, Bool, true, false, List, Option, Some, None, refl, sym, ap, subst, ◌∙◌}
-use Rattle.std.specs.Prelude.{IsTrue, IsSome, Result, Ok, Err, ◌<◌}
+use Rattle.std.specs.Prelude.{IsTrue, IsSome, Ok, Err, ◌<◌}
 use Rattle.std.specs.Bool.{OnFalse}
 use Rattle.std.specs.declared.alloc.AllocError.{AllocError}
 use Rattle.std.proofs.lemmas.Option.{none-some}
 use Rattle.std.proofs.lemmas.Bool.{false≢true}
 use Rattle.page_device.specs.Device.{faults_after}
 use Rattle.record_pages.specs.Expiry.{value_at}
-use Rattle.record_pages.specs.Recs.{Rec}
 use Rattle.record_pages.specs.declared.answer.Answer.{Answer}
-use Rattle.record_pages.specs.declared.answer.Answer.TheVariants.{Hit, Miss}
 use Rattle.record_pages.specs.declared.looked.Looked.{Looked}
 use Rattle.record_pages.specs.declared.looked.Looked.TheVariants as look
 use Rattle.set_hash.specs.declared.placed.Placed.{Placed}
 use Rattle.memory_cache.specs.MemoryList.{value_in}
-use Rattle.klog_index.specs.declared.entry.Entry.{Entry}
 use Rattle.klog.specs.declared.located.Located.{Located as LogLocated}
 use Rattle.klog.specs.Locate.{LogLocates, log_after, looked_of as log_looked_of}
 use Rattle.klog.specs.Shown.{place_in, IsSpelledOn}
@@ -26,13 +23,11 @@ use Rattle.kset.specs.Pages.{AreSpelledOn}
 use Rattle.kset.specs.Sets.{notes_of, set_count}
 use Rattle.mover.specs.declared.located.Located.{Located}
 use Rattle.mover.specs.declared.located.Located.TheVariants as at
-use Rattle.mover.specs.Asking.{AsksNothing}
 use Rattle.mover.specs.Calls.{StoreGets}
 use Rattle.mover.specs.Get.{NeedsSetPage, answer_of_log, answer_of_set, is_fault}
 use Rattle.mover.specs.Lane.{lane_of}
-use Rattle.mover.specs.Leaving.{HasAll}
 use Rattle.mover.specs.Store.{StoreState, OnlyReads}
-use Rattle.mover.specs.Touch.{answer_at, has_value, touched, in_set, log_touched, CanTouch, LooksInLog, LooksInSet, LooksBelow}
+use Rattle.mover.specs.Touch.{answer_at, has_value, touched, in_set, CanTouch, LooksInLog, LooksInSet, LooksBelow}
 use Rattle.mover.proofs.Getting.{log_told, log_leaves, record_told, set_told, set_leaves, set_faulty, asked_page_at, asks_log, asks_set, leaves_after, log_absent_gives, reads_after, get_below}
 use Rattle.mover.proofs.Telling.{log_faulty, ended_leaves, ended_in_buffers, ended_gives, not_in_buffers}
 

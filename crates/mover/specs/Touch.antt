@@ -1,5 +1,5 @@
 -- Where a store has a key, and what a touch of it changes.
-use Rattle.std.specs.Prelude.{◌≡◌, ◌<◌, ℕ, List, Option, Some, None, Bool, true, false, Ok, IsTrue}
+use Rattle.std.specs.Prelude.{◌≡◌, ◌<◌, ℕ, List, Option, Bool, true, false, Ok, IsTrue}
 use Rattle.record_pages.specs.Expiry.{value_at}
 use Rattle.record_pages.specs.Recs.{Rec}
 use Rattle.record_pages.specs.Sizes.{max_set_records}
@@ -56,7 +56,7 @@ CanTouch (at.Log e) s = Unit {0}
 CanTouch (at.Set set slot) s = (set < set_count s.sets) × (slot < max_set_records)
 CanTouch (at.Miss cause) s = Unit {0}
 
--- where a store has what its log locates, and what to touch there; none where the log has no record of the key
+-- where a store has a key, by what the set of this number locates
 abbrev pub in_set : ℕ → SetLocated → Located
 in_set n (set.Hit slot) = at.Set n slot
 in_set n set.Expired = at.Miss Expired

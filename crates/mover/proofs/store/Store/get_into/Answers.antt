@@ -1,8 +1,3 @@
-use Rattle.std.proofs.Common.{◌≡◌, sym, subst}
-use Rattle.std.specs.Prelude.{Ok}
-use Rattle.std.specs.Bool.{OnFalse}
-use Rattle.mover.specs.Calls.{StoreGets}
-use Rattle.mover.specs.Store.{StoreState}
 use Rattle.mover.proofs.store.Store.get_into.Goals as goal
 
 pub returns-clause-gets : goal.returns-clause-gets

@@ -1,4 +1,4 @@
-use Rattle.std.proofs.Common.{◌≡◌, Some, List, ℕ, ap, ◌∙◌}
+use Rattle.std.proofs.Common.{Some, List, ℕ, ap, ◌∙◌}
 use Rattle.record_pages.specs.declared.answer.Answer.TheVariants.{Hit}
 use Rattle.record_pages.specs.declared.tier.Tier.TheVariants.{Memory}
 use Rattle.memory_cache.specs.MemoryList.{value_in}

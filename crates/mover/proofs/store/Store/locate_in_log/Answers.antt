@@ -1,4 +1,4 @@
-use Rattle.std.proofs.Common.{◌≡◌, subst, sym}
+use Rattle.std.proofs.Common.{subst}
 use Rattle.klog.specs.Locate.{looked_of, log_after}
 use Rattle.mover.specs.Store.{StoreState}
 use Rattle.mover.specs.Touch.{LooksInLog}

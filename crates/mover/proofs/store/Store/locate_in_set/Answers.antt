@@ -3,7 +3,7 @@ use Rattle.klog.specs.Shown.{place_in}
 use Rattle.kset.specs.Locate.{looked_of, sets_after}
 use Rattle.mover.specs.Get.{answer_of_set}
 use Rattle.mover.specs.Store.{StoreState}
-use Rattle.mover.specs.Touch.{LooksInSet, answer_at, in_set, touched}
+use Rattle.mover.specs.Touch.{LooksInSet, in_set, touched}
 use Rattle.mover.proofs.Keeping.{kept_device}
 use Rattle.mover.proofs.Touching.{set_looks, in_set_answer, in_set_touched, in_set_can, in_set_stays}
 use Rattle.mover.proofs.store.Store.locate_in_set.Goals as goal

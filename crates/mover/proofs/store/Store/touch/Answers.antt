@@ -1,4 +1,4 @@
-use Rattle.std.proofs.Common.{◌≡◌, refl, sym, ap, subst}
+use Rattle.std.proofs.Common.{refl, sym, ap, subst}
 use Rattle.memory_cache.specs.MemoryList.{MemoryList}
 use Rattle.kset.specs.Laws.{AreOfTheirSets}
 use Rattle.mover.specs.Store.{IsSmall}
