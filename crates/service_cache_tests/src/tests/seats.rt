@@ -1,38 +1,19 @@
-//! Two threads call a cache, each with a seat; whoever has seen what both have seen gets the latest value.
-ghost use Rattle.std.specs.Prelude.{◌≡◌, [], ◌∷◌, IfOk, IfSome, IsTrue, true, length};
+//! Callers with seats: two threads call a cache, and whoever has seen what both have seen gets the latest value.
+ghost use Rattle.std.specs.Prelude.{[], ◌∷◌, IfSome, IsTrue, true};
 ghost use Rattle.certificate_checker.specs.Deeds.{Deed};
 ghost use Rattle.mover.specs.Get.{answer_of};
 ghost use Rattle.service_lane.specs.Asked.{IsLiveHit};
 ghost use Rattle.seated_lane.specs.Seated.{put_of};
-ghost use Rattle.seated_cache.specs.Sorted.{SortsBy};
-ghost use Rattle.seated_cache_tests.specs.Standing.{Stands};
+ghost use Rattle.service_cache.specs.Sorted.{SortsBy};
+ghost use Rattle.service_cache_tests.specs.Standing.{Stands};
 
-use deed_book::{KeyLanes, Naming, NewBook, Seat};
-use key_hash::RandomSeed;
+use super::trials::{Trial, is_held};
+use super::*;
 use mover::Seen;
-use page_device::MemoryDevice;
-use record_pages::{Config, Key, NEVER, Tier, Value};
-use rriparoo::Rriparoo;
-use seated_cache::SeatedCache;
-use seated_lane::{SeatFault, SeatPutFault};
-use std::alloc::Global;
+use record_pages::{Key, Tier, Value};
 use std::marker::Brand;
-use std::sync::Wait;
 use std::test::*;
 use std::thread::{Threads, join};
-use value_buffer::ValueBuffer;
-
-// Two lanes of three sets, in which all is small.
-const SMALL: Config = Config {
-    lanes: 2,
-    sets: 3,
-    memory: 4,
-    segments: 2,
-    segment_pages: 1,
-    entries: 16,
-    threshold: 1,
-    admit: 65536,
-};
 
 // How often each thread puts a key, looks it up, and now and then removes it.
 const CALLS: u32 = 2_000;
@@ -40,7 +21,7 @@ const CALLS: u32 = 2_000;
 // How many lanes two shards have.
 const LANES: u32 = 4;
 
-type Cache<L, J> = SeatedCache<MemoryDevice<256>, Rriparoo, 256, L, J>;
+type Over<L, J> = Cache<MemoryDevice<256>, L, J>;
 
 // An object that a thread puts.
 #[derive(Drop)]
@@ -65,17 +46,6 @@ fn object_of(alloc: Global, name: &[u8], bytes: &[u8]) -> Result<Object, Fail> {
     })
 }
 
-// A device for each lane.
-fn devices_for(alloc: Global, lanes: u32) -> Result<Vec<MemoryDevice<256>>, Fail>
-    ensures { IfOk result (λ devices. length devices.items ≡ lanes) }
-{
-    let mut devices = Vec::new(alloc);
-    for _ in 0..lanes {
-        devices.push(MemoryDevice::new(alloc, 5)?)?;
-    }
-    Ok(devices)
-}
-
 #[test]
 fn two_callers_of_a_cache(rt: HostRuntime) -> Result<(), Fail> {
     let seed = RandomSeed::draw(&rt)?;
@@ -86,51 +56,11 @@ fn two_callers_of_a_cache(rt: HostRuntime) -> Result<(), Fail> {
     Ok(())
 }
 
-#[test]
-fn no_call_is_refused_by_the_book(rt: HostRuntime) -> Result<(), Fail> {
-    let seed = RandomSeed::draw(&rt)?;
-    let refused = refused_in::<Brand, _>(&rt, rt.alloc(), seed)?;
-    assert_eq!(rt; refused, 0);
-    Ok(())
-}
-
-// How many calls the book refuses, of those that two threads make of a cache whose keys are sorted by this seed.
-fn refused_in<L: KeyLanes + Send + Sync, R: Threads + Wait + Sync>(
-    rt: &R,
-    alloc: Global,
-    seed: RandomSeed,
-) -> Result<u32, Fail>
-    requires { SortsBy L.lanes L.lane_of seed 4 }
-{
-    let book = NewBook::<L>::open(LANES as usize);
-    refused_under::<L, Brand, R>(rt, alloc, seed, book)
-}
-
-fn refused_under<L: KeyLanes + Send + Sync, J: Naming + Send + Sync, R: Threads + Wait + Sync>(
-    rt: &R,
-    alloc: Global,
-    seed: RandomSeed,
-    book: NewBook<L>,
-) -> Result<u32, Fail>
-    requires sorted { SortsBy L.lanes L.lane_of seed 4 }
-    requires book { book ≡ J.book }
-{
-    let devices = devices_for(alloc, LANES)?;
-    let book = book.named::<J>();
-    let cache = Cache::<L, J>::open(alloc, &SMALL, 2, 8, devices, Rriparoo, seed, book)?;
-    let (one, two) = join(
-        rt,
-        || refused_calls(rt, alloc, &cache),
-        || refused_calls(rt, alloc, &cache),
-    );
-    Ok(one.wrapping_add(two))
-}
-
 // Puts, looks up and removes keys that the other thread writes too: how many of these calls the book refused.
-fn refused_calls<L: KeyLanes, J: Naming, R: Wait>(
+fn refused_calls<D: PageDevice<256>, L: KeyLanes, J: Naming, R: Wait>(
     rt: &R,
     alloc: Global,
-    cache: &Cache<L, J>,
+    cache: &Cache<D, L, J>,
 ) -> u32 {
     let mut seat = cache.seat();
     let mut found = ValueBuffer::empty();
@@ -150,11 +80,11 @@ fn refused_calls<L: KeyLanes, J: Naming, R: Wait>(
     refused
 }
 
-// Puts a value of a key: 1 where the book refuses that.
-fn put_refused<L: KeyLanes, J: Naming, R: Wait>(
+// Puts a value of a key: 1 if the book refuses that.
+fn put_refused<D: PageDevice<256>, L: KeyLanes, J: Naming, R: Wait>(
     rt: &R,
     alloc: Global,
-    cache: &Cache<L, J>,
+    cache: &Cache<D, L, J>,
     seat: &mut Seat<L, J>,
     name: &[u8],
 ) -> u32 {
@@ -168,6 +98,28 @@ fn put_refused<L: KeyLanes, J: Naming, R: Wait>(
         Err(SeatPutFault::Book(_)) => 1,
         _ => 0,
     }
+}
+
+/// Whether the book refuses no call of two threads that write the same keys.
+pub fn no_call_is_refused<
+    D: PageDevice<256> + Send,
+    L: KeyLanes + Send + Sync,
+    J: Naming + Send + Sync,
+    R: Threads + Wait + Sync,
+>(rt: &R, alloc: Global, cache: &Cache<D, L, J>) -> bool {
+    let (one, two) = join(
+        rt,
+        || refused_calls(rt, alloc, cache),
+        || refused_calls(rt, alloc, cache),
+    );
+    one == 0 && two == 0
+}
+
+#[test]
+fn no_call_is_refused_by_the_book(rt: HostRuntime) -> Result<(), Fail> {
+    let seed = RandomSeed::draw(&rt)?;
+    assert!(rt; is_held(&rt, rt.alloc(), 2, seed, Trial::RefusesNone)?);
+    Ok(())
 }
 
 // Opens a book for a cache whose keys are sorted by this seed, and has two threads call the cache.
@@ -196,17 +148,9 @@ fn found_by_both<L: KeyLanes + Send + Sync, J: Naming + Send + Sync, R: Threads 
     requires sorted { SortsBy L.lanes L.lane_of seed 4 }
     requires book { book ≡ J.book }
 {
-    let devices = devices_for(alloc, LANES)?;
-    let cache = Cache::<L, J>::open(
-        alloc,
-        &SMALL,
-        2,
-        8,
-        devices,
-        Rriparoo,
-        seed,
-        book.named::<J>(),
-    )?;
+    let devices = so_many(alloc, LANES, PAGES)?;
+    let book = book.named::<J>();
+    let cache = Over::<L, J>::open(alloc, &SMALL, 2, 8, devices, Rriparoo, seed, book)?;
     match last_of_both(rt, &cache, first, second) {
         Some(last) => Ok(
             last.seen == Seen::Hit(Tier::Memory) && last.found.bytes() == b"one".as_slice(),
@@ -215,11 +159,11 @@ fn found_by_both<L: KeyLanes + Send + Sync, J: Naming + Send + Sync, R: Threads 
     }
 }
 
-// Each thread puts its object. Who has seen what both have seen has seen both puts; and what he hits is his key's latest value in
-// what he has seen.
+// Each thread puts its object. Who has seen what both have seen has seen both puts; and what they hit is their key's latest value
+// in what they have seen.
 fn last_of_both<L: KeyLanes + Send + Sync, J: Naming + Send + Sync, R: Threads + Wait + Sync>(
     rt: &R,
-    cache: &Cache<L, J>,
+    cache: &Over<L, J>,
     first: Object,
     second: Object,
 ) -> Option<Last<L, J>>
@@ -234,7 +178,7 @@ fn last_of_both<L: KeyLanes + Send + Sync, J: Naming + Send + Sync, R: Threads +
 // Each thread puts its object. Who has seen what both have seen has seen both puts.
 fn seen_by_both<L: KeyLanes + Send + Sync, J: Naming + Send + Sync, R: Threads + Wait + Sync>(
     rt: &R,
-    cache: &Cache<L, J>,
+    cache: &Over<L, J>,
     first: Object,
     second: Object,
 ) -> Option<Seat<L, J>>
@@ -258,7 +202,7 @@ fn seen_by_both<L: KeyLanes + Send + Sync, J: Naming + Send + Sync, R: Threads +
 // Puts an object.
 fn put_in<L: KeyLanes, J: Naming, R: Wait>(
     rt: &R,
-    cache: &Cache<L, J>,
+    cache: &Over<L, J>,
     object: Object,
 ) -> Option<Seat<L, J>>
     ensures { IfSome result (λ seat. Stands (put_of object.key object.value 18446744073709551615) seat) }
@@ -273,7 +217,7 @@ fn put_in<L: KeyLanes, J: Naming, R: Wait>(
 // Looks a key up.
 fn get_in<L: KeyLanes, J: Naming, R: Wait>(
     rt: &R,
-    cache: &Cache<L, J>,
+    cache: &Over<L, J>,
     mut seat: Seat<L, J>,
     key: &[u8],
 ) -> Option<Last<L, J>>

@@ -1,5 +1,5 @@
-use Rattle.seated_cache.specs.Sorted.{lane_by}
-use Rattle.seated_cache_tests.proofs.tests.two_callers_of_a_cache.Given as goal
+use Rattle.service_cache.specs.Sorted.{lane_by}
+use Rattle.service_cache_tests.proofs.tests.seats.two_callers_of_a_cache.Given as goal
 
 -- the lanes of keys by the seed that was drawn
 abbrev pub ghosts-sorted : goal.ghosts-sorted

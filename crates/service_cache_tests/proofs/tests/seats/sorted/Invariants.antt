@@ -1,4 +1,4 @@
-use Rattle.seated_cache_tests.proofs.tests.sorted.Given as goal
+use Rattle.service_cache_tests.proofs.tests.seats.sorted.Given as goal
 
 -- the book that was just opened
 abbrev pub ghosts-found_by_both : goal.ghosts-found_by_both
