@@ -102,13 +102,21 @@ impl MemoryCache {
         self.get_bytes(key.bytes())
     }
 
-    /// The value of the key with these bytes, as `get` has it.
-    pub fn get_bytes(&mut self, key: &[u8]) -> Option<&TimedValue>
+    // The same by the key's bytes.
+    fn get_bytes(&mut self, key: &[u8]) -> Option<&TimedValue>
         ensures* raised { sem 𝓛 (EndsAs self.entry (after_get key.now self.old)) }
         ensures value { option_copied result ≡ value_in key.now self.old.pairs }
     {
         recall(&self.objects);
         self.objects.get(KeyBytes(key))
+    }
+
+    /// Brings the pair of the key with these bytes to the front, if there is one.
+    pub fn raise(&mut self, key: &[u8])
+        ensures { self.new ≡ after_get key.now self.old }
+    {
+        recall(&self.objects);
+        let _held = self.objects.promote(KeyBytes(key));
     }
 
     /// Puts a value first, in place of an older one of its key. Gives the pair of another key that had

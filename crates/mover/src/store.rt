@@ -11,7 +11,7 @@ use kset::KSet;
 use memory_cache::MemoryCache;
 use page_device::PageDevice;
 use record_pages::{Config, Layout};
-use std::alloc::Global;
+use std::alloc::{AllocError, Global};
 use std::marker::Model;
 
 mod abort;
@@ -70,7 +70,10 @@ impl<D: PageDevice<PAGE>, const PAGE: usize> Model for Store<D, PAGE> {
 }
 
 impl<D: PageDevice<PAGE>, const PAGE: usize> Store<D, PAGE> {
-    ghost use Rattle.std.specs.Prelude.{IsTrue};
+    ghost use Rattle.std.specs.Prelude.{IsTrue, ◌≢◌, ◌≤◌, Err};
+    ghost use Rattle.record_pages.specs.Asked.{layout_pages};
+    ghost use Rattle.record_pages.specs.Sizes.{IsPageSize};
+    ghost use Rattle.mover.specs.declared.open_fault.OpenFault.{OpenFault};
     ghost use Rattle.mover.specs.Store.{opening, IsStore};
     ghost use Rattle.mover.specs.Opening.{CanServe, RefusesStore};
     ghost use Rattle.mover.specs.Lane.{lane_of};
@@ -84,36 +87,50 @@ impl<D: PageDevice<PAGE>, const PAGE: usize> Store<D, PAGE> {
         ensures serves { OnOk result (CanServe PAGE config.now (D.page_count device)) }
         ensures refused { IfErr result (RefusesStore PAGE config.now (D.page_count device)) }
     {
-        Store::with_seed(alloc, config, device, RandomSeed::fixed())
+        let layout = Self::layout_for(config, &device)?;
+        let store = Self::with_layout(alloc, &layout, device, RandomSeed::fixed())?;
+        Ok(store)
     }
 
-    /// An empty store, as `open` makes it, the table of whose memory hashes by this seed. Who does not know it can't pick keys
-    /// that collide in that table.
-    pub fn with_seed(
-        alloc: Global,
-        config: &Config,
-        device: D,
-        seed: RandomSeed,
-    ) -> Result<Self, OpenFault>
-        ensures opening { IfOk result (λ s. HasNumbersOf s.layout config.now
-            × (s ≡ opening s.layout device)) }
-        ensures serves { OnOk result (CanServe PAGE config.now (D.page_count device)) }
-        ensures refused { IfErr result (RefusesStore PAGE config.now (D.page_count device)) }
+    /// The layout of this configuration, if a store of it can be opened over the device, memory aside; else the first
+    /// refusal in the order of `OpenFault`, which is never `OutOfMemory`.
+    pub fn layout_for(config: &Config, device: &D) -> Result<Layout, OpenFault>
+        ensures numbers { IfOk result (λ layout. HasNumbersOf layout config.now) }
+        ensures room { IfOk result (λ layout. layout_pages layout ≤ D.page_count device.now) }
+        ensures serves { OnOk result (CanServe PAGE config.now (D.page_count device.now)) }
+        ensures refused { IfErr result (RefusesStore PAGE config.now (D.page_count device.now)) }
+        ensures memory { result ≢ Err OpenFault.OutOfMemory }
     {
         let layout = config.check()?;
         if PAGE < 256 || PAGE > 4096 {
             return Err(OpenFault::WrongPage);
         }
-        if device.pages() < layout.sets + layout.segments * layout.segment_pages {
+        if device.pages() < layout.pages() {
             return Err(OpenFault::DeviceTooSmall);
         }
+        Ok(layout)
+    }
+
+    /// An empty store of this layout over a device that has its pages, or `AllocError`, with which the device is dropped.
+    /// Nothing is tested again. The table of its memory hashes by this seed: anyone who does not know it cannot pick keys
+    /// that collide there.
+    pub fn with_layout(
+        alloc: Global,
+        layout: &Layout,
+        device: D,
+        seed: RandomSeed,
+    ) -> Result<Self, AllocError>
+        requires page_size { IsPageSize PAGE }
+        requires room { layout_pages layout.now ≤ D.page_count device }
+        ensures { IfOk result (λ s. s ≡ opening layout.now device) }
+    {
         let memory = MemoryCache::with_seed(alloc, layout.memory, seed)?;
-        let log = KLog::open(alloc, &layout)?;
-        let sets = KSet::open(alloc, &layout)?;
+        let log = KLog::open(alloc, layout)?;
+        let sets = KSet::open(alloc, layout)?;
         let flights = Flights::open(alloc)?;
         Ok(Store {
             alloc,
-            layout,
+            layout: *layout,
             device,
             memory,
             log,

@@ -53,7 +53,7 @@ impl<D: PageDevice<PAGE>, const PAGE: usize> Store<D, PAGE> {
             return Some(Seen::Miss(MissCause::Expired));
         }
         found.set(timed.value.bytes());
-        let _raised = self.memory.get_bytes(key);
+        self.memory.raise(key);
         Some(Seen::Hit(Tier::Memory))
     }
 

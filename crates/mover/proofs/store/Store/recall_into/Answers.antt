@@ -9,5 +9,5 @@ invariant_of-self g c =
     let s = c.self.inside in
     let d = g.D.PageDevice in
     kept_memory g.row.PAGE d.page_count d.honest d.held (record { layout = s.layout; device = s.device; memory = s.memory; log = s.log; sets = s.sets; flights = s.flights; moves = s.moves }) c.self.invariant
-    c.get_bytes-raised.follows.lender-at-none (ap (λ (m : MemoryList). m.capacity) c.get_bytes-raised.follows.holds-at-none)
-    (all_fronted (IsSmall g.row.PAGE) s.memory c.get_bytes-raised.follows.lender-at-none c.args.key.now c.get_bytes-raised.follows.holds-at-none c.self.invariant.small)
+    c.raise.new.self (ap (λ (m : MemoryList). m.capacity) c.raise.ensures)
+    (all_fronted (IsSmall g.row.PAGE) s.memory c.raise.new.self c.args.key.now c.raise.ensures c.self.invariant.small)
