@@ -297,7 +297,14 @@ impl<L: KeyLanes, J: Naming> Caller<L, J> {
         let Ok((name, value)) = object(alloc, load, self.number, key, number) else {
             return Step::Refused;
         };
-        let filled = cache.fill(rt, &mut self.seat, lease, name, value, expires_of(load, number));
+        let filled = cache.fill(
+            rt,
+            &mut self.seat,
+            lease,
+            name,
+            value,
+            expires_of(load, number),
+        );
         let known = &mut self.words[key as usize];
         *known = word_after_fill(filled, *known, number);
         step_of_fill(filled)

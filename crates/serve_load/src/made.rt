@@ -14,8 +14,8 @@ use crate::report::Report;
 use crate::serve_end::ServeEnd;
 use crate::totals::sum_of;
 use crossbeam_channel::{Receiver, bounded};
-use load::ServedLoad;
 use deed_book::{KeyLanes, Naming, Seat};
+use load::ServedLoad;
 use page_device::PageDevice;
 use policy_laws::EvictionPolicy;
 use service_cache::ServiceCache;
@@ -141,12 +141,7 @@ fn report_of<
     L: KeyLanes,
     J: Naming,
     R: Wait,
->(
-    rt: &R,
-    cache: &ServiceCache<D, P, PAGE, L, J>,
-    sums: &Sums,
-    milliseconds: u64,
-) -> Report
+>(rt: &R, cache: &ServiceCache<D, P, PAGE, L, J>, sums: &Sums, milliseconds: u64) -> Report
     requires operations { sums.now.operations ≤ 64000000000 }
     requires lanes { 0 < lanes_of cache.now }
     ensures operations { result.operations ≡ sums.now.operations }

@@ -26,12 +26,7 @@ pub(crate) fn work<
     L: KeyLanes,
     J: Naming,
     R: Wait,
->(
-    rt: &R,
-    cache: &ServiceCache<D, P, PAGE, L, J>,
-    worker: u32,
-    running: &AtomicU64,
-)
+>(rt: &R, cache: &ServiceCache<D, P, PAGE, L, J>, worker: u32, running: &AtomicU64)
     requires { 0 < lanes_of cache.now }
 {
     let lanes = cache.lanes();
@@ -72,11 +67,7 @@ fn tend<
     L: KeyLanes,
     J: Naming,
     R: Wait,
->(
-    rt: &R,
-    cache: &ServiceCache<D, P, PAGE, L, J>,
-    lane: u32,
-) -> bool
+>(rt: &R, cache: &ServiceCache<D, P, PAGE, L, J>, lane: u32) -> bool
     requires { lane < lanes_of cache.now }
 {
     let mut tended = false;

@@ -5,6 +5,8 @@ ghost use mathlib.Core.List.{IsPrefix};
 ghost use Rattle.record_pages.specs.Sizes.{object_size, room};
 ghost use Rattle.record_pages.specs.declared.put_fault.PutFault.{PutFault};
 ghost use Rattle.service_lane.specs.Asked.{IsLiveHit};
+ghost use Rattle.service_lane.specs.Leases.{HoldsLease};
+ghost use Rattle.service_lane.specs.declared.filled.Filled.{Filled};
 ghost use Rattle.seated_lane.specs.Refusals.{RefusesGet, RefusesPut};
 ghost use Rattle.seated_lane.specs.Seated.{put_of};
 ghost use Rattle.seated_lane.specs.declared.seat_fault.SeatPutFault.{SeatPutFault};
@@ -90,9 +92,7 @@ impl<D: PageDevice<PAGE>, const PAGE: usize, L: KeyLanes, J: Naming> Guarded<D, 
         ensures entered { IfOk result (λ filled. FillAdds seat.old (put_of key value expires) filled
             seat.new) }
         ensures stale { (result ≡ Ok Filled.Stale)
-            → (HoldsLease self.old.lane.serving.slots key lease.writes → ⊥) }
-        ensures held { (HoldsLease self.old.lane.serving.slots key lease.writes → ⊥)
-            → (result ≡ Ok Filled.Stale) }
+            ↔ (HoldsLease self.old.lane.serving.slots key lease.writes → ⊥) }
         ensures large { IsErrOf result (SeatPutFault.Put PutFault.TooLarge) → room PAGE < object_size key value }
         ensures refused { OnErr result (seat.new ≡ seat.old) }
     {

@@ -1,5 +1,7 @@
 // The parts of a new cache.
-ghost use Rattle.std.specs.Prelude.{◌≡◌, ◌<◌, ◌^◌, [], IfOk, length};
+ghost use Rattle.std.specs.Prelude.{◌≡◌, ◌≤◌, ◌<◌, ◌^◌, [], All, IfOk, length};
+ghost use Rattle.record_pages.specs.Asked.{layout_pages};
+ghost use Rattle.record_pages.specs.Sizes.{IsPageSize};
 
 use crate::guarded::Guarded;
 use crossbeam_utils::CachePadded;
@@ -8,7 +10,7 @@ use key_hash::RandomSeed;
 use lane_devices::{Boxed, Counted};
 use page_device::PageDevice;
 use rand_pcg::Lcg64Xsh32;
-use record_pages::{Config, Layout};
+use record_pages::Layout;
 use seated_lane::SeatedLane;
 use service_lane::ServiceLane;
 use std::alloc::{AllocError, Global};
@@ -32,6 +34,9 @@ pub(crate) fn lanes_over<D: PageDevice<PAGE>, const PAGE: usize, L: KeyLanes, J:
     requires first { book ≡ 0 }
     requires one_each { length devices.items ≡ L.lanes }
     requires few { length devices.items < 2 ^ 32 }
+    requires page_size { IsPageSize PAGE }
+    requires slots { 1 ≤ lease_slots }
+    requires room { All (λ d. layout_pages layout.now ≤ D.page_count d) devices.items }
     ensures { IfOk result (λ lanes. length lanes.items ≡ length devices.items) }
 {
     let count = devices.len();
@@ -63,26 +68,14 @@ fn lane_over<D: PageDevice<PAGE>, const PAGE: usize>(
     device: D,
     seed: RandomSeed,
 ) -> Result<ServiceLane<Counted<Boxed<D>>, PAGE>, AllocError>
-    ensures { IfOk result (λ lane. lane.deeds ≡ []) }
+    requires page_size { IsPageSize PAGE }
+    requires slots { 1 ≤ lease_slots }
+    requires room { layout_pages layout.now ≤ D.page_count device }
+    ensures deeds { IfOk result (λ lane. lane.deeds ≡ []) }
+    ensures layout { IfOk result (λ lane. lane.store.layout ≡ layout.now) }
+    ensures slots { IfOk result (λ lane. length lane.slots ≡ lease_slots) }
 {
     let counted = Counted::new(Boxed::new(alloc, device)?);
-    match ServiceLane::open(alloc, &config_of(layout), lease_slots, counted, seed) {
-        Ok(lane) => Ok(lane),
-        // Nothing but memory can be refused here.
-        Err(_) => Err(AllocError),
-    }
-}
-
-// The configuration with these numbers.
-fn config_of(layout: &Layout) -> Config {
-    Config {
-        lanes: layout.lanes,
-        sets: layout.sets,
-        memory: layout.memory,
-        segments: layout.segments,
-        segment_pages: layout.segment_pages,
-        entries: layout.entries,
-        threshold: layout.threshold,
-        admit: layout.admit,
-    }
+    let lane = ServiceLane::with_layout(alloc, layout, lease_slots, counted, seed)?;
+    Ok(lane)
 }

@@ -56,11 +56,7 @@ fn call<L: KeyLanes, J: Naming, R: Wait>(
 }
 
 /// What all callers made together; none where there was no memory for it.
-fn made_by_callers<
-    L: KeyLanes + Send + Sync,
-    J: Naming + Send + Sync,
-    R: Threads + Wait + Sync,
->(
+fn made_by_callers<L: KeyLanes + Send + Sync, J: Naming + Send + Sync, R: Threads + Wait + Sync>(
     rt: &R,
     alloc: Global,
     cache: &Cache<L, J>,
@@ -96,11 +92,7 @@ fn tend<L: KeyLanes, J: Naming, R: Wait>(rt: &R, cache: &Cache<L, J>, ended: &At
 }
 
 /// The same, beside a thread that tends the cache.
-pub fn made_by_all<
-    L: KeyLanes + Send + Sync,
-    J: Naming + Send + Sync,
-    R: Threads + Wait + Sync,
->(
+pub fn made_by_all<L: KeyLanes + Send + Sync, J: Naming + Send + Sync, R: Threads + Wait + Sync>(
     rt: &R,
     alloc: Global,
     cache: &Cache<L, J>,

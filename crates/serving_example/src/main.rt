@@ -75,8 +75,17 @@ fn made_with<L: KeyLanes + Send + Sync, J: Naming + Send + Sync, R: Threads + Wa
     requires book { book ≡ J.book }
 {
     let book = book.named::<J>();
-    let cache =
-        Cache::<L, J>::open(alloc, &CONFIG, 1, LEASE_SLOTS, devices, Rriparoo, seed, book).ok()?;
+    let cache = Cache::<L, J>::open(
+        alloc,
+        &CONFIG,
+        1,
+        LEASE_SLOTS,
+        devices,
+        Rriparoo,
+        seed,
+        book,
+    )
+    .ok()?;
     made_by_all(rt, alloc, &cache, &Database::new())
 }
 

@@ -1,9 +1,11 @@
 // Puts, fills and removals with a seat.
-ghost use Rattle.std.specs.Prelude.{◌≡◌, ◌<◌, ◌≤◌, IfOk, OnOk, OnErr, IfErr, IsErrOf};
+ghost use Rattle.std.specs.Prelude.{◌≡◌, ◌<◌, ◌≤◌, ◌↔◌, IfOk, OnOk, OnErr, IfErr, IsErrOf, Ok};
 ghost use Rattle.record_pages.specs.Bounded.{IsKey};
 ghost use Rattle.record_pages.specs.Expiry.{timed};
 ghost use Rattle.trace_file.specs.declared.act.Act.{Act};
+ghost use Rattle.service_lane.specs.Leases.{HoldsLease};
 ghost use Rattle.service_lane.specs.Serving.{PutsStore, FillLeaves, Removes};
+ghost use Rattle.service_lane.specs.declared.filled.Filled.{Filled};
 ghost use Rattle.deed_book.specs.Registers.{EntersIn};
 ghost use Rattle.record_pages.specs.Sizes.{object_size, room};
 ghost use Rattle.record_pages.specs.declared.put_fault.PutFault.{PutFault};
@@ -87,6 +89,8 @@ impl<D: PageDevice<PAGE>, const PAGE: usize, L: KeyLanes, J: Naming> SeatedLane<
         expires: u64,
     ) -> Result<Filled, SeatPutFault>
         requires { L.lane_of key ≡ self.old.register.number }
+        ensures stale { (result ≡ Ok Filled.Stale)
+            ↔ (HoldsLease self.old.serving.slots key lease.writes → ⊥) }
         ensures filled { IfOk result (λ filled. FillLeaves PAGE D.held
             (record { key = key; value = timed value expires }) word lease.writes self.old.serving
             self.new.serving filled) }

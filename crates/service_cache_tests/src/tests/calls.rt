@@ -29,7 +29,13 @@ pub fn each_is_found<D: PageDevice<256>, L: KeyLanes, J: Naming, R: Wait>(
     let mut seat = cache.seat();
     for number in 0..count {
         let name = [b'k', number];
-        let _pushed = cache.put(rt, &mut seat, key(alloc, &name)?, value(alloc, &name)?, NEVER)?;
+        let _pushed = cache.put(
+            rt,
+            &mut seat,
+            key(alloc, &name)?,
+            value(alloc, &name)?,
+            NEVER,
+        )?;
         if !finds(rt, cache, &name, Some(&name)) {
             return Ok(false);
         }
@@ -64,9 +70,11 @@ pub fn fills_once<D: PageDevice<256>, L: KeyLanes, J: Naming, R: Wait>(
     let first = cache.fill(rt, &mut seat, lease, name, one, NEVER)?;
     let (name, two) = (key(alloc, b"ax")?, value(alloc, b"2")?);
     let second = cache.fill(rt, &mut seat, lease, name, two, NEVER)?;
-    Ok(first == Filled::Stored(Pushed::Nobody)
-        && second == Filled::Stale
-        && finds(rt, cache, b"ax", Some(b"1")))
+    Ok(
+        first == Filled::Stored(Pushed::Nobody)
+            && second == Filled::Stale
+            && finds(rt, cache, b"ax", Some(b"1")),
+    )
 }
 
 #[test]

@@ -45,7 +45,10 @@ struct Totals {
     steps: u64,
 }
 
-fn counted<D: PageDevice<256>, L: KeyLanes, J: Naming, R: Wait>(rt: &R, cache: &Cache<D, L, J>) -> Totals {
+fn counted<D: PageDevice<256>, L: KeyLanes, J: Naming, R: Wait>(
+    rt: &R,
+    cache: &Cache<D, L, J>,
+) -> Totals {
     let mut all = Totals {
         log: 0,
         set: 0,
@@ -93,11 +96,7 @@ pub fn is_right_tended<D: PageDevice<256>, L: KeyLanes, J: Naming, R: Wait>(
 ) -> bool {
     let tally = all_calls(rt, alloc, cache, true);
     let all = counted(rt, cache);
-    tally.wrong == 0
-        && tally.refused == 0
-        && all.log > 0
-        && all.set > 0
-        && all.steps > all.in_help
+    tally.wrong == 0 && tally.refused == 0 && all.log > 0 && all.set > 0 && all.steps > all.in_help
 }
 
 #[test]

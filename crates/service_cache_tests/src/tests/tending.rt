@@ -11,7 +11,10 @@ use service_lane::Upkept;
 const CALLS: u32 = 2_000;
 
 // How many steps of upkeep each lane has done.
-fn steps_of<D: PageDevice<256>, L: KeyLanes, J: Naming, R: Wait>(rt: &R, cache: &Cache<D, L, J>) -> [u64; 4] {
+fn steps_of<D: PageDevice<256>, L: KeyLanes, J: Naming, R: Wait>(
+    rt: &R,
+    cache: &Cache<D, L, J>,
+) -> [u64; 4] {
     let mut steps = [0; 4];
     for lane in 0..cache.lanes().min(4) {
         steps[lane as usize] = cache.counts(rt, lane).upkeep.steps;

@@ -137,7 +137,14 @@ fn no_hit_of_threads_is_old_beside_upkeep(rt: HostRuntime) -> Result<(), Fail> {
 fn no_hit_of_threads_is_old_over_fuses(rt: HostRuntime) -> Result<(), Fail> {
     let seed = RandomSeed::draw(&rt)?;
     let devices = fuses(rt.alloc())?;
-    let outcome = try_over(&rt, rt.alloc(), &TWO_SHARDS, devices, seed, Trial::TogetherTended)?;
+    let outcome = try_over(
+        &rt,
+        rt.alloc(),
+        &TWO_SHARDS,
+        devices,
+        seed,
+        Trial::TogetherTended,
+    )?;
     assert_eq!(rt; outcome, Outcome::Held(true));
     Ok(())
 }
@@ -146,7 +153,14 @@ fn no_hit_of_threads_is_old_over_fuses(rt: HostRuntime) -> Result<(), Fail> {
 fn no_hit_of_threads_is_old_over_files(rt: HostRuntime) -> Result<(), Fail> {
     let seed = RandomSeed::draw(&rt)?;
     let devices = files(&rt, rt.alloc())?;
-    let outcome = try_over(&rt, rt.alloc(), &TWO_SHARDS, devices, seed, Trial::TogetherTended)?;
+    let outcome = try_over(
+        &rt,
+        rt.alloc(),
+        &TWO_SHARDS,
+        devices,
+        seed,
+        Trial::TogetherTended,
+    )?;
     assert_eq!(rt; outcome, Outcome::Held(true));
     Ok(())
 }

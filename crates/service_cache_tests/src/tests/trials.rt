@@ -99,9 +99,15 @@ fn try_booked<
     requires sorted { SortsBy L.lanes L.lane_of seed (length devices.items) }
     requires book { book ≡ J.book }
 {
-    let Numbers { config, shards, slots } = numbers;
+    let Numbers {
+        config,
+        shards,
+        slots,
+    } = numbers;
     let book = book.named::<J>();
-    match Cache::<D, L, J>::open(alloc, config, *shards, *slots, devices, Rriparoo, seed, book) {
+    match Cache::<D, L, J>::open(
+        alloc, config, *shards, *slots, devices, Rriparoo, seed, book,
+    ) {
         Ok(cache) => Ok(Outcome::Held(holds(rt, alloc, &cache, trial)?)),
         Err(fault) => Ok(Outcome::Refused(fault)),
     }
@@ -145,7 +151,10 @@ pub fn is_held<R: Threads + Wait + Sync>(
     seed: RandomSeed,
     trial: Trial,
 ) -> Result<bool, Fail> {
-    let numbers = Numbers { shards, ..TWO_SHARDS };
+    let numbers = Numbers {
+        shards,
+        ..TWO_SHARDS
+    };
     let devices = so_many(alloc, shards.min(4) * 2, PAGES)?;
     Ok(try_over(rt, alloc, &numbers, devices, seed, trial)? == Outcome::Held(true))
 }
