@@ -5,6 +5,7 @@ use Rattle.record_pages.specs.Expiry.{timed}
 use Rattle.record_pages.specs.declared.answer.Answer.{Answer}
 use Rattle.record_pages.specs.declared.answer.Answer.TheVariants as answers
 use Rattle.record_pages.specs.declared.tier.Tier.TheVariants.{Memory, Log, Set}
+use Rattle.record_pages.specs.declared.layout.Layout.{Layout}
 use Rattle.memory_cache.specs.declared.pair.Pair.{Pair}
 use Rattle.trace_file.specs.declared.act.Act.TheVariants.{Put, Remove, Hit}
 use Rattle.certificate_checker.specs.Deeds.{Deed}
@@ -67,9 +68,9 @@ module _ {D : Type 0} (size : ℕ) (honest : D → Bool) (failures : D → ℕ) 
 
 module _ {D : Type 0} (honest : D → Bool) (held : D → ℕ → Option (List ℕ)) where
   -- a store that was just opened
-  pub served_opened : (store : StoreState D) (device : D) → OpeningShowsNothing → store ≡ opening store.layout device → IsServed honest held (record { store = store; deeds = [] })
-  served_opened store device law told =
-      let first = law (held device) store.layout in
+  pub served_opened : (store : StoreState D) (layout : Layout) (device : D) → OpeningShowsNothing → store ≡ opening layout device → IsServed honest held (record { store = store; deeds = [] })
+  served_opened store layout device law told =
+      let first = law (held device) layout in
       let order : IsInOrder (lane_of held store) = subst (λ (s : StoreState D). IsInOrder (lane_of held s)) (sym told) first.0 in
       let nothing : (p : Pair) → ¬ IsShown (lane_of held store) p = subst (λ (s : StoreState D). (p : Pair) → ¬ IsShown (lane_of held s) p) (sym told) first.1 in
       record {

@@ -1,10 +1,10 @@
 // A store with what was asked of it and answered.
-ghost use Rattle.std.specs.Prelude.{◌≡◌, ◌++◌, ◌∷◌, [], length, IfOk, OnOk, OnErr, IfErr, Ok, IsTrue};
+ghost use Rattle.std.specs.Prelude.{◌≡◌, ◌≤◌, ◌++◌, ◌∷◌, [], length, IfOk, OnOk, OnErr, Ok, IsTrue};
 ghost use Rattle.klog.specs.Usage.{usage_of};
-ghost use Rattle.record_pages.specs.Asked.{HasNumbersOf};
+ghost use Rattle.record_pages.specs.Asked.{layout_pages};
+ghost use Rattle.record_pages.specs.Sizes.{IsPageSize};
 ghost use Rattle.record_pages.specs.Expiry.{timed};
 ghost use Rattle.mover.specs.Store.{opening};
-ghost use Rattle.mover.specs.Opening.{CanServe, RefusesStore};
 ghost use Rattle.mover.specs.Calls.{StoreGets, StorePuts, StoreRemoves, StoreFlushes, StoreMoves};
 ghost use Rattle.trace_file.specs.declared.act.Act.{Act};
 
@@ -15,12 +15,12 @@ use key_hash::RandomSeed;
 use klog::{Flushed, LogUsage};
 use memory_cache::found_is_held;
 use mover::{
-    Moved, OpenFault, Seen, Store, flush_shows, get_shows, opening_shows_nothing, put_shows,
-    removal_shows, whole_move_shows,
+    Moved, Seen, Store, flush_shows, get_shows, opening_shows_nothing, put_shows, removal_shows,
+    whole_move_shows,
 };
 use page_device::PageDevice;
 use policy_laws::EvictionPolicy;
-use record_pages::{Config, Key, Layout, Pushed, PutFault, Value};
+use record_pages::{Key, Layout, Pushed, PutFault, Value};
 use std::alloc::{AllocError, Global};
 use std::marker::Model;
 use std::snapshot::Snapshot;
@@ -55,21 +55,21 @@ impl<D: PageDevice<PAGE>, const PAGE: usize> AskedStore<D, PAGE> {
     ghost use Rattle.mover.specs.Get.{answer_of};
     ghost use Rattle.service_lane.specs.Asked.{IsServed, IsLiveHit, IsMiss};
 
-    /// An empty store of which nothing was asked, the table of whose memory hashes by this seed. Its refusals are those of
-    /// `Store::open`.
-    pub(crate) fn open(
+    /// An empty store of this layout, of which nothing was asked, the table of whose memory hashes by this seed. Nothing but
+    /// memory can be refused.
+    pub(crate) fn with_layout(
         alloc: Global,
-        config: &Config,
+        layout: &Layout,
         device: D,
         seed: RandomSeed,
-    ) -> Result<Self, OpenFault>
-        ensures opening { IfOk result (λ opened. HasNumbersOf opened.store.layout config.now
-            × (opened ≡ record { store = opening opened.store.layout device; deeds = [] })) }
-        ensures serves { OnOk result (CanServe PAGE config.now (D.page_count device)) }
-        ensures refused { IfErr result (RefusesStore PAGE config.now (D.page_count device)) }
+    ) -> Result<Self, AllocError>
+        requires page_size { IsPageSize PAGE }
+        requires room { layout_pages layout.now ≤ D.page_count device }
+        ensures { IfOk result (λ opened.
+            opened ≡ record { store = opening layout.now device; deeds = [] }) }
     {
         opening_shows_nothing();
-        let store = Store::with_seed(alloc, config, device, seed)?;
+        let store = Store::with_layout(alloc, layout, device, seed)?;
         Ok(AskedStore {
             store,
             trail: Trail::after(&Next::Opened),

@@ -1,7 +1,8 @@
 // A lane that serves.
 ghost use Rattle.std.specs.Prelude.{◌≡◌, ◌≤◌, [], replicate, length, IfOk, OnOk, IfErr};
 ghost use Rattle.klog.specs.Usage.{usage_of};
-ghost use Rattle.record_pages.specs.Asked.{HasNumbersOf};
+ghost use Rattle.record_pages.specs.Asked.{HasNumbersOf, layout_pages};
+ghost use Rattle.record_pages.specs.Sizes.{IsPageSize};
 ghost use Rattle.mover.specs.Store.{opening};
 ghost use Rattle.mover.specs.Opening.{CanServe};
 
@@ -11,10 +12,10 @@ use crate::open_lane_fault::OpenLaneFault;
 use crate::slots::Slots;
 use key_hash::RandomSeed;
 use klog::LogUsage;
-use mover::OpenFault;
+use mover::{OpenFault, Store};
 use page_device::PageDevice;
 use record_pages::{Config, Layout};
-use std::alloc::Global;
+use std::alloc::{AllocError, Global};
 use std::marker::Model;
 
 mod get;
@@ -87,10 +88,34 @@ impl<D: PageDevice<PAGE>, const PAGE: usize> ServiceLane<D, PAGE> {
         if lease_slots == 0 {
             return Err(OpenLaneFault::NoLeaseSlots);
         }
-        let asked = AskedStore::open(alloc, config, device, seed)?;
-        let Ok(slots) = Slots::open(alloc, lease_slots) else {
+        let layout = Store::layout_for(config, &device)?;
+        let Ok(lane) = Self::with_layout(alloc, &layout, lease_slots, device, seed) else {
             return Err(OpenLaneFault::Store(OpenFault::OutOfMemory));
         };
+        Ok(lane)
+    }
+
+    /// An empty lane of this layout with so many slots for leases, over a device that has its pages, as `open` makes it; or
+    /// `AllocError`, with which the device is dropped. Nothing is tested again.
+    pub fn with_layout(
+        alloc: Global,
+        layout: &Layout,
+        lease_slots: u32,
+        device: D,
+        seed: RandomSeed,
+    ) -> Result<Self, AllocError>
+        requires page_size { IsPageSize PAGE }
+        requires slots { 1 ≤ lease_slots }
+        requires room { layout_pages layout.now ≤ D.page_count device }
+        ensures { IfOk result (λ lane. lane ≡ record {
+          store = opening layout.now device;
+          deeds = [];
+          slots = replicate lease_slots 0;
+          counts = no_counts;
+        }) }
+    {
+        let asked = AskedStore::with_layout(alloc, layout, device, seed)?;
+        let slots = Slots::open(alloc, lease_slots)?;
         Ok(ServiceLane {
             asked,
             slots,

@@ -240,25 +240,79 @@ fn an_object_is_lost_and_counted_where_nobody_tends(rt: HostRuntime) -> Result<(
     Ok(())
 }
 
-// Why a lane is not opened, if it is not.
-fn fault_of(alloc: Global, config: &Config, slots: u32) -> Result<Option<OpenLaneFault>, Fail> {
-    match ServiceLane::<_, 256>::open(alloc, config, slots, device(alloc)?, RandomSeed::fixed()) {
-        Ok(_) => Ok(None),
-        Err(fault) => Ok(Some(fault)),
-    }
+/// An opening of a lane over so many pages, of 128 bytes or of 256, and why it is refused.
+#[derive(Clone, Copy)]
+struct Opening {
+    config: Config,
+    slots: u32,
+    is_narrow: bool,
+    pages: u32,
+    fault: Option<OpenLaneFault>,
+}
+
+const NO_SETS: Config = Config { sets: 0, ..ONE_SET };
+
+const OPENS: Opening = Opening {
+    config: ONE_SET,
+    slots: 1,
+    is_narrow: false,
+    pages: 3,
+    fault: None,
+};
+
+// Each refusal comes where all after it apply too; the last opening is not refused.
+const OPENINGS: [Opening; 5] = [
+    Opening {
+        config: NO_SETS,
+        slots: 0,
+        is_narrow: true,
+        pages: 2,
+        fault: Some(OpenLaneFault::NoLeaseSlots),
+    },
+    Opening {
+        config: NO_SETS,
+        is_narrow: true,
+        pages: 2,
+        fault: Some(OpenLaneFault::Store(OpenFault::ConfigFault { field: Field::Sets })),
+        ..OPENS
+    },
+    Opening {
+        is_narrow: true,
+        pages: 2,
+        fault: Some(OpenLaneFault::Store(OpenFault::WrongPage)),
+        ..OPENS
+    },
+    Opening {
+        pages: 2,
+        fault: Some(OpenLaneFault::Store(OpenFault::DeviceTooSmall)),
+        ..OPENS
+    },
+    OPENS,
+];
+
+// Why a lane of pages of this size is not opened so.
+fn fault<const PAGE: usize>(alloc: Global, row: &Opening) -> Result<Option<OpenLaneFault>, Fail> {
+    let device = MemoryDevice::<PAGE>::new(alloc, row.pages)?;
+    let opened = ServiceLane::open(alloc, &row.config, row.slots, device, RandomSeed::fixed());
+    Ok(opened.err())
+}
+
+fn is_refused_so(alloc: Global, row: &Opening) -> Result<bool, Fail> {
+    let fault = if row.is_narrow {
+        fault::<128>(alloc, row)?
+    } else {
+        fault::<256>(alloc, row)?
+    };
+    Ok(fault == row.fault)
 }
 
 #[test]
 fn a_lane_is_refused_with_no_slot_or_by_its_store(rt: HostRuntime) -> Result<(), Fail> {
-    let no_sets = Config { sets: 0, ..ONE_SET };
-    let field = OpenFault::ConfigFault { field: Field::Sets };
-    assert_eq!(rt;
-        fault_of(rt.alloc(), &no_sets, 0)?,
-        Some(OpenLaneFault::NoLeaseSlots)
-    );
-    assert_eq!(rt;
-        fault_of(rt.alloc(), &no_sets, 1)?,
-        Some(OpenLaneFault::Store(field))
-    );
+    for number in 0..OPENINGS.len() {
+        assert!(rt;
+            is_refused_so(rt.alloc(), &OPENINGS[number])?,
+            "opening {number}"
+        );
+    }
     Ok(())
 }

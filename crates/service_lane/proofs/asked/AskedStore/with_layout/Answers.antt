@@ -2,10 +2,10 @@
 use Rattle.std.proofs.Common.{subst, sym}
 use Rattle.service_lane.specs.Asked.{IsServed}
 use Rattle.service_lane.proofs.Serves.{served_opened}
-use Rattle.service_lane.proofs.asked.AskedStore.open.Goals as goal
+use Rattle.service_lane.proofs.asked.AskedStore.with_layout.Goals as goal
 
 pub invariant_of-result : goal.invariant_of-result
 invariant_of-result g c =
     let d = g.D.PageDevice in
-    let opened = served_opened d.honest d.held c.in_ok-store.store c.args.device c.opening_shows_nothing.ensures c.in_ok-store.ensures.opening.1 in
+    let opened = served_opened d.honest d.held c.in_ok-store.store c.args.layout.now c.args.device c.opening_shows_nothing.ensures c.in_ok-store.ensures in
     subst (λ t. IsServed d.honest d.held (record { store = c.in_ok-store.store; deeds = t })) (sym c.after.ensures) opened

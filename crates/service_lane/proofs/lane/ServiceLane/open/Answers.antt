@@ -1,8 +1,0 @@
--- What the slots of a new lane show: no write.
-use Rattle.std.proofs.Common.{ap}
-use Rattle.service_lane.proofs.Writing.{counted_opening}
-use Rattle.service_lane.proofs.lane.ServiceLane.open.Goals as goal
-
-pub invariant_of-result : goal.invariant_of-result
-invariant_of-result g c =
-    counted_opening c.args.lease_slots c.in_ok-asked.asked.deeds c.in-Ok.slots (ap (λ s. s.deeds) c.in_ok-asked.ensures.opening.1) c.in-Ok.ensures
