@@ -38,6 +38,7 @@ fn all_calls<D: PageDevice<256>, L: KeyLanes, J: Naming, R: Wait>(
 }
 
 // How often each tier was hit, how many steps were done in help, and how many in all, in all lanes.
+#[derive(Drop)]
 struct Totals {
     log: u64,
     set: u64,

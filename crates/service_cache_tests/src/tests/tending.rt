@@ -28,8 +28,8 @@ fn is_its_own<D: PageDevice<256>, L: KeyLanes, J: Naming, R: Wait>(
     cache: &Cache<D, L, J>,
     lane: u32,
 ) -> (bool, bool)
-    requires { lane < lanes_of cache.now }
-    requires { lane < 4 }
+    requires within { lane < lanes_of cache.now }
+    requires few { lane < 4 }
 {
     let mut wanted = steps_of(rt, cache);
     let was_due = cache.upkeep_step(rt, lane).did != Upkept::Idle;
