@@ -1,5 +1,5 @@
 //! Callers with seats: two threads call a cache, and whoever has seen what both have seen gets the latest value.
-ghost use Rattle.std.specs.Prelude.{[], ◌∷◌, IfSome, IsTrue, true};
+ghost use Rattle.std.specs.Prelude.{◌≡◌, [], ◌∷◌, IfSome, IsTrue, true};
 ghost use Rattle.certificate_checker.specs.Deeds.{Deed};
 ghost use Rattle.mover.specs.Get.{answer_of};
 ghost use Rattle.service_lane.specs.Asked.{IsLiveHit};

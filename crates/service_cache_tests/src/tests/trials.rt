@@ -1,4 +1,5 @@
 //! Caches that are opened with a book of their own, and what is tried of each.
+ghost use Rattle.std.specs.Prelude.{◌≡◌, length};
 ghost use Rattle.service_cache.specs.Sorted.{SortsBy};
 
 use super::calls::{each_is_found, fills_once, refuses_bytes, removes_at_large_puts};
