@@ -38,7 +38,7 @@ pub record Catches (lane_of : List ℕ → ℕ) (old : Registered) (seat_old : L
   pub seen : IsPrefix seat_old new.deeds
   pub part : part_of lane_of old.number new.deeds ≡ part_of lane_of old.number old.deeds
 
--- An entry: the same of the list before the write, which stands behind it.
+-- An entry: the same of the list before the write, which comes after it.
 pub record EntersIn (lane_of : List ℕ → ℕ) (old : Registered) (seat_old : List Deed) (write : Deed) (new : Registered) (seat_new : List Deed) : Type 0 where
   pub before : List Deed
   pub number : new.number ≡ old.number

@@ -1,9 +1,11 @@
 // A lane's register in a book.
-ghost use Rattle.std.specs.Prelude.{◌≡◌, ◌<◌, [], OnOk, OnErr};
+ghost use Rattle.std.specs.Prelude.{◌≡◌, ◌≤◌, ◌<◌, ◌^◌, ◌↔◌, [], length, Err, IfErr, OnOk, OnErr};
 ghost use mathlib.Core.List.{IsPrefix};
 ghost use Rattle.trace_file.specs.declared.act.Act.{Act};
 ghost use Rattle.deed_book.specs.Rules.{head_of};
+ghost use Rattle.deed_book.specs.Parts.{part_of};
 ghost use Rattle.deed_book.specs.Registers.{Catches, EntersIn};
+ghost use Rattle.deed_book.specs.declared.register.EntryFault.{EntryFault};
 
 use crate::entry::{Asks, Entry, Putting, Removing};
 use crate::lanes::{KeyLanes, Naming};
@@ -21,8 +23,8 @@ pub const MAX_WRITES: u64 = 1 << 62;
 /// Why a write is not entered, or a list is not known to the end.
 #[derive(Clone, Copy, Debug, PartialEq, Eq, Error)]
 pub enum EntryFault {
-    /// The word of the lane shows writes that the register did not enter. It never comes, since nobody else has the word; but
-    /// no proof says so.
+    /// The word of the lane shows writes that the register did not enter. It never comes, since only the register has the
+    /// word; but no proof says so. A seat of another book is no cause: its type is another.
     #[error("another register has entered writes of this lane")]
     Foreign,
     /// The lane has entered `MAX_WRITES`.
@@ -115,9 +117,11 @@ impl<L: KeyLanes, J: Naming> Register<L, J> {
         }
     }
 
-    /// Sees the list as it is, and so does the seat. The writes of its lane are those that it had seen, or it is refused.
+    /// Sees the list as it is, and so does the seat. The writes of its lane are those that it had seen, or it is refused as
+    /// `Foreign`.
     pub fn look(&mut self, seat: &mut Seat<L, J>) -> Result<(), EntryFault>
         ensures seen { OnOk result (Catches L.lane_of self.old seat.old self.new seat.new) }
+        ensures cause { IfErr result (λ fault. fault ≡ EntryFault.Foreign) }
         ensures refused { OnErr result ((self.new ≡ self.old) × (seat.new ≡ seat.old)) }
     {
         let mut seen = self.joined(seat);
@@ -131,10 +135,13 @@ impl<L: KeyLanes, J: Naming> Register<L, J> {
         Ok(())
     }
 
-    /// Enters a write of a key of its lane behind all that it and the seat have seen, and both have seen it then.
+    /// Enters a write of a key of its lane after all that it and the seat have seen, and both have seen it then. It is `Full`
+    /// exactly if the lane has entered `MAX_WRITES`.
     pub fn enter(&mut self, seat: &mut Seat<L, J>, mut entry: Entry<L>) -> Result<(), EntryFault>
         requires { L.lane_of entry.key ≡ self.old.number }
         ensures entered { OnOk result (EntersIn L.lane_of self.old seat.old entry self.new seat.new) }
+        ensures full { (result ≡ Err EntryFault.Full)
+            ↔ (2 ^ 62 ≤ length (part_of L.lane_of self.old.number self.old.deeds)) }
         ensures refused { OnErr result ((self.new ≡ self.old) × (seat.new ≡ seat.old)) }
     {
         let written = self.written;

@@ -1,2 +1,3 @@
 pub mod Latest
+pub mod Refusing
 pub mod Seating

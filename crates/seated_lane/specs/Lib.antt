@@ -1,1 +1,2 @@
+pub mod Refusals
 pub mod Seated

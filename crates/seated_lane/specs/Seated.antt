@@ -1,9 +1,7 @@
 -- A lane with its register in a book, and what its calls leave.
-use Rattle.std.specs.Prelude.{◌≡◌, ◌<◌, ◌⊎◌, ℕ, List, [], length, Option, None}
+use Rattle.std.specs.Prelude.{◌≡◌, ◌⊎◌, ℕ, List, Option, None}
 use Rattle.record_pages.specs.Expiry.{timed}
 use Rattle.record_pages.specs.declared.pushed.Pushed.{Pushed}
-use Rattle.record_pages.specs.declared.key.KeyFault.{KeyFault}
-use Rattle.record_pages.specs.declared.key.KeyFault.TheVariants as keys
 use Rattle.trace_file.specs.declared.act.Act.TheVariants.{Put}
 use Rattle.certificate_checker.specs.Deeds.{Deed}
 use Rattle.certificate_checker.specs.Current.{current}
@@ -27,17 +25,6 @@ abbrev pub IsSeated : (List ℕ → ℕ) → Registered → List Deed → Type 0
 IsSeated lane_of register deeds =
     (key : List ℕ) → lane_of key ≡ register.number → (current deeds key ≡ None) ⊎ (current deeds key ≡ current register.deeds key)
 
--- when bytes are refused that are no key's
-abbrev pub RefusesBytes : List ℕ → KeyFault → Type 0
-RefusesBytes key keys.KeyEmpty = key ≡ []
-RefusesBytes key keys.KeyTooLong = 255 < length key
-RefusesBytes key keys.OutOfMemory = ⊥
-
--- when a get or a removal is refused; of the book nothing is said
-abbrev pub RefusesCall : List ℕ → SeatFault → Type 0
-RefusesCall key (refusals.Key fault) = RefusesBytes key fault
-RefusesCall key (refusals.Book fault) = Unit {0}
-
 -- the put of a value with its expiry
 abbrev pub put_of : List ℕ → List ℕ → ℕ → Deed
 put_of key value expires = record { key = key; act = Put value expires }
@@ -46,18 +33,22 @@ put_of key value expires = record { key = key; act = Put value expires }
 abbrev pub StayAsTheyWere : {D : Type 0} → Seated D → List Deed → Seated D → List Deed → Type 0
 StayAsTheyWere old seat_old new seat_new = (new ≡ old) × (seat_new ≡ seat_old)
 
--- What a put leaves that was refused. Where the store refused it, it is entered, and its key removed.
+-- the key was removed from the lane, and nothing is entered in the list
+abbrev pub IsForgotten : {D : Type 0} → (D → ℕ → Option (List ℕ)) → List ℕ → Seated D → List Deed → Seated D → List Deed → Type 0
+IsForgotten held key old seat_old new seat_new =
+    Removes held key old.serving new.serving × (new.register ≡ old.register) × (seat_new ≡ seat_old)
+
+-- What a put leaves that was refused: its key is removed. Where the store refused it, it is entered.
 abbrev pub PutLeaves : {D : Type 0} → (D → ℕ → Option (List ℕ)) → (List ℕ → ℕ) → List ℕ → List ℕ → ℕ → SeatPutFault → Seated D → List Deed → Seated D → List Deed → Type 0
 PutLeaves held lane_of key value expires (put_refusals.Put fault) old seat_old new seat_new =
     EntersIn lane_of old.register seat_old (put_of key value expires) new.register seat_new
     × Removes held key (record old.serving { counts = record old.serving.counts { puts = with_refused fault old.serving.counts.puts } }) new.serving
-PutLeaves held lane_of key value expires (put_refusals.Book fault) old seat_old new seat_new = StayAsTheyWere old seat_old new seat_new
+PutLeaves held lane_of key value expires (put_refusals.Book fault) old seat_old new seat_new = IsForgotten held key old seat_old new seat_new
 
 -- What a removal leaves that was refused. Where the book refused it, the key is removed.
 abbrev pub RemovalLeaves : {D : Type 0} → (D → ℕ → Option (List ℕ)) → List ℕ → SeatFault → Seated D → List Deed → Seated D → List Deed → Type 0
 RemovalLeaves held key (refusals.Key fault) old seat_old new seat_new = StayAsTheyWere old seat_old new seat_new
-RemovalLeaves held key (refusals.Book fault) old seat_old new seat_new =
-    Removes held key old.serving new.serving × (new.register ≡ old.register) × (seat_new ≡ seat_old)
+RemovalLeaves held key (refusals.Book fault) old seat_old new seat_new = IsForgotten held key old seat_old new seat_new
 
 -- what a fill does to list and seat: where it is stale, nothing
 abbrev pub FillEnters : (List ℕ → ℕ) → Deed → Filled → Registered → List Deed → Registered → List Deed → Type 0

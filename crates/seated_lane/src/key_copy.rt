@@ -1,5 +1,6 @@
 // A copy of a key.
-ghost use Rattle.std.specs.Prelude.{◌≡◌, ◌<◌, ◌≤◌, length};
+ghost use Rattle.std.specs.Prelude.{◌≡◌};
+ghost use Rattle.record_pages.specs.Bounded.{IsKey};
 
 use record_pages::Key;
 use std::marker::Model;
@@ -36,8 +37,7 @@ impl KeyCopy {
     /// The bytes of the key, in order.
     pub(crate) fn bytes(&self) -> &[u8]
         ensures bytes { result.now ≡ self.now }
-        ensures some { 0 < length result.now }
-        ensures few { length result.now ≤ 255 }
+        ensures range { IsKey result.now }
     {
         &self.room[..self.len]
     }

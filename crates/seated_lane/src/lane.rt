@@ -65,7 +65,7 @@ impl<D: PageDevice<PAGE>, const PAGE: usize, L: KeyLanes, J: Naming> SeatedLane<
         self.register.seat()
     }
 
-    /// How often what was done since the lane was opened.
+    /// Counts of what the lane has done since it was opened.
     pub fn counts(&self) -> Counts
         ensures { result ≡ self.now.serving.counts }
     {
@@ -84,6 +84,13 @@ impl<D: PageDevice<PAGE>, const PAGE: usize, L: KeyLanes, J: Naming> SeatedLane<
         ensures { result ≡ length self.now.serving.store.memory.pairs }
     {
         self.lane.memory_len()
+    }
+
+    /// The device.
+    pub fn device(&self) -> &D
+        ensures { result.now ≡ self.now.serving.store.device }
+    {
+        self.lane.device()
     }
 
     /// The numbers that the lane was opened with.

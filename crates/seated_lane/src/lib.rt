@@ -1,5 +1,5 @@
-//! A lane that serves, whose contracts speak of hits through a lock: each caller has a seat, which says what he has seen of one list of
-//! all writes. The list is there in proofs alone.
+//! A lane that serves, whose contracts speak of hits through a lock: each caller has a seat, which says what its caller has seen of one
+//! list of all writes. The list exists only in proofs.
 #![tactic(auto)]
 
 mod key_copy;

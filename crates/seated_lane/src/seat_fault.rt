@@ -2,9 +2,10 @@
 ghost use Rattle.std.specs.Prelude.{◌≡◌};
 ghost use Rattle.seated_lane.specs.declared.seat_fault.SeatFault.TheVariants as seat_faults;
 ghost use Rattle.seated_lane.specs.declared.seat_fault.SeatPutFault.TheVariants as put_faults;
+ghost use Rattle.seated_lane.specs.Refusals.{RefusesGet, RefusesRemoval};
 
 use deed_book::EntryFault;
-use record_pages::{KeyFault, PutFault};
+use record_pages::{Key, KeyFault, PutFault};
 use thiserror::Error;
 
 /// Why a get or a removal with a seat is refused.
@@ -13,9 +14,26 @@ pub enum SeatFault {
     /// The bytes are no key's.
     #[error("{0}")]
     Key(KeyFault),
-    /// The book is another than the lane knew, or full. It never comes where one cache has the book.
+    /// The lane's word shows another's writes, or has no room for more. It never comes while only one cache has the book.
     #[error("{0}")]
     Book(EntryFault),
+}
+
+impl SeatFault {
+    /// Why a call of these bytes is refused whose lane shows writes of another register: what the bytes are refused for comes
+    /// first.
+    pub fn foreign(key: &[u8]) -> SeatFault
+        ensures get { RefusesGet key.now result }
+        ensures removal { RefusesRemoval key.now result }
+    {
+        if key.is_empty() {
+            return SeatFault::Key(KeyFault::KeyEmpty);
+        }
+        if key.len() > Key::MAX_LEN {
+            return SeatFault::Key(KeyFault::KeyTooLong);
+        }
+        SeatFault::Book(EntryFault::Foreign)
+    }
 }
 
 /// Why a put or a fill with a seat is refused.
@@ -24,7 +42,7 @@ pub enum SeatPutFault {
     /// The store refused the object.
     #[error("{0}")]
     Put(PutFault),
-    /// The book is another than the lane knew, or full. It never comes where one cache has the book.
+    /// The lane's word shows another's writes, or has no room for more. It never comes while only one cache has the book.
     #[error("{0}")]
     Book(EntryFault),
 }

@@ -1,9 +1,9 @@
 -- What a caller knows of its keys: a word for each, 0 where the key has no value, and else 1 more than the number of the operation
 -- that put it.
 use Rattle.std.specs.Prelude.{◌≡◌, ◌≢◌, ℕ, ◌+◌, ◌-◌, ◌<◌, ◌⊎◌, List, Result, Ok, Err, slice_set}
-use Rattle.record_pages.specs.declared.put_fault.PutFault.{PutFault}
 use Rattle.service_lane.specs.declared.filled.Filled.{Filled}
 use Rattle.service_lane.specs.declared.filled.Filled.TheVariants.{Stored, Stale}
+use Rattle.seated_lane.specs.declared.seat_fault.SeatPutFault.{SeatPutFault}
 use Rattle.load.specs.declared.served_load.ServedLoad.{ServedLoad}
 use Rattle.load.specs.declared.served_operation.ServedOperation.{ServedOperation}
 use Rattle.load.specs.declared.served_operation.ServedOperation.TheVariants.{Get, Put, Remove}
@@ -24,13 +24,13 @@ JudgesHit load key known moment bytes Refused = ⊥
 JudgesHit load key known moment bytes WrongHit = ¬ IsRight load key known moment bytes
 
 -- a fill that was stored is the key's value; one that was stale or refused changes nothing
-abbrev pub word_after_fill : Result Filled PutFault → ℕ → ℕ → ℕ
+abbrev pub word_after_fill : Result Filled SeatPutFault → ℕ → ℕ → ℕ
 word_after_fill (Ok (Stored pushed)) known number = number + 1
 word_after_fill (Ok Stale) known number = known
 word_after_fill (Err fault) known number = known
 
 -- how a fill went
-abbrev pub step_of_fill : Result Filled PutFault → Step
+abbrev pub step_of_fill : Result Filled SeatPutFault → Step
 step_of_fill (Ok filled) = Done
 step_of_fill (Err fault) = Refused
 

@@ -4,7 +4,7 @@ ghost use Rattle.serve_load.specs.Wanting.{RefusesSize};
 
 use crate::sized::sized_shape;
 use cache_sizes::SizeFault;
-use load::{ServedLoad, pages_of};
+use load::ServedLoad;
 use record_pages::Layout;
 
 /// What a load's cache is made of.
@@ -61,6 +61,6 @@ impl CacheShape {
         ensures { result ≡ self.now.layout.sets
             + self.now.layout.segments * self.now.layout.segment_pages }
     {
-        pages_of(&self.layout)
+        self.layout.pages()
     }
 }

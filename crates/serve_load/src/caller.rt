@@ -11,6 +11,7 @@ use crate::call_times::{CallTimes, TIMED};
 use crate::objects::{expires_of, key, key_bytes, moment_of, value};
 use crate::right::is_right;
 use crate::words::{Step, step_of_fill, word_after_fill};
+use deed_book::{KeyLanes, Naming, Seat};
 use load::{ServedLoad, ServedOperation};
 use mover::Seen;
 use page_device::PageDevice;
@@ -25,10 +26,11 @@ use std::sync::atomic::{AtomicU64, Ordering};
 use std::time::{Clock, Instant};
 use value_buffer::ValueBuffer;
 
-/// A caller: its number, the generator of its random words, and what it knows of its keys, a word for each.
+/// A caller: its number, its seat, the generator of its random words, and what it knows of its keys, a word for each.
 #[derive(Drop)]
-pub(crate) struct Caller {
+pub(crate) struct Caller<L: KeyLanes, J: Naming> {
     pub(crate) number: u16,
+    pub(crate) seat: Seat<L, J>,
     pub(crate) generator: Lcg64Xsh32,
     pub(crate) words: Vec<u32>,
 }
@@ -46,13 +48,19 @@ pub(crate) struct Tally {
     pub(crate) times: Option<CallTimes>,
 }
 
-impl Caller {
-    /// The caller with this number, whose keys have no values.
-    pub(crate) fn new(alloc: Global, load: &ServedLoad, number: u16) -> Result<Caller, AllocError>
+impl<L: KeyLanes, J: Naming> Caller<L, J> {
+    /// The caller with this number and this seat, whose keys have no values.
+    pub(crate) fn new(
+        alloc: Global,
+        load: &ServedLoad,
+        number: u16,
+        seat: Seat<L, J>,
+    ) -> Result<Caller<L, J>, AllocError>
         ensures { IfOk result (λ caller. length caller.words.items ≡ load.now.keys) }
     {
         Ok(Caller {
             number,
+            seat,
             generator: Lcg64Xsh32::new(u64::from(load.seed), u64::from(number)),
             words: vec![in alloc; 0u32; load.keys as usize]?,
         })
@@ -69,7 +77,7 @@ impl Caller {
         mut self,
         rt: &R,
         alloc: Global,
-        cache: &ServiceCache<D, P, PAGE>,
+        cache: &ServiceCache<D, P, PAGE, L, J>,
         load: &ServedLoad,
         made: &AtomicU64,
         halted: &AtomicU64,
@@ -125,7 +133,7 @@ impl Caller {
         &mut self,
         rt: &R,
         alloc: Global,
-        cache: &ServiceCache<D, P, PAGE>,
+        cache: &ServiceCache<D, P, PAGE, L, J>,
         load: &ServedLoad,
         number: u32,
         times: &mut CallTimes,
@@ -157,7 +165,7 @@ impl Caller {
         &mut self,
         rt: &R,
         alloc: Global,
-        cache: &ServiceCache<D, P, PAGE>,
+        cache: &ServiceCache<D, P, PAGE, L, J>,
         load: &ServedLoad,
         operation: ServedOperation,
         number: u32,
@@ -185,7 +193,7 @@ impl Caller {
         &mut self,
         rt: &R,
         alloc: Global,
-        cache: &ServiceCache<D, P, PAGE>,
+        cache: &ServiceCache<D, P, PAGE, L, J>,
         load: &ServedLoad,
         operation: ServedOperation,
         number: u32,
@@ -212,18 +220,21 @@ impl Caller {
 
     /// Looks a key up, and says whether a hit was right.
     fn get<D: PageDevice<PAGE>, P: EvictionPolicy + Drop, const PAGE: usize, R: Wait>(
-        &self,
+        &mut self,
         rt: &R,
-        cache: &ServiceCache<D, P, PAGE>,
+        cache: &ServiceCache<D, P, PAGE, L, J>,
         load: &ServedLoad,
         key: u32,
         number: u32,
         found: &mut ValueBuffer,
     ) -> Step
-        requires { key < length self.now.words.items }
+        requires { key < length self.old.words.items }
+        ensures words { self.new.words ≡ self.old.words }
+        ensures generator { self.new.generator ≡ self.old.generator }
     {
         let moment = moment_of(load, number);
-        match cache.get(rt, &key_bytes(self.number, key), moment, found) {
+        let name = key_bytes(self.number, key);
+        match cache.get(rt, &mut self.seat, &name, moment, found) {
             Ok(Seen::Hit(_)) => self.step_of_hit(load, key, moment, found.bytes()),
             Ok(Seen::Miss(_)) => Step::Done,
             Err(_) => Step::Refused,
@@ -235,7 +246,7 @@ impl Caller {
         &mut self,
         rt: &R,
         alloc: Global,
-        cache: &ServiceCache<D, P, PAGE>,
+        cache: &ServiceCache<D, P, PAGE, L, J>,
         load: &ServedLoad,
         key: u32,
         number: u32,
@@ -247,7 +258,8 @@ impl Caller {
         ensures generator { self.new.generator ≡ self.old.generator }
     {
         let moment = moment_of(load, number);
-        match cache.get_or_lease(rt, &key_bytes(self.number, key), moment, found) {
+        let name = key_bytes(self.number, key);
+        match cache.get_or_lease(rt, &mut self.seat, &name, moment, found) {
             Ok(LookedUp::Hit(_)) => self.step_of_hit(load, key, moment, found.bytes()),
             Ok(LookedUp::Miss(_, lease)) => self.fill(rt, alloc, cache, load, lease, key, number),
             Err(_) => Step::Refused,
@@ -271,7 +283,7 @@ impl Caller {
         &mut self,
         rt: &R,
         alloc: Global,
-        cache: &ServiceCache<D, P, PAGE>,
+        cache: &ServiceCache<D, P, PAGE, L, J>,
         load: &ServedLoad,
         lease: Lease,
         key: u32,
@@ -285,18 +297,25 @@ impl Caller {
         let Ok((name, value)) = object(alloc, load, self.number, key, number) else {
             return Step::Refused;
         };
-        let filled = cache.fill(rt, lease, name, value, expires_of(load, number));
+        let filled = cache.fill(
+            rt,
+            &mut self.seat,
+            lease,
+            name,
+            value,
+            expires_of(load, number),
+        );
         let known = &mut self.words[key as usize];
         *known = word_after_fill(filled, *known, number);
         step_of_fill(filled)
     }
 
-    /// Puts the value of the operation with this number, or removes the key where that is refused.
+    /// Puts the value of the operation with this number. A put that is refused removes the key.
     fn put<D: PageDevice<PAGE>, P: EvictionPolicy + Drop, const PAGE: usize, R: Wait>(
         &mut self,
         rt: &R,
         alloc: Global,
-        cache: &ServiceCache<D, P, PAGE>,
+        cache: &ServiceCache<D, P, PAGE, L, J>,
         load: &ServedLoad,
         key: u32,
         number: u32,
@@ -310,7 +329,7 @@ impl Caller {
             let _removed = self.remove(rt, cache, key);
             return Step::Refused;
         };
-        match cache.put_or_remove(rt, name, value, expires_of(load, number)) {
+        match cache.put(rt, &mut self.seat, name, value, expires_of(load, number)) {
             Ok(_) => {
                 self.words[key as usize] = number + 1;
                 Step::Done
@@ -326,14 +345,15 @@ impl Caller {
     fn remove<D: PageDevice<PAGE>, P: EvictionPolicy + Drop, const PAGE: usize, R: Wait>(
         &mut self,
         rt: &R,
-        cache: &ServiceCache<D, P, PAGE>,
+        cache: &ServiceCache<D, P, PAGE, L, J>,
         key: u32,
     ) -> Step
         requires { key < length self.old.words.items }
         ensures words { Sets self.old.words.items self.new.words.items key 0 }
         ensures generator { self.new.generator ≡ self.old.generator }
     {
-        let removed = cache.remove(rt, &key_bytes(self.number, key));
+        let name = key_bytes(self.number, key);
+        let removed = cache.remove(rt, &mut self.seat, &name);
         self.words[key as usize] = 0;
         match removed {
             Ok(()) => Step::Done,

@@ -1,5 +1,6 @@
 // What failed of a load, where the system did.
 use file_device::FileOpenFault;
+use service_cache::OpenServiceFault;
 use std::io;
 use std::io::Write;
 
@@ -8,6 +9,8 @@ use std::io::Write;
 pub(crate) enum Cause {
     /// The file of a lane's device, of this name, was not opened, for this reason.
     Device(String, FileOpenFault),
+    /// The cache was not opened over the devices of its lanes, for this reason, which is not want of memory.
+    Cache(OpenServiceFault),
     /// The output did not take the report.
     Output,
     /// The system gave no random numbers, for this reason.
@@ -25,6 +28,7 @@ impl Cause {
                 "{}: {fault}\ncheck the folder that --device names: each lane has a file there\n",
                 path.as_str()
             ),
+            Cause::Cache(fault) => write!(err, "the cache: {fault}\n"),
             Cause::Output => write!(
                 err,
                 "standard output: the report was not written whole: check that it is open and has room\n"

@@ -6,6 +6,7 @@ use crate::caller::{Caller, Tally};
 use crate::worker::work;
 use call_watch::watch;
 use crossbeam_channel::Sender;
+use deed_book::{KeyLanes, Naming};
 use load::ServedLoad;
 use page_device::PageDevice;
 use policy_laws::EvictionPolicy;
@@ -25,14 +26,16 @@ pub(crate) fn run_crew<
     D: PageDevice<PAGE> + Send,
     P: EvictionPolicy + Drop + Sync,
     const PAGE: usize,
+    L: KeyLanes + Send + Sync,
+    J: Naming + Send + Sync,
     R: Threads + Wait + Sync + Clock,
     E: Write + IsTerminal,
 >(
     rt: &R,
     alloc: Global,
-    cache: &ServiceCache<D, P, PAGE>,
+    cache: &ServiceCache<D, P, PAGE, L, J>,
     load: &ServedLoad,
-    mut callers: Vec<Caller>,
+    mut callers: Vec<Caller<L, J>>,
     to: &Sender<Tally>,
     err: &mut E,
 )

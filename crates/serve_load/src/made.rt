@@ -14,6 +14,7 @@ use crate::report::Report;
 use crate::serve_end::ServeEnd;
 use crate::totals::sum_of;
 use crossbeam_channel::{Receiver, bounded};
+use deed_book::{KeyLanes, Naming, Seat};
 use load::ServedLoad;
 use page_device::PageDevice;
 use policy_laws::EvictionPolicy;
@@ -42,20 +43,22 @@ pub(crate) fn make<
     D: PageDevice<PAGE> + Send,
     P: EvictionPolicy + Drop + Sync,
     const PAGE: usize,
+    L: KeyLanes + Send + Sync,
+    J: Naming + Send + Sync,
     R: Threads + Wait + Sync + Clock,
     E: Write + IsTerminal,
 >(
     rt: &R,
     alloc: Global,
     load: &ServedLoad,
-    cache: &ServiceCache<D, P, PAGE>,
+    cache: &ServiceCache<D, P, PAGE, L, J>,
     err: &mut E,
 ) -> Result<Report, Ended>
     requires { 0 < lanes_of cache.now }
     ensures made { IfOk result (λ report. IsMade load.now report) }
     ensures refused { IfErr result (λ ended. IsFailure ended.end) }
 {
-    let Ok(callers) = callers_of(alloc, load) else {
+    let Ok(callers) = callers_of(alloc, load, cache.seat()) else {
         return Err(Ended::plain(ServeEnd::OutOfMemory));
     };
     let Ok((to, from)) = bounded::<Tally, _>(alloc, load.callers as usize) else {
@@ -79,14 +82,18 @@ pub(crate) fn make<
     Ok(report_of(rt, cache, &sums, milliseconds))
 }
 
-/// The callers of a load.
-fn callers_of(alloc: Global, load: &ServedLoad) -> Result<Vec<Caller>, AllocError>
+/// The callers of a load, each with a copy of this seat.
+fn callers_of<L: KeyLanes, J: Naming>(
+    alloc: Global,
+    load: &ServedLoad,
+    seat: Seat<L, J>,
+) -> Result<Vec<Caller<L, J>>, AllocError>
     ensures { IfOk result (λ callers.
         All (λ c. length c.words.items ≡ load.now.keys) callers.items) }
 {
     let mut callers = Vec::with_capacity(alloc, load.callers as usize)?;
     for number in 0..load.callers {
-        callers.push(Caller::new(alloc, load, number as u16)?)?;
+        callers.push(Caller::new(alloc, load, number as u16, seat.again())?)?;
     }
     Ok(callers)
 }
@@ -127,12 +134,14 @@ fn sums_of<R: Wait>(
 }
 
 /// The report on what the callers did together in so many milliseconds, with the counters of all lanes of their cache.
-fn report_of<D: PageDevice<PAGE>, P: EvictionPolicy + Drop, const PAGE: usize, R: Wait>(
-    rt: &R,
-    cache: &ServiceCache<D, P, PAGE>,
-    sums: &Sums,
-    milliseconds: u64,
-) -> Report
+fn report_of<
+    D: PageDevice<PAGE>,
+    P: EvictionPolicy + Drop,
+    const PAGE: usize,
+    L: KeyLanes,
+    J: Naming,
+    R: Wait,
+>(rt: &R, cache: &ServiceCache<D, P, PAGE, L, J>, sums: &Sums, milliseconds: u64) -> Report
     requires operations { sums.now.operations ≤ 64000000000 }
     requires lanes { 0 < lanes_of cache.now }
     ensures operations { result.operations ≡ sums.now.operations }

@@ -1,6 +1,8 @@
 // A load, from what it is asked for to its status.
-ghost use Rattle.std.specs.Prelude.{◌≡◌, ◌≢◌, ◌↔◌, ◌⊎◌, ◌<◌, ◌+◌, IfErr, IfOk};
+ghost use Rattle.std.specs.Prelude.{◌≡◌, ◌≢◌, ◌↔◌, ◌⊎◌, ◌<◌, ◌+◌, IfErr, IfOk, length};
 ghost use Rattle.service_cache.specs.Serving.{lanes_of};
+ghost use Rattle.service_cache.specs.Sorted.{SortsBy};
+ghost use Rattle.serve_load.specs.Reports.{IsMade};
 ghost use Rattle.serve_load.specs.Ends.{IsFailure, status_of};
 ghost use Rattle.figures.specs.Figures.{form_of};
 ghost use Rattle.serve_load.specs.Serving.{IsServed, IsServedOver, IsSaid, IsRefusedFirst, WroteReport};
@@ -11,17 +13,19 @@ use crate::ended::Ended;
 use crate::made::make;
 use crate::report::Report;
 use crate::serve_end::ServeEnd;
+use deed_book::{KeyLanes, NamedBook, Naming, NewBook};
 use figures::Form;
 use file_device::FileDevice;
 use key_hash::RandomSeed;
 use lane_files::{LaneFileFault, lanes_in_files, lanes_in_memory, taken_places};
-use load::{FileName, ServedLoad, config_of};
+use load::{FileName, ServedLoad};
 use page_device::PageDevice;
 use rriparoo::Rriparoo;
-use service_cache::ServiceCache;
-use std::alloc::{AllocError, Global};
+use service_cache::{OpenServiceFault, ServiceCache};
+use std::alloc::Global;
 use std::fs::File;
 use std::io::{IsTerminal, Write};
+use std::marker::Brand;
 use std::random::RandomSource;
 use std::rt::Files;
 use std::sync::Wait;
@@ -32,7 +36,7 @@ use std::time::Clock;
 const PAGE: usize = 4096;
 
 /// The cache of a load over such devices.
-type Cache<D> = ServiceCache<D, Rriparoo, PAGE>;
+type Cache<D, L, J> = ServiceCache<D, Rriparoo, PAGE, L, J>;
 
 /// Runs a load of a cache that serves, and answers the status that the program ends with.
 ///
@@ -134,39 +138,93 @@ fn over<
         Ok(seed) => seed,
         Err(error) => return Ended::failed(Cause::Random(error)),
     };
-    let Ok(cache) = open(rt.alloc(), shape, devices, seed) else {
-        return Ended::plain(ServeEnd::OutOfMemory);
-    };
-    match make(rt, rt.alloc(), load, &cache, err) {
+    match sorted::<Brand, D, R, E>(rt, load, shape, devices, seed, err) {
         Ok(report) => write_report(rt.alloc(), load, &report, out),
         Err(ended) => ended,
+    }
+}
+
+/// Opens a book for the lanes of these devices, among which the seed sorts the keys, and runs a load over them.
+fn sorted<
+    L: KeyLanes + Send + Sync,
+    D: PageDevice<PAGE> + Send,
+    R: Threads + Wait + Sync + AllocGlobal + Clock,
+    E: Write + IsTerminal,
+>(
+    rt: &R,
+    load: &ServedLoad,
+    shape: &CacheShape,
+    devices: Vec<D>,
+    seed: RandomSeed,
+    err: &mut E,
+) -> Result<Report, Ended>
+    requires { SortsBy L.lanes L.lane_of seed (length devices.items) }
+    ensures made { IfOk result (λ report. IsMade load.now report) }
+    ensures refused { IfErr result (λ ended. IsFailure ended.end) }
+{
+    let book = NewBook::<L>::open(devices.len());
+    match booked::<L, Brand, D, R, E>(rt, load, shape, devices, seed, book, err) {
+        Ok(report) => Ok(report),
+        Err(ended) => Err(ended),
+    }
+}
+
+/// Runs a load over devices, with a book for their lanes.
+fn booked<
+    L: KeyLanes + Send + Sync,
+    J: Naming + Send + Sync,
+    D: PageDevice<PAGE> + Send,
+    R: Threads + Wait + Sync + AllocGlobal + Clock,
+    E: Write + IsTerminal,
+>(
+    rt: &R,
+    load: &ServedLoad,
+    shape: &CacheShape,
+    devices: Vec<D>,
+    seed: RandomSeed,
+    book: NewBook<L>,
+    err: &mut E,
+) -> Result<Report, Ended>
+    requires sorted { SortsBy L.lanes L.lane_of seed (length devices.items) }
+    requires book { book ≡ J.book }
+    ensures made { IfOk result (λ report. IsMade load.now report) }
+    ensures refused { IfErr result (λ ended. IsFailure ended.end) }
+{
+    let cache = open(rt.alloc(), shape, devices, seed, book.named::<J>())?;
+    match make(rt, rt.alloc(), load, &cache, err) {
+        Ok(report) => Ok(report),
+        Err(ended) => Err(ended),
     }
 }
 
 ghost use Rattle.serve_load.specs.Serving.{IsLate};
 
 /// A cache of a shape over its devices.
-fn open<D: PageDevice<PAGE>>(
+fn open<D: PageDevice<PAGE>, L: KeyLanes, J: Naming>(
     alloc: Global,
     shape: &CacheShape,
     devices: Vec<D>,
     seed: RandomSeed,
-) -> Result<Cache<D>, AllocError>
-    ensures { IfOk result (λ cache. 0 < lanes_of cache) }
+    book: NamedBook<L, J>,
+) -> Result<Cache<D, L, J>, Ended>
+    requires first { book ≡ 0 }
+    requires sorted { SortsBy L.lanes L.lane_of seed (length devices.items) }
+    ensures lanes { IfOk result (λ cache. 0 < lanes_of cache) }
+    ensures refused { IfErr result (λ ended. IsFailure ended.end) }
 {
-    match ServiceCache::open(
+    match Cache::<D, L, J>::with_layout(
         alloc,
-        &config_of(&shape.layout),
+        &shape.layout,
         shape.shards,
         shape.lease_slots,
         devices,
         Rriparoo,
         seed,
+        book,
     ) {
         Ok(cache) => Ok(cache),
-        // The numbers of a shape are in their ranges, and there is a device for each lane with pages enough, so nothing but
-        // memory is refused.
-        Err(_) => Err(AllocError),
+        Err(OpenServiceFault::OutOfMemory) => Err(Ended::plain(ServeEnd::OutOfMemory)),
+        Err(fault) => Err(Ended::failed(Cause::Cache(fault))),
     }
 }
 

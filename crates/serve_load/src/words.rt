@@ -2,7 +2,7 @@
 ghost use Rattle.std.specs.Prelude.{◌≡◌, ◌<◌};
 ghost use Rattle.serve_load.specs.Words.{step_of_fill, word_after_fill};
 
-use record_pages::PutFault;
+use seated_lane::SeatPutFault;
 use service_lane::Filled;
 
 /// How a call of a caller went.
@@ -19,7 +19,7 @@ pub(crate) enum Step {
 /// What a caller knows of a key behind its fill in the operation with this number, where it knew this before.
 ///
 /// A word of a key is 0 where the key has no value, and else 1 more than the number of the operation that put it.
-pub(crate) fn word_after_fill(filled: Result<Filled, PutFault>, known: u32, number: u32) -> u32
+pub(crate) fn word_after_fill(filled: Result<Filled, SeatPutFault>, known: u32, number: u32) -> u32
     requires { number < 4294967295 }
     ensures { result ≡ word_after_fill filled known number }
 {
@@ -30,7 +30,7 @@ pub(crate) fn word_after_fill(filled: Result<Filled, PutFault>, known: u32, numb
 }
 
 /// How a fill went.
-pub(crate) fn step_of_fill(filled: Result<Filled, PutFault>) -> Step
+pub(crate) fn step_of_fill(filled: Result<Filled, SeatPutFault>) -> Step
     ensures { result ≡ step_of_fill filled }
 {
     match filled {

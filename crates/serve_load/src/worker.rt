@@ -2,6 +2,7 @@
 ghost use Rattle.std.specs.Prelude.{◌≡◌, ◌<◌, ◌+◌, ◌%◌};
 ghost use Rattle.service_cache.specs.Serving.{lanes_of};
 
+use deed_book::{KeyLanes, Naming};
 use page_device::PageDevice;
 use policy_laws::EvictionPolicy;
 use service_cache::ServiceCache;
@@ -18,12 +19,14 @@ const STEPS: u32 = 16;
 
 /// Does the upkeep of each lane in turn, beginning with the one of the worker's number, until all callers ended. Where there was
 /// nothing to do in as many lanes as there are, one after the other, it leaves their locks alone for a while.
-pub(crate) fn work<D: PageDevice<PAGE>, P: EvictionPolicy + Drop, const PAGE: usize, R: Wait>(
-    rt: &R,
-    cache: &ServiceCache<D, P, PAGE>,
-    worker: u32,
-    running: &AtomicU64,
-)
+pub(crate) fn work<
+    D: PageDevice<PAGE>,
+    P: EvictionPolicy + Drop,
+    const PAGE: usize,
+    L: KeyLanes,
+    J: Naming,
+    R: Wait,
+>(rt: &R, cache: &ServiceCache<D, P, PAGE, L, J>, worker: u32, running: &AtomicU64)
     requires { 0 < lanes_of cache.now }
 {
     let lanes = cache.lanes();
@@ -57,11 +60,14 @@ fn lane_after(lane: u32, lanes: u32) -> u32
 }
 
 /// Does what is due in a lane, up to so many steps, or to one that is refused memory. Whether a step was done.
-fn tend<D: PageDevice<PAGE>, P: EvictionPolicy + Drop, const PAGE: usize, R: Wait>(
-    rt: &R,
-    cache: &ServiceCache<D, P, PAGE>,
-    lane: u32,
-) -> bool
+fn tend<
+    D: PageDevice<PAGE>,
+    P: EvictionPolicy + Drop,
+    const PAGE: usize,
+    L: KeyLanes,
+    J: Naming,
+    R: Wait,
+>(rt: &R, cache: &ServiceCache<D, P, PAGE, L, J>, lane: u32) -> bool
     requires { lane < lanes_of cache.now }
 {
     let mut tended = false;

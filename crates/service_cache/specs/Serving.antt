@@ -1,13 +1,11 @@
 -- A cache that serves, as contracts see it, and when one is opened.
-use Rattle.std.specs.Prelude.{◌≡◌, ◌≢◌, ℕ, ◌*◌, ◌≤◌, List, length, Any, Some, None}
+use Rattle.std.specs.Prelude.{◌≡◌, ◌≢◌, ℕ, ◌+◌, ◌*◌, ◌<◌, ◌≤◌, List, length, Any, Some, None}
 use Rattle.record_pages.specs.Sizes.{IsPageSize}
 use Rattle.record_pages.specs.Table.{first_faulty}
+use Rattle.record_pages.specs.Asked.{layout_pages}
 use Rattle.record_pages.specs.declared.config.Config.{Config}
 use Rattle.record_pages.specs.declared.layout.Layout.{Layout}
-use Rattle.mover.specs.Store.{IsTooSmall}
 use Rattle.cache_sizes.specs.declared.limits.TheConstants.{MAX_SHARDS}
-use Rattle.service_cache.specs.declared.looked_up.LookedUp.{LookedUp}
-use Rattle.service_cache.specs.declared.looked_up.LookedUp.TheVariants as looked
 use Rattle.service_cache.specs.declared.open_service_fault.OpenServiceFault.{OpenServiceFault}
 use Rattle.service_cache.specs.declared.open_service_fault.OpenServiceFault.TheVariants.{ConfigFault, Shards, DeviceCount, NoLeaseSlots, WrongPage, DeviceTooSmall, OutOfMemory}
 
@@ -32,33 +30,64 @@ pub record AreShards (shards : ℕ) : Type 0 where
   pub some : 1 ≤ shards
   pub few : shards ≤ MAX_SHARDS
 
+-- what is asked of each shard: how many lanes it has, and how many pages the device of each has at least
+pub record Needs : Type 0 where
+  pub lanes : ℕ
+  pub pages : ℕ
+
+-- what a configuration asks of each shard
+abbrev pub needs_of : Config → Needs
+needs_of config = record { lanes = config.lanes; pages = config.sets + config.segments * config.segment_pages }
+
+-- what a layout asks of each shard
+abbrev pub layout_needs : Layout → Needs
+layout_needs layout = record { lanes = layout.lanes; pages = layout_pages layout }
+
 -- each of these shards has a device for each of its lanes
-pub record HasDevices {D : Type 0} (config : Config) (shards : ℕ) (devices : List D) : Type 0 where
-  pub numbers : first_faulty config ≡ None
+pub record HasDevices {D : Type 0} (needs : Needs) (shards : ℕ) (devices : List D) : Type 0 where
   pub are : AreShards shards
-  pub one_each : length devices ≡ shards * config.lanes
+  pub one_each : length devices ≡ shards * needs.lanes
+
+-- some device has fewer pages than its lane asks for
+abbrev pub HasSmallOne : {D : Type 0} → (D → ℕ) → Needs → List D → Type 0
+HasSmallOne pages needs devices = Any (λ d. pages d < needs.pages) devices
+
+-- so many shards, of which each asks for this, can be opened over these devices, memory aside
+pub record CanServe {D : Type 0} (size : ℕ) (pages : D → ℕ) (needs : Needs) (shards lease_slots : ℕ) (devices : List D) : Type 0 where
+  pub has : HasDevices needs shards devices
+  pub slots : 1 ≤ lease_slots
+  pub page_size : IsPageSize size
+  pub large : ¬ HasSmallOne pages needs devices
+
+-- When each refusal of an opening comes whose numbers are in their ranges: the first of these tests that fails; want of memory
+-- after all.
+abbrev pub RefusesLanes : {D : Type 0} → ℕ → (D → ℕ) → Needs → ℕ → ℕ → List D → OpenServiceFault → Type 0
+RefusesLanes size pages needs shards slots devices (ConfigFault field) = ⊥
+RefusesLanes size pages needs shards slots devices Shards = ¬ AreShards shards
+RefusesLanes size pages needs shards slots devices DeviceCount = AreShards shards × (length devices ≢ shards * needs.lanes)
+RefusesLanes size pages needs shards slots devices NoLeaseSlots = HasDevices needs shards devices × (slots ≡ 0)
+RefusesLanes size pages needs shards slots devices WrongPage = HasDevices needs shards devices × (1 ≤ slots) × (¬ IsPageSize size)
+RefusesLanes size pages needs shards slots devices DeviceTooSmall =
+    HasDevices needs shards devices × (1 ≤ slots) × IsPageSize size × HasSmallOne pages needs devices
+RefusesLanes size pages needs shards slots devices OutOfMemory = CanServe size pages needs shards slots devices
 
 -- a cache can be opened so over these devices, memory aside
 pub record CanOpen {D : Type 0} (size : ℕ) (pages : D → ℕ) (config : Config) (shards lease_slots : ℕ) (devices : List D) : Type 0 where
-  pub has : HasDevices config shards devices
-  pub slots : 1 ≤ lease_slots
-  pub page_size : IsPageSize size
-  pub large : ¬ Any (λ d. IsTooSmall config (pages d)) devices
+  pub numbers : first_faulty config ≡ None
+  pub serves : CanServe size pages (needs_of config) shards lease_slots devices
 
--- When each refusal of an opening comes: the first of these tests that fails; want of memory after all.
+-- When each refusal of an opening comes: the first number that is out of its range; then as above.
 abbrev pub RefusesOpening : {D : Type 0} → ℕ → (D → ℕ) → Config → ℕ → ℕ → List D → OpenServiceFault → Type 0
 RefusesOpening size pages config shards slots devices (ConfigFault field) = first_faulty config ≡ Some field
-RefusesOpening size pages config shards slots devices Shards = (first_faulty config ≡ None) × (¬ AreShards shards)
+RefusesOpening size pages config shards slots devices Shards =
+    (first_faulty config ≡ None) × RefusesLanes size pages (needs_of config) shards slots devices Shards
 RefusesOpening size pages config shards slots devices DeviceCount =
-    (first_faulty config ≡ None) × AreShards shards × (length devices ≢ shards * config.lanes)
-RefusesOpening size pages config shards slots devices NoLeaseSlots = HasDevices config shards devices × (slots ≡ 0)
+    (first_faulty config ≡ None) × RefusesLanes size pages (needs_of config) shards slots devices DeviceCount
+RefusesOpening size pages config shards slots devices NoLeaseSlots =
+    (first_faulty config ≡ None) × RefusesLanes size pages (needs_of config) shards slots devices NoLeaseSlots
 RefusesOpening size pages config shards slots devices WrongPage =
-    HasDevices config shards devices × (1 ≤ slots) × (¬ IsPageSize size)
+    (first_faulty config ≡ None) × RefusesLanes size pages (needs_of config) shards slots devices WrongPage
 RefusesOpening size pages config shards slots devices DeviceTooSmall =
-    HasDevices config shards devices × (1 ≤ slots) × IsPageSize size × Any (λ d. IsTooSmall config (pages d)) devices
-RefusesOpening size pages config shards slots devices OutOfMemory = CanOpen size pages config shards slots devices
-
--- a look-up that found no value
-abbrev pub HasMissed : LookedUp → Type 0
-HasMissed (looked.Hit tier) = ⊥
-HasMissed (looked.Miss cause lease) = Unit {0}
+    (first_faulty config ≡ None) × RefusesLanes size pages (needs_of config) shards slots devices DeviceTooSmall
+RefusesOpening size pages config shards slots devices OutOfMemory =
+    (first_faulty config ≡ None) × RefusesLanes size pages (needs_of config) shards slots devices OutOfMemory

@@ -1,11 +1,13 @@
 // A cache that serves.
-ghost use Rattle.std.specs.Prelude.{◌≡◌, ◌≤◌, ◌<◌, ◌*◌, IfOk, IfErr, OnOk, length};
+ghost use Rattle.std.specs.Prelude.{◌≡◌, [], IfOk, IfErr, OnOk, length};
 ghost use Rattle.record_pages.specs.Asked.{HasNumbersOf};
-ghost use Rattle.service_cache.specs.Serving.{CanOpen, RefusesOpening, lanes_of};
+ghost use Rattle.service_cache.specs.Serving.{CanOpen, CanServe, RefusesLanes, RefusesOpening, lanes_of, layout_needs};
+ghost use Rattle.service_cache.specs.Sorted.{SortsBy};
 
 use crate::open_service_fault::OpenServiceFault;
 use crate::opening::{Locked, lanes_over};
 use cache_sizes::MAX_SHARDS;
+use deed_book::{KeyLanes, NamedBook, Naming, Seat};
 use key_hash::RandomSeed;
 use lane_devices::is_one_too_small;
 use page_device::PageDevice;
@@ -18,38 +20,54 @@ use std::marker::Model;
 mod calls;
 mod tending;
 
-/// A cache that serves: its lanes, each under a lock of its own, and the policy of their moves. Nothing is recorded, so it may
-/// serve for years.
+/// A cache that serves: its lanes, each under a lock of its own with its register in the book of the cache, and the policy of
+/// their moves. Nothing is recorded, so it may serve for years.
 ///
-/// It has one shard or more, each with the lanes of the configuration. A key has its lane among all of these by a hash of its
-/// own, with the seed: so its lane is a function of the key, what is promised of a lane holds of all calls of its keys, and
-/// nobody who does not know the seed can pick keys for one lane.
+/// It has one shard or more, each with the lanes of the layout. A key has its lane among all of these by a hash of its own,
+/// with the seed: so its lane is a function of the key, and nobody who does not know the seed can pick keys for one lane.
+///
+/// A seat of another cache is of another type, since `J` names the book of this one.
 #[derive(Drop)]
-pub struct ServiceCache<D: PageDevice<PAGE>, P: EvictionPolicy + Drop, const PAGE: usize> {
+pub struct ServiceCache<
+    D: PageDevice<PAGE>,
+    P: EvictionPolicy + Drop,
+    const PAGE: usize,
+    L: KeyLanes,
+    J: Naming,
+> {
     layout: Layout,
     shards: u32,
     seed: RandomSeed,
     policy: P,
     // Each lane stands on cache lines of its own, apart from its lock and the other lanes.
-    lanes: Vec<Locked<D, PAGE>>,
+    lanes: Vec<Locked<D, PAGE, L, J>>,
+    start: Seat<L, J>,
 }
 
-impl<D: PageDevice<PAGE>, P: EvictionPolicy + Drop, const PAGE: usize> Model
-    for ServiceCache<D, P, PAGE> {
-    ghost use Rattle.std.specs.Prelude.{length};
+impl<D: PageDevice<PAGE>, P: EvictionPolicy + Drop, const PAGE: usize, L: KeyLanes, J: Naming> Model
+    for ServiceCache<D, P, PAGE, L, J> {
+    ghost use Rattle.std.specs.Prelude.{◌≡◌, [], length};
     ghost use Rattle.service_cache.specs.Serving.{Shape, IsServing};
+    ghost use Rattle.service_cache.specs.Sorted.{SortsBy};
 
     ghost Value = { Shape };
 
     ghost view = { λ c. record { layout = c.layout; shards = c.shards } };
 
     ghost invariant = { λ c. IsServing (record { layout = c.layout; shards = c.shards })
-        (length c.lanes.items) };
+        (length c.lanes.items) × SortsBy L.lanes L.lane_of c.seed (length c.lanes.items) × (c.start ≡ []) };
 }
 
-impl<D: PageDevice<PAGE>, P: EvictionPolicy + Drop, const PAGE: usize> ServiceCache<D, P, PAGE> {
-    /// A cache of so many shards of this configuration, with empty lanes, one over each device, whose moves go by this policy.
-    /// Its refusals are tested in the order of `OpenServiceFault`; devices and policy are dropped with each.
+impl<
+    D: PageDevice<PAGE>,
+    P: EvictionPolicy + Drop,
+    const PAGE: usize,
+    L: KeyLanes,
+    J: Naming,
+> ServiceCache<D, P, PAGE, L, J> {
+    /// A cache of so many shards of this configuration, with empty lanes, one over each device, whose moves go by this policy,
+    /// and a book with no write. Its refusals are tested in the order of `OpenServiceFault`; devices, policy and book are
+    /// dropped with each.
     ///
     /// The seed decides in which lane a key is, and starts the generators of the words of admission. Draw it at random.
     pub fn open(
@@ -60,7 +78,10 @@ impl<D: PageDevice<PAGE>, P: EvictionPolicy + Drop, const PAGE: usize> ServiceCa
         devices: Vec<D>,
         policy: P,
         seed: RandomSeed,
+        book: NamedBook<L, J>,
     ) -> Result<Self, OpenServiceFault>
+        requires first { book ≡ 0 }
+        requires sorted { SortsBy L.lanes L.lane_of seed (length devices.items) }
         ensures numbers { IfOk result (λ cache. HasNumbersOf cache.layout config.now
             × (cache.shards ≡ shards)) }
         ensures serves { OnOk result (CanOpen PAGE D.page_count config.now shards lease_slots devices.items) }
@@ -71,6 +92,43 @@ impl<D: PageDevice<PAGE>, P: EvictionPolicy + Drop, const PAGE: usize> ServiceCa
             Ok(layout) => layout,
             Err(fault) => return Err(OpenServiceFault::ConfigFault(fault.field)),
         };
+        match Self::with_layout(
+            alloc,
+            &layout,
+            shards,
+            lease_slots,
+            devices,
+            policy,
+            seed,
+            book,
+        ) {
+            Ok(cache) => Ok(cache),
+            Err(fault) => Err(fault),
+        }
+    }
+
+    /// A cache as `open` makes it, of numbers that were checked already.
+    pub fn with_layout(
+        alloc: Global,
+        layout: &Layout,
+        shards: u32,
+        lease_slots: u32,
+        devices: Vec<D>,
+        policy: P,
+        seed: RandomSeed,
+        book: NamedBook<L, J>,
+    ) -> Result<Self, OpenServiceFault>
+        requires first { book ≡ 0 }
+        requires sorted { SortsBy L.lanes L.lane_of seed (length devices.items) }
+        ensures numbers { IfOk result (λ cache. cache ≡ record {
+          layout = layout.now;
+          shards = shards;
+        }) }
+        ensures serves { OnOk result (CanServe PAGE D.page_count (layout_needs layout.now) shards
+            lease_slots devices.items) }
+        ensures refused { IfErr result (RefusesLanes PAGE D.page_count (layout_needs layout.now)
+            shards lease_slots devices.items) }
+    {
         if shards == 0 || shards > MAX_SHARDS {
             return Err(OpenServiceFault::Shards);
         }
@@ -83,19 +141,20 @@ impl<D: PageDevice<PAGE>, P: EvictionPolicy + Drop, const PAGE: usize> ServiceCa
         if PAGE < 256 || PAGE > 4096 {
             return Err(OpenServiceFault::WrongPage);
         }
-        let pages = layout.sets + layout.segments * layout.segment_pages;
-        if is_one_too_small(pages, devices.as_slice()) {
+        if is_one_too_small(layout.pages(), devices.as_slice()) {
             return Err(OpenServiceFault::DeviceTooSmall);
         }
-        let Ok(lanes) = lanes_over(alloc, config, lease_slots, devices, seed) else {
+        let start = book.seat();
+        let Ok(lanes) = lanes_over(alloc, layout, lease_slots, devices, seed, book) else {
             return Err(OpenServiceFault::OutOfMemory);
         };
         Ok(ServiceCache {
-            layout,
+            layout: *layout,
             shards,
             seed,
             policy,
             lanes,
+            start,
         })
     }
 
@@ -113,9 +172,18 @@ impl<D: PageDevice<PAGE>, P: EvictionPolicy + Drop, const PAGE: usize> ServiceCa
         self.layout
     }
 
-    // The lane of a key.
-    fn lane(&self, key: &[u8]) -> &Locked<D, PAGE> {
-        let number = self.seed.hash_one(key) % self.lanes.len() as u64;
-        &self.lanes[number as usize]
+    /// A seat that has seen nothing.
+    pub fn seat(&self) -> Seat<L, J>
+        ensures { result ≡ [] }
+    {
+        self.start.again()
+    }
+
+    // The number of the lane of a key, and its lock.
+    fn lane(&self, key: &[u8]) -> (usize, &Locked<D, PAGE, L, J>)
+        ensures { result.0 ≡ L.lane_of key.now }
+    {
+        let number = (self.seed.hash_one(key) % self.lanes.len() as u64) as usize;
+        (number, &self.lanes[number])
     }
 }

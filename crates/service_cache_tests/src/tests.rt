@@ -1,16 +1,21 @@
-//! A cache that serves: its shards and lanes, who does its upkeep, and callers who know what their keys have.
+//! A cache that serves: its shards and lanes, its seats, who does its upkeep, and callers who know what their keys have.
 mod caller;
 mod calls;
 mod many;
 mod opening;
+mod seats;
+mod tending;
 mod threads;
+mod trials;
 
-ghost use Rattle.std.specs.Prelude.{IfOk};
+ghost use Rattle.std.specs.Prelude.{◌≡◌, IfOk, length};
 
+use deed_book::{KeyLanes, Naming, NewBook, Seat};
+use key_hash::RandomSeed;
 use page_device::{MemoryDevice, PageDevice};
-use policy_laws::EvictionPolicy;
 use record_pages::{Config, NEVER, Pushed, PutFault};
 use rriparoo::Rriparoo;
+use seated_lane::{SeatFault, SeatPutFault};
 use service_cache::{LookedUp, OpenServiceFault, ServiceCache};
 use service_lane::Filled;
 use std::alloc::Global;
@@ -19,7 +24,7 @@ use std::test::Fail;
 use test_steps::{key, value};
 use value_buffer::ValueBuffer;
 
-type Cache = ServiceCache<MemoryDevice<256>, Rriparoo, 256>;
+type Cache<D, L, J> = ServiceCache<D, Rriparoo, 256, L, J>;
 
 // Two lanes of three sets, in which all is small.
 const SMALL: Config = Config {
@@ -37,7 +42,9 @@ const SMALL: Config = Config {
 const PAGES: u32 = 5;
 
 // So many devices of so many pages.
-fn so_many(alloc: Global, count: u32, pages: u32) -> Result<Vec<MemoryDevice<256>>, Fail> {
+fn so_many(alloc: Global, count: u32, pages: u32) -> Result<Vec<MemoryDevice<256>>, Fail>
+    ensures { IfOk result (λ devices. length devices.items ≡ count) }
+{
     let mut devices = Vec::new(alloc);
     for _ in 0..count {
         devices.push(MemoryDevice::new(alloc, pages)?)?;

@@ -1,6 +1,7 @@
 // The threads of the example.
 use crate::database::{Database, ROWS};
 use crate::rows::{Cache, change, look_up};
+use deed_book::{KeyLanes, Naming};
 use std::alloc::Global;
 use std::sync::Wait;
 use std::sync::atomic::{AtomicU64, Ordering};
@@ -22,7 +23,14 @@ pub struct Made {
 }
 
 /// Looks rows up in an order of its own, and changes the row at every tenth.
-fn call<R: Wait>(rt: &R, alloc: Global, cache: &Cache, database: &Database, caller: usize) -> Made {
+fn call<L: KeyLanes, J: Naming, R: Wait>(
+    rt: &R,
+    alloc: Global,
+    cache: &Cache<L, J>,
+    database: &Database,
+    caller: usize,
+) -> Made {
+    let mut seat = cache.seat();
     let mut newest = [0; ROWS];
     let mut back = 0u64;
     let mut drawn = caller as u64;
@@ -32,9 +40,9 @@ fn call<R: Wait>(rt: &R, alloc: Global, cache: &Cache, database: &Database, call
             .wrapping_add(1_442_695_040_888_963_407);
         let row = (drawn >> 56) as u8;
         if number % 10 == 0 {
-            change(rt, cache, database, row);
+            change(rt, cache, &mut seat, database, row);
         }
-        let version = look_up(rt, alloc, cache, database, row);
+        let version = look_up(rt, alloc, cache, &mut seat, database, row);
         if version < newest[row as usize] {
             back = back.wrapping_add(1);
         } else {
@@ -48,10 +56,10 @@ fn call<R: Wait>(rt: &R, alloc: Global, cache: &Cache, database: &Database, call
 }
 
 /// What all callers made together; none where there was no memory for it.
-fn made_by_callers<R: Threads + Wait + Sync>(
+fn made_by_callers<L: KeyLanes + Send + Sync, J: Naming + Send + Sync, R: Threads + Wait + Sync>(
     rt: &R,
     alloc: Global,
-    cache: &Cache,
+    cache: &Cache<L, J>,
     database: &Database,
 ) -> Option<Made> {
     let made = map_indices(
@@ -72,7 +80,7 @@ fn made_by_callers<R: Threads + Wait + Sync>(
 }
 
 /// Does what is due in each lane, until the callers have ended.
-fn tend<R: Wait>(rt: &R, cache: &Cache, ended: &AtomicU64) {
+fn tend<L: KeyLanes, J: Naming, R: Wait>(rt: &R, cache: &Cache<L, J>, ended: &AtomicU64) {
     for _ in rt.forever() {
         if ended.load(Ordering::SeqCst) != 0 {
             return;
@@ -84,10 +92,10 @@ fn tend<R: Wait>(rt: &R, cache: &Cache, ended: &AtomicU64) {
 }
 
 /// The same, beside a thread that tends the cache.
-pub fn made_by_all<R: Threads + Wait + Sync>(
+pub fn made_by_all<L: KeyLanes + Send + Sync, J: Naming + Send + Sync, R: Threads + Wait + Sync>(
     rt: &R,
     alloc: Global,
-    cache: &Cache,
+    cache: &Cache<L, J>,
     database: &Database,
 ) -> Option<Made> {
     let ended = AtomicU64::new(0);

@@ -6,15 +6,22 @@ mod callers;
 mod database;
 mod rows;
 
-use callers::made_by_all;
+ghost use Rattle.std.specs.Prelude.{◌≡◌, length};
+ghost use Rattle.service_cache.specs.Sorted.{SortsBy};
+
+use callers::{Made, made_by_all};
 use database::Database;
+use deed_book::{KeyLanes, Naming, NewBook};
 use key_hash::RandomSeed;
 use page_device::MemoryDevice;
 use record_pages::Config;
 use rows::Cache;
 use rriparoo::Rriparoo;
 use std::alloc::Global;
+use std::marker::Brand;
 use std::process::ExitCode;
+use std::sync::Wait;
+use std::thread::Threads;
 
 /// Two lanes, in which all is so small that most rows lie on the device.
 const CONFIG: Config = Config {
@@ -34,24 +41,62 @@ const PAGES: u32 = 20;
 /// Slots for leases of each lane.
 const LEASE_SLOTS: u32 = 1024;
 
-/// Opens the cache over devices in memory. A service that is to keep more than memory does opens a `FileDevice` for each lane.
-fn open(alloc: Global, seed: RandomSeed) -> Option<Cache> {
+/// A device in memory for each lane. A service that is to keep more than memory does opens a `FileDevice` for each.
+fn devices_for(alloc: Global, lanes: u32) -> Option<Vec<MemoryDevice<256>>> {
     let mut devices = Vec::new(alloc);
-    for _ in 0..CONFIG.lanes {
+    for _ in 0..lanes {
         devices.push(MemoryDevice::new(alloc, PAGES).ok()?).ok()?;
     }
-    Cache::open(alloc, &CONFIG, 1, LEASE_SLOTS, devices, Rriparoo, seed).ok()
+    Some(devices)
+}
+
+/// Opens a book for the lanes of these devices, among which the seed sorts the keys: `L` says which lane each key has.
+fn made_over<L: KeyLanes + Send + Sync, R: Threads + Wait + Sync>(
+    rt: &R,
+    alloc: Global,
+    devices: Vec<MemoryDevice<256>>,
+    seed: RandomSeed,
+) -> Option<Made>
+    requires { SortsBy L.lanes L.lane_of seed (length devices.items) }
+{
+    let book = NewBook::<L>::open(devices.len());
+    made_with::<L, Brand, R>(rt, alloc, devices, seed, book)
+}
+
+/// Opens the cache with its book, of which `J` says which it is, and has all threads use it.
+fn made_with<L: KeyLanes + Send + Sync, J: Naming + Send + Sync, R: Threads + Wait + Sync>(
+    rt: &R,
+    alloc: Global,
+    devices: Vec<MemoryDevice<256>>,
+    seed: RandomSeed,
+    book: NewBook<L>,
+) -> Option<Made>
+    requires sorted { SortsBy L.lanes L.lane_of seed (length devices.items) }
+    requires book { book ≡ J.book }
+{
+    let book = book.named::<J>();
+    let cache = Cache::<L, J>::open(
+        alloc,
+        &CONFIG,
+        1,
+        LEASE_SLOTS,
+        devices,
+        Rriparoo,
+        seed,
+        book,
+    )
+    .ok()?;
+    made_by_all(rt, alloc, &cache, &Database::new())
 }
 
 fn main(rt: HostRuntime) -> ExitCode {
     let Ok(seed) = RandomSeed::draw(&rt) else {
         return ExitCode::from(3);
     };
-    let Some(cache) = open(rt.alloc(), seed) else {
+    let Some(devices) = devices_for(rt.alloc(), CONFIG.lanes) else {
         return ExitCode::from(3);
     };
-    let database = Database::new();
-    let Some(made) = made_by_all(&rt, rt.alloc(), &cache, &database) else {
+    let Some(made) = made_over::<Brand, _>(&rt, rt.alloc(), devices, seed) else {
         return ExitCode::from(3);
     };
     let (reads, back) = (made.reads, made.back);

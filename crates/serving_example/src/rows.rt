@@ -1,5 +1,6 @@
 // Rows of the database through the cache.
 use crate::database::Database;
+use deed_book::{KeyLanes, Naming, Seat};
 use page_device::MemoryDevice;
 use record_pages::{Key, NEVER, Value};
 use rriparoo::Rriparoo;
@@ -10,7 +11,7 @@ use std::sync::Wait;
 use value_buffer::ValueBuffer;
 
 /// The cache, with pages of 256 bytes.
-pub type Cache = ServiceCache<MemoryDevice<256>, Rriparoo, 256>;
+pub type Cache<L, J> = ServiceCache<MemoryDevice<256>, Rriparoo, 256, L, J>;
 
 /// The key of a row.
 fn key_of(row: u8) -> [u8; 4] {
@@ -26,33 +27,54 @@ fn version_of(bytes: &[u8]) -> u64 {
 }
 
 /// Looks a row up: in the cache, and at a miss in the database, by which the cache is filled.
-pub fn look_up<R: Wait>(rt: &R, alloc: Global, cache: &Cache, database: &Database, row: u8) -> u64 {
+pub fn look_up<L: KeyLanes, J: Naming, R: Wait>(
+    rt: &R,
+    alloc: Global,
+    cache: &Cache<L, J>,
+    seat: &mut Seat<L, J>,
+    database: &Database,
+    row: u8,
+) -> u64 {
     let mut found = ValueBuffer::empty();
-    match cache.get_or_lease(rt, &key_of(row), 0, &mut found) {
+    match cache.get_or_lease(rt, seat, &key_of(row), 0, &mut found) {
         Ok(LookedUp::Hit(_)) => version_of(found.bytes()),
         Ok(LookedUp::Miss(_, lease)) => {
             let version = database.read(rt, row);
-            fill(rt, alloc, cache, lease, row, version);
+            fill(rt, alloc, cache, seat, lease, row, version);
             version
         }
         Err(_) => database.read(rt, row),
     }
 }
 
-/// Fills the cache with a row that was read, where no one wrote it since the miss. A refused fill leaves the row out of the
+/// Fills the cache with a row that was read, if no one wrote it since the miss. A refused fill leaves the row out of the
 /// cache, and does no harm.
-fn fill<R: Wait>(rt: &R, alloc: Global, cache: &Cache, lease: Lease, row: u8, version: u64) {
+fn fill<L: KeyLanes, J: Naming, R: Wait>(
+    rt: &R,
+    alloc: Global,
+    cache: &Cache<L, J>,
+    seat: &mut Seat<L, J>,
+    lease: Lease,
+    row: u8,
+    version: u64,
+) {
     let Ok(key) = Key::new(alloc, &key_of(row)) else {
         return;
     };
     let Ok(value) = Value::new(alloc, &version.to_be_bytes()) else {
         return;
     };
-    let _filled = cache.fill(rt, lease, key, value, NEVER);
+    let _filled = cache.fill(rt, seat, lease, key, value, NEVER);
 }
 
 /// Changes a row: first in the database, and then it is removed from the cache.
-pub fn change<R: Wait>(rt: &R, cache: &Cache, database: &Database, row: u8) {
+pub fn change<L: KeyLanes, J: Naming, R: Wait>(
+    rt: &R,
+    cache: &Cache<L, J>,
+    seat: &mut Seat<L, J>,
+    database: &Database,
+    row: u8,
+) {
     database.write(rt, row);
-    let _removed = cache.remove(rt, &key_of(row));
+    let _removed = cache.remove(rt, seat, &key_of(row));
 }

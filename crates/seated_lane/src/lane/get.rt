@@ -1,12 +1,13 @@
 // Gets and leases with a seat.
-ghost use Rattle.std.specs.Prelude.{◌≡◌, IfOk, IfErr, OnErr, IsTrue};
+ghost use Rattle.std.specs.Prelude.{◌≡◌, IfOk, IfErr, OnOk, OnErr, IsTrue};
 ghost use mathlib.Core.List.{IsPrefix};
+ghost use Rattle.record_pages.specs.Bounded.{IsKey};
 ghost use Rattle.mover.specs.Get.{answer_of};
 ghost use Rattle.service_lane.specs.Asked.{IsLiveHit, IsMiss};
 ghost use Rattle.service_lane.specs.Counting.{with_given};
 ghost use Rattle.service_lane.specs.Leases.{writes_for};
 ghost use Rattle.service_lane.specs.Serving.{Gets};
-ghost use Rattle.seated_lane.specs.Seated.{RefusesCall};
+ghost use Rattle.seated_lane.specs.Refusals.{RefusesGet};
 
 use super::SeatedLane;
 use crate::seat_fault::SeatFault;
@@ -38,10 +39,13 @@ impl<D: PageDevice<PAGE>, const PAGE: usize, L: KeyLanes, J: Naming> SeatedLane<
         ensures untouched { IfOk result (λ seen. IsMiss seen → found.new ≡ found.old) }
 
         // When it is refused, and what that leaves.
-        ensures cause { IfErr result (λ fault. RefusesCall key.now fault) }
+        ensures cause { IfErr result (RefusesGet key.now) }
+        ensures answered { OnOk result (IsKey key.now) }
         ensures refused { OnErr result ((self.new.serving ≡ self.old.serving) × (found.new ≡ found.old)) }
     {
-        self.register.look(seat)?;
+        let Ok(()) = self.register.look(seat) else {
+            return Err(SeatFault::foreign(key));
+        };
         let seen = self.lane.get(key, moment, found)?;
         Ok(seen)
     }

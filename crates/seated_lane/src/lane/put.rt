@@ -1,12 +1,16 @@
 // Puts, fills and removals with a seat.
-ghost use Rattle.std.specs.Prelude.{◌≡◌, ◌<◌, IfOk, OnOk, OnErr, IfErr, IsErrOf};
+ghost use Rattle.std.specs.Prelude.{◌≡◌, ◌<◌, ◌≤◌, ◌↔◌, IfOk, OnOk, OnErr, IfErr, IsErrOf, Ok};
+ghost use Rattle.record_pages.specs.Bounded.{IsKey};
 ghost use Rattle.record_pages.specs.Expiry.{timed};
 ghost use Rattle.trace_file.specs.declared.act.Act.{Act};
+ghost use Rattle.service_lane.specs.Leases.{HoldsLease};
 ghost use Rattle.service_lane.specs.Serving.{PutsStore, FillLeaves, Removes};
+ghost use Rattle.service_lane.specs.declared.filled.Filled.{Filled};
 ghost use Rattle.deed_book.specs.Registers.{EntersIn};
 ghost use Rattle.record_pages.specs.Sizes.{object_size, room};
 ghost use Rattle.record_pages.specs.declared.put_fault.PutFault.{PutFault};
-ghost use Rattle.seated_lane.specs.Seated.{put_of, RefusesCall, PutLeaves, RemovalLeaves, FillEnters, FillRefusalLeaves};
+ghost use Rattle.seated_lane.specs.Refusals.{RefusesPut, RefusesRemoval};
+ghost use Rattle.seated_lane.specs.Seated.{put_of, PutLeaves, RemovalLeaves, FillEnters, FillRefusalLeaves};
 ghost use Rattle.seated_lane.specs.declared.seat_fault.SeatPutFault.{SeatPutFault};
 
 use super::SeatedLane;
@@ -18,10 +22,10 @@ use record_pages::{Key, Pushed, Value};
 use service_lane::{Filled, Lease, ServiceLane};
 
 impl<D: PageDevice<PAGE>, const PAGE: usize, L: KeyLanes, J: Naming> SeatedLane<D, PAGE, L, J> {
-    /// Puts a value of a key of the lane, which is entered in the list behind all that the seat has seen.
+    /// Puts a value of a key of the lane, which is entered in the list after all that the seat has seen.
     ///
-    /// Where the store refuses the object the put is entered all the same and the key is removed, so that no older value is
-    /// hit: a cache may always forget. Where the book refuses, nothing changed.
+    /// A put that is refused removes the key, so that no older value is hit: a cache may always forget. If the store refused
+    /// the object the put is entered all the same; if the book did, nothing is entered.
     pub fn put(
         &mut self,
         seat: &mut Seat<L, J>,
@@ -37,17 +41,19 @@ impl<D: PageDevice<PAGE>, const PAGE: usize, L: KeyLanes, J: Naming> SeatedLane<
         ensures entered { OnOk result (EntersIn L.lane_of self.old.register seat.old
             (put_of key value expires) self.new.register seat.new) }
         // When it is refused, and what that leaves.
-        ensures large { IsErrOf result (SeatPutFault.Put PutFault.TooLarge) → room PAGE < object_size key value }
+        ensures cause { IfErr result (RefusesPut PAGE key value) }
+        ensures fits { OnOk result (object_size key value ≤ room PAGE) }
         ensures refused { IfErr result (λ fault. PutLeaves D.held L.lane_of key value expires fault
             self.old seat.old self.new seat.new) }
     {
         let put = self.register.put(&key, &value, expires);
-        self.register.enter(seat, put)?;
+        let bytes = key.bytes();
+        enter_or_remove(&mut self.lane, &mut self.register, seat, put, bytes)?;
         let pushed = self.lane.put_or_remove(key, value, word, expires)?;
         Ok(pushed)
     }
 
-    /// Removes a key of the lane, by its bytes, and enters that in the list behind all that the seat has seen.
+    /// Removes a key of the lane, by its bytes, and enters that in the list after all that the seat has seen.
     ///
     /// Where the book refuses, the key is removed all the same, and nothing is entered. For bytes that are no key's nothing
     /// changes.
@@ -57,7 +63,8 @@ impl<D: PageDevice<PAGE>, const PAGE: usize, L: KeyLanes, J: Naming> SeatedLane<
         ensures entered { OnOk result (EntersIn L.lane_of self.old.register seat.old
             (record { key = key.now; act = Act.Remove }) self.new.register seat.new) }
         // When it is refused, and what that leaves.
-        ensures cause { IfErr result (λ fault. RefusesCall key.now fault) }
+        ensures cause { IfErr result (RefusesRemoval key.now) }
+        ensures answered { OnOk result (IsKey key.now) }
         ensures refused { IfErr result (λ fault. RemovalLeaves D.held key.now fault self.old seat.old
             self.new seat.new) }
     {
@@ -67,7 +74,7 @@ impl<D: PageDevice<PAGE>, const PAGE: usize, L: KeyLanes, J: Naming> SeatedLane<
         Ok(())
     }
 
-    /// Fills a key of the lane by a lease, as `ServiceLane::fill` does; and enters that in the list behind all that the seat has
+    /// Fills a key of the lane by a lease, as `ServiceLane::fill` does; and enters that in the list after all that the seat has
     /// seen, unless it is stale.
     ///
     /// Where the store refuses the object, nothing is entered, and what the key had it has. Where the book refuses, the key
@@ -82,6 +89,8 @@ impl<D: PageDevice<PAGE>, const PAGE: usize, L: KeyLanes, J: Naming> SeatedLane<
         expires: u64,
     ) -> Result<Filled, SeatPutFault>
         requires { L.lane_of key ≡ self.old.register.number }
+        ensures stale { (result ≡ Ok Filled.Stale)
+            ↔ (HoldsLease self.old.serving.slots key lease.writes → ⊥) }
         ensures filled { IfOk result (λ filled. FillLeaves PAGE D.held
             (record { key = key; value = timed value expires }) word lease.writes self.old.serving
             self.new.serving filled) }
@@ -103,7 +112,7 @@ impl<D: PageDevice<PAGE>, const PAGE: usize, L: KeyLanes, J: Naming> SeatedLane<
                     &mut self.register,
                     seat,
                     put,
-                    &copy,
+                    copy.bytes(),
                 ) else {
                     return Ok(Filled::Stored(pushed));
                 };
@@ -113,15 +122,16 @@ impl<D: PageDevice<PAGE>, const PAGE: usize, L: KeyLanes, J: Naming> SeatedLane<
     }
 }
 
-// Enters a write of a key, or removes the key from the lane where the book refuses it.
+// Enters a write of a key, or removes the key from the lane if the book refuses it.
 fn enter_or_remove<D: PageDevice<PAGE>, const PAGE: usize, L: KeyLanes, J: Naming>(
     lane: &mut ServiceLane<D, PAGE>,
     register: &mut Register<L, J>,
     seat: &mut Seat<L, J>,
     write: Entry<L>,
-    key: &KeyCopy,
+    key: &[u8],
 ) -> Result<(), EntryFault>
-    requires { L.lane_of write.key ≡ register.old.number }
+    requires ours { L.lane_of write.key ≡ register.old.number }
+    requires key { IsKey key.now }
     ensures entered { OnOk result (EntersIn L.lane_of register.old seat.old write register.new seat.new) }
     ensures stays { OnOk result (lane.new ≡ lane.old) }
     ensures removed { OnErr result (Removes D.held key.now lane.old lane.new) }
@@ -130,18 +140,8 @@ fn enter_or_remove<D: PageDevice<PAGE>, const PAGE: usize, L: KeyLanes, J: Namin
     let Err(fault) = register.enter(seat, write) else {
         return Ok(());
     };
-    remove_copied(lane, key);
-    Err(fault)
-}
-
-// Removes a key.
-fn remove_copied<D: PageDevice<PAGE>, const PAGE: usize>(
-    lane: &mut ServiceLane<D, PAGE>,
-    key: &KeyCopy,
-)
-    ensures { Removes D.held key.now lane.old lane.new }
-{
-    let Ok(()) = lane.remove(key.bytes()) else {
+    let Ok(()) = lane.remove(key) else {
         unreachable!()
     };
+    Err(fault)
 }

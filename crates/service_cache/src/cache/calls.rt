@@ -1,126 +1,181 @@
 // The calls of a cache that serves.
-ghost use Rattle.std.specs.Prelude.{◌≡◌, ◌≢◌, ◌↔◌, ◌<◌, [], length, Err, IfOk, IsErrOf, OnErr};
-ghost use Rattle.record_pages.specs.declared.key.KeyFault.{KeyFault};
-ghost use Rattle.record_pages.specs.declared.put_fault.PutFault.{PutFault};
+ghost use Rattle.std.specs.Prelude.{◌≡◌, ◌<◌, ◌≤◌, IfOk, IfErr, OnOk, OnErr, IsErrOf};
+ghost use Rattle.record_pages.specs.Bounded.{IsKey};
+ghost use mathlib.Core.List.{IsPrefix};
 ghost use Rattle.record_pages.specs.Sizes.{object_size, room};
+ghost use Rattle.record_pages.specs.declared.put_fault.PutFault.{PutFault};
+ghost use Rattle.mover.specs.Get.{answer_of};
 ghost use Rattle.service_lane.specs.Asked.{IsMiss};
-ghost use Rattle.service_cache.specs.Serving.{HasMissed};
+ghost use Rattle.trace_file.specs.declared.act.Act.{Act};
+ghost use Rattle.seated_lane.specs.Refusals.{RefusesGet, RefusesPut, RefusesRemoval};
+ghost use Rattle.seated_lane.specs.Seated.{put_of};
+ghost use Rattle.seated_lane.specs.declared.seat_fault.SeatPutFault.{SeatPutFault};
+ghost use Rattle.service_cache.specs.Calls.{HasMissed, IsHit, looked_up, AddsLast, FillAdds, RefusedPutAdds};
 
 use super::ServiceCache;
 use crate::looked_up::LookedUp;
+use deed_book::{EntryFault, KeyLanes, Naming, Seat};
 use mover::Seen;
 use page_device::PageDevice;
 use policy_laws::EvictionPolicy;
-use record_pages::{Key, KeyFault, Pushed, PutFault, Value};
+use record_pages::{Key, Pushed, Value};
+use seated_lane::{SeatFault, SeatPutFault};
 use service_lane::{Filled, Lease};
 use std::sync::Wait;
 use value_buffer::ValueBuffer;
 
-impl<D: PageDevice<PAGE>, P: EvictionPolicy + Drop, const PAGE: usize> ServiceCache<D, P, PAGE> {
-    /// Looks a key up, by its bytes, in one hold of its lane. The value of a hit is in the buffer then; at a miss the buffer is
-    /// as it was. No memory is taken.
+impl<
+    D: PageDevice<PAGE>,
+    P: EvictionPolicy + Drop,
+    const PAGE: usize,
+    L: KeyLanes,
+    J: Naming,
+> ServiceCache<D, P, PAGE, L, J> {
+    /// Looks a key up, by its bytes, in one hold of its lane; and the seat sees the list as it is. The value of a hit is in the
+    /// buffer then; at a miss the buffer is as it was. No memory is taken.
     ///
-    /// The moment is the caller's, in the unit in which puts say when they expire; let all callers read one clock. `KeyEmpty`
-    /// and `KeyTooLong`, for bytes that are no key's, change nothing.
+    /// A hit in memory is the key's latest value not since removed in the list that the seat has seen then, live at the
+    /// moment; and so is one on flash, if the devices give back what was written. The moment is the caller's, in the unit in
+    /// which puts say when they expire; let all callers read one clock.
+    ///
+    /// `KeyEmpty` and `KeyTooLong`, for bytes that are no key's, come before a fault of the book. `Foreign` does not come: the
+    /// lane of a key has the key's number in the book, and only it enters writes of its keys; but no contract sees through a
+    /// lock to say so. `Full` and `OutOfMemory` never come.
     pub fn get<R: Wait>(
         &self,
         rt: &R,
+        seat: &mut Seat<L, J>,
         key: &[u8],
         moment: u64,
         found: &mut ValueBuffer,
-    ) -> Result<Seen, KeyFault>
+    ) -> Result<Seen, SeatFault>
+        ensures live { IfOk result (λ seen. IsHit D.honest seat.new key.now moment
+            (answer_of seen found.new)) }
+        ensures seen { IsPrefix seat.old seat.new }
         ensures untouched { IfOk result (λ seen. IsMiss seen → found.new ≡ found.old) }
-        ensures empty { (result ≡ Err KeyFault.KeyEmpty) ↔ (key.now ≡ []) }
-        ensures too_long { (result ≡ Err KeyFault.KeyTooLong) ↔ (255 < length key.now) }
-        ensures memory { result ≢ Err KeyFault.OutOfMemory }
+
+        // When it is refused, and what that leaves.
+        ensures cause { IfErr result (RefusesGet key.now) }
+        ensures answered { OnOk result (IsKey key.now) }
         ensures refused { OnErr result (found.new ≡ found.old) }
     {
-        let mut guard = self.lane(key).lock(rt);
+        let (number, lane) = self.lane(key);
+        let mut guard = lane.lock(rt);
         let held = &mut **guard;
-        held.lane.get(key, moment, found)
+        if held.lane.number() != number {
+            return Err(SeatFault::foreign(key));
+        }
+        held.lane.get(seat, key, moment, found)
     }
 
     /// Looks a key up as `get` does, and leases it at a miss, in the same hold of its lane: for a fill by what is read elsewhere
-    /// then. No memory is taken. At a miss the buffer is as it was.
+    /// then. At a miss the buffer is as it was. No memory is taken.
     pub fn get_or_lease<R: Wait>(
         &self,
         rt: &R,
+        seat: &mut Seat<L, J>,
         key: &[u8],
         moment: u64,
         found: &mut ValueBuffer,
-    ) -> Result<LookedUp, KeyFault>
+    ) -> Result<LookedUp, SeatFault>
+        ensures live { IfOk result (λ seen. IsHit D.honest seat.new key.now moment
+            (looked_up seen found.new)) }
+        ensures seen { IsPrefix seat.old seat.new }
         ensures untouched { IfOk result (λ looked. HasMissed looked → found.new ≡ found.old) }
-        ensures empty { (result ≡ Err KeyFault.KeyEmpty) ↔ (key.now ≡ []) }
-        ensures too_long { (result ≡ Err KeyFault.KeyTooLong) ↔ (255 < length key.now) }
-        ensures memory { result ≢ Err KeyFault.OutOfMemory }
+        ensures cause { IfErr result (RefusesGet key.now) }
+        ensures answered { OnOk result (IsKey key.now) }
         ensures refused { OnErr result (found.new ≡ found.old) }
     {
-        let mut guard = self.lane(key).lock(rt);
+        let (number, lane) = self.lane(key);
+        let mut guard = lane.lock(rt);
         let held = &mut **guard;
-        held.get_or_lease(key, moment, found)
+        if held.lane.number() != number {
+            return Err(SeatFault::foreign(key));
+        }
+        held.get_or_lease(seat, key, moment, found)
     }
 
-    /// Puts a value. **A put that is refused leaves the older value of the key, and later gets hit it: remove the key then**, where
-    /// that would be wrong, or use `put_or_remove`.
+    /// Puts a value, and enters that in the list after all that the seat has seen, in one hold of its key's lane.
     ///
-    /// The value expires at the moment `expires`, or never where that is `NEVER`. Where its lane is near the end of its room
-    /// the put does upkeep there, in the same hold: up to the first step that may ask the device, and 4 steps at most.
+    /// The value expires at the moment `expires`, or never if that is `NEVER`. A put that is refused leaves no older value of
+    /// its key: the key is removed. If the store refused the object, the put is entered all the same. If its lane is near the
+    /// end of its room the put does upkeep there, in the same hold: up to the first step that may ask the device, and 4 steps at
+    /// most.
     pub fn put<R: Wait>(
         &self,
         rt: &R,
+        seat: &mut Seat<L, J>,
         key: Key,
         value: Value,
         expires: u64,
-    ) -> Result<Pushed, PutFault>
-        ensures large { IsErrOf result PutFault.TooLarge ↔ (room PAGE < object_size key value) }
+    ) -> Result<Pushed, SeatPutFault>
+        ensures entered { OnOk result (AddsLast seat.old (put_of key value expires) seat.new) }
+
+        // When it is refused, and what that leaves.
+        ensures cause { IfErr result (RefusesPut PAGE key value) }
+        ensures fits { OnOk result (object_size key value ≤ room PAGE) }
+        ensures refused { IfErr result (λ fault. RefusedPutAdds seat.old (put_of key value expires) fault
+            seat.new) }
     {
-        let mut guard = self.lane(key.bytes()).lock(rt);
+        let (number, lane) = self.lane(key.bytes());
+        let mut guard = lane.lock(rt);
         let held = &mut **guard;
-        held.put(&self.policy, key, value, expires)
+        if held.lane.number() != number {
+            return Err(SeatPutFault::Book(EntryFault::Foreign));
+        }
+        held.put(&self.policy, seat, key, value, expires)
     }
 
-    /// Puts a value as `put` does, or removes the key where the put is refused, in the same hold of its lane: an older value is
-    /// hit no more either way.
-    pub fn put_or_remove<R: Wait>(
-        &self,
-        rt: &R,
-        key: Key,
-        value: Value,
-        expires: u64,
-    ) -> Result<Pushed, PutFault>
-        ensures large { IsErrOf result PutFault.TooLarge ↔ (room PAGE < object_size key value) }
-    {
-        let mut guard = self.lane(key.bytes()).lock(rt);
-        let held = &mut **guard;
-        held.put_or_remove(&self.policy, key, value, expires)
-    }
-
-    /// Puts a value that was read elsewhere since the look-up that leased its key missed, if no put, fill or removal of the
-    /// key came between; else it is `Stale`, and nothing is stored. It may be stale without cause, since keys share slots.
+    /// Puts a value that was read elsewhere since the look-up that leased its key missed, if no put, fill or removal of the key
+    /// came between, and enters that in the list after all that the seat has seen. Else it is `Stale`, and nothing is stored or
+    /// entered. It may be stale without cause, since keys share slots. If the store refuses the object, nothing is entered.
     pub fn fill<R: Wait>(
         &self,
         rt: &R,
+        seat: &mut Seat<L, J>,
         lease: Lease,
         key: Key,
         value: Value,
         expires: u64,
-    ) -> Result<Filled, PutFault>
-        ensures large { IsErrOf result PutFault.TooLarge → room PAGE < object_size key value }
+    ) -> Result<Filled, SeatPutFault>
+        ensures entered { IfOk result (λ filled. FillAdds seat.old (put_of key value expires) filled
+            seat.new) }
+
+        // When it is refused, and what that leaves.
+        ensures large { IsErrOf result (SeatPutFault.Put PutFault.TooLarge) → room PAGE < object_size key value }
+        ensures refused { OnErr result (seat.new ≡ seat.old) }
     {
-        let mut guard = self.lane(key.bytes()).lock(rt);
+        let (number, lane) = self.lane(key.bytes());
+        let mut guard = lane.lock(rt);
         let held = &mut **guard;
-        held.fill(&self.policy, lease, key, value, expires)
+        if held.lane.number() != number {
+            return Err(SeatPutFault::Book(EntryFault::Foreign));
+        }
+        held.fill(&self.policy, seat, lease, key, value, expires)
     }
 
-    /// Removes a key, by its bytes. No later get hits its value. It takes no memory and makes no call of a device; so for the
-    /// 1 to 255 bytes of a key it is never refused. `KeyEmpty` and `KeyTooLong`, for bytes that are no key's, change nothing.
-    pub fn remove<R: Wait>(&self, rt: &R, key: &[u8]) -> Result<(), KeyFault>
-        ensures empty { (result ≡ Err KeyFault.KeyEmpty) ↔ (key.now ≡ []) }
-        ensures too_long { (result ≡ Err KeyFault.KeyTooLong) ↔ (255 < length key.now) }
-        ensures memory { result ≢ Err KeyFault.OutOfMemory }
+    /// Removes a key, by its bytes, and enters that in the list after all that the seat has seen, in one hold of its lane. It
+    /// takes no memory and makes no call of a device. If the book refuses, the key is removed all the same.
+    pub fn remove<R: Wait>(
+        &self,
+        rt: &R,
+        seat: &mut Seat<L, J>,
+        key: &[u8],
+    ) -> Result<(), SeatFault>
+        ensures entered { OnOk result (AddsLast seat.old (record { key = key.now; act = Act.Remove })
+            seat.new) }
+
+        // When it is refused, and what that leaves.
+        ensures cause { IfErr result (RefusesRemoval key.now) }
+        ensures answered { OnOk result (IsKey key.now) }
+        ensures refused { OnErr result (seat.new ≡ seat.old) }
     {
-        let mut guard = self.lane(key).lock(rt);
+        let (number, lane) = self.lane(key);
+        let mut guard = lane.lock(rt);
         let held = &mut **guard;
-        held.lane.remove(key)
+        if held.lane.number() != number {
+            return Err(SeatFault::foreign(key));
+        }
+        held.lane.remove(seat, key)
     }
 }

@@ -3,6 +3,7 @@ ghost use Rattle.std.specs.Prelude.{◌<◌};
 ghost use Rattle.service_cache.specs.Serving.{lanes_of};
 
 use super::ServiceCache;
+use deed_book::{KeyLanes, Naming};
 use klog::LogUsage;
 use lane_devices::DeviceCounts;
 use page_device::PageDevice;
@@ -10,11 +11,17 @@ use policy_laws::EvictionPolicy;
 use service_lane::{Counts, UpkeepStep};
 use std::sync::Wait;
 
-impl<D: PageDevice<PAGE>, P: EvictionPolicy + Drop, const PAGE: usize> ServiceCache<D, P, PAGE> {
+impl<
+    D: PageDevice<PAGE>,
+    P: EvictionPolicy + Drop,
+    const PAGE: usize,
+    L: KeyLanes,
+    J: Naming,
+> ServiceCache<D, P, PAGE, L, J> {
     /// Does what is due in a lane, one step, in one hold of it. At most 33 pages are read and one is written.
     ///
-    /// Whoever tends the cache, a thread beside the callers for one, goes round the lanes and calls it for each as long as the
-    /// step says that something is due behind it; and where it says `OutOfMemory` leaves the lane for the next round.
+    /// Whoever tends the cache, a thread beside the callers for one, goes around the lanes and calls it for each as long as the
+    /// step says that more is due. If it says `OutOfMemory`, leave the lane for the next round.
     pub fn upkeep_step<R: Wait>(&self, rt: &R, lane: u32) -> UpkeepStep
         requires { lane < lanes_of self.now }
     {
@@ -23,7 +30,7 @@ impl<D: PageDevice<PAGE>, P: EvictionPolicy + Drop, const PAGE: usize> ServiceCa
         held.lane.upkeep_step(&self.policy)
     }
 
-    /// How often a lane did what since the cache was opened.
+    /// Counts of what a lane has done since the cache was opened.
     pub fn counts<R: Wait>(&self, rt: &R, lane: u32) -> Counts
         requires { lane < lanes_of self.now }
     {

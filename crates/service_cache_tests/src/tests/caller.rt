@@ -63,15 +63,16 @@ fn len_of(version: u32) -> usize
 }
 
 // Makes a get, and says how it went. A key that has no version must miss.
-fn get<D: PageDevice<PAGE>, P: EvictionPolicy + Drop, const PAGE: usize, R: Wait>(
+fn get<D: PageDevice<256>, L: KeyLanes, J: Naming, R: Wait>(
     rt: &R,
-    cache: &ServiceCache<D, P, PAGE>,
+    cache: &Cache<D, L, J>,
+    seat: &mut Seat<L, J>,
     name: &[u8; 2],
     version: u32,
     tally: Tally,
 ) -> Tally {
     let mut found = ValueBuffer::empty();
-    match cache.get(rt, name, 0, &mut found) {
+    match cache.get(rt, seat, name, 0, &mut found) {
         Ok(Seen::Hit(_)) => {
             let bytes = bytes_of(version);
             if version != 0 && found.bytes() == &bytes[..len_of(version)] {
@@ -102,44 +103,47 @@ fn refused(tally: Tally) -> Tally {
 }
 
 // Removes a key, which has no version then.
-fn removed<D: PageDevice<PAGE>, P: EvictionPolicy + Drop, const PAGE: usize, R: Wait>(
+fn removed<D: PageDevice<256>, L: KeyLanes, J: Naming, R: Wait>(
     rt: &R,
-    cache: &ServiceCache<D, P, PAGE>,
+    cache: &Cache<D, L, J>,
+    seat: &mut Seat<L, J>,
     name: &[u8; 2],
 ) -> u32 {
-    let _removed = cache.remove(rt, name);
+    let _removed = cache.remove(rt, seat, name);
     0
 }
 
-// Puts a version; the key has none then where the put is refused.
-fn put<D: PageDevice<PAGE>, P: EvictionPolicy + Drop, const PAGE: usize, R: Wait>(
+// Puts a version; the key has none after a put that is refused.
+fn put<D: PageDevice<256>, L: KeyLanes, J: Naming, R: Wait>(
     rt: &R,
     alloc: Global,
-    cache: &ServiceCache<D, P, PAGE>,
+    cache: &Cache<D, L, J>,
+    seat: &mut Seat<L, J>,
     name: &[u8; 2],
     version: u32,
 ) -> u32 {
     let bytes = bytes_of(version);
     let Ok(key) = Key::new(alloc, name) else {
-        return removed(rt, cache, name);
+        return removed(rt, cache, seat, name);
     };
     let Ok(value) = Value::new(alloc, &bytes[..len_of(version)]) else {
-        return removed(rt, cache, name);
+        return removed(rt, cache, seat, name);
     };
-    match cache.put_or_remove(rt, key, value, NEVER) {
+    match cache.put(rt, seat, key, value, NEVER) {
         Ok(_) => version,
         Err(_) => 0,
     }
 }
 
 /// Makes so many calls: of ten five are gets, four puts and one a removal.
-pub fn calls<D: PageDevice<PAGE>, P: EvictionPolicy + Drop, const PAGE: usize, R: Wait>(
+pub fn calls<D: PageDevice<256>, L: KeyLanes, J: Naming, R: Wait>(
     rt: &R,
     alloc: Global,
-    cache: &ServiceCache<D, P, PAGE>,
+    cache: &Cache<D, L, J>,
     caller: u8,
     count: u32,
 ) -> Tally {
+    let mut seat = cache.seat();
     let mut versions = [0; KEYS];
     let mut tally = NONE;
     let mut drawn = u64::from(caller);
@@ -148,9 +152,9 @@ pub fn calls<D: PageDevice<PAGE>, P: EvictionPolicy + Drop, const PAGE: usize, R
         let at = (drawn >> 33) as usize % KEYS;
         let name = [caller, at as u8];
         match (drawn >> 41) % 10 {
-            0..=4 => tally = get(rt, cache, &name, versions[at], tally),
-            5 => versions[at] = removed(rt, cache, &name),
-            _ => versions[at] = put(rt, alloc, cache, &name, number + 1),
+            0..=4 => tally = get(rt, cache, &mut seat, &name, versions[at], tally),
+            5 => versions[at] = removed(rt, cache, &mut seat, &name),
+            _ => versions[at] = put(rt, alloc, cache, &mut seat, &name, number + 1),
         }
     }
     tally

@@ -1,53 +1,45 @@
 //! Each call reaches the lane of its key.
-ghost use Rattle.std.specs.Prelude.{◌≡◌, IfOk};
-
+use super::trials::{Trial, is_held};
 use super::*;
-use key_hash::RandomSeed;
 use mover::Seen;
-use record_pages::{MissCause, Tier};
+use record_pages::{KeyFault, MissCause, Tier};
 
-// A cache of so many shards, opened once more where memory was refused.
-fn opened(alloc: Global, seed: RandomSeed, shards: u32) -> Result<Cache, Fail> {
-    let count = shards.min(4) * 2;
-    let devices = so_many(alloc, count, PAGES)?;
-    match Cache::open(alloc, &SMALL, shards, 64, devices, Rriparoo, seed) {
-        Ok(cache) => Ok(cache),
-        Err(_) => {
-            let devices = so_many(alloc, count, PAGES)?;
-            Ok(Cache::open(alloc, &SMALL, shards, 64, devices, Rriparoo, seed)?)
-        }
-    }
-}
-
-// Whether a get finds these bytes in memory; or nothing, where there are none.
-fn finds<D: PageDevice<PAGE>, P: EvictionPolicy + Drop, const PAGE: usize, R: Wait>(
+// Whether a get finds these bytes in memory; or nothing, if there are none.
+fn finds<D: PageDevice<256>, L: KeyLanes, J: Naming, R: Wait>(
     rt: &R,
-    cache: &ServiceCache<D, P, PAGE>,
+    cache: &Cache<D, L, J>,
     name: &[u8],
     bytes: Option<&[u8]>,
 ) -> bool {
     let mut found = ValueBuffer::empty();
-    let seen = cache.get(rt, name, 0, &mut found);
+    let seen = cache.get(rt, &mut cache.seat(), name, 0, &mut found);
     match bytes {
         Some(bytes) => seen == Ok(Seen::Hit(Tier::Memory)) && found.bytes() == bytes,
         None => seen == Ok(Seen::Miss(MissCause::Absent)),
     }
 }
 
-// Whether each of so many keys is found behind its put, and not behind its removal.
-fn each_is_found<D: PageDevice<PAGE>, P: EvictionPolicy + Drop, const PAGE: usize, R: Wait>(
+/// Whether each of so many keys is found after its put, and not after its removal.
+pub fn each_is_found<D: PageDevice<256>, L: KeyLanes, J: Naming, R: Wait>(
     rt: &R,
     alloc: Global,
-    cache: &ServiceCache<D, P, PAGE>,
+    cache: &Cache<D, L, J>,
     count: u8,
 ) -> Result<bool, Fail> {
+    let mut seat = cache.seat();
     for number in 0..count {
         let name = [b'k', number];
-        let _pushed = cache.put(rt, key(alloc, &name)?, value(alloc, &name)?, NEVER)?;
+        let _pushed = cache.put(
+            rt,
+            &mut seat,
+            key(alloc, &name)?,
+            value(alloc, &name)?,
+            NEVER,
+        )?;
         if !finds(rt, cache, &name, Some(&name)) {
             return Ok(false);
         }
-        cache.remove(rt, &name)?;
+        cache.remove(rt, &mut seat, &name)?;
         if !finds(rt, cache, &name, None) {
             return Ok(false);
         }
@@ -56,60 +48,90 @@ fn each_is_found<D: PageDevice<PAGE>, P: EvictionPolicy + Drop, const PAGE: usiz
 }
 
 #[test]
-fn a_key_is_found_behind_its_put_in_each_shard(rt: HostRuntime) -> Result<(), Fail> {
+fn a_key_is_found_after_its_put_in_each_shard(rt: HostRuntime) -> Result<(), Fail> {
     let seed = RandomSeed::draw(&rt)?;
-    let cache = opened(rt.alloc(), seed, 4)?;
-    assert!(rt; each_is_found(&rt, rt.alloc(), &cache, 60)?);
+    assert!(rt; is_held(&rt, rt.alloc(), 4, seed, Trial::FindsKeys)?);
     Ok(())
 }
 
-// What two fills of a key do of which the first was leased, and what is found then.
-fn fills<D: PageDevice<PAGE>, P: EvictionPolicy + Drop, const PAGE: usize, R: Wait>(
+/// Whether a lease is good for one fill, whose value is found then.
+pub fn fills_once<D: PageDevice<256>, L: KeyLanes, J: Naming, R: Wait>(
     rt: &R,
     alloc: Global,
-    cache: &ServiceCache<D, P, PAGE>,
-) -> Result<Option<(Filled, Filled, bool)>, Fail> {
+    cache: &Cache<D, L, J>,
+) -> Result<bool, Fail> {
     let mut found = ValueBuffer::empty();
-    let LookedUp::Miss(MissCause::Absent, lease) = cache.get_or_lease(rt, b"ax", 0, &mut found)?
-    else {
-        return Ok(None);
+    let mut seat = cache.seat();
+    let looked = cache.get_or_lease(rt, &mut seat, b"ax", 0, &mut found)?;
+    let LookedUp::Miss(MissCause::Absent, lease) = looked else {
+        return Ok(false);
     };
-    let first = cache.fill(rt, lease, key(alloc, b"ax")?, value(alloc, b"1")?, NEVER)?;
-    let second = cache.fill(rt, lease, key(alloc, b"ax")?, value(alloc, b"2")?, NEVER)?;
-    Ok(Some((first, second, finds(rt, cache, b"ax", Some(b"1")))))
+    let (name, one) = (key(alloc, b"ax")?, value(alloc, b"1")?);
+    let first = cache.fill(rt, &mut seat, lease, name, one, NEVER)?;
+    let (name, two) = (key(alloc, b"ax")?, value(alloc, b"2")?);
+    let second = cache.fill(rt, &mut seat, lease, name, two, NEVER)?;
+    Ok(
+        first == Filled::Stored(Pushed::Nobody)
+            && second == Filled::Stale
+            && finds(rt, cache, b"ax", Some(b"1")),
+    )
 }
 
 #[test]
 fn a_miss_leases_its_key_for_one_fill(rt: HostRuntime) -> Result<(), Fail> {
     let seed = RandomSeed::draw(&rt)?;
-    let cache = opened(rt.alloc(), seed, 2)?;
-    let stored = Filled::Stored(Pushed::Nobody);
-    assert_eq!(rt;
-        fills(&rt, rt.alloc(), &cache)?,
-        Some((stored, Filled::Stale, true))
-    );
+    assert!(rt; is_held(&rt, rt.alloc(), 2, seed, Trial::FillsOnce)?);
     Ok(())
 }
 
-// Whether a put that is too large leaves the older value, and removes it where that is asked for.
-fn large_puts<D: PageDevice<PAGE>, P: EvictionPolicy + Drop, const PAGE: usize, R: Wait>(
+/// Whether a put that is too large is refused so, and leaves no older value of its key.
+pub fn removes_at_large_puts<D: PageDevice<256>, L: KeyLanes, J: Naming, R: Wait>(
     rt: &R,
     alloc: Global,
-    cache: &ServiceCache<D, P, PAGE>,
-) -> Result<(bool, bool), Fail> {
-    let large = [7; 225];
-    let _pushed = cache.put(rt, key(alloc, b"ax")?, value(alloc, b"1")?, NEVER)?;
-    let put = cache.put(rt, key(alloc, b"ax")?, value(alloc, &large)?, NEVER);
-    let left = put == Err(PutFault::TooLarge) && finds(rt, cache, b"ax", Some(b"1"));
-    let put = cache.put_or_remove(rt, key(alloc, b"ax")?, value(alloc, &large)?, NEVER);
-    let gone = put == Err(PutFault::TooLarge) && finds(rt, cache, b"ax", None);
-    Ok((left, gone))
+    cache: &Cache<D, L, J>,
+) -> Result<bool, Fail> {
+    let mut seat = cache.seat();
+    let small = value(alloc, b"1")?;
+    let _pushed = cache.put(rt, &mut seat, key(alloc, b"ax")?, small, NEVER)?;
+    let large = value(alloc, &[7; 225])?;
+    let put = cache.put(rt, &mut seat, key(alloc, b"ax")?, large, NEVER);
+    Ok(put == Err(SeatPutFault::Put(PutFault::TooLarge)) && finds(rt, cache, b"ax", None))
 }
 
 #[test]
-fn a_refused_put_leaves_the_older_value_or_removes_it(rt: HostRuntime) -> Result<(), Fail> {
+fn a_refused_put_leaves_no_older_value(rt: HostRuntime) -> Result<(), Fail> {
     let seed = RandomSeed::draw(&rt)?;
-    let cache = opened(rt.alloc(), seed, 1)?;
-    assert_eq!(rt; large_puts(&rt, rt.alloc(), &cache)?, (true, true));
+    assert!(rt; is_held(&rt, rt.alloc(), 1, seed, Trial::RemovesAtLargePuts)?);
+    Ok(())
+}
+
+// Whether each call by bytes refuses these bytes so.
+fn refuses<D: PageDevice<256>, L: KeyLanes, J: Naming, R: Wait>(
+    rt: &R,
+    cache: &Cache<D, L, J>,
+    bytes: &[u8],
+    fault: KeyFault,
+) -> bool {
+    let mut seat = cache.seat();
+    let mut found = ValueBuffer::empty();
+    let fault = SeatFault::Key(fault);
+    cache.get(rt, &mut seat, bytes, 0, &mut found) == Err(fault)
+        && cache.get_or_lease(rt, &mut seat, bytes, 0, &mut found) == Err(fault)
+        && cache.remove(rt, &mut seat, bytes) == Err(fault)
+}
+
+/// Whether bytes that are no key's are refused, each for its reason.
+pub fn refuses_bytes<D: PageDevice<256>, L: KeyLanes, J: Naming, R: Wait>(
+    rt: &R,
+    cache: &Cache<D, L, J>,
+) -> bool {
+    refuses(rt, cache, b"", KeyFault::KeyEmpty)
+        && refuses(rt, cache, &[b'k'; 256], KeyFault::KeyTooLong)
+}
+
+#[test]
+fn bytes_that_are_no_keys_are_refused(rt: HostRuntime) -> Result<(), Fail> {
+    let seed = RandomSeed::draw(&rt)?;
+    assert!(rt; is_held(&rt, rt.alloc(), 1, seed, Trial::RefusesBytes)?);
     Ok(())
 }

@@ -1,27 +1,18 @@
 //! Callers one after the other, with and without upkeep by another hand.
 use super::caller::{NONE, Tally, calls, sum};
+use super::trials::{Trial, is_held};
 use super::*;
-use key_hash::RandomSeed;
 
 // How many callers make their calls, and how many each of them makes.
 const CALLERS: u8 = 100;
 
 const CALLS: u32 = 1_000;
 
-// How many steps of upkeep are asked for in each lane behind a caller's calls.
+// How many steps of upkeep are asked for in each lane after a caller's calls.
 const STEPS: u32 = 8;
 
-// A cache of two shards of two lanes.
-fn opened(alloc: Global, seed: RandomSeed) -> Result<Cache, Fail> {
-    let devices = so_many(alloc, 4, PAGES)?;
-    Ok(Cache::open(alloc, &SMALL, 2, 64, devices, Rriparoo, seed)?)
-}
-
 // Does what is due in each lane.
-fn tend<D: PageDevice<PAGE>, P: EvictionPolicy + Drop, const PAGE: usize, R: Wait>(
-    rt: &R,
-    cache: &ServiceCache<D, P, PAGE>,
-) {
+fn tend<D: PageDevice<256>, L: KeyLanes, J: Naming, R: Wait>(rt: &R, cache: &Cache<D, L, J>) {
     for lane in 0..cache.lanes() {
         for _ in 0..STEPS {
             let _step = cache.upkeep_step(rt, lane);
@@ -29,11 +20,11 @@ fn tend<D: PageDevice<PAGE>, P: EvictionPolicy + Drop, const PAGE: usize, R: Wai
     }
 }
 
-// Makes the calls of all callers, with upkeep behind each where that is wanted.
-fn all_calls<D: PageDevice<PAGE>, P: EvictionPolicy + Drop, const PAGE: usize, R: Wait>(
+// Makes the calls of all callers, with upkeep after each if that is wanted.
+fn all_calls<D: PageDevice<256>, L: KeyLanes, J: Naming, R: Wait>(
     rt: &R,
     alloc: Global,
-    cache: &ServiceCache<D, P, PAGE>,
+    cache: &Cache<D, L, J>,
     is_tended: bool,
 ) -> Tally {
     let mut all = NONE;
@@ -46,41 +37,72 @@ fn all_calls<D: PageDevice<PAGE>, P: EvictionPolicy + Drop, const PAGE: usize, R
     all
 }
 
-// How often each tier was hit, how many steps were done in help, and how many by others, in all lanes.
-fn counted<D: PageDevice<PAGE>, P: EvictionPolicy + Drop, const PAGE: usize, R: Wait>(
+// How often each tier was hit, how many steps were done in help, and how many in all, in all lanes.
+#[derive(Drop)]
+struct Totals {
+    log: u64,
+    set: u64,
+    in_help: u64,
+    steps: u64,
+}
+
+fn counted<D: PageDevice<256>, L: KeyLanes, J: Naming, R: Wait>(
     rt: &R,
-    cache: &ServiceCache<D, P, PAGE>,
-) -> (u64, u64, u64, u64) {
-    let (mut log, mut set, mut in_help, mut steps) = (0u64, 0u64, 0u64, 0u64);
+    cache: &Cache<D, L, J>,
+) -> Totals {
+    let mut all = Totals {
+        log: 0,
+        set: 0,
+        in_help: 0,
+        steps: 0,
+    };
     for lane in 0..cache.lanes() {
         let counts = cache.counts(rt, lane);
-        log = log.wrapping_add(counts.gets.log_hits);
-        set = set.wrapping_add(counts.gets.set_hits);
-        in_help = in_help.wrapping_add(counts.upkeep.in_help);
-        steps = steps.wrapping_add(counts.upkeep.steps);
+        all.log = all.log.wrapping_add(counts.gets.log_hits);
+        all.set = all.set.wrapping_add(counts.gets.set_hits);
+        all.in_help = all.in_help.wrapping_add(counts.upkeep.in_help);
+        all.steps = all.steps.wrapping_add(counts.upkeep.steps);
     }
-    (log, set, in_help, steps)
+    all
+}
+
+/// Whether no call is wrong or refused, each tier is hit, and puts do all the upkeep.
+pub fn is_right_alone<D: PageDevice<256>, L: KeyLanes, J: Naming, R: Wait>(
+    rt: &R,
+    alloc: Global,
+    cache: &Cache<D, L, J>,
+) -> bool {
+    let tally = all_calls(rt, alloc, cache, false);
+    let all = counted(rt, cache);
+    tally.wrong == 0
+        && tally.refused == 0
+        && all.log > 0
+        && all.set > 0
+        && all.in_help > 0
+        && all.steps == all.in_help
 }
 
 #[test]
 fn no_hit_is_old_where_nobody_tends(rt: HostRuntime) -> Result<(), Fail> {
-    let cache = opened(rt.alloc(), RandomSeed::draw(&rt)?)?;
-    let tally = all_calls(&rt, rt.alloc(), &cache, false);
-    let (log, set, in_help, steps) = counted(&rt, &cache);
-    assert_eq!(rt;
-        (tally.wrong, tally.refused, in_help == steps),
-        (0, 0, true)
-    );
-    assert!(rt; log > 0 && set > 0 && in_help > 0);
+    let seed = RandomSeed::draw(&rt)?;
+    assert!(rt; is_held(&rt, rt.alloc(), 2, seed, Trial::OneByOne)?);
     Ok(())
+}
+
+/// Whether no call is wrong or refused, each tier is hit, and another hand does upkeep too.
+pub fn is_right_tended<D: PageDevice<256>, L: KeyLanes, J: Naming, R: Wait>(
+    rt: &R,
+    alloc: Global,
+    cache: &Cache<D, L, J>,
+) -> bool {
+    let tally = all_calls(rt, alloc, cache, true);
+    let all = counted(rt, cache);
+    tally.wrong == 0 && tally.refused == 0 && all.log > 0 && all.set > 0 && all.steps > all.in_help
 }
 
 #[test]
 fn no_hit_is_old_beside_upkeep(rt: HostRuntime) -> Result<(), Fail> {
-    let cache = opened(rt.alloc(), RandomSeed::draw(&rt)?)?;
-    let tally = all_calls(&rt, rt.alloc(), &cache, true);
-    let (log, set, in_help, steps) = counted(&rt, &cache);
-    assert_eq!(rt; (tally.wrong, tally.refused), (0, 0));
-    assert!(rt; log > 0 && set > 0 && steps > in_help);
+    let seed = RandomSeed::draw(&rt)?;
+    assert!(rt; is_held(&rt, rt.alloc(), 2, seed, Trial::OneByOneTended)?);
     Ok(())
 }

@@ -1,10 +1,11 @@
 //! When a cache is opened.
+use super::trials::{Numbers, Outcome, Trial, try_over};
 use super::*;
-use key_hash::RandomSeed;
 use record_pages::Field;
 use service_cache::MAX_SHARDS;
+use std::thread::Threads;
 
-/// An opening, and why it is refused.
+/// An opening, and what becomes of it.
 #[derive(Clone, Copy)]
 struct Row {
     config: Config,
@@ -13,7 +14,7 @@ struct Row {
     // How many devices, of how many pages each.
     devices: u32,
     pages: u32,
-    fault: Option<OpenServiceFault>,
+    outcome: Outcome,
 }
 
 const NO_SET: Config = Config { sets: 0, ..SMALL };
@@ -24,10 +25,10 @@ const OPENS: Row = Row {
     slots: 1,
     devices: 4,
     pages: PAGES,
-    fault: None,
+    outcome: Outcome::Held(true),
 };
 
-// Each refusal where all behind it apply too.
+// Each refusal while all that are tested after it apply too.
 const ROWS: [Row; 8] = [
     OPENS,
     Row {
@@ -36,14 +37,14 @@ const ROWS: [Row; 8] = [
         slots: 0,
         devices: 0,
         pages: 4,
-        fault: Some(OpenServiceFault::ConfigFault(Field::Sets)),
+        outcome: Outcome::Refused(OpenServiceFault::ConfigFault(Field::Sets)),
     },
     Row {
         shards: 0,
         slots: 0,
         devices: 1,
         pages: 4,
-        fault: Some(OpenServiceFault::Shards),
+        outcome: Outcome::Refused(OpenServiceFault::Shards),
         ..OPENS
     },
     Row {
@@ -51,56 +52,55 @@ const ROWS: [Row; 8] = [
         slots: 0,
         devices: 1,
         pages: 4,
-        fault: Some(OpenServiceFault::Shards),
+        outcome: Outcome::Refused(OpenServiceFault::Shards),
         ..OPENS
     },
     Row {
         slots: 0,
         devices: 2,
         pages: 4,
-        fault: Some(OpenServiceFault::DeviceCount),
+        outcome: Outcome::Refused(OpenServiceFault::DeviceCount),
         ..OPENS
     },
     Row {
         devices: 5,
-        fault: Some(OpenServiceFault::DeviceCount),
+        outcome: Outcome::Refused(OpenServiceFault::DeviceCount),
         ..OPENS
     },
     Row {
         slots: 0,
         pages: 4,
-        fault: Some(OpenServiceFault::NoLeaseSlots),
+        outcome: Outcome::Refused(OpenServiceFault::NoLeaseSlots),
         ..OPENS
     },
     Row {
         pages: 4,
-        fault: Some(OpenServiceFault::DeviceTooSmall),
+        outcome: Outcome::Refused(OpenServiceFault::DeviceTooSmall),
         ..OPENS
     },
 ];
 
-// Why a cache is not opened so, if it is not.
-fn fault_of(alloc: Global, seed: RandomSeed, row: &Row) -> Result<Option<OpenServiceFault>, Fail> {
+// What becomes of an opening.
+fn outcome_of<R: Threads + Wait + Sync>(
+    rt: &R,
+    alloc: Global,
+    seed: RandomSeed,
+    row: &Row,
+) -> Result<Outcome, Fail> {
     let devices = so_many(alloc, row.devices, row.pages)?;
-    match Cache::open(
-        alloc,
-        &row.config,
-        row.shards,
-        row.slots,
-        devices,
-        Rriparoo,
-        seed,
-    ) {
-        Ok(_) => Ok(None),
-        Err(fault) => Ok(Some(fault)),
-    }
+    let numbers = Numbers {
+        config: row.config,
+        shards: row.shards,
+        slots: row.slots,
+    };
+    try_over(rt, alloc, &numbers, devices, seed, Trial::Opens)
 }
 
 #[test]
 fn each_refusal_of_an_opening_comes_in_its_order(rt: HostRuntime) -> Result<(), Fail> {
     let seed = RandomSeed::draw(&rt)?;
     for row in &ROWS {
-        assert_eq!(rt; fault_of(rt.alloc(), seed, row)?, row.fault);
+        assert_eq!(rt; outcome_of(&rt, rt.alloc(), seed, row)?, row.outcome);
     }
     Ok(())
 }

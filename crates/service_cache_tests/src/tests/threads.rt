@@ -1,8 +1,8 @@
 //! Callers in threads of their own, with and without upkeep by another thread, over memory, over devices that fail and over files.
 use super::caller::{NONE, Tally, calls, sum};
+use super::trials::{Outcome, TWO_SHARDS, Trial, is_held, try_over};
 use super::*;
 use file_device::FileDevice;
-use key_hash::RandomSeed;
 use page_device::FuseDevice;
 use std::fs::File;
 use std::rt::Files;
@@ -13,17 +13,6 @@ use std::thread::{Threads, join, map_indices};
 const CALLERS: usize = 4;
 
 const CALLS: u32 = 12_500;
-
-type Over<D> = ServiceCache<D, Rriparoo, 256>;
-
-// A cache of two shards of two lanes.
-fn over<D: PageDevice<256>>(
-    alloc: Global,
-    devices: Vec<D>,
-    seed: RandomSeed,
-) -> Result<Over<D>, OpenServiceFault> {
-    ServiceCache::open(alloc, &SMALL, 2, 64, devices, Rriparoo, seed)
-}
 
 // Devices of which two refuse one call, and two all calls from one on.
 fn fuses(alloc: Global) -> Result<Vec<FuseDevice<MemoryDevice<256>>>, Fail> {
@@ -44,12 +33,13 @@ fn files<R: Files<File = File>>(rt: &R, alloc: Global) -> Result<Vec<FileDevice<
     Ok(devices)
 }
 
-// Makes the calls of all callers, each in a thread of its own; none where there was no memory or no thread.
-fn all_calls<D, R>(rt: &R, alloc: Global, cache: &Over<D>) -> Option<Tally>
-where
+// Makes the calls of all callers, each in a thread of its own; none if there was no memory or no thread.
+fn all_calls<
     D: PageDevice<256> + Send,
+    L: KeyLanes + Send + Sync,
+    J: Naming + Send + Sync,
     R: Threads + Wait + Sync,
-{
+>(rt: &R, alloc: Global, cache: &Cache<D, L, J>) -> Option<Tally> {
     let made = map_indices(
         rt,
         alloc,
@@ -66,8 +56,12 @@ where
     Some(all)
 }
 
-// Does what is due in each lane, until it is told that the callers have ended.
-fn tend<D: PageDevice<256>, R: Wait>(rt: &R, cache: &Over<D>, ended: &AtomicU64) {
+// Does what is due in each lane, until the callers have ended.
+fn tend<D: PageDevice<256>, L: KeyLanes, J: Naming, R: Wait>(
+    rt: &R,
+    cache: &Cache<D, L, J>,
+    ended: &AtomicU64,
+) {
     for _ in rt.forever() {
         if ended.load(Ordering::SeqCst) != 0 {
             return;
@@ -79,11 +73,12 @@ fn tend<D: PageDevice<256>, R: Wait>(rt: &R, cache: &Over<D>, ended: &AtomicU64)
 }
 
 // The calls of all callers, beside a thread that tends the cache.
-fn tended_calls<D, R>(rt: &R, alloc: Global, cache: &Over<D>) -> Option<Tally>
-where
+fn tended_calls<
     D: PageDevice<256> + Send,
+    L: KeyLanes + Send + Sync,
+    J: Naming + Send + Sync,
     R: Threads + Wait + Sync,
-{
+>(rt: &R, alloc: Global, cache: &Cache<D, L, J>) -> Option<Tally> {
     let ended = AtomicU64::new(0);
     let ended = &ended;
     let (made, _) = join(
@@ -104,34 +99,68 @@ fn is_right(made: Option<Tally>) -> bool {
     all.wrong == 0 && all.refused == 0 && all.hits > 0
 }
 
+/// Whether the calls of all callers are right, and nobody tends.
+pub fn are_right<
+    D: PageDevice<256> + Send,
+    L: KeyLanes + Send + Sync,
+    J: Naming + Send + Sync,
+    R: Threads + Wait + Sync,
+>(rt: &R, alloc: Global, cache: &Cache<D, L, J>) -> bool {
+    is_right(all_calls(rt, alloc, cache))
+}
+
+/// Whether the calls of all callers are right, beside a thread that tends the cache.
+pub fn are_right_tended<
+    D: PageDevice<256> + Send,
+    L: KeyLanes + Send + Sync,
+    J: Naming + Send + Sync,
+    R: Threads + Wait + Sync,
+>(rt: &R, alloc: Global, cache: &Cache<D, L, J>) -> bool {
+    is_right(tended_calls(rt, alloc, cache))
+}
+
 #[test]
 fn no_hit_of_threads_is_old(rt: HostRuntime) -> Result<(), Fail> {
-    let devices = so_many(rt.alloc(), 4, PAGES)?;
-    let cache = over(rt.alloc(), devices, RandomSeed::draw(&rt)?)?;
-    assert!(rt; is_right(all_calls(&rt, rt.alloc(), &cache)));
+    let seed = RandomSeed::draw(&rt)?;
+    assert!(rt; is_held(&rt, rt.alloc(), 2, seed, Trial::Together)?);
     Ok(())
 }
 
 #[test]
 fn no_hit_of_threads_is_old_beside_upkeep(rt: HostRuntime) -> Result<(), Fail> {
-    let devices = so_many(rt.alloc(), 4, PAGES)?;
-    let cache = over(rt.alloc(), devices, RandomSeed::draw(&rt)?)?;
-    assert!(rt; is_right(tended_calls(&rt, rt.alloc(), &cache)));
+    let seed = RandomSeed::draw(&rt)?;
+    assert!(rt; is_held(&rt, rt.alloc(), 2, seed, Trial::TogetherTended)?);
     Ok(())
 }
 
 #[test]
 fn no_hit_of_threads_is_old_over_fuses(rt: HostRuntime) -> Result<(), Fail> {
+    let seed = RandomSeed::draw(&rt)?;
     let devices = fuses(rt.alloc())?;
-    let cache = over(rt.alloc(), devices, RandomSeed::draw(&rt)?)?;
-    assert!(rt; is_right(tended_calls(&rt, rt.alloc(), &cache)));
+    let outcome = try_over(
+        &rt,
+        rt.alloc(),
+        &TWO_SHARDS,
+        devices,
+        seed,
+        Trial::TogetherTended,
+    )?;
+    assert_eq!(rt; outcome, Outcome::Held(true));
     Ok(())
 }
 
 #[test]
 fn no_hit_of_threads_is_old_over_files(rt: HostRuntime) -> Result<(), Fail> {
+    let seed = RandomSeed::draw(&rt)?;
     let devices = files(&rt, rt.alloc())?;
-    let cache = over(rt.alloc(), devices, RandomSeed::draw(&rt)?)?;
-    assert!(rt; is_right(tended_calls(&rt, rt.alloc(), &cache)));
+    let outcome = try_over(
+        &rt,
+        rt.alloc(),
+        &TWO_SHARDS,
+        devices,
+        seed,
+        Trial::TogetherTended,
+    )?;
+    assert_eq!(rt; outcome, Outcome::Held(true));
     Ok(())
 }

@@ -1,9 +1,10 @@
-use Rattle.std.proofs.Common.{sym, subst}
+use Rattle.std.proofs.Common.{rules, sym, subst}
 use Rattle.trace_file.specs.declared.act.Act.TheVariants.{Remove}
 use Rattle.certificate_checker.specs.Deeds.{Deed}
 use Rattle.deed_book.specs.Registers.{Registered, EntersIn}
 use Rattle.seated_lane.specs.Seated.{IsSeated}
 use Rattle.seated_lane.proofs.Seating.{seated_removed, seated_forgotten}
+use Rattle.seated_lane.proofs.Refusing.{is_key, refused_key}
 use Rattle.seated_lane.proofs.lane.SeatedLane.remove.Goals as goal
 
 pub invariant_of-self-in_err-enter : goal.invariant_of-self-in_err-enter
@@ -20,3 +21,10 @@ invariant_of-self-2 g c =
     let enters : EntersIn lane_of c.self.inside.register c.args.seat.now removal c.enter.new.self c.enter.new.seat =
     subst (λ (w : Deed). EntersIn lane_of c.self.inside.register c.args.seat.now w c.enter.new.self c.enter.new.seat) c.removal-removal.ensures c.in_ok-enter.ensures.entered in
     seated_removed lane_of c.self.inside.register c.self.inside.lane.deeds c.self.invariant removal c.remove.new.self.deeds c.args.seat.now c.enter.new.seat c.enter.new.self c.in_ok-remove.ensures.removed.deeds enters
+
+pub returns-in_err-enter-clause-cause : goal.returns-in_err-enter-clause-cause
+returns-in_err-enter-clause-cause g c =
+    refused_key c.from_residual-in_err-enter.result c.args.key.now c.in_err-enter.field-0.0 (search rules) (is_key c.in_ok-remove.field-0 c.args.key.now c.in_ok-remove.ensures.empty c.in_ok-remove.ensures.too_long)
+
+pub returns-clause-answered : goal.returns-clause-answered
+returns-clause-answered g c = is_key c.in_ok-remove.field-0 c.args.key.now c.in_ok-remove.ensures.empty c.in_ok-remove.ensures.too_long

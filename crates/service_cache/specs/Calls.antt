@@ -1,0 +1,44 @@
+-- What a hit of a cache is, and what its calls do to a seat.
+use Rattle.std.specs.Prelude.{◌≡◌, ℕ, List, [], ◌∷◌, ◌++◌, Bool, IsTrue}
+use mathlib.Core.List.{IsPrefix}
+use Rattle.record_pages.specs.declared.answer.Answer.{Answer}
+use Rattle.record_pages.specs.declared.answer.Answer.TheVariants as answers
+use Rattle.certificate_checker.specs.Deeds.{Deed}
+use Rattle.service_lane.specs.Asked.{IsLiveHit}
+use Rattle.service_lane.specs.declared.filled.Filled.{Filled}
+use Rattle.service_lane.specs.declared.filled.Filled.TheVariants.{Stored, Stale}
+use Rattle.service_cache.specs.declared.looked_up.LookedUp.{LookedUp}
+use Rattle.service_cache.specs.declared.looked_up.LookedUp.TheVariants.{Hit, Miss}
+use Rattle.seated_lane.specs.declared.seat_fault.SeatPutFault.{SeatPutFault}
+use Rattle.seated_lane.specs.declared.seat_fault.SeatPutFault.TheVariants as refusals
+
+-- A hit is its key's latest value in the list not since removed, live at the moment: in memory whatever the devices do, on flash if
+-- each device of their type is honest.
+abbrev pub IsHit : {D : Type 0} → (D → Bool) → List Deed → List ℕ → ℕ → Answer → Type 0
+IsHit {D} honest list key moment answer = IsLiveHit ((device : D) → IsTrue (honest device)) list key moment answer
+
+-- what a look-up gave that leases a key at a miss, if this is in the buffer
+abbrev pub looked_up : LookedUp → List ℕ → Answer
+looked_up (Hit tier) value = answers.Hit value tier
+looked_up (Miss cause lease) value = answers.Miss cause
+
+-- a look-up that found no value
+abbrev pub HasMissed : LookedUp → Type 0
+HasMissed (Hit tier) = ⊥
+HasMissed (Miss cause lease) = Unit {0}
+
+-- a write comes after all that the seat had seen, and is the last that it has seen now
+pub record AddsLast (seat_old : List Deed) (write : Deed) (seat_new : List Deed) : Type 0 where
+  pub before : List Deed
+  pub seen : IsPrefix seat_old before
+  pub last : seat_new ≡ before ++ write ∷ []
+
+-- what a fill adds: if it is stale, nothing
+abbrev pub FillAdds : List Deed → Deed → Filled → List Deed → Type 0
+FillAdds seat_old put (Stored pushed) seat_new = AddsLast seat_old put seat_new
+FillAdds seat_old put Stale seat_new = seat_new ≡ seat_old
+
+-- What a refused put adds. If the store refused it, it is entered all the same; its key is removed from the lane either way.
+abbrev pub RefusedPutAdds : List Deed → Deed → SeatPutFault → List Deed → Type 0
+RefusedPutAdds seat_old put (refusals.Put fault) seat_new = AddsLast seat_old put seat_new
+RefusedPutAdds seat_old put (refusals.Book fault) seat_new = seat_new ≡ seat_old
