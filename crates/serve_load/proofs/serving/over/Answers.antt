@@ -2,5 +2,5 @@
 use Rattle.serve_load.proofs.Saying.{said_report}
 use Rattle.serve_load.proofs.serving.over.Goals as goal
 
-pub returns-in-Ok-make-clause-wrote : goal.returns-in-Ok-make-clause-wrote
-returns-in-Ok-make-clause-wrote g c = said_report c.args.load.now c.in-Ok-make.report _ _ c.write_report.result.end c.in-Ok-make.ensures.made c.write_report.ensures
+pub returns-in-Ok-sorted-clause-wrote : goal.returns-in-Ok-sorted-clause-wrote
+returns-in-Ok-sorted-clause-wrote g c = said_report c.args.load.now c.in-Ok-sorted.report _ _ c.write_report.result.end c.in-Ok-sorted.ensures.made c.write_report.ensures
