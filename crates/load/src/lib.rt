@@ -1,7 +1,6 @@
 //! What a load asks of a cache: its settings, and the operations of its callers.
 #![tactic(auto)]
 
-mod layouts;
 mod load;
 mod numbers;
 mod operations;
@@ -11,7 +10,6 @@ mod setting;
 mod size_setting;
 
 pub use file_requests::FileName;
-pub use layouts::{config_of, pages_of};
 pub use load::Load;
 pub use numbers::{load_with, served_with};
 pub use operations::next_operation;

@@ -43,7 +43,7 @@ pub(crate) fn least_memory(load: &ServedLoad, size: u64) -> Option<u64> {
     let Ok(mut shape) = Shape::of(&plenty) else {
         return None;
     };
-    shape.memory_objects = 1;
+    shape.memory = 1;
     Some(shape.memory_bytes(plenty.object_bytes))
 }
 
