@@ -41,7 +41,7 @@ use trace_file::{CallRef, Entry};
 mod background;
 
 /// The most lanes of a cache.
-pub(crate) const MAX_LANES: usize = 16;
+pub(crate) const MAX_LANES: usize = record_pages::MAX_LANES as usize;
 
 /// The most bytes of a call's key and value.
 const MOST_BYTES: usize = Key::MAX_LEN + Value::MAX_LEN;
