@@ -1,12 +1,12 @@
 -- A script as far as it has run.
-use Rattle.std.proofs.Common.{◌≡◌, ◌≢◌, ℕ, suc, ◌⊎◌, if◌then◌else◌, Bool, true, false, ◌||◌, eqb, ltb, inl, inr, subst, ◌+◌, ◌<◌, ◌≤◌, List, [], ◌∷◌, ◌++◌, length, take, Option, Some, None, IfSome, sym, ap, ◌∙◌, refl, arith, append_assoc}
+use Rattle.std.proofs.Common.{◌≡◌, ◌≢◌, ℕ, Bool, true, false, ◌||◌, ltb, inl, inr, subst, ◌+◌, ◌<◌, ◌≤◌, List, [], ◌∷◌, ◌++◌, length, take, Option, Some, None, IfSome, sym, ap, ◌∙◌, refl, arith, append_assoc}
 use Rattle.std.specs.Io.KnownBytes.{Appends, Consumes, IsAtEnd, Keeps}
-use Rattle.std.specs.List.{onto_first, concat}
+use Rattle.std.specs.List.{concat}
 use Rattle.std.proofs.lemmas.Bool.{cases_Bool}
 use Rattle.std.proofs.lemmas.List.{append-nil, length-append, length_push}
 use Rattle.std.proofs.lemmas.List.Folds.{concat-append}
 use Rattle.std.proofs.Math.Seq.{take-append_seam}
-use borrow.Author.Tests.{lt-ltb, ltb-true, ltb-false}
+use borrow.Author.Tests.{lt-ltb, ltb-false}
 use Rattle.script_words.specs.declared.line_read.LineRead.{LineRead}
 use Rattle.script_words.specs.declared.line_read.LineRead.TheVariants.{Line, TooLong, End}
 use Rattle.scripts.specs.declared.script_fault.ScriptFault.{ScriptFault}
@@ -16,7 +16,7 @@ use Rattle.scripts.specs.declared.scripted.Scripted.TheVariants.{Ended, BadLine}
 use Rattle.scripts.specs.declared.turn.Turn.{Turn}
 use Rattle.scripts.specs.declared.turn.Turn.TheVariants.{GoesOn, Ends}
 use Rattle.script_words.specs.Lines.{Ahead, GivesNext, Takes, lines_of, first_line, after_line, feeds, is_ready}
-use Rattle.script_words.proofs.NextLine.{next_lines, feeds-append, through, through_after, one_feed, fed_line, unfed_line, ready_line, reads}
+use Rattle.script_words.proofs.NextLine.{next_lines, feeds-append, through, through_after, one_feed, ready_line, reads}
 use Rattle.scripts.specs.Own.{Opened}
 use Rattle.scripts.specs.Script.{LineReply, Transcript, bad_line, reply_to_line, reply_to_read, transcript, script_of, then_rest, by_turn, IsWhole, WroteAt, WroteWholeLines, WroteLinesBefore}
 use Rattle.scripts.specs.Reading.{Answers, Moves}

@@ -19,9 +19,9 @@ use crate::open_lane_fault::OpenLaneFault;
 use crate::recording::Recording;
 use history_recorder::{RecordFault, RecordPutFault, RecordedLane, accepted_in_turn};
 use klog::Flushed;
-use mover::{Moved, OpenFault};
+use mover::Moved;
 use page_device::MemoryDevice;
-use record_pages::{Answer, Config, Field, Key, Layout, Pushed, Value};
+use record_pages::{Answer, Config, Field, Key, Pushed, Value};
 use rriparoo::Rriparoo;
 use std::alloc::{AllocError, Global};
 use std::marker::Model;
@@ -67,14 +67,9 @@ impl<const PAGE: usize> ScriptLane<PAGE> {
                 field: Field::Lanes,
             });
         }
-        let device = MemoryDevice::new(alloc, pages_of(&layout))?;
-        match RecordedLane::open(alloc, config, 0, device) {
-            Ok(lane) => Ok(ScriptLane { lane }),
-            Err(OpenFault::OutOfMemory) => Err(OpenLaneFault::OutOfMemory),
-            Err(OpenFault::ConfigFault { .. }) => unreachable!(),
-            Err(OpenFault::WrongPage) => unreachable!(),
-            Err(OpenFault::DeviceTooSmall) => unreachable!(),
-        }
+        let device = MemoryDevice::new(alloc, layout.pages())?;
+        let lane = RecordedLane::with_layout(alloc, &layout, 0, device)?;
+        Ok(ScriptLane { lane })
     }
 
     /// Answers a get as the script's next call. A refused call takes no number.
@@ -205,13 +200,6 @@ ghost use Rattle.scripts.specs.Own.{ended};
 
 use history_recorder::NotedRef;
 use trace_file::{Act, CallRef};
-
-/// How many pages the sets and the log of a layout ask for.
-fn pages_of(layout: &Layout) -> u32
-    ensures { result ≡ layout.now.sets + layout.now.segments * layout.now.segment_pages }
-{
-    layout.sets + layout.segments * layout.segment_pages
-}
 
 /// A recorded call, with its end.
 fn with_end(noted: NotedRef<'_>) -> CallRef<'_>
