@@ -1,7 +1,9 @@
 -- When a lane opens, and what it is then.
-use Rattle.std.specs.Prelude.{◌≡◌, ◌<◌, ℕ, ◌+◌, ◌*◌, [], None, fold, replicate}
+use Rattle.std.specs.Prelude.{◌≡◌, ◌≤◌, ℕ, [], None, fold, replicate}
 use Rattle.std.specs.Hash as fed
+use Rattle.record_pages.specs.Asked.{HasNumbersOf}
 use Rattle.record_pages.specs.declared.layout.Layout.{Layout}
+use Rattle.cache_sizes.specs.Shapes.{file_pages}
 use Rattle.lane_devices.specs.Counting.{no_device_counts}
 use Rattle.key_hash.specs.declared.random_seed.RandomSeed.{RandomSeed}
 use Rattle.key_hash.specs.Hashing.{started, written}
@@ -16,18 +18,7 @@ use Rattle.c_lane.specs.declared.status.Status.{Status}
 use Rattle.c_lane.specs.declared.status.Status.TheVariants as statuses
 use Rattle.c_lane.specs.Lane.{LaneState}
 use Rattle.c_lane.specs.Placing.{seed_of}
-use Rattle.c_lane.specs.Shapes.{first_faulty_field}
-
--- the layout has the numbers of a shape
-pub record IsLayoutOf (s : LaneShape) (layout : Layout) : Type 0 where
-  pub lanes : layout.lanes ≡ s.lanes
-  pub sets : layout.sets ≡ s.sets
-  pub memory : layout.memory ≡ s.memory_objects
-  pub segments : layout.segments ≡ s.segments
-  pub segment_pages : layout.segment_pages ≡ s.segment_pages
-  pub entries : layout.entries ≡ s.log_objects
-  pub threshold : layout.threshold ≡ s.threshold
-  pub admit : layout.admit ≡ s.admit
+use Rattle.c_lane.specs.Shapes.{config_of, first_faulty_field}
 
 -- the generator of the words of a lane with this number: started by a hash of the number, on a stream of its own
 unfoldable pub words_for : RandomSeed → ℕ → Lcg
@@ -36,7 +27,7 @@ words_for seed number = lcg.started 64 multiplier_64 (fold written (started seed
 -- a lane was opened over this device: it is empty, nothing was asked of it, and the device is as it was
 pub record Opens {D : Type 0} (s : LaneShape) (seed : Seed) (number : ℕ) (device : D) (lane : LaneState D) : Type 0 where
   pub layout : Layout
-  pub numbers : IsLayoutOf s layout
+  pub numbers : HasNumbersOf layout (config_of s)
   pub serving : lane.serving ≡ record {
     store = opening layout (record { device = device; counts = no_device_counts });
     deeds = [];
@@ -48,7 +39,7 @@ pub record Opens {D : Type 0} (s : LaneShape) (seed : Seed) (number : ℕ) (devi
 -- a lane of a shape can be opened over so many pages, memory aside
 pub record CanOpen (s : LaneShape) (pages : ℕ) : Type 0 where
   pub numbers : first_faulty_field s ≡ None
-  pub enough : ¬ (pages < s.sets + s.segments * s.segment_pages)
+  pub enough : file_pages s.sets s.segments s.segment_pages ≤ pages
 
 -- When each refusal comes, over so many pages.
 abbrev pub RefusesOpening : LaneShape → ℕ → Status → Type 0

@@ -1,5 +1,12 @@
 -- Shapes and sizes as C has them.
-use Rattle.std.specs.Prelude.{◌≡◌, ℕ, ◌≤◌, List, [], ◌∷◌, Option, Some, None, option_map, find, Bool, not, ◌&&◌, nat_le, ◌==◌, if◌then◌else◌}
+use Rattle.std.specs.Prelude.{◌≡◌, ℕ, ◌≤◌, List, [], ◌∷◌, Option, Some, None, option_map, find, Bool, true, false, not, ◌==◌, if◌then◌else◌}
+use Rattle.record_pages.specs.Asked.{HasNumbersOf}
+use Rattle.record_pages.specs.Ranges.{Range, range, range_of, is_in}
+use Rattle.record_pages.specs.declared.config.Config.{Config}
+use Rattle.record_pages.specs.declared.field.Field.{Field}
+use Rattle.record_pages.specs.declared.field.Field.TheVariants.{Lanes, Sets, Memory, Segments, SegmentPages, Entries, Threshold, Admit}
+use Rattle.record_pages.specs.declared.layout.Layout.{Layout}
+use Rattle.cache_sizes.specs.declared.limits.TheConstants.{MAX_SHARDS, MAX_LEASE_SLOTS}
 use Rattle.cache_sizes.specs.declared.shape.Shape.{Shape}
 use Rattle.cache_sizes.specs.declared.wanted.Wanted.{Wanted}
 use Rattle.cache_sizes.specs.declared.size_fault.SizeFault.{SizeFault}
@@ -12,34 +19,37 @@ use Rattle.c_lane.specs.declared.shape_field.ShapeField.TheVariants as fields
 use Rattle.c_lane.specs.declared.sizes.Sizes.{Sizes}
 use Rattle.c_lane.specs.declared.wanted.WantedSizes.{WantedSizes}
 
--- a row: a field, its number, and the least and the greatest that it may be
+-- a row: a field, its number, and the range of that
 pub record Row : Type 0 where
   pub field : ShapeField
   pub number : ℕ
-  pub least : ℕ
-  pub greatest : ℕ
+  pub range : Range
 
-abbrev pub row : ShapeField → ℕ → ℕ → ℕ → Row
-row field number least greatest = record { field = field; number = number; least = least; greatest = greatest }
+abbrev pub row : ShapeField → ℕ → Range → Row
+row field number range = record { field = field; number = number; range = range }
+
+-- the row of a field that a configuration has too
+abbrev pub config_row : Field → ℕ → Row
+config_row field number = row (fields.Config field) number (range_of field)
 
 -- the table of the fields, in their order
 abbrev pub table : LaneShape → List Row
 table s =
-    row fields.Shards s.shards 1 1024
-    ∷ row fields.Lanes s.lanes 1 16
-    ∷ row fields.Sets s.sets 1 65536
-    ∷ row fields.MemoryObjects s.memory_objects 1 1048576
-    ∷ row fields.Segments s.segments 2 256
-    ∷ row fields.SegmentPages s.segment_pages 1 64
-    ∷ row fields.LogObjects s.log_objects 1 1048576
-    ∷ row fields.LeaseSlots s.lease_slots 1 1048576
-    ∷ row fields.Threshold s.threshold 1 32
-    ∷ row fields.Admit s.admit 0 65536
+    row fields.Shards s.shards (range 1 MAX_SHARDS)
+    ∷ config_row Lanes s.lanes
+    ∷ config_row Sets s.sets
+    ∷ config_row Memory s.memory
+    ∷ config_row Segments s.segments
+    ∷ config_row SegmentPages s.segment_pages
+    ∷ config_row Entries s.entries
+    ∷ row fields.LeaseSlots s.lease_slots (range 1 MAX_LEASE_SLOTS)
+    ∷ config_row Threshold s.threshold
+    ∷ config_row Admit s.admit
     ∷ []
 
 -- a number out of its range
 abbrev pub is_faulty : Row → Bool
-is_faulty r = not (nat_le r.least r.number && nat_le r.number r.greatest)
+is_faulty r = not (is_in r.range r.number)
 
 -- the first faulty field of the table, if there is one
 abbrev pub first_faulty_field : LaneShape → Option ShapeField
@@ -48,15 +58,48 @@ first_faulty_field s = option_map (λ r. r.field) (find is_faulty (table s))
 -- a field's number in the table, from 1
 abbrev pub number_of_field : ShapeField → ℕ
 number_of_field fields.Shards = 1
-number_of_field fields.Lanes = 2
-number_of_field fields.Sets = 3
-number_of_field fields.MemoryObjects = 4
-number_of_field fields.Segments = 5
-number_of_field fields.SegmentPages = 6
-number_of_field fields.LogObjects = 7
+number_of_field (fields.Config Lanes) = 2
+number_of_field (fields.Config Sets) = 3
+number_of_field (fields.Config Memory) = 4
+number_of_field (fields.Config Segments) = 5
+number_of_field (fields.Config SegmentPages) = 6
+number_of_field (fields.Config Entries) = 7
 number_of_field fields.LeaseSlots = 8
-number_of_field fields.Threshold = 9
-number_of_field fields.Admit = 10
+number_of_field (fields.Config Threshold) = 9
+number_of_field (fields.Config Admit) = 10
+
+-- a configuration's field that stands before the slots for leases
+abbrev pub is_before_slots : Field → Bool
+is_before_slots Lanes = true
+is_before_slots Sets = true
+is_before_slots Memory = true
+is_before_slots Segments = true
+is_before_slots SegmentPages = true
+is_before_slots Entries = true
+is_before_slots Threshold = false
+is_before_slots Admit = false
+
+-- the configuration of each shard of a shape
+abbrev pub config_of : LaneShape → Config
+config_of s = record {
+  lanes = s.lanes;
+  sets = s.sets;
+  memory = s.memory;
+  segments = s.segments;
+  segment_pages = s.segment_pages;
+  entries = s.entries;
+  threshold = s.threshold;
+  admit = s.admit;
+}
+
+-- no number of the shape is out of its range, and the layout has those of a configuration
+pub record IsLayoutOf (s : LaneShape) (layout : Layout) : Type 0 where
+  pub faultless : first_faulty_field s ≡ None
+  pub numbers : HasNumbersOf layout (config_of s)
+  pub least_shards : 1 ≤ s.shards
+  pub most_shards : s.shards ≤ MAX_SHARDS
+  pub least_slots : 1 ≤ s.lease_slots
+  pub most_slots : s.lease_slots ≤ MAX_LEASE_SLOTS
 
 -- the shape with slots for leases: where it has none, as many as sizes would give a lane of its sets
 abbrev pub with_slots : LaneShape → LaneShape
@@ -69,12 +112,9 @@ pub record HasPartsOf (shape : Shape) (s : LaneShape) : Type 0 where
   pub sets : shape.sets ≡ s.sets
   pub segments : shape.segments ≡ s.segments
   pub segment_pages : shape.segment_pages ≡ s.segment_pages
-  pub log_objects : shape.log_objects ≡ s.log_objects
-  pub memory_objects : shape.memory_objects ≡ s.memory_objects
+  pub entries : shape.entries ≡ s.entries
+  pub memory : shape.memory ≡ s.memory
   pub lease_slots : shape.lease_slots ≡ s.lease_slots
-  pub least_threshold : 1 ≤ s.threshold
-  pub most_threshold : s.threshold ≤ 32
-  pub most_admit : s.admit ≤ 65536
 
 -- what is wanted, as sizes are worked out of it
 abbrev pub wanted_of : WantedSizes → Wanted
@@ -86,10 +126,10 @@ shape_with shape old = record old {
   shards = shape.shards;
   lanes = shape.lanes;
   sets = shape.sets;
-  memory_objects = shape.memory_objects;
+  memory = shape.memory;
   segments = shape.segments;
   segment_pages = shape.segment_pages;
-  log_objects = shape.log_objects;
+  entries = shape.entries;
   lease_slots = shape.lease_slots;
 }
 

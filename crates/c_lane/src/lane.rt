@@ -10,7 +10,7 @@ use lane_devices::{Boxed, Counted};
 use page_device::PageDevice;
 use rand_pcg::Lcg64Xsh32;
 use service_lane::ServiceLane;
-use std::alloc::Global;
+use std::alloc::{AllocError, Global};
 use std::marker::Model;
 use value_buffer::ValueBuffer;
 
@@ -61,10 +61,9 @@ impl<D: PageDevice<4096>> CLane<D> {
         ensures can { OnOk result (CanOpen shape.now (D.page_count device)) }
         ensures refused { IfErr result (RefusesOpening shape.now (D.page_count device)) }
     {
-        let Some(parts) = fitting(shape, device.pages()) else {
+        let Some(layout) = fitting(shape, device.pages()) else {
             return Err(Status::WrongOptions);
         };
-        let config = parts.config(shape.threshold, shape.admit);
         let seed = seed.random();
         let words = words_of(seed, number);
         let Ok(boxed) = Boxed::new(alloc, device) else {
@@ -72,14 +71,13 @@ impl<D: PageDevice<4096>> CLane<D> {
         };
         let counted = Counted::new(boxed);
         let table_seed = seed.derive(number);
-        match ServiceLane::open(alloc, &config, shape.lease_slots, counted, table_seed) {
+        match ServiceLane::with_layout(alloc, &layout, shape.lease_slots, counted, table_seed) {
             Ok(lane) => Ok(CLane {
                 lane,
                 words,
                 found: ValueBuffer::empty(),
             }),
-            // Nothing but memory can be refused here.
-            Err(_) => Err(Status::NoMemory),
+            Err(AllocError) => Err(Status::NoMemory),
         }
     }
 
@@ -98,24 +96,24 @@ impl<D: PageDevice<4096>> CLane<D> {
 
 ghost use Rattle.std.specs.Prelude.{MatchOption};
 ghost use Rattle.c_lane.specs.Opening.{words_for};
-ghost use Rattle.c_lane.specs.Shapes.{HasPartsOf};
+ghost use Rattle.c_lane.specs.Shapes.{IsLayoutOf};
 
-use cache_sizes::Shape;
 use key_hash::RandomSeed;
+use record_pages::Layout;
 use std::hash::BuildHasher;
 
-// The parts of a shape, where each is in its range and so many pages are enough for a lane.
-fn fitting(shape: &LaneShape, pages: u32) -> Option<Shape>
+// The layout of each shard of a shape whose numbers are in their ranges, where so many pages are enough for a lane.
+fn fitting(shape: &LaneShape, pages: u32) -> Option<Layout>
     ensures { MatchOption result (¬ CanOpen shape.now pages)
-        (λ parts. CanOpen shape.now pages × HasPartsOf parts shape.now) }
+        (λ layout. CanOpen shape.now pages × IsLayoutOf shape.now layout) }
 {
-    let Ok(parts) = shape.check() else {
+    let Ok(layout) = shape.check() else {
         return None;
     };
-    if u64::from(pages) < parts.file_pages() {
+    if pages < layout.pages() {
         return None;
     }
-    Some(parts)
+    Some(layout)
 }
 
 // The generator of the words of a lane.

@@ -1,8 +1,9 @@
 // The shape of a cache as C has it.
-ghost use Rattle.std.specs.Prelude.{◌≡◌, None, Some, MatchResult};
+ghost use Rattle.std.specs.Prelude.{◌≡◌, Some, MatchResult};
 
 use crate::shape_field::ShapeField;
-use cache_sizes::{MIN_LEASE_SLOTS, Shape};
+use cache_sizes::{MAX_LEASE_SLOTS, MAX_SHARDS, MIN_LEASE_SLOTS, Shape};
+use record_pages::{Config, Field, Layout};
 
 /// The shape of a cache, and the two numbers that say what enters and leaves its log.
 #[repr(C)]
@@ -15,13 +16,13 @@ pub struct LaneShape {
     /// Sets of a lane, 1 to 65,536, a page each.
     pub sets: u32,
     /// Objects of a lane in memory, 1 to 1,048,576.
-    pub memory_objects: u32,
+    pub memory: u32,
     /// Segments of a lane's log, 2 to 256.
     pub segments: u32,
     /// Pages of a segment, 1 to 64.
     pub segment_pages: u32,
     /// Objects of a lane that the index of its log has entries for, 1 to 1,048,576.
-    pub log_objects: u32,
+    pub entries: u32,
     /// Slots of a lane for leases, 1 to 1,048,576.
     pub lease_slots: u32,
     /// So many objects of a set move to it together, 1 to 32.
@@ -31,7 +32,7 @@ pub struct LaneShape {
 }
 
 impl LaneShape {
-    ghost use Rattle.c_lane.specs.Shapes.{first_faulty_field, HasPartsOf, with_slots};
+    ghost use Rattle.c_lane.specs.Shapes.{config_of, first_faulty_field, HasPartsOf, IsLayoutOf, with_slots};
 
     /// Gives the shape slots for leases, where it has 0: as many as sizes would give a lane of its sets.
     #[tactic(auto, unfolding(cache_sizes::specs::Memory::lease_slots_of))]
@@ -43,56 +44,66 @@ impl LaneShape {
         }
     }
 
-    /// The shape, without `threshold` and `admit`, or the first field that is out of its range.
-    pub fn check(&self) -> Result<Shape, ShapeField>
-        ensures { MatchResult result
-            (λ shape. (first_faulty_field self.now ≡ None) × HasPartsOf shape self.now)
+    // The configuration of each shard.
+    fn config(&self) -> Config
+        ensures { result ≡ config_of self.now }
+    {
+        Config {
+            lanes: self.lanes,
+            sets: self.sets,
+            memory: self.memory,
+            segments: self.segments,
+            segment_pages: self.segment_pages,
+            entries: self.entries,
+            threshold: self.threshold,
+            admit: self.admit,
+        }
+    }
+
+    /// The layout of each shard, or the first field that is out of its range.
+    pub fn check(&self) -> Result<Layout, ShapeField>
+        ensures { MatchResult result (IsLayoutOf self.now)
             (λ field. first_faulty_field self.now ≡ Some field) }
     {
-        let LaneShape {
-            shards,
-            lanes,
-            sets,
-            memory_objects,
-            segments,
-            segment_pages,
-            log_objects,
-            lease_slots,
-            threshold,
-            admit,
-        } = *self;
-        let field = if shards < 1 || shards > 1024 {
-            ShapeField::Shards
-        } else if lanes < 1 || lanes > 16 {
-            ShapeField::Lanes
-        } else if sets < 1 || sets > 65536 {
-            ShapeField::Sets
-        } else if memory_objects < 1 || memory_objects > 1048576 {
-            ShapeField::MemoryObjects
-        } else if segments < 2 || segments > 256 {
-            ShapeField::Segments
-        } else if segment_pages < 1 || segment_pages > 64 {
-            ShapeField::SegmentPages
-        } else if log_objects < 1 || log_objects > 1048576 {
-            ShapeField::LogObjects
-        } else if lease_slots < 1 || lease_slots > 1048576 {
-            ShapeField::LeaseSlots
-        } else if threshold < 1 || threshold > 32 {
-            ShapeField::Threshold
-        } else if admit > 65536 {
-            ShapeField::Admit
-        } else {
-            return Ok(Shape {
-                shards,
-                lanes,
-                sets,
-                segments,
-                segment_pages,
-                log_objects,
-                memory_objects,
-                lease_slots,
-            });
-        };
-        Err(field)
+        if self.shards < 1 || self.shards > MAX_SHARDS {
+            return Err(ShapeField::Shards);
+        }
+        let has_slots = self.lease_slots >= 1 && self.lease_slots <= MAX_LEASE_SLOTS;
+        match self.config().check() {
+            Ok(layout) if has_slots => Ok(layout),
+            Err(fault) if has_slots || is_before_slots(fault.field) => {
+                Err(ShapeField::Config(fault.field))
+            }
+            _ => Err(ShapeField::LeaseSlots),
+        }
+    }
+
+    // The shape, as sizes have it, whose layout was found.
+    pub(crate) fn parts(&self, layout: &Layout) -> Shape
+        requires { IsLayoutOf self.now layout.now }
+        ensures { HasPartsOf result self.now }
+    {
+        Shape {
+            shards: self.shards,
+            lanes: layout.lanes,
+            sets: layout.sets,
+            segments: layout.segments,
+            segment_pages: layout.segment_pages,
+            entries: layout.entries,
+            memory: layout.memory,
+            lease_slots: self.lease_slots,
+        }
+    }
+}
+
+ghost use Rattle.c_lane.specs.Shapes.{is_before_slots};
+
+// Whether a field of a configuration stands before the slots for leases.
+fn is_before_slots(field: Field) -> bool
+    ensures { result ≡ is_before_slots field }
+{
+    match field {
+        Field::Threshold | Field::Admit => false,
+        _ => true,
     }
 }

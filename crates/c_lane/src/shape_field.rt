@@ -2,19 +2,15 @@
 ghost use Rattle.std.specs.Prelude.{◌≡◌};
 ghost use Rattle.c_lane.specs.Shapes.{number_of_field};
 
+use record_pages::Field;
+
 /// A field of `LaneShape`.
 #[derive(Clone, Copy, Debug, PartialEq, Eq)]
 pub enum ShapeField {
     Shards,
-    Lanes,
-    Sets,
-    MemoryObjects,
-    Segments,
-    SegmentPages,
-    LogObjects,
+    /// A field that a configuration has too.
+    Config(Field),
     LeaseSlots,
-    Threshold,
-    Admit,
 }
 
 impl ShapeField {
@@ -24,15 +20,15 @@ impl ShapeField {
     {
         match self {
             ShapeField::Shards => 1,
-            ShapeField::Lanes => 2,
-            ShapeField::Sets => 3,
-            ShapeField::MemoryObjects => 4,
-            ShapeField::Segments => 5,
-            ShapeField::SegmentPages => 6,
-            ShapeField::LogObjects => 7,
+            ShapeField::Config(Field::Lanes) => 2,
+            ShapeField::Config(Field::Sets) => 3,
+            ShapeField::Config(Field::Memory) => 4,
+            ShapeField::Config(Field::Segments) => 5,
+            ShapeField::Config(Field::SegmentPages) => 6,
+            ShapeField::Config(Field::Entries) => 7,
             ShapeField::LeaseSlots => 8,
-            ShapeField::Threshold => 9,
-            ShapeField::Admit => 10,
+            ShapeField::Config(Field::Threshold) => 9,
+            ShapeField::Config(Field::Admit) => 10,
         }
     }
 }

@@ -34,7 +34,7 @@ impl Sizes {
         ensures { SizesOf shape.now object_bytes result }
     {
         match shape.check() {
-            Ok(parts) => Sizes::of_parts(&parts, object_bytes),
+            Ok(layout) => Sizes::of_parts(&shape.parts(&layout), object_bytes),
             Err(_) => Sizes::none(),
         }
     }

@@ -20,10 +20,10 @@ const SHAPE: LaneShape = LaneShape {
     shards: 1,
     lanes: 1,
     sets: 1,
-    memory_objects: 1,
+    memory: 1,
     segments: 2,
     segment_pages: 1,
-    log_objects: 8,
+    entries: 8,
     lease_slots: 1,
     threshold: 1,
     admit: 65536,
@@ -166,6 +166,82 @@ fn a_lane_opens_over_enough_pages_and_not_with_a_number_out_of_its_range(
     Ok(())
 }
 
+// A shape whose numbers are all one below their least, or above their greatest where the least is 0.
+const LOW: LaneShape = LaneShape {
+    shards: 0,
+    lanes: 0,
+    sets: 0,
+    memory: 0,
+    segments: 1,
+    segment_pages: 0,
+    entries: 0,
+    lease_slots: 0,
+    threshold: 0,
+    admit: 65537,
+};
+
+// One whose numbers are all one above their greatest.
+const HIGH: LaneShape = LaneShape {
+    shards: 1025,
+    lanes: 17,
+    sets: 65537,
+    memory: 1048577,
+    segments: 257,
+    segment_pages: 65,
+    entries: 1048577,
+    lease_slots: 1048577,
+    threshold: 33,
+    admit: 65537,
+};
+
+// One whose numbers are all the greatest that they may be.
+const GREATEST: LaneShape = LaneShape {
+    shards: 1024,
+    lanes: 16,
+    sets: 65536,
+    memory: 1048576,
+    segments: 256,
+    segment_pages: 64,
+    entries: 1048576,
+    lease_slots: 1048576,
+    threshold: 32,
+    admit: 65536,
+};
+
+// A shape whose first numbers, so many, are those of one shape, and the others those of another.
+fn mixed(count: u32, first: &LaneShape, rest: &LaneShape) -> LaneShape {
+    let from = |place: u32, one: u32, other: u32| if place < count { one } else { other };
+    LaneShape {
+        shards: from(0, first.shards, rest.shards),
+        lanes: from(1, first.lanes, rest.lanes),
+        sets: from(2, first.sets, rest.sets),
+        memory: from(3, first.memory, rest.memory),
+        segments: from(4, first.segments, rest.segments),
+        segment_pages: from(5, first.segment_pages, rest.segment_pages),
+        entries: from(6, first.entries, rest.entries),
+        lease_slots: from(7, first.lease_slots, rest.lease_slots),
+        threshold: from(8, first.threshold, rest.threshold),
+        admit: from(9, first.admit, rest.admit),
+    }
+}
+
+// The number of the field at fault, or 0 for none.
+fn fault_of(shape: &LaneShape) -> u32 {
+    match shape.check() {
+        Ok(_) => 0,
+        Err(field) => field.number(),
+    }
+}
+
+#[test]
+fn of_several_numbers_out_of_their_ranges_the_first_is_the_fault(rt: HostRuntime) {
+    for count in 0..10u32 {
+        assert_eq!(rt; fault_of(&mixed(count, &SHAPE, &LOW)), count + 1);
+        assert_eq!(rt; fault_of(&mixed(count, &GREATEST, &HIGH)), count + 1);
+    }
+    assert_eq!(rt; (fault_of(&SHAPE), fault_of(&GREATEST)), (0, 0));
+}
+
 #[test]
 fn sizes_become_a_shape_and_a_shape_sizes(rt: HostRuntime) -> Result<(), Fail> {
     let wanted = WantedSizes {
@@ -189,7 +265,7 @@ fn sizes_become_a_shape_and_a_shape_sizes(rt: HostRuntime) -> Result<(), Fail> {
     Ok(())
 }
 
-// The slots for leases of a shape with so many sets and so many slots, behind `give_slots`.
+// The slots for leases of a shape with so many sets and so many slots, after `give_slots`.
 fn slots(sets: u32, lease_slots: u32) -> u32 {
     let mut shape = LaneShape {
         sets,

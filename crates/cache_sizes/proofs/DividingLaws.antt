@@ -4,7 +4,7 @@ use Rattle.std.proofs.Math.Nat.{div-mul-le_self, mul-le-mul_right}
 use Rattle.std.proofs.lemmas.Bool.{cases_lt}
 use Rattle.std.proofs.lemmas.Nat.{le-div, mul-le}
 use Rattle.std.specs.Int.{div_ceil}
-use Rattle.cache_sizes.specs.declared.limits.TheConstants.{MAX_SHARD_LANES}
+use Rattle.record_pages.specs.declared.limits.TheConstants.{MAX_LANES}
 use Rattle.cache_sizes.specs.declared.proportions.TheConstants.{LEAST_LANE_PAGES, USUAL_SEGMENTS}
 use Rattle.cache_sizes.specs.Lanes.{lanes_wanted, lanes_for_sets, shards_of, shard_lanes_of}
 use Rattle.cache_sizes.specs.LanePages.{log_share, segment_pages_of, segments_of}
@@ -36,10 +36,10 @@ lanes_are_wide pages threads = omega arith
 pub few_lanes : (lanes : ℕ) → 1 ≤ lanes → shards_of lanes * shard_lanes_of lanes + 1 ≤ 2 * lanes
 unfolding shards_of shard_lanes_of
 few_lanes lanes h =
-    let shards = div_ceil lanes MAX_SHARD_LANES in
-    let each = min lanes MAX_SHARD_LANES in
-    elim (cases_lt MAX_SHARD_LANES lanes) [
-      | inl many ↦ omega (arith, mul-le shards each shards MAX_SHARD_LANES (omega arith) (omega arith))
+    let shards = div_ceil lanes MAX_LANES in
+    let each = min lanes MAX_LANES in
+    elim (cases_lt MAX_LANES lanes) [
+      | inl many ↦ omega (arith, mul-le shards each shards MAX_LANES (omega arith) (omega arith))
       | inr few ↦ omega (arith, mul-le shards each 1 lanes (omega arith) (omega arith))
     ]
 

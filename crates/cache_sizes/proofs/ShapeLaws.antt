@@ -17,11 +17,11 @@ unfolding fixed_bytes_for
 fixed_bytes_are w s parts = let lanes = all_lanes_are w s parts in cc
 
 -- with one object in memory it takes the least memory
-pub least_memory_is : (w : Wanted) (s : Shape) → w.object_bytes ≤ 2303 → HasPartsFor w s → s.memory_objects ≡ 1 → memory_bytes_of s w.object_bytes ≡ least_memory_for w
+pub least_memory_is : (w : Wanted) (s : Shape) → w.object_bytes ≤ 2303 → HasPartsFor w s → s.memory ≡ 1 → memory_bytes_of s w.object_bytes ≡ least_memory_for w
 least_memory_is w s small parts one =
     let lanes = all_lanes_are w s parts in
     let fixed = fixed_bytes_are w s parts in
     let possible : min w.object_bytes 2303 ≡ w.object_bytes = omega arith in
     let layer : layer_bytes_of (s.shards * s.lanes) (min w.object_bytes 2303) ≡ layer_bytes_of (all_lanes_for w) w.object_bytes = cc in
-    let times : s.memory_objects * layer_bytes_of (s.shards * s.lanes) (min w.object_bytes 2303) ≡ 1 * layer_bytes_of (all_lanes_for w) w.object_bytes = cc in
+    let times : s.memory * layer_bytes_of (s.shards * s.lanes) (min w.object_bytes 2303) ≡ 1 * layer_bytes_of (all_lanes_for w) w.object_bytes = cc in
     omega arith

@@ -3,7 +3,7 @@ use Rattle.std.specs.Prelude.{ℕ, List, [], ◌∷◌, ◌++◌, Option, option
 use Rattle.cache_sizes.specs.declared.wanted.Wanted.{Wanted}
 use Rattle.cache_sizes.specs.declared.size_fault.SizeFault.{SizeFault}
 use Rattle.cache_sizes.specs.declared.size_fault.SizeFault.TheVariants.{FlashTooSmall, FlashTooLarge, NoObjectBytes, ObjectTooLarge, NoThreads, TooManyThreads, MemoryTooSmall}
-use Rattle.cache_sizes.specs.declared.limits.TheConstants.{MIN_FLASH_BYTES, MAX_LANES, MAX_OBJECT_BYTES, MAX_THREADS}
+use Rattle.cache_sizes.specs.declared.limits.TheConstants.{MIN_FLASH_BYTES, MAX_ALL_LANES, MAX_OBJECT_BYTES, MAX_THREADS}
 use Rattle.cache_sizes.specs.Lanes.{lanes_for_sets}
 use Rattle.cache_sizes.specs.Wanting.{pages_of, least_memory_for}
 
@@ -20,7 +20,7 @@ cause fault is_there = record { fault = fault; is_there = is_there }
 abbrev pub range_causes : Wanted → List Cause
 range_causes w =
     cause FlashTooSmall (nat_lt w.flash_bytes MIN_FLASH_BYTES)
-    ∷ cause FlashTooLarge (nat_lt MAX_LANES (lanes_for_sets (pages_of w)))
+    ∷ cause FlashTooLarge (nat_lt MAX_ALL_LANES (lanes_for_sets (pages_of w)))
     ∷ cause NoObjectBytes (w.object_bytes == 0)
     ∷ cause ObjectTooLarge (nat_lt MAX_OBJECT_BYTES w.object_bytes)
     ∷ cause NoThreads (w.threads == 0)

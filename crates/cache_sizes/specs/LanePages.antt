@@ -1,6 +1,7 @@
 -- How the pages of a lane are divided between its sets and its log.
 use Rattle.std.specs.Prelude.{ℕ, ◌-◌, ◌*◌, ◌/◌, ◌%◌, ◌==◌, max, min, if◌then◌else◌}
-use Rattle.cache_sizes.specs.declared.limits.TheConstants.{MAX_ODD_SETS, MIN_SEGMENTS, MAX_SEGMENTS, MAX_SEGMENT_PAGES}
+use Rattle.record_pages.specs.declared.limits.TheConstants.{MIN_SEGMENTS, MAX_SEGMENTS, MAX_SEGMENT_PAGES}
+use Rattle.cache_sizes.specs.declared.limits.TheConstants.{MAX_ODD_SETS}
 use Rattle.cache_sizes.specs.declared.proportions.TheConstants.{PAGES_FOR_LOG_PAGE, USUAL_SEGMENTS}
 
 -- the pages that are the log's share: one of 20, enough for several objects of a set to meet in it and move together

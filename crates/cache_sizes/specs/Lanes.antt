@@ -1,7 +1,8 @@
 -- How many lanes a cache has, and their shards.
 use Rattle.std.specs.Prelude.{ℕ, ◌*◌, ◌/◌, max, min}
 use Rattle.std.specs.Int.{div_ceil}
-use Rattle.cache_sizes.specs.declared.limits.TheConstants.{MAX_ODD_SETS, MAX_SHARD_LANES}
+use Rattle.record_pages.specs.declared.limits.TheConstants.{MAX_LANES}
+use Rattle.cache_sizes.specs.declared.limits.TheConstants.{MAX_ODD_SETS}
 use Rattle.cache_sizes.specs.declared.proportions.TheConstants.{SETS_PERCENT, LANES_FOR_THREAD, LEAST_LANE_PAGES}
 
 -- the lanes that the sets on so many pages need: 95 pages of 100 are of sets
@@ -15,8 +16,8 @@ lanes_wanted pages threads = max (lanes_for_sets pages) (min (LANES_FOR_THREAD *
 
 -- the shards of so many lanes: as few as hold them
 unfoldable pub shards_of : ℕ → ℕ
-shards_of lanes = div_ceil lanes MAX_SHARD_LANES
+shards_of lanes = div_ceil lanes MAX_LANES
 
 -- the lanes of each shard: all of them, up to the most of a shard
 unfoldable pub shard_lanes_of : ℕ → ℕ
-shard_lanes_of lanes = min lanes MAX_SHARD_LANES
+shard_lanes_of lanes = min lanes MAX_LANES

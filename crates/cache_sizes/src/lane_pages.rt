@@ -1,9 +1,12 @@
 // How the pages of a lane are divided between its sets and its log.
 ghost use Rattle.std.specs.Prelude.{◌≡◌, ◌+◌, ◌*◌, ◌≤◌};
+ghost use Rattle.record_pages.specs.declared.limits.TheConstants.{MIN_SEGMENTS, MAX_SEGMENTS, MAX_SEGMENT_PAGES};
+ghost use Rattle.cache_sizes.specs.declared.limits.TheConstants.{MAX_ODD_SETS};
 ghost use Rattle.cache_sizes.specs.LanePages.{segment_pages_of, segments_of, sets_of};
 
-use crate::limits::{MAX_ODD_SETS, MAX_SEGMENT_PAGES, MAX_SEGMENTS, MIN_SEGMENTS};
+use crate::limits::MAX_ODD_SETS;
 use crate::proportions::{PAGES_FOR_LOG_PAGE, USUAL_SEGMENTS};
+use record_pages::{MAX_SEGMENT_PAGES, MAX_SEGMENTS, MIN_SEGMENTS};
 
 // The sets of a lane, and the segments of its log.
 #[derive(Clone, Copy)]
@@ -11,9 +14,9 @@ pub(crate) struct LanePages {
     pub(crate) sets: u32,
     pub(crate) segments: u32,
     pub(crate) segment_pages: u32,
-    ghost sets_range: { (1 ≤ sets) × (sets ≤ 65535) },
-    ghost segments_range: { (2 ≤ segments) × (segments ≤ 256) },
-    ghost segment_pages_range: { (1 ≤ segment_pages) × (segment_pages ≤ 64) },
+    ghost sets_range: { (1 ≤ sets) × (sets ≤ MAX_ODD_SETS) },
+    ghost segments_range: { (MIN_SEGMENTS ≤ segments) × (segments ≤ MAX_SEGMENTS) },
+    ghost segment_pages_range: { (1 ≤ segment_pages) × (segment_pages ≤ MAX_SEGMENT_PAGES) },
 }
 
 impl LanePages {

@@ -1,28 +1,26 @@
 // How many entries and slots a lane has in memory.
 ghost use Rattle.std.specs.Prelude.{◌≡◌, ◌≤◌};
-ghost use Rattle.cache_sizes.specs.Memory.{lease_slots_of, log_objects_of};
+ghost use Rattle.cache_sizes.specs.Memory.{entries_of, lease_slots_of};
 
-use crate::limits::{
-    MAX_LEASE_SLOTS, MAX_LOG_OBJECTS, MAX_OBJECT_BYTES, MAX_SEGMENT_PAGES, MAX_SEGMENTS, MAX_SETS,
-    MIN_LEASE_SLOTS,
-};
+use crate::limits::{MAX_LEASE_SLOTS, MAX_OBJECT_BYTES, MIN_LEASE_SLOTS};
 use crate::proportions::ENTRIES_FOR_4_RECORDS;
 use crate::records::log_records;
+use record_pages::{MAX_ENTRIES, MAX_SEGMENT_PAGES, MAX_SEGMENTS, MAX_SETS};
 
 // The entries that the index of a lane's log has.
-#[tactic(auto, unfolding(crate::specs::Memory::log_objects_of))]
-pub(crate) fn log_objects_of(segments: u32, segment_pages: u32, object_bytes: u32) -> u32
+#[tactic(auto, unfolding(crate::specs::Memory::entries_of))]
+pub(crate) fn entries_of(segments: u32, segment_pages: u32, object_bytes: u32) -> u32
     requires segments { segments ≤ MAX_SEGMENTS }
     requires least_pages { 1 ≤ segment_pages }
     requires most_pages { segment_pages ≤ MAX_SEGMENT_PAGES }
     requires object { object_bytes ≤ MAX_OBJECT_BYTES }
-    ensures objects { result ≡ log_objects_of segments segment_pages object_bytes }
+    ensures entries { result ≡ entries_of segments segment_pages object_bytes }
     ensures least { 1 ≤ result }
-    ensures most { result ≤ MAX_LOG_OBJECTS }
+    ensures most { result ≤ MAX_ENTRIES }
 {
     let pages = u64::from((segments + 2) * segment_pages);
-    let objects = (ENTRIES_FOR_4_RECORDS * (pages * log_records(object_bytes))).div_ceil(4);
-    objects.min(u64::from(MAX_LOG_OBJECTS)) as u32
+    let entries = (ENTRIES_FOR_4_RECORDS * (pages * log_records(object_bytes))).div_ceil(4);
+    entries.min(u64::from(MAX_ENTRIES)) as u32
 }
 
 // The slots for leases of a lane with so many sets.

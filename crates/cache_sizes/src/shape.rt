@@ -1,5 +1,8 @@
 // The shape of a cache: what it comes from, what it takes and what it holds.
 ghost use Rattle.std.specs.Prelude.{◌≡◌, ◌+◌, ◌*◌, ◌≤◌, ◌^◌, None, Some, IfOk, MatchResult};
+ghost use Rattle.record_pages.specs.declared.limits.TheConstants.{MAX_LANES, MAX_SETS, MIN_SEGMENTS, MAX_SEGMENTS};
+ghost use Rattle.record_pages.specs.declared.limits.TheConstants.{MAX_SEGMENT_PAGES, MAX_ENTRIES, MAX_MEMORY};
+ghost use Rattle.cache_sizes.specs.declared.limits.TheConstants.{MAX_SHARDS, MAX_LEASE_SLOTS};
 
 use crate::estimates::{
     ESTIMATED_ENTRY_BYTES, ESTIMATED_LANE_BYTES, ESTIMATED_LEASE_SLOT_BYTES,
@@ -7,13 +10,13 @@ use crate::estimates::{
 };
 use crate::lane_pages::LanePages;
 use crate::lanes::{lanes_wanted, shard_lanes_of, shards_of};
-use crate::limits::{MAX_LANES, MAX_MEMORY_OBJECTS, MAX_OBJECT_BYTES, PAGE_BYTES};
-use crate::memory::{lease_slots_of, log_objects_of};
+use crate::limits::{MAX_ALL_LANES, MAX_OBJECT_BYTES, PAGE_BYTES};
+use crate::memory::{entries_of, lease_slots_of};
 use crate::proportions::FULL_PERCENT;
 use crate::records::{log_records, set_records};
 use crate::size_fault::SizeFault;
 use crate::wanted::Wanted;
-use record_pages::Config;
+use record_pages::{Config, MAX_MEMORY};
 
 /// The shape of a cache: how many parts of each kind it has. `of` works one out; a caller that has the numbers may
 /// write one down.
@@ -30,25 +33,25 @@ pub struct Shape {
     /// Pages of a segment, 1 to 64.
     pub segment_pages: u32,
     /// Objects of a lane that the index of its log has entries for, 1 to 1,048,576.
-    pub log_objects: u32,
+    pub entries: u32,
     /// Objects of a lane in memory, 1 to 1,048,576.
-    pub memory_objects: u32,
+    pub memory: u32,
     /// Slots of a lane for leases, 1 to 1,048,576.
     pub lease_slots: u32,
-    ghost shards_range: { (1 ≤ shards) × (shards ≤ 1024) },
-    ghost lanes_range: { (1 ≤ lanes) × (lanes ≤ 16) },
-    ghost sets_range: { (1 ≤ sets) × (sets ≤ 65536) },
-    ghost segments_range: { (2 ≤ segments) × (segments ≤ 256) },
-    ghost segment_pages_range: { (1 ≤ segment_pages) × (segment_pages ≤ 64) },
-    ghost log_objects_range: { (1 ≤ log_objects) × (log_objects ≤ 1048576) },
-    ghost memory_objects_range: { (1 ≤ memory_objects) × (memory_objects ≤ 1048576) },
-    ghost lease_slots_range: { (1 ≤ lease_slots) × (lease_slots ≤ 1048576) },
+    ghost shards_range: { (1 ≤ shards) × (shards ≤ MAX_SHARDS) },
+    ghost lanes_range: { (1 ≤ lanes) × (lanes ≤ MAX_LANES) },
+    ghost sets_range: { (1 ≤ sets) × (sets ≤ MAX_SETS) },
+    ghost segments_range: { (MIN_SEGMENTS ≤ segments) × (segments ≤ MAX_SEGMENTS) },
+    ghost segment_pages_range: { (1 ≤ segment_pages) × (segment_pages ≤ MAX_SEGMENT_PAGES) },
+    ghost entries_range: { (1 ≤ entries) × (entries ≤ MAX_ENTRIES) },
+    ghost memory_range: { (1 ≤ memory) × (memory ≤ MAX_MEMORY) },
+    ghost lease_slots_range: { (1 ≤ lease_slots) × (lease_slots ≤ MAX_LEASE_SLOTS) },
 }
 
 impl Shape {
     ghost use Rattle.record_pages.specs.Table.{first_faulty};
     ghost use Rattle.cache_sizes.specs.Faults.{first_size_fault};
-    ghost use Rattle.cache_sizes.specs.Memory.{lane_bytes_of, layer_bytes_of, memory_objects_of};
+    ghost use Rattle.cache_sizes.specs.Memory.{lane_bytes_of, layer_bytes_of, memory_of};
     ghost use Rattle.cache_sizes.specs.Shapes.{all_lanes_of, file_pages_of, flash_pages_of, flash_bytes_of};
     ghost use Rattle.cache_sizes.specs.Shapes.{possible_bytes, fixed_bytes_of, memory_bytes_of};
     ghost use Rattle.cache_sizes.specs.Shapes.{objects_in_memory_of, objects_in_logs_of, objects_in_sets_of, objects_of};
@@ -72,7 +75,7 @@ impl Shape {
         if wanted.memory_bytes < shape.memory_bytes(wanted.object_bytes) {
             return Err(SizeFault::MemoryTooSmall);
         }
-        shape.memory_objects = shape.memory_objects_for(wanted.memory_bytes, wanted.object_bytes);
+        shape.memory = shape.memory_for(wanted.memory_bytes, wanted.object_bytes);
         Ok(shape)
     }
 
@@ -80,7 +83,7 @@ impl Shape {
     fn least(wanted: &Wanted) -> Shape
         requires { IsInRange wanted.now }
         ensures parts { HasPartsFor wanted.now result }
-        ensures one { result.memory_objects ≡ 1 }
+        ensures one { result.memory ≡ 1 }
         ensures flash { flash_pages_of result ≤ pages_of wanted.now }
     {
         let pages = wanted.flash_bytes / PAGE_BYTES;
@@ -94,28 +97,28 @@ impl Shape {
             sets: lane.sets,
             segments: lane.segments,
             segment_pages: lane.segment_pages,
-            log_objects: log_objects_of(lane.segments, lane.segment_pages, wanted.object_bytes),
-            memory_objects: 1,
+            entries: entries_of(lane.segments, lane.segment_pages, wanted.object_bytes),
+            memory: 1,
             lease_slots: lease_slots_of(lane.sets),
         }
     }
 
     // The objects of each lane in memory for which so much of it is enough.
-    #[tactic(auto, unfolding(crate::specs::Memory::memory_objects_of))]
-    fn memory_objects_for(&self, memory_bytes: u64, object_bytes: u32) -> u32
+    #[tactic(auto, unfolding(crate::specs::Memory::memory_of))]
+    fn memory_for(&self, memory_bytes: u64, object_bytes: u32) -> u32
         requires object { object_bytes ≤ MAX_OBJECT_BYTES }
         requires enough { fixed_bytes_of self.now
             + layer_bytes_of (all_lanes_of self.now) object_bytes ≤ memory_bytes }
-        ensures objects { result ≡ memory_objects_of memory_bytes (fixed_bytes_of self.now)
+        ensures memory { result ≡ memory_of memory_bytes (fixed_bytes_of self.now)
             (all_lanes_of self.now) object_bytes }
         ensures least { 1 ≤ result }
-        ensures most { result ≤ MAX_MEMORY_OBJECTS }
+        ensures most { result ≤ MAX_MEMORY }
         ensures fits { fixed_bytes_of self.now
             + result * layer_bytes_of (all_lanes_of self.now) object_bytes ≤ memory_bytes }
     {
         let room = memory_bytes - self.fixed_bytes();
-        let objects = room / self.layer_bytes(object_bytes);
-        objects.min(u64::from(MAX_MEMORY_OBJECTS)) as u32
+        let memory = room / self.layer_bytes(object_bytes);
+        memory.min(u64::from(MAX_MEMORY)) as u32
     }
 
     /// The configuration of each shard. Which objects move from the log and which enter it is no question of size.
@@ -126,10 +129,10 @@ impl Shape {
         Config {
             lanes: self.lanes,
             sets: self.sets,
-            memory: self.memory_objects,
+            memory: self.memory,
             segments: self.segments,
             segment_pages: self.segment_pages,
-            entries: self.log_objects,
+            entries: self.entries,
             threshold,
             admit,
         }
@@ -139,7 +142,7 @@ impl Shape {
     pub fn all_lanes(&self) -> u32
         ensures lanes { result ≡ all_lanes_of self.now }
         ensures least { 1 ≤ result }
-        ensures most { result ≤ MAX_LANES }
+        ensures most { result ≤ MAX_ALL_LANES }
     {
         self.shards * self.lanes
     }
@@ -147,7 +150,7 @@ impl Shape {
     /// Pages of a lane's file: those of its sets and of its log.
     pub fn file_pages(&self) -> u64
         ensures pages { result ≡ file_pages_of self.now }
-        ensures most { result ≤ 81920 }
+        ensures most { result ≤ MAX_SETS + MAX_SEGMENTS * MAX_SEGMENT_PAGES }
     {
         u64::from(self.sets) + u64::from(self.segments * self.segment_pages)
     }
@@ -164,11 +167,11 @@ impl Shape {
     #[tactic(auto, unfolding(crate::specs::Memory::lane_bytes_of))]
     fn lane_bytes(&self) -> u64
         ensures bytes { let shape = self.now in result
-            ≡ lane_bytes_of shape.sets shape.log_objects shape.segment_pages shape.lease_slots }
+            ≡ lane_bytes_of shape.sets shape.entries shape.segment_pages shape.lease_slots }
         ensures most { result ≤ 2 ^ 30 }
     {
         ESTIMATED_SET_BYTES * u64::from(self.sets)
-            + ESTIMATED_ENTRY_BYTES * u64::from(self.log_objects)
+            + ESTIMATED_ENTRY_BYTES * u64::from(self.entries)
             + ESTIMATED_SEGMENT_PAGE_BYTES * u64::from(self.segment_pages)
             + ESTIMATED_LEASE_SLOT_BYTES * u64::from(self.lease_slots)
             + ESTIMATED_LANE_BYTES
@@ -200,7 +203,7 @@ impl Shape {
         ensures bytes { result ≡ memory_bytes_of self.now object_bytes }
         ensures most { result ≤ 2 ^ 47 }
     {
-        self.fixed_bytes() + u64::from(self.memory_objects) * self.layer_bytes(object_bytes)
+        self.fixed_bytes() + u64::from(self.memory) * self.layer_bytes(object_bytes)
     }
 
     /// Objects that fit in memory.
@@ -208,7 +211,7 @@ impl Shape {
         ensures objects { result ≡ objects_in_memory_of self.now }
         ensures most { result ≤ 2 ^ 34 }
     {
-        u64::from(self.all_lanes()) * u64::from(self.memory_objects)
+        u64::from(self.all_lanes()) * u64::from(self.memory)
     }
 
     /// Objects of so many bytes that fit in the logs.
@@ -218,7 +221,7 @@ impl Shape {
     {
         let pages = u64::from(self.segments * self.segment_pages);
         let records = pages * log_records(object_bytes.min(MAX_OBJECT_BYTES));
-        u64::from(self.all_lanes()) * records.min(u64::from(self.log_objects))
+        u64::from(self.all_lanes()) * records.min(u64::from(self.entries))
     }
 
     /// Objects of so many bytes that fit in the sets before many of them find theirs full.

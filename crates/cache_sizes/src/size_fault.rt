@@ -9,7 +9,7 @@ pub enum SizeFault {
     /// Less flash than `MIN_FLASH_BYTES`.
     #[error("flash_bytes is too small for a lane")]
     FlashTooSmall,
-    /// More flash than `MAX_LANES` lanes have sets for.
+    /// More flash than `MAX_ALL_LANES` lanes have sets for.
     #[error("flash_bytes is too large for the most lanes")]
     FlashTooLarge,
     /// A typical object of no bytes: a key has one at least.

@@ -2,7 +2,7 @@
 ghost use Rattle.std.specs.Prelude.{◌≡◌, IfNone};
 
 use crate::lanes::lanes_for_sets;
-use crate::limits::{MAX_LANES, MAX_OBJECT_BYTES, MAX_THREADS, MIN_FLASH_BYTES, PAGE_BYTES};
+use crate::limits::{MAX_ALL_LANES, MAX_OBJECT_BYTES, MAX_THREADS, MIN_FLASH_BYTES, PAGE_BYTES};
 use crate::size_fault::SizeFault;
 
 /// What a user knows of the cache that is wanted.
@@ -30,7 +30,7 @@ impl Wanted {
     {
         let fault = if self.flash_bytes < MIN_FLASH_BYTES {
             SizeFault::FlashTooSmall
-        } else if lanes_for_sets(self.flash_bytes / PAGE_BYTES) > u64::from(MAX_LANES) {
+        } else if lanes_for_sets(self.flash_bytes / PAGE_BYTES) > u64::from(MAX_ALL_LANES) {
             SizeFault::FlashTooLarge
         } else if self.object_bytes == 0 {
             SizeFault::NoObjectBytes

@@ -28,7 +28,7 @@ use Rattle.history_recorder.specs.Lane.{deed_noted, deeds_of, act_of, IsOfLane, 
 use Rattle.history_recorder.specs.Operations.{lane_of, noted_by, calls_with, HasRoomFor, AnswersAt}
 use Rattle.history_recorder.specs.Commands.{IsOperation, IsBackground}
 use Rattle.history_recorder.specs.Game.{IsWellKept}
-use Rattle.deed_laws.proofs.Sounding.{sound_by, sound_read, sound_put, sound_remove, hit_is, none_some}
+use Rattle.deeds.proofs.Sounding.{sound_by, sound_read, sound_put, sound_remove, hit_is, none_some}
 
 -- what is true of a lane over an honest device, and of the calls that it recorded
 abbrev pub IsKeptLane : Layout → ℕ → List Noted → LaneState → Type 0

@@ -2,10 +2,9 @@ pub mod DonesIn
 pub mod Ending
 pub mod InTurn
 pub mod Kept
-pub mod Opening
 pub mod Points
 pub mod Refusing
-pub mod Sounding
+pub mod Noting
 pub mod Stamps
 pub mod Firsts
 pub mod Starts

@@ -31,7 +31,7 @@ use Rattle.history_recorder.proofs.Indexing.{map_has, set_nothing, all_set, all_
 use Rattle.history_recorder.proofs.Booking.{GoesOn, event_on, same_on, opening_kept, end_records, call_noted, noted_at}
 use Rattle.history_recorder.proofs.GameKept.{game_books, game_step, booked_of, counted_at, reached, sound_world}
 use Rattle.history_recorder.proofs.Ended.{ends_lanes, ends_apart}
-use Rattle.deed_laws.proofs.Sounding.{no_deed}
+use Rattle.deeds.proofs.Sounding.{no_deed}
 use Rattle.history_recorder.proofs.LanesRun.{IsKeptLane, behind_kept, acted_kept}
 
 -- a lane of a run: its number, the calls that it recorded, and what it holds

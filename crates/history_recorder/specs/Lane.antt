@@ -1,22 +1,17 @@
 -- A lane with its record, and what is true of every lane.
-use Rattle.std.specs.Prelude.{◌≡◌, ℕ, ◌-◌, ◌<◌, ◌≤◌, ◌^◌, List, Option, Bool, IsTrue, All, AllPairs, map, length, slice_get, Some}
+use Rattle.std.specs.Prelude.{◌≡◌, ℕ, ◌-◌, ◌<◌, ◌≤◌, ◌^◌, List, Option, Bool, IsTrue, All, AllPairs, map, length, slice_get}
 use Rattle.std.specs.Option.{option_map_or}
 use Rattle.record_pages.specs.declared.answer.Answer.{Answer}
-use Rattle.record_pages.specs.declared.answer.Answer.TheVariants as answers
 use Rattle.record_pages.specs.declared.layout.Layout.{Layout}
 use Rattle.set_hash.specs.Fnv.{fnv1a}
 use Rattle.set_hash.specs.Place.{placed_of}
-use Rattle.memory_cache.specs.declared.pair.Pair.{Pair}
 use Rattle.mover.specs.Store.{StoreState}
 use Rattle.mover.specs.Lane.{LaneState, lane_of}
-use Rattle.mover.specs.Visible.{IsShown}
 use Rattle.mover.specs.Laws.{IsInOrder}
 use Rattle.trace_file.specs.declared.act.Act.{Act}
-use Rattle.trace_file.specs.declared.act.Act.TheVariants.{Hit, Miss}
 use Rattle.certificate_checker.specs.Deeds.{Deed}
 use Rattle.certificate_checker.specs.Latest.{IsLawful}
-use Rattle.deed_laws.specs.Sound as laws
-use Rattle.certificate_checker.specs.Current.{current}
+use Rattle.deeds.specs.Sound as laws
 use Rattle.history_recorder.specs.declared.noted.Noted.{Noted}
 
 -- a store, the lane's number, and the calls that it recorded, in order
@@ -48,6 +43,16 @@ IsSound lane deeds = laws.IsSound lane deeds
 -- how many calls a lane records
 abbrev pub max_calls : ℕ
 max_calls = 2 ^ 24
+
+-- What is true of the calls of a lane: its keys are its own, each call starts before its point, points rise, and its store was
+-- asked and answered just what they did.
+pub record IsNoted {D : Type 0} (lane : Lane D) (deeds : List Deed) : Type 0 where
+  pub number : lane.lane < lane.store.layout.lanes
+  pub keys : All (λ n. IsOfLane lane.store.layout lane.lane n.key) lane.calls
+  pub starts : All (λ n. n.start < n.point) lane.calls
+  pub points : AllPairs (λ a b. a.point < b.point) lane.calls
+  pub few : length lane.calls ≤ max_calls
+  pub its_deeds : deeds ≡ deeds_of lane.calls
 
 -- What is true of every lane. Its keys are its own, each call starts before its point, and points rise. Where its device
 -- is honest it is in order and sound, and each recorded hit had its key's latest value.

@@ -2,9 +2,9 @@
 ghost use Rattle.std.specs.Prelude.{◌≡◌, ◌↔◌, ◌<◌, ◌≤◌, ◌++◌, ◌∷◌, [], All, length, map, IfOk, OnOk, OnErr, IsErrOf, IfErr, IsTrue, slice_get, Ok, Some};
 ghost use Rattle.std.specs.List.{range_with_len};
 ghost use Rattle.record_pages.specs.Expiry.{timed};
-ghost use Rattle.record_pages.specs.Asked.{HasNumbersOf};
+ghost use Rattle.record_pages.specs.Asked.{HasNumbersOf, layout_pages};
 ghost use Rattle.record_pages.specs.Bounded.{IsKey, IsValue};
-ghost use Rattle.record_pages.specs.Sizes.{object_size, room};
+ghost use Rattle.record_pages.specs.Sizes.{IsPageSize, object_size, room};
 ghost use Rattle.mover.specs.Store.{opening, IsStore};
 ghost use Rattle.mover.specs.Opening.{CanServe, RefusesStore};
 ghost use Rattle.mover.specs.Lane.{lane_of};
@@ -19,7 +19,9 @@ use crate::noted_ref::NotedRef;
 use crate::record_fault::RecordFault;
 use crate::record_put_fault::RecordPutFault;
 use crate::recorded_parts::RecordedParts;
-use mover::{OpenFault, Store, get_shows, opening_shows_nothing, put_shows, removal_shows};
+use deeds::{DeedStore, act_lent};
+use key_hash::RandomSeed;
+use mover::{OpenFault, Store};
 use page_device::PageDevice;
 use record_pages::{Answer, Config, Key, Layout, Pushed, Value, is_too_large};
 use std::alloc::{AllocError, Global};
@@ -39,7 +41,7 @@ pub const MAX_CALLS: usize = 16777216;
 /// the device is honest.
 #[derive(Drop)]
 pub struct RecordedLane<D: PageDevice<PAGE>, const PAGE: usize> {
-    store: Store<D, PAGE>,
+    store: DeedStore<D, PAGE>,
     lane: u32,
     calls: CallRecord,
 }
@@ -47,24 +49,24 @@ pub struct RecordedLane<D: PageDevice<PAGE>, const PAGE: usize> {
 impl<D: PageDevice<PAGE>, const PAGE: usize> Model for RecordedLane<D, PAGE> {
     ghost use Rattle.std.specs.Coded.{codes};
     ghost use Rattle.kset.specs.Sets.{sets_code};
-    ghost use Rattle.history_recorder.specs.Lane.{Lane, IsRecorded};
+    ghost use Rattle.history_recorder.specs.Lane.{Lane, IsNoted};
 
     ghost Value = { Lane D };
 
     ghost coded = { Prim.hlevel (codes, sets_code) };
 
-    ghost view = { λ a. record { store = a.store; lane = a.lane; calls = a.calls } };
+    ghost view = { λ a. record { store = a.store.store; lane = a.lane; calls = a.calls } };
 
-    ghost invariant = { λ a. IsRecorded D.honest D.held (record {
-      store = a.store;
+    ghost invariant = { λ a. IsNoted (record {
+      store = a.store.store;
       lane = a.lane;
       calls = a.calls;
-    }) };
+    }) a.store.deeds };
 }
 
 impl<D: PageDevice<PAGE>, const PAGE: usize> RecordedLane<D, PAGE> {
     ghost use Rattle.history_recorder.specs.Lane.{IsRecorded, IsOfLane, act_of, last_point, max_calls};
-    ghost use Rattle.history_recorder.specs.Answering.{MayHaveGot};
+    ghost use Rattle.history_recorder.specs.Answering.{LeavesUnrecorded};
     ghost use Rattle.history_recorder.specs.Points.{at_point, noted_shown};
 
     /// An empty lane with this number, over a device. Its refusals are those of `Store::open`, tested in the order of
@@ -80,9 +82,29 @@ impl<D: PageDevice<PAGE>, const PAGE: usize> RecordedLane<D, PAGE> {
         ensures serves { OnOk result (CanServe PAGE config.now (D.page_count device)) }
         ensures refused { IfErr result (RefusesStore PAGE config.now (D.page_count device)) }
     {
-        // A store that was just opened shows nothing.
-        opening_shows_nothing();
-        let store = Store::open(alloc, config, device)?;
+        let layout = Store::layout_for(config, &device)?;
+        let lane = Self::with_layout(alloc, &layout, lane, device)?;
+        Ok(lane)
+    }
+
+    /// An empty lane of this layout with this number, over a device that has its pages, as `open` makes it; or `AllocError`,
+    /// with which the device is dropped. Nothing is tested again.
+    pub fn with_layout(
+        alloc: Global,
+        layout: &Layout,
+        lane: u32,
+        device: D,
+    ) -> Result<Self, AllocError>
+        requires page_size { IsPageSize PAGE }
+        requires lane { lane < layout.now.lanes }
+        requires room { layout_pages layout.now ≤ D.page_count device }
+        ensures { IfOk result (λ opened. opened ≡ record {
+          store = opening layout.now device;
+          lane = lane;
+          calls = [];
+        }) }
+    {
+        let store = DeedStore::with_layout(alloc, layout, device, RandomSeed::fixed())?;
         Ok(RecordedLane {
             store,
             lane,
@@ -96,6 +118,8 @@ impl<D: PageDevice<PAGE>, const PAGE: usize> RecordedLane<D, PAGE> {
         // What is true of every lane.
         ensures recorded { IsRecorded D.honest D.held self.now }
     {
+        // What is true of its store, whose deeds are those of its calls.
+        let _layout = self.store.layout();
         self.calls.len()
     }
 
@@ -192,7 +216,6 @@ impl<D: PageDevice<PAGE>, const PAGE: usize> RecordedLane<D, PAGE> {
             act = act_of moment answer;
           }) ∷ [];
         }) }
-        ensures unrecorded { OnErr result (self.new ≡ record self.old { store = self.new.store }) }
 
         // The store's answer, and what it leaves.
         ensures gets { IfOk result (λ answer. StoreGets PAGE D.honest D.failures D.held key.now
@@ -202,17 +225,16 @@ impl<D: PageDevice<PAGE>, const PAGE: usize> RecordedLane<D, PAGE> {
         ensures full { IsErrOf result RecordFault.HistoryFull
             ↔ (max_calls ≤ length self.old.calls) }
         ensures full_keeps { IsErrOf result RecordFault.HistoryFull → self.new ≡ self.old }
-        ensures out_of_memory { OnErr result (MayHaveGot PAGE D.honest D.failures D.held key.now
-            moment self.old.store self.new.store) }
+        ensures refused { OnErr result (LeavesUnrecorded PAGE D.honest D.failures D.held key.now
+            moment self.old self.new) }
     {
-        // A get shows nothing that was not shown.
-        get_shows();
         if self.calls.len() >= MAX_CALLS {
             return Err(RecordFault::HistoryFull);
         }
         let answer = self.store.get(key, moment)?;
         self.calls
             .push(caller, start, point, key, act_lent(&answer, moment))?;
+        self.store.note_got(key, moment, &answer);
         Ok(answer)
     }
 
@@ -257,8 +279,6 @@ impl<D: PageDevice<PAGE>, const PAGE: usize> RecordedLane<D, PAGE> {
             ↔ ((object_size key value ≤ room PAGE) × (max_calls ≤ length self.old.calls)) }
         ensures err { OnErr result (self.new ≡ self.old) }
     {
-        // A put shows its pair, and nothing else that was not shown.
-        put_shows();
         if is_too_large::<PAGE>(&key, &value) {
             return Err(RecordPutFault::TooLarge);
         }
@@ -314,13 +334,11 @@ impl<D: PageDevice<PAGE>, const PAGE: usize> RecordedLane<D, PAGE> {
             ↔ (max_calls ≤ length self.old.calls) }
         ensures err { OnErr result (self.new ≡ self.old) }
     {
-        // A removal shows nothing that was not shown, and nothing of its key.
-        removal_shows();
         if self.calls.len() >= MAX_CALLS {
             return Err(RecordFault::HistoryFull);
         }
         self.calls.push(caller, start, point, key, ActRef::Remove)?;
-        self.store.remove(key);
+        self.store.remove(key.bytes());
         Ok(())
     }
 
@@ -333,6 +351,7 @@ impl<D: PageDevice<PAGE>, const PAGE: usize> RecordedLane<D, PAGE> {
         ensures accepted { IsTrue (D.honest self.store.device) →
             IsAccepted result.calls (range_with_len 0 (length self.calls)) }
     {
+        let _layout = self.store.layout();
         RecordedParts {
             calls: self.calls.into_history(),
             device: self.store.into_device(),
@@ -340,23 +359,10 @@ impl<D: PageDevice<PAGE>, const PAGE: usize> RecordedLane<D, PAGE> {
     }
 }
 
-ghost use Rattle.history_recorder.specs.Lane.{act_of};
-
-/// What is recorded of an answer to a get of a moment, lent.
-fn act_lent(answer: &Answer, moment: u64) -> ActRef<'_>
-    ensures act { act_shown result ≡ act_of moment answer.now }
-    ensures value { IsValue (value_of (act_shown result)) }
-{
-    match answer {
-        Answer::Hit(value, _) => ActRef::Hit(value.bytes(), moment),
-        Answer::Miss(_) => ActRef::Miss,
-    }
-}
-
 /// Records a put and does it. Where memory is refused, record and store are as they were.
 fn put_noted<D: PageDevice<PAGE>, const PAGE: usize>(
     calls: &mut CallRecord,
-    store: &mut Store<D, PAGE>,
+    store: &mut DeedStore<D, PAGE>,
     caller: u16,
     start: u64,
     point: u64,
@@ -373,8 +379,10 @@ fn put_noted<D: PageDevice<PAGE>, const PAGE: usize>(
       act = Act.Put value expires;
     }) ∷ []) }
     ensures puts { IfOk result (λ pushed. StorePuts PAGE D.held
-        (record { key = key; value = timed value expires }) word store.old (Ok pushed)
-        store.new) }
+        (record { key = key; value = timed value expires }) word store.old.store (Ok pushed)
+        store.new.store) }
+    ensures deeds { OnOk result (store.new.deeds ≡ store.old.deeds
+        ++ record { key = key; act = Act.Put value expires } ∷ []) }
     ensures calls_kept { OnErr result (calls.new ≡ calls.old) }
     ensures store_kept { OnErr result (store.new ≡ store.old) }
 {

@@ -1,6 +1,7 @@
 // A world of lanes and callers.
-ghost use Rattle.std.specs.Prelude.{◌≡◌, ◌<◌, ◌≤◌, ◌+◌, ◌*◌, ◌↔◌, length, map, Any, IfOk, IfErr, OnOk, IsTrue};
-ghost use Rattle.record_pages.specs.Asked.{HasNumbersOf};
+ghost use Rattle.std.specs.Prelude.{◌≡◌, ◌<◌, ◌≤◌, ◌↔◌, length, map, All, Any, IfOk, IfErr, OnOk, IsTrue};
+ghost use Rattle.record_pages.specs.Asked.{HasNumbersOf, layout_pages};
+ghost use Rattle.record_pages.specs.Sizes.{IsPageSize};
 ghost use Rattle.mover.specs.Store.{IsTooSmall};
 
 use crate::boxed_device::BoxedDevice;
@@ -58,11 +59,10 @@ impl<D: PageDevice<PAGE>, const PAGE: usize> World<D, PAGE> {
         if PAGE < 256 || PAGE > 4096 {
             return Err(OpenWorldFault::WrongPage);
         }
-        let needed = layout.sets + layout.segments * layout.segment_pages;
-        if is_one_below(devices.as_slice(), needed) {
+        if is_one_below(devices.as_slice(), layout.pages()) {
             return Err(OpenWorldFault::DeviceTooSmall);
         }
-        let lanes = open_lanes(alloc, config, &layout, devices)?;
+        let lanes = open_lanes(alloc, &layout, devices)?;
         Ok(World {
             layout,
             callers,
@@ -76,7 +76,8 @@ ghost use Rattle.history_recorder.specs.Opened.{AreTheLanes, devices_of};
 
 /// Whether one of the devices has fewer pages than are needed.
 fn is_one_below<D: PageDevice<PAGE>, const PAGE: usize>(devices: &[D], needed: u32) -> bool
-    ensures { IsTrue result ↔ Any (λ pages. pages < needed) (map D.page_count devices.now) }
+    ensures one { IsTrue result ↔ Any (λ pages. pages < needed) (map D.page_count devices.now) }
+    ensures none { (IsTrue result → ⊥) → All (λ d. needed ≤ D.page_count d) devices.now }
 {
     for device in devices {
         if device.pages() < needed {
@@ -86,15 +87,15 @@ fn is_one_below<D: PageDevice<PAGE>, const PAGE: usize>(devices: &[D], needed: u
     false
 }
 
-/// The lanes of these devices, in their order.
+/// The lanes of these devices, in their order. Nothing is tested again.
 fn open_lanes<D: PageDevice<PAGE>, const PAGE: usize>(
     alloc: Global,
-    config: &Config,
     layout: &Layout,
     devices: Vec<D>,
 ) -> Result<Vec<Box<RecordedLane<BoxedDevice<D>, PAGE>>>, AllocError>
-    requires layout { HasNumbersOf layout.now config.now }
+    requires page_size { IsPageSize PAGE }
     requires one_each { length devices.items ≡ layout.now.lanes }
+    requires room { All (λ d. layout_pages layout.now ≤ D.page_count d) devices.items }
     ensures devices { IfOk result (λ lanes. devices_of lanes.items ≡ devices.items) }
     ensures opened { IfOk result (λ lanes. AreTheLanes D.honest D.held layout.now
         (unboxed lanes.items)) }
@@ -103,9 +104,7 @@ fn open_lanes<D: PageDevice<PAGE>, const PAGE: usize>(
     let mut number = 0;
     for device in devices {
         let boxed = BoxedDevice::new(Box::new(alloc, device)?);
-        let Ok(lane) = RecordedLane::open(alloc, config, number, boxed) else {
-            return Err(AllocError);
-        };
+        let lane = RecordedLane::with_layout(alloc, layout, number, boxed)?;
         lane.recall();
         lanes.push(Box::new(alloc, lane)?)?;
         number += 1;

@@ -2,15 +2,16 @@
 use Rattle.std.proofs.Common.{◌≡◌, ◌≢◌, ℕ, ◌+◌, ◌<◌, Bool, true, false, ◌&&◌, cond, not, eqb, List, [], length, get_or, filter, All, Option, Some, None, slice_get, refl, sym, ap, subst, ◌∙◌, inl, inr, arith}
 use Rattle.std.specs.Prelude.{IsSomeAnd}
 use Rattle.std.proofs.lemmas.Bool.{eqb-true, eq-eqb, ne_eqb, and_from, cases_eq, cond_both}
+use Rattle.std.proofs.lemmas.Bool.Decides.{nat_tests}
 use Rattle.std.proofs.lemmas.List.Elements.{filter_passes}
-use Rattle.page_device.specs.Frames.{pages_from}
+use Rattle.page_device.specs.Frames.{pages_from, pages_before}
 use Rattle.record_pages.specs.Recs.{Rec}
 use Rattle.record_pages.specs.PageText.{LogPageParts, SpellsLogPage}
 use Rattle.record_pages.proofs.PageLaws.{log_page_only}
 use Rattle.klog_index.specs.declared.entry.Entry.{Entry}
 use Rattle.klog.specs.Buffer.{page_of}
 use Rattle.klog.specs.Log.{LogState}
-use Rattle.klog.specs.Names.{names, name_of, segment_of, flushed_number, filled_number, ring_page}
+use Rattle.klog.specs.Names.{names, name_of, segment_of, flushed_number, filled_number, ring_page, device_page}
 use Rattle.klog.specs.Shown.{shown, record_on, record_of_held, IsLive, HoldsPage, IsFlushed, IsSpelled, IsSpelledOn, live_on}
 use Rattle.klog.specs.Keeps.{IsHeld, IsLog}
 use Rattle.klog.specs.Flush.{is_on_page, without_next, moved_on, WritesNext}
@@ -209,3 +210,10 @@ goes_on_lost bytes held held' k is flushing free w h =
 -- the records that are live without the lost page
 pub live_lost : (held : ℕ → Option (List ℕ)) (k : LogState) → live_on held (without_next k) ≡ filter (λ x. not (is_on_page k (flushed_number k) k.done x.0)) (live_on held k)
 live_lost held k = live_on-kept held k (λ e. not (is_on_page k (flushed_number k) k.done e))
+
+-- a write of the log's page leaves the pages of the sets
+pub sets_stay : (held held' : ℕ → Option (List ℕ)) (k : LogState) → ((p : ℕ) → p ≢ device_page k (flushed_number k) k.done → held' p ≡ held p) → pages_before k.shape.sets held' ≡ pages_before k.shape.sets held
+sets_stay held held' k others =
+    let same : (p : ℕ) → p < k.shape.sets → held' p ≡ held p = λ p below. others p (λ e. omega (arith, e, below)) in
+    let at : (p : ℕ) → pages_before k.shape.sets held' p ≡ pages_before k.shape.sets held p = λ p. grind (arith, nat_tests, same p) in
+    λ i p. at p i

@@ -9,8 +9,8 @@ use Rattle.record_pages.specs.Recs.{Rec}
 use Rattle.record_pages.specs.Looking.{has_key}
 use Rattle.klog_index.specs.declared.entry.Entry.{Entry}
 use Rattle.klog_index.specs.Entries.{of_tag}
-use Rattle.klog.specs.declared.looked.Looked.{Looked}
-use Rattle.klog.specs.declared.looked.Looked.TheVariants as looked
+use Rattle.record_pages.specs.declared.looked.Looked.{Looked}
+use Rattle.record_pages.specs.declared.looked.Looked.TheVariants as looked
 use Rattle.klog.specs.Log.{LogState}
 use Rattle.klog.specs.Shown.{shown_on, CanStandFor, IsLiveOn}
 use Rattle.klog.specs.Known.{no_pages, is_buffered, IsPageKnown, IsHad, ShowsIfHad}

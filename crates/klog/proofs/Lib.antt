@@ -10,6 +10,7 @@ pub mod FetchLaws
 pub mod KnownLaws
 pub mod LookLaws
 pub mod InBuffers
+pub mod LocateLaws
 pub mod MoveLaws
 pub mod TakeLaws
 pub mod TakenLaws

@@ -8,20 +8,17 @@ use Rattle.std.proofs.lemmas.Bool.{and_from, and_parts, eq-eqb, eqb-true, false�
 use Rattle.std.proofs.lemmas.List.{take_all, take-append-drop}
 use Rattle.std.proofs.lemmas.List.Elements.{All-filter, All-cons, All-nil, All-head, All-tail, All-more, All-contains, All-contains_itself, All-take, filter_passes}
 use Rattle.std.proofs.lemmas.Option.{slice_get_within, get_or_from_slice_get}
-use Rattle.value_buffer.specs.Given.{given}
 use Rattle.record_pages.specs.Expiry.{value_at}
 use Rattle.record_pages.specs.Recs.{Rec}
 use Rattle.record_pages.specs.Looking.{has_key}
 use Rattle.klog_index.specs.declared.entry.Entry.{Entry}
 use Rattle.klog_index.specs.Entries.{is_of, has_tag, of_set, of_tag}
 use Rattle.set_hash.specs.declared.placed.Placed.{Placed}
-use Rattle.klog.specs.declared.found.Found.{Found}
-use Rattle.klog.specs.declared.found.Found.TheVariants as found
 use Rattle.klog.specs.Log.{Shape, LogState}
 use Rattle.klog.specs.Shown.{shown_on, live_on, ArePlaced, newest_with, place_in, CanStandFor, IsLiveOn, IsSpelledOn}
 use Rattle.klog.specs.Fetch.{IsPlaceOf}
-use Rattle.klog.specs.Find.{with_tag, IsOfTag, Finds, FindsAt}
-use Rattle.klog.specs.Look.{lowered_in, LowersEntry, ShowsOther, IsReached, HitsAt, ExpiredAt, WantsAt, ComesToPage}
+use Rattle.klog.specs.Find.{with_tag}
+use Rattle.klog.specs.Look.{lowered_in, ShowsOther, IsReached, ComesToPage}
 use Rattle.klog.specs.Known.{is_buffered, AreBuffered, ShowsIfHad}
 use Rattle.klog.proofs.LiveLaws.{live_by, live_by-kept, length-kept}
 use Rattle.klog.proofs.KnownLaws.{shows_live}
@@ -217,7 +214,7 @@ turns_over bytes held k set tag key n le newer = subst (All (ShowsOther bytes he
 -- ---- what is found among the live records, where all of them are known
 
 -- an entry of a log that is spelled is live
-spelled_live : (bytes : ℕ) (held : ℕ → Option (List ℕ)) (k : LogState) (set tag : ℕ) → IsSpelledOn bytes held k → All (IsLiveOn bytes held k) (of_tag set tag k.entries)
+pub spelled_live : (bytes : ℕ) (held : ℕ → Option (List ℕ)) (k : LogState) (set tag : ℕ) → IsSpelledOn bytes held k → All (IsLiveOn bytes held k) (of_tag set tag k.entries)
 spelled_live bytes held k set tag spelled = All-filter (has_tag set tag) (IsLiveOn bytes held k) k.entries spelled.live
 
 -- and shows another key where that is so of what is known
@@ -236,17 +233,17 @@ newest_in : (bytes : ℕ) (held : ℕ → Option (List ℕ)) (k : LogState) (key
 newest_in bytes held k key placed is spelled =
     ap (λ (p : Placed). newest_with (live_by (shown_on held k) (of_tag p.set p.tag k.entries)) key) is ∙ newest_of_tag bytes held k key spelled
 
--- a hit is the newest live record of the key
-hit_newest : (bytes : ℕ) (held : ℕ → Option (List ℕ)) (k : LogState) (key : List ℕ) (moment : ℕ) (placed : Placed) (e : Entry) (buffer : List ℕ) (is_live : Bool) → placed ≡ place_in k.shape key → IsSpelledOn bytes held k
-    → IsReached bytes held k placed.set placed.tag key e → ShowsIfHad bytes held k e (λ r. (has_key key r ≡ true) × (value_at moment r.value ≡ given is_live buffer)) → Finds k (live_on held k) key moment buffer (found.Hit e is_live)
-hit_newest bytes held k key moment placed e buffer is_live is spelled reached shows =
+-- where the search came to an entry that shows the key, its record is the newest live one of the key
+pub hit_newest : (bytes : ℕ) (held : ℕ → Option (List ℕ)) (k : LogState) (key : List ℕ) (moment : ℕ) (placed : Placed) (e : Entry) (gives : Option (List ℕ)) → placed ≡ place_in k.shape key → IsSpelledOn bytes held k
+    → IsReached bytes held k placed.set placed.tag key e → ShowsIfHad bytes held k e (λ r. (has_key key r ≡ true) × (value_at moment r.value ≡ gives)) → (r : Rec) × (newest_with (live_on held k) key ≡ Some (e, r)) × (value_at moment r.value ≡ gives)
+hit_newest bytes held k key moment placed e gives is spelled reached shows =
     let es = of_tag placed.set placed.tag k.entries in
     let behind = reached.behind in
     let live = spelled_live bytes held k placed.set placed.tag spelled in
     let newer : All (OtherBy (shown_on held k) key) (take behind es) = spelled_other bytes held k key (take behind es) (All-take (IsLiveOn bytes held k) behind es live) reached.newer in
     let here : IsLiveOn bytes held k e = All-contains (IsLiveOn bytes held k) es e live (reached_listed bytes held k placed.set placed.tag key e reached) in
-    let hit : (r : Rec) × (shown_on held k e ≡ Some r) × (has_key key r ≡ true) × (value_at moment r.value ≡ given is_live buffer) =
-    known (shown_on held k e) refl (shows_live bytes held k e (λ r. (has_key key r ≡ true) × (value_at moment r.value ≡ given is_live buffer)) here shows) in (
+    let hit : (r : Rec) × (shown_on held k e ≡ Some r) × (has_key key r ≡ true) × (value_at moment r.value ≡ gives) =
+    known (shown_on held k e) refl (shows_live bytes held k e (λ r. (has_key key r ≡ true) × (value_at moment r.value ≡ gives)) here shows) in (
       hit.0,
       sym (newest_in bytes held k key placed is spelled)
           ∙ ap (λ (xs : List Entry). newest_with (live_by (shown_on held k) xs) key) (split_at es behind e reached.at)
@@ -254,12 +251,12 @@ hit_newest bytes held k key moment placed e buffer is_live is spelled reached sh
       hit.3,
     )
   where
-    known : (o : Option Rec) → shown_on held k e ≡ o → IsSomeAnd o (λ r. (has_key key r ≡ true) × (value_at moment r.value ≡ given is_live buffer)) → (r : Rec) × (shown_on held k e ≡ Some r) × (has_key key r ≡ true) × (value_at moment r.value ≡ given is_live buffer)
+    known : (o : Option Rec) → shown_on held k e ≡ o → IsSomeAnd o (λ r. (has_key key r ≡ true) × (value_at moment r.value ≡ gives)) → (r : Rec) × (shown_on held k e ≡ Some r) × (has_key key r ≡ true) × (value_at moment r.value ≡ gives)
     known (Some r) at h = (r, at, h.0, h.1)
     known None at h = absurd h
 
 -- where all entries with the set and tag show other keys, no live record has the key
-absent_none : (bytes : ℕ) (held : ℕ → Option (List ℕ)) (k : LogState) (key : List ℕ) (placed : Placed) → placed ≡ place_in k.shape key → IsSpelledOn bytes held k
+pub absent_none : (bytes : ℕ) (held : ℕ → Option (List ℕ)) (k : LogState) (key : List ℕ) (placed : Placed) → placed ≡ place_in k.shape key → IsSpelledOn bytes held k
     → All (ShowsOther bytes held k key) (of_tag placed.set placed.tag k.entries) → newest_with (live_on held k) key ≡ None
 absent_none bytes held k key placed is spelled others =
     let es = of_tag placed.set placed.tag k.entries in
@@ -278,7 +275,7 @@ live_split shows (x ∷ front) e r back at = step (shows x) refl (live_split sho
     step None is rest = simp is rest
 
 -- where the search comes to an entry that lies in no buffer, it comes to a page
-comes_to_page : (bytes : ℕ) (held : ℕ → Option (List ℕ)) (k : LogState) (key : List ℕ) (placed : Placed) (e : Entry) → placed ≡ place_in k.shape key → IsSpelledOn bytes held k
+pub comes_to_page : (bytes : ℕ) (held : ℕ → Option (List ℕ)) (k : LogState) (key : List ℕ) (placed : Placed) (e : Entry) → placed ≡ place_in k.shape key → IsSpelledOn bytes held k
     → IsReached bytes held k placed.set placed.tag key e → is_buffered k e ≡ false → ComesToPage k key (live_on held k)
 comes_to_page bytes held k key placed e is spelled reached stored =
     let es = of_tag placed.set placed.tag k.entries in
@@ -303,16 +300,6 @@ comes_to_page bytes held k key placed e is spelled reached stored =
     known (Some r) at h = (r, at)
     known None at h = absurd h
 
--- so what lies behind an answer gives what is found
-pub finds_of : (bytes : ℕ) (held : ℕ → Option (List ℕ)) (k : LogState) (key : List ℕ) (moment : ℕ) (placed : Placed) (buffer : List ℕ) (f : Found) → placed ≡ place_in k.shape key
-    → FindsAt bytes held k placed.set placed.tag key moment buffer f → IsSpelledOn bytes held k → Finds k (live_on held k) key moment buffer f
-finds_of bytes held k key moment placed buffer (found.Hit e is_live) is at spelled = hit_newest bytes held k key moment placed e buffer is_live is spelled at.0 at.1
-finds_of bytes held k key moment placed buffer found.Absent is at spelled = absent_none bytes held k key placed is spelled at
-finds_of bytes held k key moment placed buffer found.Fault is at spelled = comes_to_page bytes held k key placed at.entry is spelled at.reached at.stored
-finds_of bytes held k key moment placed buffer found.Damaged is at spelled =
-    at.dead (All-contains (IsLiveOn bytes held k) (of_tag placed.set placed.tag k.entries) at.entry (spelled_live bytes held k placed.set placed.tag spelled)
-    (reached_listed bytes held k placed.set placed.tag key at.entry at.reached))
-
 -- where none is left, none stands further behind
 pub got_none : (k : LogState) (set tag behind : ℕ) (now : List Entry) → now ≡ drop behind (of_tag set tag k.entries) → now ≡ [] → length (of_tag set tag k.entries) ≤ behind
 got_none k set tag behind now left none = dropped_past (of_tag set tag k.entries) behind (sym left ∙ none)
@@ -329,45 +316,3 @@ set_of_tag set tag es e h =
 -- so where it is lowered it is lowered in the set
 pub lowered_there : (k k' : LogState) (set tag : ℕ) (e : Entry) → Contains (of_tag set tag k.entries) e → k' ≡ lowered_in k e.set e.place → k' ≡ lowered_in k set e.place
 lowered_there k k' set tag e listed is = is ∙ ap (λ (n : ℕ). lowered_in k n e.place) (set_of_tag set tag k.entries e listed)
-
--- a search that finds a live record of the key makes a hit, once its entry is lowered
-pub hits_at : (bytes : ℕ) (held : ℕ → Option (List ℕ)) (k new : LogState) (set tag : ℕ) (key : List ℕ) (moment : ℕ) (buffer : List ℕ) (e : Entry) (is_live : Bool) (nc : Type 0) → is_live ≡ true
-    → FindsAt bytes held k set tag key moment buffer (found.Hit e is_live) → IsOfTag k set tag nc (found.Hit e is_live) → new ≡ lowered_in k e.set e.place → HitsAt bytes held k set tag key moment buffer new nc
-hits_at bytes held k new set tag key moment buffer e is_live nc live at its lowered = record {
-  entry = e;
-  reached = at.0;
-  lowered = lowered_there k new set tag e its.0 lowered;
-  shows = subst (λ (b : Bool). ShowsIfHad bytes held k e (λ r. (has_key key r ≡ true) × (value_at moment r.value ≡ given b buffer))) live at.1;
-  uncalled = its.1;
-}
-
--- and one that is not live an expired one
-pub expired_at : (bytes : ℕ) (held : ℕ → Option (List ℕ)) (k : LogState) (set tag : ℕ) (key : List ℕ) (moment : ℕ) (buffer : List ℕ) (e : Entry) (is_live : Bool) (nc : Type 0) → is_live ≡ false
-    → FindsAt bytes held k set tag key moment buffer (found.Hit e is_live) → IsOfTag k set tag nc (found.Hit e is_live) → ExpiredAt bytes held k set tag key moment k nc
-expired_at bytes held k set tag key moment buffer e is_live nc gone at its = record {
-  entry = e;
-  reached = at.0;
-  stays = refl;
-  shows = subst (λ (b : Bool). ShowsIfHad bytes held k e (λ r. (has_key key r ≡ true) × (value_at moment r.value ≡ given b buffer))) gone at.1;
-  uncalled = its.1;
-}
-
--- so it lowers an entry
-pub lowers_entry : (k new : LogState) (set tag : ℕ) (e : Entry) (is_live : Bool) (nc : Type 0) → IsOfTag k set tag nc (found.Hit e is_live) → new ≡ lowered_in k e.set e.place → LowersEntry k set tag new nc
-lowers_entry k new set tag e is_live nc its lowered = record { entry = e; listed = its.0; lowered = lowered_there k new set tag e its.0 lowered; uncalled = its.1 }
-
--- and memory is wanted for what it shows
-pub wants_at : (bytes : ℕ) (held : ℕ → Option (List ℕ)) (k : LogState) (set tag : ℕ) (key : List ℕ) (moment : ℕ) (buffer : List ℕ) (e : Entry) (is_live : Bool)
-    → FindsAt bytes held k set tag key moment buffer (found.Hit e is_live) → WantsAt bytes held k set tag key
-wants_at bytes held k set tag key moment buffer e is_live at = record { entry = e; reached = at.0; shows = λ had. shown (shown_on held k e) (at.1 had) }
-  where
-    shown : (o : Option Rec) → IsSomeAnd o (λ r. CanStandFor bytes k.shape e r × ((has_key key r ≡ true) × (value_at moment r.value ≡ given is_live buffer)))
-        → IsSomeAnd o (λ r. CanStandFor bytes k.shape e r × (has_key key r ≡ true))
-    shown (Some r) h = (h.0, h.1.0)
-    shown None h = h
-
--- what is found of the bytes of a key, in the bytes of a buffer, is found of the key, in the buffer
-pub finds_as : (bytes : ℕ) (held : ℕ → Option (List ℕ)) (k : LogState) (set tag : ℕ) (key' key : List ℕ) (moment : ℕ) (buffer buffer' : List ℕ) (f : Found) → key' ≡ key → buffer ≡ buffer'
-    → FindsAt bytes held k set tag key' moment buffer f → FindsAt bytes held k set tag key moment buffer' f
-finds_as bytes held k set tag key' key moment buffer buffer' f same_key same_buffer at =
-    subst (λ (b : List ℕ). FindsAt bytes held k set tag key moment b f) same_buffer (subst (λ (q : List ℕ). FindsAt bytes held k set tag q moment buffer f) same_key at)

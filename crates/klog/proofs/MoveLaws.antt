@@ -22,7 +22,7 @@ use Rattle.klog.specs.Names.{names, name_of, number_of, segment_of, flushed_numb
 use Rattle.klog.specs.Shown.{shown, shown_on, live_on, record_of_held, CanStandFor, IsLiveOn, IsFlushed, IsSpelledOn}
 use Rattle.klog.specs.Keeps.{IsHeld, IsLog}
 use Rattle.klog.specs.Known.{IsPageKnown, IsHad, ShowsIfHad}
-use Rattle.klog.specs.Moves.{TellsOldest, IsOfOldest, freed, EntersAnew, MovesTo, ReadsBack}
+use Rattle.klog.specs.Moves.{TellsOldest, IsOfOldest, freed, EntersAnew, ReadmitLeaves, MovesTo, ReadsBack}
 use Rattle.klog.specs.Fetch.{stored_on, FetchGives}
 use Rattle.klog.proofs.RingLaws.{name_again, number_again, number_from}
 use Rattle.klog.proofs.LiveLaws.{live_contained, live_by-same, length-kept}
@@ -190,6 +190,13 @@ pub oldest_given : (bytes : ℕ) (held : ℕ → Option (List ℕ)) (k : LogStat
 oldest_given bytes held k e found r h spelled gives shows =
     let live : IsLiveOn bytes held k e = oldest_live bytes held k e h spelled in
     same_Some (record_shown found) r (sym (oldest_shows bytes held k e found h gives (live_had bytes held k e live)) ∙ shows)
+
+-- a record that was had entered anew or found no place
+pub leaves_anew : (bytes : ℕ) (k : LogState) (e : Entry) (r : Rec) (a : Readmitted) (k' : LogState) → CanStandFor bytes k.shape e r → EntersAnew bytes k e r a k' → ReadmitLeaves bytes k e a k'
+leaves_anew bytes k e r answers.Readmitted k' can is = record { its = r; can = can; room = is.0; added = is.1 }
+leaves_anew bytes k e r answers.Dropped k' can is = record { its = r; can = can; full = is.0; left = is.1 }
+leaves_anew bytes k e r answers.Fault k' can is = absurd is
+leaves_anew bytes k e r answers.Damaged k' can is = absurd is
 
 -- what became of it, where all live records are known
 pub moves_to : (bytes : ℕ) (k : LogState) (e : Entry) (r : Rec) (a : Readmitted) (k' : LogState) → EntersAnew bytes k e r a k' → MovesTo bytes k e r a k'

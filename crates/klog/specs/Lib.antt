@@ -9,8 +9,10 @@ pub mod Append
 pub mod Fetch
 pub mod Look
 pub mod Find
+pub mod Locate
 pub mod Flush
 pub mod Moves
+pub mod Calls
 pub mod Laws
 pub mod Take
 pub mod Segments

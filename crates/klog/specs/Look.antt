@@ -4,29 +4,14 @@ use Rattle.std.specs.declared.alloc.AllocError.{AllocError}
 use Rattle.record_pages.specs.Expiry.{value_at}
 use Rattle.record_pages.specs.Recs.{Rec}
 use Rattle.record_pages.specs.Looking.{has_key}
+use Rattle.record_pages.specs.declared.looked.Looked.{Looked}
+use Rattle.record_pages.specs.declared.looked.Looked.TheVariants as looked
 use Rattle.klog_index.specs.declared.entry.Entry.{Entry}
 use Rattle.klog_index.specs.declared.place.Place.{Place}
 use Rattle.klog_index.specs.Entries.{is_in, has_tag, lowered, with_lowered, of_tag}
-use Rattle.klog.specs.declared.looked.Looked.{Looked}
-use Rattle.klog.specs.declared.looked.Looked.TheVariants as looked
-use Rattle.klog.specs.declared.seen.Seen.{Seen}
-use Rattle.klog.specs.declared.seen.Seen.TheVariants as seen
 use Rattle.klog.specs.Log.{LogState, with_list}
 use Rattle.klog.specs.Shown.{newest_with, place_in, shown_on, CanStandFor, IsLiveOn}
 use Rattle.klog.specs.Known.{no_pages, is_buffered, AreBuffered, ShowsIfHad}
-
--- what a look-up into a buffer answers, as one that gives a value of its own says it: the value of a hit is in the buffer
-abbrev pub looked_of : Seen → List ℕ → Looked
-looked_of seen.Hit found = looked.Hit found
-looked_of seen.Expired found = looked.Expired
-looked_of seen.Absent found = looked.Absent
-looked_of seen.Fault found = looked.Fault
-looked_of seen.Damaged found = looked.Damaged
-
--- a look-up into a buffer answers a hit
-abbrev pub is_hit : Seen → Bool
-is_hit seen.Hit = true
-is_hit _ = false
 
 -- the answer is the device's failure
 abbrev pub is_log_fault : Result Looked AllocError → Bool

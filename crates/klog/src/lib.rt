@@ -7,15 +7,13 @@ mod appended;
 mod buffer;
 mod fetched;
 mod flushed;
-mod found;
 mod gathered;
 mod laws;
+mod located;
 mod log;
 mod log_usage;
-mod looked;
 mod oldest;
 mod readmitted;
-mod seen;
 mod segment_laws;
 mod set_taken;
 mod sources;
@@ -33,12 +31,11 @@ pub use laws::{
     append_keeps_places, flush_keeps_places, frames_keep_log, freeing_keeps_places,
     list_keeps_places, live_are_as_many, names_tell_numbers,
 };
+pub use located::Located;
 pub use log::{KLog, MAX_TAKEN};
 pub use log_usage::LogUsage;
-pub use looked::Looked;
 pub use oldest::Oldest;
 pub use readmitted::Readmitted;
-pub use seen::Seen;
 pub use segment_laws::{
     appends_put_last, entry_dies, freeing_takes_oldest, lost_pages_die, pages_are_done,
     sealing_flushes, segments_tell_live, strikes_kill, taken_die,

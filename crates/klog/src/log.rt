@@ -11,6 +11,7 @@ ghost use Rattle.klog.specs.Usage.{usage_of};
 mod append;
 mod fetch;
 mod flush;
+mod locate;
 mod look;
 mod moves;
 

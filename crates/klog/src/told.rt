@@ -3,8 +3,10 @@
 /// What the record of an entry says of a key.
 #[derive(Clone, Copy, Debug)]
 pub(crate) enum Told {
-    /// It has the key, and if it is live at the moment its value is in the buffer.
-    Hit { is_live: bool },
+    /// It has the key and is live at the moment, and its value is in the buffer.
+    Hit,
+    /// It has the key, and has expired.
+    Expired,
     /// It has another key.
     Other,
     /// The device failed.

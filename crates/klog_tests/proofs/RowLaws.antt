@@ -1,16 +1,17 @@
 -- Entries that are left where others are dropped.
-use Rattle.std.proofs.Common.{◌≡◌, ℕ, Bool, true, false, cond, not, eqb, List, [], ◌∷◌, length, filter, Option, Some, All, Contains, slice_get, refl, sym, ap, subst, ◌∙◌, arith}
+use Rattle.std.proofs.Common.{◌≡◌, ℕ, Bool, true, false, cond, not, eqb, List, [], ◌∷◌, length, map, filter, Option, Some, All, Contains, slice_get, refl, sym, ap, subst, ◌∙◌, arith}
 use Rattle.std.specs.Prelude.{◌≢◌, find, IsSomeAnd, None, IsTrue, Result, Ok, Err}
 use Rattle.std.specs.declared.alloc.AllocError.{AllocError}
-use Rattle.std.proofs.lemmas.Bool.{and_parts, eqb-true, false≢true}
+use Rattle.std.proofs.lemmas.Bool.{and_parts, eq-eqb, eqb-true, false≢true}
+use Rattle.std.proofs.lemmas.List.{length-map}
 use Rattle.std.proofs.lemmas.List.Elements.{All-cons, All-nil, All-weaker, All-contains, Contains-append_right}
 use Rattle.std.proofs.lemmas.Option.{slice_get_within}
 use Rattle.klog_index.specs.declared.entry.Entry.{Entry}
-use Rattle.klog_index.specs.Entries.{is_on, is_in, has_tag, of_tag, without}
+use Rattle.klog_index.specs.Entries.{is_on, is_in, has_tag, of_tag, without, lowered, with_lowered}
 use Rattle.record_pages.specs.Expiry.{value_at}
 use Rattle.record_pages.specs.Recs.{Rec}
-use Rattle.klog.specs.declared.looked.Looked.{Looked}
-use Rattle.klog.specs.declared.looked.Looked.TheVariants as looked
+use Rattle.record_pages.specs.declared.looked.Looked.{Looked}
+use Rattle.record_pages.specs.declared.looked.Looked.TheVariants as looked
 use Rattle.klog.specs.declared.set_taken.SetTaken.{SetTaken}
 use Rattle.klog.specs.declared.set_taken.SetTaken.TheVariants as taken
 use Rattle.klog.specs.declared.readmitted.Readmitted.{Readmitted}
@@ -22,13 +23,17 @@ use Rattle.klog.specs.Keeps.{IsHeld}
 use Rattle.klog.specs.Laws.{NamesTellNumbers}
 use Rattle.klog.specs.Known.{no_pages, is_buffered, AreBuffered}
 use Rattle.klog.specs.Append.{entering, entry_for, sealed, taker}
-use Rattle.klog.specs.Look.{LooksAt, LogLookGives, GivesAt, GivesRecord}
+use Rattle.klog.specs.Look.{LooksAt, LogLookGives, GivesAt, GivesRecord, lowered_in}
+use Rattle.klog.specs.declared.located.Located.{Located}
+use Rattle.klog.specs.Locate.{looked_of, log_after, LogLocates}
+use Rattle.klog.specs.Calls.{LogLooks}
+use Rattle.set_hash.specs.declared.placed.Placed.{Placed}
 use Rattle.klog_tests.specs.Telling.{looked_by}
 use Rattle.klog.specs.Moves.{TakeLeaves, ReadmitLeaves, without_entry, is_taken, dropped}
 use Rattle.klog.specs.declared.taken_record.TakenRecord.{TakenRecord}
 use Rattle.klog.specs.declared.flushed.Flushed.{Flushed}
 use Rattle.klog.specs.Flush.{is_page_lost, is_on_page, live_flushed}
-use Rattle.klog.specs.Shown.{newest_with}
+use Rattle.klog.specs.Shown.{newest_with, IsSpelledOn}
 use Rattle.record_pages.specs.Looking.{has_key}
 
 each : (p : Entry → Bool) (es : List Entry) → All (λ x. p x ≡ true → Contains (filter p es) x) es
@@ -206,3 +211,50 @@ is_its_hit live key moment x old looked.Damaged new after there h wanted is = ab
 pub answer_by : (o : Option (List ℕ)) (old : LogState) (set : ℕ) (e : Entry) (new : LogState) (nc : Type 0) (a : Looked) → GivesAt o old set e new nc a → (a ≡ looked_by o) × nc
 answer_by (Some value) old set e new nc a gives = (gives.hit, gives.uncalled)
 answer_by None old set e new nc a gives = (gives.expired, gives.uncalled)
+
+-- what is of a list is of the mapped one as it is mapped
+mapped : (f : Entry → Entry) (es : List Entry) → All (λ x. Contains (map f es) (f x)) es
+mapped f [] = All-nil (λ x. Contains [] (f x))
+mapped f (x ∷ es) =
+    All-cons (λ y. Contains (f x ∷ map f es) (f y)) x es (0, omega arith, refl)
+    (All-weaker (λ y. Contains (map f es) (f y)) (λ y. Contains (f x ∷ map f es) (f y)) (λ y h. Contains-append_right (f x ∷ []) (map f es) (f y) h) es (mapped f es))
+
+-- where entries of a kind are lowered, an entry stays as its kind says
+lowered_by : (p : Entry → Bool) (es : List Entry) (e : Entry) (b : Bool) → p e ≡ b → Contains es e → Contains (with_lowered p es) (cond b (lowered e) e)
+lowered_by p es e b is h =
+    subst (λ (c : Bool). Contains (with_lowered p es) (cond c (lowered e) e)) is
+    (All-contains (λ x. Contains (with_lowered p es) (cond (p x) (lowered x) x)) es e (mapped (λ x. cond (p x) (lowered x) x) es) h)
+
+-- an entry is of its set and lies at its place
+in_itself : (e : Entry) → is_in e.set e.place e ≡ true
+in_itself e = simp (eq-eqb e.set e.set refl, eq-eqb e.place.segment e.place.segment refl, eq-eqb e.place.page e.place.page refl, eq-eqb e.place.slot e.place.slot refl) refl
+
+-- a touched entry is lowered
+pub touched_lowered : (old new : LogState) (e : Entry) → new ≡ lowered_in old e.set e.place → Contains old.entries e → Contains new.entries (lowered e)
+touched_lowered old new e is h = subst (λ (k : LogState). Contains k.entries (lowered e)) (sym is) (lowered_by (is_in e.set e.place) old.entries e true (in_itself e) h)
+
+-- one at another place stays
+pub untouched : (old new : LogState) (e other : Entry) → new ≡ lowered_in old e.set e.place → Contains old.entries other → is_in e.set e.place other ≡ false → Contains new.entries other
+untouched old new e other is h apart = subst (λ (k : LogState). Contains k.entries other) (sym is) (lowered_by (is_in e.set e.place) old.entries other false apart h)
+
+-- and there are as many
+pub as_many : (old new : LogState) (e : Entry) → new ≡ lowered_in old e.set e.place → length new.entries ≡ length old.entries
+as_many old new e is = ap (λ (k : LogState). length k.entries) is ∙ length-map old.entries (λ x. cond (is_in e.set e.place x) (lowered x) x)
+
+module _ {D : Type 0} {size : ℕ} {pages : D → ℕ} {honest : D → Bool} {failures : D → ℕ} {held : D → ℕ → Option (List ℕ)} {placed : Placed} {key : List ℕ} {moment : ℕ} {k : LogState} {device : D} {was : List ℕ} {f : Located} {device' : D} {buffer : List ℕ} where
+  -- what is located is what a look-up answers, where the log is left with the entry of a hit touched
+  pub looks_of : (new : LogState) → LogLocates size pages honest failures held placed key moment k device was f device' buffer → new ≡ log_after f k → new.shape ≡ k.shape → ((on : ℕ → Option (List ℕ)) → IsSpelledOn size on k → IsSpelledOn size on new)
+      → LogLooks size pages honest failures held placed key moment k device (Ok (looked_of f buffer)) new device'
+  looks_of new h is shape spelled =
+      subst (λ (n : LogState). n.shape ≡ k.shape → ((on : ℕ → Option (List ℕ)) → IsSpelledOn size on k → IsSpelledOn size on n) → LogLooks size pages honest failures held placed key moment k device (Ok (looked_of f buffer)) n device') (sym is)
+      (λ same kept. record {
+        reads = h.reads;
+        shape = same;
+        leaves = h.leaves;
+        buffered = h.buffered;
+        in_buffers = h.in_buffers;
+        looks_at = h.looks_at;
+        gives = h.gives;
+        spelled = λ on was. subst (λ (now : ℕ → Option (List ℕ)). IsSpelledOn size now (log_after f k)) (sym (h.reads.same on)) (kept (held device) was);
+      })
+      shape spelled

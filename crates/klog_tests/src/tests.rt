@@ -5,8 +5,8 @@ ghost use Rattle.record_pages.specs.Sizes.{IsPageSize};
 mod calls;
 mod entering;
 mod failing;
-mod into;
 mod leaving;
+mod locating;
 mod owner;
 mod pages;
 mod passing;
@@ -18,11 +18,11 @@ mod step;
 use self::owner::Owner;
 use self::step::{Kept, Step, run};
 use klog::{
-    Appended, Flushed, KLog, Looked, Oldest, Readmitted, SetTaken, TakenRecord, TakenRecords,
+    Appended, Flushed, KLog, Located, Oldest, Readmitted, SetTaken, TakenRecord, TakenRecords,
 };
 use klog_index::{Entry, Place};
 use page_device::{FuseDevice, MemoryDevice, PageDevice};
-use record_pages::{Config, Key, Layout, Value};
+use record_pages::{Config, Key, Layout, Looked, Value};
 use std::alloc::{AllocError, Global};
 use std::process::Abort;
 use std::test::Fail;

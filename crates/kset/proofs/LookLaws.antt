@@ -1,13 +1,12 @@
 -- What a page says of a key, and what of it is visible.
 use Rattle.std.proofs.Common.{◌≡◌, ◌≢◌, ℕ, ◌+◌, ◌<◌, ◌≤◌, Bool, true, false, cond, List, [], ◌∷◌, length, Option, Some, None, refl, sym, ap, subst, ◌∙◌, arith}
 use Rattle.std.proofs.lemmas.Bool.{false≢true, and_parts, eq-eqb, lt-ltb}
-use Rattle.std.specs.Prelude.{IsSome, IsSomeAnd}
+use Rattle.std.specs.Prelude.{IsSomeAnd}
 use Rattle.std.specs.Option.{option_map_or}
 use Rattle.std.specs.FinSet.{empty}
 use Rattle.std.specs.Cmp.Lexicographic.{same_text}
 use Rattle.page_device.specs.Device.{IsKnown}
 use Rattle.page_device.specs.Frames.{pages_before}
-use Rattle.value_buffer.specs.Given.{given}
 use Rattle.record_pages.specs.Expiry.{value_at}
 use Rattle.record_pages.specs.Recs.{Rec}
 use Rattle.record_pages.specs.PageText.{SetPageParts, SpellsSetPage}
@@ -16,13 +15,12 @@ use Rattle.record_pages.specs.Reading.{set_page_at}
 use Rattle.record_pages.specs.Looking.{has_key, first_from, first_with}
 use Rattle.record_pages.proofs.PageLaws.{set_page_only}
 use Rattle.set_hash.specs.Fnv.{fnv1a}
-use Rattle.kset.specs.declared.page.Told.{Told}
-use Rattle.kset.specs.declared.page.Told.TheVariants.{Damaged, Absent, Found}
+use Rattle.kset.specs.declared.located.Located.{Located}
+use Rattle.kset.specs.declared.located.Located.TheVariants.{Hit, Expired, Absent, Fault, Damaged}
 use Rattle.kset.specs.Notes.{Notes, lets_show}
-use Rattle.kset.specs.Sets.{SetsState, hit_in}
 use Rattle.kset.specs.Pages.{IsPageOf, records_on}
 use Rattle.kset.specs.Shown.{is_visible, visible_from, first_visible}
-use Rattle.kset.specs.Telling.{page_if_of, SetPageTells, HasKey}
+use Rattle.kset.specs.Telling.{page_if_of, SetPageTells}
 use Rattle.kset.proofs.NotesLaws.{some_bit, lets_show-empty}
 
 -- a record that is found lies among the records
@@ -96,49 +94,36 @@ reads_page size count set held bytes within p known =
     }
 
 -- what a page says of a key, told of the visible records
-abbrev pub Says : List (ℕ × Rec) → List ℕ → ℕ → List ℕ → Told → Type 0
-Says visible key moment buffer Damaged = ⊥
+abbrev pub Says : List (ℕ × Rec) → List ℕ → ℕ → List ℕ → Located → Type 0
+Says visible key moment buffer (Hit slot) = IsSomeAnd (first_visible visible key) (λ x. (x.0 ≡ slot) × (value_at moment x.1.value ≡ Some buffer))
+Says visible key moment buffer Expired = IsSomeAnd (first_visible visible key) (λ x. value_at moment x.1.value ≡ None)
 Says visible key moment buffer Absent = first_visible visible key ≡ None
-Says visible key moment buffer (Found slot is_live) = IsSomeAnd (first_visible visible key) (λ x. (x.0 ≡ slot) × (value_at moment x.1.value ≡ given is_live buffer))
+Says visible key moment buffer Fault = ⊥
+Says visible key moment buffer Damaged = ⊥
 
-says_of : (visible : List (ℕ × Rec)) (key : List ℕ) (moment : ℕ) (buffer : List ℕ) (rs : List Rec) (p : SetPageParts) (told : Told) → first_visible visible key ≡ first_with key p.records → SetPageTells key moment buffer (Some p) told →
+says_of : (visible : List (ℕ × Rec)) (key : List ℕ) (moment : ℕ) (buffer : List ℕ) (p : SetPageParts) (told : Located) → first_visible visible key ≡ first_with key p.records → SetPageTells key moment buffer (Some p) told →
     Says visible key moment buffer told
-says_of visible key moment buffer rs p Damaged first t = t
-says_of visible key moment buffer rs p Absent first t = first ∙ t
-says_of visible key moment buffer rs p (Found slot is_live) first t =
-    let P : Option (ℕ × Rec) → Type 0 = λ o. IsSomeAnd o (λ x. (x.0 ≡ slot) × (value_at moment x.1.value ≡ given is_live buffer)) in
+says_of visible key moment buffer p (Hit slot) first t =
+    let P : Option (ℕ × Rec) → Type 0 = λ o. IsSomeAnd o (λ x. (x.0 ≡ slot) × (value_at moment x.1.value ≡ Some buffer)) in
     subst P (sym first) t.1
+says_of visible key moment buffer p Expired first t =
+    let P : Option (ℕ × Rec) → Type 0 = λ o. IsSomeAnd o (λ x. value_at moment x.1.value ≡ None) in
+    subst P (sym first) t
+says_of visible key moment buffer p Absent first t = first ∙ t
+says_of visible key moment buffer p Fault first t = t
+says_of visible key moment buffer p Damaged first t = t
 
-pub says : (size set : ℕ) (seen : Option (List ℕ)) (bytes key : List ℕ) (moment : ℕ) (buffer : List ℕ) (notes : Notes) (told : Told) →
+says : (size set : ℕ) (seen : Option (List ℕ)) (bytes key : List ℕ) (moment : ℕ) (buffer : List ℕ) (notes : Notes) (told : Located) →
     lets_show notes (fnv1a key) ≡ true → ReadsPage size set seen bytes → SetPageTells key moment buffer (page_if_of set (set_page_at bytes)) told →
     Says (visible_from notes 0 (records_on seen)) key moment buffer told
 says size set seen bytes key moment buffer notes told shows r t =
     let first : first_visible (visible_from notes 0 (records_on seen)) key ≡ first_with key r.page.records =
     first_visible-shown notes key shows 0 (records_on seen) ∙ ap (λ (rs : List Rec). first_with key rs) r.seen_records in
     let at : SetPageTells key moment buffer (Some r.page) told = subst (λ (o : Option SetPageParts). SetPageTells key moment buffer o told) r.read t in
-    says_of (visible_from notes 0 (records_on seen)) key moment buffer (records_on seen) r.page told first at
-
--- a hit at the slot of the first visible record
-pub hit_gives : (visible : List (ℕ × Rec)) (key : List ℕ) (moment : ℕ) (buffer : List ℕ) (slot : ℕ) (is_live : Bool) (set : ℕ) (old new : SetsState) →
-    Says visible key moment buffer (Found slot is_live) → is_live ≡ true → new ≡ hit_in old set slot →
-    IsSomeAnd (first_visible visible key) (λ x. (value_at moment x.1.value ≡ Some buffer) × (new ≡ hit_in old set x.0))
-hit_gives visible key moment buffer slot is_live set old new s live e = noted (first_visible visible key) s
-  where
-    noted : (o : Option (ℕ × Rec)) → IsSomeAnd o (λ x. (x.0 ≡ slot) × (value_at moment x.1.value ≡ given is_live buffer)) → IsSomeAnd o (λ x. (value_at moment x.1.value ≡ Some buffer) × (new ≡ hit_in old set x.0))
-    noted None h = h
-    noted (Some x) h = (h.1 ∙ ap (λ (b : Bool). given b buffer) live, e ∙ ap (hit_in old set) (sym h.0))
-
--- the first visible record is not live
-pub expired_gives : (visible : List (ℕ × Rec)) (key : List ℕ) (moment : ℕ) (buffer : List ℕ) (slot : ℕ) (is_live : Bool) → Says visible key moment buffer (Found slot is_live) → is_live ≡ false →
-    IsSomeAnd (first_visible visible key) (λ x. value_at moment x.1.value ≡ None)
-expired_gives visible key moment buffer slot is_live s gone = passed (first_visible visible key) s
-  where
-    passed : (o : Option (ℕ × Rec)) → IsSomeAnd o (λ x. (x.0 ≡ slot) × (value_at moment x.1.value ≡ given is_live buffer)) → IsSomeAnd o (λ x. value_at moment x.1.value ≡ None)
-    passed None h = h
-    passed (Some x) h = h.1 ∙ ap (λ (b : Bool). given b buffer) gone
+    says_of (visible_from notes 0 (records_on seen)) key moment buffer r.page told first at
 
 -- what was read of a set that can show a key says of the key what the visible records say
-pub told_of : (size count set : ℕ) (held : ℕ → Option (List ℕ)) (bytes key : List ℕ) (moment : ℕ) (buffer : List ℕ) (hash : ℕ) (notes : Notes) (told : Told) → hash ≡ fnv1a key → true ≡ lets_show notes hash →
+pub told_of : (size count set : ℕ) (held : ℕ → Option (List ℕ)) (bytes key : List ℕ) (moment : ℕ) (buffer : List ℕ) (hash : ℕ) (notes : Notes) (told : Located) → hash ≡ fnv1a key → true ≡ lets_show notes hash →
     set < count → (notes.filter ≢ empty → IsPageOf size set (pages_before count held set)) → IsKnown (held set) bytes → SetPageTells key moment buffer (page_if_of set (set_page_at bytes)) told →
     Says (visible_from notes 0 (records_on (pages_before count held set))) key moment buffer told
 told_of size count set held bytes key moment buffer hash notes told hashed shows within paged known t =
@@ -146,23 +131,22 @@ told_of size count set held bytes key moment buffer hash notes told hashed shows
     let r = reads_page size count set held bytes within (paged has_bit) known in
     says size set (pages_before count held set) bytes key moment buffer notes told (sym (shows ∙ ap (lets_show notes) hashed)) r t
 
--- what is told of the first record of a page with the key
-pub tells_found : (key : List ℕ) (moment : ℕ) (buffer : List ℕ) (slot : ℕ) (is_live : Bool) (p : SetPageParts) (r : Rec) (read : Option SetPageParts) → Some p ≡ read → length p.records ≤ max_set_records →
-    first_with key p.records ≡ Some (slot, r) → value_at moment r.value ≡ given is_live buffer → SetPageTells key moment buffer read (Found slot is_live)
-tells_found key moment buffer slot is_live p r read is few found gives =
+-- what is told of a live record, the first of a page with the key
+pub tells_hit : (key : List ℕ) (moment : ℕ) (buffer : List ℕ) (slot : ℕ) (p : SetPageParts) (r : Rec) (read : Option SetPageParts) → Some p ≡ read → length p.records ≤ max_set_records →
+    first_with key p.records ≡ Some (slot, r) → value_at moment r.value ≡ Some buffer → SetPageTells key moment buffer read (Hit slot)
+tells_hit key moment buffer slot p r read is few found gives =
     let within : slot < max_set_records = omega (arith, first_within key 0 p.records (slot, r) found, few) in
-    let P : Option (ℕ × Rec) → Type 0 = λ o. IsSomeAnd o (λ x. (x.0 ≡ slot) × (value_at moment x.1.value ≡ given is_live buffer)) in
-    let told : SetPageTells key moment buffer (Some p) (Found slot is_live) = (within, subst P (sym found) (refl, gives)) in
-    subst (λ (o : Option SetPageParts). SetPageTells key moment buffer o (Found slot is_live)) is told
+    let P : Option (ℕ × Rec) → Type 0 = λ o. IsSomeAnd o (λ x. (x.0 ≡ slot) × (value_at moment x.1.value ≡ Some buffer)) in
+    let told : SetPageTells key moment buffer (Some p) (Hit slot) = (within, subst P (sym found) (refl, gives)) in
+    subst (λ (o : Option SetPageParts). SetPageTells key moment buffer o (Hit slot)) is told
 
--- a page that tells of a record with the key has the key
-pub tells_key : (key : List ℕ) (moment : ℕ) (buffer : List ℕ) (slot : ℕ) (is_live : Bool) (read : Option SetPageParts) → SetPageTells key moment buffer read (Found slot is_live) → HasKey key read
-tells_key key moment buffer slot is_live None t = t
-tells_key key moment buffer slot is_live (Some p) t = some_of (first_with key p.records) t.1
-  where
-    some_of : (o : Option (ℕ × Rec)) → IsSomeAnd o (λ x. (x.0 ≡ slot) × (value_at moment x.1.value ≡ given is_live buffer)) → IsSome o
-    some_of None h = absurd h
-    some_of (Some x) h = refl
+-- what is told of one that has expired
+pub tells_expired : (key : List ℕ) (moment : ℕ) (buffer : List ℕ) (slot : ℕ) (p : SetPageParts) (r : Rec) (read : Option SetPageParts) → Some p ≡ read →
+    first_with key p.records ≡ Some (slot, r) → value_at moment r.value ≡ None → SetPageTells key moment buffer read Expired
+tells_expired key moment buffer slot p r read is found gone =
+    let P : Option (ℕ × Rec) → Type 0 = λ o. IsSomeAnd o (λ x. value_at moment x.1.value ≡ None) in
+    let told : SetPageTells key moment buffer (Some p) Expired = subst P (sym found) gone in
+    subst (λ (o : Option SetPageParts). SetPageTells key moment buffer o Expired) is told
 
 -- no record is visible where the filter has no bit
 pub visible_from-empty : (notes : Notes) → notes.filter ≡ empty → (slot : ℕ) (rs : List Rec) → visible_from notes slot rs ≡ []
@@ -186,21 +170,3 @@ pub written_records : (size old count set : ℕ) (held : ℕ → Option (List �
 written_records size old count set held bytes p same within holds spelled =
     ap records_on (before_is count set held (subst (λ n. set < n) (sym same) within) ∙ holds)
     ∙ ap (λ (o : Option SetPageParts). option_map_or (λ (read : SetPageParts). read.records) o []) (set_page_only size bytes p spelled)
-
--- where a page that was read has a key that can show, a visible record has the key
-pub visible_has : (size count set : ℕ) (held : ℕ → Option (List ℕ)) (bytes key : List ℕ) (hash : ℕ) (notes : Notes) → hash ≡ fnv1a key → true ≡ lets_show notes hash →
-    set < count → (notes.filter ≢ empty → IsPageOf size set (pages_before count held set)) → IsKnown (held set) bytes → HasKey key (page_if_of set (set_page_at bytes)) →
-    IsSome (first_visible (visible_from notes 0 (records_on (pages_before count held set))) key)
-visible_has size count set held bytes key hash notes hashed shows within paged known has =
-    let has_bit = some_bit notes.filter hash (and_parts _ _ (sym shows)).0 in
-    let r = reads_page size count set held bytes within (paged has_bit) known in
-    let seen = records_on (pages_before count held set) in
-    let first : first_visible (visible_from notes 0 seen) key ≡ first_with key r.page.records =
-    first_visible-shown notes key (sym (shows ∙ ap (lets_show notes) hashed)) 0 seen ∙ ap (λ (rs : List Rec). first_with key rs) r.seen_records in
-    let at : HasKey key (Some r.page) = subst (λ (o : Option SetPageParts). HasKey key o) r.read has in
-    subst (λ (o : Option (ℕ × Rec)). IsSome o) (sym first) at
-
--- what is told of the bytes of a key, in the bytes of a buffer, is told of the key, in the buffer
-pub tells_as : (key' key : List ℕ) (moment : ℕ) (buffer buffer' : List ℕ) (read : Option SetPageParts) (told : Told) → key' ≡ key → buffer ≡ buffer' → SetPageTells key' moment buffer read told → SetPageTells key moment buffer' read told
-tells_as key' key moment buffer buffer' read told same_key same_buffer tells =
-    subst (λ (b : List ℕ). SetPageTells key moment b read told) same_buffer (subst (λ (q : List ℕ). SetPageTells q moment buffer read told) same_key tells)

@@ -1,26 +1,22 @@
 -- What shows in a set after a call, for the layers above.
-use Rattle.std.proofs.Common.{◌≡◌, ◌≢◌, ℕ, ◌<◌, Bool, true, false, ◌&&◌, ◌||◌, not, cond, eqb, zero, suc, List, [], ◌∷◌, filter, replicate, Option, Some, None, Ok, ⊎_elim, refl, sym, ap, subst, ◌∙◌}
+use Rattle.std.proofs.Common.{◌≡◌, ◌≢◌, ℕ, ◌<◌, Bool, true, false, ◌&&◌, ◌||◌, not, cond, eqb, zero, suc, List, [], ◌∷◌, filter, replicate, Option, None, Ok, ⊎_elim, refl, sym, ap, subst, ◌∙◌}
 use Rattle.std.proofs.lemmas.Bool.{cases_eq, eqb-true, eqb-false}
 use Rattle.std.proofs.lemmas.List.{length-set, get_or-set_other}
 use Rattle.std.specs.Prelude.{nat_le, nat_lt, slice_index_or}
 use Rattle.std.specs.FinSet.{contains, insert, len}
 use Rattle.bloom.specs.Filter.{admits}
 use Rattle.bit_laws.proofs.PassingLaws.{contains-insert_nat}
-use Rattle.page_device.specs.Device.{IsKnown}
 use Rattle.page_device.specs.Frames.{pages_before}
 use Rattle.set_hash.specs.Fnv.{fnv1a}
 use Rattle.set_hash.specs.Place.{probes_of}
 use Rattle.record_pages.specs.Recs.{Rec}
-use Rattle.record_pages.specs.PageText.{SetPageParts}
-use Rattle.record_pages.specs.Reading.{set_page_at}
 use Rattle.kset.specs.declared.set_read.SetRead.{SetRead}
 use Rattle.kset.specs.declared.set_read.SetRead.TheVariants.{PageLost}
 use Rattle.kset.specs.Notes.{Notes, no_notes, lets_show, struck, with_hit}
 use Rattle.kset.specs.Sets.{SetsState, set_count, notes_of, with_notes, struck_in, forgotten, tried, hit_in}
 use Rattle.kset.specs.Pages.{page_records, records_on}
 use Rattle.kset.specs.Shown.{is_visible, visible_from, visible_in}
-use Rattle.kset.specs.Telling.{page_if_of, HasKey}
-use Rattle.kset.specs.After.{with_set, without_hash, after_strike, shown_after_reading, IsForeign}
+use Rattle.kset.specs.After.{with_set, without_hash, after_strike, shown_after_reading}
 use Rattle.kset.proofs.NotesLaws.{notes_of-with}
 use Rattle.kset.proofs.LookLaws.{visible_from-empty}
 
@@ -191,10 +187,3 @@ shown-refused held k new set within leaves =
     ap (λ (n : SetsState). visible_in held n set) leaves
     ∙ shown-own held (tried k) set no_notes within
     ∙ visible_from-empty no_notes refl 0 (page_records held k set)
-
--- what was read of a page that is known to be foreign is no page of the set
-pub not_foreign : (set : ℕ) (known : Option (List ℕ)) (bytes key : List ℕ) → IsForeign set known → IsKnown known bytes → HasKey key (page_if_of set (set_page_at bytes)) → ⊥
-not_foreign set None bytes key foreign same has = foreign
-not_foreign set (Some there) bytes key foreign same has =
-    let none : page_if_of set (set_page_at bytes) ≡ None = ap (λ (b : List ℕ). page_if_of set (set_page_at b)) same ∙ foreign in
-    subst (λ (o : Option SetPageParts). HasKey key o) none has

@@ -3,9 +3,11 @@ pub mod Sets
 pub mod Pages
 pub mod Shown
 pub mod Look
+pub mod Locate
 pub mod ReadSet
 pub mod Rewrite
 pub mod Telling
 pub mod After
 pub mod Keeps
+pub mod Calls
 pub mod Laws

@@ -4,25 +4,10 @@ use Rattle.std.specs.declared.alloc.AllocError.{AllocError}
 use Rattle.record_pages.specs.Expiry.{value_at}
 use Rattle.record_pages.specs.Recs.{Rec}
 use Rattle.record_pages.specs.Sizes.{max_set_records}
-use Rattle.kset.specs.declared.looked.Looked.{Looked}
-use Rattle.kset.specs.declared.looked.Looked.TheVariants as looked
-use Rattle.kset.specs.declared.seen.Seen.{Seen}
-use Rattle.kset.specs.declared.seen.Seen.TheVariants as seen
+use Rattle.record_pages.specs.declared.looked.Looked.{Looked}
+use Rattle.record_pages.specs.declared.looked.Looked.TheVariants as looked
 use Rattle.kset.specs.Sets.{SetsState, hit_in}
 use Rattle.kset.specs.Shown.{first_visible}
-
--- what a look-up into a buffer answers, as one that gives a value of its own says it: the value of a hit is in the buffer
-abbrev pub looked_of : Seen → List ℕ → Looked
-looked_of seen.Hit found = looked.Hit found
-looked_of seen.Expired found = looked.Expired
-looked_of seen.Absent found = looked.Absent
-looked_of seen.Fault found = looked.Fault
-looked_of seen.Damaged found = looked.Damaged
-
--- a look-up into a buffer answers a hit
-abbrev pub is_hit : Seen → Bool
-is_hit seen.Hit = true
-is_hit _ = false
 
 -- the answer is the device's failure
 abbrev pub is_set_fault : Result Looked AllocError → Bool

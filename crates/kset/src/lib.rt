@@ -2,11 +2,10 @@
 #![tactic(auto)]
 
 mod laws;
-mod looked;
+mod located;
 mod notes;
 mod page;
 mod rewritten;
-mod seen;
 mod set_read;
 mod set_record;
 mod set_records;
@@ -17,9 +16,8 @@ pub use laws::{
     forgotten_show_nothing, frames_keep_sets, readings_keep_current, readings_keep_sets,
     rewritings_keep_current, rewritings_keep_sets, strikes_keep_current, strikes_keep_sets,
 };
-pub use looked::Looked;
+pub use located::Located;
 pub use rewritten::Rewritten;
-pub use seen::Seen;
 pub use set_read::SetRead;
 pub use set_record::SetRecord;
 pub use set_records::SetRecords;

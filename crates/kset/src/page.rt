@@ -3,21 +3,12 @@ ghost use Rattle.std.specs.Prelude.{◌≡◌, ◌≤◌, IfSome, length};
 ghost use Rattle.std.specs.Bool.{OnFalse};
 ghost use Rattle.record_pages.specs.Sizes.{max_set_records};
 ghost use Rattle.record_pages.specs.Reading.{set_page_at};
-ghost use Rattle.kset.specs.Telling.{page_if_of, tells_value, SetPageTells};
+ghost use Rattle.kset.specs.Locate.{is_hit};
+ghost use Rattle.kset.specs.Telling.{page_if_of, SetPageTells};
 
+use crate::located::Located;
 use record_pages::{SetPage, is_live};
 use value_buffer::ValueBuffer;
-
-/// What a page says of a key.
-#[derive(Clone, Copy, Debug)]
-pub(crate) enum Told {
-    /// It is not the set's page.
-    Damaged,
-    /// No record has the key.
-    Absent,
-    /// The first record with the key lies in this slot, and if it is live at the moment its value is in the buffer.
-    Found { slot: usize, is_live: bool },
-}
 
 /// The page that these bytes spell, where it is the page of this set.
 pub(crate) fn page_of<const PAGE: usize>(bytes: &[u8; PAGE], set: u32) -> Option<SetPage<'_>>
@@ -38,26 +29,20 @@ pub(crate) fn tell<const PAGE: usize>(
     key: &[u8],
     moment: u64,
     into: &mut ValueBuffer,
-) -> Told
+) -> Located
     ensures tells { SetPageTells key.now moment into.new (page_if_of set (set_page_at bytes.now))
         result }
-    ensures stays { OnFalse (tells_value result) (into.new ≡ into.old) }
+    ensures stays { OnFalse (is_hit result) (into.new ≡ into.old) }
 {
     let Some(page) = page_of(bytes, set) else {
-        return Told::Damaged;
+        return Located::Damaged;
     };
     let Some(found) = page.records().find_key(key) else {
-        return Told::Absent;
+        return Located::Absent;
     };
     if !is_live(found.lent.expires, moment) {
-        return Told::Found {
-            slot: found.slot,
-            is_live: false,
-        };
+        return Located::Expired;
     }
     into.set(found.lent.value);
-    Told::Found {
-        slot: found.slot,
-        is_live: true,
-    }
+    Located::Hit { slot: found.slot }
 }

@@ -1,34 +1,24 @@
 // The sets of a lane.
-ghost use Rattle.std.specs.Prelude.{◌≡◌, ◌≢◌, ◌<◌, ◌≤◌, ◌^◌, ℕ, [], List, Option, IfOk, OnErr, Ok, Some, IsSome, IsTrue, length, false};
-ghost use Rattle.std.specs.Bool.{OnTrue, OnFalse};
-ghost use Rattle.std.specs.List.{enumerate_from};
-ghost use Rattle.std.specs.FinSet as bits;
-ghost use Rattle.page_device.specs.Frames.{pages_from};
-ghost use Rattle.page_device.specs.Lending.{OnlyReads, ReadsOrStops, OnlyWrites};
+ghost use Rattle.std.specs.Prelude.{◌≡◌, ◌≢◌, ◌<◌, ◌≤◌, ℕ, [], List, Option, IfOk, OnErr, length, false};
 ghost use Rattle.record_pages.specs.Sizes.{IsPageSize, max_set_records};
-ghost use Rattle.record_pages.specs.Recs.{Rec};
-ghost use Rattle.record_pages.specs.PageText.{set_page_text};
 ghost use Rattle.set_hash.specs.Fnv.{fnv1a};
-ghost use Rattle.kset.specs.Notes.{lets_show, notes_of_page};
-ghost use Rattle.kset.specs.Sets.{SetsState, sets_code, set_count, notes_of, opening_sets, struck_in, hit_in, forgotten, next_write, IsPlaceIn};
-ghost use Rattle.kset.specs.Pages.{AreSpelledOn, page_records};
-ghost use Rattle.kset.specs.Shown.{visible_in, visible_from, first_visible, with_flags};
-ghost use Rattle.kset.specs.Look.{is_set_fault, looked_of, is_hit, SetLookLeaves, SetLookGives};
-ghost use Rattle.kset.specs.ReadSet.{is_set_lost, SetReadLeaves, SetReadGives};
-ghost use Rattle.kset.specs.Rewrite.{is_forgotten, after_rewrite};
-ghost use Rattle.kset.specs.After.{with_set, after_strike, shown_after_reading, shown_after_rewriting, IsForeign};
-ghost use Rattle.kset.specs.Keeps.{KeepsSets};
+ghost use Rattle.kset.specs.Notes.{lets_show};
+ghost use Rattle.kset.specs.Sets.{SetsState, sets_code, set_count, notes_of, opening_sets, struck_in, hit_in, forgotten, IsPlaceIn};
+ghost use Rattle.kset.specs.Pages.{AreSpelledOn};
+ghost use Rattle.kset.specs.Shown.{visible_in, visible_from, with_flags};
+ghost use Rattle.kset.specs.Locate.{SetLocates};
+ghost use Rattle.kset.specs.After.{with_set, after_strike};
+ghost use Rattle.kset.specs.Calls.{SetLooks, SetReads, SetRewrites};
 
-use crate::looked::Looked;
+use crate::located::Located;
 use crate::notes::SetNotes;
-use crate::page::{Told, page_of, tell};
+use crate::page::{page_of, tell};
 use crate::rewritten::Rewritten;
-use crate::seen::Seen;
 use crate::set_read::SetRead;
 use crate::set_record::SetRecord;
 use crate::set_records::SetRecords;
 use page_device::PageDevice;
-use record_pages::{Key, Layout, Records, SetPageWriter, Value};
+use record_pages::{Key, Layout, Looked, Records, SetPageWriter, Value};
 use set_hash::{Placed, place};
 use std::alloc::{AllocError, Global};
 use std::marker::Model;
@@ -76,9 +66,50 @@ impl<const PAGE: usize> KSet<PAGE> {
         })
     }
 
-    /// The value of the first visible record of a key, if it is live at the moment: its slot is noted as hit. A key
-    /// that the filter denies or that is struck is absent without a call of the device. `AllocError` comes only where there is a value to copy;
-    /// it and all other answers change nothing.
+    /// The slot of the first visible record of a key, if it is live at the moment. Its value goes into the buffer; all
+    /// other answers leave the buffer as it was. A key that the filter denies or that is struck is absent without a call
+    /// of the device. Nothing is noted, and no memory is taken.
+    pub fn locate<D: PageDevice<PAGE>>(
+        &self,
+        device: &mut D,
+        placed: &Placed,
+        key: &[u8],
+        moment: u64,
+        found: &mut ValueBuffer,
+    ) -> Located
+        requires page_size { IsPageSize PAGE }
+        requires room { set_count self.now ≤ D.page_count device.old }
+        requires place { IsPlaceIn self.now placed.now }
+        requires hash { placed.now.hash ≡ fnv1a key.now }
+        ensures { SetLocates PAGE D.page_count D.honest D.failures D.held placed.now
+            key.now moment self.now device.old found.old result device.new found.new }
+    {
+        if !self.notes(placed.set).lets_show(placed) {
+            return Located::Absent;
+        }
+        let mut bytes = [0u8; PAGE];
+        let Ok(()) = device.read(placed.set, &mut bytes) else {
+            return Located::Fault;
+        };
+        tell(&bytes, placed.set, key, moment, found)
+    }
+
+    /// Notes the record in a slot of a set as hit. It cannot fail.
+    pub fn touch(&mut self, set: u32, slot: usize)
+        requires set { set < set_count self.old }
+        requires slot { slot < max_set_records }
+        ensures touched { self.new ≡ hit_in self.old set slot }
+        ensures sizes { set_count self.new ≡ set_count self.old }
+        ensures shown { (held : ℕ → Option (List ℕ)) →
+            visible_in held self.new ≡ visible_in held self.old }
+        ensures spelled { (held : ℕ → Option (List ℕ)) → AreSpelledOn PAGE held self.old →
+            AreSpelledOn PAGE held self.new }
+    {
+        self.sets[set as usize].hit(slot);
+    }
+
+    /// The value of the first visible record of a key, if it is live at the moment: its slot is noted as hit.
+    /// `AllocError` comes only if there is a value to copy; it and all other answers change nothing.
     pub fn look<D: PageDevice<PAGE>>(
         &mut self,
         alloc: Global,
@@ -91,107 +122,22 @@ impl<const PAGE: usize> KSet<PAGE> {
         requires room { set_count self.old ≤ D.page_count device.old }
         requires place { IsPlaceIn self.old placed.now }
         requires hash { placed.now.hash ≡ fnv1a key.now }
-
-        // On any device.
-        ensures reads { OnlyReads D.page_count D.honest D.failures D.held device.old
-            (is_set_fault result) device.new }
-        ensures keeps { KeepsSets PAGE (D.honest device.old) (D.held device.old) self.old
-            (D.held device.new) self.new }
-        ensures leaves { SetLookLeaves self.old placed.now.set result self.new }
-        ensures denied { OnFalse (lets_show (notes_of self.old placed.now.set) placed.now.hash)
-            ((result ≡ Ok Looked.Absent) × (device.new ≡ device.old)) }
-
-        // Where it is honest.
-        ensures gives { IsTrue (D.honest device.old) →
-            AreSpelledOn PAGE (D.held device.old) self.old →
-            IfOk result (λ r. SetLookGives (visible_in (D.held device.old) self.old placed.now.set)
-            key.now moment self.old placed.now.set r self.new) }
-        ensures foreign { IsTrue (D.honest device.old) →
-            IsForeign placed.now.set (D.held device.old placed.now.set) →
-            OnTrue (lets_show (notes_of self.old placed.now.set) placed.now.hash)
-            (OnFalse (is_set_fault result) (result ≡ Ok Looked.Damaged)) }
-        ensures short { IsTrue (D.honest device.old) →
-            AreSpelledOn PAGE (D.held device.old) self.old →
-            OnErr result (IsSome (first_visible
-            (visible_in (D.held device.old) self.old placed.now.set) key.now)) }
-        ensures shown { IsTrue (D.honest device.old) →
-            visible_in (D.held device.new) self.new ≡ visible_in (D.held device.old) self.old }
+        ensures { SetLooks PAGE D.page_count D.honest D.failures D.held placed.now
+            key.now moment self.old device.old result self.new device.new }
     {
-        if !self.notes(placed.set).lets_show(placed) {
-            return Ok(Looked::Absent);
-        }
-        let mut bytes = [0u8; PAGE];
-        let Ok(()) = device.read(placed.set, &mut bytes) else {
-            return Ok(Looked::Fault);
-        };
         let mut found = ValueBuffer::empty();
-        match tell(&bytes, placed.set, key.bytes(), moment, &mut found) {
-            Told::Damaged => Ok(Looked::Damaged),
-            Told::Absent => Ok(Looked::Absent),
-            Told::Found { is_live: false, .. } => Ok(Looked::Expired),
-            Told::Found { slot, .. } => {
+        match self.locate(device, placed, key.bytes(), moment, &mut found) {
+            Located::Hit { slot } => {
                 let Ok(value) = Value::new(alloc, found.bytes()) else {
                     return Err(AllocError);
                 };
-                self.hit(placed.set, slot);
+                self.touch(placed.set, slot);
                 Ok(Looked::Hit(value))
             }
-        }
-    }
-
-    /// The same into room of the caller's, by the key's bytes: a hit leaves the value in the buffer, and all other answers
-    /// leave the buffer as it was. No memory is taken.
-    pub fn look_into<D: PageDevice<PAGE>>(
-        &mut self,
-        device: &mut D,
-        placed: &Placed,
-        key: &[u8],
-        moment: u64,
-        found: &mut ValueBuffer,
-    ) -> Seen
-        requires page_size { IsPageSize PAGE }
-        requires room { set_count self.old ≤ D.page_count device.old }
-        requires place { IsPlaceIn self.old placed.now }
-        requires hash { placed.now.hash ≡ fnv1a key.now }
-
-        // On any device.
-        ensures reads { OnlyReads D.page_count D.honest D.failures D.held device.old
-            (is_set_fault (Ok (looked_of result found.new))) device.new }
-        ensures keeps { KeepsSets PAGE (D.honest device.old) (D.held device.old) self.old
-            (D.held device.new) self.new }
-        ensures leaves { SetLookLeaves self.old placed.now.set (Ok (looked_of result found.new))
-            self.new }
-        ensures stays { OnFalse (is_hit result) (found.new ≡ found.old) }
-        ensures denied { OnFalse (lets_show (notes_of self.old placed.now.set) placed.now.hash)
-            ((result ≡ Seen.Absent) × (device.new ≡ device.old)) }
-
-        // Where it is honest.
-        ensures gives { IsTrue (D.honest device.old) →
-            AreSpelledOn PAGE (D.held device.old) self.old →
-            SetLookGives (visible_in (D.held device.old) self.old placed.now.set)
-            key.now moment self.old placed.now.set (looked_of result found.new) self.new }
-        ensures foreign { IsTrue (D.honest device.old) →
-            IsForeign placed.now.set (D.held device.old placed.now.set) →
-            OnTrue (lets_show (notes_of self.old placed.now.set) placed.now.hash)
-            (OnFalse (is_set_fault (Ok (looked_of result found.new))) (result ≡ Seen.Damaged)) }
-        ensures shown { IsTrue (D.honest device.old) →
-            visible_in (D.held device.new) self.new ≡ visible_in (D.held device.old) self.old }
-    {
-        if !self.notes(placed.set).lets_show(placed) {
-            return Seen::Absent;
-        }
-        let mut bytes = [0u8; PAGE];
-        let Ok(()) = device.read(placed.set, &mut bytes) else {
-            return Seen::Fault;
-        };
-        match tell(&bytes, placed.set, key, moment, found) {
-            Told::Damaged => Seen::Damaged,
-            Told::Absent => Seen::Absent,
-            Told::Found { is_live: false, .. } => Seen::Expired,
-            Told::Found { slot, .. } => {
-                self.hit(placed.set, slot);
-                Seen::Hit
-            }
+            Located::Expired => Ok(Looked::Expired),
+            Located::Absent => Ok(Looked::Absent),
+            Located::Fault => Ok(Looked::Fault),
+            Located::Damaged => Ok(Looked::Damaged),
         }
     }
 
@@ -226,8 +172,8 @@ impl<const PAGE: usize> KSet<PAGE> {
     }
 
     /// The visible records of a set, in page order, each with whether it was hit: no more than a page holds, whatever
-    /// the device. Nothing is read where the filter is empty. Where the page is lost the set is forgotten; `AllocError`
-    /// changes nothing, and comes only where there is a record to copy.
+    /// the device. Nothing is read if the filter is empty. If the page is lost, the set is forgotten; `AllocError`
+    /// changes nothing, and comes only if there is a record to copy.
     pub fn read_set<D: PageDevice<PAGE>>(
         &mut self,
         alloc: Global,
@@ -237,29 +183,8 @@ impl<const PAGE: usize> KSet<PAGE> {
         requires page_size { IsPageSize PAGE }
         requires room { set_count self.old ≤ D.page_count device.old }
         requires set { set < set_count self.old }
-
-        // On any device.
-        ensures reads { ReadsOrStops D.page_count D.honest D.failures D.held device.old
-            (is_set_lost result) device.new }
-        ensures keeps { KeepsSets PAGE (D.honest device.old) (D.held device.old) self.old
-            (D.held device.new) self.new }
-        ensures leaves { SetReadLeaves self.old set result self.new }
-        ensures unread { (notes_of self.old set).filter ≡ bits.empty →
-            (result ≡ Ok (SetRead.Records [])) × (device.new ≡ device.old) }
-
-        // Where it is honest.
-        ensures gives { IsTrue (D.honest device.old) →
-            AreSpelledOn PAGE (D.held device.old) self.old →
-            IfOk result (λ r. SetReadGives (with_flags (notes_of self.old set)
-            (visible_in (D.held device.old) self.old set)) r (D.failures device.old)
-            (D.failures device.new)) }
-        ensures foreign { IsTrue (D.honest device.old) → IsForeign set (D.held device.old set) →
-            (notes_of self.old set).filter ≢ bits.empty → result ≡ Ok SetRead.PageLost }
-        ensures short { IsTrue (D.honest device.old) →
-            AreSpelledOn PAGE (D.held device.old) self.old →
-            OnErr result (visible_in (D.held device.old) self.old set ≢ []) }
-        ensures shown { IsTrue (D.honest device.old) → visible_in (D.held device.new) self.new
-            ≡ shown_after_reading result set (visible_in (D.held device.old) self.old) }
+        ensures { SetReads PAGE D.page_count D.honest D.failures D.held set self.old
+            device.old result self.new device.new }
     {
         if self.notes(set).is_empty() {
             return Ok(SetRead::Records(SetRecords::new(alloc)));
@@ -275,9 +200,9 @@ impl<const PAGE: usize> KSet<PAGE> {
         Ok(SetRead::Records(records))
     }
 
-    /// Writes the page of a set anew, with the writer's records under its number and the next write number. Where it
-    /// is written the filter holds just those records' keys, and nothing is struck or hit. Where the device fails the
-    /// set is forgotten. Either way the write counts as tried.
+    /// Writes the page of a set anew, with the writer's records under its number and the next write number. Once it is
+    /// written, the filter holds only those records' keys, and nothing is struck or hit. If the device fails, the set
+    /// is forgotten. Either way the write counts as tried.
     pub fn rewrite<D: PageDevice<PAGE>>(
         &mut self,
         device: &mut D,
@@ -287,25 +212,8 @@ impl<const PAGE: usize> KSet<PAGE> {
         requires page_size { IsPageSize PAGE }
         requires room { set_count self.old ≤ D.page_count device.old }
         requires set { set < set_count self.old }
-
-        // On any device.
-        ensures writes { OnlyWrites D.page_count D.honest D.failures D.held set device.old
-            (is_forgotten result) device.new }
-        ensures keeps { KeepsSets PAGE (D.honest device.old) (D.held device.old) self.old
-            (D.held device.new) self.new }
-        ensures leaves { self.new ≡ after_rewrite self.old set writer.now result }
-
-        // Where it is honest.
-        ensures text { IsTrue (D.honest device.old) → OnFalse (is_forgotten result)
-            (D.held device.new set ≡ Some (set_page_text PAGE set (next_write self.old) writer.now)) }
-        ensures records { IsTrue (D.honest device.old) → OnFalse (is_forgotten result)
-            (page_records (D.held device.new) self.new set ≡ writer.now) }
-        ensures shown { IsTrue (D.honest device.old) → visible_in (D.held device.new) self.new
-            ≡ shown_after_rewriting result set writer.now
-            (visible_in (D.held device.old) self.old) }
-        ensures apart { IsTrue (D.honest device.old) →
-            pages_from (set_count self.old) (D.held device.new)
-            ≡ pages_from (set_count self.old) (D.held device.old) }
+        ensures { SetRewrites PAGE D.page_count D.honest D.failures D.held set writer.now
+            self.old device.old result self.new device.new }
     {
         self.writes = self.writes.wrapping_add(1);
         let mut bytes = [0u8; PAGE];
@@ -328,15 +236,6 @@ impl<const PAGE: usize> KSet<PAGE> {
     {
         self.forget(lost);
         SetRead::PageLost
-    }
-
-    // Notes a hit in a slot of a set.
-    fn hit(&mut self, set: u32, slot: usize)
-        requires set { set < set_count self.old }
-        requires slot { slot < max_set_records }
-        ensures { self.new ≡ hit_in self.old set slot }
-    {
-        self.sets[set as usize].hit(slot);
     }
 
     // What is noted of a set.

@@ -4,7 +4,7 @@ ghost use Rattle.record_pages.specs.Sizes.{IsPageSize};
 mod calls;
 mod failing;
 mod finding;
-mod into;
+mod locating;
 mod owner;
 mod retried;
 mod rows;
@@ -13,9 +13,11 @@ mod striking;
 
 use self::owner::Owner;
 use self::step::{Listed, Step, run};
-use kset::{KSet, Looked, Rewritten, SetRead, SetRecord};
+use kset::{KSet, Located, Rewritten, SetRead, SetRecord};
 use page_device::{FuseDevice, MemoryDevice, PageDevice};
-use record_pages::{Config, Key, Layout, MAX_SET_RECORDS, Prediction, Record, SetPageWriter};
+use record_pages::{
+    Config, Key, Layout, Looked, MAX_SET_RECORDS, Prediction, Record, SetPageWriter,
+};
 use std::alloc::{AllocError, Global};
 use std::process::Abort;
 use std::test::Fail;
@@ -34,6 +36,9 @@ const ONE_SET: Config = Config {
     threshold: 1,
     admit: 65536,
 };
+
+// One lane of five sets: ax lies in set 3, bx in set 0.
+const FIVE_SETS: Config = Config { sets: 5, ..ONE_SET };
 
 fn device(alloc: Global) -> Result<MemoryDevice<256>, AllocError> {
     MemoryDevice::new(alloc, 3)

@@ -1,5 +1,5 @@
 // Lanes in memory.
-ghost use Rattle.std.specs.Prelude.{◌≡◌, IfOk, length};
+ghost use Rattle.std.specs.Prelude.{◌≡◌, All, IfOk, length};
 
 use page_device::MemoryDevice;
 use std::alloc::{AllocError, Global};
@@ -10,7 +10,8 @@ pub fn lanes_in_memory<const PAGE: usize>(
     lanes: u32,
     pages: u32,
 ) -> Result<Vec<MemoryDevice<PAGE>>, AllocError>
-    ensures { IfOk result (λ devices. length devices.items ≡ lanes) }
+    ensures lanes { IfOk result (λ devices. length devices.items ≡ lanes) }
+    ensures pages { IfOk result (λ devices. All (λ d. length d ≡ pages) devices.items) }
 {
     let mut devices = Vec::with_capacity(alloc, lanes as usize)?;
     for _ in 0..lanes {

@@ -1,5 +1,5 @@
 // The lanes' files.
-ghost use Rattle.std.specs.Prelude.{◌≡◌, IfOk, length};
+ghost use Rattle.std.specs.Prelude.{◌≡◌, All, IfOk, length};
 
 use crate::lane_file_fault::LaneFileFault;
 use crate::path::lane_path;
@@ -19,7 +19,8 @@ pub fn lanes_in_files<const PAGE: usize, R: Files<File = File>>(
     lanes: u32,
     pages: u32,
 ) -> Result<Vec<FileDevice<PAGE>>, LaneFileFault>
-    ensures { IfOk result (λ devices. length devices.items ≡ lanes) }
+    ensures lanes { IfOk result (λ devices. length devices.items ≡ lanes) }
+    ensures pages { IfOk result (λ devices. All (λ d. d.pages ≡ pages) devices.items) }
 {
     let mut devices = Vec::with_capacity(alloc, lanes as usize)?;
     for lane in 0..lanes {
@@ -38,7 +39,9 @@ fn opened<const PAGE: usize, R: Files<File = File>>(
     folder: &str,
     lane: u32,
     pages: u32,
-) -> Result<FileDevice<PAGE>, LaneFileFault> {
+) -> Result<FileDevice<PAGE>, LaneFileFault>
+    ensures { IfOk result (λ device. device.pages ≡ pages) }
+{
     let path = lane_path(alloc, folder, lane)?;
     match FileDevice::open(rt, path.as_str(), pages) {
         Ok(device) => Ok(device),

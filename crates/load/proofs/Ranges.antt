@@ -22,7 +22,7 @@ pub greatest : (l g n : ℕ) → (nat_le l n && nat_le n g) ≡ true → n ≤ g
 greatest l g n h = let k = (both (nat_le l n) (nat_le n g) h).1 in grind (arith, common_steps)
 
 -- no setting may be more than a number of 32 bits
-pub small : (setting : Setting) → (row_of setting).greatest < 2 ^ 32
+pub small : (setting : Setting) → (row_of setting).range.greatest < 2 ^ 32
 small Lanes = omega arith
 small Sets = omega arith
 small Memory = omega arith
@@ -93,7 +93,7 @@ module _ (test : ℕ → Bool) (most : ℕ) (text : List ℕ) where
 -- what a setting may be is a number of 32 bits
 pub small_number : (setting : Setting) (n : ℕ) → is_admitted setting n ≡ true → n < 2 ^ 32
 small_number setting n a =
-    let most = greatest (row_of setting).least (row_of setting).greatest n a in
+    let most = greatest (row_of setting).range.least (row_of setting).range.greatest n a in
     let few = small setting in
     omega (arith, most, few)
 
@@ -102,7 +102,7 @@ pub small_bytes : (n : ℕ) → nat_le n most_bytes ≡ true → n < 2 ^ 64
 small_bytes n a = let most : n ≤ most_bytes = grind (arith, common_steps) in omega (arith, most)
 
 -- the number at each place is in the range of the setting there
-pub within : (settings : List Setting) (numbers : List ℕ) → AreAdmitted settings numbers → (place : ℕ) → place < length settings → ((row_of (get_or settings place Lanes)).least ≤ get_or numbers place 0) × (get_or numbers place 0 ≤ (row_of (get_or settings place Lanes)).greatest)
+pub within : (settings : List Setting) (numbers : List ℕ) → AreAdmitted settings numbers → (place : ℕ) → place < length settings → ((row_of (get_or settings place Lanes)).range.least ≤ get_or numbers place 0) × (get_or numbers place 0 ≤ (row_of (get_or settings place Lanes)).range.greatest)
 within settings numbers h place less = (least _ _ _ (h place less), greatest _ _ _ (h place less))
 
 -- numbers that are admitted for settings are admitted for those in front

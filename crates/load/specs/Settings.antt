@@ -1,8 +1,10 @@
--- The numbers of a load: the name of each, the word for it where none is given, and the least and the greatest that it may be.
+-- The numbers of a load: the name of each, the word for it where none is given, and its range.
 use Rattle.std.specs.Prelude.{◌≡◌, ℕ, Bool, true, ◌&&◌, List, [], ◌∷◌, length, Option, Some, None, codes, nat_le, nat_lt, ◌<◌, ◌^◌, slice_index, slice_index_or, if◌then◌else◌}
 use Rattle.std.specs.Char.{digit_value}
 use Rattle.std.specs.List.{list_all}
 use Rattle.std.specs.Str.Parse.{digits_value, without_leading_plus}
+use Rattle.record_pages.specs.Ranges.{Range, range, range_of, is_in}
+use Rattle.record_pages.specs.declared.field.Field.TheVariants as fields
 use Rattle.load.specs.declared.setting.Setting.{Setting}
 use Rattle.load.specs.declared.setting.Setting.TheVariants.{Lanes, Sets, Memory, Segments, SegmentPages, Entries, Threshold, Admit, Callers, Operations, Keys, ValueBytes, Gets, Removes, Workers, Seed, Ttl, Shards, Leases, ServedOperations, ServedKeys, ServedValueBytes, ServedTtl}
 
@@ -10,41 +12,40 @@ use Rattle.load.specs.declared.setting.Setting.TheVariants.{Lanes, Sets, Memory,
 pub record Row : Type 0 where
   pub name : List ℕ
   pub default : List ℕ
-  pub least : ℕ
-  pub greatest : ℕ
+  pub range : Range
 
-abbrev pub row : List ℕ → List ℕ → ℕ → ℕ → Row
-row name default least greatest = record { name = name; default = default; least = least; greatest = greatest }
+abbrev pub row : List ℕ → List ℕ → Range → Row
+row name default range = record { name = name; default = default; range = range }
 
--- the table
+-- the table: the range of a number that a configuration has is that of its field
 abbrev pub row_of : Setting → Row
-row_of Lanes = row (codes "lanes") (codes "4") 1 16
-row_of Sets = row (codes "sets") (codes "64") 1 65536
-row_of Memory = row (codes "memory") (codes "64") 1 1048576
-row_of Segments = row (codes "segments") (codes "8") 2 256
-row_of SegmentPages = row (codes "segment-pages") (codes "4") 1 64
-row_of Entries = row (codes "entries") (codes "4096") 1 1048576
-row_of Threshold = row (codes "threshold") (codes "2") 1 32
-row_of Admit = row (codes "admit") (codes "65536") 0 65536
-row_of Callers = row (codes "callers") (codes "4") 1 64
-row_of Operations = row (codes "operations") (codes "10000") 1 1000000
-row_of Keys = row (codes "keys") (codes "1000") 1 1000000
-row_of ValueBytes = row (codes "value-bytes") (codes "100") 0 2048
-row_of Gets = row (codes "gets") (codes "70") 0 100
-row_of Removes = row (codes "removes") (codes "5") 0 100
-row_of Workers = row (codes "workers") (codes "2") 1 16
-row_of Seed = row (codes "seed") (codes "1") 0 4294967295
-row_of Ttl = row (codes "ttl") (codes "0") 0 1000000
-row_of Shards = row (codes "shards") (codes "1") 1 1024
-row_of Leases = row (codes "leases") (codes "0") 0 1048576
-row_of ServedOperations = row (codes "operations") (codes "1000000") 1 1000000000
-row_of ServedKeys = row (codes "keys") (codes "1000") 1 100000000
-row_of ServedValueBytes = row (codes "value-bytes") (codes "100") 8 2048
-row_of ServedTtl = row (codes "ttl") (codes "0") 0 1000000000
+row_of Lanes = row (codes "lanes") (codes "4") (range_of fields.Lanes)
+row_of Sets = row (codes "sets") (codes "64") (range_of fields.Sets)
+row_of Memory = row (codes "memory") (codes "64") (range_of fields.Memory)
+row_of Segments = row (codes "segments") (codes "8") (range_of fields.Segments)
+row_of SegmentPages = row (codes "segment-pages") (codes "4") (range_of fields.SegmentPages)
+row_of Entries = row (codes "entries") (codes "4096") (range_of fields.Entries)
+row_of Threshold = row (codes "threshold") (codes "2") (range_of fields.Threshold)
+row_of Admit = row (codes "admit") (codes "65536") (range_of fields.Admit)
+row_of Callers = row (codes "callers") (codes "4") (range 1 64)
+row_of Operations = row (codes "operations") (codes "10000") (range 1 1000000)
+row_of Keys = row (codes "keys") (codes "1000") (range 1 1000000)
+row_of ValueBytes = row (codes "value-bytes") (codes "100") (range 0 2048)
+row_of Gets = row (codes "gets") (codes "70") (range 0 100)
+row_of Removes = row (codes "removes") (codes "5") (range 0 100)
+row_of Workers = row (codes "workers") (codes "2") (range 1 16)
+row_of Seed = row (codes "seed") (codes "1") (range 0 4294967295)
+row_of Ttl = row (codes "ttl") (codes "0") (range 0 1000000)
+row_of Shards = row (codes "shards") (codes "1") (range 1 1024)
+row_of Leases = row (codes "leases") (codes "0") (range 0 1048576)
+row_of ServedOperations = row (codes "operations") (codes "1000000") (range 1 1000000000)
+row_of ServedKeys = row (codes "keys") (codes "1000") (range 1 100000000)
+row_of ServedValueBytes = row (codes "value-bytes") (codes "100") (range 8 2048)
+row_of ServedTtl = row (codes "ttl") (codes "0") (range 0 1000000000)
 
 -- the number is in the setting's range
 abbrev pub is_admitted : Setting → ℕ → Bool
-is_admitted setting number = nat_le (row_of setting).least number && nat_le number (row_of setting).greatest
+is_admitted setting number = is_in (row_of setting).range number
 
 -- the text has a digit or more, and nothing else but a plus sign that may stand before them
 abbrev pub is_decimal : List ℕ → Bool

@@ -6,7 +6,7 @@ ghost use Rattle.load.specs.Asked.{IsLayoutOf, numbers_of, served_numbers_of};
 use crate::load::Load;
 use crate::served_load::ServedLoad;
 use file_requests::FileName;
-use record_pages::Layout;
+use record_pages::{Config, Layout};
 
 /// The cache with the first eight of these numbers, in the order of the settings.
 fn layout_with(numbers: &[u32]) -> Layout
@@ -14,7 +14,7 @@ fn layout_with(numbers: &[u32]) -> Layout
     requires admitted { AreAdmitted layout_settings numbers.now }
     ensures { IsLayoutOf result numbers.now }
 {
-    Layout {
+    let config = Config {
         lanes: numbers[0],
         sets: numbers[1],
         memory: numbers[2],
@@ -23,7 +23,8 @@ fn layout_with(numbers: &[u32]) -> Layout
         entries: numbers[5],
         threshold: numbers[6],
         admit: numbers[7],
-    }
+    };
+    config.check().unwrap()
 }
 
 ghost use Rattle.load.specs.Settings.{layout_settings};

@@ -1,6 +1,10 @@
 // The numbers of a load, with their names, ranges and defaults.
 ghost use Rattle.std.specs.Prelude.{◌≡◌, ◌≤◌};
+ghost use Rattle.std.specs.Range.{range_inclusive_start, range_inclusive_end};
 ghost use Rattle.load.specs.Settings.{row_of, is_admitted, number_in};
+
+use record_pages::Field;
+use std::ops::RangeInclusive;
 
 /// A number of a load, which an option of its name gives.
 #[derive(Clone, Copy, Debug, PartialEq, Eq)]
@@ -217,45 +221,50 @@ impl Setting {
         }
     }
 
-    /// The least number that it may be.
-    pub fn least(self) -> u32
-        ensures value { result ≡ (row_of self).least }
-        ensures order { result ≤ (row_of self).greatest }
+    // The numbers that it may be: those of the field of a configuration, where it is one.
+    fn range(self) -> RangeInclusive<u32>
+        ensures least { range_inclusive_start result ≡ (row_of self).range.least }
+        ensures greatest { range_inclusive_end result ≡ (row_of self).range.greatest }
+        ensures order { (row_of self).range.least ≤ (row_of self).range.greatest }
     {
         match self {
-            Setting::Admit
-            | Setting::ValueBytes
-            | Setting::Gets
-            | Setting::Removes
-            | Setting::Seed
-            | Setting::Ttl
-            | Setting::Leases
-            | Setting::ServedTtl => 0,
-            Setting::Segments => 2,
-            Setting::ServedValueBytes => 8,
-            _ => 1,
+            Setting::Lanes => range_of(Field::Lanes),
+            Setting::Sets => range_of(Field::Sets),
+            Setting::Memory => range_of(Field::Memory),
+            Setting::Segments => range_of(Field::Segments),
+            Setting::SegmentPages => range_of(Field::SegmentPages),
+            Setting::Entries => range_of(Field::Entries),
+            Setting::Threshold => range_of(Field::Threshold),
+            Setting::Admit => range_of(Field::Admit),
+            Setting::Callers => 1..=64,
+            Setting::Operations | Setting::Keys => 1..=1000000,
+            Setting::ValueBytes => 0..=2048,
+            Setting::Gets | Setting::Removes => 0..=100,
+            Setting::Workers => 1..=16,
+            Setting::Seed => 0..=4294967295,
+            Setting::Ttl => 0..=1000000,
+            Setting::Shards => 1..=1024,
+            Setting::Leases => 0..=1048576,
+            Setting::ServedOperations => 1..=1000000000,
+            Setting::ServedKeys => 1..=100000000,
+            Setting::ServedValueBytes => 8..=2048,
+            Setting::ServedTtl => 0..=1000000000,
         }
+    }
+
+    /// The least number that it may be.
+    pub fn least(self) -> u32
+        ensures value { result ≡ (row_of self).range.least }
+        ensures order { result ≤ (row_of self).range.greatest }
+    {
+        *self.range().start()
     }
 
     /// The greatest number that it may be.
     pub fn greatest(self) -> u32
-        ensures { result ≡ (row_of self).greatest }
+        ensures { result ≡ (row_of self).range.greatest }
     {
-        match self {
-            Setting::Lanes | Setting::Workers => 16,
-            Setting::Threshold => 32,
-            Setting::SegmentPages | Setting::Callers => 64,
-            Setting::Gets | Setting::Removes => 100,
-            Setting::Segments => 256,
-            Setting::Shards => 1024,
-            Setting::ValueBytes | Setting::ServedValueBytes => 2048,
-            Setting::Sets | Setting::Admit => 65536,
-            Setting::Operations | Setting::Keys | Setting::Ttl => 1000000,
-            Setting::Memory | Setting::Entries | Setting::Leases => 1048576,
-            Setting::ServedKeys => 100000000,
-            Setting::ServedOperations | Setting::ServedTtl => 1000000000,
-            Setting::Seed => 4294967295,
-        }
+        *self.range().end()
     }
 
     /// The number that it is where none is given, in decimal.
@@ -301,4 +310,15 @@ impl Setting {
             None
         }
     }
+}
+
+ghost use Rattle.record_pages.specs.Ranges.{range_of};
+
+// The numbers that a field of a configuration may be.
+fn range_of(field: Field) -> RangeInclusive<u32>
+    ensures least { range_inclusive_start result ≡ (range_of field).least }
+    ensures greatest { range_inclusive_end result ≡ (range_of field).greatest }
+    ensures order { (range_of field).least ≤ (range_of field).greatest }
+{
+    field.least()..=field.greatest()
 }

@@ -1,3 +1,4 @@
+pub mod Devices
 pub mod Calls
 pub mod Ends
 pub mod Runs

@@ -1,5 +1,6 @@
 // The lanes' files.
-ghost use Rattle.std.specs.Prelude.{◌≡◌, IfErr, IfOk, length};
+ghost use Rattle.std.specs.Prelude.{IfErr, IfOk};
+ghost use Rattle.load_run.specs.Devices.{AreDevicesFor};
 ghost use Rattle.load_run.specs.Ends.{IsUnopened};
 
 use crate::cause::Cause;
@@ -8,13 +9,13 @@ use crate::run_end::RunEnd;
 use crate::shared::PAGE;
 use file_device::FileDevice;
 use lane_files::{LaneFileFault, lanes_in_files};
-use load::{FileName, pages_of};
+use load::FileName;
 use record_pages::Layout;
 use std::alloc::Global;
 use std::fs::File;
 use std::rt::Files;
 
-/// A device in a file of this folder for each lane.
+/// A device in a file of this folder for each lane, with the layout's pages.
 ///
 /// The first file that is not opened ends the run: as want of memory where that is why, and else as a fault of the file.
 pub fn in_files<R: Files<File = File>>(
@@ -23,10 +24,11 @@ pub fn in_files<R: Files<File = File>>(
     layout: &Layout,
     folder: &FileName,
 ) -> Result<Vec<FileDevice<PAGE>>, Ended>
-    ensures all { IfOk result (λ devices. length devices.items ≡ layout.now.lanes) }
+    ensures all { IfOk result (λ devices.
+        AreDevicesFor (λ d. d.pages) layout.now devices.items) }
     ensures refused { IfErr result (λ ended. IsUnopened ended.end) }
 {
-    match lanes_in_files(rt, alloc, folder.as_str(), layout.lanes, pages_of(layout)) {
+    match lanes_in_files(rt, alloc, folder.as_str(), layout.lanes, layout.pages()) {
         Ok(devices) => Ok(devices),
         Err(LaneFileFault::OutOfMemory) => Err(Ended::plain(RunEnd::OutOfMemory)),
         Err(LaneFileFault::Unopened(path, fault)) => Err(Ended::failed(Cause::Device(path, fault))),

@@ -2,6 +2,7 @@
 ghost use Rattle.std.specs.Prelude.{◌≡◌, ◌≢◌, ◌↔◌, ◌⊎◌, ◌<◌, ◌+◌, All, IfOk, IfErr, IsTrue, None, length};
 ghost use Rattle.certificate_checker.specs.Acceptance.{IsAccepted};
 ghost use Rattle.figures.specs.Figures.{form_of};
+ghost use Rattle.load_run.specs.Devices.{AreDevicesFor};
 ghost use Rattle.load_run.specs.Ends.{status_of};
 ghost use Rattle.load_run.specs.Runs.{IsRunOf, IsSaid, IsSummaryOf, WroteSummary};
 ghost use Rattle.load_run.specs.Wholes.{IsWhole};
@@ -19,7 +20,7 @@ use certificate_checker::check_with_hasher;
 use figures::Form;
 use key_hash::RandomSeed;
 use lane_files::{lanes_in_memory, taken_places};
-use load::{FileName, Load, pages_of};
+use load::{FileName, Load};
 use page_device::PageDevice;
 use shared_cache::FinishFault;
 use std::alloc::{AllocError, Global};
@@ -80,7 +81,7 @@ fn run_to_end<
             Ok(devices) => run_over(rt, load, devices, out, err),
             Err(ended) => ended,
         },
-        None => match lanes_in_memory(rt.alloc(), load.layout.lanes, pages_of(&load.layout)) {
+        None => match lanes_in_memory(rt.alloc(), load.layout.lanes, load.layout.pages()) {
             Ok(devices) => run_over(rt, load, devices, out, err),
             Err(_) => Ended::plain(RunEnd::OutOfMemory),
         },
@@ -94,6 +95,7 @@ fn run_over<
     O: Write,
     E: Write + IsTerminal,
 >(rt: &R, load: &Load, devices: Vec<D>, out: &mut O, err: &mut E) -> Ended
+    requires { AreDevicesFor D.page_count load.now.layout devices.items }
     ensures shares { result.end ≢ RunEnd.SharesExceed }
     ensures wrote { WroteSummary load.now (O.contents out.old) (O.contents out.new) result.end }
     ensures accepted { ((d : D) → IsTrue (D.honest d)) → result.end ≢ RunEnd.Rejected }
@@ -130,6 +132,7 @@ fn run_cache<D: PageDevice<PAGE> + Send, R: Threads + Wait + Sync + Clock, E: Wr
     devices: Vec<D>,
     err: &mut E,
 ) -> Result<Made<D>, FinishFault>
+    requires { AreDevicesFor D.page_count load.now.layout devices.items }
     ensures accepted { IfOk result (λ made.
         All (λ d. IsTrue (D.honest d)) made.finished.devices.items
         → IsAccepted made.finished.history made.finished.certificate) }

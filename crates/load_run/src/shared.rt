@@ -1,7 +1,8 @@
 // The cache that a run's threads share.
 ghost use Rattle.std.specs.Prelude.{◌≡◌, All, IfOk, length};
+ghost use Rattle.load_run.specs.Devices.{AreDevicesFor};
 
-use load::{Load, config_of};
+use load::Load;
 use page_device::PageDevice;
 use rriparoo::Rriparoo;
 use shared_cache::{Pass, SharedCache};
@@ -19,20 +20,10 @@ pub fn open<D: PageDevice<PAGE>>(
     load: &Load,
     devices: Vec<D>,
 ) -> Result<(Cache<D>, Vec<Pass>), AllocError>
+    requires { AreDevicesFor D.page_count load.now.layout devices.items }
     ensures layout { IfOk result (λ opened. opened.0.layout ≡ load.now.layout) }
     ensures ties { IfOk result (λ opened. All (λ p. p.sight.clock ≡ opened.0.clock) opened.1.items) }
     ensures passes { IfOk result (λ opened. length opened.1.items ≡ load.now.callers) }
 {
-    match SharedCache::open(
-        alloc,
-        &config_of(&load.layout),
-        devices,
-        Rriparoo,
-        load.callers as u16,
-    ) {
-        Ok(opened) => Ok(opened),
-        // The numbers of a load are in their ranges, and there is a device for each lane with pages enough, so nothing
-        // but memory is refused.
-        Err(_) => Err(AllocError),
-    }
+    SharedCache::with_layout(alloc, &load.layout, devices, Rriparoo, load.callers as u16)
 }

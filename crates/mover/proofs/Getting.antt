@@ -1,9 +1,7 @@
 -- What a get gives, tier by tier.
 use Rattle.std.proofs.Common.{◌≡◌, inl, inr, ℕ, Bool, true, List, Option, Some, None, refl, sym, ap, subst, ◌∙◌}
-use Rattle.std.specs.Prelude.{IsSomeAnd, Result, Ok, Err, false}
+use Rattle.std.specs.Prelude.{IsSomeAnd, Ok, false}
 use Rattle.std.specs.Bool.{OnFalse}
-use Rattle.std.specs.Result.{IsErr}
-use Rattle.std.specs.declared.alloc.AllocError.{AllocError}
 use Rattle.set_hash.specs.declared.placed.Placed.{Placed}
 use Rattle.klog_index.specs.Entries.{of_tag}
 use Rattle.klog.specs.Known.{AreBuffered}
@@ -12,8 +10,8 @@ use Rattle.mover.specs.Calls.{IsLowered, StoreGets, TellsRecord}
 use Rattle.mover.proofs.Expiring.{found_expired, found_hit, is_live_at}
 use Rattle.klog.specs.Log.{LogState}
 use Rattle.klog_index.specs.declared.entry.Entry.{Entry}
-use Rattle.klog.specs.declared.looked.Looked.TheVariants as log
-use Rattle.klog.specs.declared.looked.Looked.{Looked as LogLooked}
+use Rattle.record_pages.specs.declared.looked.Looked.TheVariants as look
+use Rattle.record_pages.specs.declared.looked.Looked.{Looked}
 use Rattle.kset.specs.Notes.{lets_show}
 use Rattle.page_device.specs.Device.{faults_after}
 use Rattle.mover.specs.Asking.{AsksNothing, MemoryTells, NotesHit, RecallsBy, LogLeaves, SetLeaves, GetLeaves}
@@ -28,15 +26,13 @@ use Rattle.record_pages.specs.declared.tier.Tier.TheVariants.{Memory, Log, Set}
 use Rattle.memory_cache.specs.MemoryList.{value_in, after_get}
 use Rattle.record_pages.specs.declared.timed_value.TimedValue.{TimedValue}
 use Rattle.std.proofs.lemmas.Option.{none-some}
-use Rattle.std.proofs.lemmas.Bool.{false≢true}
 use Rattle.klog.specs.Shown.{place_in, live_on, newest_with}
-use Rattle.kset.specs.declared.looked.Looked.TheVariants as set
-use Rattle.kset.specs.declared.looked.Looked.{Looked as SetLooked}
 use Rattle.kset.specs.Sets.{SetsState, hit_in, notes_of}
 use Rattle.kset.specs.Shown.{visible_in, first_visible}
-use Rattle.kset.specs.declared.seen.Seen.TheVariants as set_seen
-use Rattle.kset.specs.declared.seen.Seen.{Seen as SetSeen}
-use Rattle.kset.specs.Look.{SetLookGives, SetLookLeaves, is_set_fault, looked_of as set_looked_of}
+use Rattle.kset.specs.declared.located.Located.TheVariants as set
+use Rattle.kset.specs.declared.located.Located.{Located as SetLocated}
+use Rattle.kset.specs.Locate.{looked_of as set_looked_of}
+use Rattle.kset.specs.Look.{SetLookGives, SetLookLeaves, is_set_fault}
 use Rattle.mover.specs.Store.{StoreState, OnlyReads}
 use Rattle.mover.specs.Lane.{LaneState, lane_of}
 use Rattle.mover.specs.Get.{Step, LogTells, NeedsSetPage, NeedsFlashPage, NeedsPage, lane_lowered, is_fault, log_step, set_step, ask_set, ask_log, memory_step, StepGives, GetGives, answer_by, answer_of_set}
@@ -48,9 +44,9 @@ weaker P Q (Some x) to has = to x has
 
 module _ {D : Type 0} (held : D → ℕ → Option (List ℕ)) (s : StoreState D) (d : D) (key : List ℕ) (moment : ℕ) (same : held d ≡ held s.device) where
   -- what a set gives, of the lane
-  pub set_told : (q : SetsState) (n : ℕ) (looked : SetLooked) → n ≡ (place_in s.log.shape key).set → SetLookGives (visible_in (held s.device) s.sets n) key moment s.sets n looked q →
+  pub set_told : (q : SetsState) (n : ℕ) (looked : Looked) → n ≡ (place_in s.log.shape key).set → SetLookGives (visible_in (held s.device) s.sets n) key moment s.sets n looked q →
       visible_in (held d) q ≡ visible_in (held s.device) s.sets →
-      (looked ≡ set.Fault → NeedsSetPage key (lane_of held s)) →
+      (looked ≡ look.Fault → NeedsSetPage key (lane_of held s)) →
       StepGives (ask_set key moment (lane_of held s)) (NeedsSetPage key (lane_of held s)) (lane_of held s) (answer_of_set looked) (lane_of held (record s { device = d; sets = q }))
   set_told q n looked at gives shown needs =
       subst (λ m. StepGives (set_step m moment (lane_of held s) (first_visible (visible_in (held s.device) s.sets m) key)) (NeedsSetPage key (lane_of held s)) (lane_of held s) (answer_of_set looked) (lane_of held (record s { device = d; sets = q }))) at (step looked gives needs)
@@ -80,18 +76,18 @@ module _ {D : Type 0} (held : D → ℕ → Option (List ℕ)) (s : StoreState D
           found_expired (value_at moment x.1.value) Set (NeedsSetPage key (lane_of held s)) (lane_of held s) (lane_of held (record s { device = d; sets = q })) (lane_of held s) (record (lane_of held s) { sets = hit_in s.sets n x.0 })
           has (lane_as s.sets left)
 
-      step : (looked : SetLooked) → SetLookGives (visible_in (held s.device) s.sets n) key moment s.sets n looked q → (looked ≡ set.Fault → NeedsSetPage key (lane_of held s)) →
+      step : (looked : Looked) → SetLookGives (visible_in (held s.device) s.sets n) key moment s.sets n looked q → (looked ≡ look.Fault → NeedsSetPage key (lane_of held s)) →
           StepGives (set_step n moment (lane_of held s) (first_visible (visible_in (held s.device) s.sets n) key)) (NeedsSetPage key (lane_of held s)) (lane_of held s) (answer_of_set looked) (lane_of held (record s { device = d; sets = q }))
-      step (set.Hit value) gives needs = hit value (first_visible (visible_in (held s.device) s.sets n) key) gives
-      step set.Expired gives needs = expired (first_visible (visible_in (held s.device) s.sets n) key) gives.0 gives.1
-      step set.Absent gives needs =
+      step (look.Hit value) gives needs = hit value (first_visible (visible_in (held s.device) s.sets n) key) gives
+      step look.Expired gives needs = expired (first_visible (visible_in (held s.device) s.sets n) key) gives.0 gives.1
+      step look.Absent gives needs =
           subst (λ o. StepGives (set_step n moment (lane_of held s) o) (NeedsSetPage key (lane_of held s)) (lane_of held s) (Miss Absent) (lane_of held (record s { device = d; sets = q }))) (sym gives.0) (refl, lane_as s.sets gives.1)
-      step set.Fault gives needs = (needs refl, lane_as s.sets gives)
-      step set.Damaged gives needs = gives
+      step look.Fault gives needs = (needs refl, lane_as s.sets gives)
+      step look.Damaged gives needs = gives
 
 module _ {D : Type 0} (held : D → ℕ → Option (List ℕ)) (s : StoreState D) (d : D) (key : List ℕ) (moment : ℕ) (same : held d ≡ held s.device) where
   -- what the log gives, of the lane
-  pub log_told : (k : LogState) (looked : LogLooked) → LogLookGives (live_on (held s.device) s.log) key moment s.log looked k (live_on (held d) k) →
+  pub log_told : (k : LogState) (looked : Looked) → LogLookGives (live_on (held s.device) s.log) key moment s.log looked k (live_on (held d) k) →
       LogTells key moment (lane_of held s) looked (lane_of held (record s { device = d; log = k }))
   log_told k looked gives = step looked gives
     where
@@ -111,12 +107,12 @@ module _ {D : Type 0} (held : D → ℕ → Option (List ℕ)) (s : StoreState D
       hit value None has = absurd has
       hit value (Some x) has = (has.its, lane_as _ _ has.lowered has.left)
 
-      step : (looked : LogLooked) → LogLookGives (live_on (held s.device) s.log) key moment s.log looked k (live_on (held d) k) → LogTells key moment (lane_of held s) looked (lane_of held (record s { device = d; log = k }))
-      step (log.Hit value) gives = hit value (newest_with (live_on (held s.device) s.log) key) gives
-      step log.Expired gives = (gives.0, lane_as s.log (live_on (held s.device) s.log) gives.1.log gives.1.left)
-      step log.Absent gives = (gives.0, lane_as s.log (live_on (held s.device) s.log) gives.1.log gives.1.left)
-      step log.Fault gives = (gives.0, lane_as s.log (live_on (held s.device) s.log) gives.1.log gives.1.left)
-      step log.Damaged gives = gives
+      step : (looked : Looked) → LogLookGives (live_on (held s.device) s.log) key moment s.log looked k (live_on (held d) k) → LogTells key moment (lane_of held s) looked (lane_of held (record s { device = d; log = k }))
+      step (look.Hit value) gives = hit value (newest_with (live_on (held s.device) s.log) key) gives
+      step look.Expired gives = (gives.0, lane_as s.log (live_on (held s.device) s.log) gives.1.log gives.1.left)
+      step look.Absent gives = (gives.0, lane_as s.log (live_on (held s.device) s.log) gives.1.log gives.1.left)
+      step look.Fault gives = (gives.0, lane_as s.log (live_on (held s.device) s.log) gives.1.log gives.1.left)
+      step look.Damaged gives = gives
 
 -- what memory answers is answered at once
 module _ {D : Type 0} (size : ℕ) (honest : D → Bool) (failures : D → ℕ) (held : D → ℕ → Option (List ℕ)) (key : List ℕ) (moment : ℕ) (old : StoreState D) where
@@ -190,48 +186,43 @@ pub asks_set : {D : Type 0} (key : List ℕ) (s mid : StoreState D) (at : Placed
 asks_set key s mid at is all asks = (λ i. lets_show (notes_of (all i).sets (is i).set) (is i).hash) ∙ asks.denied
 
 -- a page of a set is asked for only where its filter admits the key, and it is not struck
-pub asked_page : (shows : Bool) (r : Result SetLooked AllocError) (not_called : Type 0) → OnFalse shows ((r ≡ Ok set.Absent) × not_called) → r ≡ Ok set.Fault → shows ≡ true
-asked_page true r not_called denied is = refl
-asked_page false r not_called denied is = let no : Ok set.Fault ≡ Ok set.Absent = sym is ∙ denied.0 in absurd cc
-
--- the same of a look into a buffer
-pub asked_page_into : (shows : Bool) (seen : SetSeen) (found : List ℕ) (not_called : Type 0) → OnFalse shows ((seen ≡ set_seen.Absent) × not_called) → set_looked_of seen found ≡ set.Fault → shows ≡ true
-asked_page_into true seen found not_called denied is = refl
-asked_page_into false seen found not_called denied is = let no : set.Fault ≡ set.Absent = sym is ∙ ap (λ (s : SetSeen). set_looked_of s found) denied.0 in absurd cc
+pub asked_page_at : (shows : Bool) (located : SetLocated) (found : List ℕ) (not_called : Type 0) → OnFalse shows ((located ≡ set.Absent) × not_called) → set_looked_of located found ≡ look.Fault → shows ≡ true
+asked_page_at true located found not_called denied is = refl
+asked_page_at false located found not_called denied is = let no : look.Fault ≡ look.Absent = sym is ∙ ap (λ (l : SetLocated). set_looked_of l found) denied.0 in absurd cc
 
 -- ---- what a look leaves of a store, on any device
 
 module _ {D : Type 0} (s : StoreState D) (d : D) where
-  pub log_leaves : (k : LogState) (at : Placed) (looked : LogLooked) → LogLookLeaves s.log at.set at.tag (Ok looked) k (d ≡ s.device) → LogLeaves at looked s (record s { device = d; log = k })
+  pub log_leaves : (k : LogState) (at : Placed) (looked : Looked) → LogLookLeaves s.log at.set at.tag (Ok looked) k (d ≡ s.device) → LogLeaves at looked s (record s { device = d; log = k })
   log_leaves k at looked leaves = step looked leaves
     where
       log_is : (log : LogState) → k ≡ log → HasLog log s (record s { device = d; log = k })
       log_is log is = λ i. record { layout = s.layout; device = d; memory = s.memory; log = is i; sets = s.sets; flights = s.flights; moves = s.moves }
 
-      step : (looked : LogLooked) → LogLookLeaves s.log at.set at.tag (Ok looked) k (d ≡ s.device) → LogLeaves at looked s (record s { device = d; log = k })
-      step (log.Hit value) leaves = record { entry = leaves.entry; listed = leaves.listed; rest = log_is (lowered_in s.log at.set leaves.entry.place) leaves.lowered; unasked = leaves.uncalled }
-      step log.Expired leaves = log_is s.log leaves
-      step log.Absent leaves = log_is s.log leaves
-      step log.Fault leaves = log_is s.log leaves
-      step log.Damaged leaves = log_is s.log leaves
+      step : (looked : Looked) → LogLookLeaves s.log at.set at.tag (Ok looked) k (d ≡ s.device) → LogLeaves at looked s (record s { device = d; log = k })
+      step (look.Hit value) leaves = record { entry = leaves.entry; listed = leaves.listed; rest = log_is (lowered_in s.log at.set leaves.entry.place) leaves.lowered; unasked = leaves.uncalled }
+      step look.Expired leaves = log_is s.log leaves
+      step look.Absent leaves = log_is s.log leaves
+      step look.Fault leaves = log_is s.log leaves
+      step look.Damaged leaves = log_is s.log leaves
 
-  pub set_leaves : (q : SetsState) (n : ℕ) (looked : SetLooked) → SetLookLeaves s.sets n (Ok looked) q → SetLeaves n (answer_of_set looked) s (record s { device = d; sets = q })
+  pub set_leaves : (q : SetsState) (n : ℕ) (looked : Looked) → SetLookLeaves s.sets n (Ok looked) q → SetLeaves n (answer_of_set looked) s (record s { device = d; sets = q })
   set_leaves q n looked leaves = step looked leaves
     where
       sets_are : (sets : SetsState) → q ≡ sets → record s { device = d; sets = q } ≡ record s { device = d; sets = sets }
       sets_are sets is = λ i. record { layout = s.layout; device = d; memory = s.memory; log = s.log; sets = is i; flights = s.flights; moves = s.moves }
 
-      step : (looked : SetLooked) → SetLookLeaves s.sets n (Ok looked) q → SetLeaves n (answer_of_set looked) s (record s { device = d; sets = q })
-      step (set.Hit value) leaves = record { slot = leaves.slot; within = leaves.within; rest = sets_are (hit_in s.sets n leaves.slot) leaves.noted }
-      step set.Expired leaves = sets_are s.sets leaves
-      step set.Absent leaves = sets_are s.sets leaves
-      step set.Fault leaves = sets_are s.sets leaves
-      step set.Damaged leaves = sets_are s.sets leaves
+      step : (looked : Looked) → SetLookLeaves s.sets n (Ok looked) q → SetLeaves n (answer_of_set looked) s (record s { device = d; sets = q })
+      step (look.Hit value) leaves = record { slot = leaves.slot; within = leaves.within; rest = sets_are (hit_in s.sets n leaves.slot) leaves.noted }
+      step look.Expired leaves = sets_are s.sets leaves
+      step look.Absent leaves = sets_are s.sets leaves
+      step look.Fault leaves = sets_are s.sets leaves
+      step look.Damaged leaves = sets_are s.sets leaves
 
 module _ {D : Type 0} (key : List ℕ) (old mid : StoreState D) (at : Placed) (placed : at ≡ place_in old.log.shape key) where
   -- a hit in the log is that of a get
-  pub hit_leaves : (value : List ℕ) (looked : LogLooked) → looked ≡ log.Hit value → LogLeaves at looked old mid → GetLeaves key (Hit value Log) old mid
-  hit_leaves value looked is leaves = subst (λ (p : Placed). LogLeaves p (log.Hit value) old mid) placed (subst (λ l. LogLeaves at l old mid) is leaves)
+  pub hit_leaves : (value : List ℕ) (looked : Looked) → looked ≡ look.Hit value → LogLeaves at looked old mid → GetLeaves key (Hit value Log) old mid
+  hit_leaves value looked is leaves = subst (λ (p : Placed). LogLeaves p (look.Hit value) old mid) placed (subst (λ l. LogLeaves at l old mid) is leaves)
 
   -- what a look into the key's set leaves behind a call that leaves all is left by a get
   pub leaves_after : (answer : Answer) (new : StoreState D) → HasAll old mid → SetLeaves at.set answer mid new → GetLeaves key answer old new
@@ -269,12 +260,12 @@ same_store s d k log device = λ i. record {
 }
 
 -- what the log tells of a record that its buffers tell of
-pub record_told : {D : Type 0} (o : Option (List ℕ)) (s : StoreState D) (d : D) (k : LogState) (set : ℕ) (e : Entry) (looked : LogLooked) → GivesAt o s.log set e k (d ≡ s.device) looked → TellsRecord o set e s looked (record s { device = d; log = k })
+pub record_told : {D : Type 0} (o : Option (List ℕ)) (s : StoreState D) (d : D) (k : LogState) (set : ℕ) (e : Entry) (looked : Looked) → GivesAt o s.log set e k (d ≡ s.device) looked → TellsRecord o set e s looked (record s { device = d; log = k })
 record_told (Some value) s d k set e looked gives = (gives.hit, lowered_store s d k set e gives.lowered gives.uncalled)
 record_told None s d k set e looked gives = (gives.expired, same_store s d k gives.stays gives.uncalled)
 
 -- where the log has the key, that is the answer of the tiers below memory
-pub log_hit_gives : (key : List ℕ) (moment : ℕ) (value : List ℕ) (old new : LaneState) → LogTells key moment old (log.Hit value) new → StepGives (ask_log key moment old) (NeedsFlashPage key old) old (Hit value Log) new
+pub log_hit_gives : (key : List ℕ) (moment : ℕ) (value : List ℕ) (old new : LaneState) → LogTells key moment old (look.Hit value) new → StepGives (ask_log key moment old) (NeedsFlashPage key old) old (Hit value Log) new
 log_hit_gives key moment value old new tells = step (newest_with old.live key) tells
   where
     step : (o : Option (Entry × Rec)) → IsSomeAnd o (λ x. (value_at moment x.1.value ≡ Some value) × (new ≡ lane_lowered old x.0)) → StepGives (log_step key moment old o) (NeedsFlashPage key old) old (Hit value Log) new
@@ -282,7 +273,7 @@ log_hit_gives key moment value old new tells = step (newest_with old.live key) t
     step (Some x) has = found_hit (value_at moment x.1.value) value Log (NeedsFlashPage key old) old new old (lane_lowered old x.0) has.0 has.1
 
 -- so it is where what it has has expired
-pub log_expired_gives : (key : List ℕ) (moment : ℕ) (old new : LaneState) → LogTells key moment old log.Expired new → StepGives (ask_log key moment old) (NeedsFlashPage key old) old (Miss Expired) new
+pub log_expired_gives : (key : List ℕ) (moment : ℕ) (old new : LaneState) → LogTells key moment old look.Expired new → StepGives (ask_log key moment old) (NeedsFlashPage key old) old (Miss Expired) new
 log_expired_gives key moment old new tells = step (newest_with old.live key) tells.0
   where
     step : (o : Option (Entry × Rec)) → IsSomeAnd o (λ x. value_at moment x.1.value ≡ None) → StepGives (log_step key moment old o) (NeedsFlashPage key old) old (Miss Expired) new
@@ -290,11 +281,11 @@ log_expired_gives key moment old new tells = step (newest_with old.live key) tel
     step (Some x) has = found_expired (value_at moment x.1.value) Log (NeedsFlashPage key old) old new old (lane_lowered old x.0) has tells.1
 
 -- where the device fails in the log a page of it was needed, and nothing changes
-pub log_fault_gives : (key : List ℕ) (moment : ℕ) (old new : LaneState) → LogTells key moment old log.Fault new → StepGives (ask_log key moment old) (NeedsFlashPage key old) old (Miss Fault) new
+pub log_fault_gives : (key : List ℕ) (moment : ℕ) (old new : LaneState) → LogTells key moment old look.Fault new → StepGives (ask_log key moment old) (NeedsFlashPage key old) old (Miss Fault) new
 log_fault_gives key moment old new tells = (inl tells.0, tells.1)
 
 -- where the log lacks the key, its set's answer is that of the tiers below memory
-pub log_absent_gives : (key : List ℕ) (moment : ℕ) (old mid new : LaneState) (looked : LogLooked) (answer : Answer) → looked ≡ log.Absent → LogTells key moment old looked mid →
+pub log_absent_gives : (key : List ℕ) (moment : ℕ) (old mid new : LaneState) (looked : Looked) (answer : Answer) → looked ≡ look.Absent → LogTells key moment old looked mid →
     StepGives (ask_set key moment mid) (NeedsSetPage key mid) mid answer new → StepGives (ask_log key moment old) (NeedsFlashPage key old) old answer new
 log_absent_gives key moment old mid new looked answer is tells gives =
     let absent = subst (λ l. LogTells key moment old l mid) is tells in
@@ -303,7 +294,7 @@ log_absent_gives key moment old mid new looked answer is tells gives =
     (subst (λ (l : LaneState). StepGives (ask_set key moment l) (NeedsSetPage key l) l answer new) absent.1 gives))
 
 -- a look into the log that failed not, and then one into a set
-pub reads_after : {D : Type 0} (honest : D → Bool) (failures : D → ℕ) (held : D → ℕ → Option (List ℕ)) (old mid new : StoreState D) (looked : LogLooked) (failed : Bool) → looked ≡ log.Absent → OnlyReads honest failures held old (is_log_fault (Ok looked)) mid →
+pub reads_after : {D : Type 0} (honest : D → Bool) (failures : D → ℕ) (held : D → ℕ → Option (List ℕ)) (old mid new : StoreState D) (looked : Looked) (failed : Bool) → looked ≡ look.Absent → OnlyReads honest failures held old (is_log_fault (Ok looked)) mid →
     OnlyReads honest failures held mid failed new → OnlyReads honest failures held old failed new
 reads_after honest failures held old mid new looked failed is first next =
     let calm : OnlyReads honest failures held old false mid = subst (λ l. OnlyReads honest failures held old (is_log_fault (Ok l)) mid) is first in
@@ -314,24 +305,10 @@ reads_after honest failures held old mid new looked failed is first next =
       same = λ on. next.same (calm.honesty ∙ on) ∙ calm.same on;
     }
 
--- where the log tells nothing of a key all stays
-pub none_leaves : {D : Type 0} (old mid : StoreState D) (at : Placed) (looked other : LogLooked) → looked ≡ other → LogLeaves at looked old mid → LogLeaves at other old mid
-none_leaves old mid at looked other is leaves = subst (λ l. LogLeaves at l old mid) is leaves
-
 -- a set's fault is the answer's
-pub set_faulty : (looked : SetLooked) → is_fault (Ok (answer_of_set looked)) ≡ is_set_fault (Ok looked)
-set_faulty (set.Hit value) = refl
-set_faulty set.Expired = refl
-set_faulty set.Absent = refl
-set_faulty set.Fault = refl
-set_faulty set.Damaged = refl
-
--- want of memory is no fault
-pub no_fault : (r : Result Answer AllocError) → IsErr r → is_fault r ≡ false
-no_fault (Ok x) is = absurd (false≢true is)
-no_fault (Err e) is = refl
-
--- nor one of the log
-pub no_log_fault : (r : Result LogLooked AllocError) → IsErr r → is_log_fault r ≡ false
-no_log_fault (Ok x) is = absurd (false≢true is)
-no_log_fault (Err e) is = refl
+pub set_faulty : (looked : Looked) → is_fault (Ok (answer_of_set looked)) ≡ is_set_fault (Ok looked)
+set_faulty (look.Hit value) = refl
+set_faulty look.Expired = refl
+set_faulty look.Absent = refl
+set_faulty look.Fault = refl
+set_faulty look.Damaged = refl

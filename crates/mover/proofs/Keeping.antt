@@ -79,6 +79,10 @@ module _ {D : Type 0} (size : ℕ) (pages : D → ℕ) (honest : D → Bool) (he
   kept_set_read d q sizes same_pages same_honesty same sets placed =
       kept_flash d s.log q refl sizes same_pages same_honesty (λ is spelled. subst (λ on. IsSpelledOn size on s.log) (sym (same is)) spelled) sets placed
 
+  -- a call that reads a page, and changes nothing else
+  pub kept_device : (d : D) → pages d ≡ pages s.device → honest d ≡ honest s.device → (IsTrue (honest s.device) → held d ≡ held s.device) → IsStore size pages honest held (record s { device = d })
+  kept_device d same_pages same_honesty same = kept_log_read d s.log refl same_pages same_honesty same (λ is spelled. subst (λ on. IsSpelledOn size on s.log) (sym (same is)) spelled)
+
   -- a call that changes memory, and keeps its capacity and small objects in it
   pub kept_memory : (m : MemoryList) → m.capacity ≡ s.memory.capacity → All (IsSmall size) m.pairs → IsStore size pages honest held (record s { memory = m })
   kept_memory m capacity small = record {

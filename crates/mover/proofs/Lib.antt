@@ -7,6 +7,8 @@ pub mod FlightLists
 pub mod Expiring
 pub mod Getting
 pub mod Telling
+pub mod Recalling
+pub mod Touching
 pub mod Putting
 pub mod Showing
 pub mod Firsts

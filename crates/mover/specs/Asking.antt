@@ -10,8 +10,8 @@ use Rattle.record_pages.specs.declared.tier.Tier.TheVariants.{Memory, Log, Set}
 use Rattle.memory_cache.specs.MemoryList.{value_in, after_get}
 use Rattle.klog_index.specs.declared.entry.Entry.{Entry}
 use Rattle.klog_index.specs.Entries.{of_tag}
-use Rattle.klog.specs.declared.looked.Looked.TheVariants as log
-use Rattle.klog.specs.declared.looked.Looked.{Looked as LogLooked}
+use Rattle.record_pages.specs.declared.looked.Looked.TheVariants as look
+use Rattle.record_pages.specs.declared.looked.Looked.{Looked}
 use Rattle.klog.specs.Known.{is_buffered, AreBuffered}
 use Rattle.klog.specs.Look.{lowered_in}
 use Rattle.klog.specs.Shown.{place_in}
@@ -63,12 +63,12 @@ MemoryTells key moment old (Some answer) new =
     IsSomeAnd (value_in key old.memory.pairs) (λ v. RecallsBy (value_at moment v) key old answer new)
 
 -- what a look into the log for a key of this place leaves, by what it tells
-abbrev pub LogLeaves : {D : Type 0} → Placed → LogLooked → StoreState D → StoreState D → Type 0
-LogLeaves at (log.Hit value) old new = LowersOne at old new
-LogLeaves at log.Expired old new = HasAll old new
-LogLeaves at log.Absent old new = HasAll old new
-LogLeaves at log.Fault old new = HasAll old new
-LogLeaves at log.Damaged old new = HasAll old new
+abbrev pub LogLeaves : {D : Type 0} → Placed → Looked → StoreState D → StoreState D → Type 0
+LogLeaves at (look.Hit value) old new = LowersOne at old new
+LogLeaves at look.Expired old new = HasAll old new
+LogLeaves at look.Absent old new = HasAll old new
+LogLeaves at look.Fault old new = HasAll old new
+LogLeaves at look.Damaged old new = HasAll old new
 
 -- what a look into a set leaves, by what it answers
 abbrev pub SetLeaves : {D : Type 0} → ℕ → Answer → StoreState D → StoreState D → Type 0

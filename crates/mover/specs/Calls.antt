@@ -23,8 +23,8 @@ use Rattle.klog_index.specs.declared.entry.Entry.{Entry}
 use Rattle.klog.specs.declared.flushed.Flushed.{Flushed}
 use Rattle.klog.specs.Flush.{is_page_lost, FlushGives}
 use Rattle.klog.specs.Look.{lowered_in, IsInBuffers}
-use Rattle.klog.specs.declared.looked.Looked.TheVariants as log
-use Rattle.klog.specs.declared.looked.Looked.{Looked as LogLooked}
+use Rattle.record_pages.specs.declared.looked.Looked.TheVariants as look
+use Rattle.record_pages.specs.declared.looked.Looked.{Looked}
 use Rattle.klog.specs.Shown.{place_in}
 use Rattle.mover.specs.Store.{StoreState, OnlyReads}
 use Rattle.mover.specs.Lane.{lane_of}
@@ -52,9 +52,9 @@ IsLowered set e old new = new ≡ record old { log = lowered_in old.log set e.pl
 
 -- what the log tells by what a record that its buffers tell of gives: its value, and its entry is lowered; or that it has
 -- expired, and all stays
-abbrev pub TellsRecord : {D : Type 0} → Option (List ℕ) → ℕ → Entry → StoreState D → LogLooked → StoreState D → Type 0
-TellsRecord (Some value) set e old looked new = (looked ≡ log.Hit value) × IsLowered set e old new
-TellsRecord None set e old looked new = (looked ≡ log.Expired) × (new ≡ old)
+abbrev pub TellsRecord : {D : Type 0} → Option (List ℕ) → ℕ → Entry → StoreState D → Looked → StoreState D → Type 0
+TellsRecord (Some value) set e old looked new = (looked ≡ look.Hit value) × IsLowered set e old new
+TellsRecord None set e old looked new = (looked ≡ look.Expired) × (new ≡ old)
 
 -- the same of an answer
 abbrev pub AnswersRecord : {D : Type 0} → Option (List ℕ) → ℕ → Entry → StoreState D → Answer → StoreState D → Type 0

@@ -16,4 +16,6 @@ pub mod Leaving
 pub mod Commit
 pub mod Whole
 pub mod Calls
+pub mod Touch
+pub mod Recall
 pub mod Laws

@@ -8,11 +8,13 @@ mod fitting;
 mod flight;
 mod flights;
 mod laws;
+mod located;
 mod mark;
 mod marks;
 mod moved;
 mod moving;
 mod open_fault;
+mod recalled;
 mod seen;
 mod store;
 

@@ -20,7 +20,7 @@ mod commit;
 mod flush;
 mod gather;
 mod get;
-mod get_into;
+mod locate;
 mod move_whole;
 mod put;
 mod remove;

@@ -12,8 +12,8 @@ use Rattle.certificate_checker.specs.Deeds.{Deed}
 use Rattle.certificate_checker.specs.Current.{current, after_deed, given_at}
 use Rattle.certificate_checker.specs.Latest.{IsLive}
 use Rattle.certificate_checker.proofs.LatestLemmas.{current-push, deed_kept, live_is, live_found}
-use Rattle.deed_laws.specs.Sound.{act_of}
-use Rattle.deed_laws.proofs.Sounding.{reads}
+use Rattle.deeds.specs.Sound.{act_of}
+use Rattle.deeds.proofs.Sounding.{reads}
 use Rattle.service_lane.specs.Asked.{IsLiveHit}
 use Rattle.deed_book.specs.Parts.{part_of}
 

@@ -7,8 +7,8 @@ use Rattle.record_pages.specs.declared.answer.Answer.{Answer}
 use Rattle.trace_file.specs.declared.act.Act.TheVariants.{Remove}
 use Rattle.certificate_checker.specs.Deeds.{Deed}
 use Rattle.certificate_checker.specs.Current.{current}
-use Rattle.deed_laws.specs.Sound.{act_of}
-use Rattle.deed_laws.proofs.Sounding.{put_gives}
+use Rattle.deeds.specs.Sound.{act_of}
+use Rattle.deeds.proofs.Sounding.{put_gives}
 use Rattle.service_lane.specs.Asked.{IsLiveHit}
 use Rattle.deed_book.specs.Registers.{Registered, Catches, EntersIn}
 use Rattle.seated_lane.specs.Seated.{IsSeated, put_of}

@@ -1,4 +1,2 @@
-pub mod Remembering
 pub mod Writing
-pub mod Serves
 pub mod Tending

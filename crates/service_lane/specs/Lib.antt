@@ -1,4 +1,3 @@
-pub mod Trails
 pub mod Asked
 pub mod Leases
 pub mod Counting

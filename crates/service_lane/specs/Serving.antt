@@ -6,7 +6,7 @@ use Rattle.mover.specs.Calls.{StoreGets, StorePuts, StoreRemoves}
 use Rattle.trace_file.specs.declared.act.Act.TheVariants.{Put, Remove}
 use Rattle.service_lane.specs.Counting.{counts_answer, counts_put, counts_fill, counts_stale, counts_removal}
 use Rattle.service_lane.specs.Asked.{IsLiveHit}
-use Rattle.deed_laws.specs.Sound.{act_of}
+use Rattle.deeds.specs.Sound.{act_of}
 use Rattle.record_pages.specs.declared.answer.Answer.{Answer}
 use Rattle.record_pages.specs.declared.config.Config.{Config}
 use Rattle.mover.specs.Opening.{RefusesStore}

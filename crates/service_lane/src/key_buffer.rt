@@ -1,6 +1,6 @@
 // A key in room of its own.
-ghost use Rattle.std.specs.Prelude.{◌≡◌, ◌≢◌, ◌<◌, ◌↔◌, [], length, IfOk};
-ghost use Rattle.record_pages.specs.Bounded.{IsKey};
+ghost use Rattle.std.specs.Prelude.{◌≡◌, ◌≢◌, ◌<◌, ◌↔◌, [], length, Err};
+ghost use Rattle.record_pages.specs.declared.key.KeyFault.{KeyFault};
 
 use record_pages::{Key, KeyFault};
 use std::marker::Model;
@@ -23,27 +23,15 @@ impl Model for KeyBuffer {
 }
 
 impl KeyBuffer {
-    /// A copy of these bytes, which have to be those of a key. `OutOfMemory` never comes.
-    pub(crate) fn new(bytes: &[u8]) -> Result<KeyBuffer, KeyFault>
-        ensures ok { IfOk result (λ key. key ≡ bytes.now) }
-        ensures empty { (result ≡ Err KeyFault.KeyEmpty) ↔ (bytes.now ≡ []) }
-        ensures too_long { (result ≡ Err KeyFault.KeyTooLong) ↔ (255 < length bytes.now) }
-        ensures memory { result ≢ Err KeyFault.OutOfMemory }
-    {
-        if bytes.is_empty() {
-            return Err(KeyFault::KeyEmpty);
-        }
-        if bytes.len() > Key::MAX_LEN {
-            return Err(KeyFault::KeyTooLong);
-        }
-        Ok(KeyBuffer::copied(bytes))
-    }
-
     /// A copy of a key.
     pub(crate) fn of(key: &Key) -> KeyBuffer
         ensures { result ≡ key.now }
     {
-        KeyBuffer::copied(key.bytes())
+        let bytes = key.bytes();
+        let len = bytes.len();
+        let mut room = [0; Key::MAX_LEN];
+        room[..len].copy_from_slice(bytes);
+        KeyBuffer { bytes: room, len }
     }
 
     /// The bytes of the key, in order.
@@ -52,15 +40,19 @@ impl KeyBuffer {
     {
         &self.bytes[..self.len]
     }
+}
 
-    // A copy of the bytes of a key.
-    fn copied(bytes: &[u8]) -> KeyBuffer
-        requires { IsKey bytes.now }
-        ensures { result ≡ bytes.now }
-    {
-        let len = bytes.len();
-        let mut room = [0; Key::MAX_LEN];
-        room[..len].copy_from_slice(bytes);
-        KeyBuffer { bytes: room, len }
+/// Tests that these bytes are those of a key. `OutOfMemory` never comes.
+pub(crate) fn check_key(bytes: &[u8]) -> Result<(), KeyFault>
+    ensures empty { (result ≡ Err KeyFault.KeyEmpty) ↔ (bytes.now ≡ []) }
+    ensures too_long { (result ≡ Err KeyFault.KeyTooLong) ↔ (255 < length bytes.now) }
+    ensures memory { result ≢ Err KeyFault.OutOfMemory }
+{
+    if bytes.is_empty() {
+        return Err(KeyFault::KeyEmpty);
     }
+    if bytes.len() > Key::MAX_LEN {
+        return Err(KeyFault::KeyTooLong);
+    }
+    Ok(())
 }

@@ -6,10 +6,10 @@ ghost use Rattle.record_pages.specs.Sizes.{IsPageSize};
 ghost use Rattle.mover.specs.Store.{opening};
 ghost use Rattle.mover.specs.Opening.{CanServe};
 
-use crate::asked::AskedStore;
 use crate::counts::Counts;
 use crate::open_lane_fault::OpenLaneFault;
 use crate::slots::Slots;
+use deeds::DeedStore;
 use key_hash::RandomSeed;
 use klog::LogUsage;
 use mover::{OpenFault, Store};
@@ -30,7 +30,7 @@ mod tend;
 /// see: a hit is its key's latest value in that list not since removed, and live at the moment that the get brought.
 #[derive(Drop)]
 pub struct ServiceLane<D: PageDevice<PAGE>, const PAGE: usize> {
-    asked: AskedStore<D, PAGE>,
+    asked: DeedStore<D, PAGE>,
     slots: Slots,
     counts: Counts,
 }
@@ -114,7 +114,7 @@ impl<D: PageDevice<PAGE>, const PAGE: usize> ServiceLane<D, PAGE> {
           counts = no_counts;
         }) }
     {
-        let asked = AskedStore::with_layout(alloc, layout, device, seed)?;
+        let asked = DeedStore::with_layout(alloc, layout, device, seed)?;
         let slots = Slots::open(alloc, lease_slots)?;
         Ok(ServiceLane {
             asked,

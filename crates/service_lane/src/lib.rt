@@ -2,7 +2,6 @@
 //! in proofs alone: it takes no memory, however long the lane serves.
 #![tactic(auto)]
 
-mod asked;
 mod counts;
 mod filled;
 mod get_counts;
@@ -11,13 +10,11 @@ mod key_buffer;
 mod lane;
 mod lease;
 mod lease_counts;
-mod next;
 mod open_lane_fault;
 mod pushed_counts;
 mod put_counts;
 mod slots;
 mod step_counts;
-mod trail;
 mod upkeep_counts;
 mod upkept;
 

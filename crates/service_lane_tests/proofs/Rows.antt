@@ -19,7 +19,7 @@ use Rattle.certificate_checker.specs.Current.{current}
 use Rattle.certificate_checker.specs.Latest.{IsLive}
 use Rattle.certificate_checker.specs.Laws.{LatestIsCurrent}
 use Rattle.certificate_checker.proofs.LatestLemmas.{current-push}
-use Rattle.deed_laws.proofs.Sounding.{put_gives, none_some}
+use Rattle.deeds.proofs.Sounding.{put_gives, none_some}
 use Rattle.mover.specs.Get.{answer_of}
 use Rattle.mover.specs.declared.seen.Seen.{Seen}
 use Rattle.mover.specs.declared.seen.Seen.TheVariants.{Hit}

@@ -5,11 +5,7 @@ use Rattle.std.proofs.lemmas.List.{length-map, get_or-map}
 use Rattle.std.proofs.lemmas.List.Elements.{All-cons, All-nil}
 use Rattle.std.proofs.lemmas.Simd.{map-map}
 use mathlib.Core.List.{map-append}
-use Rattle.record_pages.specs.declared.config.Config.{Config}
 use Rattle.record_pages.specs.declared.layout.Layout.{Layout}
-use Rattle.record_pages.specs.Asked.{HasNumbersOf}
-use Rattle.set_hash.specs.Fnv.{fnv1a}
-use Rattle.set_hash.specs.Place.{placed_of}
 use Rattle.trace_file.specs.declared.call.Call.{Call}
 use Rattle.certificate_checker.specs.declared.done.Done.{Done}
 use Rattle.certificate_checker.specs.Latest.{IsLawful}
@@ -21,7 +17,7 @@ use Rattle.history_recorder.specs.Points.{at_point, noted_in}
 use Rattle.shared_cache.specs.declared.lane_left.LaneLeft.{LaneLeft}
 use Rattle.shared_cache.specs.Claimed.{noted_of, recorded_of, IsEnded}
 use Rattle.shared_cache.specs.Settled.{AreNumbered, recorded_in}
-use Rattle.shared_cache.specs.Over.{lane_by, IsOver, AreOver}
+use Rattle.shared_cache.specs.Over.{IsOver, AreOver}
 
 -- one lane more is over
 pub over_more : {D : Type 0} (honest : D → Bool) (lane_of : List ℕ → ℕ) (n k : ℕ) (cs : List (List Noted)) (ds : List D) (c : List Noted) (d : D)
@@ -113,13 +109,12 @@ over_recorded honest held lane calls device r e s =
     subst (λ cs. IsOver honest (lane_of_key lane.store.layout) lane.lane cs device) (sym same)
     (subst (IsOver honest (lane_of_key lane.store.layout) lane.lane lane.calls) (sym s) here)
 
--- it is the lane with a number in a configuration
-pub over_by : {D : Type 0} (honest : D → Bool) (layout : Layout) (config : Config) (number lane : ℕ) (calls : List Noted) (device : D)
-    → HasNumbersOf layout config → number ≡ lane → IsOver honest (lane_of_key layout) number calls device → IsOver honest (lane_by config) lane calls device
-over_by honest layout config number lane calls device has is over =
-    subst (λ n. IsOver honest (lane_by config) n calls device) is
-    (subst (λ (l : ℕ). IsOver honest (λ key. (placed_of l config.sets (fnv1a key)).lane) number calls device) has.lanes
-    (subst (λ (s : ℕ). IsOver honest (λ key. (placed_of layout.lanes s (fnv1a key)).lane) number calls device) has.sets over))
+-- it is the lane with a number in a layout
+pub over_by : {D : Type 0} (honest : D → Bool) (its layout : Layout) (number lane : ℕ) (calls : List Noted) (device : D)
+    → its ≡ layout → number ≡ lane → IsOver honest (lane_of_key its) number calls device → IsOver honest (lane_of_key layout) lane calls device
+over_by honest its layout number lane calls device same is over =
+    subst (λ n. IsOver honest (lane_of_key layout) n calls device) is
+    (subst (λ (l : Layout). IsOver honest (lane_of_key l) number calls device) same over)
 
 -- one lane more is taken apart
 pub over_taken : {D : Type 0} (honest : D → Bool) (lane_of : List ℕ → ℕ) (ls : List LaneLeft) (ds : List D) (l : LaneLeft) (d : D) (k : ℕ)

@@ -5,7 +5,6 @@ use Rattle.record_pages.specs.Table.{first_faulty}
 use Rattle.mover.specs.Store.{IsTooSmall}
 use Rattle.shared_cache.specs.declared.open_cache_fault.OpenCacheFault.{OpenCacheFault}
 use Rattle.shared_cache.specs.declared.open_cache_fault.OpenCacheFault.TheVariants.{ConfigFault, NoCallers, DeviceCount, WrongPage, DeviceTooSmall, OutOfMemory}
-use Rattle.record_pages.specs.Asked.{HasNumbersOf}
 use Rattle.record_pages.specs.declared.config.Config.{Config}
 use Rattle.record_pages.specs.declared.layout.Layout.{Layout}
 use Rattle.history_recorder.specs.declared.operation.Operation.{Operation}
@@ -24,11 +23,6 @@ pub record Cache : Type 0 where
   pub clock : ClockId
   pub layout : Layout
   pub callers : ℕ
-
--- what is true of every cache: a book for each lane, and the numbers of its configuration
-pub record IsCache (layout : Layout) (config : Config) (count : ℕ) : Type 0 where
-  pub numbers : HasNumbersOf layout config
-  pub books : count ≡ layout.lanes
 
 -- A call was made, and gave this: its pass lists one call more, last, of the lane of its key, at some position there. It
 -- started above all that the pass had seen, was done above its start, and ended where the pass has seen the clock last.

@@ -1,15 +1,8 @@
 -- Lanes that are over. No contract of a public call cites this: it is how `finish` goes its way.
 use Rattle.std.specs.Prelude.{◌≡◌, ℕ, suc, ◌<◌, ◌≤◌, List, [], ◌∷◌, Bool, IsTrue, All, AllPairs, length}
-use Rattle.record_pages.specs.declared.config.Config.{Config}
-use Rattle.set_hash.specs.Fnv.{fnv1a}
-use Rattle.set_hash.specs.Place.{placed_of}
 use Rattle.certificate_checker.specs.Latest.{IsLawful}
 use Rattle.history_recorder.specs.Lane.{deeds_of, max_calls}
 use Rattle.history_recorder.specs.declared.noted.Noted.{Noted}
-
--- the number of the lane of a key in this configuration
-abbrev pub lane_by : Config → List ℕ → ℕ
-lane_by config key = (placed_of config.lanes config.sets (fnv1a key)).lane
 
 -- what is true of the calls of a lane that is over, where each key has a lane: the keys are of the lane with this number,
 -- calls start before their points, points rise, and where its device is honest the calls are lawful

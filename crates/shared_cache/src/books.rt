@@ -4,7 +4,8 @@ ghost use Rattle.std.specs.Prelude.{◌≡◌, ◌≢◌, ◌↔◌, ◌+◌, �
 ghost use Rattle.std.specs.Option.{option_map};
 ghost use Rattle.std.specs.Vec.{vec_capacity};
 ghost use Rattle.record_pages.specs.Bounded.{IsKey, IsValue};
-ghost use Rattle.record_pages.specs.Asked.{HasNumbersOf};
+ghost use Rattle.record_pages.specs.Asked.{layout_pages};
+ghost use Rattle.record_pages.specs.Sizes.{IsPageSize};
 ghost use Rattle.mover.specs.Store.{opening};
 ghost use Rattle.history_recorder.specs.Lane.{IsOfLane, max_calls};
 ghost use Rattle.history_recorder.specs.Operations.{key_of, lane_of_key};
@@ -32,7 +33,7 @@ use crate::performing::perform;
 use history_recorder::{MAX_CALLS, NotedRef, RecordedLane, RecordedParts};
 use lane_devices::Boxed;
 use page_device::PageDevice;
-use record_pages::{Config, Key, Value};
+use record_pages::{Key, Layout, Value};
 use std::alloc::{AllocError, Global};
 use std::marker::Model;
 use trace_file::{CallRef, Entry};
@@ -234,25 +235,24 @@ impl<D: PageDevice<PAGE>, const PAGE: usize> Model for LaneBook<D, PAGE> {
 }
 
 impl<D: PageDevice<PAGE>, const PAGE: usize> LaneBook<D, PAGE> {
-    /// The empty book of a lane over a device, or `AllocError` where it was not opened.
+    /// The empty book of a lane over a device. Nothing is tested again.
     pub(crate) fn new(
         alloc: Global,
-        config: &Config,
+        layout: &Layout,
         lane: u32,
         device: D,
     ) -> Result<LaneBook<D, PAGE>, AllocError>
-        requires { lane < config.now.lanes }
-        ensures { IfOk result (λ book. HasNumbersOf book.store.layout config.now
-            × (book ≡ record {
-              store = opening book.store.layout device;
-              lane = lane;
-              calls = [];
-            })) }
+        requires page_size { IsPageSize PAGE }
+        requires lane { lane < layout.now.lanes }
+        requires room { layout_pages layout.now ≤ D.page_count device }
+        ensures { IfOk result (λ book. book ≡ record {
+          store = opening layout.now device;
+          lane = lane;
+          calls = [];
+        }) }
     {
         let boxed = Boxed::new(alloc, device)?;
-        let Ok(recorded) = RecordedLane::open(alloc, config, lane, boxed) else {
-            return Err(AllocError);
-        };
+        let recorded = RecordedLane::with_layout(alloc, layout, lane, boxed)?;
         Ok(LaneBook { alloc, recorded })
     }
 
@@ -264,20 +264,12 @@ impl<D: PageDevice<PAGE>, const PAGE: usize> LaneBook<D, PAGE> {
         self.recorded.lane()
     }
 
-    /// The configuration that its lane was opened with.
-    pub fn config(&self) -> Config
-        ensures { HasNumbersOf self.now.store.layout result }
-    {
-        self.recorded.config()
-    }
-
-    /// Whether it is of the lane with this number, and of this configuration.
-    pub(crate) fn is_of(&self, lane: u32, config: &Config) -> bool
+    /// Whether it is of the lane with this number, and of this layout.
+    pub(crate) fn is_of(&self, lane: u32, layout: &Layout) -> bool
         ensures { IsTrue result ↔
-            ((self.now.lane ≡ lane) × HasNumbersOf self.now.store.layout config.now) }
+            ((self.now.lane ≡ lane) × (self.now.store.layout ≡ layout.now)) }
     {
-        let own = self.config();
-        self.recorded.lane() == lane && own == *config
+        self.recorded.lane() == lane && self.recorded.layout() == *layout
     }
 
     /// The point of its last call, or 0 before the first.

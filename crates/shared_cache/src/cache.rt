@@ -1,7 +1,7 @@
 // A cache that threads share.
-ghost use Rattle.std.specs.Prelude.{◌≡◌, ◌≢◌, ◌↔◌, ◌+◌, ◌^◌, ◌<◌, ℕ, All, Err, IfErr, IfOk, IsTrue, OnOk, OnErr, IsErrOf, length, slice_index_or};
-ghost use Rattle.record_pages.specs.Asked.{HasNumbersOf};
-ghost use Rattle.record_pages.specs.Sizes.{object_size, room};
+ghost use Rattle.std.specs.Prelude.{◌≡◌, ◌≢◌, ◌↔◌, ◌+◌, ◌^◌, ◌<◌, ◌≤◌, ℕ, All, Err, IfErr, IfOk, IsTrue, OnOk, OnErr, IsErrOf, length, slice_index_or};
+ghost use Rattle.record_pages.specs.Asked.{HasNumbersOf, layout_pages};
+ghost use Rattle.record_pages.specs.Sizes.{IsPageSize, object_size, room};
 ghost use Rattle.certificate_checker.specs.Acceptance.{IsAccepted};
 ghost use Rattle.history_recorder.specs.declared.operation.Operation.{Operation};
 ghost use Rattle.shared_cache.specs.declared.outcome.Outcome.{Outcome};
@@ -42,7 +42,6 @@ mod rounds;
 #[derive(Drop)]
 pub struct SharedCache<D: PageDevice<PAGE>, P: EvictionPolicy + Drop, const PAGE: usize> {
     alloc: Global,
-    config: Config,
     layout: Layout,
     callers: u16,
     policy: P,
@@ -53,14 +52,14 @@ pub struct SharedCache<D: PageDevice<PAGE>, P: EvictionPolicy + Drop, const PAGE
 
 impl<D: PageDevice<PAGE>, P: EvictionPolicy + Drop, const PAGE: usize> Model
     for SharedCache<D, P, PAGE> {
-    ghost use Rattle.std.specs.Prelude.{length};
-    ghost use Rattle.shared_cache.specs.Caches.{Cache, IsCache};
+    ghost use Rattle.std.specs.Prelude.{◌≡◌, length};
+    ghost use Rattle.shared_cache.specs.Caches.{Cache};
 
     ghost Value = { Cache };
 
     ghost view = { λ c. record { clock = c.clock; layout = c.layout; callers = c.callers } };
 
-    ghost invariant = { λ c. IsCache c.layout c.config (length c.books.items) };
+    ghost invariant = { λ c. length c.books.items ≡ c.layout.lanes };
 }
 
 impl<D: PageDevice<PAGE>, P: EvictionPolicy + Drop, const PAGE: usize> SharedCache<D, P, PAGE> {
@@ -99,29 +98,29 @@ impl<D: PageDevice<PAGE>, P: EvictionPolicy + Drop, const PAGE: usize> SharedCac
         if PAGE < 256 || PAGE > 4096 {
             return Err(OpenCacheFault::WrongPage);
         }
-        let pages = layout.sets + layout.segments * layout.segment_pages;
-        if is_one_too_small(pages, devices.as_slice()) {
+        if is_one_too_small(layout.pages(), devices.as_slice()) {
             return Err(OpenCacheFault::DeviceTooSmall);
         }
-        let Ok(opened) = Self::made(alloc, config, layout, devices, policy, callers) else {
+        let Ok(opened) = Self::with_layout(alloc, &layout, devices, policy, callers) else {
             return Err(OpenCacheFault::OutOfMemory);
         };
         Ok(opened)
     }
 
-    /// A cache and its passes, once nothing but memory can be refused.
-    fn made(
+    /// A cache of this layout and its passes, as `open` makes them, over a device a lane with the layout's pages; or
+    /// `AllocError`. Nothing is tested again.
+    pub fn with_layout(
         alloc: Global,
-        config: &Config,
-        layout: Layout,
+        layout: &Layout,
         devices: Vec<D>,
         policy: P,
         callers: u16,
     ) -> Result<(Self, Vec<Pass>), AllocError>
-        requires numbers { HasNumbersOf layout config.now }
+        requires page_size { IsPageSize PAGE }
         requires callers { 0 < callers }
-        requires devices { length devices.items ≡ layout.lanes }
-        ensures numbers { IfOk result (λ opened. (opened.0.layout ≡ layout)
+        requires devices { length devices.items ≡ layout.now.lanes }
+        requires room { All (λ d. layout_pages layout.now ≤ D.page_count d) devices.items }
+        ensures numbers { IfOk result (λ opened. (opened.0.layout ≡ layout.now)
             × (opened.0.callers ≡ callers)) }
         ensures many { IfOk result (λ opened. length opened.1.items ≡ callers) }
         ensures passes { IfOk result (λ opened. (caller : ℕ) (d : Ticket) → caller < callers →
@@ -132,11 +131,10 @@ impl<D: PageDevice<PAGE>, P: EvictionPolicy + Drop, const PAGE: usize> SharedCac
     {
         let (clock, seats) = Clock::new(alloc, callers)?;
         let passes = passes_of(alloc, &clock, callers, seats)?;
-        let books = books_of(alloc, config, devices)?;
+        let books = books_of(alloc, layout, devices)?;
         let cache = SharedCache {
             alloc,
-            config: *config,
-            layout,
+            layout: *layout,
             callers,
             policy,
             clock,
@@ -243,8 +241,7 @@ impl<D: PageDevice<PAGE>, P: EvictionPolicy + Drop, const PAGE: usize> SharedCac
     {
         let SharedCache {
             alloc,
-            config,
-            layout: _,
+            layout,
             callers,
             policy: _,
             clock: _,
@@ -253,7 +250,7 @@ impl<D: PageDevice<PAGE>, P: EvictionPolicy + Drop, const PAGE: usize> SharedCac
         if let Some(caller) = missing(callers, passes.as_slice()) {
             return Err(FinishFault::MissingPass { caller });
         }
-        let (left, devices) = take_apart(alloc, &config, books)?;
+        let (left, devices) = take_apart(alloc, &layout, books)?;
         let lanes = ended_lanes(rt, alloc, left, passes)?;
         let Ok((history, certificate)) = lay_out(alloc, lanes) else {
             return Err(FinishFault::OutOfMemory);
@@ -286,7 +283,7 @@ impl<D: PageDevice<PAGE>, P: EvictionPolicy + Drop, const PAGE: usize> SharedCac
         let lane = place(&self.layout, asked.key().bytes()).lane;
         let mut guard = self.books[lane as usize].lock(rt);
         let book = &mut **guard;
-        if !book.is_of(lane, &self.config) {
+        if !book.is_of(lane, &self.layout) {
             return Err(CallFault::WrongLane);
         }
         match book.act(&self.clock, pass, start, asked) {

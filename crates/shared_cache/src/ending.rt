@@ -1,6 +1,7 @@
 // The lanes of a cache that is over.
 ghost use Rattle.std.specs.Prelude.{◌≡◌, ◌≢◌, ◌<◌, ◌≤◌, ℕ, All, IfOk, IfErr, IsSomeAnd, Ok, length, map, slice_get, sum_by};
 ghost use Rattle.std.specs.List.Sorted.{IsNonDecreasingBy, IsPermutation};
+ghost use Rattle.history_recorder.specs.Operations.{lane_of_key};
 ghost use Rattle.history_recorder.specs.Points.{noted_in};
 ghost use Rattle.certificate_checker.specs.Lanes.{Stamped, stamped};
 ghost use Rattle.shared_cache.specs.Passes.{most_lanes};
@@ -8,7 +9,7 @@ ghost use Rattle.shared_cache.specs.declared.place.Place.{Place};
 ghost use Rattle.shared_cache.specs.Finished.{weigh_passes};
 ghost use Rattle.shared_cache.specs.Claimed.{IsEnded, IsNoBook, recorded_of};
 ghost use Rattle.shared_cache.specs.Settled.{AreNumbered, AreSettled, IsFaultOf, IsNoEnd, IsNoneStrange, IsNotOwn, LeavesOpen, Settles, recorded_in};
-ghost use Rattle.shared_cache.specs.Over.{AreOver, IsOver, lane_by};
+ghost use Rattle.shared_cache.specs.Over.{AreOver, IsOver};
 
 use crate::books::{LaneBook, Pass};
 use crate::claims::{first_place, is_refused, place_outside};
@@ -20,7 +21,7 @@ use crate::settling::settle;
 use crossbeam_utils::CachePadded;
 use history_recorder::{Dones, RecordedParts};
 use page_device::PageDevice;
-use record_pages::Config;
+use record_pages::Layout;
 use std::alloc::{AllocError, Global};
 use std::collections::VecDeque;
 use std::sync::Mutex;
@@ -30,12 +31,12 @@ use std::thread::Threads;
 /// The numbers and the calls of the lanes, and the devices, both in the order of the lanes.
 pub(crate) fn take_apart<D: PageDevice<PAGE>, const PAGE: usize>(
     alloc: Global,
-    config: &Config,
+    layout: &Layout,
     books: Vec<Mutex<CachePadded<LaneBook<D, PAGE>>>>,
 ) -> Result<(Vec<LaneLeft>, Vec<D>), FinishFault>
     requires { length books.items ≤ most_lanes }
     ensures over { IfOk result (λ taken.
-        AreOver D.honest (lane_by config.now) 0 (recorded_in taken.0.items) taken.1.items) }
+        AreOver D.honest (lane_of_key layout.now) 0 (recorded_in taken.0.items) taken.1.items) }
     ensures count { IfOk result (λ taken. length taken.0.items ≡ length books.items) }
     ensures devices { IfOk result (λ taken. length taken.1.items ≡ length books.items) }
     ensures numbered { IfOk result (λ taken. AreNumbered 0 taken.0.items) }
@@ -46,7 +47,7 @@ pub(crate) fn take_apart<D: PageDevice<PAGE>, const PAGE: usize>(
     let mut left = VecDeque::from(books);
     while let Some(lock) = left.pop_front() {
         let lane = lanes.len() as u32;
-        let parts = parts_of(lock, lane, config)?;
+        let parts = parts_of(lock, lane, layout)?;
         let recorded = parts.calls;
         let Ok(()) = lanes.push(LaneLeft { lane, recorded }) else {
             return Err(FinishFault::OutOfMemory);
@@ -62,14 +63,14 @@ pub(crate) fn take_apart<D: PageDevice<PAGE>, const PAGE: usize>(
 fn parts_of<D: PageDevice<PAGE>, const PAGE: usize>(
     lock: Mutex<CachePadded<LaneBook<D, PAGE>>>,
     lane: u32,
-    config: &Config,
+    layout: &Layout,
 ) -> Result<RecordedParts<D>, FinishFault>
-    ensures over { IfOk result (λ parts. IsOver D.honest (lane_by config.now) lane
+    ensures over { IfOk result (λ parts. IsOver D.honest (lane_of_key layout.now) lane
         (map noted_in parts.calls) parts.device) }
     ensures lost { IfErr result (λ fault. fault ≡ FinishFault.LaneLost lane) }
 {
     let book = lock.into_inner().into_inner();
-    if !book.is_of(lane, config) {
+    if !book.is_of(lane, layout) {
         return Err(FinishFault::LaneLost { lane });
     }
     Ok(book.into_parts())

@@ -1,5 +1,7 @@
 // The parts of a new cache.
-ghost use Rattle.std.specs.Prelude.{◌≡◌, ◌↔◌, ℕ, ◌<◌, All, Any, IfOk, IsTrue, length, slice_index_or};
+ghost use Rattle.std.specs.Prelude.{◌≡◌, ℕ, ◌<◌, ◌≤◌, All, IfOk, length, slice_index_or};
+ghost use Rattle.record_pages.specs.Asked.{layout_pages};
+ghost use Rattle.record_pages.specs.Sizes.{IsPageSize};
 ghost use Rattle.shared_cache.specs.Stamps.{new_sight};
 ghost use Rattle.shared_cache.specs.Passes.{Ticket, new_ticket};
 
@@ -7,7 +9,7 @@ use crate::books::{LaneBook, Pass};
 use crate::clock::{Clock, ClockSeat};
 use crossbeam_utils::CachePadded;
 use page_device::PageDevice;
-use record_pages::Config;
+use record_pages::Layout;
 use std::alloc::{AllocError, Global};
 use std::collections::VecDeque;
 use std::sync::Mutex;
@@ -39,19 +41,21 @@ pub(crate) fn passes_of(
 /// An empty book for each lane, each under its lock, on cache lines of its own.
 pub(crate) fn books_of<D: PageDevice<PAGE>, const PAGE: usize>(
     alloc: Global,
-    config: &Config,
+    layout: &Layout,
     devices: Vec<D>,
 ) -> Result<Vec<Mutex<CachePadded<LaneBook<D, PAGE>>>>, AllocError>
-    requires { length devices.items ≡ config.now.lanes }
-    ensures { IfOk result (λ books. length books.items ≡ config.now.lanes) }
+    requires page_size { IsPageSize PAGE }
+    requires one_each { length devices.items ≡ layout.now.lanes }
+    requires room { All (λ d. layout_pages layout.now ≤ D.page_count d) devices.items }
+    ensures { IfOk result (λ books. length books.items ≡ layout.now.lanes) }
 {
-    let mut books = Vec::with_capacity(alloc, config.lanes as usize)?;
+    let mut books = Vec::with_capacity(alloc, layout.lanes as usize)?;
     let mut devices = VecDeque::from(devices);
-    for lane in 0..config.lanes {
+    for lane in 0..layout.lanes {
         let Some(device) = devices.pop_front() else {
             unreachable!()
         };
-        let book = LaneBook::new(alloc, config, lane, device)?;
+        let book = LaneBook::new(alloc, layout, lane, device)?;
         books.push(Mutex::new(CachePadded::new(book)))?;
     }
     Ok(books)

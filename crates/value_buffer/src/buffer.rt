@@ -1,23 +1,25 @@
 // Room for a value.
-ghost use Rattle.std.specs.Prelude.{◌≡◌, []};
+ghost use Rattle.std.specs.Prelude.{◌≡◌, [], length, take};
 ghost use Rattle.record_pages.specs.Bounded.{IsValue};
 
 use record_pages::Value;
 use std::marker::Model;
 
-/// Room for the bytes of a value, at most `Value::MAX_LEN` of them, which lie in the buffer itself.
+/// Room for the bytes of a value, at most `Value::MAX_LEN` of them, which lie in the buffer itself. The room is zeroed
+/// once, when the first bytes are set.
 #[derive(Drop)]
 pub struct ValueBuffer {
-    bytes: [u8; Value::MAX_LEN],
+    room: Option<[u8; Value::MAX_LEN]>,
     len: usize,
 }
 
 impl Model for ValueBuffer {
-    ghost use Rattle.std.specs.Prelude.{◌≤◌, ℕ, List, take};
+    ghost use Rattle.std.specs.Prelude.{◌≤◌, ℕ, List, [], take};
+    ghost use Rattle.std.specs.Option.{option_map_or};
 
     ghost Value = { List ℕ };
 
-    ghost view = { λ b. take b.len b.bytes };
+    ghost view = { λ b. option_map_or (take b.len) b.room [] };
 
     ghost invariant = { λ b. b.len ≤ 2048 };
 }
@@ -27,10 +29,7 @@ impl ValueBuffer {
     pub fn empty() -> ValueBuffer
         ensures { result ≡ [] }
     {
-        ValueBuffer {
-            bytes: [0; Value::MAX_LEN],
-            len: 0,
-        }
+        ValueBuffer { room: None, len: 0 }
     }
 
     /// The bytes that it holds, in order.
@@ -38,7 +37,10 @@ impl ValueBuffer {
         ensures value { result.now ≡ self.now }
         ensures range { IsValue self.now }
     {
-        &self.bytes[..self.len]
+        match &self.room {
+            Some(room) => &room[..self.len],
+            None => &[],
+        }
     }
 
     /// Holds a copy of these bytes, in place of those that it held. It takes no memory.
@@ -46,8 +48,15 @@ impl ValueBuffer {
         requires { IsValue bytes.now }
         ensures { self.new ≡ bytes.now }
     {
-        let len = bytes.len();
-        self.bytes[..len].copy_from_slice(bytes);
-        self.len = len;
+        fill(self.room.get_or_insert_with(|| [0; Value::MAX_LEN]), bytes);
+        self.len = bytes.len();
     }
+}
+
+// Copies these bytes to the start of the room.
+fn fill(room: &mut [u8; Value::MAX_LEN], bytes: &[u8])
+    requires { IsValue bytes.now }
+    ensures { take (length bytes.now) room.new ≡ bytes.now }
+{
+    room[..bytes.len()].copy_from_slice(bytes);
 }

@@ -14,7 +14,7 @@ pub fn wanted((flash_bytes, memory_bytes, object_bytes, threads): Sizes) -> Want
     }
 }
 
-/// Shards, lanes, sets, segments, pages of a segment, objects of the log, objects in memory, slots for leases.
+/// Shards, lanes, sets, segments, pages of a segment, entries of the log's index, objects in memory, slots for leases.
 pub fn parts(shape: &Shape) -> [u32; 8] {
     [
         shape.shards,
@@ -22,8 +22,8 @@ pub fn parts(shape: &Shape) -> [u32; 8] {
         shape.sets,
         shape.segments,
         shape.segment_pages,
-        shape.log_objects,
-        shape.memory_objects,
+        shape.entries,
+        shape.memory,
         shape.lease_slots,
     ]
 }

@@ -1,9 +1,7 @@
 //! Shapes that were written down and not worked out: what they take and hold.
 use super::rows::{bytes, counts, objects};
-use cache_sizes::{
-    MAX_LEASE_SLOTS, MAX_LOG_OBJECTS, MAX_MEMORY_OBJECTS, MAX_SEGMENT_PAGES, MAX_SEGMENTS,
-    MAX_SETS, MAX_SHARD_LANES, MAX_SHARDS, Shape,
-};
+use cache_sizes::{MAX_LEASE_SLOTS, MAX_SHARDS, Shape};
+use record_pages::{MAX_ENTRIES, MAX_LANES, MAX_MEMORY, MAX_SEGMENT_PAGES, MAX_SEGMENTS, MAX_SETS};
 
 // Bytes of an object; bytes of files and memory; objects.
 type Row = (u32, [u64; 3], [u64; 4]);
@@ -40,12 +38,12 @@ const OF_THE_GREATEST: [Row; 3] = [
 fn the_greatest_shape_has_its_sizes(rt: HostRuntime) {
     let shape = Shape {
         shards: MAX_SHARDS,
-        lanes: MAX_SHARD_LANES,
+        lanes: MAX_LANES,
         sets: MAX_SETS,
         segments: MAX_SEGMENTS,
         segment_pages: MAX_SEGMENT_PAGES,
-        log_objects: MAX_LOG_OBJECTS,
-        memory_objects: MAX_MEMORY_OBJECTS,
+        entries: MAX_ENTRIES,
+        memory: MAX_MEMORY,
         lease_slots: MAX_LEASE_SLOTS,
     };
     assert_eq!(rt; counts(&shape), [16_384, 16_384, 81_920]);
@@ -63,8 +61,8 @@ fn a_log_holds_as_many_as_its_index(rt: HostRuntime) {
         sets: 4,
         segments: 2,
         segment_pages: 1,
-        log_objects: 8,
-        memory_objects: 4,
+        entries: 8,
+        memory: 4,
         lease_slots: 1,
     };
     assert_eq!(rt; counts(&shape), [1, 2, 6]);

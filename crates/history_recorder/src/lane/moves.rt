@@ -3,7 +3,7 @@ ghost use Rattle.std.specs.Prelude.{◌≡◌};
 ghost use Rattle.mover.specs.Calls.{StoreBegins, StoreCommits, StoreAborts};
 
 use super::RecordedLane;
-use mover::{Aborted, Begin, Committed, abort_shows, begin_shows, commit_shows};
+use mover::{Aborted, Begin, Committed};
 use page_device::PageDevice;
 use policy_laws::Plan;
 use std::alloc::AllocError;
@@ -17,8 +17,6 @@ impl<D: PageDevice<PAGE>, const PAGE: usize> RecordedLane<D, PAGE> {
         ensures begins { StoreBegins PAGE D.honest D.failures D.held self.old.store result
             self.new.store }
     {
-        // A move that begins shows nothing that was not shown.
-        begin_shows();
         self.store.move_begin()
     }
 
@@ -28,8 +26,6 @@ impl<D: PageDevice<PAGE>, const PAGE: usize> RecordedLane<D, PAGE> {
         ensures commits { StoreCommits PAGE D.honest D.failures D.held plan.now number self.old.store
             result self.new.store }
     {
-        // A commit shows nothing that was not shown.
-        commit_shows();
         self.store.move_commit(plan, number)
     }
 
@@ -39,8 +35,6 @@ impl<D: PageDevice<PAGE>, const PAGE: usize> RecordedLane<D, PAGE> {
         ensures unrecorded { self.new ≡ record self.old { store = self.new.store } }
         ensures aborts { StoreAborts D.held number self.old.store result self.new.store }
     {
-        // Nor does a move that is given up.
-        abort_shows();
         self.store.move_abort(number)
     }
 }

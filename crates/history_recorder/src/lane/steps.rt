@@ -4,7 +4,7 @@ ghost use Rattle.mover.specs.Calls.{StoreRemoves, StoreFlushes, StoreMoves};
 
 use super::RecordedLane;
 use klog::Flushed;
-use mover::{Moved, flush_shows, removal_shows, whole_move_shows};
+use mover::Moved;
 use page_device::PageDevice;
 use policy_laws::EvictionPolicy;
 use record_pages::Key;
@@ -17,8 +17,6 @@ impl<D: PageDevice<PAGE>, const PAGE: usize> RecordedLane<D, PAGE> {
         ensures unrecorded { self.new ≡ record self.old { store = self.new.store } }
         ensures removes { StoreRemoves D.held key.now self.old.store self.new.store }
     {
-        // A removal shows nothing that was not shown.
-        removal_shows();
         self.store.forget(key);
     }
 
@@ -28,8 +26,6 @@ impl<D: PageDevice<PAGE>, const PAGE: usize> RecordedLane<D, PAGE> {
         ensures flushes { StoreFlushes D.honest D.failures D.held self.old.store result
             self.new.store }
     {
-        // Nor does a step of flushing.
-        flush_shows();
         self.store.flush_step()
     }
 
@@ -43,9 +39,6 @@ impl<D: PageDevice<PAGE>, const PAGE: usize> RecordedLane<D, PAGE> {
         ensures moves { StoreMoves PAGE D.honest D.failures D.held (P.plan_of policy.now)
             self.old.store result self.new.store }
     {
-        // Nor does a whole move by a lawful plan, where no move in flight has the next number.
-        let _layout = self.store.layout();
-        whole_move_shows();
         self.store.move_whole(policy)
     }
 }

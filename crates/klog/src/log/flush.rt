@@ -1,11 +1,10 @@
 // Writing filled segments to the device.
-ghost use Rattle.std.specs.Prelude.{◌≡◌, ◌≢◌, ◌<◌, ℕ, List, Option, IsTrue, not, true};
+ghost use Rattle.std.specs.Prelude.{◌≡◌, IsTrue, not, true};
 ghost use Rattle.page_device.specs.Lending.{OnlyWrites};
-ghost use Rattle.page_device.specs.Frames.{pages_before};
 ghost use Rattle.record_pages.specs.Sizes.{IsPageSize};
 ghost use Rattle.klog.specs.Names.{HasRoom, flushed_number, device_page};
-ghost use Rattle.klog.specs.Shown.{IsSpelledOn, live_on};
-ghost use Rattle.klog.specs.Flush.{is_page_lost, CanFlush, FlushGives, live_flushed, moved_on, without_next, WritesNext};
+ghost use Rattle.klog.specs.Flush.{CanFlush, moved_on, without_next, WritesNext};
+ghost use Rattle.klog.specs.Calls.{LogFlushes};
 
 use super::KLog;
 use crate::flushed::Flushed;
@@ -18,28 +17,8 @@ impl<const PAGE: usize> KLog<PAGE> {
     pub fn flush_step<D: PageDevice<PAGE>>(&mut self, device: &mut D) -> Flushed
         requires page_size { IsPageSize PAGE }
         requires room { HasRoom (D.page_count device.old) self.old }
-
-        // On any device.
-        ensures writes { OnlyWrites D.page_count D.honest D.failures D.held
-            (device_page self.old (flushed_number self.old) self.old.done) device.old
-            (is_page_lost result) device.new }
-        ensures shape { self.new.shape ≡ self.old.shape }
-        ensures gives { FlushGives self.old result self.new }
-        ensures idle { (CanFlush self.old → ⊥) → device.new ≡ device.old }
-
-        // Where it is honest.
-        ensures wrote { IsTrue (D.honest device.old) → result ≡ Flushed.Wrote →
-            WritesNext PAGE self.old true (D.held device.old) (D.held device.new) }
-        ensures apart { IsTrue (D.honest device.old) →
-            pages_before self.old.shape.sets (D.held device.new)
-            ≡ pages_before self.old.shape.sets (D.held device.old) }
-        ensures spelled { IsTrue (D.honest device.old) →
-            IsSpelledOn PAGE (D.held device.old) self.old →
-            IsSpelledOn PAGE (D.held device.new) self.new }
-        ensures shown { IsTrue (D.honest device.old) →
-            IsSpelledOn PAGE (D.held device.old) self.old →
-            live_on (D.held device.new) self.new
-            ≡ live_flushed self.old result (live_on (D.held device.old) self.old) }
+        ensures { LogFlushes PAGE D.page_count D.honest D.failures D.held self.old device.old result
+            self.new device.new }
     {
         if self.is_flushing {
             return self.flush_page(device);
@@ -56,28 +35,8 @@ impl<const PAGE: usize> KLog<PAGE> {
         requires page_size { IsPageSize PAGE }
         requires room { HasRoom (D.page_count device.old) self.old }
         requires flushing { self.old.is_flushing ≡ true }
-
-        // On any device.
-        ensures writes { OnlyWrites D.page_count D.honest D.failures D.held
-            (device_page self.old (flushed_number self.old) self.old.done) device.old
-            (is_page_lost result) device.new }
-        ensures shape { self.new.shape ≡ self.old.shape }
-        ensures gives { FlushGives self.old result self.new }
-        ensures idle { (CanFlush self.old → ⊥) → device.new ≡ device.old }
-
-        // Where it is honest.
-        ensures wrote { IsTrue (D.honest device.old) → result ≡ Flushed.Wrote →
-            WritesNext PAGE self.old true (D.held device.old) (D.held device.new) }
-        ensures apart { IsTrue (D.honest device.old) →
-            pages_before self.old.shape.sets (D.held device.new)
-            ≡ pages_before self.old.shape.sets (D.held device.old) }
-        ensures spelled { IsTrue (D.honest device.old) →
-            IsSpelledOn PAGE (D.held device.old) self.old →
-            IsSpelledOn PAGE (D.held device.new) self.new }
-        ensures shown { IsTrue (D.honest device.old) →
-            IsSpelledOn PAGE (D.held device.old) self.old →
-            live_on (D.held device.new) self.new
-            ≡ live_flushed self.old result (live_on (D.held device.old) self.old) }
+        ensures { LogFlushes PAGE D.page_count D.honest D.failures D.held self.old device.old result
+            self.new device.new }
     {
         if self.done == 0 && self.stored == self.layout.segments {
             return Flushed::LogFull;

@@ -1,7 +1,7 @@
 // What leaves the log, from its oldest segment.
 ghost use Rattle.std.specs.Prelude.{◌≡◌, ◌<◌, ℕ, List, [], ◌∷◌, length, Option, Some, IfOk, IsTrue, filter, not, false, Contains};
 ghost use Rattle.page_device.specs.Device.{faults_after};
-ghost use Rattle.page_device.specs.Lending.{OnlyReads, ReadsOrStops};
+ghost use Rattle.page_device.specs.Lending.{ReadsOrStops};
 ghost use Rattle.record_pages.specs.Sizes.{IsPageSize};
 ghost use Rattle.record_pages.specs.Recs.{Rec};
 ghost use Rattle.record_pages.specs.Lent.{record_shown};
@@ -9,7 +9,8 @@ ghost use Rattle.klog.specs.Names.{HasRoom};
 ghost use Rattle.klog.specs.Shown.{CanStandFor, IsLiveOn, IsSpelledOn, shown_on, live_on};
 ghost use Rattle.klog.specs.Known.{is_buffered, AreBuffered};
 ghost use Rattle.klog.specs.Take.{is_missing, Copies, is_lost_page, IsToBeTaken, Gathers, GathersAt};
-ghost use Rattle.klog.specs.Moves.{TellsOldest, IsFirstLive, IsOfOldest, freed, is_taken, dropped, without_entry, live_without_entry, without_its_page, live_without_page, EntersAnew, is_readmit_fault, ReadmitLeaves, live_anew, ReadmitGives, ReadsBack, is_taking_lost, taken_entries, TakeLeaves, TakeGives, TakesAt};
+ghost use Rattle.klog.specs.Moves.{TellsOldest, IsFirstLive, IsOfOldest, freed, is_taken, dropped, without_entry, live_without_entry, without_its_page, live_without_page, EntersAnew, is_readmit_fault, live_anew, taken_entries};
+ghost use Rattle.klog.specs.Calls.{LogReadmits, LogTakes};
 
 use super::KLog;
 use crate::fetched::Fetched;
@@ -103,23 +104,8 @@ impl<const PAGE: usize> KLog<PAGE> {
         requires page_size { IsPageSize PAGE }
         requires room { HasRoom (D.page_count device.old) self.old }
         requires oldest { IsOfOldest self.old entry.now }
-
-        // On any device.
-        ensures reads { OnlyReads D.page_count D.honest D.failures D.held device.old
-            (is_readmit_fault result) device.new }
-        ensures shape { self.new.shape ≡ self.old.shape }
-        ensures leaves { ReadmitLeaves PAGE self.old entry.now result self.new }
-
-        // Where it is honest.
-        ensures reads_back { IsTrue (D.honest device.old) →
-            ReadsBack PAGE (D.held device.old) self.old entry.now result self.new }
-        ensures gives { IsTrue (D.honest device.old) →
-            IsSpelledOn PAGE (D.held device.old) self.old →
-            ReadmitGives PAGE self.old entry.now (live_on (D.held device.old) self.old) result
-            self.new (live_on (D.held device.new) self.new) }
-        ensures spelled { IsTrue (D.honest device.old) →
-            IsSpelledOn PAGE (D.held device.old) self.old →
-            IsSpelledOn PAGE (D.held device.new) self.new }
+        ensures { LogReadmits PAGE D.page_count D.honest D.failures D.held entry.now self.old
+            device.old result self.new device.new }
     {
         let mut bytes = [0u8; PAGE];
         match self.fetch_stored(device, entry, &mut bytes, None) {
@@ -145,29 +131,8 @@ impl<const PAGE: usize> KLog<PAGE> {
     ) -> Result<SetTaken, AllocError>
         requires page_size { IsPageSize PAGE }
         requires room { HasRoom (D.page_count device.old) self.old }
-
-        // On any device.
-        ensures reads { ReadsOrStops D.page_count D.honest D.failures D.held device.old
-            (is_taking_lost result) device.new }
-        ensures shape { self.new.shape ≡ self.old.shape }
-        ensures leaves { TakeLeaves self.old set result self.new }
-        ensures buffered { AreBuffered self.old (taken_entries self.old set) →
-            device.new ≡ device.old }
-
-        // Where it is honest.
-        ensures takes_at { IsTrue (D.honest device.old) →
-            TakesAt PAGE (D.held device.old) self.old set (D.failures device.old) result self.new
-            (D.failures device.new) }
-        ensures faults { IsTrue (D.honest device.old) →
-            IsSpelledOn PAGE (D.held device.old) self.old →
-            D.failures device.new ≡ faults_after (D.failures device.old) (is_taking_lost result) }
-        ensures gives { IsTrue (D.honest device.old) →
-            IsSpelledOn PAGE (D.held device.old) self.old →
-            IfOk result (λ r. TakeGives self.old set (live_on (D.held device.old) self.old) r
-            self.new (live_on (D.held device.new) self.new)) }
-        ensures spelled { IsTrue (D.honest device.old) →
-            IsSpelledOn PAGE (D.held device.old) self.old →
-            IsSpelledOn PAGE (D.held device.new) self.new }
+        ensures { LogTakes PAGE D.page_count D.honest D.failures D.held set self.old device.old result
+            self.new device.new }
     {
         match self.gather(alloc, device, set)? {
             Gathered::Records(records) => Ok(SetTaken::Records(records)),

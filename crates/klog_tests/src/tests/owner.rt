@@ -1,11 +1,12 @@
 //! An owner of a log and of the device that its segments lie on.
-ghost use Rattle.std.specs.Prelude.{◌≤◌, ◌+◌, ◌*◌};
+ghost use Rattle.std.specs.Prelude.{◌≡◌, ◌≤◌, ◌+◌, ◌*◌};
 ghost use Rattle.record_pages.specs.Sizes.{IsPageSize};
+ghost use Rattle.klog.specs.Shown.{place_in};
 ghost use Rattle.klog_tests.specs.Owner.{OwnerState, IsOwner};
 
 use super::*;
 use record_pages::{TimedValue, is_too_large};
-use set_hash::place;
+use set_hash::{Placed, place};
 use std::marker::Model;
 use value_buffer::ValueBuffer;
 
@@ -74,22 +75,28 @@ impl<D: PageDevice<PAGE>, const PAGE: usize> Owner<D, PAGE> {
     ) -> Result<Looked, AllocError>
         requires { IsPageSize PAGE }
     {
-        let placed = place(&self.layout, key.bytes());
+        let placed = self.placed(key.bytes());
         self.log.look(alloc, &mut self.device, &placed, key, moment)
     }
 
-    /// The same into a buffer, by the key's bytes.
-    pub(super) fn look_into(
-        &mut self,
-        key: &[u8],
-        moment: u64,
-        found: &mut ValueBuffer,
-    ) -> klog::Seen
+    /// Where the newest record of a key is at a moment.
+    pub(super) fn locate(&mut self, key: &[u8], moment: u64, found: &mut ValueBuffer) -> Located
         requires { IsPageSize PAGE }
     {
-        let placed = place(&self.layout, key);
+        let placed = self.placed(key);
         self.log
-            .look_into(&mut self.device, &placed, key, moment, found)
+            .locate(&mut self.device, &placed, key, moment, found)
+    }
+
+    pub(super) fn touch(&mut self, entry: &Entry) {
+        self.log.touch(entry);
+    }
+
+    /// Where a key belongs.
+    pub(super) fn placed(&self, key: &[u8]) -> Placed
+        ensures { result ≡ place_in self.now.log.shape key.now }
+    {
+        place(&self.layout, key)
     }
 
     pub(super) fn strike(&mut self, key: &Key) {

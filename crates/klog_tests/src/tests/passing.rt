@@ -2,7 +2,7 @@
 use super::*;
 
 // One lane of two sets: `ax` and `cx` are of set 0, `bx` of set 1.
-const TWO_SETS: Config = Config { sets: 2, ..ONE_SET };
+pub const TWO_SETS: Config = Config { sets: 2, ..ONE_SET };
 
 /// What is told of the oldest segment: the set and the slot of an entry, or that there is none.
 #[derive(Clone, Copy, PartialEq, Eq)]

@@ -1,23 +1,28 @@
 //! What callers rely on, of every log that meets the `requires`: the contract of each function here denies what a wrong
 //! body would do.
-ghost use Rattle.std.specs.Prelude.{false, ◌≡◌, ◌≢◌, ◌≤◌, ℕ, List, Some, None, Ok, IfOk, IfSome, IsSomeAnd, IsTrue, Contains, slice_get};
+ghost use Rattle.std.specs.Prelude.{false, ◌≡◌, ◌≢◌, ◌≤◌, ℕ, List, Some, None, Ok, IfOk, IfSome, IsSomeAnd, IsTrue, Contains, slice_get, length};
 ghost use Rattle.std.specs.Option.{option_map};
 ghost use Rattle.record_pages.specs.Sizes.{IsPageSize, object_size, room, entering_prediction};
 ghost use Rattle.record_pages.specs.Expiry.{value_at};
 ghost use Rattle.record_pages.specs.Recs.{Rec};
 ghost use Rattle.klog_index.specs.declared.entry.Entry.{Entry};
-ghost use Rattle.klog.specs.declared.looked.Looked.{Looked};
+ghost use Rattle.record_pages.specs.declared.looked.Looked.{Looked};
+ghost use Rattle.klog_index.specs.Entries.{is_in, of_tag, lowered};
+ghost use Rattle.klog.specs.declared.located.Located.{Located};
 ghost use Rattle.klog.specs.declared.readmitted.Readmitted.{Readmitted};
 ghost use Rattle.klog.specs.Names.{HasRoom, flushed_number, device_page};
 ghost use Rattle.klog.specs.Shown.{IsSpelledOn, live_on, newest_with, place_in};
 ghost use Rattle.klog.specs.Flush.{is_on_page};
 ghost use Rattle.klog.specs.Moves.{IsOfOldest};
+ghost use Rattle.klog.specs.Locate.{looked_of};
+ghost use Rattle.klog.specs.Calls.{LogLooks};
 ghost use Rattle.klog_tests.specs.Telling.{looked_by};
 
 use super::*;
 use klog::names_tell_numbers;
 use record_pages::TimedValue;
 use set_hash::Placed;
+use value_buffer::ValueBuffer;
 
 /// A record that was just appended is found, or has expired at the moment, over any device, and the device is not called.
 pub fn look_after_append<D: PageDevice<PAGE>, const PAGE: usize>(
@@ -155,6 +160,70 @@ pub fn look_without_hit<D: PageDevice<PAGE>, const PAGE: usize>(
         Ok(looked) => Ok(looked),
         Err(error) => Err(error),
     }
+}
+
+/// What is located, and touched if it is a hit, is what a look-up answers and leaves, over any device; so nothing is touched
+/// that has expired.
+pub fn touch_what_is_located<D: PageDevice<PAGE>, const PAGE: usize>(
+    log: &mut KLog<PAGE>,
+    device: &mut D,
+    placed: &Placed,
+    key: &[u8],
+    moment: u64,
+    found: &mut ValueBuffer,
+) -> Located
+    requires page_size { IsPageSize PAGE }
+    requires pages { HasRoom (D.page_count device.old) log.old }
+    requires place { placed.now ≡ place_in log.old.shape key.now }
+    ensures looks { LogLooks PAGE D.page_count D.honest D.failures D.held placed.now key.now moment log.old
+        device.old (Ok (looked_of result found.new)) log.new device.new }
+    ensures expired { result ≡ Located.Expired → log.new ≡ log.old }
+{
+    match log.locate(device, placed, key, moment, found) {
+        Located::Hit(entry) => {
+            log.touch(&entry);
+            Located::Hit(entry)
+        }
+        Located::Expired => Located::Expired,
+        Located::Absent => Located::Absent,
+        Located::Fault => Located::Fault,
+        Located::Damaged => Located::Damaged,
+    }
+}
+
+/// The entry that is located is that of the newest live record with the key, over an honest device, and of the key's set
+/// and tag over any.
+pub fn locate_newest<D: PageDevice<PAGE>, const PAGE: usize>(
+    log: &KLog<PAGE>,
+    device: &mut D,
+    placed: &Placed,
+    key: &[u8],
+    moment: u64,
+    found: &mut ValueBuffer,
+) -> Option<Entry>
+    requires page_size { IsPageSize PAGE }
+    requires pages { HasRoom (D.page_count device.old) log.now }
+    requires place { placed.now ≡ place_in log.now.shape key.now }
+    ensures newest { IsTrue (D.honest device.old) → IsSpelledOn PAGE (D.held device.old) log.now →
+        IfSome result (λ e. option_map (λ x. x.0)
+        (newest_with (live_on (D.held device.old) log.now) key.now) ≡ Some e) }
+    ensures its { IfSome result (λ e. Contains (of_tag placed.now.set placed.now.tag log.now.entries) e) }
+{
+    let Located::Hit(entry) = log.locate(device, placed, key, moment, found) else {
+        return None;
+    };
+    Some(entry)
+}
+
+/// A touch lowers the entry at its place, and leaves all others as they were.
+pub fn touch_of_one_entry<const PAGE: usize>(log: &mut KLog<PAGE>, entry: &Entry)
+    ensures lowered { Contains log.old.entries entry.now →
+        Contains log.new.entries (lowered entry.now) }
+    ensures others { (other : Entry) → Contains log.old.entries other →
+        is_in entry.now.set entry.now.place other ≡ false → Contains log.new.entries other }
+    ensures count { length log.new.entries ≡ length log.old.entries }
+{
+    log.touch(entry);
 }
 
 /// A taking loses entries of one page at most, over any device: where one is gone, those of other pages are live.

@@ -25,10 +25,15 @@ pub enum Step {
     Look(&'static [u8], Seen),
     /// A key whose record has expired at the moment when it expires, and at none before.
     LookLate(&'static [u8]),
-    /// The bytes of a key, what is answered of them, and what is in the buffer then.
-    LookInto(&'static [u8], klog::Seen, &'static [u8]),
-    /// The bytes of a key whose record has expired at the moment when it expires, which leaves the buffer.
-    LookIntoLate(&'static [u8]),
+    /// The bytes of a key that is located: the place and the prediction of its entry, which has the key's set and tag, and
+    /// the value that is in the buffer then.
+    Locate(&'static [u8], Place, u8, &'static [u8]),
+    /// The bytes of a key of which no entry is located, and what is seen of it. The buffer stays as it was.
+    LocateNone(&'static [u8], Seen),
+    /// The bytes of a key whose record has expired at the moment when it expires. The buffer stays as it was.
+    LocateLate(&'static [u8]),
+    /// The bytes of a key whose entry is located and touched.
+    Touch(&'static [u8]),
     /// A key.
     Strike(&'static [u8]),
     Flush(Flushed),
@@ -95,10 +100,12 @@ fn moves<D: PageDevice<PAGE>, const PAGE: usize>(owner: &mut Owner<D, PAGE>, ste
     requires { IsPageSize PAGE }
 {
     match step {
-        Step::LookInto(key, wanted, held) => is_seen_into(owner, key, EXPIRES - 1, *wanted, held),
-        Step::LookIntoLate(key) => {
-            is_seen_into(owner, key, EXPIRES, klog::Seen::Expired, WAS_HELD)
+        Step::Locate(key, place, prediction, held) => {
+            is_located(owner, key, *place, *prediction, held)
         }
+        Step::LocateNone(key, wanted) => { is_missed(locate_none(owner, key, EXPIRES - 1), wanted) }
+        Step::LocateLate(key) => locate_none(owner, key, EXPIRES) == Some(Located::Expired),
+        Step::Touch(key) => is_touched(owner, key),
         Step::Flush(wanted) => owner.flush() == *wanted,
         Step::First(tag, place, prediction) => is_first(owner.oldest(), *tag, *place, *prediction),
         Step::Oldest(passed, told) => told_by(owner.oldest_but(passed)) == *told,
@@ -122,22 +129,71 @@ fn is_seen(looked: Looked, wanted: &Seen) -> bool {
     }
 }
 
-/// What a buffer holds before a look-up.
-pub const WAS_HELD: &[u8] = b"was held";
+// What a buffer holds before a key is located.
+const WAS_HELD: &[u8] = b"was held";
 
-// Whether this is answered of the bytes of a key, and the buffer then holds these bytes.
-fn is_seen_into<D: PageDevice<PAGE>, const PAGE: usize>(
+// Whether a key is located at an entry of its set and tag with this place and prediction, and the buffer then holds this value.
+fn is_located<D: PageDevice<PAGE>, const PAGE: usize>(
     owner: &mut Owner<D, PAGE>,
     key: &[u8],
-    moment: u64,
-    wanted: klog::Seen,
+    place: Place,
+    prediction: u8,
     held: &[u8],
 ) -> bool
     requires { IsPageSize PAGE }
 {
     let mut found = ValueBuffer::empty();
     found.set(WAS_HELD);
-    owner.look_into(key, moment, &mut found) == wanted && found.bytes() == held
+    let Located::Hit(entry) = owner.locate(key, EXPIRES - 1, &mut found) else {
+        return false;
+    };
+    let placed = owner.placed(key);
+    entry.set == placed.set
+        && entry.tag == placed.tag
+        && entry.place == place
+        && entry.prediction.get() == prediction
+        && found.bytes() == held
+}
+
+// What is located of the bytes of a key at a moment, or nothing if the buffer does not stay as it was.
+fn locate_none<D: PageDevice<PAGE>, const PAGE: usize>(
+    owner: &mut Owner<D, PAGE>,
+    key: &[u8],
+    moment: u64,
+) -> Option<Located>
+    requires { IsPageSize PAGE }
+{
+    let mut found = ValueBuffer::empty();
+    found.set(WAS_HELD);
+    let located = owner.locate(key, moment, &mut found);
+    if found.bytes() != WAS_HELD {
+        return None;
+    }
+    Some(located)
+}
+
+fn is_missed(located: Option<Located>, wanted: &Seen) -> bool {
+    match (located, wanted) {
+        (Some(Located::Absent), Seen::Absent) => true,
+        (Some(Located::Fault), Seen::Fault) => true,
+        (Some(Located::Damaged), Seen::Damaged) => true,
+        _ => false,
+    }
+}
+
+// Touches the entry of a key, and says whether there is one.
+fn is_touched<D: PageDevice<PAGE>, const PAGE: usize>(
+    owner: &mut Owner<D, PAGE>,
+    key: &[u8],
+) -> bool
+    requires { IsPageSize PAGE }
+{
+    let mut found = ValueBuffer::empty();
+    let Located::Hit(entry) = owner.locate(key, EXPIRES - 1, &mut found) else {
+        return false;
+    };
+    owner.touch(&entry);
+    true
 }
 
 fn is_expired(looked: Looked) -> bool {

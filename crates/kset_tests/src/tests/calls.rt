@@ -1,23 +1,26 @@
 //! Which calls sets make of their device: a write for each rewriting, a read for each look-up that the filter and the
 //! strikes let through and for each reading of a set that holds something, and no other.
+use super::step::WAS_HELD;
 use super::*;
 use test_steps::{Asked, PlannedDevice};
-
-// One lane of five sets: ax lies in set 3, bx in set 0.
-const FIVE_SETS: Config = Config { sets: 5, ..ONE_SET };
 
 const ONLY_AX: [Pair; 1] = [(b"ax", b"1")];
 
 // The set of ax is empty, written, looked up and read, and empty once more by a forgetting.
-const STEPS: [Step; 14] = [
+const STEPS: [Step; 19] = [
     MISSES_A,
+    Step::Locate(b"ax", Located::Absent, WAS_HELD),
     Step::Read(&[]),
     Step::Rewrite(&ONLY_AX, Rewritten::Written),
     FINDS_A,
+    Step::Locate(b"ax", Located::Hit { slot: 0 }, b"1"),
+    Step::Touch(b"ax", 0),
+    Step::Locate(b"bx", Located::Absent, WAS_HELD),
     Step::Look(b"bx", Seen::Absent),
     Step::Read(&[AX_HIT]),
     Step::Strike(b"ax"),
     MISSES_A,
+    Step::Locate(b"ax", Located::Absent, WAS_HELD),
     Step::Read(&[]),
     Step::Rewrite(&ONLY_AX, Rewritten::Written),
     FINDS_A,
@@ -27,8 +30,9 @@ const STEPS: [Step; 14] = [
 ];
 
 // The reading after the strike asks for the page, which may hold other records than the one that was struck.
-const PLAN: [Asked; 6] = [
+const PLAN: [Asked; 7] = [
     Asked::Write(3),
+    Asked::Read(3),
     Asked::Read(3),
     Asked::Read(3),
     Asked::Read(3),

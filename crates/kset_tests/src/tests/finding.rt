@@ -49,8 +49,9 @@ const SECOND: Listed = Listed {
     hit: false,
 };
 
-const THE_FIRST_OF_TWO: [Step; 5] = [
+const THE_FIRST_OF_TWO: [Step; 6] = [
     Step::Rewrite(&TWO_OF_ONE_KEY, Rewritten::Written),
+    Step::Locate(b"cd", Located::Hit { slot: 1 }, b"2"),
     Step::Look(b"cd", Seen::Value(b"2")),
     Step::Read(&[AB, FIRST_HIT, SECOND]),
     // A rewriting clears the hits.

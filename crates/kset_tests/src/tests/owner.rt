@@ -1,6 +1,6 @@
 //! An owner of sets and of the device that their pages lie on.
-ghost use Rattle.std.specs.Prelude.{◌≤◌};
-ghost use Rattle.record_pages.specs.Sizes.{IsPageSize};
+ghost use Rattle.std.specs.Prelude.{◌<◌, ◌≤◌};
+ghost use Rattle.record_pages.specs.Sizes.{IsPageSize, max_set_records};
 ghost use Rattle.std.specs.Coded.{codes};
 ghost use Rattle.kset.specs.Sets.{sets_code};
 ghost use Rattle.kset_tests.specs.Owner.{OwnerState, IsOwner};
@@ -70,18 +70,21 @@ impl<D: PageDevice<PAGE>, const PAGE: usize> Owner<D, PAGE> {
             .look(alloc, &mut self.device, &placed, key, moment)
     }
 
-    /// The same into a buffer, by the key's bytes.
-    pub(super) fn look_into(
-        &mut self,
-        key: &[u8],
-        moment: u64,
-        found: &mut ValueBuffer,
-    ) -> kset::Seen
+    /// What is located of the bytes of a key.
+    pub(super) fn locate(&mut self, key: &[u8], moment: u64, found: &mut ValueBuffer) -> Located
         requires { IsPageSize PAGE }
     {
         let placed = place(&self.layout, key);
         self.sets
-            .look_into(&mut self.device, &placed, key, moment, found)
+            .locate(&mut self.device, &placed, key, moment, found)
+    }
+
+    /// Touches a slot.
+    pub(super) fn touch(&mut self, key: &[u8], slot: usize)
+        requires { slot < max_set_records }
+    {
+        let placed = place(&self.layout, key);
+        self.sets.touch(placed.set, slot);
     }
 
     pub(super) fn read(&mut self, alloc: Global, key: &Key) -> Result<SetRead, AllocError>

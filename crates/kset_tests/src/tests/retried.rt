@@ -45,8 +45,20 @@ pub(super) fn rewrite<D: PageDevice<PAGE>, const PAGE: usize>(
 ) -> Result<Rewritten, Fail>
     requires { IsPageSize PAGE }
 {
+    rewrite_of(alloc, owner, b"ax", pairs)
+}
+
+/// Writes these pairs to the set of a key.
+pub(super) fn rewrite_of<D: PageDevice<PAGE>, const PAGE: usize>(
+    alloc: Global,
+    owner: &mut Owner<D, PAGE>,
+    bytes: &[u8],
+    pairs: &[Pair],
+) -> Result<Rewritten, Fail>
+    requires { IsPageSize PAGE }
+{
     let writer = page(alloc, pairs)?;
-    Ok(owner.rewrite(&key(alloc, b"ax")?, &writer))
+    Ok(owner.rewrite(&key(alloc, bytes)?, &writer))
 }
 
 pub(super) fn look<D: PageDevice<PAGE>, const PAGE: usize>(
@@ -82,7 +94,18 @@ pub(super) fn read<D: PageDevice<PAGE>, const PAGE: usize>(
 ) -> Result<SetRead, Fail>
     requires { IsPageSize PAGE }
 {
-    let key = key(alloc, b"ax")?;
+    read_of(alloc, owner, b"ax")
+}
+
+/// Reads the set of a key.
+pub(super) fn read_of<D: PageDevice<PAGE>, const PAGE: usize>(
+    alloc: Global,
+    owner: &mut Owner<D, PAGE>,
+    bytes: &[u8],
+) -> Result<SetRead, Fail>
+    requires { IsPageSize PAGE }
+{
+    let key = key(alloc, bytes)?;
     match owner.read(alloc, &key) {
         Ok(read) => Ok(read),
         Err(_) => Ok(owner.read(alloc, &key)?),

@@ -1,7 +1,7 @@
 //! Calls of the sets, each with what it gives.
 ghost use Rattle.record_pages.specs.Sizes.{IsPageSize};
 
-use super::retried::{EXPIRES, forget, look, look_at, read, rewrite, strike};
+use super::retried::{EXPIRES, forget, look, look_at, read, read_of, rewrite, rewrite_of, strike};
 use super::*;
 use value_buffer::ValueBuffer;
 
@@ -22,10 +22,16 @@ pub enum Step {
     Look(&'static [u8], Seen),
     /// A key whose record has expired at the moment when it expires, and at none before.
     LookLate(&'static [u8]),
-    /// The bytes of a key, what is answered of them, and what is in the buffer then.
-    LookInto(&'static [u8], kset::Seen, &'static [u8]),
+    /// The bytes of a key, what is located of them, and what is in the buffer then.
+    Locate(&'static [u8], Located, &'static [u8]),
     /// The bytes of a key whose record has expired at the moment when it expires, which leaves the buffer.
-    LookIntoLate(&'static [u8]),
+    LocateLate(&'static [u8]),
+    /// The bytes of a key, and the slot of its set that is touched.
+    Touch(&'static [u8], usize),
+    /// A key, and the pairs that its set is written with.
+    WriteOf(&'static [u8], &'static [Pair]),
+    /// A key, and the records that are listed of its set.
+    ReadOf(&'static [u8], &'static [Listed]),
     /// The records that are listed.
     Read(&'static [Listed]),
     /// A reading that meets a lost page.
@@ -62,13 +68,16 @@ fn gives<D: PageDevice<PAGE>, const PAGE: usize>(
         Step::Rewrite(pairs, wanted) => Ok(rewrite(alloc, owner, pairs)? == *wanted),
         Step::Look(key, wanted) => Ok(is_seen(look(alloc, owner, key)?, wanted)),
         Step::LookLate(key) => Ok(is_expired(look_at(alloc, owner, key, EXPIRES)?)),
-        Step::LookInto(key, wanted, held) => {
-            Ok(is_seen_into(owner, key, EXPIRES - 1, *wanted, held))
+        Step::Locate(key, wanted, held) => {
+            Ok(is_located(owner, key, EXPIRES - 1, *wanted, held))
         }
-        Step::LookIntoLate(key) => {
-            Ok(is_seen_into(owner, key, EXPIRES, kset::Seen::Expired, WAS_HELD))
-        }
+        Step::LocateLate(key) => Ok(is_located(owner, key, EXPIRES, Located::Expired, WAS_HELD)),
+        Step::Touch(key, slot) => Ok(touches(owner, key, *slot)),
+        Step::WriteOf(key, pairs) => Ok(
+            rewrite_of(alloc, owner, key, pairs)? == Rewritten::Written,
+        ),
         Step::Read(wanted) => Ok(are_listed(read(alloc, owner)?, wanted)),
+        Step::ReadOf(key, wanted) => Ok(are_listed(read_of(alloc, owner, key)?, wanted)),
         Step::ReadLost => Ok(is_lost(read(alloc, owner)?)),
         Step::Strike(key) => {
             strike(alloc, owner, key)?;
@@ -94,19 +103,32 @@ fn is_seen(looked: Looked, wanted: &Seen) -> bool {
 /// What a buffer holds before a look-up.
 pub const WAS_HELD: &[u8] = b"was held";
 
-// Whether this is answered of the bytes of a key, and the buffer then holds these bytes.
-fn is_seen_into<D: PageDevice<PAGE>, const PAGE: usize>(
+// Whether this is located of the bytes of a key, and the buffer then holds these bytes.
+fn is_located<D: PageDevice<PAGE>, const PAGE: usize>(
     owner: &mut Owner<D, PAGE>,
     key: &[u8],
     moment: u64,
-    wanted: kset::Seen,
+    wanted: Located,
     held: &[u8],
 ) -> bool
     requires { IsPageSize PAGE }
 {
     let mut found = ValueBuffer::empty();
     found.set(WAS_HELD);
-    owner.look_into(key, moment, &mut found) == wanted && found.bytes() == held
+    owner.locate(key, moment, &mut found) == wanted && found.bytes() == held
+}
+
+// Touches a slot of a key's set, if a page can have it.
+fn touches<D: PageDevice<PAGE>, const PAGE: usize>(
+    owner: &mut Owner<D, PAGE>,
+    key: &[u8],
+    slot: usize,
+) -> bool {
+    if slot >= MAX_SET_RECORDS {
+        return false;
+    }
+    owner.touch(key, slot);
+    true
 }
 
 fn is_expired(looked: Looked) -> bool {

@@ -165,3 +165,43 @@ const NO_FOLDER: Row = Row {
 fn a_folder_that_is_absent_is_a_file_fault(rt: HostRuntime) {
     assert!(rt; holds(&rt, &NO_FOLDER) && is_removed(&rt, "nowhere.trace"));
 }
+
+/// The shares exceed 100, and there is no folder for the trace or for the lanes.
+const SHARES_FIRST: Row = Row {
+    words: &[
+        "k",
+        "run",
+        "--gets",
+        "96",
+        "--device",
+        "no such folder",
+        "--trace",
+        "no such folder/t.trace",
+    ],
+    ends: Ends::Refused(
+        2,
+        b"gets and removes exceed 100\n--gets 96 and --removes 5 are 101 per cent: give shares of at most 100 per cent together\n",
+    ),
+};
+
+/// There is no folder for the trace, and none for the lanes.
+const TRACE_FIRST: Row = Row {
+    words: &[
+        "k",
+        "run",
+        "--device",
+        "no such folder",
+        "--trace",
+        "no such folder/t.trace",
+    ],
+    ends: Ends::Refused(
+        3,
+        b"file fault\nno such folder/t.trace: No such file or directory (os error 2)\nname a file with --trace that can be written\n",
+    ),
+};
+
+#[test]
+fn of_several_faults_the_first_is_told(rt: HostRuntime) {
+    assert!(rt; holds(&rt, &SHARES_FIRST));
+    assert!(rt; holds(&rt, &TRACE_FIRST));
+}

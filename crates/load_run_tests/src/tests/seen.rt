@@ -1,5 +1,6 @@
 //! What is seen of the runs of a load from below.
-ghost use Rattle.std.specs.Prelude.{◌≡◌, All, IfOk, length};
+ghost use Rattle.std.specs.Prelude.{◌≡◌, ◌<◌, All, IfOk, length};
+ghost use Rattle.record_pages.specs.Asked.{layout_pages};
 
 use super::counting_device::CountingDevice;
 use super::counting_policy::CountingPolicy;
@@ -7,7 +8,7 @@ use super::counts::Counts;
 use super::plans::Plans;
 use load::Load;
 use page_device::MemoryDevice;
-use record_pages::{Config, Layout};
+use record_pages::Layout;
 use shared_cache::{Pass, SharedCache};
 use std::alloc::Global;
 use std::sync::Arc;
@@ -36,13 +37,14 @@ impl Seen {
         })
     }
 
-    /// A new cache for the load of which all is seen, and a pass for each of so many callers.
+    /// A new cache for the load of which all is seen, and a pass for each of so many callers, of which there is one at least.
     pub fn open(
         &self,
         alloc: Global,
         load: &Load,
         callers: u16,
     ) -> Result<(CountedCache, Vec<Pass>), Fail>
+        requires { 0 < callers }
         ensures lanes { IfOk result (λ o. o.0.layout.lanes ≡ load.now.layout.lanes) }
         ensures ties { IfOk result (λ o. All (λ p. p.sight.clock ≡ o.0.clock) o.1.items) }
         ensures callers { IfOk result (λ o. length o.1.items ≡ callers) }
@@ -51,15 +53,19 @@ impl Seen {
         let policy = CountingPolicy {
             plans: Arc::try_clone(&self.plans)?,
         };
-        let config = config_of(&load.layout);
-        Ok(CountedCache::open(alloc, &config, devices, policy, callers)?)
+        Ok(CountedCache::with_layout(alloc, &load.layout, devices, policy, callers)?)
     }
 
-    /// A device for each lane.
-    fn devices(&self, alloc: Global, layout: &Layout) -> Result<Vec<CountingDevice>, Fail> {
-        let pages = layout.sets + layout.segments * layout.segment_pages;
+    /// A device for each lane, with the layout's pages.
+    fn devices(&self, alloc: Global, layout: &Layout) -> Result<Vec<CountingDevice>, Fail>
+        ensures each { IfOk result (λ devices. length devices.items ≡ layout.now.lanes) }
+        ensures room { IfOk result (λ devices.
+            All (λ d. length d.pages ≡ layout_pages layout.now) devices.items) }
+    {
+        let pages = layout.pages();
         let mut devices = Vec::new(alloc);
-        for counts in &self.lanes {
+        for lane in 0..layout.lanes {
+            let counts = self.lanes.get(lane as usize).ok_or("a lane")?;
             devices.push(CountingDevice {
                 pages: MemoryDevice::new(alloc, pages)?,
                 sets: layout.sets,
@@ -91,21 +97,5 @@ impl Seen {
     /// Whether as many plans were made at once as are wanted.
     pub fn are_at_once(&self) -> bool {
         self.plans.are_at_once()
-    }
-}
-
-/// The configuration with these numbers.
-fn config_of(layout: &Layout) -> Config
-    ensures { result.lanes ≡ layout.now.lanes }
-{
-    Config {
-        lanes: layout.lanes,
-        sets: layout.sets,
-        memory: layout.memory,
-        segments: layout.segments,
-        segment_pages: layout.segment_pages,
-        entries: layout.entries,
-        threshold: layout.threshold,
-        admit: layout.admit,
     }
 }

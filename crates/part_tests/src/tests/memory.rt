@@ -22,6 +22,8 @@ enum Step {
 enum Call {
     Get,
     Peek,
+    /// A raise, and a peek after it.
+    Raise,
     Remove,
 }
 
@@ -91,6 +93,10 @@ fn tells(memory: &mut MemoryCache, call: Call, key: &Key, value: Option<&[u8]>) 
     match call {
         Call::Get => is_value(memory.get(key), value),
         Call::Peek => is_value(memory.peek(key), value),
+        Call::Raise => {
+            memory.raise(key.bytes());
+            is_value(memory.peek(key), value)
+        }
         Call::Remove => is_taken(memory.remove(key), value),
     }
 }
@@ -148,6 +154,24 @@ const OF_TWO: [Step; 13] = [
 #[test]
 fn the_pair_that_was_used_longest_ago_leaves(rt: HostRuntime) -> Result<(), Fail> {
     assert_eq!(rt; strayed(&rt, rt.alloc(), 2, &OF_TWO)?, None);
+    Ok(())
+}
+
+const RAISED: [Step; 9] = [
+    Step::Put(b"a", b"1", None),
+    Step::Put(b"b", b"2", None),
+    Step::Ask(Call::Raise, b"z", None),
+    Step::Ask(Call::Raise, b"a", Some(b"1")),
+    Step::Len(2),
+    Step::Put(b"c", b"3", Some((b"b", b"2"))),
+    Step::Ask(Call::Raise, b"a", Some(b"1")),
+    Step::Put(b"d", b"4", Some((b"c", b"3"))),
+    Step::Ask(Call::Peek, b"a", Some(b"1")),
+];
+
+#[test]
+fn a_pair_that_is_raised_stays(rt: HostRuntime) -> Result<(), Fail> {
+    assert_eq!(rt; strayed(&rt, rt.alloc(), 2, &RAISED)?, None);
     Ok(())
 }
 

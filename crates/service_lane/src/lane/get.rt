@@ -3,14 +3,14 @@ ghost use Rattle.std.specs.Prelude.{◌≡◌, ◌≢◌, ◌<◌, ◌↔◌, �
 ghost use Rattle.record_pages.specs.declared.key.KeyFault.{KeyFault};
 ghost use Rattle.mover.specs.Calls.{StoreGets};
 ghost use Rattle.mover.specs.Get.{answer_of};
-ghost use Rattle.deed_laws.specs.Sound.{act_of};
+ghost use Rattle.deeds.specs.Sound.{act_of};
 ghost use Rattle.service_lane.specs.Asked.{IsLiveHit, IsMiss};
 ghost use Rattle.service_lane.specs.Counting.{counts_answer, with_given};
 ghost use Rattle.service_lane.specs.Leases.{writes_for};
 ghost use Rattle.service_lane.specs.Serving.{Gets};
 
 use super::ServiceLane;
-use crate::key_buffer::KeyBuffer;
+use crate::key_buffer::check_key;
 use crate::lease::Lease;
 use mover::Seen;
 use page_device::PageDevice;
@@ -41,8 +41,8 @@ impl<D: PageDevice<PAGE>, const PAGE: usize> ServiceLane<D, PAGE> {
         ensures refused { OnErr result (self.new ≡ self.old) }
         ensures refused_found { OnErr result (found.new ≡ found.old) }
     {
-        let key = KeyBuffer::new(key)?;
-        let seen = self.asked.get(&key, moment, found);
+        check_key(key)?;
+        let seen = self.asked.get_into(key, moment, found);
         self.counts.gets.answered(seen);
         Ok(seen)
     }

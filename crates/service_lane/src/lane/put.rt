@@ -12,7 +12,7 @@ ghost use Rattle.service_lane.specs.Serving.{PutsStore, FillsStore, FillLeaves, 
 
 use super::ServiceLane;
 use crate::filled::Filled;
-use crate::key_buffer::KeyBuffer;
+use crate::key_buffer::{KeyBuffer, check_key};
 use crate::lease::Lease;
 use page_device::PageDevice;
 use record_pages::{Key, KeyFault, Pushed, PutFault, Value};
@@ -141,7 +141,7 @@ impl<D: PageDevice<PAGE>, const PAGE: usize> ServiceLane<D, PAGE> {
         match self.put(key, value, word, expires) {
             Ok(pushed) => Ok(pushed),
             Err(fault) => {
-                self.remove_kept(&kept);
+                self.remove_kept(kept.bytes());
                 Err(fault)
             }
         }
@@ -158,24 +158,24 @@ impl<D: PageDevice<PAGE>, const PAGE: usize> ServiceLane<D, PAGE> {
         ensures memory { result ≢ Err KeyFault.OutOfMemory }
         ensures refused { OnErr result (self.new ≡ self.old) }
     {
-        let key = KeyBuffer::new(key)?;
-        self.remove_kept(&key);
+        check_key(key)?;
+        self.remove_kept(key);
         Ok(())
     }
 
-    // Removes a key.
-    fn remove_kept(&mut self, key: &KeyBuffer)
+    // Removes the key of these bytes.
+    fn remove_kept(&mut self, key: &[u8])
         ensures { Removes D.held key.now self.old self.new }
     {
-        let slot = self.slots.slot(key.bytes());
+        let slot = self.slots.slot(key);
         self.asked.remove(key);
         self.slots.wrote_in(slot);
         self.counts.removals = self.counts.removals.wrapping_add(1);
     }
 }
 
-use crate::asked::AskedStore;
 use crate::slots::Slots;
+use deeds::DeedStore;
 
 // The bytes of an object.
 fn bytes_of(key: &Key, value: &Value) -> u64
@@ -187,7 +187,7 @@ fn bytes_of(key: &Key, value: &Value) -> u64
 // Puts a value, and counts the write in its key's slot where it is stored.
 fn put_counted<D: PageDevice<PAGE>, const PAGE: usize>(
     slots: &mut Slots,
-    asked: &mut AskedStore<D, PAGE>,
+    asked: &mut DeedStore<D, PAGE>,
     key: Key,
     value: Value,
     word: u32,

@@ -7,10 +7,11 @@ use shared_cache::{OpenCacheFault, SharedCache};
 use std::alloc::Global;
 use std::test::Fail;
 
-/// An opening, and why it is refused.
+/// An opening over pages of 128 bytes or of 256, and why it is refused.
 #[derive(Clone, Copy)]
 struct Row {
     config: Config,
+    is_narrow: bool,
     // How many devices, of how many pages each.
     devices: u32,
     pages: u32,
@@ -22,23 +23,26 @@ const NO_SET: Config = Config { sets: 0, ..ONE_SET };
 
 const OPENS: Row = Row {
     config: TWO_LANES,
+    is_narrow: false,
     devices: 2,
     pages: 3,
     callers: 1,
     fault: None,
 };
 
-// Each refusal where all behind it apply too.
-const ROWS: [Row; 6] = [
+// Each refusal where all after it apply too.
+const ROWS: [Row; 7] = [
     OPENS,
     Row {
         config: NO_SET,
+        is_narrow: true,
         devices: 0,
         pages: 2,
         callers: 0,
         fault: Some(OpenCacheFault::ConfigFault(Field::Sets)),
     },
     Row {
+        is_narrow: true,
         devices: 0,
         pages: 2,
         callers: 0,
@@ -46,6 +50,7 @@ const ROWS: [Row; 6] = [
         ..OPENS
     },
     Row {
+        is_narrow: true,
         devices: 1,
         pages: 2,
         fault: Some(OpenCacheFault::DeviceCount),
@@ -57,17 +62,17 @@ const ROWS: [Row; 6] = [
         ..OPENS
     },
     Row {
+        is_narrow: true,
+        pages: 2,
+        fault: Some(OpenCacheFault::WrongPage),
+        ..OPENS
+    },
+    Row {
         pages: 2,
         fault: Some(OpenCacheFault::DeviceTooSmall),
         ..OPENS
     },
 ];
-
-const NARROW: Row = Row {
-    pages: 2,
-    fault: Some(OpenCacheFault::WrongPage),
-    ..OPENS
-};
 
 // So many devices of so many pages.
 fn so_many<const PAGE: usize>(
@@ -92,16 +97,23 @@ fn fault<const PAGE: usize>(alloc: Global, row: &Row) -> Result<Option<OpenCache
     }
 }
 
+// Why a cache of a row is not opened.
+fn fault_of(alloc: Global, row: &Row) -> Result<Option<OpenCacheFault>, Fail> {
+    match row.is_narrow {
+        true => fault::<128>(alloc, row),
+        false => fault::<256>(alloc, row),
+    }
+}
+
 #[test]
 fn a_cache_is_opened_over_a_device_a_lane(rt: HostRuntime) -> Result<(), Fail> {
     let alloc = rt.alloc();
     for number in 0..ROWS.len() {
         assert_eq!(rt;
-            fault::<256>(alloc, &ROWS[number])?,
+            fault_of(alloc, &ROWS[number])?,
             ROWS[number].fault,
             "row {number}"
         );
     }
-    assert_eq!(rt; fault::<128>(alloc, &NARROW)?, NARROW.fault);
     Ok(())
 }

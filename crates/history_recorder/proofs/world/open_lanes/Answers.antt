@@ -4,20 +4,19 @@ use Rattle.std.specs.Box.{box_value}
 use Rattle.std.proofs.lemmas.List.{length-append}
 use Rattle.history_recorder.specs.Lane.{IsRecorded}
 use Rattle.history_recorder.specs.Opened.{AreOpenedOver, opening_lane}
-use Rattle.history_recorder.proofs.WorldsOpened.{same_layout, more_opened}
+use Rattle.history_recorder.proofs.WorldsOpened.{more_opened}
 use Rattle.history_recorder.proofs.world.open_lanes.Goals as goal
 
 pub loop-device-preserved : goal.loop-device-preserved
 loop-device-preserved g c =
-    let lane = c.in-Ok.lane in
-    let layout = same_layout lane.store.layout c.args.layout.now c.args.config.now c.in-Ok.ensures.opening.0 c.requires.layout in
+    let layout = c.args.layout.now in
     let honest = g.D.PageDevice.honest in
     let held = g.D.PageDevice.held in
     let number = c.loop-device.number in
     let b = c.in_ok-new-2.field-0 in
     let boxed = c.in_ok-new-2.ensures.ok in
-    let opened : box_value b ≡ opening_lane c.args.layout.now number c.in-Some.device = boxed ∙ c.in-Ok.ensures.opening.1 ∙ ap (λ l. opening_lane l number c.new-boxed.result) layout ∙ ap (opening_lane c.args.layout.now number) (c.new-boxed.ensures ∙ c.in_ok-new.ensures.ok) in
-    let more = more_opened honest held c.args.layout.now number c.loop-device.yielded c.loop-device.lanes.items b c.in-Some.device c.loop-device.invariant.1 opened (subst (IsRecorded honest held) (sym boxed) c.recall.ensures) in
+    let opened : box_value b ≡ opening_lane layout number c.in-Some.device = boxed ∙ c.in_ok-lane.ensures ∙ ap (opening_lane layout number) (c.new-boxed.ensures ∙ c.in_ok-new.ensures.ok) in
+    let more = more_opened honest held layout number c.loop-device.yielded c.loop-device.lanes.items b c.in-Some.device c.loop-device.invariant.1 opened (subst (IsRecorded honest held) (sym boxed) c.recall.ensures) in
     let count = c.loop-device.invariant.0 in
     let longer = length-append c.loop-device.yielded (c.in-Some.device ∷ []) in
-    (omega (arith, count, longer), subst (AreOpenedOver honest held c.args.layout.now (number + 1) (c.loop-device.yielded ++ c.in-Some.device ∷ [])) (sym c.in_ok-push.ensures.items) more)
+    (omega (arith, count, longer), subst (AreOpenedOver honest held layout (number + 1) (c.loop-device.yielded ++ c.in-Some.device ∷ [])) (sym c.in_ok-push.ensures.items) more)

@@ -7,5 +7,5 @@ use Rattle.c_lane.proofs.sizes.Sizes.of.Goals as goal
 
 pub returns-in-Ok : goal.returns-in-Ok
 returns-in-Ok c =
-    subst (λ (o : Option ShapeField). SizesBy o c.args.shape.now c.args.object_bytes c.of_parts.result) (sym c.in-Ok.ensures.0)
-    (record { shape = c.in-Ok.parts; parts = c.in-Ok.ensures.1; are = c.of_parts.ensures })
+    subst (λ (o : Option ShapeField). SizesBy o c.args.shape.now c.args.object_bytes c.of_parts.result) (sym c.in-Ok.ensures.faultless)
+    (record { shape = c.parts.result; parts = c.parts.ensures; are = c.of_parts.ensures })

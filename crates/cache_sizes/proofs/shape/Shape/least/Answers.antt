@@ -19,6 +19,6 @@ returns-clause-parts c = record {
   sets = cc;
   segments = cc;
   segment_pages = cc;
-  log_objects = cc;
+  entries = cc;
   lease_slots = cc;
 }

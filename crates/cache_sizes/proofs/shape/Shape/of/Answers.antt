@@ -29,9 +29,9 @@ returns-clause-outcome c =
           sets = p.sets;
           segments = p.segments;
           segment_pages = p.segment_pages;
-          log_objects = p.log_objects;
+          entries = p.entries;
           lease_slots = p.lease_slots;
         };
-        memory_objects = cc;
+        memory = cc;
       },
     )

@@ -9,4 +9,4 @@ returns-in_ok-act_from-in-Ok g c =
     (λ i. record { caller = a.caller; start = a.start; point = a.point; key = c.key.view_is i; act = c.in_ok-act_from-in-Ok.ensures i }) c.in-Ok.ensures.recorded c.in-Ok.ensures.gets c.get.ensures.full
 
 pub returns-in-Err : goal.returns-in-Err
-returns-in-Err g c = got_err g.D.PageDevice.honest g.D.PageDevice.failures g.D.PageDevice.held c.args.self.now c.get.new.self c.recall-in-Err.ensures g.row.PAGE c.args.caller c.args.start c.args.point c.args.key c.args.moment c.get.result c.in-Err.fault c.in-Err.is c.in-Err.ensures.unrecorded c.get.ensures.full c.get.ensures.full_keeps c.in-Err.ensures.out_of_memory
+returns-in-Err g c = got_err g.D.PageDevice.honest g.D.PageDevice.failures g.D.PageDevice.held c.args.self.now c.get.new.self c.recall-in-Err.ensures g.row.PAGE c.args.caller c.args.start c.args.point c.args.key c.args.moment c.get.result c.in-Err.fault c.in-Err.is c.in-Err.ensures.refused.unrecorded c.get.ensures.full c.get.ensures.full_keeps c.in-Err.ensures.refused.asked

@@ -1,31 +1,29 @@
 -- The lane after a put that was recorded.
-use Rattle.std.proofs.Common.{◌<◌, Ok, refl, ap, sym, subst, arith}
+use Rattle.std.proofs.Common.{◌<◌, Ok, sym, subst, arith}
 use Rattle.std.specs.Prelude.{All}
 use Rattle.record_pages.specs.Expiry.{timed}
 use Rattle.memory_cache.specs.declared.pair.Pair.{Pair}
-use Rattle.mover.specs.Lane.{lane_of}
 use Rattle.mover.specs.Calls.{StorePuts}
 use Rattle.trace_file.specs.declared.act.Act.TheVariants.{Put}
 use Rattle.history_recorder.specs.declared.noted.Noted.{Noted}
 use Rattle.history_recorder.specs.Lane.{Lane, IsOfLane}
-use Rattle.history_recorder.proofs.Sounding.{recorded_put}
+use Rattle.history_recorder.proofs.Noting.{noted_more}
 use Rattle.history_recorder.proofs.lane.RecordedLane.put.Goals as goal
 
 pub invariant_of-self-2 : goal.invariant_of-self-2
 invariant_of-self-2 g c =
-    let d = g.D.PageDevice in
     let a = c.args in
-    let old : Lane g.row.D.Denot = record { store = c.self.inside.store; lane = c.self.inside.lane; calls = c.self.inside.calls } in
+    let inside = c.self.inside in
+    let old : Lane g.row.D.Denot = record { store = inside.store.store; lane = inside.lane; calls = inside.calls } in
     let n : Noted = record { caller = a.caller; start = a.start; point = a.point; key = a.key; act = Put a.value a.expires } in
-    let put : Pair = record { key = a.key; value = timed a.value a.expires } in
-    let puts = c.in_ok-pushed.ensures.puts in
+    let new = c.put_noted.new.store in
+    let noted = c.in_ok-pushed.ensures in
     let rises = subst (λ (l : Lane g.row.D.Denot). All (λ (m : Noted). m.point < a.point) l.calls) (sym c.self.view_is) c.requires.rises in
     let own = subst (λ (l : Lane g.row.D.Denot). IsOfLane l.store.layout l.lane a.key) (sym c.self.view_is) c.requires.own in
-    recorded_put d.honest d.held old c.self.invariant n c.put_noted.new.store c.put_noted.new.calls c.in_ok-pushed.ensures.recorded puts.layout (ap d.honest puts.device) c.requires.start rises own (omega arith) a.key a.value a.expires refl refl
-    (λ is. c.put_shows.ensures g.row.PAGE old.store.layout.admit a.word put (lane_of d.held old.store) (lane_of d.held c.put_noted.new.store) c.in_ok-pushed.pushed (c.self.invariant.order is) puts.gives)
+    noted_more old inside.store.deeds c.self.invariant n new.store c.put_noted.new.calls new.deeds noted.recorded noted.deeds noted.puts.layout c.requires.start rises own (omega arith)
 
 pub returns-clause-puts : goal.returns-clause-puts
 returns-clause-puts g c =
     let d = g.D.PageDevice in
     let put : Pair = record { key = c.args.key; value = timed c.args.value c.args.expires } in
-    subst (λ (old : Lane g.row.D.Denot). StorePuts g.row.PAGE d.held put c.args.word old.store (Ok c.in_ok-pushed.pushed) c.put_noted.new.store) c.self.view_is c.in_ok-pushed.ensures.puts
+    subst (λ (old : Lane g.row.D.Denot). StorePuts g.row.PAGE d.held put c.args.word old.store (Ok c.in_ok-pushed.pushed) c.put_noted.new.store.store) c.self.view_is c.in_ok-pushed.ensures.puts

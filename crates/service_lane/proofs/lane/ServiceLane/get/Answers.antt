@@ -1,5 +1,5 @@
 -- The lane after a get that was answered.
-use Rattle.std.proofs.Common.{ℕ, List, refl, ap, subst}
+use Rattle.std.proofs.Common.{refl, ap, subst}
 use Rattle.mover.specs.Get.{answer_of}
 use Rattle.record_pages.specs.declared.answer.Answer.{Answer}
 use Rattle.service_lane.specs.declared.get_counts.GetCounts.{GetCounts}
@@ -8,24 +8,23 @@ use Rattle.service_lane.proofs.Writing.{counted_got}
 use Rattle.service_lane.proofs.lane.ServiceLane.get.Goals as goal
 
 pub invariant_of-self : goal.invariant_of-self
-invariant_of-self g c = counted_got c.self.inside.asked.deeds c.get-seen.new.self.deeds c.in_ok-key.key c.args.moment (answer_of c.get-seen.result c.get-seen.new.found) c.self.inside.slots c.get-seen.ensures.deeds c.self.invariant
+invariant_of-self g c = counted_got c.self.inside.asked.deeds c.get_into-seen.new.self.deeds c.args.key.now c.args.moment (answer_of c.get_into-seen.result c.get_into-seen.new.found) c.self.inside.slots c.get_into-seen.ensures.deeds c.self.invariant
 
 pub returns-clause-gets : goal.returns-clause-gets
 returns-clause-gets g c =
     let d = g.D.PageDevice in
     let a = c.args in
-    let asked = c.get-seen.new.self in
+    let asked = c.get_into-seen.new.self in
     let counts = c.self.inside.counts in
-    let answer : Answer = answer_of c.get-seen.result c.get-seen.new.found in
+    let answer : Answer = answer_of c.get_into-seen.result c.get_into-seen.new.found in
     let old : Serving g.row.D.Denot = record { store = c.self.inside.asked.store; deeds = c.self.inside.asked.deeds; slots = c.self.inside.slots; counts = counts } in
     let new : Serving g.row.D.Denot = record { store = asked.store; deeds = asked.deeds; slots = c.self.inside.slots; counts = record counts { gets = c.answered.new.self } } in
-    let got : Gets g.row.PAGE d.honest d.failures d.held c.in_ok-key.key a.moment answer old new =
+    let got : Gets g.row.PAGE d.honest d.failures d.held c.args.key.now a.moment answer old new =
     record {
-      live = c.get-seen.ensures.live;
-      deeds = c.get-seen.ensures.deeds;
-      counts = ap (λ (n : GetCounts). record counts { gets = n }) (c.answered.ensures c.get-seen.new.found);
+      live = c.get_into-seen.ensures.live;
+      deeds = c.get_into-seen.ensures.deeds;
+      counts = ap (λ (n : GetCounts). record counts { gets = n }) (c.answered.ensures c.get_into-seen.new.found);
       slots = refl;
-      gets = c.get-seen.ensures.gets;
+      gets = c.get_into-seen.ensures.gets;
     } in
-    subst (λ (s : Serving g.row.D.Denot). Gets g.row.PAGE d.honest d.failures d.held a.key.now a.moment answer s new) c.self.view_is
-    (subst (λ (k : List ℕ). Gets g.row.PAGE d.honest d.failures d.held k a.moment answer old new) c.in_ok-key.ensures.ok got)
+    subst (λ (s : Serving g.row.D.Denot). Gets g.row.PAGE d.honest d.failures d.held a.key.now a.moment answer s new) c.self.view_is got

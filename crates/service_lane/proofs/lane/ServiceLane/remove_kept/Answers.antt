@@ -1,7 +1,7 @@
 -- The lane after a removal.
-use Rattle.std.proofs.Common.{◌∙◌, refl, ap, length}
+use Rattle.std.proofs.Common.{◌∙◌, refl, ap}
 use Rattle.trace_file.specs.declared.act.Act.TheVariants.{Remove}
-use Rattle.service_lane.specs.Leases.{slot_of, with_write_in}
+use Rattle.service_lane.specs.Leases.{with_write_in}
 use Rattle.service_lane.proofs.Writing.{counted_write}
 use Rattle.service_lane.proofs.lane.ServiceLane.remove_kept.Goals as goal
 
@@ -9,4 +9,4 @@ pub invariant_of-self : goal.invariant_of-self
 invariant_of-self g c =
     let slots = c.self.inside.slots in
     counted_write c.self.inside.asked.deeds c.remove.new.self.deeds (record { key = c.args.key.now; act = Remove }) slots c.wrote_in.new.self c.remove.ensures.deeds refl
-    (c.wrote_in.ensures ∙ ap (with_write_in slots) (c.slot-slot.ensures.slot ∙ ap (slot_of (length slots)) c.bytes.ensures)) c.self.invariant
+    (c.wrote_in.ensures ∙ ap (with_write_in slots) c.slot-slot.ensures.slot) c.self.invariant

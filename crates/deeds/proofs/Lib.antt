@@ -1,0 +1,3 @@
+pub mod Sounding
+pub mod Remembering
+pub mod Serves

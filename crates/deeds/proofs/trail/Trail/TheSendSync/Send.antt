@@ -1,0 +1,6 @@
+-- A trail owns nothing, so it may go to any thread.
+use denote.Param.Send.{IsSend}
+use Rattle.deeds.specs.contracts.trail.Trail.{the_row}
+
+pub send : IsSend the_row
+send = record { owned = λ d vs. ((λ vss. (tt, ((λ uss. (tt, tt)), tt))), tt); leaving = λ k f vs. tt }

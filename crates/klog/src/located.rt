@@ -1,0 +1,17 @@
+// What a search for a key in the log finds.
+use klog_index::Entry;
+
+/// What a search for a key in the log finds at a moment.
+#[derive(Clone, Copy, Debug, PartialEq, Eq)]
+pub enum Located {
+    /// The newest live record with the key is this entry's. It has not expired, and its value is in the buffer.
+    Hit(Entry),
+    /// The newest live record with the key has expired.
+    Expired,
+    /// No live record has the key.
+    Absent,
+    /// The device failed.
+    Fault,
+    /// A page that was read is not the log's, or the record there is not the entry's.
+    Damaged,
+}

@@ -1,0 +1,17 @@
+// Where a set has a key.
+
+/// What a look-up of a key in a set finds, whose value goes into room of the caller's.
+#[derive(Clone, Copy, Debug, PartialEq, Eq)]
+pub enum Located {
+    /// The first visible record with the key lies in this slot of the set's page. It is live at the moment, and its
+    /// value is in the buffer.
+    Hit { slot: usize },
+    /// The first visible record with the key has expired.
+    Expired,
+    /// No visible record has the key.
+    Absent,
+    /// The device failed.
+    Fault,
+    /// What was read is not the set's page.
+    Damaged,
+}

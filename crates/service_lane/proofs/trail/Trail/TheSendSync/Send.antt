@@ -1,6 +1,0 @@
--- A trail owns nothing, so it may go to any thread.
-use denote.Param.Send.{IsSend}
-use Rattle.service_lane.specs.contracts.trail.Trail.{the_row}
-
-pub send : IsSend the_row
-send = record { owned = λ d vs. ((λ vss. (tt, ((λ uss. (tt, tt)), tt))), tt); leaving = λ k f vs. tt }
