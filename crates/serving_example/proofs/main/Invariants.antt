@@ -4,4 +4,4 @@ use Rattle.serving_example.proofs.main.Given as goal
 
 -- the lanes of keys by the seed that was drawn
 abbrev pub ghosts-made_over : goal.ghosts-made_over
-ghosts-made_over a = record { lanes = length a.devices.items; lane_of = λ key. lane_by a.seed (length a.devices.items) key }
+ghosts-made_over g a = record { lanes = length a.devices.items; lane_of = λ key. lane_by a.seed (length a.devices.items) key }
