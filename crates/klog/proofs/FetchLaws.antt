@@ -1,6 +1,7 @@
 -- What reading the record of an entry gives.
-use Rattle.std.proofs.Common.{◌≡◌, ◌≢◌, ℕ, ◌<◌, true, false, eqb, ◌&&◌, List, Option, Some, None, Contains, sym, ap, subst, ◌∙◌}
+use Rattle.std.proofs.Common.{◌≡◌, ◌≢◌, ℕ, ◌<◌, Bool, true, false, eqb, ◌&&◌, ◌||◌, List, Option, Some, None, Contains, sym, ap, subst, ◌∙◌}
 use Rattle.std.specs.Prelude.{IsSome}
+use Rattle.std.proofs.lemmas.Bool.{eq-eqb, ne_eqb}
 use Rattle.std.proofs.lemmas.List.Elements.{All-contains}
 use Rattle.page_device.specs.Device.{IsKnown}
 use Rattle.page_device.specs.Frames.{pages_from}
@@ -12,7 +13,7 @@ use Rattle.klog.specs.Log.{Shape, LogState}
 use Rattle.klog.specs.Buffer.{record_in}
 use Rattle.klog.specs.Names.{segment_of, flushed_number, filled_number, device_page}
 use Rattle.klog.specs.Shown.{record_on, record_of_held, shown_on}
-use Rattle.klog.specs.Known.{IsPageKnown}
+use Rattle.klog.specs.Known.{IsBufferOf, IsPageKnown}
 use Rattle.klog.specs.Keeps.{IsHeld, IsLog}
 use Rattle.klog.specs.Fetch.{stored_on, FetchGives}
 use Rattle.klog.proofs.ShownLaws.{shown_filled, shown_flushed, shown_stored}
@@ -37,20 +38,25 @@ stored_gives bytes held k e number at text found f some number_is at_is known fo
     (subst (λ (n : ℕ). IsKnown (held n) text) at_is known) some
     (subst (λ (o : Option Rec). FetchGives bytes k.shape e o f) (found_is ∙ ap (λ (n : ℕ). record_on n e.place.page e.place.slot (log_page_at text)) number_is) h)
 
--- the same of a record in the segment that is filled
-pub filled_gives : (bytes : ℕ) (held : ℕ → Option (List ℕ)) (v k : LogState) (e : Entry) (found : Option Rec) (f : Fetched) → v ≡ k → segment_of k e ≡ filled_number k
-    → found ≡ record_in v.filling e.place.page e.place.slot → FetchGives bytes k.shape e found f → FetchGives bytes k.shape e (shown_on held k e) f
-filled_gives bytes held v k e found f is at found_is h =
-    subst (λ (o : Option Rec). FetchGives bytes k.shape e o f)
-    (found_is ∙ ap (λ (k : LogState). record_in k.filling e.place.page e.place.slot) is ∙ sym (shown_filled (pages_from k.shape.sets held) k e at)) h
+-- what a buffer has of an entry is what the log shows of it
+pub buffered_gives : (bytes : ℕ) (held : ℕ → Option (List ℕ)) (pages : List (List Rec)) (k : LogState) (e : Entry) (found : Option Rec) (f : Fetched) → IsBufferOf pages k e
+    → found ≡ record_in pages e.place.page e.place.slot → FetchGives bytes k.shape e found f → FetchGives bytes k.shape e (shown_on held k e) f
+buffered_gives bytes held pages k e found f its found_is h = subst (λ (o : Option Rec). FetchGives bytes k.shape e o f) (found_is ∙ its.shows held) h
 
--- the same of a record in the segment that is flushed
-pub flushed_gives : (bytes : ℕ) (held : ℕ → Option (List ℕ)) (v k : LogState) (e : Entry) (found : Option Rec) (f : Fetched) → v ≡ k → segment_of k e ≢ filled_number k
-    → k.is_flushing ≡ true → segment_of k e ≡ flushed_number k
-    → found ≡ record_in v.flushing e.place.page e.place.slot → FetchGives bytes k.shape e found f → FetchGives bytes k.shape e (shown_on held k e) f
-flushed_gives bytes held v k e found f is not_filled flushing at found_is h =
-    subst (λ (o : Option Rec). FetchGives bytes k.shape e o f)
-    (found_is ∙ ap (λ (k : LogState). record_in k.flushing e.place.page e.place.slot) is ∙ sym (shown_flushed (pages_from k.shape.sets held) k e not_filled flushing at)) h
+-- the segment that is filled is the buffer of its entries
+pub filled_buffer : (v k : LogState) (e : Entry) → v ≡ k → segment_of k e ≡ filled_number k → IsBufferOf v.filling k e
+filled_buffer v k e is at = record {
+  held = ap (λ (b : Bool). b || (k.is_flushing && eqb (segment_of k e) (flushed_number k))) (eq-eqb (segment_of k e) (filled_number k) at);
+  shows = λ held. ap (λ (k : LogState). record_in k.filling e.place.page e.place.slot) is ∙ sym (shown_filled (pages_from k.shape.sets held) k e at);
+}
+
+-- and the segment that is flushed of its own
+pub flushed_buffer : (v k : LogState) (e : Entry) → v ≡ k → segment_of k e ≢ filled_number k → k.is_flushing ≡ true → segment_of k e ≡ flushed_number k → IsBufferOf v.flushing k e
+flushed_buffer v k e is not_filled flushing at = record {
+  held = ap (λ (b : Bool). b || (k.is_flushing && eqb (segment_of k e) (flushed_number k))) (ne_eqb (segment_of k e) (filled_number k) not_filled)
+      ∙ ap (λ (b : Bool). b && eqb (segment_of k e) (flushed_number k)) flushing ∙ eq-eqb (segment_of k e) (flushed_number k) at;
+  shows = λ held. ap (λ (k : LogState). record_in k.flushing e.place.page e.place.slot) is ∙ sym (shown_flushed (pages_from k.shape.sets held) k e not_filled flushing at);
+}
 
 -- an entry whose segment is on the device
 pub record IsStored (k : LogState) (e : Entry) : Type 0 where

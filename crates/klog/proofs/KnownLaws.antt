@@ -12,7 +12,7 @@ use Rattle.klog.specs.Log.{LogState}
 use Rattle.klog.specs.Names.{segment_of, flushed_number, filled_number}
 use Rattle.klog.specs.Shown.{record_on, record_of_held, shown_on, CanStandFor, IsLiveOn}
 use Rattle.klog.specs.Known.{AreHeldBy, is_buffered, IsPageKnown, IsHad, ShowsIfHad}
-use Rattle.klog.specs.Fetch.{is_fetch_fault, FetchGives}
+use Rattle.klog.specs.Fetch.{is_fetch_fault, stored_on, FetchGives}
 use Rattle.klog.proofs.FetchLaws.{IsStored, stored_shows}
 
 -- an entry whose segment is on the device is in no buffer
@@ -33,6 +33,13 @@ apart_stored k e apart =
 -- its page is known where what lies there is
 pub page_known : (held : ℕ → Option (List ℕ)) (k : LogState) (e : Entry) → IsStored k e → IsHad held k e → IsPageKnown held k e
 page_known held k e stored had = OnFalse_at (stored_apart k e stored) had
+
+-- What is read of the page of an entry that is in no buffer is what the log shows of it, if that is known.
+pub apart_gives : (bytes : ℕ) (held : ℕ → Option (List ℕ)) (k : LogState) (e : Entry) (f : Fetched) → is_buffered k e ≡ false
+    → (IsPageKnown held k e → FetchGives bytes k.shape e (stored_on held k e) f) → IsHad held k e → FetchGives bytes k.shape e (shown_on held k e) f
+apart_gives bytes held k e f apart gives had =
+    let stored = apart_stored k e apart in
+    subst (λ (o : Option Rec). FetchGives bytes k.shape e o f) (sym (stored_shows held k e stored)) (gives (page_known held k e stored had))
 
 had_there : (held : ℕ → Option (List ℕ)) (k : LogState) (e : Entry) → (IsStored k e → IsPageKnown held k e) → IsHad held k e
 had_there held k e known = OnFalse_from (is_buffered k e) (IsPageKnown held k e) (λ apart. known (apart_stored k e apart))

@@ -4,12 +4,18 @@ use Rattle.std.specs.Bool.{OnFalse}
 use Rattle.record_pages.specs.Recs.{Rec}
 use Rattle.klog_index.specs.declared.entry.Entry.{Entry}
 use Rattle.klog.specs.Log.{LogState}
+use Rattle.klog.specs.Buffer.{record_in}
 use Rattle.klog.specs.Names.{segment_of, flushed_number, filled_number, device_page}
 use Rattle.klog.specs.Shown.{shown_on, CanStandFor}
 
 -- the entry's record lies in one of the two buffers
 abbrev pub is_buffered : LogState → Entry → Bool
 is_buffered k e = segment_of k e == filled_number k || k.is_flushing && segment_of k e == flushed_number k
+
+-- the entry's record lies in the buffer of these pages, which then has what the log shows of it
+pub record IsBufferOf (pages : List (List Rec)) (k : LogState) (e : Entry) : Type 0 where
+  pub held : IsTrue (is_buffered k e)
+  pub shows : (held : ℕ → Option (List ℕ)) → record_in pages e.place.page e.place.slot ≡ shown_on held k e
 
 -- the records of all these entries lie in the two buffers
 abbrev pub AreBuffered : LogState → List Entry → Type 0

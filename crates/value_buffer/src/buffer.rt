@@ -1,25 +1,24 @@
 // Room for a value.
-ghost use Rattle.std.specs.Prelude.{◌≡◌, [], length, take};
+ghost use Rattle.std.specs.Prelude.{◌≡◌, []};
 ghost use Rattle.record_pages.specs.Bounded.{IsValue};
 
 use record_pages::Value;
 use std::marker::Model;
 
-/// Room for the bytes of a value, at most `Value::MAX_LEN` of them, which lie in the buffer itself. The room is zeroed
-/// once, when the first bytes are set.
+/// Room for the bytes of a value, at most `Value::MAX_LEN` of them, which lie in the buffer itself. They are zeroed when
+/// it is made, so whoever looks up many values keeps one.
 #[derive(Drop)]
 pub struct ValueBuffer {
-    room: Option<[u8; Value::MAX_LEN]>,
+    bytes: [u8; Value::MAX_LEN],
     len: usize,
 }
 
 impl Model for ValueBuffer {
-    ghost use Rattle.std.specs.Prelude.{◌≤◌, ℕ, List, [], take};
-    ghost use Rattle.std.specs.Option.{option_map_or};
+    ghost use Rattle.std.specs.Prelude.{◌≤◌, ℕ, List, take};
 
     ghost Value = { List ℕ };
 
-    ghost view = { λ b. option_map_or (take b.len) b.room [] };
+    ghost view = { λ b. take b.len b.bytes };
 
     ghost invariant = { λ b. b.len ≤ 2048 };
 }
@@ -29,7 +28,10 @@ impl ValueBuffer {
     pub fn empty() -> ValueBuffer
         ensures { result ≡ [] }
     {
-        ValueBuffer { room: None, len: 0 }
+        ValueBuffer {
+            bytes: [0; Value::MAX_LEN],
+            len: 0,
+        }
     }
 
     /// The bytes that it holds, in order.
@@ -37,10 +39,7 @@ impl ValueBuffer {
         ensures value { result.now ≡ self.now }
         ensures range { IsValue self.now }
     {
-        match &self.room {
-            Some(room) => &room[..self.len],
-            None => &[],
-        }
+        &self.bytes[..self.len]
     }
 
     /// Holds a copy of these bytes, in place of those that it held. It takes no memory.
@@ -48,15 +47,8 @@ impl ValueBuffer {
         requires { IsValue bytes.now }
         ensures { self.new ≡ bytes.now }
     {
-        fill(self.room.get_or_insert_with(|| [0; Value::MAX_LEN]), bytes);
-        self.len = bytes.len();
+        let len = bytes.len();
+        self.bytes[..len].copy_from_slice(bytes);
+        self.len = len;
     }
-}
-
-// Copies these bytes to the start of the room.
-fn fill(room: &mut [u8; Value::MAX_LEN], bytes: &[u8])
-    requires { IsValue bytes.now }
-    ensures { take (length bytes.now) room.new ≡ bytes.now }
-{
-    room[..bytes.len()].copy_from_slice(bytes);
 }

@@ -1,5 +1,5 @@
 // Reading the record of an entry.
-ghost use Rattle.std.specs.Prelude.{◌≡◌, ◌↔◌, ℕ, List, Option, IfSome, IsTrue, Contains, false};
+ghost use Rattle.std.specs.Prelude.{◌≡◌, ◌↔◌, ℕ, List, Option, IfSome, IfNone, IsTrue, Contains, false};
 ghost use Rattle.std.specs.Option.{option_map};
 ghost use Rattle.page_device.specs.Lending.{OnlyReads};
 ghost use Rattle.record_pages.specs.Sizes.{IsPageSize};
@@ -9,7 +9,7 @@ ghost use Rattle.record_pages.specs.Reading.{log_page_at};
 ghost use Rattle.klog.specs.Buffer.{record_in};
 ghost use Rattle.klog.specs.Names.{HasRoom};
 ghost use Rattle.klog.specs.Shown.{shown_on, record_on};
-ghost use Rattle.klog.specs.Known.{AreHeldBy, is_buffered, IsPageKnown, IsHad};
+ghost use Rattle.klog.specs.Known.{AreHeldBy, is_buffered, IsBufferOf, IsPageKnown, IsHad};
 ghost use Rattle.klog.specs.Fetch.{IsPlaceOf, is_fetch_fault, IsItsOwn, stored_on, FetchGives};
 
 use super::KLog;
@@ -21,13 +21,12 @@ use record_pages::{LogPage, PAGE_OVERHEAD, RecordRef};
 use set_hash::place;
 
 impl<const PAGE: usize> KLog<PAGE> {
-    // The record of an entry: out of a buffer, or off its page, which is read into these bytes. They are made where one
-    // is read.
+    // The record of an entry: out of a buffer, or off its page, which is read into these bytes.
     pub(super) fn fetch<'a, D: PageDevice<PAGE>>(
         &'a self,
         device: &mut D,
         entry: &Entry,
-        bytes: &'a mut Option<[u8; PAGE]>,
+        bytes: &'a mut [u8; PAGE],
         asked: Option<&[u8]>,
     ) -> Fetched<'a>
         requires page_size { IsPageSize PAGE }
@@ -42,15 +41,44 @@ impl<const PAGE: usize> KLog<PAGE> {
             IsHad known self.entry.now entry.now → FetchGives PAGE self.entry.now.shape entry.now
             (shown_on known self.entry.now entry.now) result }
     {
+        match self.buffer_of(entry) {
+            Some(buffer) => self.fetch_buffered(buffer, entry, asked),
+            None => self.fetch_stored(device, entry, bytes, asked),
+        }
+    }
+
+    // The buffer that holds the segment of an entry, if one does.
+    pub(super) fn buffer_of(&self, entry: &Entry) -> Option<&SegmentBuffer<PAGE>>
+        requires { Contains self.now.entries entry.now }
+        ensures some { IfSome result (λ buffer. IsBufferOf buffer.now.pages self.now entry.now) }
+        ensures none { IfNone result (is_buffered self.now entry.now ≡ false) }
+    {
         let number = self.number_of(entry.place.segment);
         if number == self.filled_number() {
-            return self.checked(entry, record_in(&self.filling, entry), asked);
+            return Some(&self.filling);
         }
         if self.is_flushing && number == self.flushed_number() {
-            return self.checked(entry, record_in(&self.flushing, entry), asked);
+            return Some(&self.flushing);
         }
-        let page = bytes.get_or_insert_with(|| [0u8; PAGE]);
-        self.fetch_stored(device, entry, page, asked)
+        None
+    }
+
+    // The record of an entry out of the buffer that holds its segment.
+    pub(super) fn fetch_buffered<'a>(
+        &self,
+        buffer: &'a SegmentBuffer<PAGE>,
+        entry: &Entry,
+        asked: Option<&[u8]>,
+    ) -> Fetched<'a>
+        requires page_size { IsPageSize PAGE }
+        requires buffer { IsBufferOf buffer.now.pages self.now entry.now }
+        requires asked { IfSome asked (λ key. IsPlaceOf self.now.shape key.now entry.now) }
+        ensures no_fault { is_fetch_fault result ≡ false }
+        ensures its { IsItsOwn PAGE self.now.shape entry.now result }
+        ensures gives { (known : ℕ → Option (List ℕ)) → FetchGives PAGE self.now.shape entry.now
+            (shown_on known self.now entry.now) result }
+    {
+        self.checked(entry, record_in(buffer, entry), asked)
     }
 
     // The record of an entry whose segment is on the device, off its page, which is read into these bytes.

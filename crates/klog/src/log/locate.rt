@@ -5,9 +5,9 @@ ghost use Rattle.std.specs.Iterator.{YieldsFirst};
 ghost use Rattle.page_device.specs.Lending.{OnlyReads};
 ghost use Rattle.record_pages.specs.Sizes.{IsPageSize};
 ghost use Rattle.klog.specs.Names.{HasRoom};
-ghost use Rattle.klog.specs.Shown.{place_in};
-ghost use Rattle.klog.specs.Known.{AreHeldBy, is_buffered};
-ghost use Rattle.klog.specs.Fetch.{IsPlaceOf};
+ghost use Rattle.klog.specs.Shown.{place_in, shown_on};
+ghost use Rattle.klog.specs.Known.{AreHeldBy, is_buffered, IsHad};
+ghost use Rattle.klog.specs.Fetch.{is_fetch_fault, FetchGives, IsItsOwn, IsPlaceOf};
 ghost use Rattle.klog.specs.Find.{with_tag, is_told_fault, is_told_hit, TellsKey};
 ghost use Rattle.klog.specs.Locate.{LogLocates};
 
@@ -39,13 +39,12 @@ impl<const PAGE: usize> KLog<PAGE> {
         ensures { LogLocates PAGE D.page_count D.honest D.failures D.held placed.now key.now moment
             self.now device.old found.old result device.new found.new }
     {
-        let mut bytes = None;
         let mut entries = self.index.entries_of(placed.set);
         for _ in 0..self.index.len() {
             let Some(entry) = next_with_tag(&mut entries, placed.tag) else {
                 return Located::Absent;
             };
-            match self.ask(device, &entry, key, moment, &mut bytes, found) {
+            match self.ask(device, &entry, key, moment, found) {
                 Told::Other => {}
                 Told::Hit => return Located::Hit(entry),
                 Told::Expired => return Located::Expired,
@@ -56,15 +55,14 @@ impl<const PAGE: usize> KLog<PAGE> {
         Located::Absent
     }
 
-    // What the record of an entry says of a key. A page that is read is read into these bytes, and a live value of the
-    // key goes into the buffer.
+    // What the record of an entry says of a key. A live value of the key goes into the buffer. Bytes for a page are made
+    // if one is read.
     fn ask<D: PageDevice<PAGE>>(
         &self,
         device: &mut D,
         entry: &Entry,
         key: &[u8],
         moment: u64,
-        bytes: &mut Option<[u8; PAGE]>,
         found: &mut ValueBuffer,
     ) -> Told
         requires page_size { IsPageSize PAGE }
@@ -78,7 +76,37 @@ impl<const PAGE: usize> KLog<PAGE> {
         ensures tells { (known : ℕ → Option (List ℕ)) → AreHeldBy D.honest D.held device.old known →
             TellsKey PAGE known self.now entry.now key.now moment found.new result }
     {
-        match self.fetch(device, entry, bytes, Some(key)) {
+        match self.buffer_of(entry) {
+            Some(buffer) => {
+                let fetched = self.fetch_buffered(buffer, entry, Some(key));
+                self.tell(entry, fetched, key, moment, found)
+            }
+            None => {
+                let mut bytes = [0u8; PAGE];
+                let fetched = self.fetch_stored(device, entry, &mut bytes, Some(key));
+                self.tell(entry, fetched, key, moment, found)
+            }
+        }
+    }
+
+    // What this reading of an entry's record says of a key.
+    fn tell(
+        &self,
+        entry: &Entry,
+        fetched: Fetched<'_>,
+        key: &[u8],
+        moment: u64,
+        found: &mut ValueBuffer,
+    ) -> Told
+        requires { IsItsOwn PAGE self.now.shape entry.now fetched }
+        ensures fault { is_told_fault result ≡ is_fetch_fault fetched.entry }
+        ensures stays { OnFalse (is_told_hit result) (found.new ≡ found.old) }
+        ensures tells { (known : ℕ → Option (List ℕ)) →
+            (IsHad known self.now entry.now → FetchGives PAGE self.now.shape entry.now
+            (shown_on known self.now entry.now) fetched.entry) →
+            TellsKey PAGE known self.now entry.now key.now moment found.new result }
+    {
+        match fetched {
             Fetched::Fault => Told::Fault,
             Fetched::Damaged => Told::Damaged,
             Fetched::Record(record) => {

@@ -169,7 +169,7 @@ impl<const PAGE: usize> KLog<PAGE> {
     {
         let mut records = TakenRecords::new(alloc);
         let mut entries = self.index.entries_of(set);
-        let mut bytes = None;
+        let mut bytes = [0u8; PAGE];
         for _ in 0..MAX_TAKEN {
             let Some(entry) = entries.next() else {
                 return Ok(Gathered::Records(records));
@@ -188,7 +188,7 @@ impl<const PAGE: usize> KLog<PAGE> {
         alloc: Global,
         device: &mut D,
         entry: &Entry,
-        bytes: &mut Option<[u8; PAGE]>,
+        bytes: &mut [u8; PAGE],
     ) -> Result<Option<TakenRecord>, AllocError>
         requires page_size { IsPageSize PAGE }
         requires room { HasRoom (D.page_count device.old) self.now }

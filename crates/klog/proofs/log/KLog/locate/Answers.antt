@@ -17,7 +17,7 @@ ask-requires g c =
     let k = c.args.self.now in
     let room : HasRoom (g.D.PageDevice.page_count c.loop.device) k = search rules in
     let at = turn_at k c.args.placed.now.set c.args.placed.now.tag c.loop.counter c.in-Some.entry _ _ c.loop.invariant.rest c.in-Some.ensures in
-    (omega arith, (omega (arith, c.requires.page_size.1), (c.requires.page_size, (room, (turn_listed k c.args.placed.now.set c.args.placed.now.tag c.loop.counter c.in-Some.entry at, turn_its k c.args.key.now c.args.placed.now c.loop.counter c.in-Some.entry c.requires.place at)))))
+    (omega arith, (c.requires.page_size, (room, (turn_listed k c.args.placed.now.set c.args.placed.now.tag c.loop.counter c.in-Some.entry at, turn_its k c.args.key.now c.args.placed.now c.loop.counter c.in-Some.entry c.requires.place at))))
 
 pub returns-in_default : goal.returns-in_default
 returns-in_default g c =
