@@ -20,14 +20,14 @@ use Rattle.kset.specs.declared.located.Located.TheVariants as set
 use Rattle.kset.specs.Locate.{SetLocates, sets_after, is_hit as is_set_hit, looked_of as set_looked_of, IsSlot}
 use Rattle.kset.specs.Notes.{lets_show}
 use Rattle.kset.specs.Pages.{AreSpelledOn}
-use Rattle.kset.specs.Sets.{notes_of, set_count}
+use Rattle.kset.specs.Sets.{notes_of}
 use Rattle.mover.specs.declared.located.Located.{Located}
 use Rattle.mover.specs.declared.located.Located.TheVariants as at
 use Rattle.mover.specs.Calls.{StoreGets}
 use Rattle.mover.specs.Get.{NeedsSetPage, answer_of_log, answer_of_set, is_fault}
 use Rattle.mover.specs.Lane.{lane_of}
 use Rattle.mover.specs.Store.{StoreState, OnlyReads}
-use Rattle.mover.specs.Touch.{answer_at, has_value, touched, in_set, CanTouch, LooksInLog, LooksInSet, LooksBelow}
+use Rattle.mover.specs.Touch.{answer_at, has_value, touched, in_set, IsOfSets, LooksInLog, LooksInSet, LooksBelow}
 use Rattle.mover.proofs.Getting.{log_told, log_leaves, record_told, set_told, set_leaves, set_faulty, asked_page_at, asks_log, asks_set, leaves_after, log_absent_gives, reads_after, get_below}
 use Rattle.mover.proofs.Telling.{log_faulty, ended_leaves, ended_in_buffers, ended_gives, not_in_buffers}
 
@@ -48,12 +48,12 @@ in_set_touched key n set.Fault s = refl
 in_set_touched key n set.Damaged s = refl
 
 -- it can be touched
-pub in_set_can : {D : Type 0} (n : ℕ) (l : SetLocated) (s : StoreState D) → IsSlot l → n < set_count s.sets → CanTouch (in_set n l) s
-in_set_can n (set.Hit slot) s is within = (within, is)
-in_set_can n set.Expired s is within = tt
-in_set_can n set.Absent s is within = tt
-in_set_can n set.Fault s is within = tt
-in_set_can n set.Damaged s is within = tt
+pub in_set_can : (n : ℕ) (l : SetLocated) (sets : ℕ) → IsSlot l → n < sets → IsOfSets (in_set n l) sets
+in_set_can n (set.Hit slot) sets is within = (within, is)
+in_set_can n set.Expired sets is within = tt
+in_set_can n set.Absent sets is within = tt
+in_set_can n set.Fault sets is within = tt
+in_set_can n set.Damaged sets is within = tt
 
 -- the buffer stays if no value is located
 pub in_set_stays : (n : ℕ) (l : SetLocated) (same : Type 0) → OnFalse (is_set_hit l) same → OnFalse (has_value (in_set n l)) same
@@ -160,7 +160,3 @@ module _ {D : Type 0} (size : ℕ) (honest : D → Bool) (failures : D → ℕ) 
       calm (at.Log e) has reads = record { layout = reads.layout; honesty = reads.honesty; failed_once = reads.failed_once; same = reads.same }
       calm (at.Set set slot) has reads = record { layout = reads.layout; honesty = reads.honesty; failed_once = reads.failed_once; same = reads.same }
       calm (at.Miss cause) has reads = absurd cc
-
--- what changes nothing but the device twice does so once
-pub unchanged_twice : {D : Type 0} (old mid new : StoreState D) → mid ≡ record old { device = mid.device } → new ≡ record mid { device = new.device } → new ≡ record old { device = new.device }
-unchanged_twice old mid new first next = next ∙ ap (λ (x : StoreState _). record x { device = new.device }) first

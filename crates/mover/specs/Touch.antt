@@ -11,15 +11,14 @@ use Rattle.set_hash.specs.declared.placed.Placed.{Placed}
 use Rattle.memory_cache.specs.MemoryList.{after_get}
 use Rattle.klog_index.specs.declared.entry.Entry.{Entry}
 use Rattle.klog_index.specs.Entries.{of_tag}
-use Rattle.klog.specs.declared.located.Located.{Located as LogLocated}
 use Rattle.klog.specs.Known.{AreBuffered}
-use Rattle.klog.specs.Locate.{log_after}
+use Rattle.klog.specs.Log.{LogState}
 use Rattle.klog.specs.Look.{lowered_in, is_log_fault, IsInBuffers}
 use Rattle.klog.specs.Shown.{place_in}
 use Rattle.kset.specs.declared.located.Located.{Located as SetLocated}
 use Rattle.kset.specs.declared.located.Located.TheVariants as set
 use Rattle.kset.specs.Notes.{lets_show}
-use Rattle.kset.specs.Sets.{notes_of, hit_in, set_count}
+use Rattle.kset.specs.Sets.{SetsState, notes_of, hit_in, set_count}
 use Rattle.record_pages.specs.declared.miss_cause.MissCause.TheVariants.{Absent, Expired, Fault, Damaged}
 use Rattle.mover.specs.declared.located.Located.{Located}
 use Rattle.mover.specs.declared.located.Located.TheVariants as at
@@ -49,12 +48,20 @@ touched key (at.Log e) s = record s { log = lowered_in s.log e.set e.place }
 touched key (at.Set set slot) s = record s { sets = hit_in s.sets set slot }
 touched key (at.Miss cause) s = s
 
--- what is located can be touched: a slot is one that a page can have, of one of the sets
+-- what is located is the slot of a page, if it is on one, and of one of this many sets
+abbrev pub IsOfSets : Located → ℕ → Type 0
+IsOfSets at.Memory sets = Unit {0}
+IsOfSets (at.Log e) sets = Unit {0}
+IsOfSets (at.Set set slot) sets = (set < sets) × (slot < max_set_records)
+IsOfSets (at.Miss cause) sets = Unit {0}
+
+-- what is located can be touched
 abbrev pub CanTouch : {D : Type 0} → Located → StoreState D → Type 0
-CanTouch at.Memory s = Unit {0}
-CanTouch (at.Log e) s = Unit {0}
-CanTouch (at.Set set slot) s = (set < set_count s.sets) × (slot < max_set_records)
-CanTouch (at.Miss cause) s = Unit {0}
+CanTouch l s = IsOfSets l (set_count s.sets)
+
+-- the store with this device, this log and these sets
+abbrev pub with_flash : {D : Type 0} → StoreState D → D → LogState → SetsState → StoreState D
+with_flash s device log sets = record s { device = device; log = log; sets = sets }
 
 -- where a store has a key, by what the set of this number locates
 abbrev pub in_set : ℕ → SetLocated → Located
@@ -63,10 +70,6 @@ in_set n set.Expired = at.Miss Expired
 in_set n set.Absent = at.Miss Absent
 in_set n set.Fault = at.Miss Fault
 in_set n set.Damaged = at.Miss Damaged
-
--- the store after a touch of what its log locates
-abbrev pub log_touched : {D : Type 0} → LogLocated → StoreState D → StoreState D
-log_touched located s = record s { log = log_after located s.log }
 
 -- A look into the log, by what it tells and the store after the touch. On any device no page is written; where the device is
 -- honest, what is told is of the lane's live records.

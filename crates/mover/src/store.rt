@@ -13,6 +13,7 @@ use page_device::PageDevice;
 use record_pages::{Config, Layout};
 use std::alloc::{AllocError, Global};
 use std::marker::Model;
+use value_buffer::ValueBuffer;
 
 mod abort;
 mod begin;
@@ -37,6 +38,8 @@ pub struct Store<D: PageDevice<PAGE>, const PAGE: usize> {
     sets: KSet<PAGE>,
     flights: Flights,
     moves: u64,
+    // for the value of a get below memory, until it is copied out
+    found: ValueBuffer,
 }
 
 impl<D: PageDevice<PAGE>, const PAGE: usize> Model for Store<D, PAGE> {
@@ -137,6 +140,7 @@ impl<D: PageDevice<PAGE>, const PAGE: usize> Store<D, PAGE> {
             sets,
             flights,
             moves: 0,
+            found: ValueBuffer::empty(),
         })
     }
 

@@ -10,6 +10,7 @@ ghost use Rattle.mover.specs.Recall.{value_of};
 ghost use Rattle.mover.specs.Touch.{answer_at, has_value, touched, CanTouch};
 
 use super::Store;
+use super::locate::locate_below;
 use crate::located::Located;
 use crate::recalled::Recalled;
 use crate::seen::Seen;
@@ -77,7 +78,11 @@ impl<D: PageDevice<PAGE>, const PAGE: usize> Store<D, PAGE> {
                 Located::Memory
             }
             Recalled::Expired => Located::Miss(MissCause::Expired),
-            Recalled::Absent => self.locate_below(key, moment, found),
+            Recalled::Absent => {
+                let placed = self.place_bytes(key);
+                let device = &mut self.device;
+                locate_below(&self.log, &self.sets, device, &placed, key, moment, found)
+            }
         }
     }
 
@@ -99,9 +104,18 @@ impl<D: PageDevice<PAGE>, const PAGE: usize> Store<D, PAGE> {
         requires { value_in key.now self.old.memory.pairs ≡ None }
         ensures { StoreGets PAGE D.honest D.failures D.held key.now moment self.old result self.new }
     {
-        let mut found = ValueBuffer::empty();
-        let at = self.locate_below(key, moment, &mut found);
-        match at.answer(self.alloc, &found) {
+        let placed = self.place_bytes(key);
+        let found = &mut self.found;
+        let at = locate_below(
+            &self.log,
+            &self.sets,
+            &mut self.device,
+            &placed,
+            key,
+            moment,
+            found,
+        );
+        match at.answer(self.alloc, &self.found) {
             Ok(answer) => {
                 self.touch(key, &at);
                 Ok(answer)

@@ -1,80 +1,56 @@
 // Looking a key up in the tiers on flash, which changes nothing there.
-ghost use Rattle.std.specs.Prelude.{◌≡◌};
+ghost use Rattle.std.specs.Prelude.{◌≡◌, ◌≤◌, IsTrue};
 ghost use Rattle.std.specs.Bool.{OnFalse};
-ghost use Rattle.klog.specs.Locate.{looked_of as log_looked_of, is_hit as is_log_hit};
+ghost use Rattle.record_pages.specs.Sizes.{IsPageSize};
+ghost use Rattle.klog.specs.Names.{HasRoom};
 ghost use Rattle.klog.specs.Shown.{place_in};
-ghost use Rattle.kset.specs.Sets.{IsPlaceIn};
-ghost use Rattle.mover.specs.Touch.{answer_at, has_value, touched, log_touched, in_set, CanTouch, LooksBelow, LooksInLog, LooksInSet};
+ghost use Rattle.kset.specs.Sets.{IsPlaceIn, set_count};
+ghost use Rattle.mover.specs.Store.{IsStore, StoreState};
+ghost use Rattle.mover.specs.Touch.{answer_at, has_value, touched, in_set, IsOfSets, LooksBelow, with_flash};
 
-use super::Store;
 use crate::located::Located;
+use klog::KLog;
+use kset::KSet;
 use page_device::PageDevice;
 use record_pages::MissCause;
 use set_hash::Placed;
 use value_buffer::ValueBuffer;
 
-impl<D: PageDevice<PAGE>, const PAGE: usize> Store<D, PAGE> {
-    // Where a key is found below memory. Its value goes into the buffer. Nothing changes but the device.
-    pub(super) fn locate_below(
-        &mut self,
-        key: &[u8],
-        moment: u64,
-        found: &mut ValueBuffer,
-    ) -> Located
-        ensures looks { LooksBelow PAGE D.honest D.failures D.held key.now moment self.old
-            (answer_at result found.new) (touched key.now result self.new) }
-        ensures unchanged { self.new ≡ record self.old { device = self.new.device } }
-        ensures can { CanTouch result self.new }
-        ensures stays { OnFalse (has_value result) (found.new ≡ found.old) }
-    {
-        let placed = self.place_bytes(key);
-        match self.locate_in_log(&placed, key, moment, found) {
-            klog::Located::Hit(entry) => Located::Log(entry),
-            klog::Located::Expired => Located::Miss(MissCause::Expired),
-            klog::Located::Fault => Located::Miss(MissCause::Fault),
-            klog::Located::Damaged => Located::Miss(MissCause::Damaged),
-            klog::Located::Absent => self.locate_in_set(&placed, key, moment, found),
+// Where the log, or else its set, has a key. Its value goes into the buffer. Nothing changes but the device.
+pub(super) fn locate_below<D: PageDevice<PAGE>, const PAGE: usize>(
+    log: &KLog<PAGE>,
+    sets: &KSet<PAGE>,
+    device: &mut D,
+    placed: &Placed,
+    key: &[u8],
+    moment: u64,
+    found: &mut ValueBuffer,
+) -> Located
+    requires page_size { IsPageSize PAGE }
+    requires log_room { HasRoom (D.page_count device.old) log.now }
+    requires set_room { set_count sets.now ≤ D.page_count device.old }
+    requires at { placed.now ≡ place_in log.now.shape key.now }
+    requires its { IsPlaceIn sets.now placed.now }
+    ensures looks { (s : StoreState D) →
+        IsStore PAGE D.page_count D.honest D.held (with_flash s device.old log.now sets.now) →
+        LooksBelow PAGE D.honest D.failures D.held key.now moment
+        (with_flash s device.old log.now sets.now) (answer_at result found.new)
+        (touched key.now result (with_flash s device.new log.now sets.now)) }
+    ensures pages { D.page_count device.new ≡ D.page_count device.old }
+    ensures honest { D.honest device.new ≡ D.honest device.old }
+    ensures same { IsTrue (D.honest device.old) → D.held device.new ≡ D.held device.old }
+    ensures can { IsOfSets result (set_count sets.now) }
+    ensures stays { OnFalse (has_value result) (found.new ≡ found.old) }
+{
+    match log.locate(device, placed, key, moment, found) {
+        klog::Located::Hit(entry) => Located::Log(entry),
+        klog::Located::Expired => Located::Miss(MissCause::Expired),
+        klog::Located::Fault => Located::Miss(MissCause::Fault),
+        klog::Located::Damaged => Located::Miss(MissCause::Damaged),
+        klog::Located::Absent => {
+            let located = sets.locate(device, placed, key, moment, found);
+            in_set(placed.set, located)
         }
-    }
-
-    // What the log has of a key.
-    fn locate_in_log(
-        &mut self,
-        placed: &Placed,
-        key: &[u8],
-        moment: u64,
-        found: &mut ValueBuffer,
-    ) -> klog::Located
-        requires { placed.now ≡ place_in self.old.log.shape key.now }
-        ensures looks { LooksInLog PAGE D.honest D.failures D.held placed.now key.now moment self.old
-            (log_looked_of result found.new) (log_touched result self.new) }
-        ensures unchanged { self.new ≡ record self.old { device = self.new.device } }
-        ensures stays { OnFalse (is_log_hit result) (found.new ≡ found.old) }
-    {
-        self.log
-            .locate(&mut self.device, placed, key, moment, found)
-    }
-
-    // What the set of a key has of it.
-    fn locate_in_set(
-        &mut self,
-        placed: &Placed,
-        key: &[u8],
-        moment: u64,
-        found: &mut ValueBuffer,
-    ) -> Located
-        requires at { placed.now ≡ place_in self.old.log.shape key.now }
-        requires its { IsPlaceIn self.old.sets placed.now }
-        ensures looks { LooksInSet D.honest D.failures D.held placed.now key.now moment self.old
-            (answer_at result found.new) (touched key.now result self.new) }
-        ensures unchanged { self.new ≡ record self.old { device = self.new.device } }
-        ensures can { CanTouch result self.new }
-        ensures stays { OnFalse (has_value result) (found.new ≡ found.old) }
-    {
-        let located = self
-            .sets
-            .locate(&mut self.device, placed, key, moment, found);
-        in_set(placed.set, located)
     }
 }
 

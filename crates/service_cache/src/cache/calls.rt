@@ -98,9 +98,11 @@ impl<
     /// Puts a value, and enters that in the list after all that the seat has seen, in one hold of its key's lane.
     ///
     /// The value expires at the moment `expires`, or never if that is `NEVER`. A put that is refused leaves no older value of
-    /// its key: the key is removed. If the store refused the object, the put is entered all the same. If its lane is near the
-    /// end of its room the put does upkeep there, in the same hold: up to the first step that may ask the device, and 4 steps at
-    /// most.
+    /// its key: the key is removed. If the store refused the object, the put is entered all the same. `Foreign` does not come,
+    /// as `get` says; if the lane under the lock were not the key's, it would change nothing.
+    ///
+    /// If its lane is near the end of its room the put does upkeep there, in the same hold: up to the first step that may ask
+    /// the device, and 4 steps at most.
     pub fn put<R: Wait>(
         &self,
         rt: &R,

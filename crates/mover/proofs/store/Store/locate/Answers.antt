@@ -1,9 +1,11 @@
-use Rattle.std.proofs.Common.{Some, List, ℕ, ap, ◌∙◌}
+use Rattle.std.proofs.Common.{Some, List, ℕ, ap, subst, ◌∙◌}
 use Rattle.record_pages.specs.declared.answer.Answer.TheVariants.{Hit}
 use Rattle.record_pages.specs.declared.tier.Tier.TheVariants.{Memory}
 use Rattle.memory_cache.specs.MemoryList.{value_in}
-use Rattle.mover.specs.Touch.{answer_at, touched}
+use Rattle.mover.specs.Store.{StoreState}
+use Rattle.mover.specs.Touch.{answer_at, touched, LooksBelow}
 use Rattle.mover.proofs.Getting.{told_by_memory}
+use Rattle.mover.proofs.Keeping.{kept_device}
 use Rattle.mover.proofs.Recalling.{recalled_live, recalled_absent}
 use Rattle.mover.proofs.Touching.{below_gets}
 use Rattle.mover.proofs.store.Store.locate.Goals as goal
@@ -17,11 +19,22 @@ returns-in-Live-clause-gets g c =
     told_by_memory g.row.PAGE d.honest d.failures d.held key c.args.moment old (Hit value Memory) _
     (recalled_live key c.args.moment old (value_in key old.memory.pairs) value (ap (λ (v : List ℕ). Some (Some v)) (c.set.ensures ∙ c.bytes.ensures.value) ∙ c.in-Live.ensures))
 
+pub invariant_of-self : goal.invariant_of-self
+invariant_of-self g c =
+    let s = c.self.inside in
+    let d = g.D.PageDevice in
+    kept_device g.row.PAGE d.page_count d.honest d.held (record { layout = s.layout; device = s.device; memory = s.memory; log = s.log; sets = s.sets; flights = s.flights; moves = s.moves }) c.self.invariant
+    c.locate_below.new.device c.locate_below.ensures.pages c.locate_below.ensures.honest c.locate_below.ensures.same
+
 pub returns-in-Absent-clause-gets : goal.returns-in-Absent-clause-gets
 returns-in-Absent-clause-gets g c =
+    let s = c.self.inside in
     let d = g.D.PageDevice in
     let key = c.args.key.now in
     let old = c.args.self.now in
     let below = c.locate_below in
+    let was : StoreState g.row.D.Denot = record { layout = s.layout; device = s.device; memory = s.memory; log = s.log; sets = s.sets; flights = s.flights; moves = s.moves } in
     below_gets g.row.PAGE d.honest d.failures d.held key c.args.moment old (recalled_absent c.args.moment (value_in key old.memory.pairs) c.in-Absent.ensures)
-    (answer_at below.result below.new.found) (touched key below.result below.new.self) below.ensures.looks
+    (answer_at below.result below.new.found) (touched key below.result (record was { device = below.new.device }))
+    (subst (λ (x : StoreState g.row.D.Denot). LooksBelow g.row.PAGE d.honest d.failures d.held key c.args.moment x (answer_at below.result below.new.found) (touched key below.result (record was { device = below.new.device }))) c.self.view_is
+    (below.ensures.looks was c.self.invariant))

@@ -1,8 +1,8 @@
-use Rattle.std.proofs.Common.{sym, subst}
+use Rattle.std.proofs.Common.{refl, sym, subst}
 use Rattle.std.specs.Prelude.{IsTrue}
 use Rattle.mover.specs.Store.{StoreState}
 use Rattle.mover.specs.Lane.{lane_of}
-use Rattle.mover.specs.Begin.{LaneTakes}
+use Rattle.mover.specs.Begin.{LaneTakes, WritesNothing}
 use Rattle.mover.proofs.Keeping.{kept_log_read}
 use Rattle.mover.specs.Leaving.{TakingLeaves}
 use Rattle.mover.proofs.Beginning.{lane_taken, taking_leaves}
@@ -39,3 +39,21 @@ returns-clause-leaves g c =
     let new : StoreState g.row.D.Denot = record { layout = s.layout; device = c.take_set.new.device; memory = s.memory; log = c.take_set.new.self; sets = s.sets; flights = s.flights; moves = s.moves } in
     subst (λ (x : StoreState g.row.D.Denot). TakingLeaves c.args.set x c.in_ok-taken.taken new) c.self.view_is
     (taking_leaves old c.take_set.new.device c.take_set.new.self c.args.set c.in_ok-taken.taken c.in_ok-taken.ensures.leaves)
+
+pub returns-clause-writes : goal.returns-clause-writes
+returns-clause-writes g c =
+    let s = c.self.inside in
+    let d = g.D.PageDevice in
+    let old : StoreState g.row.D.Denot = record { layout = s.layout; device = s.device; memory = s.memory; log = s.log; sets = s.sets; flights = s.flights; moves = s.moves } in
+    let new : StoreState g.row.D.Denot = record { layout = s.layout; device = c.take_set.new.device; memory = s.memory; log = c.take_set.new.self; sets = s.sets; flights = s.flights; moves = s.moves } in
+    let writes : WritesNothing d.honest d.held old new = record { layout = refl; honesty = c.take_set.ensures.reads.honest; same = c.take_set.ensures.reads.same } in
+    subst (λ (x : StoreState g.row.D.Denot). WritesNothing d.honest d.held x new) c.self.view_is writes
+
+pub returns-in_err-taken-clause-writes : goal.returns-in_err-taken-clause-writes
+returns-in_err-taken-clause-writes g c =
+    let s = c.self.inside in
+    let d = g.D.PageDevice in
+    let old : StoreState g.row.D.Denot = record { layout = s.layout; device = s.device; memory = s.memory; log = s.log; sets = s.sets; flights = s.flights; moves = s.moves } in
+    let new : StoreState g.row.D.Denot = record { layout = s.layout; device = c.take_set.new.device; memory = s.memory; log = c.take_set.new.self; sets = s.sets; flights = s.flights; moves = s.moves } in
+    let writes : WritesNothing d.honest d.held old new = record { layout = refl; honesty = c.take_set.ensures.reads.honest; same = c.take_set.ensures.reads.same } in
+    subst (λ (x : StoreState g.row.D.Denot). WritesNothing d.honest d.held x new) c.self.view_is writes
