@@ -6,8 +6,8 @@ use Rattle.std.proofs.lemmas.List.Elements.{All-nil, All-cons, All-head, All-tai
 use Rattle.std.proofs.lemmas.Option.{get_or_from_slice_get}
 use Rattle.record_pages.specs.declared.layout.Layout.{Layout}
 use Rattle.trace_file.specs.declared.act.Act.{Act}
+use Rattle.recorded_lane.specs.declared.noted.Noted.{Noted}
 use Rattle.history_recorder.specs.declared.booked.Booked.{Booked}
-use Rattle.history_recorder.specs.declared.noted.Noted.{Noted}
 use Rattle.history_recorder.specs.declared.event.Event.{Event}
 use Rattle.history_recorder.specs.declared.event.Event.TheVariants as events
 use Rattle.history_recorder.specs.declared.operation.Operation.{Operation}

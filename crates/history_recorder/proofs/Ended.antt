@@ -11,9 +11,9 @@ use Rattle.certificate_checker.specs.declared.done.Done.{Done}
 use Rattle.certificate_checker.specs.Latest.{IsLawful}
 use Rattle.certificate_checker.specs.Lanes.{calls_of, deeds_done, IsLane, AreApart, PointsRise}
 use Rattle.mover.specs.Lane.{LaneState}
+use Rattle.recorded_lane.specs.declared.noted.Noted.{Noted}
+use Rattle.recorded_lane.specs.Lane.{IsOfLane, deeds_of}
 use Rattle.history_recorder.specs.declared.booked.Booked.{Booked}
-use Rattle.history_recorder.specs.declared.noted.Noted.{Noted}
-use Rattle.history_recorder.specs.Lane.{IsOfLane, deeds_of}
 use Rattle.history_recorder.specs.Books.{Books, IsDoneBy, noted_of, closed, dones}
 use Rattle.history_recorder.specs.Game.{IsGame, IsWellKept, AreHonest}
 use Rattle.history_recorder.proofs.Indexing.{all_then, at_so, map_has, pairs_by_index, all_by_index, pairs_map, pairs_back, all_back}

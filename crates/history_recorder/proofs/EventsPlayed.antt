@@ -1,7 +1,7 @@
 -- Events are played.
 use Rattle.std.proofs.Common.{◌≡◌, ◌<◌, ◌+◌, ℕ, Bool, List, [], ◌∷◌, ◌++◌, length, get_or, take, map, sym, ap, ◌∙◌, refl, subst, arith}
 use Rattle.record_pages.specs.declared.layout.Layout.{Layout}
-use Rattle.history_recorder.specs.declared.noted.Noted.{Noted}
+use Rattle.recorded_lane.specs.declared.noted.Noted.{Noted}
 use Rattle.history_recorder.specs.declared.event.Event.{Event}
 use Rattle.history_recorder.specs.declared.event.Event.TheVariants as events
 use Rattle.history_recorder.specs.declared.operation.Operation.{Operation}

@@ -8,10 +8,10 @@ use Rattle.std.proofs.lemmas.List.{map-set, length-map}
 use Rattle.std.proofs.lemmas.Option.{slice_get-map, same_Some}
 use Rattle.record_pages.specs.declared.layout.Layout.{Layout}
 use Rattle.mover.specs.Lane.{LaneState}
+use Rattle.recorded_lane.specs.declared.noted.Noted.{Noted}
+use Rattle.recorded_lane.specs.Lane.{deeds_of, IsSound}
 use Rattle.history_recorder.specs.declared.booked.Booked.{Booked}
-use Rattle.history_recorder.specs.declared.noted.Noted.{Noted}
 use Rattle.history_recorder.specs.Books.{Books, IsDoneBy, noted_of, lane_at}
-use Rattle.history_recorder.specs.Lane.{deeds_of, IsSound}
 use Rattle.history_recorder.specs.World.{IsSoundWorld}
 use Rattle.history_recorder.specs.Game.{IsGame, IsWellKept, AreHonest, unboxed, world_of}
 use Rattle.history_recorder.proofs.Indexing.{set_here, set_elsewhere, all_set, all_then, at_so, map_has, set_nothing}

@@ -16,22 +16,24 @@ use Rattle.mover.specs.Store.{StoreState}
 use Rattle.mover.proofs.Beginning.{same_lane_held}
 use Rattle.mover.specs.Calls.{StoreGets, StorePuts, StoreRemoves, StoreFlushes, StoreBegins, StoreCommits, StoreAborts}
 use Rattle.mover.specs.Begin.{BeginGives}
+use Rattle.mover.specs.Commit.{after_abort}
 use Rattle.mover.specs.declared.aborted.Aborted.{Aborted}
+use Rattle.mover.specs.declared.aborted.Aborted.TheVariants as aborted
 use Rattle.mover.specs.declared.begin.Begin.{Begin}
 use Rattle.mover.specs.declared.committed.Committed.{Committed}
 use Rattle.policy_laws.specs.declared.choice.Choice.{Choice}
 use Rattle.std.specs.declared.alloc.AllocError.{AllocError}
-use Rattle.history_recorder.proofs.Ending.{commit_keeps_layout, abort_keeps_layout, abort_keeps_device}
+use Rattle.recorded_lane.proofs.Ending.{commit_keeps_layout, abort_keeps_layout}
+use Rattle.recorded_lane.specs.declared.noted.Noted.{Noted}
+use Rattle.recorded_lane.specs.declared.record_fault.RecordFault.{RecordFault}
+use Rattle.recorded_lane.specs.declared.record_fault.RecordFault.TheVariants as faults
+use Rattle.recorded_lane.specs.declared.record_put_fault.RecordPutFault.{RecordPutFault}
+use Rattle.recorded_lane.specs.declared.record_put_fault.RecordPutFault.TheVariants as put_faults
+use Rattle.recorded_lane.specs.Lane.{Lane, IsRecorded, act_of, max_calls}
+use Rattle.recorded_lane.specs.Answering.{MayHaveGot}
 use Rattle.history_recorder.specs.declared.event.Event.TheVariants as events
-use Rattle.history_recorder.specs.declared.noted.Noted.{Noted}
 use Rattle.history_recorder.specs.declared.operation.Operation.TheVariants as operations
-use Rattle.history_recorder.specs.declared.record_fault.RecordFault.{RecordFault}
-use Rattle.history_recorder.specs.declared.record_fault.RecordFault.TheVariants as faults
-use Rattle.history_recorder.specs.declared.record_put_fault.RecordPutFault.{RecordPutFault}
-use Rattle.history_recorder.specs.declared.record_put_fault.RecordPutFault.TheVariants as put_faults
 use Rattle.history_recorder.specs.declared.reply.Reply.TheVariants as replies
-use Rattle.history_recorder.specs.Lane.{Lane, IsRecorded, act_of, max_calls}
-use Rattle.history_recorder.specs.Answering.{MayHaveGot}
 use Rattle.history_recorder.specs.Operations.{AnswersAt, FitsAlone, HasRoomFor}
 use Rattle.history_recorder.specs.Commands.{IsOperation, IsBackground}
 use Rattle.history_recorder.specs.Game.{IsWellKept, LaneActs, LaneSteps}
@@ -229,6 +231,10 @@ module _ {D : Type 0} (honest : D → Bool) (failures : D → ℕ) (held : D →
     kept = well_kept;
     step = commits.gives;
   }
+
+  abort_keeps_device : (number : ℕ) (answer : Aborted) (s : StoreState D) → (after_abort number answer s).device ≡ s.device
+  abort_keeps_device number aborted.Aborted s = refl
+  abort_keeps_device number aborted.StalePlan s = refl
 
   pub aborted_so : (size lane number : ℕ) (answer : Aborted) → new ≡ record old { store = new.store } → StoreAborts held number old.store answer new.store → LaneSteps honest held size (events.Abort lane number) old (replies.Aborted answer) new
   aborted_so size lane number answer unrecorded aborts = record {

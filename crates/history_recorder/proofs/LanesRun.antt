@@ -16,15 +16,15 @@ use Rattle.mover.specs.Lane.{LaneState}
 use Rattle.mover.specs.Laws.{IsInOrder, StepsInOrder}
 use Rattle.mover.specs.Get.{GetGives}
 use Rattle.mover.proofs.StepLaws.{get_law, put_law, removal_law, flush_law, begin_law, commit_law, abort_law}
+use Rattle.recorded_lane.specs.declared.noted.Noted.{Noted}
+use Rattle.recorded_lane.specs.declared.record_fault.RecordFault.TheVariants as faults
+use Rattle.recorded_lane.specs.Lane.{deed_noted, deeds_of, act_of, IsOfLane, IsSound}
 use Rattle.history_recorder.specs.declared.event.Event.{Event}
 use Rattle.history_recorder.specs.declared.event.Event.TheVariants as events
-use Rattle.history_recorder.specs.declared.noted.Noted.{Noted}
 use Rattle.history_recorder.specs.declared.operation.Operation.{Operation}
 use Rattle.history_recorder.specs.declared.operation.Operation.TheVariants as operations
-use Rattle.history_recorder.specs.declared.record_fault.RecordFault.TheVariants as faults
 use Rattle.history_recorder.specs.declared.reply.Reply.{Reply}
 use Rattle.history_recorder.specs.declared.reply.Reply.TheVariants as replies
-use Rattle.history_recorder.specs.Lane.{deed_noted, deeds_of, act_of, IsOfLane, IsSound}
 use Rattle.history_recorder.specs.Operations.{lane_of, noted_by, calls_with, HasRoomFor, AnswersAt}
 use Rattle.history_recorder.specs.Commands.{IsOperation, IsBackground}
 use Rattle.history_recorder.specs.Game.{IsWellKept}

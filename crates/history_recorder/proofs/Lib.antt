@@ -1,10 +1,4 @@
 pub mod DonesIn
-pub mod Ending
-pub mod InTurn
-pub mod Kept
-pub mod Points
-pub mod Refusing
-pub mod Noting
 pub mod Stamps
 pub mod Firsts
 pub mod Starts

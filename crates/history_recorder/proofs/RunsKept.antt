@@ -13,9 +13,9 @@ use Rattle.certificate_checker.proofs.LaneLemmas.{lanes_accepted}
 use Rattle.mover.specs.Lane.{LaneState}
 use Rattle.mover.specs.Laws.{IsInOrder, opening_lane}
 use Rattle.mover.proofs.WholeLaws.{opening_law}
+use Rattle.recorded_lane.specs.declared.noted.Noted.{Noted}
 use Rattle.history_recorder.specs.declared.event.Event.{Event}
 use Rattle.history_recorder.specs.declared.event.Event.TheVariants as events
-use Rattle.history_recorder.specs.declared.noted.Noted.{Noted}
 use Rattle.history_recorder.specs.declared.operation.Operation.{Operation}
 use Rattle.history_recorder.specs.declared.phase.Phase.TheVariants as phases
 use Rattle.history_recorder.specs.declared.reply.Reply.{Reply}

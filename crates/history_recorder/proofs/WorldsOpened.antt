@@ -1,25 +1,21 @@
 -- Worlds that were just opened.
-use Rattle.std.proofs.Common.{◌≡◌, ◌≤◌, ◌+◌, ℕ, zero, suc, Bool, List, [], ◌∷◌, ◌++◌, length, map, replicate, Option, Some, None, sym, ap, ◌∙◌, refl, subst, arith, inl, inr}
+use Rattle.std.proofs.Common.{◌≡◌, ◌+◌, ℕ, zero, suc, Bool, List, [], ◌∷◌, ◌++◌, length, map, replicate, Option, Some, None, sym, ap, ◌∙◌, refl, subst, arith, inl, inr}
 use Rattle.std.specs.Prelude.{◌⊎◌, All, IsTrue, slice_get}
 use Rattle.std.specs.Global.{Box}
 use Rattle.std.specs.Box.{box_value}
-use Rattle.std.specs.Coded.{le_prop, ×_prop}
-use mathlib.Core.HLevel.{is_prop→PathP}
 use Rattle.std.proofs.lemmas.List.{length-map, length-append, map-append}
 use Rattle.std.proofs.lemmas.List.Elements.{All-head, All-tail, All-push, All-cons}
 use Rattle.std.proofs.lemmas.Option.{same_Some}
-use Rattle.record_pages.specs.declared.config.Config.{Config}
 use Rattle.record_pages.specs.declared.layout.Layout.{Layout}
-use Rattle.record_pages.specs.Asked.{HasNumbersOf}
 use Rattle.trace_file.specs.declared.call.Call.{Call}
 use Rattle.certificate_checker.specs.Acceptance.{IsAccepted}
 use Rattle.certificate_checker.specs.Lanes.{IsLaidOut}
 use Rattle.mover.specs.Lane.{lane_of}
 use Rattle.mover.specs.Store.{opening}
 use Rattle.mover.specs.Laws.{opening_lane as opening_state}
+use Rattle.recorded_lane.specs.Lane.{Lane, IsRecorded}
 use Rattle.history_recorder.specs.declared.event.Event.{Event}
 use Rattle.history_recorder.specs.declared.reply.Reply.{Reply}
-use Rattle.history_recorder.specs.Lane.{Lane, IsRecorded}
 use Rattle.history_recorder.specs.Books.{Books, opening_books, noted_of, books_after, dones}
 use Rattle.history_recorder.specs.World.{World, IsSoundRun}
 use Rattle.history_recorder.specs.Game.{IsGame, IsWellKept, AreHonest, SoundRunTo, unboxed, world_of, layout_in, honest_in, state_in}
@@ -27,36 +23,6 @@ use Rattle.history_recorder.specs.Opened.{Opened, AreOpened, AreOpenedOver, AreT
 use Rattle.history_recorder.proofs.Booking.{opening_kept}
 use Rattle.history_recorder.proofs.Indexing.{all_by_index, at_so}
 use Rattle.history_recorder.proofs.RunsKept.{accepted_runs}
-
--- layouts with the same numbers are the same
-pub same_layout : (a b : Layout) (c : Config) → HasNumbersOf a c → HasNumbersOf b c → a ≡ b
-same_layout a b c m n =
-    let p1 : a.lanes ≡ b.lanes = m.lanes ∙ sym n.lanes in
-    let p2 : a.sets ≡ b.sets = m.sets ∙ sym n.sets in
-    let p3 : a.memory ≡ b.memory = m.memory ∙ sym n.memory in
-    let p4 : a.segments ≡ b.segments = m.segments ∙ sym n.segments in
-    let p5 : a.segment_pages ≡ b.segment_pages = m.segment_pages ∙ sym n.segment_pages in
-    let p6 : a.entries ≡ b.entries = m.entries ∙ sym n.entries in
-    let p7 : a.threshold ≡ b.threshold = m.threshold ∙ sym n.threshold in
-    let p8 : a.admit ≡ b.admit = m.admit ∙ sym n.admit in
-    λ i. record {
-      lanes = p1 i;
-      sets = p2 i;
-      memory = p3 i;
-      segments = p4 i;
-      segment_pages = p5 i;
-      entries = p6 i;
-      threshold = p7 i;
-      admit = p8 i;
-      lanes_range = is_prop→PathP (λ j. (1 ≤ p1 j) × (p1 j ≤ 16)) (λ j. ×_prop le_prop le_prop) a.lanes_range b.lanes_range i;
-      sets_range = is_prop→PathP (λ j. (1 ≤ p2 j) × (p2 j ≤ 65536)) (λ j. ×_prop le_prop le_prop) a.sets_range b.sets_range i;
-      memory_range = is_prop→PathP (λ j. (1 ≤ p3 j) × (p3 j ≤ 1048576)) (λ j. ×_prop le_prop le_prop) a.memory_range b.memory_range i;
-      segments_range = is_prop→PathP (λ j. (2 ≤ p4 j) × (p4 j ≤ 256)) (λ j. ×_prop le_prop le_prop) a.segments_range b.segments_range i;
-      segment_pages_range = is_prop→PathP (λ j. (1 ≤ p5 j) × (p5 j ≤ 64)) (λ j. ×_prop le_prop le_prop) a.segment_pages_range b.segment_pages_range i;
-      entries_range = is_prop→PathP (λ j. (1 ≤ p6 j) × (p6 j ≤ 1048576)) (λ j. ×_prop le_prop le_prop) a.entries_range b.entries_range i;
-      threshold_range = is_prop→PathP (λ j. (1 ≤ p7 j) × (p7 j ≤ 32)) (λ j. ×_prop le_prop le_prop) a.threshold_range b.threshold_range i;
-      admit_range = is_prop→PathP (λ j. p8 j ≤ 65536) (λ j. le_prop) a.admit_range b.admit_range i;
-    }
 
 -- an element of a list and one more is one of the list, or the one more
 last_or : {X : Type 0} (xs : List X) (x : X) (i : ℕ) (y : X) → slice_get (xs ++ x ∷ []) i ≡ Some y → (slice_get xs i ≡ Some y) ⊎ ((i ≡ length xs) × (x ≡ y))

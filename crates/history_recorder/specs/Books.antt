@@ -6,8 +6,8 @@ use Rattle.record_pages.specs.declared.layout.Layout.{Layout}
 use Rattle.trace_file.specs.declared.act.Act.{Act}
 use Rattle.certificate_checker.specs.Deeds.{Deed}
 use Rattle.certificate_checker.specs.declared.done.Done.{Done}
-use Rattle.history_recorder.specs.declared.noted.Noted.{Noted}
-use Rattle.history_recorder.specs.Lane.{deed_noted}
+use Rattle.recorded_lane.specs.declared.noted.Noted.{Noted}
+use Rattle.recorded_lane.specs.Lane.{deed_noted}
 use Rattle.history_recorder.specs.declared.booked.Booked.{Booked}
 use Rattle.history_recorder.specs.declared.called.Called.{Called}
 use Rattle.history_recorder.specs.declared.event.Event.{Event}

@@ -10,11 +10,11 @@ use Rattle.mover.specs.Strike.{removed}
 use Rattle.mover.specs.Flush.{LaneFlushes}
 use Rattle.mover.specs.Begin.{BeginGives}
 use Rattle.mover.specs.Commit.{CommitGives, AbortGives}
+use Rattle.recorded_lane.specs.declared.record_fault.RecordFault.TheVariants as faults
 use Rattle.history_recorder.specs.declared.event.Event.{Event}
 use Rattle.history_recorder.specs.declared.event.Event.TheVariants as events
 use Rattle.history_recorder.specs.declared.operation.Operation.{Operation}
 use Rattle.history_recorder.specs.declared.operation.Operation.TheVariants as operations
-use Rattle.history_recorder.specs.declared.record_fault.RecordFault.TheVariants as faults
 use Rattle.history_recorder.specs.declared.reply.Reply.{Reply}
 use Rattle.history_recorder.specs.declared.reply.Reply.TheVariants as replies
 

@@ -5,15 +5,15 @@ use Rattle.std.specs.Box.{box_value}
 use Rattle.record_pages.specs.declared.layout.Layout.{Layout}
 use Rattle.certificate_checker.specs.Latest.{IsLawful}
 use Rattle.mover.specs.Lane.{LaneState, lane_of as store_lane}
+use Rattle.recorded_lane.specs.declared.noted.Noted.{Noted}
+use Rattle.recorded_lane.specs.Lane.{Lane, deeds_of, max_calls, IsSound, IsOfLane}
 use Rattle.history_recorder.specs.declared.acted.Acted.{Acted}
 use Rattle.history_recorder.specs.declared.operation.Operation.{Operation}
 use Rattle.history_recorder.specs.Operations.{AnswersAt, noted_by, calls_with}
 use Rattle.history_recorder.specs.Commands.{IsOperation, IsBackground}
-use Rattle.history_recorder.specs.declared.noted.Noted.{Noted}
 use Rattle.history_recorder.specs.declared.event.Event.{Event}
 use Rattle.history_recorder.specs.declared.event.Event.TheVariants as events
 use Rattle.history_recorder.specs.declared.reply.Reply.{Reply}
-use Rattle.history_recorder.specs.Lane.{Lane, deeds_of, max_calls, IsSound, IsOfLane}
 use Rattle.history_recorder.specs.Books.{Books, AreKept, IsReplyOf, IsReplyTo, IsReplied, AreReplied, noted_of, after_event, books_after}
 use Rattle.history_recorder.specs.World.{World, LanesStep, IsRun, IsSoundWorld}
 

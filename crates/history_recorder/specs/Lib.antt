@@ -1,7 +1,4 @@
-pub mod Answering
-pub mod Lane
 pub mod Merging
-pub mod Points
 pub mod Operations
 pub mod Books
 pub mod Commands

@@ -8,9 +8,9 @@ use Rattle.record_pages.specs.Sizes.{IsPageSize}
 use Rattle.record_pages.specs.Table.{first_faulty}
 use Rattle.mover.specs.Store.{opening, IsTooSmall}
 use Rattle.mover.specs.Laws.{opening_lane as opening_state}
+use Rattle.recorded_lane.specs.Lane.{Lane, IsRecorded}
 use Rattle.history_recorder.specs.declared.open_world_fault.OpenWorldFault.{OpenWorldFault}
 use Rattle.history_recorder.specs.declared.open_world_fault.OpenWorldFault.TheVariants as faults
-use Rattle.history_recorder.specs.Lane.{Lane, IsRecorded}
 use Rattle.history_recorder.specs.Books.{Books, opening_books}
 use Rattle.history_recorder.specs.World.{World}
 use Rattle.history_recorder.specs.Game.{unboxed}

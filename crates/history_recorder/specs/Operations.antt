@@ -7,14 +7,14 @@ use Rattle.set_hash.specs.Fnv.{fnv1a}
 use Rattle.set_hash.specs.Place.{placed_of}
 use Rattle.trace_file.specs.declared.act.Act.{Act}
 use Rattle.trace_file.specs.declared.act.Act.TheVariants as acts
-use Rattle.history_recorder.specs.declared.noted.Noted.{Noted}
+use Rattle.recorded_lane.specs.declared.noted.Noted.{Noted}
+use Rattle.recorded_lane.specs.declared.record_fault.RecordFault.TheVariants as faults
+use Rattle.recorded_lane.specs.declared.record_put_fault.RecordPutFault.TheVariants as put_faults
+use Rattle.recorded_lane.specs.Lane.{act_of, max_calls}
 use Rattle.history_recorder.specs.declared.operation.Operation.{Operation}
 use Rattle.history_recorder.specs.declared.operation.Operation.TheVariants as operations
-use Rattle.history_recorder.specs.declared.record_fault.RecordFault.TheVariants as faults
-use Rattle.history_recorder.specs.declared.record_put_fault.RecordPutFault.TheVariants as put_faults
 use Rattle.history_recorder.specs.declared.reply.Reply.{Reply}
 use Rattle.history_recorder.specs.declared.reply.Reply.TheVariants as replies
-use Rattle.history_recorder.specs.Lane.{act_of, max_calls}
 
 -- the key of an operation
 abbrev pub key_of : Operation → List ℕ

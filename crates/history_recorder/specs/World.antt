@@ -2,6 +2,7 @@
 use Rattle.std.specs.Prelude.{◌≡◌, ℕ, List, [], ◌∷◌, All, slice_get, slice_set, Some}
 use Rattle.record_pages.specs.declared.layout.Layout.{Layout}
 use Rattle.mover.specs.Lane.{LaneState}
+use Rattle.recorded_lane.specs.Lane.{IsSound}
 use Rattle.history_recorder.specs.declared.booked.Booked.{Booked}
 use Rattle.history_recorder.specs.declared.event.Event.{Event}
 use Rattle.history_recorder.specs.declared.event.Event.TheVariants as events
@@ -12,7 +13,6 @@ use Rattle.history_recorder.specs.declared.reply.Reply.TheVariants as replies
 use Rattle.history_recorder.specs.Operations.{lane_of}
 use Rattle.history_recorder.specs.Commands.{IsOperation, IsBackground}
 use Rattle.history_recorder.specs.Books.{Books, deeds_booked, after_event, IsDoing, IsReplied}
-use Rattle.history_recorder.specs.Lane.{IsSound}
 
 -- a world: its books, and what each lane holds
 pub record World : Type 0 where

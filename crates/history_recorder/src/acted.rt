@@ -1,6 +1,6 @@
 // What an act of a lane gives.
-use crate::noted::Noted;
 use crate::reply::Reply;
+use recorded_lane::Noted;
 
 /// What an act of a lane gives.
 #[derive(Debug, Drop)]

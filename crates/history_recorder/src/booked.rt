@@ -2,8 +2,8 @@
 ghost use Rattle.std.specs.Prelude.{◌≡◌};
 ghost use Rattle.history_recorder.specs.Books.{closed};
 
-use crate::noted::Noted;
 use certificate_checker::Done;
+use recorded_lane::Noted;
 use trace_file::Call;
 
 /// A recorded call, and its end, once it has one.

@@ -4,7 +4,7 @@ ghost use Rattle.history_recorder.specs.Books.{ended_at, closed};
 
 use crate::booked::Booked;
 use crate::dones::Dones;
-use crate::noted::Noted;
+use recorded_lane::Noted;
 use std::alloc::{AllocError, Global};
 use std::marker::Model;
 

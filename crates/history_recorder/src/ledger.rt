@@ -7,10 +7,10 @@ ghost use Rattle.history_recorder.specs.Books.{opening_books, after_event, drawn
 use crate::called::Called;
 use crate::dones::Dones;
 use crate::lane_calls::LaneCalls;
-use crate::noted::Noted;
 use crate::operation::Operation;
 use crate::phase::Phase;
 use crate::reply::Reply;
+use recorded_lane::Noted;
 use std::alloc::{AllocError, Global};
 use std::marker::Model;
 use std::mem;

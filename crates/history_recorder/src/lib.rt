@@ -1,16 +1,13 @@
-//! A lane of the cache whose calls are recorded as they are answered.
+//! Worlds of recorded lanes: events that are played in them, and the calls of lanes laid out as one history.
 #![tactic(auto)]
 
 mod acted;
 mod booked;
-mod boxed_device;
-mod call_record;
 mod called;
 mod dones;
 mod event;
 mod game;
 mod head;
-mod lane;
 mod lane_calls;
 mod lane_played;
 mod laws;
@@ -18,35 +15,28 @@ mod layout;
 mod ledger;
 mod merging;
 mod next;
-mod noted;
-mod noted_ref;
 mod open_world_fault;
 mod operation;
 mod phase;
 mod played;
 mod played_lane;
 mod playing;
-mod record_fault;
-mod record_put_fault;
-mod recorded_parts;
 mod replies;
 mod reply;
 mod world;
 
 pub use dones::Dones;
 pub use event::Event;
-pub use lane::{MAX_CALLS, RecordedLane};
-pub use laws::{accepted_in_turn, runs_are_accepted, runs_are_sound};
+pub use laws::{runs_are_accepted, runs_are_sound};
 pub use layout::lay_out;
-pub use noted::Noted;
-pub use noted_ref::NotedRef;
 pub use open_world_fault::OpenWorldFault;
 pub use operation::Operation;
 pub use played::Played;
 pub use playing::play;
-pub use record_fault::RecordFault;
-pub use record_put_fault::RecordPutFault;
-pub use recorded_parts::RecordedParts;
+pub use recorded_lane::{
+    MAX_CALLS, Noted, NotedRef, RecordFault, RecordPutFault, RecordedLane, RecordedParts,
+    accepted_in_turn,
+};
 pub use replies::Replies;
 pub use reply::Reply;
 pub use world::World;

@@ -2,7 +2,7 @@
 ghost use Rattle.std.specs.Prelude.{◌≡◌, ◌<◌, ℕ, Bool, List, All, IfOk};
 ghost use Rattle.record_pages.specs.declared.layout.Layout.{Layout};
 ghost use Rattle.mover.specs.Lane.{LaneState};
-ghost use Rattle.history_recorder.specs.declared.noted.Noted.{Noted};
+ghost use Rattle.recorded_lane.specs.declared.noted.Noted.{Noted};
 ghost use Rattle.history_recorder.specs.Operations.{lane_of};
 ghost use Rattle.history_recorder.specs.Books.{IsBackgroundEvent};
 ghost use Rattle.history_recorder.specs.Game.{ActsSo, StepsSo};

@@ -1,9 +1,8 @@
 // What an event is replied.
-use crate::record_fault::RecordFault;
-use crate::record_put_fault::RecordPutFault;
 use klog::Flushed;
 use mover::{Aborted, Begin, Committed};
 use record_pages::{Answer, Pushed};
+use recorded_lane::{RecordFault, RecordPutFault};
 use std::alloc::AllocError;
 
 /// What an event is replied. The steps of a lane are replied with their result, a refusal included; an act that is

@@ -4,11 +4,12 @@ ghost use Rattle.record_pages.specs.Asked.{HasNumbersOf, layout_pages};
 ghost use Rattle.record_pages.specs.Sizes.{IsPageSize};
 ghost use Rattle.mover.specs.Store.{IsTooSmall};
 
-use crate::boxed_device::BoxedDevice;
-use crate::lane::RecordedLane;
+use crate::lane_played::recall;
 use crate::open_world_fault::OpenWorldFault;
+use lane_devices::Boxed;
 use page_device::PageDevice;
 use record_pages::{Config, Layout};
+use recorded_lane::RecordedLane;
 use std::alloc::{AllocError, Global};
 use std::marker::Model;
 
@@ -17,7 +18,7 @@ use std::marker::Model;
 pub struct World<D: PageDevice<PAGE>, const PAGE: usize> {
     pub(crate) layout: Layout,
     pub(crate) callers: u16,
-    pub(crate) lanes: Vec<Box<RecordedLane<BoxedDevice<D>, PAGE>>>,
+    pub(crate) lanes: Vec<Box<RecordedLane<Boxed<D>, PAGE>>>,
 }
 
 impl<D: PageDevice<PAGE>, const PAGE: usize> Model for World<D, PAGE> {
@@ -92,7 +93,7 @@ fn open_lanes<D: PageDevice<PAGE>, const PAGE: usize>(
     alloc: Global,
     layout: &Layout,
     devices: Vec<D>,
-) -> Result<Vec<Box<RecordedLane<BoxedDevice<D>, PAGE>>>, AllocError>
+) -> Result<Vec<Box<RecordedLane<Boxed<D>, PAGE>>>, AllocError>
     requires page_size { IsPageSize PAGE }
     requires one_each { length devices.items ≡ layout.now.lanes }
     requires room { All (λ d. layout_pages layout.now ≤ D.page_count d) devices.items }
@@ -103,9 +104,9 @@ fn open_lanes<D: PageDevice<PAGE>, const PAGE: usize>(
     let mut lanes = Vec::new(alloc);
     let mut number = 0;
     for device in devices {
-        let boxed = BoxedDevice::new(Box::new(alloc, device)?);
+        let boxed = Boxed::new(alloc, device)?;
         let lane = RecordedLane::with_layout(alloc, layout, number, boxed)?;
-        lane.recall();
+        recall(&lane);
         lanes.push(Box::new(alloc, lane)?)?;
         number += 1;
     }

@@ -2,11 +2,11 @@
 mod run;
 
 use self::run::{Found, Step, as_written, stamps_of, tell_of};
-use history_recorder::{NotedRef, RecordFault, RecordPutFault, RecordedLane};
 use klog::Flushed;
 use mover::{Moved, OpenFault};
 use page_device::{FuseDevice, MemoryDevice, PageDevice};
 use record_pages::{Answer, Config, Field, Key, MissCause, NEVER, Pushed, Tier};
+use recorded_lane::{NotedRef, RecordFault, RecordPutFault, RecordedLane};
 use rriparoo::Rriparoo;
 use set_hash::place;
 use std::alloc::{AllocError, Global};

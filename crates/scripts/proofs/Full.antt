@@ -1,7 +1,7 @@
 -- What is replied to a call that is refused, and to a put; and the lane then.
 use Rattle.std.proofs.Common.{◌≡◌, ◌≤◌, ◌<◌, ℕ, List, ltb, length, Result, Ok, Err, OnOk, IsErrOf, refl, sym, ap, ◌∙◌, inl, inr, arith}
 use Rattle.std.proofs.lemmas.Bool.{cases_Bool, ltb-true, ltb-false, lt-ltb}
-use Rattle.history_recorder.specs.Lane.{Lane, max_calls}
+use Rattle.recorded_lane.specs.Lane.{Lane, max_calls}
 use Rattle.scripts.specs.Own.{Pages, Opened, seen_of}
 use Rattle.scripts.specs.Replies.{Reply, reply_to, unless_full}
 use Rattle.script_words.specs.declared.command.Command.TheVariants.{Put}

@@ -9,9 +9,9 @@ use Rattle.certificate_checker.specs.Deeds.{deed_of}
 use Rattle.certificate_checker.specs.Orders.{Agrees}
 use Rattle.certificate_checker.specs.Latest.{IsLawful}
 use Rattle.certificate_checker.specs.Acceptance.{IsAccepted}
-use Rattle.history_recorder.specs.declared.noted.Noted.{Noted}
-use Rattle.history_recorder.specs.Lane.{deed_noted, deeds_of}
-use Rattle.history_recorder.specs.Laws.{AcceptedInTurn}
+use Rattle.recorded_lane.specs.declared.noted.Noted.{Noted}
+use Rattle.recorded_lane.specs.Lane.{deed_noted, deeds_of}
+use Rattle.recorded_lane.specs.Laws.{AcceptedInTurn}
 use Rattle.scripts.specs.Own.{ended, own_history, own_certificate, HasStamps}
 
 -- ---- one more call

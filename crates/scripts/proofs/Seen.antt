@@ -17,10 +17,10 @@ use Rattle.mover.specs.Get.{get_step, is_fault, NeedsPage}
 use Rattle.mover.specs.Store.{StoreState}
 use Rattle.mover.specs.Flush.{flush_step}
 use Rattle.mover.specs.Whole.{move_step, is_failed}
-use Rattle.history_recorder.specs.declared.noted.Noted.{Noted}
-use Rattle.history_recorder.specs.Lane.{Lane, act_of}
+use Rattle.recorded_lane.specs.declared.noted.Noted.{Noted}
+use Rattle.recorded_lane.specs.Lane.{Lane, act_of}
 use Rattle.mover.specs.Calls.{StoreGets, StoreFlushes, StoreMoves}
-use Rattle.history_recorder.specs.Answering.{MayHaveGot}
+use Rattle.recorded_lane.specs.Answering.{MayHaveGot}
 use Rattle.scripts.specs.Own.{Pages, Opened, held_by, seen_of, noted, after_call, with_lane, HasStamps, IsOfScript}
 use Rattle.scripts.proofs.Lanes.{none_failed, get_is_step, flush_is_step, move_is_step}
 

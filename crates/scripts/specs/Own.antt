@@ -8,8 +8,8 @@ use Rattle.memory_cache.specs.MemoryList.{empty}
 use Rattle.klog.specs.Log.{Shape, opening_log}
 use Rattle.kset.specs.Sets.{opening_sets}
 use Rattle.mover.specs.Lane.{LaneState, lane_of}
-use Rattle.history_recorder.specs.declared.noted.Noted.{Noted}
-use Rattle.history_recorder.specs.Lane.{Lane}
+use Rattle.recorded_lane.specs.declared.noted.Noted.{Noted}
+use Rattle.recorded_lane.specs.Lane.{Lane}
 
 -- a lane of a script: the numbers that puts and moves go by, what it holds, and its calls so far, in order
 pub record Opened : Type 0 where

@@ -24,7 +24,7 @@ use Rattle.mover.specs.Put.{put_step}
 use Rattle.mover.specs.Strike.{removed}
 use Rattle.mover.specs.Flush.{flush_step}
 use Rattle.mover.specs.Whole.{move_step}
-use Rattle.history_recorder.specs.Lane.{act_of, max_calls}
+use Rattle.recorded_lane.specs.Lane.{act_of, max_calls}
 use Rattle.script_words.specs.declared.command.Command.{Command}
 use Rattle.script_words.specs.declared.command.Command.TheVariants.{Put, Get, Remove, Forget, Flush, Move, Verdict, Trace}
 use Rattle.scripts.specs.Own.{Opened, after_call, with_lane, own_history, own_certificate}

@@ -5,10 +5,10 @@ ghost use Rattle.scripts.specs.Replies.{shown, answer_text, tier_text, cause_tex
 
 use crate::script_lane::ScriptLane;
 use certificate_checker::verdict_line_with_hasher;
-use history_recorder::{RecordFault, RecordPutFault};
 use klog::Flushed;
 use mover::Moved;
 use record_pages::{Answer, Key, MissCause, Tier, Value};
+use recorded_lane::{RecordFault, RecordPutFault};
 use script_words::Command;
 use std::alloc::{AllocError, Global};
 use std::hash::BuildHasher;

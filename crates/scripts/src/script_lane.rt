@@ -11,17 +11,17 @@ ghost use Rattle.mover.specs.Put.{put_step};
 ghost use Rattle.mover.specs.Strike.{removed};
 ghost use Rattle.mover.specs.Flush.{flush_step};
 ghost use Rattle.mover.specs.Whole.{move_step};
-ghost use Rattle.history_recorder.specs.Lane.{act_of, max_calls};
+ghost use Rattle.recorded_lane.specs.Lane.{act_of, max_calls};
 ghost use Rattle.script_words.specs.Configs.{faulty};
 ghost use Rattle.scripts.specs.Own.{seen_of, opened_by, after_call, with_lane, own_history, own_certificate};
 
 use crate::open_lane_fault::OpenLaneFault;
 use crate::recording::Recording;
-use history_recorder::{RecordFault, RecordPutFault, RecordedLane, accepted_in_turn};
 use klog::Flushed;
 use mover::Moved;
 use page_device::MemoryDevice;
 use record_pages::{Answer, Config, Field, Key, Pushed, Value};
+use recorded_lane::{RecordFault, RecordPutFault, RecordedLane, accepted_in_turn};
 use rriparoo::Rriparoo;
 use std::alloc::{AllocError, Global};
 use std::marker::Model;
@@ -37,7 +37,7 @@ pub struct ScriptLane<const PAGE: usize> {
 impl<const PAGE: usize> Model for ScriptLane<PAGE> {
     ghost use Rattle.std.specs.Coded.{codes};
     ghost use Rattle.kset.specs.Sets.{sets_code};
-    ghost use Rattle.history_recorder.specs.Lane.{Lane};
+    ghost use Rattle.recorded_lane.specs.Lane.{Lane};
     ghost use Rattle.scripts.specs.Own.{Pages, IsOfScript};
 
     ghost Value = { Lane Pages };
@@ -195,10 +195,10 @@ impl<const PAGE: usize> ScriptLane<PAGE> {
 ghost use Rattle.record_pages.specs.Bounded.{IsKey, IsValue};
 ghost use Rattle.trace_file.specs.Calls.{IsCall, value_of};
 ghost use Rattle.trace_file.specs.Lent.{act_shown, call_shown};
-ghost use Rattle.history_recorder.specs.Points.{noted_shown};
+ghost use Rattle.recorded_lane.specs.Points.{noted_shown};
 ghost use Rattle.scripts.specs.Own.{ended};
 
-use history_recorder::NotedRef;
+use recorded_lane::NotedRef;
 use trace_file::{Act, CallRef};
 
 /// A recorded call, with its end.

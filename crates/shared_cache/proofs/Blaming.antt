@@ -7,7 +7,7 @@ use Rattle.std.proofs.lemmas.List.{get_or_append_left, get_or-append-add, length
 use Rattle.std.proofs.lemmas.List.Elements.{All-append, All-cons, All-head, All-nil, All-tail}
 use Rattle.std.proofs.lemmas.List.Sorted.{All-permutation, Contains-permutation, IsPermutation-sym}
 use Rattle.std.proofs.lemmas.Option.{slice_get_within, same_Some}
-use Rattle.history_recorder.specs.declared.noted.Noted.{Noted}
+use Rattle.recorded_lane.specs.declared.noted.Noted.{Noted}
 use Rattle.history_recorder.proofs.Indexing.{at_so}
 use Rattle.history_recorder.proofs.Stamps.{found_right, set_here, set_there}
 use Rattle.certificate_checker.specs.declared.done.Done.{Done}

@@ -7,9 +7,9 @@ use mathlib.Core.List.{map-append}
 use Rattle.std.specs.Option.{option_map, option_map_or}
 use Rattle.trace_file.specs.declared.call.Call.{Call}
 use Rattle.certificate_checker.specs.declared.done.Done.{Done}
-use Rattle.history_recorder.specs.declared.noted.Noted.{Noted}
+use Rattle.recorded_lane.specs.declared.noted.Noted.{Noted}
+use Rattle.recorded_lane.specs.Points.{noted_in}
 use Rattle.history_recorder.specs.Done.{done_with, dones_in}
-use Rattle.history_recorder.specs.Points.{noted_in}
 use Rattle.shared_cache.specs.Claimed.{AreClaimed, Fits, IsEnded, IsFirstFree, IsTaken, noted_of, slots_in, weigh_slots}
 use Rattle.shared_cache.specs.Listed.{Listed}
 use Rattle.shared_cache.specs.Finished.{done_of}

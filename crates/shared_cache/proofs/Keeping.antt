@@ -7,8 +7,8 @@ use Rattle.std.proofs.lemmas.Option.{same_Some, slice_get-get_or, slice_get-map}
 use Rattle.trace_file.specs.declared.call.Call.{Call}
 use Rattle.trace_file.specs.Stored.{LiesIn, call_in}
 use Rattle.trace_file.proofs.StoreLaws.{calls_in-more}
-use Rattle.history_recorder.specs.declared.noted.Noted.{Noted}
-use Rattle.history_recorder.specs.Points.{noted_in}
+use Rattle.recorded_lane.specs.declared.noted.Noted.{Noted}
+use Rattle.recorded_lane.specs.Points.{noted_in}
 use Rattle.history_recorder.proofs.Stamps.{found_right}
 use Rattle.shared_cache.specs.declared.listed_entry.ListedEntry.{ListedEntry}
 use Rattle.shared_cache.specs.Listed.{Listed, calls_listed, listed_in}

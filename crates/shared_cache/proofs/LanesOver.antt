@@ -10,10 +10,10 @@ use Rattle.trace_file.specs.declared.call.Call.{Call}
 use Rattle.certificate_checker.specs.declared.done.Done.{Done}
 use Rattle.certificate_checker.specs.Latest.{IsLawful}
 use Rattle.certificate_checker.specs.Lanes.{calls_of, PointsRise, IsLane, ArePlaced}
-use Rattle.history_recorder.specs.declared.noted.Noted.{Noted}
-use Rattle.history_recorder.specs.Lane.{Lane, IsRecorded, deed_noted, max_calls}
+use Rattle.recorded_lane.specs.declared.noted.Noted.{Noted}
+use Rattle.recorded_lane.specs.Lane.{Lane, IsRecorded, deed_noted, max_calls}
+use Rattle.recorded_lane.specs.Points.{at_point, noted_in}
 use Rattle.history_recorder.specs.Operations.{lane_of_key}
-use Rattle.history_recorder.specs.Points.{at_point, noted_in}
 use Rattle.shared_cache.specs.declared.lane_left.LaneLeft.{LaneLeft}
 use Rattle.shared_cache.specs.Claimed.{noted_of, recorded_of, IsEnded}
 use Rattle.shared_cache.specs.Settled.{AreNumbered, recorded_in}

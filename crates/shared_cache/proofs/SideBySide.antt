@@ -6,8 +6,8 @@ use Rattle.std.proofs.lemmas.List.Elements.{All-cons, All-nil}
 use Rattle.std.proofs.lemmas.List.Sums.{sum_by-append}
 use mathlib.Core.List.{map-append}
 use Rattle.std.proofs.lemmas.Option.{slice_get-get_or, slice_get_within, same_Some, get_or_from_slice_get}
-use Rattle.history_recorder.specs.declared.noted.Noted.{Noted}
-use Rattle.history_recorder.specs.Points.{noted_in}
+use Rattle.recorded_lane.specs.declared.noted.Noted.{Noted}
+use Rattle.recorded_lane.specs.Points.{noted_in}
 use Rattle.history_recorder.proofs.Indexing.{at_so, all_by_index}
 use Rattle.history_recorder.proofs.Stamps.{found_before, found_left, found_right}
 use Rattle.certificate_checker.specs.declared.done.Done.{Done}

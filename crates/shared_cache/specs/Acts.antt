@@ -6,11 +6,11 @@ use Rattle.mover.specs.Store.{StoreState}
 use Rattle.mover.specs.Calls.{StoreGets, StorePuts, StoreRemoves}
 use Rattle.trace_file.specs.declared.act.Act.{Act}
 use Rattle.trace_file.specs.declared.act.Act.TheVariants as acts
-use Rattle.history_recorder.specs.declared.noted.Noted.{Noted}
+use Rattle.recorded_lane.specs.declared.noted.Noted.{Noted}
+use Rattle.recorded_lane.specs.Lane.{Lane, act_of, max_calls}
+use Rattle.recorded_lane.specs.Answering.{MayHaveGot}
 use Rattle.history_recorder.specs.declared.operation.Operation.{Operation}
 use Rattle.history_recorder.specs.declared.operation.Operation.TheVariants as asked
-use Rattle.history_recorder.specs.Lane.{Lane, act_of, max_calls}
-use Rattle.history_recorder.specs.Answering.{MayHaveGot}
 use Rattle.history_recorder.specs.Operations.{key_of}
 use Rattle.shared_cache.specs.declared.act_fault.ActFault.{ActFault}
 use Rattle.shared_cache.specs.declared.act_fault.ActFault.TheVariants.{HistoryLost, HistoryFull, ClockFull, OutOfMemory}

@@ -1,7 +1,7 @@
 -- Why the calls that passes list are not just those that lanes recorded: by the number of the first that is amiss.
 use Rattle.std.specs.Prelude.{◌≡◌, ℕ, zero, suc, ◌+◌, ◌<◌, List, [], ◌∷◌, ◌++◌, Option, Some, None, All, length, take, slice_get}
 use Rattle.std.specs.List.{Contains, flat_map}
-use Rattle.history_recorder.specs.declared.noted.Noted.{Noted}
+use Rattle.recorded_lane.specs.declared.noted.Noted.{Noted}
 use Rattle.shared_cache.specs.declared.finish_fault.FinishFault.{FinishFault}
 use Rattle.shared_cache.specs.declared.finish_fault.FinishFault.TheVariants.{MissingPass, Strange, OutOfMemory, LaneLost, Unlisted}
 use Rattle.shared_cache.specs.Listed.{Listed}

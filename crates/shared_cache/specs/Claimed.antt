@@ -3,9 +3,9 @@
 use Rattle.std.specs.Prelude.{◌≡◌, ◌≢◌, ◌↔◌, ℕ, ◌<◌, ◌≤◌, List, [], ◌∷◌, Option, Some, None, length, map, replicate, slice_get, sum_by}
 use Rattle.std.specs.Option.{option_map, option_map_or}
 use Rattle.trace_file.specs.declared.call.Call.{Call}
-use Rattle.history_recorder.specs.declared.noted.Noted.{Noted}
+use Rattle.recorded_lane.specs.declared.noted.Noted.{Noted}
+use Rattle.recorded_lane.specs.Points.{noted_in}
 use Rattle.history_recorder.specs.Done.{done_with}
-use Rattle.history_recorder.specs.Points.{noted_in}
 use Rattle.certificate_checker.specs.declared.done.Done.{Done}
 use Rattle.shared_cache.specs.declared.finish_fault.FinishFault.{FinishFault}
 use Rattle.shared_cache.specs.declared.finish_fault.FinishFault.TheVariants.{OutOfMemory, LaneLost}

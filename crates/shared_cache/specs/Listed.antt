@@ -1,8 +1,8 @@
 -- A call that a pass lists.
 use Rattle.std.specs.Prelude.{ℕ, List, map}
 use Rattle.trace_file.specs.Stored.{call_in}
-use Rattle.history_recorder.specs.declared.noted.Noted.{Noted}
-use Rattle.history_recorder.specs.Points.{noted_in, noted_shown}
+use Rattle.recorded_lane.specs.declared.noted.Noted.{Noted}
+use Rattle.recorded_lane.specs.Points.{noted_in, noted_shown}
 use Rattle.shared_cache.specs.declared.listed_entry.ListedEntry.{ListedEntry}
 use Rattle.shared_cache.specs.declared.listed_ref.ListedRef.{ListedRef}
 

@@ -1,8 +1,8 @@
 -- Lanes that are over. No contract of a public call cites this: it is how `finish` goes its way.
 use Rattle.std.specs.Prelude.{◌≡◌, ℕ, suc, ◌<◌, ◌≤◌, List, [], ◌∷◌, Bool, IsTrue, All, AllPairs, length}
 use Rattle.certificate_checker.specs.Latest.{IsLawful}
-use Rattle.history_recorder.specs.Lane.{deeds_of, max_calls}
-use Rattle.history_recorder.specs.declared.noted.Noted.{Noted}
+use Rattle.recorded_lane.specs.Lane.{deeds_of, max_calls}
+use Rattle.recorded_lane.specs.declared.noted.Noted.{Noted}
 
 -- what is true of the calls of a lane that is over, where each key has a lane: the keys are of the lane with this number,
 -- calls start before their points, points rise, and where its device is honest the calls are lawful

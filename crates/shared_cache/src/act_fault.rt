@@ -1,5 +1,5 @@
 // Why a call was not made.
-use history_recorder::Noted;
+use recorded_lane::Noted;
 use std::alloc::AllocError;
 use thiserror::Error;
 

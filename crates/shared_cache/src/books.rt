@@ -4,15 +4,15 @@ ghost use Rattle.std.specs.Prelude.{◌≡◌, ◌≢◌, ◌↔◌, ◌+◌, �
 ghost use Rattle.std.specs.Option.{option_map};
 ghost use Rattle.std.specs.Vec.{vec_capacity};
 ghost use Rattle.record_pages.specs.Bounded.{IsKey, IsValue};
-ghost use Rattle.record_pages.specs.Asked.{layout_pages};
+ghost use Rattle.record_pages.specs.Asked.{layout_pages, HasNumbersOf};
 ghost use Rattle.record_pages.specs.Sizes.{IsPageSize};
 ghost use Rattle.mover.specs.Store.{opening};
-ghost use Rattle.history_recorder.specs.Lane.{IsOfLane, max_calls};
+ghost use Rattle.recorded_lane.specs.Lane.{IsOfLane, max_calls};
+ghost use Rattle.recorded_lane.specs.Points.{noted_in, noted_shown};
 ghost use Rattle.history_recorder.specs.Operations.{key_of, lane_of_key};
 ghost use Rattle.trace_file.specs.Calls.{value_of};
 ghost use Rattle.trace_file.specs.Lent.{act_shown};
 ghost use Rattle.trace_file.specs.Stored.{LiesIn, call_in};
-ghost use Rattle.history_recorder.specs.Points.{noted_in, noted_shown};
 ghost use Rattle.shared_cache.specs.Listed.{listed_shown};
 ghost use Rattle.shared_cache.specs.Passes.{former, kept_with_end, most_bytes, with_end, IsTimely, new_ticket, most_lanes};
 ghost use Rattle.shared_cache.specs.Over.{IsOver};
@@ -30,10 +30,10 @@ use crate::listed_calls::ListedCalls;
 use crate::listed_entry::ListedEntry;
 use crate::listed_ref::ListedRef;
 use crate::performing::perform;
-use history_recorder::{MAX_CALLS, NotedRef, RecordedLane, RecordedParts};
 use lane_devices::Boxed;
 use page_device::PageDevice;
-use record_pages::{Key, Layout, Value};
+use record_pages::{Config, Key, Layout, Value};
+use recorded_lane::{MAX_CALLS, NotedRef, RecordedLane, RecordedParts};
 use std::alloc::{AllocError, Global};
 use std::marker::Model;
 use trace_file::{CallRef, Entry};
@@ -222,7 +222,7 @@ pub struct LaneBook<D: PageDevice<PAGE>, const PAGE: usize> {
 impl<D: PageDevice<PAGE>, const PAGE: usize> Model for LaneBook<D, PAGE> {
     ghost use Rattle.std.specs.Coded.{codes};
     ghost use Rattle.kset.specs.Sets.{sets_code};
-    ghost use Rattle.history_recorder.specs.Lane.{Lane};
+    ghost use Rattle.recorded_lane.specs.Lane.{Lane};
     ghost use Rattle.shared_cache.specs.Acts.{IsBook};
 
     ghost Value = { Lane D };
@@ -262,6 +262,13 @@ impl<D: PageDevice<PAGE>, const PAGE: usize> LaneBook<D, PAGE> {
         ensures below { result < self.now.store.layout.lanes }
     {
         self.recorded.lane()
+    }
+
+    /// The configuration that its lane was opened with.
+    pub fn config(&self) -> Config
+        ensures { HasNumbersOf self.now.store.layout result }
+    {
+        self.recorded.config()
     }
 
     /// Whether it is of the lane with this number, and of this layout.

@@ -1,5 +1,5 @@
 // Why a call of a cache was refused.
-use history_recorder::Noted;
+use recorded_lane::Noted;
 use thiserror::Error;
 
 /// Why a call was refused. It is in no history, and its pass lists no call more.

@@ -2,9 +2,9 @@
 ghost use Rattle.std.specs.Prelude.{◌≡◌, ◌↔◌, IsTrue};
 ghost use Rattle.trace_file.specs.declared.act.Act.{Act};
 ghost use Rattle.trace_file.specs.Lent.{act_shown};
-ghost use Rattle.history_recorder.specs.Points.{noted_shown};
+ghost use Rattle.recorded_lane.specs.Points.{noted_shown};
 
-use history_recorder::NotedRef;
+use recorded_lane::NotedRef;
 use trace_file::ActRef;
 
 /// Whether a call is the one that a lane recorded: caller, start, point, key, kind, value and time.

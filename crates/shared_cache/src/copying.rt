@@ -3,10 +3,10 @@ ghost use Rattle.std.specs.Prelude.{◌≡◌, IfOk};
 ghost use Rattle.record_pages.specs.Bounded.{IsKey, IsValue};
 ghost use Rattle.trace_file.specs.Calls.{value_of};
 ghost use Rattle.trace_file.specs.Lent.{act_shown};
-ghost use Rattle.history_recorder.specs.Points.{noted_shown};
+ghost use Rattle.recorded_lane.specs.Points.{noted_shown};
 
-use history_recorder::{Noted, NotedRef};
 use record_pages::{Key, Value};
+use recorded_lane::{Noted, NotedRef};
 use std::alloc::{AllocError, Global};
 use trace_file::{Act, ActRef};
 

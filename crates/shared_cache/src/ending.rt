@@ -1,8 +1,8 @@
 // The lanes of a cache that is over.
 ghost use Rattle.std.specs.Prelude.{◌≡◌, ◌≢◌, ◌<◌, ◌≤◌, ℕ, All, IfOk, IfErr, IsSomeAnd, Ok, length, map, slice_get, sum_by};
 ghost use Rattle.std.specs.List.Sorted.{IsNonDecreasingBy, IsPermutation};
+ghost use Rattle.recorded_lane.specs.Points.{noted_in};
 ghost use Rattle.history_recorder.specs.Operations.{lane_of_key};
-ghost use Rattle.history_recorder.specs.Points.{noted_in};
 ghost use Rattle.certificate_checker.specs.Lanes.{Stamped, stamped};
 ghost use Rattle.shared_cache.specs.Passes.{most_lanes};
 ghost use Rattle.shared_cache.specs.declared.place.Place.{Place};
@@ -19,9 +19,10 @@ use crate::lane_left::LaneLeft;
 use crate::listed_calls::ListedCalls;
 use crate::settling::settle;
 use crossbeam_utils::CachePadded;
-use history_recorder::{Dones, RecordedParts};
+use history_recorder::Dones;
 use page_device::PageDevice;
 use record_pages::Layout;
+use recorded_lane::RecordedParts;
 use std::alloc::{AllocError, Global};
 use std::collections::VecDeque;
 use std::sync::Mutex;

@@ -1,6 +1,6 @@
 // A lane's calls, while the passes claim them.
 ghost use Rattle.std.specs.Prelude.{◌≡◌, ◌↔◌, ℕ, ◌≤◌, IfOk, IfErr, OnOk, IsTrue, IsFalse, All, map, sum_by, replicate, slice_set, None, Some};
-ghost use Rattle.history_recorder.specs.Points.{noted_in};
+ghost use Rattle.recorded_lane.specs.Points.{noted_in};
 ghost use Rattle.certificate_checker.specs.declared.done.Done.{Done};
 ghost use Rattle.shared_cache.specs.Finished.{done_of};
 ghost use Rattle.shared_cache.specs.Listed.{listed_shown};
@@ -8,7 +8,8 @@ ghost use Rattle.shared_cache.specs.Claimed.{Fits, IsEnded, IsFresh, IsTaken, Is
 
 use crate::comparing::is_recorded_as;
 use crate::listed_ref::ListedRef;
-use history_recorder::{Dones, NotedRef};
+use history_recorder::Dones;
+use recorded_lane::NotedRef;
 use std::alloc::{AllocError, Global};
 use std::collections::VecDeque;
 use std::marker::Model;
@@ -23,7 +24,7 @@ pub(crate) struct LaneClaims {
 
 impl Model for LaneClaims {
     ghost use Rattle.std.specs.Prelude.{map};
-    ghost use Rattle.history_recorder.specs.Points.{noted_in};
+    ghost use Rattle.recorded_lane.specs.Points.{noted_in};
     ghost use Rattle.shared_cache.specs.Claimed.{Claims, IsClaims, slots_in};
 
     ghost Value = { Claims };

@@ -6,7 +6,7 @@ ghost use Rattle.shared_cache.specs.Passes.{IsInOrder};
 
 use crate::listed_entry::ListedEntry;
 use crate::listed_ref::ListedRef;
-use history_recorder::NotedRef;
+use recorded_lane::NotedRef;
 use std::marker::Model;
 
 /// The calls that a pass lists, in their order, lent by it. Threads may share it, as they may not share a pass.

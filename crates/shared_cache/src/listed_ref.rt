@@ -1,5 +1,5 @@
 // A call that a pass lists, lent.
-use history_recorder::NotedRef;
+use recorded_lane::NotedRef;
 
 /// A call as the pass of its caller lists it, with its bytes lent by the pass.
 #[derive(Clone, Copy)]

@@ -1,15 +1,15 @@
 // What is asked, performed and recorded by its lane.
 ghost use Rattle.std.specs.Prelude.{◌≡◌, ◌<◌, ◌++◌, ◌∷◌, [], All, IfOk, IfErr, OnErr, length};
-ghost use Rattle.history_recorder.specs.Lane.{IsOfLane, max_calls};
+ghost use Rattle.recorded_lane.specs.Lane.{IsOfLane, max_calls};
 ghost use Rattle.history_recorder.specs.Operations.{key_of};
 ghost use Rattle.shared_cache.specs.Acts.{ActGives, ActLeaves, IsFitting, asked_shown, made};
 
 use crate::act_fault::ActFault;
 use crate::asked::Asked;
 use crate::outcome::Outcome;
-use history_recorder::RecordedLane;
 use lane_devices::Boxed;
 use page_device::PageDevice;
+use recorded_lane::RecordedLane;
 
 /// Has a lane answer what is asked and record it. Only memory may be refused.
 pub(crate) fn perform<D: PageDevice<PAGE>, const PAGE: usize>(

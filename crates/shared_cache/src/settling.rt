@@ -1,6 +1,6 @@
 // A lane's calls with the ends that are listed.
 ghost use Rattle.std.specs.Prelude.{◌≡◌, ◌+◌, ◌<◌, ◌++◌, [], List, IfSome, IfNone, length, map};
-ghost use Rattle.history_recorder.specs.Points.{noted_in};
+ghost use Rattle.recorded_lane.specs.Points.{noted_in};
 ghost use Rattle.shared_cache.specs.Listed.{Listed};
 ghost use Rattle.shared_cache.specs.Settled.{IsMade, IsStrangeIn, IsStrangeAt, Settles, all_in};
 

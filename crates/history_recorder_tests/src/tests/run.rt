@@ -196,7 +196,7 @@ fn is_own<D: PageDevice<PAGE>, const PAGE: usize>(lane: &RecordedLane<D, PAGE>, 
     place(&layout, key.bytes()).lane == lane.lane()
 }
 
-ghost use Rattle.history_recorder.specs.Lane.{IsOfLane};
+ghost use Rattle.recorded_lane.specs.Lane.{IsOfLane};
 
 // A key, if it belongs to a lane.
 fn own_key<D: PageDevice<PAGE>, const PAGE: usize>(

@@ -1,6 +1,6 @@
 -- The replies to a put.
 use Rattle.std.proofs.Common.{◌++◌, Err, sym, ap, ◌∙◌}
-use Rattle.history_recorder.specs.declared.record_put_fault.RecordPutFault.TheVariants.{TooLarge, HistoryFull}
+use Rattle.recorded_lane.specs.declared.record_put_fault.RecordPutFault.TheVariants.{TooLarge, HistoryFull}
 use Rattle.scripts.specs.Own.{seen_of}
 use Rattle.scripts.proofs.Full.{on_ok, no_err, stored_text, large_text, full_text}
 use Rattle.scripts.proofs.replies.put_reply.Goals as goal

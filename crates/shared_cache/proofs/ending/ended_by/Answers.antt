@@ -2,7 +2,7 @@
 use Rattle.std.proofs.Common.{rules, ◌≡◌, ◌∙◌, Err, sym, subst, length, map, arith}
 use Rattle.std.specs.Prelude.{IfNone, IfSome}
 use Rattle.std.proofs.lemmas.List.{length-map}
-use Rattle.history_recorder.specs.Points.{noted_in}
+use Rattle.recorded_lane.specs.Points.{noted_in}
 use Rattle.shared_cache.specs.declared.finish_fault.FinishFault.TheVariants.{OutOfMemory}
 use Rattle.shared_cache.specs.declared.lane_left.LaneLeft.{LaneLeft}
 use Rattle.shared_cache.specs.Settled.{AreSettled, IsFirstPlace, IsOutAt, IsRefused, recorded_in}

@@ -1,6 +1,6 @@
 use Rattle.std.proofs.Common.{rules, get_or, ◌≡◌, ◌∙◌, sym, map, subst}
 use Rattle.std.proofs.lemmas.Option.{get_or_from_slice_get}
-use Rattle.history_recorder.specs.Points.{noted_in}
+use Rattle.recorded_lane.specs.Points.{noted_in}
 use Rattle.shared_cache.specs.declared.lane_left.LaneLeft.{LaneLeft}
 use Rattle.shared_cache.specs.Settled.{Settles}
 use Rattle.shared_cache.proofs.SideBySide.{both_ok, settled_by}

@@ -7,8 +7,8 @@ use Rattle.std.proofs.lemmas.Option.{slice_get_within}
 use Rattle.record_pages.specs.declared.layout.Layout.{Layout}
 use Rattle.set_hash.specs.declared.placed.Placed.{Placed}
 use Rattle.mover.specs.Lane.{LaneState}
+use Rattle.recorded_lane.specs.declared.noted.Noted.{Noted}
 use Rattle.history_recorder.specs.declared.event.Event.TheVariants as events
-use Rattle.history_recorder.specs.declared.noted.Noted.{Noted}
 use Rattle.history_recorder.specs.declared.phase.Phase.TheVariants as phases
 use Rattle.history_recorder.specs.Operations.{lane_of, lane_of_key, noted_by, calls_with, AnswersAt}
 use Rattle.history_recorder.specs.Books.{Books, lane_at, noted_of, after_noted}

@@ -1,7 +1,7 @@
 -- A device in memory does not fail, so a flush step is its function.
 use Rattle.std.proofs.Common.{◌≡◌, subst}
 use Rattle.mover.specs.Flush.{flush_step}
-use Rattle.history_recorder.specs.Lane.{Lane}
+use Rattle.recorded_lane.specs.Lane.{Lane}
 use Rattle.scripts.specs.Own.{Pages, seen_of, with_lane}
 use Rattle.scripts.proofs.Seen.{flushed}
 use Rattle.scripts.proofs.script_lane.ScriptLane.flush_step.Goals as goal

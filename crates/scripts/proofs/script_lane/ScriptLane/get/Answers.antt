@@ -1,7 +1,7 @@
 -- A device in memory does not fail, so a get is its step.
 use Rattle.std.proofs.Common.{◌≡◌, subst}
 use Rattle.mover.specs.Get.{get_step}
-use Rattle.history_recorder.specs.Lane.{Lane, act_of}
+use Rattle.recorded_lane.specs.Lane.{Lane, act_of}
 use Rattle.scripts.specs.Own.{Pages, seen_of, after_call}
 use Rattle.scripts.proofs.Seen.{got, goes_on}
 use Rattle.scripts.proofs.script_lane.ScriptLane.get.Goals as goal

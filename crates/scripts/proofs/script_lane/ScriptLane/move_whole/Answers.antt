@@ -2,7 +2,7 @@
 use Rattle.std.proofs.Common.{◌≡◌, subst}
 use Rattle.rriparoo.specs.Rriparoo.{rriparoo_plan}
 use Rattle.mover.specs.Whole.{move_step}
-use Rattle.history_recorder.specs.Lane.{Lane}
+use Rattle.recorded_lane.specs.Lane.{Lane}
 use Rattle.scripts.specs.Own.{Pages, seen_of, with_lane}
 use Rattle.scripts.proofs.Seen.{moved}
 use Rattle.scripts.proofs.script_lane.ScriptLane.move_whole.Goals as goal

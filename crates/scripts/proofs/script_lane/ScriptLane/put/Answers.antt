@@ -3,7 +3,7 @@ use Rattle.std.proofs.Common.{◌≡◌, subst}
 use Rattle.trace_file.specs.declared.act.Act.TheVariants.{Put}
 use Rattle.record_pages.specs.Expiry.{timed}
 use Rattle.mover.specs.Put.{put_step}
-use Rattle.history_recorder.specs.Lane.{Lane}
+use Rattle.recorded_lane.specs.Lane.{Lane}
 use Rattle.scripts.specs.Own.{Pages, seen_of, after_call}
 use Rattle.scripts.proofs.Seen.{called, goes_on}
 use Rattle.scripts.proofs.script_lane.ScriptLane.put.Goals as goal

@@ -5,7 +5,7 @@ use Rattle.std.proofs.lemmas.List.{length-map}
 use Rattle.std.proofs.lemmas.List.FromFn.{length-range_with_len}
 use Rattle.std.proofs.Math.Seq.{take-length}
 use Rattle.certificate_checker.specs.Acceptance.{IsAccepted}
-use Rattle.history_recorder.specs.Points.{noted_shown}
+use Rattle.recorded_lane.specs.Points.{noted_shown}
 use Rattle.scripts.specs.Own.{ended, own_history}
 use Rattle.scripts.proofs.OwnHistory.{next_history, next_certificate, accepted}
 use Rattle.scripts.proofs.script_lane.ScriptLane.recording.Goals as goal

@@ -1,7 +1,7 @@
 -- The store of a book after a move was given up.
 use Rattle.std.proofs.Common.{subst}
 use Rattle.mover.specs.Calls.{StoreAborts}
-use Rattle.history_recorder.specs.Lane.{Lane}
+use Rattle.recorded_lane.specs.Lane.{Lane}
 use Rattle.shared_cache.proofs.books.LaneBook.abort.Goals as goal
 
 pub returns-clause-aborts : goal.returns-clause-aborts

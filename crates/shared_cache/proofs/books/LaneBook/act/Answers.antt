@@ -1,8 +1,8 @@
 use Rattle.std.proofs.Common.{rules, ap, arith, refl, ◌≡◌, ◌≤◌, ◌∙◌, ◌++◌, ◌∷◌, [], List, ℕ, length}
 use Rattle.trace_file.specs.Calls.{value_of}
 use Rattle.trace_file.specs.Lent.{act_shown}
-use Rattle.history_recorder.specs.declared.noted.Noted.{Noted}
-use Rattle.history_recorder.specs.Points.{noted_shown}
+use Rattle.recorded_lane.specs.declared.noted.Noted.{Noted}
+use Rattle.recorded_lane.specs.Points.{noted_shown}
 use Rattle.shared_cache.specs.declared.listed_entry.ListedEntry.{ListedEntry}
 use Rattle.shared_cache.specs.Acts.{asked_shown, made}
 use Rattle.shared_cache.specs.Listed.{Listed, calls_listed, listed_in}

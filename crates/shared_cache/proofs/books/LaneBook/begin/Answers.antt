@@ -1,7 +1,7 @@
 -- The store of a book after a move began.
 use Rattle.std.proofs.Common.{subst}
 use Rattle.mover.specs.Calls.{StoreBegins}
-use Rattle.history_recorder.specs.Lane.{Lane}
+use Rattle.recorded_lane.specs.Lane.{Lane}
 use Rattle.shared_cache.proofs.books.LaneBook.begin.Goals as goal
 
 pub returns-clause-begins : goal.returns-clause-begins

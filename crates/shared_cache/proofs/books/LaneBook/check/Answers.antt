@@ -1,7 +1,7 @@
 use Rattle.std.proofs.Common.{rules, ◌≡◌, ◌≢◌, ◌∙◌, ap, sym, Err, Some, slice_get}
 use Rattle.std.proofs.lemmas.Option.{same_Some}
 use Rattle.std.specs.Option.{option_map}
-use Rattle.history_recorder.specs.Points.{noted_shown}
+use Rattle.recorded_lane.specs.Points.{noted_shown}
 use Rattle.shared_cache.specs.declared.act_fault.ActFault.TheVariants.{OutOfMemory}
 use Rattle.shared_cache.specs.Listed.{listed_shown}
 use Rattle.shared_cache.specs.Passes.{former}

@@ -1,7 +1,7 @@
 -- The store of a book after a move ended, or was not to end.
 use Rattle.std.proofs.Common.{subst}
 use Rattle.mover.specs.Calls.{StoreCommits}
-use Rattle.history_recorder.specs.Lane.{Lane}
+use Rattle.recorded_lane.specs.Lane.{Lane}
 use Rattle.shared_cache.proofs.books.LaneBook.commit.Goals as goal
 
 pub returns-clause-commits : goal.returns-clause-commits

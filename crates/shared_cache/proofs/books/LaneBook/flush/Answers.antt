@@ -1,7 +1,7 @@
 -- The store of a book after a step of flushing.
 use Rattle.std.proofs.Common.{subst}
 use Rattle.mover.specs.Calls.{StoreFlushes}
-use Rattle.history_recorder.specs.Lane.{Lane}
+use Rattle.recorded_lane.specs.Lane.{Lane}
 use Rattle.shared_cache.proofs.books.LaneBook.flush.Goals as goal
 
 pub returns-clause-flushes : goal.returns-clause-flushes

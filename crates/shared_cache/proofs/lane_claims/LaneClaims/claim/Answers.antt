@@ -1,7 +1,7 @@
 use Rattle.std.proofs.Common.{rules, List, Option, ◌≡◌, ◌∙◌, ap, Some, refl, sym, subst, map, set, slice_get, slice_set, length, length-set}
 use Rattle.std.proofs.lemmas.Option.{slice_get_read}
 use Rattle.certificate_checker.specs.declared.done.Done.{Done}
-use Rattle.history_recorder.specs.Points.{noted_in}
+use Rattle.recorded_lane.specs.Points.{noted_in}
 use Rattle.trace_file.specs.Lent.{call_shown}
 use Rattle.shared_cache.specs.Claimed.{AreClaimed, Claims, Fits, slots_in}
 use Rattle.shared_cache.specs.Finished.{done_of}

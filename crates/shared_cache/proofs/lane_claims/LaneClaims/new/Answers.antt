@@ -1,6 +1,6 @@
 use Rattle.std.proofs.Common.{None, ◌∙◌, ap, replicate, sym}
 use Rattle.std.proofs.lemmas.List.{length-map, length-replicate}
-use Rattle.history_recorder.specs.Points.{noted_in}
+use Rattle.recorded_lane.specs.Points.{noted_in}
 use Rattle.shared_cache.proofs.Claiming.{claimed_none}
 use Rattle.shared_cache.proofs.Ends.{slots_none}
 use Rattle.shared_cache.proofs.lane_claims.LaneClaims.new.Goals as goal

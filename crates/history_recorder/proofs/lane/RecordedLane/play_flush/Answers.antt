@@ -1,6 +1,0 @@
--- The flush step.
-use Rattle.history_recorder.proofs.LanesPlayed.{flushed_so}
-use Rattle.history_recorder.proofs.lane.RecordedLane.play_flush.Goals as goal
-
-pub returns : goal.returns
-returns g c = flushed_so g.D.PageDevice.honest g.D.PageDevice.failures g.D.PageDevice.held c.args.self.now c.flush_step-flushed.new.self c.recall.ensures g.row.PAGE c.args.lane c.flush_step-flushed.result c.flush_step-flushed.ensures.unrecorded c.flush_step-flushed.ensures.flushes

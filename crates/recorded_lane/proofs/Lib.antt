@@ -1,0 +1,5 @@
+pub mod Ending
+pub mod InTurn
+pub mod Kept
+pub mod Points
+pub mod Noting

@@ -1,0 +1,4 @@
+pub mod Answering
+pub mod Lane
+pub mod Laws
+pub mod Points
