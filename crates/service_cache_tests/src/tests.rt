@@ -4,6 +4,7 @@ mod calls;
 mod many;
 mod opening;
 mod seats;
+mod seeds;
 mod tending;
 mod threads;
 mod trials;

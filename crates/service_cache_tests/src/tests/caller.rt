@@ -3,7 +3,7 @@ ghost use Rattle.std.specs.Prelude.{◌≤◌};
 
 use super::*;
 use mover::Seen;
-use record_pages::{Key, Value};
+use record_pages::{Key, MissCause, Tier, Value};
 
 /// How many keys a caller has, which no other one writes.
 pub const KEYS: usize = 64;
@@ -11,32 +11,56 @@ pub const KEYS: usize = 64;
 /// How its calls went.
 #[derive(Clone, Copy, Debug, PartialEq, Eq)]
 pub struct Tally {
-    /// Hits of the latest value.
-    pub hits: u32,
-    /// Hits of another one.
-    pub wrong: u32,
-    /// Misses.
-    pub misses: u32,
+    /// Hits of the latest value, while it was live, by tier.
+    pub memory: u64,
+    pub log: u64,
+    pub set: u64,
+    /// Misses that may be, by cause. A value that had expired may be told as absent, if it was lost.
+    pub absent: u64,
+    pub expired: u64,
+    pub failed: u64,
+    /// Hits of another value, or of one that had expired; and live values that were told as expired.
+    pub wrong: u64,
     /// Refused calls.
-    pub refused: u32,
+    pub refused: u64,
 }
 
 pub const NONE: Tally = Tally {
-    hits: 0,
+    memory: 0,
+    log: 0,
+    set: 0,
+    absent: 0,
+    expired: 0,
+    failed: 0,
     wrong: 0,
-    misses: 0,
     refused: 0,
 };
 
 /// The sum of two.
 pub fn sum(one: Tally, other: Tally) -> Tally {
     Tally {
-        hits: one.hits.wrapping_add(other.hits),
+        memory: one.memory.wrapping_add(other.memory),
+        log: one.log.wrapping_add(other.log),
+        set: one.set.wrapping_add(other.set),
+        absent: one.absent.wrapping_add(other.absent),
+        expired: one.expired.wrapping_add(other.expired),
+        failed: one.failed.wrapping_add(other.failed),
         wrong: one.wrong.wrapping_add(other.wrong),
-        misses: one.misses.wrapping_add(other.misses),
         refused: one.refused.wrapping_add(other.refused),
     }
 }
+
+// What a caller knows of a key: the number of its latest value, 0 for none, and when that expires.
+#[derive(Clone, Copy)]
+struct Version {
+    number: u32,
+    expires: u64,
+}
+
+const NO_VERSION: Version = Version {
+    number: 0,
+    expires: NEVER,
+};
 
 // The next of the numbers that a caller draws.
 fn next(drawn: u64) -> u64 {
@@ -62,43 +86,40 @@ fn len_of(version: u32) -> usize
     4 + version as usize % 57
 }
 
+// Whether this is the value of a version.
+fn is_of(found: &ValueBuffer, version: Version) -> bool {
+    let bytes = bytes_of(version.number);
+    version.number != 0 && found.bytes() == &bytes[..len_of(version.number)]
+}
+
+// One answer of a get.
+fn told(seen: Seen, found: &ValueBuffer, version: Version, moment: u64) -> Tally {
+    let is_live = version.expires == NEVER || moment < version.expires;
+    match seen {
+        Seen::Hit(_) if !is_live || !is_of(found, version) => Tally { wrong: 1, ..NONE },
+        Seen::Hit(Tier::Memory) => Tally { memory: 1, ..NONE },
+        Seen::Hit(Tier::Log) => Tally { log: 1, ..NONE },
+        Seen::Hit(Tier::Set) => Tally { set: 1, ..NONE },
+        Seen::Miss(MissCause::Absent) => Tally { absent: 1, ..NONE },
+        Seen::Miss(MissCause::Expired) if is_live => Tally { wrong: 1, ..NONE },
+        Seen::Miss(MissCause::Expired) => Tally { expired: 1, ..NONE },
+        Seen::Miss(_) => Tally { failed: 1, ..NONE },
+    }
+}
+
 // Makes a get, and says how it went. A key that has no version must miss.
 fn get<D: PageDevice<256>, L: KeyLanes, J: Naming, R: Wait>(
     rt: &R,
     cache: &Cache<D, L, J>,
     seat: &mut Seat<L, J>,
     name: &[u8; 2],
-    version: u32,
-    tally: Tally,
+    version: Version,
+    moment: u64,
 ) -> Tally {
     let mut found = ValueBuffer::empty();
-    match cache.get(rt, seat, name, 0, &mut found) {
-        Ok(Seen::Hit(_)) => {
-            let bytes = bytes_of(version);
-            if version != 0 && found.bytes() == &bytes[..len_of(version)] {
-                Tally {
-                    hits: tally.hits.wrapping_add(1),
-                    ..tally
-                }
-            } else {
-                Tally {
-                    wrong: tally.wrong.wrapping_add(1),
-                    ..tally
-                }
-            }
-        }
-        Ok(Seen::Miss(_)) => Tally {
-            misses: tally.misses.wrapping_add(1),
-            ..tally
-        },
-        Err(_) => refused(tally),
-    }
-}
-
-fn refused(tally: Tally) -> Tally {
-    Tally {
-        refused: tally.refused.wrapping_add(1),
-        ..tally
+    match cache.get(rt, seat, name, moment, &mut found) {
+        Ok(seen) => told(seen, &found, version, moment),
+        Err(_) => Tally { refused: 1, ..NONE },
     }
 }
 
@@ -108,9 +129,9 @@ fn removed<D: PageDevice<256>, L: KeyLanes, J: Naming, R: Wait>(
     cache: &Cache<D, L, J>,
     seat: &mut Seat<L, J>,
     name: &[u8; 2],
-) -> u32 {
+) -> Version {
     let _removed = cache.remove(rt, seat, name);
-    0
+    NO_VERSION
 }
 
 // Puts a version; the key has none after a put that is refused.
@@ -120,22 +141,32 @@ fn put<D: PageDevice<256>, L: KeyLanes, J: Naming, R: Wait>(
     cache: &Cache<D, L, J>,
     seat: &mut Seat<L, J>,
     name: &[u8; 2],
-    version: u32,
-) -> u32 {
-    let bytes = bytes_of(version);
+    version: Version,
+) -> Version {
+    let bytes = bytes_of(version.number);
     let Ok(key) = Key::new(alloc, name) else {
         return removed(rt, cache, seat, name);
     };
-    let Ok(value) = Value::new(alloc, &bytes[..len_of(version)]) else {
+    let Ok(value) = Value::new(alloc, &bytes[..len_of(version.number)]) else {
         return removed(rt, cache, seat, name);
     };
-    match cache.put(rt, seat, key, value, NEVER) {
+    match cache.put(rt, seat, key, value, version.expires) {
         Ok(_) => version,
-        Err(_) => 0,
+        Err(_) => NO_VERSION,
     }
 }
 
-/// Makes so many calls: of ten five are gets, four puts and one a removal.
+// The version that a call puts, whose number is the call's moment too: every second one expires, within 256 calls.
+fn version_at(number: u32, drawn: u64) -> Version {
+    let expires = if drawn >> 63 == 0 {
+        NEVER
+    } else {
+        u64::from(number).wrapping_add((drawn >> 50) % 256)
+    };
+    Version { number, expires }
+}
+
+/// Makes so many calls: of ten five are gets, four puts and one a removal. The number of a call, from 1, is its moment.
 pub fn calls<D: PageDevice<256>, L: KeyLanes, J: Naming, R: Wait>(
     rt: &R,
     alloc: Global,
@@ -144,17 +175,24 @@ pub fn calls<D: PageDevice<256>, L: KeyLanes, J: Naming, R: Wait>(
     count: u32,
 ) -> Tally {
     let mut seat = cache.seat();
-    let mut versions = [0; KEYS];
+    let mut versions = [NO_VERSION; KEYS];
     let mut tally = NONE;
     let mut drawn = u64::from(caller);
-    for number in 0..count {
+    for call in 0..count {
         drawn = next(drawn);
+        let number = call.wrapping_add(1);
         let at = (drawn >> 33) as usize % KEYS;
         let name = [caller, at as u8];
         match (drawn >> 41) % 10 {
-            0..=4 => tally = get(rt, cache, &mut seat, &name, versions[at], tally),
+            0..=4 => {
+                let one = get(rt, cache, &mut seat, &name, versions[at], u64::from(number));
+                tally = sum(tally, one);
+            }
             5 => versions[at] = removed(rt, cache, &mut seat, &name),
-            _ => versions[at] = put(rt, alloc, cache, &mut seat, &name, number + 1),
+            _ => {
+                let version = version_at(number, drawn);
+                versions[at] = put(rt, alloc, cache, &mut seat, &name, version);
+            }
         }
     }
     tally

@@ -1,5 +1,5 @@
 //! Each call reaches the lane of its key.
-use super::trials::{Trial, is_held};
+use super::trials::{ALONE, Outcome, Trial, is_held, try_one};
 use super::*;
 use mover::Seen;
 use record_pages::{KeyFault, MissCause, Tier};
@@ -81,6 +81,68 @@ pub fn fills_once<D: PageDevice<256>, L: KeyLanes, J: Naming, R: Wait>(
 fn a_miss_leases_its_key_for_one_fill(rt: HostRuntime) -> Result<(), Fail> {
     let seed = RandomSeed::draw(&rt)?;
     assert!(rt; is_held(&rt, rt.alloc(), 2, seed, Trial::FillsOnce)?);
+    Ok(())
+}
+
+// Puts and removes a key, so that its slot has seen two writes more.
+fn written<D: PageDevice<256>, L: KeyLanes, J: Naming, R: Wait>(
+    rt: &R,
+    alloc: Global,
+    cache: &Cache<D, L, J>,
+    seat: &mut Seat<L, J>,
+    name: &[u8],
+) -> Result<(), Fail> {
+    let _pushed = cache.put(rt, seat, key(alloc, name)?, value(alloc, b"0")?, NEVER)?;
+    cache.remove(rt, seat, name)?;
+    Ok(())
+}
+
+// Looks a key up that is not there, then writes another key, and fills the first by the lease of the look-up.
+fn filled_after<D: PageDevice<256>, L: KeyLanes, J: Naming, R: Wait>(
+    rt: &R,
+    alloc: Global,
+    cache: &Cache<D, L, J>,
+    name: &[u8],
+    other: &[u8],
+) -> Result<Option<Filled>, Fail> {
+    let mut seat = cache.seat();
+    let mut found = ValueBuffer::empty();
+    let looked = cache.get_or_lease(rt, &mut seat, name, 0, &mut found)?;
+    let LookedUp::Miss(MissCause::Absent, lease) = looked else {
+        return Ok(None);
+    };
+    written(rt, alloc, cache, &mut seat, other)?;
+    let (name, one) = (key(alloc, name)?, value(alloc, b"1")?);
+    Ok(Some(cache.fill(rt, &mut seat, lease, name, one, NEVER)?))
+}
+
+/// Whether a lease is of its key's slot: it outlives writes of a key of another slot, also if its own slot has seen writes, and
+/// ends with one of its own key.
+pub fn leases_its_slot<D: PageDevice<256>, L: KeyLanes, J: Naming, R: Wait>(
+    rt: &R,
+    alloc: Global,
+    cache: &Cache<D, L, J>,
+) -> Result<bool, Fail> {
+    let mut seat = cache.seat();
+    let other = filled_after(rt, alloc, cache, b"ax", b"bx")?;
+    written(rt, alloc, cache, &mut seat, b"ax")?;
+    let once_more = filled_after(rt, alloc, cache, b"ax", b"bx")?;
+    let own = filled_after(rt, alloc, cache, b"cx", b"cx")?;
+    let stored = Some(Filled::Stored(Pushed::Nobody));
+    Ok(
+        other == stored
+            && once_more.is_some()
+            && once_more != Some(Filled::Stale)
+            && own == Some(Filled::Stale)
+            && finds(rt, cache, b"cx", None),
+    )
+}
+
+#[test]
+fn a_lease_is_of_the_slot_of_its_key(rt: HostRuntime) -> Result<(), Fail> {
+    let seed = RandomSeed::draw(&rt)?;
+    let outcome = try_one(&rt, rt.alloc(), ALONE, seed, Trial::LeasesItsSlot)?;
+    assert_eq!(rt; outcome, Outcome::Held(true));
     Ok(())
 }
 

@@ -2,6 +2,7 @@
 use super::caller::{NONE, Tally, calls, sum};
 use super::trials::{Trial, is_held};
 use super::*;
+use service_lane::Counts;
 
 // How many callers make their calls, and how many each of them makes.
 const CALLERS: u8 = 100;
@@ -37,13 +38,25 @@ fn all_calls<D: PageDevice<256>, L: KeyLanes, J: Naming, R: Wait>(
     all
 }
 
-// How often each tier was hit, how many steps were done in help, and how many in all, in all lanes.
+// What all lanes have counted: their gets, how many steps were done in help, and how many in all.
 #[derive(Drop)]
 struct Totals {
-    log: u64,
-    set: u64,
+    gets: Tally,
     in_help: u64,
     steps: u64,
+}
+
+// The gets that a lane has counted.
+fn gets_of(counts: &Counts) -> Tally {
+    Tally {
+        memory: counts.gets.memory_hits,
+        log: counts.gets.log_hits,
+        set: counts.gets.set_hits,
+        absent: counts.gets.absent,
+        expired: counts.gets.expired,
+        failed: counts.gets.faults.wrapping_add(counts.gets.damaged),
+        ..NONE
+    }
 }
 
 fn counted<D: PageDevice<256>, L: KeyLanes, J: Naming, R: Wait>(
@@ -51,22 +64,25 @@ fn counted<D: PageDevice<256>, L: KeyLanes, J: Naming, R: Wait>(
     cache: &Cache<D, L, J>,
 ) -> Totals {
     let mut all = Totals {
-        log: 0,
-        set: 0,
+        gets: NONE,
         in_help: 0,
         steps: 0,
     };
     for lane in 0..cache.lanes() {
         let counts = cache.counts(rt, lane);
-        all.log = all.log.wrapping_add(counts.gets.log_hits);
-        all.set = all.set.wrapping_add(counts.gets.set_hits);
+        all.gets = sum(all.gets, gets_of(&counts));
         all.in_help = all.in_help.wrapping_add(counts.upkeep.in_help);
         all.steps = all.steps.wrapping_add(counts.upkeep.steps);
     }
     all
 }
 
-/// Whether no call is wrong or refused, each tier is hit, and puts do all the upkeep.
+// Whether no call was wrong or refused, values expired, each tier was hit, and the lanes counted just what the callers were told.
+fn is_right(tally: Tally, all: &Totals) -> bool {
+    tally.log > 0 && tally.set > 0 && tally.expired > 0 && tally == all.gets
+}
+
+/// Whether no call is wrong or refused, all is counted, each tier is hit, and puts do all the upkeep.
 pub fn is_right_alone<D: PageDevice<256>, L: KeyLanes, J: Naming, R: Wait>(
     rt: &R,
     alloc: Global,
@@ -74,12 +90,7 @@ pub fn is_right_alone<D: PageDevice<256>, L: KeyLanes, J: Naming, R: Wait>(
 ) -> bool {
     let tally = all_calls(rt, alloc, cache, false);
     let all = counted(rt, cache);
-    tally.wrong == 0
-        && tally.refused == 0
-        && all.log > 0
-        && all.set > 0
-        && all.in_help > 0
-        && all.steps == all.in_help
+    is_right(tally, &all) && all.in_help > 0 && all.steps == all.in_help
 }
 
 #[test]
@@ -89,7 +100,7 @@ fn no_hit_is_old_where_nobody_tends(rt: HostRuntime) -> Result<(), Fail> {
     Ok(())
 }
 
-/// Whether no call is wrong or refused, each tier is hit, and another hand does upkeep too.
+/// Whether no call is wrong or refused, all is counted, each tier is hit, and another hand does upkeep too.
 pub fn is_right_tended<D: PageDevice<256>, L: KeyLanes, J: Naming, R: Wait>(
     rt: &R,
     alloc: Global,
@@ -97,7 +108,7 @@ pub fn is_right_tended<D: PageDevice<256>, L: KeyLanes, J: Naming, R: Wait>(
 ) -> bool {
     let tally = all_calls(rt, alloc, cache, true);
     let all = counted(rt, cache);
-    tally.wrong == 0 && tally.refused == 0 && all.log > 0 && all.set > 0 && all.steps > all.in_help
+    is_right(tally, &all) && all.steps > all.in_help
 }
 
 #[test]

@@ -93,10 +93,10 @@ fn tended_calls<
     made
 }
 
-// Whether all calls were made, none refused, and no hit was wrong.
+// Whether all calls were made, none refused, no hit was wrong, and values expired.
 fn is_right(made: Option<Tally>) -> bool {
     let all = made.unwrap_or(NONE);
-    all.wrong == 0 && all.refused == 0 && all.hits > 0
+    all.wrong == 0 && all.refused == 0 && all.memory > 0 && all.expired > 0
 }
 
 /// Whether the calls of all callers are right, and nobody tends.

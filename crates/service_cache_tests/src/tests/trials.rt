@@ -2,9 +2,12 @@
 ghost use Rattle.std.specs.Prelude.{◌≡◌, length};
 ghost use Rattle.service_cache.specs.Sorted.{SortsBy};
 
-use super::calls::{each_is_found, fills_once, refuses_bytes, removes_at_large_puts};
+use super::calls::{
+    each_is_found, fills_once, leases_its_slot, refuses_bytes, removes_at_large_puts,
+};
 use super::many::{is_right_alone, is_right_tended};
 use super::seats::no_call_is_refused;
+use super::seeds::{declined, entered, lanes_of_keys};
 use super::tending::{has_its_numbers, tends_its_lane};
 use super::threads::{are_right, are_right_tended};
 use super::*;
@@ -28,6 +31,8 @@ pub enum Trial {
     FindsKeys,
     /// A lease is good for one fill.
     FillsOnce,
+    /// A lease is of its key's slot.
+    LeasesItsSlot,
     /// A put that is too large leaves no older value.
     RemovesAtLargePuts,
     /// Bytes that are no key's are refused.
@@ -46,13 +51,20 @@ pub enum Trial {
     Together,
     /// No hit of callers in threads is old, beside one that tends.
     TogetherTended,
+    /// Which objects are not admitted to flash.
+    TellsDeclined,
+    /// The lanes of keys.
+    TellsLanes,
+    /// Whether objects entered the log, and sets were written.
+    TellsEntered,
 }
 
-/// What became of a trial: why the cache was not opened, or whether the trial held.
+/// What became of a trial: why the cache was not opened, or whether the trial held, or what it told.
 #[derive(Clone, Copy, Debug, PartialEq, Eq)]
 pub enum Outcome {
     Refused(OpenServiceFault),
     Held(bool),
+    Told(u64),
 }
 
 /// Tries a cache over these devices, among whose lanes a drawn seed sorts the keys.
@@ -109,8 +121,23 @@ fn try_booked<
     match Cache::<D, L, J>::open(
         alloc, config, *shards, *slots, devices, Rriparoo, seed, book,
     ) {
-        Ok(cache) => Ok(Outcome::Held(holds(rt, alloc, &cache, trial)?)),
+        Ok(cache) => Ok(tried(rt, alloc, &cache, trial)?),
         Err(fault) => Ok(Outcome::Refused(fault)),
+    }
+}
+
+// What becomes of a trial of a cache.
+fn tried<
+    D: PageDevice<256> + Send,
+    L: KeyLanes + Send + Sync,
+    J: Naming + Send + Sync,
+    R: Threads + Wait + Sync,
+>(rt: &R, alloc: Global, cache: &Cache<D, L, J>, trial: Trial) -> Result<Outcome, Fail> {
+    match trial {
+        Trial::TellsDeclined => Ok(Outcome::Told(declined(rt, alloc, cache)?)),
+        Trial::TellsLanes => Ok(Outcome::Told(lanes_of_keys(rt, alloc, cache)?)),
+        Trial::TellsEntered => Ok(Outcome::Told(entered(rt, alloc, cache))),
+        _ => Ok(Outcome::Held(holds(rt, alloc, cache, trial)?)),
     }
 }
 
@@ -125,6 +152,7 @@ fn holds<
         Trial::Opens => Ok(true),
         Trial::FindsKeys => each_is_found(rt, alloc, cache, 60),
         Trial::FillsOnce => fills_once(rt, alloc, cache),
+        Trial::LeasesItsSlot => leases_its_slot(rt, alloc, cache),
         Trial::RemovesAtLargePuts => removes_at_large_puts(rt, alloc, cache),
         Trial::RefusesBytes => Ok(refuses_bytes(rt, cache)),
         Trial::RefusesNone => Ok(no_call_is_refused(rt, alloc, cache)),
@@ -134,6 +162,7 @@ fn holds<
         Trial::OneByOneTended => Ok(is_right_tended(rt, alloc, cache)),
         Trial::Together => Ok(are_right(rt, alloc, cache)),
         Trial::TogetherTended => Ok(are_right_tended(rt, alloc, cache)),
+        Trial::TellsDeclined | Trial::TellsLanes | Trial::TellsEntered => Ok(false),
     }
 }
 
@@ -141,7 +170,7 @@ fn holds<
 pub const TWO_SHARDS: Numbers = Numbers {
     config: SMALL,
     shards: 2,
-    slots: 64,
+    slots: 1_000,
 };
 
 /// Whether a trial holds of a cache of so many shards of the small lanes, over memory.
@@ -158,4 +187,24 @@ pub fn is_held<R: Threads + Wait + Sync>(
     };
     let devices = so_many(alloc, shards.min(4) * 2, PAGES)?;
     Ok(try_over(rt, alloc, &numbers, devices, seed, trial)? == Outcome::Held(true))
+}
+
+/// One lane in which all is small, so that it has all keys whatever the seed.
+pub const ALONE: Config = Config { lanes: 1, ..SMALL };
+
+/// What becomes of a trial of a cache of one shard of this configuration, over memory.
+pub fn try_one<R: Threads + Wait + Sync>(
+    rt: &R,
+    alloc: Global,
+    config: Config,
+    seed: RandomSeed,
+    trial: Trial,
+) -> Result<Outcome, Fail> {
+    let devices = so_many(alloc, config.lanes, PAGES)?;
+    let numbers = Numbers {
+        config,
+        shards: 1,
+        ..TWO_SHARDS
+    };
+    try_over(rt, alloc, &numbers, devices, seed, trial)
 }

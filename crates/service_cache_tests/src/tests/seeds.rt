@@ -1,0 +1,139 @@
+//! What the seed of a cache decides, and the numbers that show only in what leaves memory.
+use super::caller::calls;
+use super::trials::{ALONE, Outcome, Trial, try_one};
+use super::*;
+
+// Four lanes in which all is small.
+const FOUR: Config = Config { lanes: 4, ..SMALL };
+
+// One lane that admits every second object to flash.
+const HALF: Config = Config {
+    admit: 32_768,
+    ..ALONE
+};
+
+// One that admits none.
+const NONE_ADMITTED: Config = Config { admit: 0, ..ALONE };
+
+// One that moves no fewer than 32 objects to a set.
+const STRICT: Config = Config {
+    threshold: 32,
+    ..ALONE
+};
+
+/// Which of 64 puts of new keys push out an object that is not admitted, a bit for each.
+pub fn declined<D: PageDevice<256>, L: KeyLanes, J: Naming, R: Wait>(
+    rt: &R,
+    alloc: Global,
+    cache: &Cache<D, L, J>,
+) -> Result<u64, Fail> {
+    let mut seat = cache.seat();
+    let mut bits = 0;
+    for number in 0..64u8 {
+        let name = [b'k', number];
+        let pushed = cache.put(
+            rt,
+            &mut seat,
+            key(alloc, &name)?,
+            value(alloc, b"1")?,
+            NEVER,
+        )?;
+        bits = bits << 1 | u64::from(pushed == Pushed::Declined);
+    }
+    Ok(bits)
+}
+
+#[test]
+fn two_caches_admit_by_words_of_their_own(rt: HostRuntime) -> Result<(), Fail> {
+    let (first, second) = (RandomSeed::draw(&rt)?, RandomSeed::draw(&rt)?);
+    let one = try_one(&rt, rt.alloc(), HALF, first, Trial::TellsDeclined)?;
+    let two = try_one(&rt, rt.alloc(), HALF, second, Trial::TellsDeclined)?;
+    assert_ne!(rt; one, two);
+    assert_ne!(rt; one, Outcome::Told(0));
+    assert_ne!(rt; two, Outcome::Told(0));
+    Ok(())
+}
+
+// How many values are stored in each lane.
+fn stored<D: PageDevice<256>, L: KeyLanes, J: Naming, R: Wait>(
+    rt: &R,
+    cache: &Cache<D, L, J>,
+) -> [u64; 4] {
+    let mut stored = [0; 4];
+    for lane in 0..cache.lanes().min(4) {
+        stored[lane as usize] = cache.counts(rt, lane).puts.stored;
+    }
+    stored
+}
+
+// The first place at which two lists differ; 4 if none.
+fn first_other(one: &[u64; 4], two: &[u64; 4]) -> u64 {
+    for at in 0..4usize {
+        if one[at] != two[at] {
+            return at as u64;
+        }
+    }
+    4
+}
+
+/// The lanes of 16 keys, four bits for each: the lane whose count their put raised.
+pub fn lanes_of_keys<D: PageDevice<256>, L: KeyLanes, J: Naming, R: Wait>(
+    rt: &R,
+    alloc: Global,
+    cache: &Cache<D, L, J>,
+) -> Result<u64, Fail> {
+    let mut seat = cache.seat();
+    let mut lanes = 0;
+    for number in 0..16u8 {
+        let name = [b'k', number];
+        let before = stored(rt, cache);
+        let _pushed = cache.put(
+            rt,
+            &mut seat,
+            key(alloc, &name)?,
+            value(alloc, b"1")?,
+            NEVER,
+        )?;
+        lanes = lanes << 4 | first_other(&before, &stored(rt, cache));
+    }
+    Ok(lanes)
+}
+
+#[test]
+fn two_caches_place_keys_differently(rt: HostRuntime) -> Result<(), Fail> {
+    let (first, second) = (RandomSeed::draw(&rt)?, RandomSeed::draw(&rt)?);
+    let one = try_one(&rt, rt.alloc(), FOUR, first, Trial::TellsLanes)?;
+    let two = try_one(&rt, rt.alloc(), FOUR, second, Trial::TellsLanes)?;
+    assert_ne!(rt; one, two);
+    Ok(())
+}
+
+// How many calls bring about that objects leave memory, and the log.
+const CALLS: u32 = 2_000;
+
+/// Whether objects entered the log, and whether sets were written, a bit for each.
+pub fn entered<D: PageDevice<256>, L: KeyLanes, J: Naming, R: Wait>(
+    rt: &R,
+    alloc: Global,
+    cache: &Cache<D, L, J>,
+) -> u64 {
+    let _tally = calls(rt, alloc, cache, 7, CALLS);
+    if cache.lanes() == 0 {
+        return 0;
+    }
+    let counts = cache.counts(rt, 0);
+    let (logged, written) = (counts.pushed.logged > 0, counts.steps.sets_written > 0);
+    u64::from(logged) << 1 | u64::from(written)
+}
+
+#[test]
+fn a_lane_admits_and_moves_as_it_was_asked_to(rt: HostRuntime) -> Result<(), Fail> {
+    let seed = RandomSeed::draw(&rt)?;
+    let all = try_one(&rt, rt.alloc(), ALONE, seed, Trial::TellsEntered)?;
+    assert_eq!(rt; all, Outcome::Told(3));
+    let none = try_one(&rt, rt.alloc(), NONE_ADMITTED, seed, Trial::TellsEntered)?;
+    assert_eq!(rt; none, Outcome::Told(0));
+    let strict = try_one(&rt, rt.alloc(), STRICT, seed, Trial::TellsEntered)?;
+    assert_eq!(rt; strict, Outcome::Told(2));
+    Ok(())
+}
