@@ -10,8 +10,11 @@ use Rattle.service_lane.specs.declared.filled.Filled.TheVariants.{Stored, Stale}
 use Rattle.service_lane.specs.declared.helped.Helped.{Helped}
 use Rattle.service_lane.specs.Leases.{HoldsLease}
 use Rattle.service_lane.specs.Serving.{Serving, PutsStore, FillsStore}
-use Rattle.c_lane.specs.Lane.{LaneState, Laws, page_bytes, held_in, next_word}
-use Rattle.c_lane.specs.Putting.{pair_of, LaneHelps, Stores, Fills}
+use Rattle.c_lane.specs.Lane.{LaneState, Laws, page_bytes, honest_in, failures_in, held_in}
+use Rattle.c_lane.specs.Putting.{pair_of, Stores, Fills}
+use Rattle.rriparoo.specs.Rriparoo.{rriparoo_plan}
+use Rattle.service_lane.specs.Upkeep.{Helps}
+use Rattle.service_lane.specs.Words.{next_word}
 
 -- a fill that was stored was not stale
 pub not_stale : {E : Type 0} (filled : Filled) (pushed : Pushed) → filled ≡ Stored pushed → ◌≡◌ {A = Result Filled E} (Ok filled) (Ok Stale) → ⊥
@@ -21,20 +24,22 @@ not_stale filled pushed is stale = absurd (cc)
 pair_is : (k v key value : List ℕ) (expires : ℕ) → k ≡ key → v ≡ value → pair_of k v expires ≡ pair_of key value expires
 pair_is k v key value expires key_is value_is = ap (λ (k' : List ℕ). pair_of k' v expires) key_is ∙ ap (λ (v' : List ℕ). pair_of key v' expires) value_is
 
-module _ {D : Type 0} (laws : Laws D) (key value : List ℕ) (expires : ℕ) (old : LaneState D) (word : ℕ) (words : Lcg) (drawn : ◌≡◌ {A = ℕ × Lcg} (word, words) (pcg32 old.words)) (k v : List ℕ) (pushed : Pushed) (between after : Serving (CountedDevice D)) (helped : Helped) (key_is : k ≡ key) (value_is : v ≡ value) (helps : LaneHelps laws between helped after) where
-  word_is : word ≡ next_word old
+module _ {D : Type 0} (laws : Laws D) (key value : List ℕ) (expires : ℕ) (old : LaneState D) (word : ℕ) (words : Lcg) (drawn : ◌≡◌ {A = ℕ × Lcg} (word, words) (pcg32 old.words)) (k v : List ℕ) (pushed : Pushed) (between after : Serving (CountedDevice D)) (helped : Helped) (key_is : k ≡ key) (value_is : v ≡ value) (helps : Helps page_bytes (honest_in laws) (failures_in laws) (held_in laws) rriparoo_plan between helped after) where
+  word_is : word ≡ next_word old.words
   word_is = ap (λ (p : ℕ × Lcg). p.0) drawn
 
   -- a put that the lane stored, and the help behind it
   pub stored : PutsStore page_bytes (held_in laws) (pair_of k v expires) word pushed old.serving between → Stores laws key value expires old (record { serving = after; words = words })
   stored puts = record {
     pushed = pushed;
-    between = between;
-    puts =
-        subst (λ (w : ℕ). PutsStore page_bytes (held_in laws) (pair_of key value expires) w pushed old.serving between) word_is
-        (subst (λ (p : Pair). PutsStore page_bytes (held_in laws) p word pushed old.serving between) (pair_is k v key value expires key_is value_is) puts);
-    helped = helped;
-    helps = helps;
+    puts = record {
+      between = between;
+      helped = helped;
+      puts =
+          subst (λ (w : ℕ). PutsStore page_bytes (held_in laws) (pair_of key value expires) w pushed old.serving between) word_is
+          (subst (λ (p : Pair). PutsStore page_bytes (held_in laws) p word pushed old.serving between) (pair_is k v key value expires key_is value_is) puts);
+      helps = helps;
+    };
     words = ap (λ (p : ℕ × Lcg). p.1) drawn;
   }
 
@@ -43,12 +48,14 @@ module _ {D : Type 0} (laws : Laws D) (key value : List ℕ) (expires : ℕ) (ol
       Fills laws writes key value expires old (record { serving = after; words = words })
   filled writes held fills = record {
     pushed = pushed;
-    between = between;
     held = subst (λ (k' : List ℕ). ¬ ¬ HoldsLease old.serving.slots k' writes) key_is held;
-    fills =
-        subst (λ (w : ℕ). FillsStore page_bytes (held_in laws) (pair_of key value expires) w writes pushed old.serving between) word_is
-        (subst (λ (p : Pair). FillsStore page_bytes (held_in laws) p word writes pushed old.serving between) (pair_is k v key value expires key_is value_is) fills);
-    helped = helped;
-    helps = helps;
+    fills = record {
+      between = between;
+      helped = helped;
+      fills =
+          subst (λ (w : ℕ). FillsStore page_bytes (held_in laws) (pair_of key value expires) w writes pushed old.serving between) word_is
+          (subst (λ (p : Pair). FillsStore page_bytes (held_in laws) p word writes pushed old.serving between) (pair_is k v key value expires key_is value_is) fills);
+      helps = helps;
+    };
     words = ap (λ (p : ℕ × Lcg). p.1) drawn;
   }

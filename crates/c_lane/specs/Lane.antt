@@ -1,7 +1,6 @@
 -- A lane as C has it, and the device that it is over.
 use Rattle.std.specs.Prelude.{ℕ, List, Option, Bool}
 use Rattle.rand_pcg.specs.Lcg.{Lcg}
-use Rattle.rand_pcg.specs.Pcg.{pcg32}
 use Rattle.lane_devices.specs.Counting.{CountedDevice}
 use Rattle.service_lane.specs.Serving.{Serving}
 
@@ -32,11 +31,3 @@ held_in laws counted = laws.held counted.device
 -- the bytes of a page
 abbrev pub page_bytes : ℕ
 page_bytes = 4096
-
--- the next word of admission
-abbrev pub next_word : {D : Type 0} → LaneState D → ℕ
-next_word lane = (pcg32 lane.words).0
-
--- the generator behind its next word
-abbrev pub next_words : {D : Type 0} → LaneState D → Lcg
-next_words lane = (pcg32 lane.words).1

@@ -1,17 +1,14 @@
 -- When a lane opens, and what it is then.
-use Rattle.std.specs.Prelude.{◌≡◌, ◌≤◌, ℕ, [], None, fold, replicate}
-use Rattle.std.specs.Hash as fed
+use Rattle.std.specs.Prelude.{◌≡◌, ◌≤◌, ℕ, [], None}
 use Rattle.record_pages.specs.Asked.{HasNumbersOf}
 use Rattle.record_pages.specs.declared.layout.Layout.{Layout}
 use Rattle.cache_sizes.specs.Shapes.{file_pages}
 use Rattle.lane_devices.specs.Counting.{no_device_counts}
-use Rattle.key_hash.specs.declared.random_seed.RandomSeed.{RandomSeed}
-use Rattle.key_hash.specs.Hashing.{started, written}
-use Rattle.rand_pcg.specs.Lcg.{Lcg, increment_of}
-use Rattle.rand_pcg.specs.Lcg as lcg
-use Rattle.rand_pcg.specs.Pcg.{multiplier_64}
+use Rattle.key_hash.specs.Hashing.{derived}
 use Rattle.mover.specs.Store.{opening}
 use Rattle.service_lane.specs.Counting.{no_counts}
+use Rattle.service_lane.specs.Leases.{no_writes}
+use Rattle.service_lane.specs.Words.{words_for}
 use Rattle.c_lane.specs.declared.lane_shape.LaneShape.{LaneShape}
 use Rattle.c_lane.specs.declared.seed.Seed.{Seed}
 use Rattle.c_lane.specs.declared.status.Status.{Status}
@@ -20,10 +17,6 @@ use Rattle.c_lane.specs.Lane.{LaneState}
 use Rattle.c_lane.specs.Placing.{seed_of}
 use Rattle.c_lane.specs.Shapes.{config_of, first_faulty_field}
 
--- the generator of the words of a lane with this number: started by a hash of the number, on a stream of its own
-unfoldable pub words_for : RandomSeed → ℕ → Lcg
-words_for seed number = lcg.started 64 multiplier_64 (fold written (started seed) (fed.u64 number)).state (increment_of 64 number)
-
 -- a lane was opened over this device: it is empty, nothing was asked of it, and the device is as it was
 pub record Opens {D : Type 0} (s : LaneShape) (seed : Seed) (number : ℕ) (device : D) (lane : LaneState D) : Type 0 where
   pub layout : Layout
@@ -31,7 +24,7 @@ pub record Opens {D : Type 0} (s : LaneShape) (seed : Seed) (number : ℕ) (devi
   pub serving : lane.serving ≡ record {
     store = opening layout (record { device = device; counts = no_device_counts });
     deeds = [];
-    slots = replicate s.lease_slots 0;
+    slots = no_writes (derived (seed_of seed) number) s.lease_slots;
     counts = no_counts;
   }
   pub words : lane.words ≡ words_for (seed_of seed) number

@@ -1,7 +1,8 @@
 -- In which lane a key is.
 use Rattle.std.specs.Prelude.{ℕ, ◌/◌, ◌%◌, ◌^◌, List}
 use Rattle.key_hash.specs.declared.random_seed.RandomSeed.{RandomSeed}
-use Rattle.key_hash.specs.Hashing.{fixed_seed, derived, started, written}
+use Rattle.key_hash.specs.Hashing.{fixed_seed, derived}
+use Rattle.service_lane.specs.Leases.{hash_by}
 use Rattle.c_lane.specs.declared.placing.Place.{Place}
 use Rattle.c_lane.specs.declared.seed.Seed.{Seed}
 
@@ -17,10 +18,6 @@ high_half word = word / 2 ^ 32
 unfoldable pub seed_of : Seed → RandomSeed
 seed_of s = derived (derived (derived (derived fixed_seed (low_half s.first)) (high_half s.first)) (low_half s.second)) (high_half s.second)
 
--- the hash of bytes
-unfoldable pub hash_of : RandomSeed → List ℕ → ℕ
-hash_of seed bytes = (written (started seed) bytes).state
-
 -- where a key is among so many lanes: the remainder of its hash, and the high half of it
 unfoldable pub place_in : Seed → ℕ → List ℕ → Place
-place_in seed lanes key = record { lane = hash_of (seed_of seed) key % lanes; word = hash_of (seed_of seed) key / 2 ^ 32 }
+place_in seed lanes key = record { lane = hash_by (seed_of seed) key % lanes; word = hash_by (seed_of seed) key / 2 ^ 32 }

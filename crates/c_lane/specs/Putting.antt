@@ -6,38 +6,30 @@ use Rattle.record_pages.specs.declared.pushed.Pushed.{Pushed}
 use Rattle.record_pages.specs.declared.put_fault.PutFault.TheVariants.{OutOfMemory}
 use Rattle.memory_cache.specs.declared.pair.Pair.{Pair}
 use Rattle.rriparoo.specs.Rriparoo.{rriparoo_plan}
-use Rattle.service_lane.specs.declared.helped.Helped.{Helped}
 use Rattle.service_lane.specs.Counting.{with_refused, counts_stale}
 use Rattle.service_lane.specs.Leases.{HoldsLease}
-use Rattle.service_lane.specs.Serving.{Serving, PutsStore, FillsStore, Removes}
-use Rattle.service_lane.specs.Upkeep.{Helps}
+use Rattle.service_lane.specs.Serving.{Removes}
+use Rattle.service_lane.specs.WithHelp.{PutsAndHelps, FillsAndHelps}
+use Rattle.service_lane.specs.Words.{next_word, next_words}
 use Rattle.c_lane.specs.declared.status.Status.{Status}
 use Rattle.c_lane.specs.declared.status.Status.TheVariants as statuses
-use Rattle.lane_devices.specs.Counting.{CountedDevice}
-use Rattle.c_lane.specs.Lane.{LaneState, Laws, page_bytes, honest_in, failures_in, held_in, next_word, next_words}
+use Rattle.c_lane.specs.Lane.{LaneState, Laws, page_bytes, honest_in, failures_in, held_in}
 
 -- a key with a value and its expiry
 abbrev pub pair_of : List ℕ → List ℕ → ℕ → Pair
 pair_of key value expires = record { key = key; value = timed value expires }
 
--- steps were done in help
-abbrev pub LaneHelps : {D : Type 0} → Laws D → Serving (CountedDevice D) → Helped → Serving (CountedDevice D) → Type 0
-LaneHelps laws old helped new = Helps page_bytes (honest_in laws) (failures_in laws) (held_in laws) rriparoo_plan old helped new
-
--- A put that was stored: the lane's put of the pair, and help behind it.
+-- A put that was stored: the lane's put of the pair by the next word of admission, and help after it.
 pub record Stores {D : Type 0} (laws : Laws D) (key value : List ℕ) (expires : ℕ) (old new : LaneState D) : Type 0 where
   pub pushed : Pushed
-  pub between : Serving (CountedDevice D)
-  pub puts : PutsStore page_bytes (held_in laws) (pair_of key value expires) (next_word old) pushed old.serving between
-  pub helped : Helped
-  pub helps : LaneHelps laws between helped new.serving
-  pub words : new.words ≡ next_words old
+  pub puts : PutsAndHelps page_bytes (honest_in laws) (failures_in laws) (held_in laws) rriparoo_plan (pair_of key value expires) (next_word old.words) pushed old.serving new.serving
+  pub words : new.words ≡ next_words old.words
 
 -- the lane refused a put for want of memory: that is counted, and a word was drawn
 abbrev pub without_put : {D : Type 0} → LaneState D → LaneState D
 without_put old = record {
   serving = record old.serving { counts = record old.serving.counts { puts = with_refused OutOfMemory old.serving.counts.puts } };
-  words = next_words old;
+  words = next_words old.words;
 }
 
 -- memory was refused for a put: for the copies of its bytes, or in the lane
@@ -69,26 +61,23 @@ PutOrRemoveLeaves laws key value expires old statuses.TooLarge new = LaneRemoves
 PutOrRemoveLeaves laws key value expires old statuses.NoMemory new = RemovesBehind laws key old new
 PutOrRemoveLeaves laws key value expires old status new = ⊥
 
--- A fill that was stored, by a lease that had not ended: the lane's fill of the pair, and help behind it.
+-- A fill that was stored, by a lease that had not ended: the lane's fill of the pair by the next word of admission, and help after it.
 pub record Fills {D : Type 0} (laws : Laws D) (writes : ℕ) (key value : List ℕ) (expires : ℕ) (old new : LaneState D) : Type 0 where
   pub pushed : Pushed
-  pub between : Serving (CountedDevice D)
   pub held : ¬ ¬ HoldsLease old.serving.slots key writes
-  pub fills : FillsStore page_bytes (held_in laws) (pair_of key value expires) (next_word old) writes pushed old.serving between
-  pub helped : Helped
-  pub helps : LaneHelps laws between helped new.serving
-  pub words : new.words ≡ next_words old
+  pub fills : FillsAndHelps page_bytes (honest_in laws) (failures_in laws) (held_in laws) rriparoo_plan (pair_of key value expires) (next_word old.words) writes pushed old.serving new.serving
+  pub words : new.words ≡ next_words old.words
 
 -- A fill whose lease had ended: that is counted, and a word was drawn.
 pub record IsStale {D : Type 0} (writes : ℕ) (key : List ℕ) (old new : LaneState D) : Type 0 where
   pub ended : ¬ HoldsLease old.serving.slots key writes
-  pub stays : new ≡ record { serving = record old.serving { counts = counts_stale old.serving.counts }; words = next_words old }
+  pub stays : new ≡ record { serving = record old.serving { counts = counts_stale old.serving.counts }; words = next_words old.words }
 
 -- the lane refused a fill for want of memory: that is counted, and a word was drawn
 abbrev pub without_fill : {D : Type 0} → LaneState D → LaneState D
 without_fill old = record {
   serving = record old.serving { counts = record old.serving.counts { fills = with_refused OutOfMemory old.serving.counts.fills } };
-  words = next_words old;
+  words = next_words old.words;
 }
 
 -- What a fill leaves, by its status.

@@ -9,7 +9,7 @@ use crate::status::Status;
 use lane_devices::{Boxed, Counted};
 use page_device::PageDevice;
 use rand_pcg::Lcg64Xsh32;
-use service_lane::ServiceLane;
+use service_lane::{ServiceLane, words_of};
 use std::alloc::{AllocError, Global};
 use std::marker::Model;
 use value_buffer::ValueBuffer;
@@ -49,7 +49,7 @@ impl<D: PageDevice<4096>> CLane<D> {
     /// An empty lane over a device. `WrongOptions` comes where the shape has a number out of its range or the device has too few
     /// pages for it, `NoMemory` where memory was refused; the device is dropped with both.
     ///
-    /// The number is the lane's among those of the cache: it and the seed start the generator of its words, and seed its table.
+    /// The number is the lane's among those of the cache: it and the seed start the generator of its words, and seed its table and its slots.
     pub fn open(
         alloc: Global,
         shape: &LaneShape,
@@ -95,12 +95,9 @@ impl<D: PageDevice<4096>> CLane<D> {
 }
 
 ghost use Rattle.std.specs.Prelude.{MatchOption};
-ghost use Rattle.c_lane.specs.Opening.{words_for};
 ghost use Rattle.c_lane.specs.Shapes.{IsLayoutOf};
 
-use key_hash::RandomSeed;
 use record_pages::Layout;
-use std::hash::BuildHasher;
 
 // The layout of each shard of a shape whose numbers are in their ranges, where so many pages are enough for a lane.
 fn fitting(shape: &LaneShape, pages: u32) -> Option<Layout>
@@ -114,12 +111,4 @@ fn fitting(shape: &LaneShape, pages: u32) -> Option<Layout>
         return None;
     }
     Some(layout)
-}
-
-// The generator of the words of a lane.
-#[tactic(auto, unfolding(crate::specs::Opening::words_for))]
-fn words_of(seed: RandomSeed, number: u32) -> Lcg64Xsh32
-    ensures { result ≡ words_for seed number }
-{
-    Lcg64Xsh32::new(seed.hash_one(u64::from(number)), u64::from(number))
 }

@@ -1,10 +1,9 @@
 // In which lane a key is.
 ghost use Rattle.std.specs.Prelude.{◌≡◌, ◌≤◌, ◌<◌};
-ghost use Rattle.c_lane.specs.Placing.{hash_of, place_in};
+ghost use Rattle.c_lane.specs.Placing.{place_in};
 
 use crate::seed::Seed;
-use key_hash::RandomSeed;
-use std::hash::{BuildHasher, Hasher};
+use service_lane::hash_by;
 
 /// Where a key is.
 #[repr(C)]
@@ -23,19 +22,9 @@ pub fn place_of(seed: &Seed, lanes: u32, key: &[u8]) -> Place
     ensures place { result ≡ place_in seed.now lanes key.now }
     ensures within { result.lane < lanes }
 {
-    let hash = hash_of(seed.random(), key);
+    let hash = hash_by(seed.random(), key);
     Place {
         lane: (hash % u64::from(lanes)) as u32,
         word: (hash >> 32) as u32,
     }
-}
-
-// The hash of bytes.
-#[tactic(auto, unfolding(crate::specs::Placing::hash_of))]
-fn hash_of(seed: RandomSeed, bytes: &[u8]) -> u64
-    ensures { result ≡ hash_of seed bytes.now }
-{
-    let mut hasher = seed.build_hasher();
-    hasher.write(bytes);
-    hasher.finish()
 }

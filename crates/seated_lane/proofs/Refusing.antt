@@ -1,5 +1,5 @@
 -- What is known of a key that was answered, and of a put that was answered or refused.
-use Rattle.std.proofs.Common.{◌≡◌, ◌<◌, ◌↔◌, ℕ, List, [], ◌∷◌, length, Result, Ok, Err, refl, sym, ◌∙◌, inl, inr, arith}
+use Rattle.std.proofs.Common.{◌≡◌, ◌<◌, ◌↔◌, ℕ, List, [], ◌∷◌, length, Result, Ok, Err, refl, ap, sym, ◌∙◌, inl, inr, arith}
 use Rattle.std.proofs.lemmas.Bool.{cases_lt}
 use Rattle.record_pages.specs.Bounded.{IsKey}
 use Rattle.record_pages.specs.Sizes.{object_size, room}
@@ -10,6 +10,7 @@ use Rattle.service_lane.specs.declared.filled.Filled.{Filled}
 use Rattle.service_lane.specs.declared.filled.Filled.TheVariants.{Stored, Stale}
 use Rattle.record_pages.specs.declared.pushed.Pushed.{Pushed}
 use Rattle.deed_book.specs.declared.register.EntryFault.{EntryFault}
+use Rattle.deed_book.specs.declared.register.EntryFault.TheVariants as entries
 use Rattle.std.specs.Prelude.{IfErr}
 use Rattle.seated_lane.specs.declared.seat_fault.SeatFault.{SeatFault}
 use Rattle.seated_lane.specs.declared.seat_fault.SeatFault.TheVariants as refusals
@@ -44,3 +45,14 @@ refused_object size key value r fault is why = rw is why
 -- a fill that was stored was not stale, whatever is answered then
 pub not_stale : {E F : Type 0} (was : Result Filled E) (then : Result Filled F) (pushed : Pushed) (ended : Type 0) → was ≡ Ok (Stored pushed) → ((was ≡ Ok Stale) ↔ ended) → ¬ (then ≡ Ok Stale) → (then ≡ Ok Stale) ↔ ended
 not_stale was then pushed ended is told other = (λ stale. absurd (other stale), λ over. absurd (let no = sym is ∙ told.1 over in cc))
+
+-- two faults of the book are the same if what they refuse with is
+book_same : {X : Type 0} (one other : EntryFault) → ◌≡◌ {A = Result X SeatFault} (Err (refusals.Book one)) (Err (refusals.Book other)) → one ≡ other
+book_same one other is = cc
+
+entry_same : {X : Type 0} (one other : EntryFault) → ◌≡◌ {A = Result X EntryFault} (Err one) (Err other) → one ≡ other
+entry_same one other is = cc
+
+-- what the book refused, it refused for want of room exactly if the lane has none
+pub full_exactly : {X Y : Type 0} (r : Result X SeatFault) (fault : EntryFault) (key : List ℕ) (none : Type 0) → r ≡ Err (refusals.Book fault) → (◌≡◌ {A = Result Y EntryFault} (Err fault) (Err entries.Full)) ↔ none → IsKey key → (r ≡ Err (refusals.Book entries.Full)) ↔ (IsKey key × none)
+full_exactly {X} {Y} r fault key none is full has = (λ e. (has, full.0 (ap Err (book_same {X = X} fault entries.Full (sym is ∙ e)))), λ both. is ∙ ap (λ (f : EntryFault). Err (refusals.Book f)) (entry_same {X = Y} fault entries.Full (full.1 both.1)))

@@ -1,5 +1,5 @@
 -- A lane with its register in a book, and what its calls leave.
-use Rattle.std.specs.Prelude.{◌≡◌, ◌⊎◌, ℕ, List, Option, None}
+use Rattle.std.specs.Prelude.{◌≡◌, ◌≤◌, ◌⊎◌, ℕ, ◌^◌, List, length, Option, None}
 use Rattle.record_pages.specs.Expiry.{timed}
 use Rattle.record_pages.specs.declared.pushed.Pushed.{Pushed}
 use Rattle.trace_file.specs.declared.act.Act.TheVariants.{Put}
@@ -9,6 +9,7 @@ use Rattle.service_lane.specs.Counting.{with_refused}
 use Rattle.service_lane.specs.Serving.{Serving, FillsStore, Removes}
 use Rattle.service_lane.specs.declared.filled.Filled.{Filled}
 use Rattle.service_lane.specs.declared.filled.Filled.TheVariants.{Stored, Stale}
+use Rattle.deed_book.specs.Parts.{part_of}
 use Rattle.deed_book.specs.Registers.{Registered, EntersIn}
 use Rattle.seated_lane.specs.declared.seat_fault.SeatFault.{SeatFault}
 use Rattle.seated_lane.specs.declared.seat_fault.SeatFault.TheVariants as refusals
@@ -54,6 +55,15 @@ RemovalLeaves held key (refusals.Book fault) old seat_old new seat_new = IsForgo
 abbrev pub FillEnters : (List ℕ → ℕ) → Deed → Filled → Registered → List Deed → Registered → List Deed → Type 0
 FillEnters lane_of put (Stored pushed) old seat_old new seat_new = EntersIn lane_of old seat_old put new seat_new
 FillEnters lane_of put Stale old seat_old new seat_new = (new ≡ old) × (seat_new ≡ seat_old)
+
+-- the lane has entered as many writes as it may, so the book has no room for another
+abbrev pub HasNoRoom : (List ℕ → ℕ) → Registered → Type 0
+HasNoRoom lane_of register = 2 ^ 62 ≤ length (part_of lane_of register.number register.deeds)
+
+-- a fill that was stored had room in the book
+abbrev pub HasRoomFor : (List ℕ → ℕ) → Registered → Filled → Type 0
+HasRoomFor lane_of register (Stored pushed) = ¬ HasNoRoom lane_of register
+HasRoomFor lane_of register Stale = Unit {0}
 
 -- the store filled the key, and then it was removed
 pub record FillsAndRemoves {D : Type 0} (size : ℕ) (held : D → ℕ → Option (List ℕ)) (key value : List ℕ) (expires word writes : ℕ) (old new : Serving D) : Type 0 where

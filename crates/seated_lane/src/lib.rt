@@ -2,7 +2,6 @@
 //! list of all writes. The list exists only in proofs.
 #![tactic(auto)]
 
-mod key_copy;
 mod lane;
 mod seat_fault;
 

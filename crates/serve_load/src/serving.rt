@@ -1,7 +1,7 @@
 // A load, from what it is asked for to its status.
 ghost use Rattle.std.specs.Prelude.{◌≡◌, ◌≢◌, ◌↔◌, ◌⊎◌, ◌<◌, ◌+◌, IfErr, IfOk, length};
 ghost use Rattle.service_cache.specs.Serving.{lanes_of};
-ghost use Rattle.service_cache.specs.Sorted.{SortsBy};
+ghost use Rattle.service_cache.specs.Sorted.{AreAsSaid, SortsBy};
 ghost use Rattle.serve_load.specs.Reports.{IsMade};
 ghost use Rattle.serve_load.specs.Ends.{IsFailure, status_of};
 ghost use Rattle.figures.specs.Figures.{form_of};
@@ -158,7 +158,8 @@ fn sorted<
     seed: RandomSeed,
     err: &mut E,
 ) -> Result<Report, Ended>
-    requires { SortsBy L.lanes L.lane_of seed (length devices.items) }
+    requires sorted { SortsBy L.lanes L.lane_of seed (length devices.items) }
+    requires honest { AreAsSaid L.is_honest D.honest devices.items }
     ensures made { IfOk result (λ report. IsMade load.now report) }
     ensures refused { IfErr result (λ ended. IsFailure ended.end) }
 {
@@ -186,6 +187,7 @@ fn booked<
     err: &mut E,
 ) -> Result<Report, Ended>
     requires sorted { SortsBy L.lanes L.lane_of seed (length devices.items) }
+    requires honest { AreAsSaid L.is_honest D.honest devices.items }
     requires book { book ≡ J.book }
     ensures made { IfOk result (λ report. IsMade load.now report) }
     ensures refused { IfErr result (λ ended. IsFailure ended.end) }
@@ -209,6 +211,7 @@ fn open<D: PageDevice<PAGE>, L: KeyLanes, J: Naming>(
 ) -> Result<Cache<D, L, J>, Ended>
     requires first { book ≡ 0 }
     requires sorted { SortsBy L.lanes L.lane_of seed (length devices.items) }
+    requires honest { AreAsSaid L.is_honest D.honest devices.items }
     ensures lanes { IfOk result (λ cache. 0 < lanes_of cache) }
     ensures refused { IfErr result (λ ended. IsFailure ended.end) }
 {

@@ -1,1 +1,3 @@
 pub mod Filling
+pub mod Honesty
+pub mod Helping

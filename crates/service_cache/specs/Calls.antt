@@ -13,9 +13,9 @@ use Rattle.seated_lane.specs.declared.seat_fault.SeatPutFault.{SeatPutFault}
 use Rattle.seated_lane.specs.declared.seat_fault.SeatPutFault.TheVariants as refusals
 
 -- A hit is its key's latest value in the list not since removed, live at the moment: in memory whatever the devices do, on flash if
--- each device of their type is honest.
-abbrev pub IsHit : {D : Type 0} → (D → Bool) → List Deed → List ℕ → ℕ → Answer → Type 0
-IsHit {D} honest list key moment answer = IsLiveHit ((device : D) → IsTrue (honest device)) list key moment answer
+-- the device of the key's lane is said to be honest.
+abbrev pub IsHit : (ℕ → Bool) → (List ℕ → ℕ) → List Deed → List ℕ → ℕ → Answer → Type 0
+IsHit said lane_of list key moment answer = IsLiveHit (IsTrue (said (lane_of key))) list key moment answer
 
 -- what a look-up gave that leases a key at a miss, if this is in the buffer
 abbrev pub looked_up : LookedUp → List ℕ → Answer

@@ -1,3 +1,4 @@
 pub mod Serving
 pub mod Sorted
 pub mod Calls
+pub mod Held

@@ -1,5 +1,6 @@
--- Which lane the keys of a cache have.
-use Rattle.std.specs.Prelude.{◌≡◌, ℕ, ◌%◌, List, fold}
+-- Which lane the keys of a cache have, and which lanes have an honest device.
+use Rattle.std.specs.Prelude.{◌≡◌, ℕ, ◌%◌, List, fold, Bool, false, IsTrue, Some, slice_get}
+use Rattle.std.specs.Option.{option_map_or}
 use Rattle.std.specs.Hash as fed
 use Rattle.key_hash.specs.Hashing.{started, written}
 use Rattle.key_hash.specs.declared.random_seed.RandomSeed.{RandomSeed}
@@ -11,6 +12,14 @@ hash_by seed key = (fold written (started seed) (fed.slice fed.u8 key)).state
 -- the lane of a key among so many
 abbrev pub lane_by : RandomSeed → ℕ → List ℕ → ℕ
 lane_by seed count key = hash_by seed key % count
+
+-- each device whose lane, by its place among the devices, is said to be honest is honest
+abbrev pub AreAsSaid : {D : Type 0} → (ℕ → Bool) → (D → Bool) → List D → Type 0
+AreAsSaid {D} said honest devices = (number : ℕ) (device : D) → slice_get devices number ≡ Some device → IsTrue (said number) → IsTrue (honest device)
+
+-- whether the device of a lane is honest, by the devices in the order of their lanes
+abbrev pub honest_by : {D : Type 0} → (D → Bool) → List D → ℕ → Bool
+honest_by honest devices number = option_map_or honest (slice_get devices number) false
 
 -- a book sorts keys by this seed into so many lanes
 pub record SortsBy (lanes : ℕ) (lane_of : List ℕ → ℕ) (seed : RandomSeed) (count : ℕ) : Type 0 where

@@ -2,7 +2,7 @@
 ghost use Rattle.std.specs.Prelude.{◌≡◌, [], IfOk, IfErr, OnOk, length};
 ghost use Rattle.record_pages.specs.Asked.{HasNumbersOf};
 ghost use Rattle.service_cache.specs.Serving.{CanOpen, CanServe, RefusesLanes, RefusesOpening, lanes_of, layout_needs};
-ghost use Rattle.service_cache.specs.Sorted.{SortsBy};
+ghost use Rattle.service_cache.specs.Sorted.{AreAsSaid, SortsBy};
 
 use crate::open_service_fault::OpenServiceFault;
 use crate::opening::{Locked, lanes_over};
@@ -69,7 +69,7 @@ impl<
     /// and a book with no write. Its refusals are tested in the order of `OpenServiceFault`; devices, policy and book are
     /// dropped with each.
     ///
-    /// The seed decides in which lane a key is, and starts the generators of the words of admission. Draw it at random.
+    /// The seed decides in which lane a key is, and all else of a lane that is random comes from it. Draw it at random.
     pub fn open(
         alloc: Global,
         config: &Config,
@@ -82,6 +82,7 @@ impl<
     ) -> Result<Self, OpenServiceFault>
         requires first { book ≡ 0 }
         requires sorted { SortsBy L.lanes L.lane_of seed (length devices.items) }
+        requires honest { AreAsSaid L.is_honest D.honest devices.items }
         ensures numbers { IfOk result (λ cache. HasNumbersOf cache.layout config.now
             × (cache.shards ≡ shards)) }
         ensures serves { OnOk result (CanOpen PAGE D.page_count config.now shards lease_slots devices.items) }
@@ -120,6 +121,7 @@ impl<
     ) -> Result<Self, OpenServiceFault>
         requires first { book ≡ 0 }
         requires sorted { SortsBy L.lanes L.lane_of seed (length devices.items) }
+        requires honest { AreAsSaid L.is_honest D.honest devices.items }
         ensures numbers { IfOk result (λ cache. cache ≡ record {
           layout = layout.now;
           shards = shards;

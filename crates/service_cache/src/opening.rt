@@ -1,28 +1,29 @@
 // The parts of a new cache.
-ghost use Rattle.std.specs.Prelude.{◌≡◌, ◌≤◌, ◌<◌, ◌^◌, [], All, IfOk, length};
+ghost use Rattle.std.specs.Prelude.{◌≡◌, ◌≤◌, ◌<◌, ◌^◌, All, IfOk, IsTrue, length};
 ghost use Rattle.record_pages.specs.Asked.{layout_pages};
 ghost use Rattle.record_pages.specs.Sizes.{IsPageSize};
+ghost use Rattle.service_lane.specs.Words.{words_for};
+ghost use Rattle.service_cache.specs.Held.{new_lane};
+ghost use Rattle.service_cache.specs.Sorted.{AreAsSaid};
 
 use crate::guarded::Guarded;
 use crossbeam_utils::CachePadded;
-use deed_book::{KeyLanes, NamedBook, Naming};
+use deed_book::{KeyLanes, NamedBook, Naming, Register};
 use key_hash::RandomSeed;
 use lane_devices::{Boxed, Counted};
 use page_device::PageDevice;
-use rand_pcg::Lcg64Xsh32;
 use record_pages::Layout;
 use seated_lane::SeatedLane;
-use service_lane::ServiceLane;
+use service_lane::{ServiceLane, words_of};
 use std::alloc::{AllocError, Global};
 use std::collections::VecDeque;
-use std::hash::BuildHasher;
 use std::sync::Mutex;
 
 /// A lane with its register under its lock, on cache lines of its own.
 pub(crate) type Locked<D, const PAGE: usize, L, J> = Mutex<CachePadded<Guarded<D, PAGE, L, J>>>;
 
-/// An empty lane over each device, with the next register of the book, under its lock. Words of admission come from generators
-/// that the seed starts.
+/// An empty lane over each device, with the next register of the book, under its lock: the lanes have the numbers from 0 in the
+/// order of the devices.
 pub(crate) fn lanes_over<D: PageDevice<PAGE>, const PAGE: usize, L: KeyLanes, J: Naming>(
     alloc: Global,
     layout: &Layout,
@@ -37,45 +38,46 @@ pub(crate) fn lanes_over<D: PageDevice<PAGE>, const PAGE: usize, L: KeyLanes, J:
     requires page_size { IsPageSize PAGE }
     requires slots { 1 ≤ lease_slots }
     requires room { All (λ d. layout_pages layout.now ≤ D.page_count d) devices.items }
+    requires honest { AreAsSaid L.is_honest D.honest devices.items }
     ensures { IfOk result (λ lanes. length lanes.items ≡ length devices.items) }
 {
     let count = devices.len();
     let mut lanes = Vec::with_capacity(alloc, count)?;
     let mut devices = VecDeque::from(devices);
-    for number in 0..count {
+    for _ in 0..count {
         let Some(device) = devices.pop_front() else {
             unreachable!()
         };
-        let words = Lcg64Xsh32::new(seed.hash_one(number as u64), number as u64);
-        let lane = lane_over(
-            alloc,
-            layout,
-            lease_slots,
-            device,
-            seed.derive(number as u32),
-        )?;
-        let lane = SeatedLane::new(lane, book.register());
-        lanes.push(Mutex::new(CachePadded::new(Guarded { lane, words })))?;
+        let guarded = guarded_over(alloc, layout, lease_slots, device, seed, book.register())?;
+        lanes.push(Mutex::new(CachePadded::new(guarded)))?;
     }
     Ok(lanes)
 }
 
-// An empty lane over a device.
-fn lane_over<D: PageDevice<PAGE>, const PAGE: usize>(
+/// What the lock of a new lane keeps: an empty lane over a device, with this register, and its generator of words. The cache's seed
+/// gives both what they are seeded with, by the number of the lane in the book.
+fn guarded_over<D: PageDevice<PAGE>, const PAGE: usize, L: KeyLanes, J: Naming>(
     alloc: Global,
     layout: &Layout,
     lease_slots: u32,
     device: D,
     seed: RandomSeed,
-) -> Result<ServiceLane<Counted<Boxed<D>>, PAGE>, AllocError>
+    register: Register<L, J>,
+) -> Result<Guarded<D, PAGE, L, J>, AllocError>
     requires page_size { IsPageSize PAGE }
     requires slots { 1 ≤ lease_slots }
     requires room { layout_pages layout.now ≤ D.page_count device }
-    ensures deeds { IfOk result (λ lane. lane.deeds ≡ []) }
-    ensures layout { IfOk result (λ lane. lane.store.layout ≡ layout.now) }
-    ensures slots { IfOk result (λ lane. length lane.slots ≡ lease_slots) }
+    requires few { L.lanes < 2 ^ 32 }
+    requires honest { IsTrue (L.is_honest register.number) → IsTrue (D.honest device) }
+    ensures serving { IfOk result (λ guarded. guarded.lane.serving
+        ≡ new_lane layout.now lease_slots seed register.number device) }
+    ensures register { IfOk result (λ guarded. guarded.lane.register ≡ register) }
+    ensures words { IfOk result (λ guarded. guarded.words ≡ words_for seed register.number) }
 {
+    let number = register.number() as u32;
     let counted = Counted::new(Boxed::new(alloc, device)?);
-    let lane = ServiceLane::with_layout(alloc, layout, lease_slots, counted, seed)?;
-    Ok(lane)
+    let lane_seed = seed.derive(number);
+    let lane = ServiceLane::with_layout(alloc, layout, lease_slots, counted, lane_seed)?;
+    let lane = SeatedLane::new(lane, register);
+    Ok(Guarded::new(lane, words_of(seed, number)))
 }

@@ -3,3 +3,5 @@ pub mod Leases
 pub mod Counting
 pub mod Serving
 pub mod Upkeep
+pub mod WithHelp
+pub mod Words

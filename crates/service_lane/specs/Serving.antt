@@ -1,5 +1,5 @@
 -- A lane that serves, when one is opened, and what a fill does.
-use Rattle.std.specs.Prelude.{◌≡◌, ◌≤◌, ℕ, List, [], ◌∷◌, ◌++◌, Option, Bool, IsTrue, Ok, length}
+use Rattle.std.specs.Prelude.{◌≡◌, ◌≤◌, ℕ, List, [], ◌∷◌, ◌++◌, Option, Bool, IsTrue, Ok}
 use Rattle.record_pages.specs.declared.pushed.Pushed.{Pushed}
 use Rattle.memory_cache.specs.declared.pair.Pair.{Pair}
 use Rattle.mover.specs.Calls.{StoreGets, StorePuts, StoreRemoves}
@@ -17,13 +17,13 @@ use Rattle.service_lane.specs.declared.filled.Filled.{Filled}
 use Rattle.service_lane.specs.declared.filled.Filled.TheVariants.{Stored, Stale}
 use Rattle.service_lane.specs.declared.open_lane_fault.OpenLaneFault.{OpenLaneFault}
 use Rattle.service_lane.specs.declared.open_lane_fault.OpenLaneFault.TheVariants as faults
-use Rattle.service_lane.specs.Leases.{IsUnwrittenSince, with_write}
+use Rattle.service_lane.specs.Leases.{LeaseSlots, IsUnwrittenSince, with_write}
 
 -- a store, what was asked of it and answered since it was opened, what the slots for leases show, and how often what was done
 pub record Serving (D : Type 0) : Type 0 where
   pub store : StoreState D
   pub deeds : List Deed
-  pub slots : List ℕ
+  pub slots : LeaseSlots
   pub counts : Counts
 
 -- When each refusal to open a lane comes, over a device of so many pages: there is no slot; else those of a store.
@@ -50,7 +50,7 @@ pub record PutsStore {D : Type 0} (size : ℕ) (held : D → ℕ → Option (Lis
 
 -- A fill that was stored, by a lease of so many writes: as a put, and its key was not written since the lease was given.
 pub record FillsStore {D : Type 0} (size : ℕ) (held : D → ℕ → Option (List ℕ)) (p : Pair) (word writes : ℕ) (pushed : Pushed) (old new : Serving D) : Type 0 where
-  pub unwritten : IsUnwrittenSince (length old.slots) old.deeds p.key writes
+  pub unwritten : IsUnwrittenSince old.slots old.deeds p.key writes
   pub puts : StorePuts size held p word old.store (Ok pushed) new.store
   pub deeds : new.deeds ≡ old.deeds ++ record { key = p.key; act = Put p.value.value p.value.expires } ∷ []
   pub slots : new.slots ≡ with_write old.slots p.key

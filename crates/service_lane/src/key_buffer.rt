@@ -1,13 +1,14 @@
 // A key in room of its own.
 ghost use Rattle.std.specs.Prelude.{◌≡◌, ◌≢◌, ◌<◌, ◌↔◌, [], length, Err};
+ghost use Rattle.record_pages.specs.Bounded.{IsKey};
 ghost use Rattle.record_pages.specs.declared.key.KeyFault.{KeyFault};
 
 use record_pages::{Key, KeyFault};
 use std::marker::Model;
 
-/// A copy of a key's bytes that lies in the buffer itself, so that none can be refused memory.
+/// A copy of a key's bytes that lies in the buffer itself, so that no memory can be refused for it.
 #[derive(Drop)]
-pub(crate) struct KeyBuffer {
+pub struct KeyBuffer {
     bytes: [u8; Key::MAX_LEN],
     len: usize,
 }
@@ -24,7 +25,7 @@ impl Model for KeyBuffer {
 
 impl KeyBuffer {
     /// A copy of a key.
-    pub(crate) fn of(key: &Key) -> KeyBuffer
+    pub fn of(key: &Key) -> KeyBuffer
         ensures { result ≡ key.now }
     {
         let bytes = key.bytes();
@@ -35,8 +36,9 @@ impl KeyBuffer {
     }
 
     /// The bytes of the key, in order.
-    pub(crate) fn bytes(&self) -> &[u8]
-        ensures { result.now ≡ self.now }
+    pub fn bytes(&self) -> &[u8]
+        ensures bytes { result.now ≡ self.now }
+        ensures range { IsKey result.now }
     {
         &self.bytes[..self.len]
     }

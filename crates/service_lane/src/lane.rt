@@ -1,5 +1,5 @@
 // A lane that serves.
-ghost use Rattle.std.specs.Prelude.{◌≡◌, ◌≤◌, [], replicate, length, IfOk, OnOk, IfErr};
+ghost use Rattle.std.specs.Prelude.{◌≡◌, ◌≤◌, [], length, IfOk, OnOk, IfErr};
 ghost use Rattle.klog.specs.Usage.{usage_of};
 ghost use Rattle.record_pages.specs.Asked.{HasNumbersOf, layout_pages};
 ghost use Rattle.record_pages.specs.Sizes.{IsPageSize};
@@ -58,14 +58,14 @@ impl<D: PageDevice<PAGE>, const PAGE: usize> Model for ServiceLane<D, PAGE> {
 impl<D: PageDevice<PAGE>, const PAGE: usize> ServiceLane<D, PAGE> {
     ghost use Rattle.service_lane.specs.Asked.{IsServed};
     ghost use Rattle.service_lane.specs.Counting.{no_counts};
-    ghost use Rattle.service_lane.specs.Leases.{AreCounted};
+    ghost use Rattle.service_lane.specs.Leases.{AreCounted, no_writes};
     ghost use Rattle.service_lane.specs.Serving.{RefusesLane};
 
     /// An empty lane with so many slots for leases, over a device. Its refusals are tested in the order of `OpenLaneFault`,
     /// those of the store in that of `Store::open`, and the device is dropped with each.
     ///
-    /// The seed is that of the table of the objects in memory. Draw it at random where strangers pick keys: who knows it can
-    /// pick keys that collide there.
+    /// The seed is that of the table of the objects in memory, and that by which keys have their slots. Draw it at random if
+    /// strangers pick keys: anyone who knows it can pick keys that collide there.
     pub fn open(
         alloc: Global,
         config: &Config,
@@ -77,7 +77,7 @@ impl<D: PageDevice<PAGE>, const PAGE: usize> ServiceLane<D, PAGE> {
             × (opened ≡ record {
               store = opening opened.store.layout device;
               deeds = [];
-              slots = replicate lease_slots 0;
+              slots = no_writes seed lease_slots;
               counts = no_counts;
             })) }
         ensures serves { OnOk result
@@ -110,12 +110,12 @@ impl<D: PageDevice<PAGE>, const PAGE: usize> ServiceLane<D, PAGE> {
         ensures { IfOk result (λ lane. lane ≡ record {
           store = opening layout.now device;
           deeds = [];
-          slots = replicate lease_slots 0;
+          slots = no_writes seed lease_slots;
           counts = no_counts;
         }) }
     {
         let asked = DeedStore::with_layout(alloc, layout, device, seed)?;
-        let slots = Slots::open(alloc, lease_slots)?;
+        let slots = Slots::open(alloc, seed, lease_slots)?;
         Ok(ServiceLane {
             asked,
             slots,
@@ -153,7 +153,7 @@ impl<D: PageDevice<PAGE>, const PAGE: usize> ServiceLane<D, PAGE> {
           deeds = self.now.deeds;
         }) }
         ensures counted { AreCounted self.now.deeds self.now.slots }
-        ensures slots { 1 ≤ length self.now.slots }
+        ensures slots { 1 ≤ length self.now.slots.writes }
     {
         let _some = self.slots.count();
         self.asked.layout()

@@ -1,43 +1,49 @@
 // The slots for leases: how many writes the keys of each have seen.
-ghost use Rattle.std.specs.Prelude.{◌≡◌, ◌<◌, ◌≤◌, ◌↔◌, ℕ, List, length, replicate, IfOk, IsTrue};
-ghost use Rattle.service_lane.specs.Leases.{slot_of, writes_for, with_write_in, HoldsLease};
+ghost use Rattle.std.specs.Prelude.{◌≡◌, ◌<◌, ◌≤◌, ◌↔◌, length, IfOk, IsTrue};
+ghost use Rattle.service_lane.specs.Leases.{hash_by, no_writes, slot_for, writes_for, with_write_in, HoldsLease};
 
 use crate::lease::Lease;
-use set_hash::hash;
+use key_hash::RandomSeed;
 use std::alloc::{AllocError, Global};
+use std::hash::{BuildHasher, Hasher};
 use std::marker::Model;
 
-/// How many writes the keys of each slot have seen. A slot stops at 2^64 - 1, and no lease of it holds from then on.
+/// How many writes the keys of each slot have seen. A key has its slot by a hash with the seed. A slot stops at 2^64 - 1, and no
+/// lease of it holds from then on.
 #[derive(Drop)]
 pub(crate) struct Slots {
+    seed: RandomSeed,
     writes: Vec<u64>,
 }
 
 impl Model for Slots {
-    ghost Value = { List ℕ };
+    ghost use Rattle.std.specs.Prelude.{◌≤◌, length};
+    ghost use Rattle.service_lane.specs.Leases.{LeaseSlots};
 
-    ghost view = { λ s. s.writes.items };
+    ghost Value = { LeaseSlots };
+
+    ghost view = { λ s. record { seed = s.seed; writes = s.writes.items } };
 
     ghost invariant = { λ s. 1 ≤ length s.writes.items };
 }
 
 impl Slots {
     /// So many slots, which have seen no write, or `AllocError` where memory was refused.
-    pub(crate) fn open(alloc: Global, count: u32) -> Result<Slots, AllocError>
+    pub(crate) fn open(alloc: Global, seed: RandomSeed, count: u32) -> Result<Slots, AllocError>
         requires { 1 ≤ count }
-        ensures { IfOk result (λ slots. slots ≡ replicate count 0) }
+        ensures { IfOk result (λ slots. slots ≡ no_writes seed count) }
     {
         let mut writes = Vec::with_capacity(alloc, count as usize)?;
         for _ in 0..count {
             writes.push(0)?;
         }
-        Ok(Slots { writes })
+        Ok(Slots { seed, writes })
     }
 
     /// How many slots there are, one at least.
     pub(crate) fn count(&self) -> usize
-        ensures count { result ≡ length self.now }
-        ensures some { 1 ≤ length self.now }
+        ensures count { result ≡ length self.now.writes }
+        ensures some { 1 ≤ length self.now.writes }
     {
         self.writes.len()
     }
@@ -60,7 +66,7 @@ impl Slots {
 
     /// Counts a write of a key of this slot.
     pub(crate) fn wrote_in(&mut self, slot: usize)
-        requires { slot < length self.old }
+        requires { slot < length self.old.writes }
         ensures { self.new ≡ with_write_in self.old slot }
     {
         let seen = self.writes[slot];
@@ -71,10 +77,20 @@ impl Slots {
 
     /// The slot of a key.
     pub(crate) fn slot(&self, key: &[u8]) -> usize
-        ensures slot { result ≡ slot_of (length self.now) key.now }
-        ensures within { result < length self.now }
+        ensures slot { result ≡ slot_for self.now key.now }
+        ensures within { result < length self.now.writes }
     {
         let count = self.writes.len();
-        (hash(key) >> 32) as usize % count
+        (hash_by(self.seed, key) >> 32) as usize % count
     }
+}
+
+/// The hash of bytes by a seed.
+#[tactic(auto, unfolding(crate::specs::Leases::hash_by))]
+pub fn hash_by(seed: RandomSeed, bytes: &[u8]) -> u64
+    ensures { result ≡ hash_by seed bytes.now }
+{
+    let mut hasher = seed.build_hasher();
+    hasher.write(bytes);
+    hasher.finish()
 }

@@ -1,12 +1,11 @@
 -- What a hit can be behind a put or a removal of its key, and that no lease outlives either.
-use Rattle.std.proofs.Common.{◌≡◌, ◌≤◌, ◌<◌, ◌+◌, ◌/◌, ◌^◌, ◌∙◌, ℕ, Bool, true, false, List, [], ◌∷◌, ◌++◌, length, Option, Some, None, Result, Ok, sym, ap, refl, subst, cond, arith, get_or, ltb}
+use Rattle.std.proofs.Common.{◌≡◌, ◌≤◌, ◌<◌, ◌+◌, ◌/◌, ◌^◌, ◌∙◌, ℕ, Bool, true, false, List, [], ◌∷◌, ◌++◌, length, Option, Some, None, Result, Ok, sym, ap, refl, subst, cond, arith, get_or, set, ltb}
 use Rattle.std.specs.Prelude.{IsTrue}
 use Rattle.std.specs.Str.{bytes_eq}
 use Rattle.std.specs.Cmp.Lexicographic.{bytes_decides}
 use Rattle.std.proofs.lemmas.Bool.{ltb-false}
 use Rattle.std.proofs.lemmas.List.{get_or-set_same, length-set}
 use Rattle.std.proofs.lemmas.Nat.{mod_below}
-use Rattle.set_hash.specs.Fnv.{fnv1a}
 use Rattle.record_pages.specs.Expiry.{timed}
 use Rattle.record_pages.specs.declared.tier.Tier.{Tier}
 use Rattle.record_pages.specs.declared.tier.Tier.TheVariants.{Memory, Log, Set}
@@ -25,7 +24,7 @@ use Rattle.mover.specs.declared.seen.Seen.{Seen}
 use Rattle.mover.specs.declared.seen.Seen.TheVariants.{Hit}
 use Rattle.mover.proofs.Showing.{some_same}
 use Rattle.service_lane.specs.Asked.{IsLiveHit}
-use Rattle.service_lane.specs.Leases.{slot_of, writes_for, with_write, one_more, most_writes, HoldsLease}
+use Rattle.service_lane.specs.Leases.{LeaseSlots, hash_by, slot_of, slot_for, writes_for, with_write, one_more, most_writes, HoldsLease}
 use Rattle.service_lane.specs.Serving.{Serving}
 use Rattle.klog.specs.declared.flushed.Flushed.{Flushed}
 use Rattle.service_lane.specs.Counting.{counts_answer}
@@ -80,14 +79,15 @@ grows n false is few same =
     let most = ltb-false n most_writes is in
     absurd (omega (arith, few, most))
 
--- a lease of a key does not hold behind one more write of it
-pub lease_ended : (slots after : List ℕ) (key : List ℕ) (writes : ℕ) → 1 ≤ length slots → writes ≡ writes_for slots key → after ≡ with_write slots key → HoldsLease after key writes → ⊥
+-- a lease of a key does not hold after one more write of it
+pub lease_ended : (slots after : LeaseSlots) (key : List ℕ) (writes : ℕ) → 1 ≤ length slots.writes → writes ≡ writes_for slots key → after ≡ with_write slots key → HoldsLease after key writes → ⊥
 lease_ended slots after key writes some leased written holds =
-    let slot = slot_of (length slots) key in
-    let within : slot < length slots = mod_below (fnv1a key / 2 ^ 32) (length slots) some in
-    let shows : writes_for after key ≡ one_more (get_or slots slot 0) =
-    ap (λ s. writes_for s key) written ∙ ap (λ n. get_or (with_write slots key) (slot_of n key) 0) (length-set slots slot (one_more (get_or slots slot 0))) ∙ get_or-set_same slots slot (one_more (get_or slots slot 0)) 0 within in
-    let n = get_or slots slot 0 in
+    let slot = slot_for slots key in
+    let n = get_or slots.writes slot 0 in
+    let seen = one_more n in
+    let within : slot < length slots.writes = mod_below (hash_by slots.seed key / 2 ^ 32) (length slots.writes) some in
+    let shows : writes_for after key ≡ seen =
+    ap (λ (s : LeaseSlots). writes_for s key) written ∙ ap (λ count. get_or (set slots.writes slot seen) (slot_of slots.seed count key) 0) (length-set slots.writes slot seen) ∙ get_or-set_same slots.writes slot seen 0 within in
     grows n (ltb n most_writes) refl (subst (λ w. w < most_writes) leased holds.few) (sym shows ∙ holds.same ∙ leased)
 
 -- ---- counters and upkeep

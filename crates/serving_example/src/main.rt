@@ -50,7 +50,8 @@ fn devices_for(alloc: Global, lanes: u32) -> Option<Vec<MemoryDevice<256>>> {
     Some(devices)
 }
 
-/// Opens a book for the lanes of these devices, among which the seed sorts the keys: `L` says which lane each key has.
+/// Opens a book for the lanes of these devices, among which the seed sorts the keys: `L` says which lane each key has, and which
+/// lanes have an honest device.
 fn made_over<L: KeyLanes + Send + Sync, R: Threads + Wait + Sync>(
     rt: &R,
     alloc: Global,

@@ -1,5 +1,5 @@
 // Puts, fills and removals with a seat.
-ghost use Rattle.std.specs.Prelude.{◌≡◌, ◌<◌, ◌≤◌, ◌↔◌, IfOk, OnOk, OnErr, IfErr, IsErrOf, Ok};
+ghost use Rattle.std.specs.Prelude.{◌≡◌, ◌<◌, ◌≤◌, ◌↔◌, IfOk, OnOk, OnErr, IfErr, IsErrOf, Ok, Err};
 ghost use Rattle.record_pages.specs.Bounded.{IsKey};
 ghost use Rattle.record_pages.specs.Expiry.{timed};
 ghost use Rattle.trace_file.specs.declared.act.Act.{Act};
@@ -7,19 +7,20 @@ ghost use Rattle.service_lane.specs.Leases.{HoldsLease};
 ghost use Rattle.service_lane.specs.Serving.{PutsStore, FillLeaves, Removes};
 ghost use Rattle.service_lane.specs.declared.filled.Filled.{Filled};
 ghost use Rattle.deed_book.specs.Registers.{EntersIn};
+ghost use Rattle.deed_book.specs.declared.register.EntryFault.{EntryFault};
 ghost use Rattle.record_pages.specs.Sizes.{object_size, room};
 ghost use Rattle.record_pages.specs.declared.put_fault.PutFault.{PutFault};
 ghost use Rattle.seated_lane.specs.Refusals.{RefusesPut, RefusesRemoval};
-ghost use Rattle.seated_lane.specs.Seated.{put_of, PutLeaves, RemovalLeaves, FillEnters, FillRefusalLeaves};
+ghost use Rattle.seated_lane.specs.Seated.{put_of, PutLeaves, RemovalLeaves, FillEnters, FillRefusalLeaves, HasNoRoom, HasRoomFor};
+ghost use Rattle.seated_lane.specs.declared.seat_fault.SeatFault.{SeatFault};
 ghost use Rattle.seated_lane.specs.declared.seat_fault.SeatPutFault.{SeatPutFault};
 
 use super::SeatedLane;
-use crate::key_copy::KeyCopy;
 use crate::seat_fault::{SeatFault, SeatPutFault};
 use deed_book::{Entry, EntryFault, KeyLanes, Naming, Register, Seat};
 use page_device::PageDevice;
 use record_pages::{Key, Pushed, Value};
-use service_lane::{Filled, Lease, ServiceLane};
+use service_lane::{Filled, KeyBuffer, Lease, ServiceLane};
 
 impl<D: PageDevice<PAGE>, const PAGE: usize, L: KeyLanes, J: Naming> SeatedLane<D, PAGE, L, J> {
     /// Puts a value of a key of the lane, which is entered in the list after all that the seat has seen.
@@ -43,6 +44,8 @@ impl<D: PageDevice<PAGE>, const PAGE: usize, L: KeyLanes, J: Naming> SeatedLane<
         // When it is refused, and what that leaves.
         ensures cause { IfErr result (RefusesPut PAGE key value) }
         ensures fits { OnOk result (object_size key value ≤ room PAGE) }
+        ensures full { (result ≡ Err (SeatPutFault.Book EntryFault.Full))
+            ↔ HasNoRoom L.lane_of self.old.register }
         ensures refused { IfErr result (λ fault. PutLeaves D.held L.lane_of key value expires fault
             self.old seat.old self.new seat.new) }
     {
@@ -65,6 +68,8 @@ impl<D: PageDevice<PAGE>, const PAGE: usize, L: KeyLanes, J: Naming> SeatedLane<
         // When it is refused, and what that leaves.
         ensures cause { IfErr result (RefusesRemoval key.now) }
         ensures answered { OnOk result (IsKey key.now) }
+        ensures full { (result ≡ Err (SeatFault.Book EntryFault.Full))
+            ↔ (IsKey key.now × HasNoRoom L.lane_of self.old.register) }
         ensures refused { IfErr result (λ fault. RemovalLeaves D.held key.now fault self.old seat.old
             self.new seat.new) }
     {
@@ -96,13 +101,16 @@ impl<D: PageDevice<PAGE>, const PAGE: usize, L: KeyLanes, J: Naming> SeatedLane<
             self.new.serving filled) }
         ensures entered { IfOk result (λ filled. FillEnters L.lane_of (put_of key value expires) filled
             self.old.register seat.old self.new.register seat.new) }
+        ensures room { IfOk result (HasRoomFor L.lane_of self.old.register) }
 
         // When it is refused, and what that leaves.
+        ensures full { IsErrOf result (SeatPutFault.Book EntryFault.Full)
+            → HasNoRoom L.lane_of self.old.register }
         ensures large { IsErrOf result (SeatPutFault.Put PutFault.TooLarge) → room PAGE < object_size key value }
         ensures refused { IfErr result (λ fault. FillRefusalLeaves PAGE D.held key value expires word
             lease.writes fault self.old seat.old self.new seat.new) }
     {
-        let copy = KeyCopy::of(&key);
+        let copy = KeyBuffer::of(&key);
         let put = self.register.put(&key, &value, expires);
         match self.lane.fill(lease, key, value, word, expires)? {
             Filled::Stale => Ok(Filled::Stale),
@@ -134,6 +142,7 @@ fn enter_or_remove<D: PageDevice<PAGE>, const PAGE: usize, L: KeyLanes, J: Namin
     requires key { IsKey key.now }
     ensures entered { OnOk result (EntersIn L.lane_of register.old seat.old write register.new seat.new) }
     ensures stays { OnOk result (lane.new ≡ lane.old) }
+    ensures full { (result ≡ Err EntryFault.Full) ↔ HasNoRoom L.lane_of register.old }
     ensures removed { OnErr result (Removes D.held key.now lane.old lane.new) }
     ensures refused { OnErr result ((register.new ≡ register.old) × (seat.new ≡ seat.old)) }
 {

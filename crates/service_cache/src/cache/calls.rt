@@ -35,7 +35,7 @@ impl<
     /// buffer then; at a miss the buffer is as it was. No memory is taken.
     ///
     /// A hit in memory is the key's latest value not since removed in the list that the seat has seen then, live at the
-    /// moment; and so is one on flash, if the devices give back what was written. The moment is the caller's, in the unit in
+    /// moment; and so is one on flash, if the device of the key's lane gives back what was written. The moment is the caller's, in the unit in
     /// which puts say when they expire; let all callers read one clock.
     ///
     /// `KeyEmpty` and `KeyTooLong`, for bytes that are no key's, come before a fault of the book. `Foreign` does not come: the
@@ -49,7 +49,7 @@ impl<
         moment: u64,
         found: &mut ValueBuffer,
     ) -> Result<Seen, SeatFault>
-        ensures live { IfOk result (λ seen. IsHit D.honest seat.new key.now moment
+        ensures live { IfOk result (λ seen. IsHit L.is_honest L.lane_of seat.new key.now moment
             (answer_of seen found.new)) }
         ensures seen { IsPrefix seat.old seat.new }
         ensures untouched { IfOk result (λ seen. IsMiss seen → found.new ≡ found.old) }
@@ -62,10 +62,10 @@ impl<
         let (number, lane) = self.lane(key);
         let mut guard = lane.lock(rt);
         let held = &mut **guard;
-        if held.lane.number() != number {
+        if held.number() != number {
             return Err(SeatFault::foreign(key));
         }
-        held.lane.get(seat, key, moment, found)
+        held.get(seat, key, moment, found)
     }
 
     /// Looks a key up as `get` does, and leases it at a miss, in the same hold of its lane: for a fill by what is read elsewhere
@@ -78,7 +78,7 @@ impl<
         moment: u64,
         found: &mut ValueBuffer,
     ) -> Result<LookedUp, SeatFault>
-        ensures live { IfOk result (λ seen. IsHit D.honest seat.new key.now moment
+        ensures live { IfOk result (λ seen. IsHit L.is_honest L.lane_of seat.new key.now moment
             (looked_up seen found.new)) }
         ensures seen { IsPrefix seat.old seat.new }
         ensures untouched { IfOk result (λ looked. HasMissed looked → found.new ≡ found.old) }
@@ -89,7 +89,7 @@ impl<
         let (number, lane) = self.lane(key);
         let mut guard = lane.lock(rt);
         let held = &mut **guard;
-        if held.lane.number() != number {
+        if held.number() != number {
             return Err(SeatFault::foreign(key));
         }
         held.get_or_lease(seat, key, moment, found)
@@ -122,7 +122,7 @@ impl<
         let (number, lane) = self.lane(key.bytes());
         let mut guard = lane.lock(rt);
         let held = &mut **guard;
-        if held.lane.number() != number {
+        if held.number() != number {
             return Err(SeatPutFault::Book(EntryFault::Foreign));
         }
         held.put(&self.policy, seat, key, value, expires)
@@ -150,7 +150,7 @@ impl<
         let (number, lane) = self.lane(key.bytes());
         let mut guard = lane.lock(rt);
         let held = &mut **guard;
-        if held.lane.number() != number {
+        if held.number() != number {
             return Err(SeatPutFault::Book(EntryFault::Foreign));
         }
         held.fill(&self.policy, seat, lease, key, value, expires)
@@ -175,9 +175,9 @@ impl<
         let (number, lane) = self.lane(key);
         let mut guard = lane.lock(rt);
         let held = &mut **guard;
-        if held.lane.number() != number {
+        if held.number() != number {
             return Err(SeatFault::foreign(key));
         }
-        held.lane.remove(seat, key)
+        held.remove(seat, key)
     }
 }

@@ -27,7 +27,7 @@ impl<
     {
         let mut guard = self.lanes[lane as usize].lock(rt);
         let held = &mut **guard;
-        held.lane.upkeep_step(&self.policy)
+        held.upkeep_step(&self.policy)
     }
 
     /// Counts of what a lane has done since the cache was opened.
@@ -36,7 +36,7 @@ impl<
     {
         let mut guard = self.lanes[lane as usize].lock(rt);
         let held = &mut **guard;
-        held.lane.counts()
+        held.lane().counts()
     }
 
     /// What the device of a lane was asked since the cache was opened.
@@ -45,7 +45,7 @@ impl<
     {
         let mut guard = self.lanes[lane as usize].lock(rt);
         let held = &mut **guard;
-        held.lane.device().counts()
+        held.lane().device().counts()
     }
 
     /// How full the log of a lane is.
@@ -54,7 +54,7 @@ impl<
     {
         let mut guard = self.lanes[lane as usize].lock(rt);
         let held = &mut **guard;
-        held.lane.log_usage()
+        held.lane().log_usage()
     }
 
     /// How many objects of a lane are in memory.
@@ -63,6 +63,6 @@ impl<
     {
         let mut guard = self.lanes[lane as usize].lock(rt);
         let held = &mut **guard;
-        held.lane.memory_len()
+        held.lane().memory_len()
     }
 }

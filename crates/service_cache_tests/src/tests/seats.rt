@@ -1,8 +1,8 @@
 //! Callers with seats: two threads call a cache, and whoever has seen what both have seen gets the latest value.
-ghost use Rattle.std.specs.Prelude.{◌≡◌, [], ◌∷◌, IfSome, IsTrue, true};
+ghost use Rattle.std.specs.Prelude.{◌≡◌, [], ◌∷◌, IfSome};
 ghost use Rattle.certificate_checker.specs.Deeds.{Deed};
 ghost use Rattle.mover.specs.Get.{answer_of};
-ghost use Rattle.service_lane.specs.Asked.{IsLiveHit};
+ghost use Rattle.service_cache.specs.Calls.{IsHit};
 ghost use Rattle.seated_lane.specs.Seated.{put_of};
 ghost use Rattle.service_cache.specs.Sorted.{SortsBy};
 ghost use Rattle.service_cache_tests.specs.Standing.{Stands};
@@ -169,7 +169,7 @@ fn last_of_both<L: KeyLanes + Send + Sync, J: Naming + Send + Sync, R: Threads +
 ) -> Option<Last<L, J>>
     ensures first { IfSome result (λ last. Stands (put_of first.key first.value 18446744073709551615) last.seat) }
     ensures second { IfSome result (λ last. Stands (put_of second.key second.value 18446744073709551615) last.seat) }
-    ensures live { IfSome result (λ last. IsLiveHit (IsTrue true) last.seat (97 ∷ 120 ∷ []) 0 (answer_of last.seen last.found)) }
+    ensures live { IfSome result (λ last. IsHit L.is_honest L.lane_of last.seat (97 ∷ 120 ∷ []) 0 (answer_of last.seen last.found)) }
 {
     let seat = seen_by_both(rt, cache, first, second)?;
     get_in(rt, cache, seat, b"ax")
@@ -221,7 +221,7 @@ fn get_in<L: KeyLanes, J: Naming, R: Wait>(
     mut seat: Seat<L, J>,
     key: &[u8],
 ) -> Option<Last<L, J>>
-    ensures live { IfSome result (λ last. IsLiveHit (IsTrue true) last.seat key.now 0 (answer_of last.seen last.found)) }
+    ensures live { IfSome result (λ last. IsHit L.is_honest L.lane_of last.seat key.now 0 (answer_of last.seen last.found)) }
     ensures kept { (deed : Deed) → Stands deed seat → IfSome result (λ last. Stands deed last.seat) }
 {
     let mut found = ValueBuffer::empty();

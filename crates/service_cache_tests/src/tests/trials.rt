@@ -1,6 +1,6 @@
 //! Caches that are opened with a book of their own, and what is tried of each.
 ghost use Rattle.std.specs.Prelude.{◌≡◌, length};
-ghost use Rattle.service_cache.specs.Sorted.{SortsBy};
+ghost use Rattle.service_cache.specs.Sorted.{AreAsSaid, SortsBy};
 
 use super::calls::{
     each_is_found, fills_once, leases_its_slot, refuses_bytes, removes_at_large_puts,
@@ -88,7 +88,8 @@ fn try_sorted<L: KeyLanes + Send + Sync, D: PageDevice<256> + Send, R: Threads +
     seed: RandomSeed,
     trial: Trial,
 ) -> Result<Outcome, Fail>
-    requires { SortsBy L.lanes L.lane_of seed (length devices.items) }
+    requires sorted { SortsBy L.lanes L.lane_of seed (length devices.items) }
+    requires honest { AreAsSaid L.is_honest D.honest devices.items }
 {
     let book = NewBook::<L>::open(devices.len());
     try_booked::<L, Brand, D, R>(rt, alloc, numbers, devices, seed, book, trial)
@@ -110,6 +111,7 @@ fn try_booked<
     trial: Trial,
 ) -> Result<Outcome, Fail>
     requires sorted { SortsBy L.lanes L.lane_of seed (length devices.items) }
+    requires honest { AreAsSaid L.is_honest D.honest devices.items }
     requires book { book ≡ J.book }
 {
     let Numbers {

@@ -1,7 +1,7 @@
 use Rattle.std.proofs.Common.{length}
-use Rattle.service_cache.specs.Sorted.{lane_by}
+use Rattle.service_cache.specs.Sorted.{honest_by, lane_by}
 use Rattle.serve_load.proofs.serving.over.Given as goal
 
--- the lanes of keys by the seed that was drawn
+-- the lanes of keys by the seed that was drawn, and which have an honest device
 abbrev pub ghosts-sorted : goal.ghosts-sorted
-ghosts-sorted g a = record { lanes = length a.devices.items; lane_of = λ key. lane_by a.seed (length a.devices.items) key }
+ghosts-sorted g a = record { lanes = length a.devices.items; lane_of = λ key. lane_by a.seed (length a.devices.items) key; is_honest = honest_by g.D.PageDevice.honest a.devices.items }

@@ -1,12 +1,14 @@
 -- A lane for each device that was taken, with its register.
-use Rattle.std.proofs.Common.{◌≡◌, ◌≤◌, ◌+◌, All, length}
+use Rattle.std.proofs.Common.{◌≡◌, ◌≤◌, ◌+◌, ℕ, Some, All, length}
+use Rattle.std.specs.Prelude.{IsTrue, slice_get}
 use Rattle.record_pages.specs.Asked.{layout_pages}
 use Rattle.service_cache.proofs.opening.lanes_over.Given as goal
 
-abbrev pub invariant-loop-number : goal.invariant-loop-number
-invariant-loop-number g l = record {
-  made : length l.lanes.items ≡ l.number;
-  left : length l.devices.items + l.number ≡ l.count;
-  given : l.book ≡ l.number;
+abbrev pub invariant-loop : goal.invariant-loop
+invariant-loop g l = record {
+  made : length l.lanes.items ≡ l.counter;
+  left : length l.devices.items + l.counter ≡ l.count;
+  given : l.book ≡ l.counter;
   room : All (λ d. layout_pages l.layout ≤ g.D.PageDevice.page_count d) l.devices.items;
+  said : (place : ℕ) (device : g.row.D.Denot) → slice_get l.devices.items place ≡ Some device → IsTrue (g.L.KeyLanes.is_honest (place + l.counter)) → IsTrue (g.D.PageDevice.honest device);
 }

@@ -49,3 +49,6 @@ returns-in_default-clause-stale g c =
 pub returns-in-Err-clause-stale : goal.returns-in-Err-clause-stale
 returns-in-Err-clause-stale g c =
     rw (← c.self.view_is) (not_stale (Ok c.in_ok-fill.field-0) _ c.in-Stored.pushed _ (ap Ok c.in-Stored.is) c.in_ok-fill.ensures.stale (λ is. cc))
+
+pub returns-in_default-clause-room : goal.returns-in_default-clause-room
+returns-in_default-clause-room g c = rw (← c.self.view_is) (λ none. absurd (c.in_default.not-Err _ (c.in_default.is ∙ c.in_default.ensures.full.1 none)))

@@ -4,7 +4,7 @@ use Rattle.certificate_checker.specs.Deeds.{Deed}
 use Rattle.deed_book.specs.Registers.{Registered, EntersIn}
 use Rattle.seated_lane.specs.Seated.{IsSeated}
 use Rattle.seated_lane.proofs.Seating.{seated_removed, seated_forgotten}
-use Rattle.seated_lane.proofs.Refusing.{is_key, refused_key}
+use Rattle.seated_lane.proofs.Refusing.{is_key, refused_key, full_exactly}
 use Rattle.seated_lane.proofs.lane.SeatedLane.remove.Goals as goal
 
 pub invariant_of-self-in_err-enter : goal.invariant_of-self-in_err-enter
@@ -28,3 +28,7 @@ returns-in_err-enter-clause-cause g c =
 
 pub returns-clause-answered : goal.returns-clause-answered
 returns-clause-answered g c = is_key c.in_ok-remove.field-0 c.args.key.now c.in_ok-remove.ensures.empty c.in_ok-remove.ensures.too_long
+
+pub returns-in_err-enter-clause-full : goal.returns-in_err-enter-clause-full
+returns-in_err-enter-clause-full g c =
+    rw (← c.self.view_is) (full_exactly c.from_residual-in_err-enter.result c.in_err-enter.field-0.0 c.args.key.now _ (search rules) c.in_err-enter.ensures.full (is_key c.in_ok-remove.field-0 c.args.key.now c.in_ok-remove.ensures.empty c.in_ok-remove.ensures.too_long))

@@ -5,4 +5,4 @@ use Rattle.service_lane.proofs.lane.ServiceLane.with_layout.Goals as goal
 
 pub invariant_of-result : goal.invariant_of-result
 invariant_of-result g c =
-    counted_opening c.args.lease_slots c.in_ok-asked.asked.deeds c.in_ok-slots.slots (ap (λ s. s.deeds) c.in_ok-asked.ensures) c.in_ok-slots.ensures
+    counted_opening c.args.seed c.args.lease_slots c.in_ok-asked.asked.deeds c.in_ok-slots.slots (ap (λ s. s.deeds) c.in_ok-asked.ensures) c.in_ok-slots.ensures

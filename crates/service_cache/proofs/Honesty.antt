@@ -1,0 +1,52 @@
+-- Each call of a lane leaves its device as honest as it was, so it stays as the type of the lanes says.
+use Rattle.std.proofs.Common.{◌≡◌, ℕ, zero, suc, List, Option, Bool, false, ap, sym, ◌∙◌, subst}
+use Rattle.std.specs.Prelude.{IsTrue}
+use Rattle.policy_laws.specs.declared.choice.Choice.{Choice}
+use Rattle.policy_laws.specs.declared.job.Job.{Job}
+use Rattle.record_pages.specs.declared.answer.Answer.{Answer}
+use Rattle.record_pages.specs.declared.pushed.Pushed.{Pushed}
+use Rattle.record_pages.specs.Expiry.{timed}
+use Rattle.service_lane.specs.declared.helped.Helped.{Helped}
+use Rattle.service_lane.specs.declared.upkept.Upkept.{Upkept}
+use Rattle.service_lane.specs.declared.upkept.Upkept.TheVariants as upkept
+use Rattle.service_lane.specs.Serving.{Serving, Gets, PutsStore, FillsStore, Removes}
+use Rattle.service_lane.specs.Upkeep.{Upkeeps, HelpsOnce, HelpsSteps, Helps}
+
+module _ {D : Type 0} (size : ℕ) (honest : D → Bool) (failures : D → ℕ) (held : D → ℕ → Option (List ℕ)) where
+  -- the device of a lane is as honest as that of another
+  abbrev pub IsAsHonest : Serving D → Serving D → Type 0
+  IsAsHonest old new = honest new.store.device ≡ honest old.store.device
+
+  pub gets_keep : (key : List ℕ) (moment : ℕ) (answer : Answer) (old new : Serving D) → Gets size honest failures held key moment answer old new → IsAsHonest old new
+  gets_keep key moment answer old new gets = gets.gets.reads.honesty
+
+  pub puts_keep : (key value : List ℕ) (expires word : ℕ) (pushed : Pushed) (old new : Serving D) → PutsStore size held (record { key = key; value = timed value expires }) word pushed old new → IsAsHonest old new
+  puts_keep key value expires word pushed old new puts = ap honest puts.puts.device
+
+  pub fills_keep : (key value : List ℕ) (expires word writes : ℕ) (pushed : Pushed) (old new : Serving D) → FillsStore size held (record { key = key; value = timed value expires }) word writes pushed old new → IsAsHonest old new
+  fills_keep key value expires word writes pushed old new fills = ap honest fills.puts.device
+
+  pub removes_keep : (key : List ℕ) (old new : Serving D) → Removes held key old new → IsAsHonest old new
+  removes_keep key old new removes = ap honest removes.removes.device
+
+  module _ (plan_of : Job → List Choice) where
+    pub upkeeps_keep : (old : Serving D) (did : Upkept) (new : Serving D) → Upkeeps size honest failures held plan_of old did new → IsAsHonest old new
+    upkeeps_keep old upkept.Idle new step = ap (λ (s : Serving D). honest s.store.device) step.1
+    upkeeps_keep old (upkept.Flushed answer) new step = step.flushes.honesty
+    upkeeps_keep old (upkept.Moved answer) new step = step.moves.honesty
+    upkeeps_keep old upkept.OutOfMemory new step = step.moves.honesty
+
+    once_keeps : (old : Serving D) (asked : Bool) (new : Serving D) → HelpsOnce size honest failures held plan_of old asked new → IsAsHonest old new
+    once_keeps old asked new step = ap (λ (s : Serving D). honest s.store.device) step.counted ∙ upkeeps_keep old step.did step.between step.upkept
+
+    steps_keep : (n : ℕ) (old : Serving D) (asked : Bool) (new : Serving D) → HelpsSteps size honest failures held plan_of n old asked new → IsAsHonest old new
+    steps_keep zero old asked new steps = ap (λ (s : Serving D). honest s.store.device) steps.1
+    steps_keep (suc n) old asked new steps = once_keeps steps.old asked new steps.once ∙ steps_keep n old false steps.old steps.so_far
+
+    pub helps_keep : (old : Serving D) (helped : Helped) (new : Serving D) → Helps size honest failures held plan_of old helped new → IsAsHonest old new
+    helps_keep old helped new helps = steps_keep helped.steps old helped.asked_device new helps.steps
+
+-- what is as said stays so where number and honesty stay
+pub said_stays : (said : ℕ → Bool) (number now : ℕ) (was is : Bool) → now ≡ number → is ≡ was → (IsTrue (said number) → IsTrue was) → IsTrue (said now) → IsTrue is
+said_stays said number now was is same_number same_honesty holds told =
+    subst (λ (b : Bool). IsTrue b) (sym same_honesty) (holds (subst (λ (n : ℕ). IsTrue (said n)) same_number told))

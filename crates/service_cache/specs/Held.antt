@@ -1,0 +1,70 @@
+-- What the lock of a lane keeps, when it is new, and what calls do to it.
+use Rattle.std.specs.Prelude.{◌≡◌, ℕ, List, [], Option, Bool, IsTrue}
+use Rattle.policy_laws.specs.declared.choice.Choice.{Choice}
+use Rattle.policy_laws.specs.declared.job.Job.{Job}
+use Rattle.record_pages.specs.declared.layout.Layout.{Layout}
+use Rattle.record_pages.specs.Expiry.{timed}
+use Rattle.key_hash.specs.declared.random_seed.RandomSeed.{RandomSeed}
+use Rattle.key_hash.specs.Hashing.{derived}
+use Rattle.rand_pcg.specs.Lcg.{Lcg}
+use Rattle.lane_devices.specs.Counting.{CountedDevice, no_device_counts}
+use Rattle.mover.specs.Store.{opening}
+use Rattle.service_lane.specs.Counting.{no_counts, counts_stale, with_given}
+use Rattle.service_lane.specs.Leases.{no_writes, writes_for}
+use Rattle.service_lane.specs.Serving.{Serving, Gets}
+use Rattle.service_lane.specs.WithHelp.{FillsAndHelps}
+use Rattle.service_lane.specs.declared.filled.Filled.{Filled}
+use Rattle.service_lane.specs.declared.filled.Filled.TheVariants.{Stored, Stale}
+use Rattle.seated_lane.specs.Seated.{Seated}
+use Rattle.service_cache.specs.Calls.{looked_up}
+use Rattle.service_cache.specs.declared.looked_up.LookedUp.{LookedUp}
+use Rattle.service_cache.specs.declared.looked_up.LookedUp.TheVariants.{Hit, Miss}
+
+-- whether a device that counts gives back what was written: the device in it does
+abbrev pub honest_in : {D : Type 0} → (D → Bool) → CountedDevice D → Bool
+honest_in honest counted = honest counted.device
+
+-- how many of its calls failed
+abbrev pub failures_in : {D : Type 0} → (D → ℕ) → CountedDevice D → ℕ
+failures_in failures counted = failures counted.device
+
+-- what its pages are known to hold
+abbrev pub held_in : {D : Type 0} → (D → ℕ → Option (List ℕ)) → CountedDevice D → ℕ → Option (List ℕ)
+held_in held counted = held counted.device
+
+-- what the lock of a lane keeps: the lane with its register, and the generator of its words of admission
+pub record Held (D : Type 0) : Type 0 where
+  pub lane : Seated (CountedDevice D)
+  pub words : Lcg
+
+-- the device of a lane is honest if that is said of the lane's number
+abbrev pub IsAsSaid : {D : Type 0} → (ℕ → Bool) → (D → Bool) → Held D → Type 0
+IsAsSaid said honest held = IsTrue (said held.lane.register.number) → IsTrue (honest held.lane.serving.store.device.device)
+
+-- a new lane of this number: empty, of this layout, over this device, with so many slots for leases that have seen no write, and
+-- sorted by the cache's seed for the number
+abbrev pub new_lane : {D : Type 0} → Layout → ℕ → RandomSeed → ℕ → D → Serving (CountedDevice D)
+new_lane layout lease_slots seed number device = record {
+  store = opening layout (record { device = device; counts = no_device_counts });
+  deeds = [];
+  slots = no_writes (derived seed number) lease_slots;
+  counts = no_counts;
+}
+
+-- what comes after an answer to a look-up: at a miss a lease of the key's slot, which is counted; at a hit nothing
+abbrev pub LeasesAfter : {D : Type 0} → LookedUp → List ℕ → Serving D → Serving D → Type 0
+LeasesAfter (Hit tier) key between new = new ≡ between
+LeasesAfter (Miss cause lease) key between new =
+    (new ≡ record between { counts = record between.counts { leases = with_given between.counts.leases } }) × (lease.writes ≡ writes_for between.slots key)
+
+-- A look-up that leases its key at a miss: the lane answered so, with this in the buffer, and leased the key at a miss.
+pub record LooksUp {D : Type 0} (size : ℕ) (honest : D → Bool) (failures : D → ℕ) (held : D → ℕ → Option (List ℕ)) (key : List ℕ) (moment : ℕ) (looked : LookedUp) (found : List ℕ) (old new : Serving D) : Type 0 where
+  pub between : Serving D
+  pub gets : Gets size honest failures held key moment (looked_up looked found) old between
+  pub leased : LeasesAfter looked key between new
+
+-- what a fill leaves: where it was stored, the lane's fill and help after it; where it is stale, all but a counter
+abbrev pub FillsOrNot : {D : Type 0} → ℕ → (D → Bool) → (D → ℕ) → (D → ℕ → Option (List ℕ)) → (Job → List Choice) → List ℕ → List ℕ → ℕ → ℕ → ℕ → Filled → Serving D → Serving D → Type 0
+FillsOrNot size honest failures held plan_of key value expires word writes (Stored pushed) old new =
+    FillsAndHelps size honest failures held plan_of (record { key = key; value = timed value expires }) word writes pushed old new
+FillsOrNot size honest failures held plan_of key value expires word writes Stale old new = new ≡ record old { counts = counts_stale old.counts }
