@@ -1,3 +1,6 @@
 pub mod Repeating
+pub mod Refilling
+pub mod Making
+pub mod Adding
 pub mod Rows
 pub mod Saying

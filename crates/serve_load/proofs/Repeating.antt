@@ -23,7 +23,7 @@ times : (m n : ℕ) → n ≡ 8 + m → n / 8 + 1 ≡ suc (m / 8 + 1)
 times m n e = omega (arith, e)
 
 -- one word more
-longer : (word : List ℕ) (m n : ℕ) → length word ≡ 8 → n ≡ 8 + m → repeated word n ≡ word ++ repeated word m
+pub longer : (word : List ℕ) (m n : ℕ) → length word ≡ 8 → n ≡ 8 + m → repeated word n ≡ word ++ repeated word m
 longer word m n len e =
     let count : take n (repeat (n / 8 + 1) word) ≡ take n (word ++ repeat (m / 8 + 1) word) = ap (λ k. take n (repeat k word)) (times m n e) in
     let there : n ≡ length word + m = omega (arith, len, e) in

@@ -1,6 +1,8 @@
 pub mod Objects
 pub mod Words
+pub mod Looking
 pub mod Calls
+pub mod Tallies
 pub mod Wanting
 pub mod Shapes
 pub mod Totals

@@ -4,8 +4,13 @@ use Rattle.figures.specs.declared.form.Form.{Form}
 use Rattle.figures.specs.Figures.{Row, number, row, thousandths, with_rows}
 use Rattle.load.specs.declared.served_load.ServedLoad.{ServedLoad}
 use Rattle.serve_load.specs.declared.report.Report.{Report}
+use Rattle.serve_load.specs.declared.lane_end.LaneEnd.{LaneEnd}
+use Rattle.serve_load.specs.declared.sums.Sums.{Sums}
+use Rattle.serve_load.specs.Calls.{IsTally}
 use Rattle.serve_load.specs.Closing.{closed}
 use Rattle.serve_load.specs.Rows.{fill_rows, get_latency_rows, hit_rows, miss_rows, move_rows, page_rows, pushed_rows, put_latency_rows, put_rows, rate_of, ratio_rows, upkeep_rows}
+use Rattle.serve_load.specs.Tallies.{AddUp}
+use Rattle.serve_load.specs.Times.{AreTold}
 
 -- how many operations, and in what time
 abbrev pub run_rows : Report → List Row
@@ -48,7 +53,21 @@ rows_of r = call_rows r ++ (store_rows r ++ work_rows r)
 unfoldable pub report_of : Form → Report → List ℕ
 report_of form r = closed form (with_rows form [] (rows_of r))
 
--- the callers made all operations of the load, or a hit was wrong and they made some
+-- the report has the sums of the callers, their times, and what the lanes tell together
+pub record IsReportOf (sums : Sums) (milliseconds : ℕ) (total : LaneEnd) (report : Report) : Type 0 where
+  pub operations_are : report.operations ≡ sums.operations
+  pub refused_are : report.refused ≡ sums.refused
+  pub wrong_are : report.wrong_hits ≡ sums.wrong_hits
+  pub milliseconds_are : report.milliseconds ≡ milliseconds
+  pub gets_are : AreTold sums.times.gets report.timed.gets
+  pub puts_are : AreTold sums.times.puts report.timed.puts
+  pub counts_are : report.counts ≡ total.counts
+  pub memory_is : report.memory_objects ≡ total.memory_objects
+  pub log_is : report.log_records ≡ total.log_records
+
+-- the callers made all operations of the load, or a hit was wrong and they made some; and operations, refusals and wrong hits are
+-- the sums of what so many of its callers counted at their end
 pub record IsMade (load : ServedLoad) (report : Report) : Type 0 where
   pub most : report.operations ≤ load.callers * load.operations
   pub all : report.wrong_hits ≡ 0 → report.operations ≡ load.callers * load.operations
+  pub sums : AddUp (IsTally load) load.callers report.operations report.refused report.wrong_hits

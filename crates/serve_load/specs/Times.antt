@@ -1,11 +1,12 @@
 -- What is told of times: of those of gets and of those of puts.
-use Rattle.std.specs.Prelude.{◌≡◌, ◌⊎◌, ◌+◌, ◌%◌, ◌<◌, ◌≤◌, ◌++◌, ◌∷◌, [], List, ℕ, length, min}
+use Rattle.std.specs.Prelude.{◌≡◌, ◌⊎◌, ◌+◌, ◌%◌, ◌<◌, ◌≤◌, ◌++◌, ◌∷◌, [], List, ℕ, length, min, Option, None, Some}
 use Rattle.latencies.specs.declared.histogram.Quantiles.{Quantiles}
 use Rattle.latencies.specs.Cells.{longest}
 use Rattle.latencies.specs.Holding.{most_times}
 use Rattle.latencies.specs.Quantile.{IsQuantile, greatest}
 use Rattle.load.specs.declared.served_operation.ServedOperation.{ServedOperation}
 use Rattle.load.specs.declared.served_operation.ServedOperation.TheVariants.{Get, Put, Remove}
+use Rattle.serve_load.specs.declared.call_times.CallTimes.{CallTimes}
 use Rattle.serve_load.specs.declared.call_times.TheConstants.{TIMED}
 
 -- the four numbers are those of these times
@@ -40,3 +41,8 @@ IsSampled number operation gets_before gets puts_before puts =
 -- these times and those of others, as many as there may be
 abbrev pub IsJoined : List ℕ → List ℕ → List ℕ → Type 0
 IsJoined before other times = length before + length other ≤ most_times → times ≡ before ++ other
+
+-- the times of a caller are added, of gets to those of gets and of puts to those of puts, if it has any
+abbrev pub JoinsOf : Option CallTimes → CallTimes → CallTimes → Type 0
+JoinsOf None before times = times ≡ before
+JoinsOf (Some other) before times = IsJoined before.gets other.gets times.gets × IsJoined before.puts other.puts times.puts

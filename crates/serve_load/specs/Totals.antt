@@ -1,5 +1,5 @@
 -- The counters of lanes together. They are modulo 2^64.
-use Rattle.std.specs.Prelude.{ℕ, ◌+◌, ◌%◌, ◌^◌}
+use Rattle.std.specs.Prelude.{◌≡◌, ℕ, ◌+◌, ◌%◌, ◌^◌, List, [], ◌∷◌, fold}
 use Rattle.service_lane.specs.declared.get_counts.GetCounts.{GetCounts}
 use Rattle.service_lane.specs.declared.put_counts.PutCounts.{PutCounts}
 use Rattle.service_lane.specs.declared.pushed_counts.PushedCounts.{PushedCounts}
@@ -7,6 +7,7 @@ use Rattle.service_lane.specs.declared.lease_counts.LeaseCounts.{LeaseCounts}
 use Rattle.service_lane.specs.declared.step_counts.StepCounts.{StepCounts}
 use Rattle.service_lane.specs.declared.upkeep_counts.UpkeepCounts.{UpkeepCounts}
 use Rattle.service_lane.specs.declared.counts.Counts.{Counts}
+use Rattle.serve_load.specs.declared.lane_end.LaneEnd.{LaneEnd}
 
 -- the sum of two counters
 abbrev pub together : ℕ → ℕ → ℕ
@@ -76,3 +77,16 @@ sum_of a b = record {
   steps = sum_of_steps a.steps b.steps;
   upkeep = sum_of_upkeep a.upkeep b.upkeep;
 }
+
+-- what two lanes tell together
+abbrev pub joined : LaneEnd → LaneEnd → LaneEnd
+joined a b = record {
+  counts = sum_of a.counts b.counts;
+  memory_objects = together a.memory_objects b.memory_objects;
+  log_records = together a.log_records b.log_records;
+}
+
+-- what lanes tell together, of which there is one at least
+abbrev pub IsTotal : List LaneEnd → LaneEnd → Type 0
+IsTotal [] total = ⊥
+IsTotal (first ∷ others) total = total ≡ fold joined first others

@@ -1,15 +1,20 @@
 // A caller of a load.
-ghost use Rattle.std.specs.Prelude.{◌≡◌, ◌<◌, ◌≤◌, ◌+◌, IfOk, length, slice_index};
+ghost use Rattle.std.specs.Prelude.{◌≡◌, ◌≢◌, ◌<◌, ◌≤◌, ◌+◌, [], false, IfOk, length, slice_index};
+ghost use mathlib.Core.List.{IsPrefix};
 ghost use Rattle.load.specs.Operations.{past};
 ghost use Rattle.load.specs.Served.{key_number_of, served_next_of};
-ghost use Rattle.serve_load.specs.Calls.{IsEnded};
+ghost use Rattle.serve_load.specs.Calls.{Does, HasEnded, IsEnded, IsOneOf, IsTally, Looks, Puts, Removes, is_wrong, standing};
+ghost use Rattle.serve_load.specs.declared.counted.Counted.{Counted};
+ghost use Rattle.serve_load.specs.Looking.{Finds, FindsAll};
 ghost use Rattle.serve_load.specs.Times.{IsNotedOnce, IsSampled};
-ghost use Rattle.serve_load.specs.Words.{Fills, JudgesHit, Knows, Sets, word_after_put};
 ghost use Rattle.serve_load.specs.Objects.{key_of, value_of};
 
 use crate::call_times::{CallTimes, TIMED};
-use crate::objects::{expires_of, key, key_bytes, moment_of, value};
-use crate::right::is_right;
+use crate::counted::Counted;
+use crate::objects::{expires_of, key, key_bytes, moment_of};
+use crate::right::judged;
+use crate::room::Room;
+use crate::tally::{Tally, Tallying};
 use crate::words::{Step, step_of_fill, word_after_fill};
 use deed_book::{KeyLanes, Naming, Seat};
 use load::{ServedLoad, ServedOperation};
@@ -21,31 +26,21 @@ use record_pages::{Key, Value};
 use service_cache::{LookedUp, ServiceCache};
 use service_lane::Lease;
 use std::alloc::{AllocError, Global};
+use std::marker::PhantomData;
 use std::sync::Wait;
 use std::sync::atomic::{AtomicU64, Ordering};
 use std::time::{Clock, Instant};
 use value_buffer::ValueBuffer;
 
-/// A caller: its number, its seat, the generator of its random words, and what it knows of its keys, a word for each.
+/// A caller: its number, its seat, the generator of its random words, what it knows of its keys, a word for each, and room for
+/// its values.
 #[derive(Drop)]
 pub(crate) struct Caller<L: KeyLanes, J: Naming> {
     pub(crate) number: u16,
     pub(crate) seat: Seat<L, J>,
     pub(crate) generator: Lcg64Xsh32,
     pub(crate) words: Vec<u32>,
-}
-
-/// How a caller ended.
-#[derive(Drop)]
-pub(crate) struct Tally {
-    /// Operations that it made.
-    pub(crate) operations: u32,
-    /// Those of them that were refused memory.
-    pub(crate) refused: u32,
-    /// Hits that were not right: it stops at the first.
-    pub(crate) wrong_hits: u32,
-    /// How long its calls took; none if memory for them was refused, and then it made no operation.
-    pub(crate) times: Option<CallTimes>,
+    pub(crate) room: Room,
 }
 
 impl<L: KeyLanes, J: Naming> Caller<L, J> {
@@ -56,24 +51,66 @@ impl<L: KeyLanes, J: Naming> Caller<L, J> {
         number: u16,
         seat: Seat<L, J>,
     ) -> Result<Caller<L, J>, AllocError>
-        ensures { IfOk result (λ caller. length caller.words.items ≡ load.now.keys) }
+        requires one_of { number < load.now.callers }
+        requires seat { seat ≡ [] }
+        ensures number { IfOk result (λ caller. caller.number ≡ number) }
+        ensures begun { IfOk result (λ caller. IsOneOf load.now
+            caller.number caller.generator caller.words.items caller.seat) }
     {
         Ok(Caller {
             number,
             seat,
             generator: Lcg64Xsh32::new(u64::from(load.seed), u64::from(number)),
             words: vec![in alloc; 0u32; load.keys as usize]?,
+            room: Room::empty(alloc),
         })
     }
 
-    /// Makes its operations, until all are made, a hit is not right, or the load is halted; and halts the load at such a hit, or if
-    /// memory for its times is refused. They are counted by the thousand.
+    /// Makes its operations as one of the callers of a load, and answers how it ended. It halts the load if memory for its times is
+    /// refused.
     pub(crate) fn make_all<
         D: PageDevice<PAGE>,
         P: EvictionPolicy + Drop,
         const PAGE: usize,
+        M: Tallying,
         R: Wait + Clock,
     >(
+        self,
+        rt: &R,
+        alloc: Global,
+        cache: &ServiceCache<D, P, PAGE, L, J>,
+        load: &ServedLoad,
+        made: &AtomicU64,
+        halted: &AtomicU64,
+    ) -> Tally<M>
+        requires begun { IsOneOf load.now self.number self.generator self.words.items self.seat }
+        requires most { load.now.operations ≤ M.most }
+        requires tallies { (counted : Counted) → IsTally load.now counted → M.is_tally counted }
+        ensures { HasEnded load.now self.number result.counted }
+    {
+        let Ok(mut times) = CallTimes::new(alloc) else {
+            halted.store(1, Ordering::SeqCst);
+            return Tally {
+                counted: Counted {
+                    operations: 0,
+                    refused: 0,
+                    wrong_hits: 0,
+                },
+                times: None,
+                of: PhantomData,
+            };
+        };
+        let counted = self.make_each(rt, alloc, cache, load, made, halted, &mut times);
+        Tally {
+            counted,
+            times: Some(times),
+            of: PhantomData,
+        }
+    }
+
+    /// Makes its operations, until all are made, a hit is not right, or the load is halted; and halts the load at such a hit. They
+    /// are counted by the thousand.
+    fn make_each<D: PageDevice<PAGE>, P: EvictionPolicy + Drop, const PAGE: usize, R: Wait + Clock>(
         mut self,
         rt: &R,
         alloc: Global,
@@ -81,54 +118,42 @@ impl<L: KeyLanes, J: Naming> Caller<L, J> {
         load: &ServedLoad,
         made: &AtomicU64,
         halted: &AtomicU64,
-    ) -> Tally
+        times: &mut CallTimes,
+    ) -> Counted
         requires { length self.words.items ≡ load.now.keys }
-        ensures { IsEnded load.now result }
+        ensures { IsEnded load.now self.number self.generator (standing self.words.items self.seat)
+            result }
     {
-        let Ok(mut times) = CallTimes::new(alloc) else {
-            halted.store(1, Ordering::SeqCst);
-            return Tally {
-                operations: 0,
-                refused: 0,
-                wrong_hits: 0,
-                times: None,
-            };
-        };
         let mut found = ValueBuffer::empty();
         let mut refused = 0;
         for number in 0..load.operations {
             if halted.load(Ordering::SeqCst) != 0 {
-                return Tally {
+                return Counted {
                     operations: number,
                     refused,
                     wrong_hits: 0,
-                    times: Some(times),
                 };
             }
-            match self.make_next(rt, alloc, cache, load, number, &mut times, &mut found) {
-                Step::Done => {}
-                Step::Refused => refused += 1,
-                Step::WrongHit => {
-                    halted.store(1, Ordering::SeqCst);
-                    return Tally {
-                        operations: number + 1,
-                        refused,
-                        wrong_hits: 1,
-                        times: Some(times),
-                    };
-                }
+            let step = self.make_next(rt, alloc, cache, load, number, times, &mut found);
+            if step.is_wrong() {
+                halted.store(1, Ordering::SeqCst);
+                return Counted {
+                    operations: number + 1,
+                    refused,
+                    wrong_hits: 1,
+                };
             }
+            refused += step.refusals();
             count(made, number);
         }
-        Tally {
+        Counted {
             operations: load.operations,
             refused,
             wrong_hits: 0,
-            times: Some(times),
         }
     }
 
-    /// Makes its operation with this number, and times one of sixteen.
+    /// Makes its operation with this number, and times one of sixteen. After a look-up its buffer has what was hit, or nothing.
     fn make_next<D: PageDevice<PAGE>, P: EvictionPolicy + Drop, const PAGE: usize, R: Wait + Clock>(
         &mut self,
         rt: &R,
@@ -141,8 +166,13 @@ impl<L: KeyLanes, J: Naming> Caller<L, J> {
     ) -> Step
         requires keys { length self.old.words.items ≡ load.now.keys }
         requires number { number < 4294967295 }
-        ensures words { Knows load.now (served_next_of load.now self.old.generator) number result
-            self.old.words.items self.new.words.items }
+        ensures does { Does load.now self.old.number (served_next_of load.now self.old.generator) number
+            result (standing self.old.words.items self.old.seat)
+            (standing self.new.words.items self.new.seat) }
+        ensures finds { FindsAll L.is_honest L.lane_of load.now self.old.number
+            (served_next_of load.now self.old.generator) self.old.words.items number self.new.seat
+            found.new result }
+        ensures number { self.new.number ≡ self.old.number }
         ensures generator { self.new.generator ≡ past (past self.old.generator) }
         ensures keys { length self.new.words.items ≡ load.now.keys }
         ensures times { IsSampled number (served_next_of load.now self.old.generator)
@@ -174,9 +204,14 @@ impl<L: KeyLanes, J: Naming> Caller<L, J> {
     ) -> Step
         requires key { key_number_of operation < length self.old.words.items }
         requires number { number < 4294967295 }
-        ensures words { Knows load.now operation number result
-            self.old.words.items self.new.words.items }
+        ensures does { Does load.now self.old.number operation number result
+            (standing self.old.words.items self.old.seat)
+            (standing self.new.words.items self.new.seat) }
+        ensures finds { FindsAll L.is_honest L.lane_of load.now self.old.number operation self.old.words.items number
+            self.new.seat found.new result }
+        ensures number { self.new.number ≡ self.old.number }
         ensures generator { self.new.generator ≡ self.old.generator }
+        ensures keys { length self.new.words.items ≡ length self.old.words.items }
         ensures times { IsNotedOnce operation
             times.old.gets times.new.gets times.old.puts times.new.puts }
     {
@@ -201,12 +236,18 @@ impl<L: KeyLanes, J: Naming> Caller<L, J> {
     ) -> Step
         requires key { key_number_of operation < length self.old.words.items }
         requires number { number < 4294967295 }
-        ensures words { Knows load.now operation number result
-            self.old.words.items self.new.words.items }
+        ensures does { Does load.now self.old.number operation number result
+            (standing self.old.words.items self.old.seat)
+            (standing self.new.words.items self.new.seat) }
+        ensures finds { FindsAll L.is_honest L.lane_of load.now self.old.number operation self.old.words.items number
+            self.new.seat found.new result }
+        ensures number { self.new.number ≡ self.old.number }
         ensures generator { self.new.generator ≡ self.old.generator }
+        ensures keys { length self.new.words.items ≡ length self.old.words.items }
     {
         match operation {
             ServedOperation::Get(key) => {
+                found.set(&[]);
                 if load.leases == 0 {
                     self.get(rt, cache, load, key, number, found)
                 } else {
@@ -228,20 +269,29 @@ impl<L: KeyLanes, J: Naming> Caller<L, J> {
         number: u32,
         found: &mut ValueBuffer,
     ) -> Step
-        requires { key < length self.old.words.items }
+        requires key { key < length self.old.words.items }
+        requires empty { found.old ≡ [] }
+        ensures finds { Finds L.is_honest L.lane_of load.now self.old.number key
+            (slice_index self.old.words.items key) number self.new.seat found.new result }
+        ensures seen { IsPrefix self.old.seat self.new.seat }
         ensures words { self.new.words ≡ self.old.words }
+        ensures number { self.new.number ≡ self.old.number }
         ensures generator { self.new.generator ≡ self.old.generator }
     {
         let moment = moment_of(load, number);
         let name = key_bytes(self.number, key);
-        match cache.get(rt, &mut self.seat, &name, moment, found) {
-            Ok(Seen::Hit(_)) => self.step_of_hit(load, key, moment, found.bytes()),
-            Ok(Seen::Miss(_)) => Step::Done,
-            Err(_) => Step::Refused,
-        }
+        let seen = cache.get(rt, &mut self.seat, &name, moment, found);
+        judged(
+            load,
+            key,
+            self.words[key as usize],
+            moment,
+            seen,
+            found.bytes(),
+        )
     }
 
-    /// Looks a key up, and fills it by the lease of a miss.
+    /// Looks a key up, and says whether a hit was right; at a miss it fills the key by the lease.
     fn get_or_fill<D: PageDevice<PAGE>, P: EvictionPolicy + Drop, const PAGE: usize, R: Wait>(
         &mut self,
         rt: &R,
@@ -254,27 +304,26 @@ impl<L: KeyLanes, J: Naming> Caller<L, J> {
     ) -> Step
         requires key { key < length self.old.words.items }
         requires number { number < 4294967295 }
-        ensures words { Fills self.old.words.items self.new.words.items key number }
+        requires empty { found.old ≡ [] }
+        requires leases { load.now.leases ≢ 0 }
+        ensures finds { Finds L.is_honest L.lane_of load.now self.old.number key
+            (slice_index self.old.words.items key) number self.new.seat found.new result }
+        ensures looks { Looks load.now self.old.number key number result
+            (standing self.old.words.items self.old.seat)
+            (standing self.new.words.items self.new.seat) }
+        ensures number { self.new.number ≡ self.old.number }
         ensures generator { self.new.generator ≡ self.old.generator }
+        ensures keys { length self.new.words.items ≡ length self.old.words.items }
     {
         let moment = moment_of(load, number);
         let name = key_bytes(self.number, key);
+        let known = self.words[key as usize];
         match cache.get_or_lease(rt, &mut self.seat, &name, moment, found) {
-            Ok(LookedUp::Hit(_)) => self.step_of_hit(load, key, moment, found.bytes()),
             Ok(LookedUp::Miss(_, lease)) => self.fill(rt, alloc, cache, load, lease, key, number),
-            Err(_) => Step::Refused,
-        }
-    }
-
-    /// How a get went that hit these bytes.
-    fn step_of_hit(&self, load: &ServedLoad, key: u32, moment: u64, bytes: &[u8]) -> Step
-        requires { key < length self.now.words.items }
-        ensures { JudgesHit load.now key (slice_index self.now.words.items key) moment bytes.now result }
-    {
-        if is_right(load, key, self.words[key as usize], moment, bytes) {
-            Step::Done
-        } else {
-            Step::WrongHit
+            Ok(LookedUp::Hit(tier)) => {
+                judged(load, key, known, moment, Ok(Seen::Hit(tier)), found.bytes())
+            }
+            Err(fault) => judged(load, key, known, moment, Err(fault), found.bytes()),
         }
     }
 
@@ -291,10 +340,16 @@ impl<L: KeyLanes, J: Naming> Caller<L, J> {
     ) -> Step
         requires key { key < length self.old.words.items }
         requires number { number < 4294967295 }
-        ensures words { Fills self.old.words.items self.new.words.items key number }
+        requires leases { load.now.leases ≢ 0 }
+        ensures right { is_wrong result ≡ false }
+        ensures looks { Looks load.now self.old.number key number result
+            (standing self.old.words.items self.old.seat)
+            (standing self.new.words.items self.new.seat) }
+        ensures number { self.new.number ≡ self.old.number }
         ensures generator { self.new.generator ≡ self.old.generator }
+        ensures keys { length self.new.words.items ≡ length self.old.words.items }
     {
-        let Ok((name, value)) = object(alloc, load, self.number, key, number) else {
+        let Ok((name, value)) = self.object(alloc, load, key, number) else {
             return Step::Refused;
         };
         let filled = cache.fill(
@@ -322,10 +377,14 @@ impl<L: KeyLanes, J: Naming> Caller<L, J> {
     ) -> Step
         requires key { key < length self.old.words.items }
         requires number { number < 4294967295 }
-        ensures words { Sets self.old.words.items self.new.words.items key (word_after_put result number) }
+        ensures puts { Puts load.now self.old.number key number result
+            (standing self.old.words.items self.old.seat)
+            (standing self.new.words.items self.new.seat) }
+        ensures number { self.new.number ≡ self.old.number }
         ensures generator { self.new.generator ≡ self.old.generator }
+        ensures keys { length self.new.words.items ≡ length self.old.words.items }
     {
-        let Ok((name, value)) = object(alloc, load, self.number, key, number) else {
+        let Ok((name, value)) = self.object(alloc, load, key, number) else {
             let _removed = self.remove(rt, cache, key);
             return Step::Refused;
         };
@@ -349,8 +408,12 @@ impl<L: KeyLanes, J: Naming> Caller<L, J> {
         key: u32,
     ) -> Step
         requires { key < length self.old.words.items }
-        ensures words { Sets self.old.words.items self.new.words.items key 0 }
+        ensures removes { Removes self.old.number key result
+            (standing self.old.words.items self.old.seat)
+            (standing self.new.words.items self.new.seat) }
+        ensures number { self.new.number ≡ self.old.number }
         ensures generator { self.new.generator ≡ self.old.generator }
+        ensures keys { length self.new.words.items ≡ length self.old.words.items }
     {
         let name = key_bytes(self.number, key);
         let removed = cache.remove(rt, &mut self.seat, &name);
@@ -360,22 +423,26 @@ impl<L: KeyLanes, J: Naming> Caller<L, J> {
             Err(_) => Step::Refused,
         }
     }
-}
 
-/// A caller's key, and the value that its operation with this number puts for it.
-fn object(
-    alloc: Global,
-    load: &ServedLoad,
-    caller: u16,
-    number_of_key: u32,
-    number: u32,
-) -> Result<(Key, Value), AllocError>
-    ensures { IfOk result (λ made. (made.0 ≡ key_of caller number_of_key)
-        × (made.1 ≡ value_of load.now.value_bytes number_of_key number)) }
-{
-    let key = key(alloc, caller, number_of_key)?;
-    let value = value(alloc, load, number_of_key, number)?;
-    Ok((key, value))
+    /// Its key with this number, and the value that its operation with this number puts for it.
+    fn object(
+        &mut self,
+        alloc: Global,
+        load: &ServedLoad,
+        number_of_key: u32,
+        number: u32,
+    ) -> Result<(Key, Value), AllocError>
+        ensures made { IfOk result (λ made. (made.0 ≡ key_of self.old.number number_of_key)
+            × (made.1 ≡ value_of load.now.value_bytes number_of_key number)) }
+        ensures words { self.new.words ≡ self.old.words }
+        ensures seat { self.new.seat ≡ self.old.seat }
+        ensures number { self.new.number ≡ self.old.number }
+        ensures generator { self.new.generator ≡ self.old.generator }
+    {
+        let name = key(alloc, self.number, number_of_key)?;
+        let value = self.room.value(alloc, load, number_of_key, number)?;
+        Ok((name, value))
+    }
 }
 
 /// Counts a thousand operations more where the one with this number is the last of a thousand.

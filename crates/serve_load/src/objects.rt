@@ -1,9 +1,9 @@
 // The keys and values of a load.
 ghost use Rattle.std.specs.Prelude.{◌≡◌, ◌+◌, IfOk};
-ghost use Rattle.serve_load.specs.Objects.{expires_of, key_of, moment_of, value_of, word_of};
+ghost use Rattle.serve_load.specs.Objects.{expires_of, key_of, moment_of, word_of};
 
 use load::ServedLoad;
-use record_pages::{Key, KeyFault, NEVER, Value, ValueFault};
+use record_pages::{Key, NEVER};
 use std::alloc::{AllocError, Global};
 
 /// The bytes of each key.
@@ -36,23 +36,6 @@ pub(crate) fn word(key: u32, number: u32) -> [u8; 8]
     let [a, b, c, d] = key.to_be_bytes();
     let [e, f, g, h] = number.to_be_bytes();
     [a, b, c, d, e, f, g, h]
-}
-
-/// The value that the operation with this number puts for a key.
-pub(crate) fn value(
-    alloc: Global,
-    load: &ServedLoad,
-    key: u32,
-    number: u32,
-) -> Result<Value, AllocError>
-    ensures { IfOk result (λ value. value ≡ value_of load.now.value_bytes key number) }
-{
-    let len = load.value_bytes as usize;
-    let bytes = word(key, number).repeat(alloc, len / 8 + 1)?;
-    match Value::new(alloc, &bytes[..len]) {
-        Ok(value) => Ok(value),
-        Err(_) => Err(AllocError),
-    }
 }
 
 /// The moment of a caller's operation with this number: the number itself, where puts expire.

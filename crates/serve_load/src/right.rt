@@ -1,10 +1,39 @@
 // What a hit has to be.
 ghost use Rattle.std.specs.Prelude.{◌≡◌, ◌↔◌, IsTrue, length};
+ghost use Rattle.serve_load.specs.Looking.{Judges};
 ghost use Rattle.serve_load.specs.Objects.{repeated, value_of};
 ghost use Rattle.serve_load.specs.Words.{IsRight};
 
 use crate::objects::{expires_of, word};
+use crate::words::Step;
 use load::ServedLoad;
+use mover::Seen;
+use seated_lane::SeatFault;
+
+/// How a look-up of a key went that gave this, and these bytes at a hit, for a caller that knew this word of the key, at this
+/// moment.
+pub(crate) fn judged(
+    load: &ServedLoad,
+    key: u32,
+    known: u32,
+    moment: u64,
+    seen: Result<Seen, SeatFault>,
+    bytes: &[u8],
+) -> Step
+    ensures { Judges load.now key known moment seen bytes.now result }
+{
+    match seen {
+        Ok(Seen::Hit(_)) => {
+            if is_right(load, key, known, moment, bytes) {
+                Step::Done
+            } else {
+                Step::WrongHit
+            }
+        }
+        Ok(Seen::Miss(_)) => Step::Done,
+        Err(_) => Step::Refused,
+    }
+}
 
 /// Whether a caller that knows this word of a key may hit these bytes at this moment: the word is that of an operation, the bytes
 /// are its value, and they are not expired.

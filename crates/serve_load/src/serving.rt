@@ -2,6 +2,8 @@
 ghost use Rattle.std.specs.Prelude.{◌≡◌, ◌≢◌, ◌↔◌, ◌⊎◌, ◌<◌, ◌+◌, IfErr, IfOk, length};
 ghost use Rattle.service_cache.specs.Serving.{lanes_of};
 ghost use Rattle.service_cache.specs.Sorted.{AreAsSaid, SortsBy};
+ghost use Rattle.serve_load.specs.declared.counted.Counted.{Counted};
+ghost use Rattle.serve_load.specs.Calls.{IsTally};
 ghost use Rattle.serve_load.specs.Reports.{IsMade};
 ghost use Rattle.serve_load.specs.Ends.{IsFailure, status_of};
 ghost use Rattle.figures.specs.Figures.{form_of};
@@ -13,6 +15,7 @@ use crate::ended::Ended;
 use crate::made::make;
 use crate::report::Report;
 use crate::serve_end::ServeEnd;
+use crate::tally::Tallying;
 use deed_book::{KeyLanes, NamedBook, Naming, NewBook};
 use figures::Form;
 use file_device::FileDevice;
@@ -164,16 +167,17 @@ fn sorted<
     ensures refused { IfErr result (λ ended. IsFailure ended.end) }
 {
     let book = NewBook::<L>::open(devices.len());
-    match booked::<L, Brand, D, R, E>(rt, load, shape, devices, seed, book, err) {
+    match booked::<L, Brand, Brand, D, R, E>(rt, load, shape, devices, seed, book, err) {
         Ok(report) => Ok(report),
         Err(ended) => Err(ended),
     }
 }
 
-/// Runs a load over devices, with a book for their lanes.
+/// Runs a load over devices, with a book for their lanes, and a type that says what its callers may count.
 fn booked<
     L: KeyLanes + Send + Sync,
     J: Naming + Send + Sync,
+    M: Tallying + Send + Sync,
     D: PageDevice<PAGE> + Send,
     R: Threads + Wait + Sync + AllocGlobal + Clock,
     E: Write + IsTerminal,
@@ -189,11 +193,14 @@ fn booked<
     requires sorted { SortsBy L.lanes L.lane_of seed (length devices.items) }
     requires honest { AreAsSaid L.is_honest D.honest devices.items }
     requires book { book ≡ J.book }
+    requires most { M.most ≡ load.now.operations }
+    requires tallies { (counted : Counted) → IsTally load.now counted → M.is_tally counted }
+    requires only { (counted : Counted) → M.is_tally counted → IsTally load.now counted }
     ensures made { IfOk result (λ report. IsMade load.now report) }
     ensures refused { IfErr result (λ ended. IsFailure ended.end) }
 {
     let cache = open(rt.alloc(), shape, devices, seed, book.named::<J>())?;
-    match make(rt, rt.alloc(), load, &cache, err) {
+    match make::<D, Rriparoo, PAGE, L, J, M, R, E>(rt, rt.alloc(), load, &cache, err) {
         Ok(report) => Ok(report),
         Err(ended) => Err(ended),
     }

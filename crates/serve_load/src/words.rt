@@ -16,6 +16,30 @@ pub(crate) enum Step {
     WrongHit,
 }
 
+impl Step {
+    ghost use Rattle.serve_load.specs.Calls.{is_wrong, refusals_of};
+
+    /// Whether a hit was not right.
+    pub(crate) fn is_wrong(self) -> bool
+        ensures { result ≡ is_wrong self }
+    {
+        match self {
+            Step::Done | Step::Refused => false,
+            Step::WrongHit => true,
+        }
+    }
+
+    /// How many operations were refused of one that went so.
+    pub(crate) fn refusals(self) -> u32
+        ensures { result ≡ refusals_of self }
+    {
+        match self {
+            Step::Done | Step::WrongHit => 0,
+            Step::Refused => 1,
+        }
+    }
+}
+
 /// What a caller knows of a key behind its fill in the operation with this number, where it knew this before.
 ///
 /// A word of a key is 0 where the key has no value, and else 1 more than the number of the operation that put it.

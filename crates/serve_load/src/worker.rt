@@ -17,8 +17,12 @@ const NAP: u64 = 50;
 /// How many steps a worker does in a lane before it goes on to the next.
 const STEPS: u32 = 16;
 
-/// Does the upkeep of each lane in turn, beginning with the one of the worker's number, until all callers ended. Where there was
-/// nothing to do in as many lanes as there are, one after the other, it leaves their locks alone for a while.
+/// How many steps a worker does at the most in a lane in its last round.
+const LAST_STEPS: u32 = 65536;
+
+/// Does the upkeep of each lane in turn, beginning with the one of the worker's number, until all callers ended, and then of each
+/// lane once more, until nothing is due there. Where there was nothing to do in as many lanes as there are, one after the other, it
+/// leaves their locks alone for a while.
 pub(crate) fn work<
     D: PageDevice<PAGE>,
     P: EvictionPolicy + Drop,
@@ -35,9 +39,13 @@ pub(crate) fn work<
     for _ in rt.forever() {
         let callers = running.load(Ordering::SeqCst);
         if callers == 0 {
-            return;
+            break;
         }
-        idle = if tend(rt, cache, lane) { 0 } else { idle + 1 };
+        idle = if tend(rt, cache, lane, STEPS) {
+            0
+        } else {
+            idle + 1
+        };
         if idle == lanes {
             running.park_timeout(
                 rt,
@@ -48,6 +56,7 @@ pub(crate) fn work<
         }
         lane = lane_after(lane, lanes);
     }
+    tend_all(rt, cache);
 }
 
 /// The lane after this one, in turn.
@@ -59,6 +68,20 @@ fn lane_after(lane: u32, lanes: u32) -> u32
     if lane + 1 < lanes { lane + 1 } else { 0 }
 }
 
+/// Does what is due in each lane.
+fn tend_all<
+    D: PageDevice<PAGE>,
+    P: EvictionPolicy + Drop,
+    const PAGE: usize,
+    L: KeyLanes,
+    J: Naming,
+    R: Wait,
+>(rt: &R, cache: &ServiceCache<D, P, PAGE, L, J>) {
+    for lane in 0..cache.lanes() {
+        let _tended = tend(rt, cache, lane, LAST_STEPS);
+    }
+}
+
 /// Does what is due in a lane, up to so many steps, or to one that is refused memory. Whether a step was done.
 fn tend<
     D: PageDevice<PAGE>,
@@ -67,11 +90,11 @@ fn tend<
     L: KeyLanes,
     J: Naming,
     R: Wait,
->(rt: &R, cache: &ServiceCache<D, P, PAGE, L, J>, lane: u32) -> bool
+>(rt: &R, cache: &ServiceCache<D, P, PAGE, L, J>, lane: u32, steps: u32) -> bool
     requires { lane < lanes_of cache.now }
 {
     let mut tended = false;
-    for _ in 0..STEPS {
+    for _ in 0..steps {
         let step = cache.upkeep_step(rt, lane);
         match step.did {
             Upkept::Idle | Upkept::OutOfMemory => return tended,

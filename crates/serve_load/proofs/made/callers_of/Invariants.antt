@@ -1,6 +1,9 @@
--- Each caller so far has a word for each of its keys.
-use Rattle.std.proofs.Common.{◌≡◌, All, length}
+-- The callers so far are numbered in order, and each is one of the load's.
+use Rattle.std.proofs.Common.{◌≡◌, All, [], map}
+use Rattle.serve_load.specs.Calls.{IsOneOf}
+use Rattle.serve_load.specs.Tallies.{upto}
 use Rattle.serve_load.proofs.made.callers_of.Given as goal
 
 abbrev pub invariant-loop-number : goal.invariant-loop-number
-invariant-loop-number g l = All (λ c. length c.words.items ≡ l.load.keys) l.callers.items
+invariant-loop-number g l =
+    (map (λ c. c.number) l.callers.items ≡ upto l.number) × All (λ c. IsOneOf l.load c.number c.generator c.words.items c.seat) l.callers.items

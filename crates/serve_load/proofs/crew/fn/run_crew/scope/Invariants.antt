@@ -1,12 +1,13 @@
--- The callers that are left have a word for each of their keys.
-use Rattle.std.proofs.Common.{◌≡◌, All, length}
+-- The callers that are left are callers of the load.
+use Rattle.std.proofs.Common.{All}
+use Rattle.serve_load.specs.Calls.{IsOneOf}
 use Rattle.serve_load.proofs.crew.fn.run_crew.scope.Given as goal
 
 abbrev pub invariant-loop-worker : goal.invariant-loop-worker
-invariant-loop-worker g l = All (λ c. length c.words.items ≡ l.load.now.keys) l.callers.items
+invariant-loop-worker g l = All (λ c. IsOneOf l.load.now c.number c.generator c.words.items c.seat) l.callers.items
 
 abbrev pub invariant-loop-caller : goal.invariant-loop-caller
-invariant-loop-caller g l = All (λ c. length c.words.items ≡ l.load.now.keys) l.callers.items
+invariant-loop-caller g l = All (λ c. IsOneOf l.load.now c.number c.generator c.words.items c.seat) l.callers.items
 
 abbrev pub decreases-loop-caller : goal.decreases-loop-caller
 decreases-loop-caller g l = goal.left-loop-caller g l

@@ -1,0 +1,9 @@
+-- So many tallies add up to the sums.
+use Rattle.std.proofs.Common.{◌≤◌, ◌*◌}
+use Rattle.serve_load.specs.Tallies.{AddUp}
+use Rattle.serve_load.proofs.sums.sums_of.Given as goal
+
+abbrev pub invariant-loop : goal.invariant-loop
+invariant-loop g l =
+    (l.sums.operations ≤ l.counter * g.M.Tallying.most) × (l.sums.refused ≤ l.sums.operations) × (l.sums.wrong_hits ≤ l.counter)
+    × AddUp g.M.Tallying.is_tally l.counter l.sums.operations l.sums.refused l.sums.wrong_hits

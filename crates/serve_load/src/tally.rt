@@ -1,0 +1,36 @@
+// How a caller of a load ended.
+ghost use Rattle.std.specs.Prelude.{◌≤◌};
+
+use crate::call_times::CallTimes;
+use crate::counted::Counted;
+use std::marker::{Brand, PhantomData};
+
+/// What a type says of the load whose callers send their tallies: how many operations a caller makes at the most, and what a caller
+/// may have counted at its end.
+pub(crate) trait Tallying {
+    ghost use Rattle.std.specs.Prelude.{ℕ};
+    ghost use Rattle.serve_load.specs.declared.counted.Counted.{Counted};
+
+    ghost most: { ℕ };
+
+    ghost is_tally: { Counted → Type 0 };
+}
+
+impl Tallying for Brand {
+    ghost most = { 0 };
+
+    ghost is_tally = { λ counted. Unit {0} };
+}
+
+/// How a caller ended.
+#[derive(Drop)]
+pub(crate) struct Tally<M: Tallying> {
+    pub(crate) counted: Counted,
+    /// How long its calls took; none if memory for them was refused, and then it made no operation.
+    pub(crate) times: Option<CallTimes>,
+    pub(crate) of: PhantomData<M>,
+    ghost some: { counted.operations ≤ M.most },
+    ghost few_refused: { counted.refused ≤ counted.operations },
+    ghost one_wrong: { counted.wrong_hits ≤ 1 },
+    ghost is: { ∥ M.is_tally counted ∥₁ },
+}
