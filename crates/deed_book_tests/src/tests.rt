@@ -32,7 +32,7 @@ fn entered_by_two<J: Naming + Send + Sync, R: Threads + Wait + Sync>(
     enter_both::<J, R>(rt, book, here, new).is_some()
 }
 
-// Two threads enter a put and a removal of one key. Where both did, who has seen what both have seen has seen both.
+// Two threads enter a put, after a look, and a removal of one key. Where both did, who has seen what both have seen has seen both.
 fn enter_both<J: Naming + Send + Sync, R: Threads + Wait + Sync>(
     rt: &R,
     book: NewBook<OneLane>,
@@ -60,7 +60,7 @@ fn enter_both<J: Naming + Send + Sync, R: Threads + Wait + Sync>(
     Some(seat)
 }
 
-// Enters a put.
+// Enters a put, after a look.
 fn put_in<J: Naming>(
     rt: &impl Wait,
     register: &Mutex<Register<OneLane, J>>,
@@ -71,6 +71,9 @@ fn put_in<J: Naming>(
     ensures { IfSome result (λ seat. Stands (record { key = key.now; act = Act.Put value.now 9 }) seat) }
 {
     let mut held = register.lock(rt);
+    if held.look(&mut seat).is_err() {
+        return None;
+    }
     let _number = held.number();
     let put = held.put(key, value, 9);
     match held.enter(&mut seat, put) {

@@ -54,24 +54,25 @@ IsLatestOf history certificate below hit (Other write) =
 IsLatestOf history certificate below hit (Expired put) =
     IsLastWrite history certificate below hit put × PutsValueOf history hit put
 
--- this call stands before the place, and that one precedes it
-pub record IsPreceded (history : List Call) (certificate : List ℕ) (below call earlier : ℕ) : Type 0 where
-  pub place : ℕ
-  pub before : place < below
-  pub at : slice_get certificate place ≡ Some earlier
-  pub precedes : PrecedesAt history call earlier
-
 -- no call before the place is preceded by that one
 abbrev pub NonePreceded : List Call → List ℕ → ℕ → ℕ → Type 0
 NonePreceded history certificate below call =
     (place position : ℕ) → place < below → slice_get certificate place ≡ Some position → ¬ PrecedesAt history call position
 
--- a call before the place that this one precedes, or the call itself where there is none
+-- of the calls before the place, this is the first one that the other precedes
+pub record IsPreceded (history : List Call) (certificate : List ℕ) (below call earlier : ℕ) : Type 0 where
+  pub place : ℕ
+  pub before : place < below
+  pub at : slice_get certificate place ≡ Some earlier
+  pub precedes : PrecedesAt history call earlier
+  pub first : NonePreceded history certificate place call
+
+-- the first of the calls before the place that this one precedes, if there is one
 abbrev pub IsEarlier : List Call → List ℕ → ℕ → ℕ → Option ℕ → Type 0
 IsEarlier history certificate below call None = NonePreceded history certificate below call
 IsEarlier history certificate below call (Some earlier) = IsPreceded history certificate below call earlier
 
--- the call at a place is out of order, with an earlier one that it precedes
+-- the call at a place is out of order, with the first of those before it that it precedes, or itself where there is none
 pub record IsOutOfOrder (history : List Call) (certificate : List ℕ) (place position : ℕ) (reason : Reason) : Type 0 where
   pub earlier : Option ℕ
   pub is_earlier : IsEarlier history certificate place position earlier

@@ -1,3 +1,4 @@
 pub mod RowLaws
 pub mod RunLaws
 pub mod TraceLines
+pub mod ShowLaws

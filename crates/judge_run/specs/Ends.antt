@@ -4,6 +4,8 @@ use Rattle.judge_run.specs.declared.judge_end.JudgeEnd.{JudgeEnd}
 use Rattle.judge_run.specs.declared.judge_end.JudgeEnd.TheVariants as ends
 use Rattle.judge_run.specs.declared.outcome.Outcome.{Outcome}
 use Rattle.judge_run.specs.declared.outcome.Outcome.TheVariants.{Accepted, Rejected, Undecided, BadLine, BadTrace}
+use Rattle.judge_run.specs.declared.shown.Shown.{Shown}
+use Rattle.judge_run.specs.declared.shown.Shown.TheVariants as showing
 use Rattle.judge_run.specs.declared.tell_fault.TellFault.{TellFault}
 use Rattle.judge_run.specs.declared.tell_fault.TellFault.TheVariants.{OutOfMemory, ReadFault, WriteFault}
 
@@ -14,6 +16,12 @@ end_of_outcome (Rejected rejection) = ends.Rejected
 end_of_outcome (Undecided hits) = ends.Undecided
 end_of_outcome (BadLine bad) = ends.BadInput
 end_of_outcome (BadTrace fault) = ends.BadInput
+
+-- how it ends after what came of showing
+abbrev pub end_of_shown : Shown → JudgeEnd
+end_of_shown showing.Whole = ends.Done
+end_of_shown (showing.BadTrace fault) = ends.BadInput
+end_of_shown (showing.TooLate position) = ends.BadInput
 
 -- how it ends if not all was told
 abbrev pub end_of_fault : TellFault → JudgeEnd

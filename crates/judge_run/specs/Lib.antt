@@ -4,5 +4,6 @@ pub mod TextTold
 pub mod TraceRows
 pub mod TraceTold
 pub mod Showing
+pub mod Inputs
 pub mod Ends
 pub mod Runs

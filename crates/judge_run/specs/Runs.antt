@@ -1,28 +1,93 @@
--- What `judge` and `check` wrote if the program ended with a status.
-use Rattle.std.specs.Prelude.{◌≡◌, ◌≢◌, ℕ, Bool, List, Option}
+-- What `judge`, `check` and `show` wrote if the program ended with a status.
+use Rattle.std.specs.Prelude.{◌≡◌, ◌≢◌, ◌⊎◌, ℕ, Bool, List, Option, Some, None, Ok}
+use Rattle.std.specs.Io.KnownBytes.{Keeps}
 use Rattle.figures.specs.declared.form.Form.{Form}
+use Rattle.history_text.specs.declared.cause.Cause.{Cause}
+use Rattle.history_text.specs.declared.line_fault.LineFault.{LineFault}
+use Rattle.history_text.specs.declared.line_fault.LineFault.TheVariants.{Bad}
+use Rattle.history_text.specs.Spelled.{IsSaid}
+use Rattle.history_text.specs.Spelling.{key_of}
 use Rattle.judge_run.specs.declared.outcome.Outcome.{Outcome}
-use Rattle.judge_run.specs.Ends.{end_of_outcome, status_of}
+use Rattle.judge_run.specs.declared.shown.Shown.{Shown}
+use Rattle.judge_run.specs.Ends.{end_of_outcome, end_of_shown, status_of}
+use Rattle.judge_run.specs.Showing.{HasShown}
 use Rattle.judge_run.specs.TextTold.{ToldText}
 use Rattle.judge_run.specs.TraceTold.{ToldTrace}
 
--- with each status but that of a fault, what was told of some text was written, and the status is that of what came of judging it
-pub record JudgedWith (form : Form) (explain : Bool) (old new : Option (List ℕ)) (status : ℕ) : Type 0 where
-  pub known : Option (List ℕ)
+-- what was told of a text of these bytes was written, and the status is that of what came of judging it
+pub record JudgedOn (form : Form) (known : Option (List ℕ)) (explain : Bool) (old new : Option (List ℕ)) (status : ℕ) : Type 0 where
   pub outcome : Outcome
   pub status_is : status ≡ status_of (end_of_outcome outcome)
   pub told : ToldText form known explain outcome old new
 
+-- so it is with each status but that of a fault
+abbrev pub IsJudgeRunOn : Form → Option (List ℕ) → Bool → Option (List ℕ) → Option (List ℕ) → ℕ → Type 0
+IsJudgeRunOn form known explain old new status = status ≢ 3 → JudgedOn form known explain old new status
+
+-- the same of some text
+pub record JudgedWith (form : Form) (explain : Bool) (old new : Option (List ℕ)) (status : ℕ) : Type 0 where
+  pub known : Option (List ℕ)
+  pub is : JudgedOn form known explain old new status
+
 abbrev pub IsJudgeRun : Form → Bool → Option (List ℕ) → Option (List ℕ) → ℕ → Type 0
 IsJudgeRun form explain old new status = status ≢ 3 → JudgedWith form explain old new status
+
+-- what was told of a trace of these bytes, of which those are left, was written, and the status is that of what came of judging it
+pub record CheckedOn (form : Form) (known left : Option (List ℕ)) (explain : Bool) (old new : Option (List ℕ)) (status : ℕ) : Type 0 where
+  pub outcome : Outcome
+  pub status_is : status ≡ status_of (end_of_outcome outcome)
+  pub told : ToldTrace form known left explain outcome old new
+
+-- so it is with each status but that of a fault
+abbrev pub IsCheckRunOn : Form → Option (List ℕ) → Option (List ℕ) → Bool → Option (List ℕ) → Option (List ℕ) → ℕ → Type 0
+IsCheckRunOn form known left explain old new status = status ≢ 3 → CheckedOn form known left explain old new status
 
 -- the same of some trace
 pub record CheckedWith (form : Form) (explain : Bool) (old new : Option (List ℕ)) (status : ℕ) : Type 0 where
   pub known : Option (List ℕ)
   pub left : Option (List ℕ)
-  pub outcome : Outcome
-  pub status_is : status ≡ status_of (end_of_outcome outcome)
-  pub told : ToldTrace form known left explain outcome old new
+  pub is : CheckedOn form known left explain old new status
 
 abbrev pub IsCheckRun : Form → Bool → Option (List ℕ) → Option (List ℕ) → ℕ → Type 0
 IsCheckRun form explain old new status = status ≢ 3 → CheckedWith form explain old new status
+
+-- the key whose calls alone are asked for is the one that the word writes, if there is a word
+abbrev pub IsAskedFor : Option (List ℕ) → Option (List ℕ) → Type 0
+IsAskedFor None only = only ≡ None
+IsAskedFor (Some word) only = (key : List ℕ) × (key_of word ≡ Ok key) × (only ≡ Some key)
+
+-- the word writes no key, for this cause, or memory was refused
+abbrev pub IsNotAskedFor : Option (List ℕ) → LineFault → Type 0
+IsNotAskedFor None fault = ⊥
+IsNotAskedFor (Some word) fault = IsSaid (key_of word) fault
+
+-- what came of showing a trace of these bytes was written, and the status is that of it
+pub record ShownAs (known only old new : Option (List ℕ)) (status : ℕ) : Type 0 where
+  pub shown : Shown
+  pub status_is : status ≡ status_of (end_of_shown shown)
+  pub wrote : HasShown known only shown old new
+
+-- the calls that are shown are those of the key that the word writes, or all if there is no word
+pub record ShownOn (known word old new : Option (List ℕ)) (status : ℕ) : Type 0 where
+  pub only : Option (List ℕ)
+  pub asked : IsAskedFor word only
+  pub is : ShownAs known only old new status
+
+-- the word writes no key, for this cause, and nothing was written
+pub record ShownNothing (word old new : Option (List ℕ)) (status : ℕ) : Type 0 where
+  pub cause : Cause
+  pub none : IsNotAskedFor word (Bad cause)
+  pub status_is : status ≡ 2
+  pub kept : Keeps old new
+
+-- so it is with each status but that of a fault
+abbrev pub IsShowRunOn : Option (List ℕ) → Option (List ℕ) → Option (List ℕ) → Option (List ℕ) → ℕ → Type 0
+IsShowRunOn known word old new status = status ≢ 3 → ShownOn known word old new status ⊎ ShownNothing word old new status
+
+-- the same of some trace
+pub record ShownWith (word old new : Option (List ℕ)) (status : ℕ) : Type 0 where
+  pub known : Option (List ℕ)
+  pub is : ShownOn known word old new status ⊎ ShownNothing word old new status
+
+abbrev pub IsShowRun : Option (List ℕ) → Option (List ℕ) → Option (List ℕ) → ℕ → Type 0
+IsShowRun word old new status = status ≢ 3 → ShownWith word old new status

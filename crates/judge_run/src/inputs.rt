@@ -1,11 +1,16 @@
 // The input that a request names.
+ghost use Rattle.std.specs.Prelude.{◌↔◌, IsTrue};
+ghost use Rattle.judge_run.specs.Inputs.{IsStandardInput};
+
 use file_requests::FileName;
 
 /// The file name that means the standard input.
 const STANDARD_INPUT: &str = "-";
 
 /// Whether a name means the standard input.
-pub(crate) fn is_standard_input(file: &FileName) -> bool {
+pub(crate) fn is_standard_input(file: &FileName) -> bool
+    ensures { IsTrue result ↔ IsStandardInput file.now }
+{
     file.as_str() == STANDARD_INPUT
 }
 

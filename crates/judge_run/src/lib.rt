@@ -25,7 +25,7 @@ pub use judge_end::JudgeEnd;
 pub use judging_texts::answer_judge;
 pub use outcome::Outcome;
 pub use rejection::Rejection;
-pub use run::{run_check, run_judge, run_show};
+pub use run::{check_with, judge_with, run_check, run_judge, run_show, show_with};
 pub use showing::answer_show;
 pub use shown::Shown;
 pub use tell_fault::TellFault;

@@ -1,8 +1,10 @@
 // What `judge`, `check` and `show` do with files.
-ghost use Rattle.std.specs.Prelude.{◌≡◌};
+ghost use Rattle.std.specs.Prelude.{◌≡◌, ◌≢◌, IfErr, IfOk, option_map, string_bytes};
 ghost use Rattle.figures.specs.Figures.{form_of};
-ghost use Rattle.judge_run.specs.Runs.{IsCheckRun, IsJudgeRun};
-ghost use Rattle.judge_run.specs.Ends.{IsEnded};
+ghost use Rattle.history_text.specs.Writing.{named};
+ghost use Rattle.judge_run.specs.Inputs.{IsStandardInput};
+ghost use Rattle.judge_run.specs.Runs.{IsAskedFor, IsCheckRun, IsCheckRunOn, IsJudgeRun, IsJudgeRunOn, IsNotAskedFor, IsShowRun, IsShowRunOn, ShownAs};
+ghost use Rattle.judge_run.specs.Ends.{IsEnded, end_of_shown, status_of};
 
 use crate::checking::answer_check;
 use crate::inputs::{input_name, is_standard_input};
@@ -38,12 +40,30 @@ pub fn run_judge<R: AllocGlobal + Files + Input + RandomSource, O: Write, E: Wri
     ensures { IsJudgeRun (form_of request.now.json) request.now.explain
         (O.contents out.old) (O.contents out.new) result }
 {
+    judge_with(rt, &mut rt.reader(), request, out, err)
+}
+
+/// The same, where `stdin` is what the standard input gives. Nothing is read of it unless the request names it.
+pub fn judge_with<R: AllocGlobal + Files + RandomSource, I: Read, O: Write, E: Write>(
+    rt: &R,
+    stdin: &mut I,
+    request: &JudgeRequest,
+    out: &mut O,
+    err: &mut E,
+) -> u8
+    ensures judged { IsJudgeRun (form_of request.now.json) request.now.explain
+        (O.contents out.old) (O.contents out.new) result }
+    ensures standard_input { IsStandardInput request.now.file → IsJudgeRunOn
+        (form_of request.now.json) (I.remaining stdin.old) request.now.explain
+        (O.contents out.old) (O.contents out.new) result }
+    ensures unread { ¬ IsStandardInput request.now.file → stdin.new ≡ stdin.old }
+{
     let seed = match RandomSeed::draw(rt) {
         Ok(seed) => seed,
         Err(error) => return without_random(err, &error).status(),
     };
     if is_standard_input(&request.file) {
-        return judge_from(rt, seed, request, &mut rt.reader(), out, err);
+        return judge_from(rt, seed, request, stdin, out, err);
     }
     match fs::open(rt, request.file.as_str()) {
         Ok(mut reader) => judge_from(rt, seed, request, &mut reader, out, err),
@@ -60,7 +80,7 @@ fn judge_from<R: AllocGlobal + Files, I: Read, O: Write, E: Write>(
     out: &mut O,
     err: &mut E,
 ) -> u8
-    ensures { IsJudgeRun (form_of request.now.json) request.now.explain
+    ensures { IsJudgeRunOn (form_of request.now.json) (I.remaining reader.old) request.now.explain
         (O.contents out.old) (O.contents out.new) result }
 {
     let form = Form::of(request.json);
@@ -83,12 +103,30 @@ pub fn run_check<R: AllocGlobal + Files + Input + RandomSource, O: Write, E: Wri
     ensures { IsCheckRun (form_of request.now.json) request.now.explain
         (O.contents out.old) (O.contents out.new) result }
 {
+    check_with(rt, &mut rt.reader(), request, out, err)
+}
+
+/// The same, where `stdin` is what the standard input gives. Nothing is read of it unless the request names it.
+pub fn check_with<R: AllocGlobal + Files + RandomSource, I: Read, O: Write, E: Write>(
+    rt: &R,
+    stdin: &mut I,
+    request: &CheckRequest,
+    out: &mut O,
+    err: &mut E,
+) -> u8
+    ensures checked { IsCheckRun (form_of request.now.json) request.now.explain
+        (O.contents out.old) (O.contents out.new) result }
+    ensures standard_input { IsStandardInput request.now.file → IsCheckRunOn
+        (form_of request.now.json) (I.remaining stdin.old) (I.remaining stdin.new)
+        request.now.explain (O.contents out.old) (O.contents out.new) result }
+    ensures unread { ¬ IsStandardInput request.now.file → stdin.new ≡ stdin.old }
+{
     let seed = match RandomSeed::draw(rt) {
         Ok(seed) => seed,
         Err(error) => return without_random(err, &error).status(),
     };
     if is_standard_input(&request.file) {
-        return check_from(rt, seed, request, &mut rt.reader(), out, err);
+        return check_from(rt, seed, request, stdin, out, err);
     }
     match fs::open(rt, request.file.as_str()) {
         Ok(mut reader) => check_from(rt, seed, request, &mut reader, out, err),
@@ -105,7 +143,8 @@ fn check_from<R: AllocGlobal + Files, I: Read, O: Write, E: Write>(
     out: &mut O,
     err: &mut E,
 ) -> u8
-    ensures { IsCheckRun (form_of request.now.json) request.now.explain
+    ensures { IsCheckRunOn (form_of request.now.json)
+        (I.remaining reader.old) (I.remaining reader.new) request.now.explain
         (O.contents out.old) (O.contents out.new) result }
 {
     let form = Form::of(request.json);
@@ -143,61 +182,101 @@ pub fn run_show<R: AllocGlobal + Files + Input, O: Write + Drop, E: Write>(
     out: O,
     err: &mut E,
 ) -> u8 {
-    show_to_end(rt, request, out, err).status()
+    let Ok(mut writer) = BufWriter::new(rt.alloc(), out) else {
+        return out_of_memory(err, input_name(&request.file)).status();
+    };
+    show_with(rt, &mut rt.reader(), request, &mut writer, err)
 }
 
-/// The same, and answers how it ended.
-fn show_to_end<R: AllocGlobal + Files + Input, O: Write + Drop, E: Write>(
+/// The same, where `stdin` is what the standard input gives. Nothing is read of it unless the request names it. It writes once a
+/// call, so give it a writer with a buffer. It flushes it after the last call.
+pub fn show_with<R: AllocGlobal + Files, I: Read, W: Write, E: Write>(
     rt: &R,
+    stdin: &mut I,
     request: &ShowRequest,
-    out: O,
+    writer: &mut W,
     err: &mut E,
-) -> JudgeEnd {
-    let key = match &request.key {
-        Some(word) => match key_bytes(rt.alloc(), word.as_bytes()) {
-            Ok(key) => Some(key),
-            Err(LineFault::Bad(cause)) => return no_key(err, cause),
-            Err(LineFault::OutOfMemory) => return out_of_memory(err, "--key"),
-        },
-        None => None,
-    };
-    let only = match &key {
-        Some(key) => Some(key.as_slice()),
-        None => None,
+) -> u8
+    ensures shown { IsShowRun (option_map string_bytes request.now.key)
+        (W.contents writer.old) (W.contents writer.new) result }
+    ensures standard_input { IsStandardInput request.now.file → IsShowRunOn
+        (I.remaining stdin.old) (option_map string_bytes request.now.key)
+        (W.contents writer.old) (W.contents writer.new) result }
+    ensures unread { ¬ IsStandardInput request.now.file → stdin.new ≡ stdin.old }
+{
+    let only = match asked_key(rt.alloc(), request) {
+        Ok(only) => only,
+        Err(LineFault::Bad(cause)) => return no_key(err, cause).status(),
+        Err(LineFault::OutOfMemory) => return out_of_memory(err, "--key").status(),
     };
     let name = input_name(&request.file);
     if is_standard_input(&request.file) {
-        return show_from(rt.alloc(), name, only, &mut rt.reader(), out, err);
+        return show_from(rt.alloc(), name, &only, stdin, writer, err).status();
     }
     match fs::open(rt, request.file.as_str()) {
-        Ok(mut reader) => show_from(rt.alloc(), name, only, &mut reader, out, err),
-        Err(error) => unopened(err, &request.file, &error),
+        Ok(mut reader) => show_from(rt.alloc(), name, &only, &mut reader, writer, err).status(),
+        Err(error) => unopened(err, &request.file, &error).status(),
     }
 }
 
-/// Writes the trace of the input of this name as text to `out`, and answers how that ended.
-fn show_from<R: Read, O: Write + Drop, E: Write>(
+/// The key whose calls alone are asked for, if one is.
+fn asked_key(alloc: Global, request: &ShowRequest) -> Result<Option<Vec<u8>>, LineFault>
+    ensures ok { IfOk result (λ only. IsAskedFor (option_map string_bytes request.now.key)
+        (option_map (λ key. key.items) only)) }
+    ensures err { IfErr result (IsNotAskedFor (option_map string_bytes request.now.key)) }
+{
+    let Some(word) = &request.key else {
+        return Ok(None);
+    };
+    match key_bytes(alloc, word.as_bytes()) {
+        Ok(key) => Ok(Some(key)),
+        Err(fault) => Err(fault),
+    }
+}
+
+/// Writes the trace of the input of this name as text, and answers how that ended.
+fn show_from<I: Read, W: Write, E: Write>(
     alloc: Global,
     name: &str,
-    only: Option<&[u8]>,
-    reader: &mut R,
-    out: O,
+    only: &Option<Vec<u8>>,
+    reader: &mut I,
+    writer: &mut W,
     err: &mut E,
-) -> JudgeEnd {
-    let Ok(mut writer) = BufWriter::new(alloc, out) else {
-        return out_of_memory(err, name);
-    };
-    let shown = answer_show(alloc, only, reader, &mut writer);
-    if writer.flush().is_err() {
+) -> JudgeEnd
+    ensures { status_of result ≢ 3 → ShownAs (I.remaining reader.old)
+        (option_map (λ key. key.items) only.now)
+        (W.contents writer.old) (W.contents writer.new) (status_of result) }
+{
+    let shown = answer_show(alloc, lent(only), reader, writer);
+    let Ok(()) = writer.flush() else {
         return untold(err, name, TellFault::WriteFault);
-    }
+    };
     match shown {
-        Ok(Shown::Whole) => JudgeEnd::Done,
-        Ok(Shown::BadTrace(fault)) => {
+        Ok(shown) => told_of(err, name, shown),
+        Err(fault) => untold(err, name, fault),
+    }
+}
+
+/// The bytes of a key, if there is one.
+fn lent(key: &Option<Vec<u8>>) -> Option<&[u8]>
+    ensures { named result ≡ option_map (λ key. key.items) key.now }
+{
+    match key {
+        Some(key) => Some(key.as_slice()),
+        None => None,
+    }
+}
+
+/// How the program ends after what came of showing the input of this name. What there is to do about it is told.
+fn told_of<E: Write>(err: &mut E, name: &str, shown: Shown) -> JudgeEnd
+    ensures { result ≡ end_of_shown shown }
+{
+    match shown {
+        Shown::Whole => JudgeEnd::Done,
+        Shown::BadTrace(fault) => {
             note_bad_trace(err, name, fault);
             JudgeEnd::BadInput
         }
-        Ok(Shown::TooLate { position }) => too_late(err, position),
-        Err(fault) => untold(err, name, fault),
+        Shown::TooLate { position } => too_late(err, position),
     }
 }

@@ -79,11 +79,9 @@ fn kind_of(witness: &Witness) -> Want {
 }
 
 /// What is found, or nothing where a certificate was found that the checker rejects.
-fn found(alloc: Global, rows: &[Row]) -> Result<Option<Want>, Fail> {
-    let history = history_of(alloc, rows)?;
-    let found = find(alloc, &history)?;
-    match found {
-        Found::Accepted(certificate) => shown(alloc, &history, &certificate),
+fn found(alloc: Global, history: &History) -> Result<Option<Want>, Fail> {
+    match find(alloc, history)? {
+        Found::Accepted(certificate) => shown(alloc, history, &certificate),
         Found::Rejected(witness) => Ok(Some(kind_of(&witness))),
         Found::Undecided(_) => Ok(Some(Want::Undecided)),
     }
@@ -92,7 +90,8 @@ fn found(alloc: Global, rows: &[Row]) -> Result<Option<Want>, Fail> {
 /// Each history of a table has what is to be found for it.
 fn find_each(alloc: Global, table: &[(&[Row], Want)]) -> Result<(), Fail> {
     for (row, (rows, want)) in table.iter().enumerate() {
-        let is = found(alloc, *rows)?;
+        let history = history_of(alloc, *rows)?;
+        let is = found(alloc, &history)?;
         if is != Some(*want) {
             return Err(Fail::new(format_args!("row {row}: {is:?}")));
         }
@@ -428,4 +427,35 @@ fn what_is_found_where_values_expire(rt: HostRuntime) -> Result<(), Fail> {
         ),
     ];
     find_each(rt.alloc(), &table)
+}
+
+/// How many calls a long history has.
+const MANY: u64 = 2000000;
+
+/// The call of a long history at a stamp: a put, or the hit of what was put at the stamp before.
+fn row_at(stamp: u64) -> Row {
+    let key = (stamp / 2 % 251) as u8;
+    let value = (stamp / 502 % 256) as u8;
+    let did = if stamp % 2 == 0 {
+        Did::Put(value)
+    } else {
+        Did::Hit(value)
+    };
+    (key, stamp, stamp, did)
+}
+
+/// A long history.
+fn long_history(alloc: Global) -> Result<History, Fail> {
+    let mut history = History::new(alloc);
+    for stamp in 0..MANY {
+        history.push(call(alloc, row_at(stamp))?)?;
+    }
+    Ok(history)
+}
+
+#[test]
+fn a_history_of_two_million_calls_is_accepted(rt: HostRuntime) -> Result<(), Fail> {
+    let history = long_history(rt.alloc())?;
+    assert_eq!(rt; found(rt.alloc(), &history)?, Some(Want::Accepted));
+    Ok(())
 }

@@ -1,9 +1,8 @@
-// Files that are read, and files that are written.
+// Files and standard input that are read, and files that are written.
 use file_requests::{CheckRequest, FileName, JudgeRequest, ShowRequest};
-use judge_run::{run_check, run_judge, run_show};
+use judge_run::{check_with, judge_with, run_check, run_judge, run_show, show_with};
 use std::alloc::{AllocError, Global};
 use std::fs;
-use std::io::{Read, Write};
 use std::random::RandomSource;
 use std::rt::Files;
 use std::test::Fail;
@@ -11,46 +10,100 @@ use std::test::Fail;
 /// What is done with files, and what comes of it.
 #[derive(Clone, Copy)]
 enum Step {
-    /// These bytes are written to `judged.txt`.
-    Text(&'static [u8]),
-    /// `judged.txt` is judged, with a picture and a trace, and the program ends with this status.
-    Judge(u8),
-    /// A file is checked.
+    /// These bytes are written to a file.
+    Write(&'static str, &'static [u8]),
+    /// A file is judged, with a picture and a trace, and the program ends with this status.
+    Judge(&'static str, u8),
+    /// A file is checked, with a picture.
     Check(&'static str, u8),
-    /// The calls of a key of `judged.trace` are shown.
-    Show(&'static str, u8),
+    /// The calls of a file that are of a key are shown.
+    Show(&'static str, &'static str, u8),
+    /// A standard input of these bytes is judged.
+    JudgeInput(&'static [u8], u8),
+    /// It is checked.
+    CheckInput(&'static [u8], u8),
+    /// Its calls that are of a key are shown.
+    ShowInput(&'static [u8], &'static str, u8),
     /// There is no picture.
     NoPicture,
-    /// The picture is one element.
+    /// The picture is one element. It is removed.
     Picture,
     /// A file is removed.
     Remove(&'static str),
 }
 
-const STEPS: [Step; 14] = [
+/// A trace of two puts, of `k` and of `j`.
+const TRACE: &[u8] =
+    b"KGTRACE1\0\0\0\x02\x01\0\0\0\0\0\0\0\0\0\x01\0\0\0\0\0\0\0\x04\x01k\0\x01v\x01\0\x01\0\0\0\0\0\0\0\x05\0\0\0\0\0\0\0\x06\x01j\0\x01w\0\0\0\0\0\0\0\x01";
+
+/// A trace whose certificate has the hit of `k` before its put.
+const TURNED: &[u8] =
+    b"KGTRACE1\0\0\0\x02\x01\0\0\0\0\0\0\0\0\0\x01\0\0\0\0\0\0\0\x04\x01k\0\x01v\x03\0\x01\0\0\0\0\0\0\0\x02\0\0\0\0\0\0\0\x06\x01k\0\x01v\0\0\0\x01\0\0\0\0";
+
+const STEPS: [Step; 32] = [
     // what is no file is no trace
     Step::Check("there is no such file", 3),
     Step::Check(".", 2),
     // an accepted history is written as a trace, and no picture is drawn
-    Step::Text(b"a 1 4 put k v\nb 5 6 hit k v\n"),
-    Step::Judge(0),
-    Step::NoPicture,
+    Step::Write(
+        "judged.txt",
+        b"a 1 4 put k v\nb 5 6 hit k v\na 7 8 put j w\n",
+    ),
+    Step::Judge("judged.txt", 0),
     Step::Check("judged.trace", 0),
+    Step::NoPicture,
     // a rejected one is drawn, and the trace stays
-    Step::Text(b"a 1 4 remove k\nb 5 6 hit k v\n"),
-    Step::Judge(1),
+    Step::Write("judged.txt", b"a 1 4 remove k\nb 5 6 hit k v\n"),
+    Step::Judge("judged.txt", 1),
     Step::Picture,
-    Step::Show("k", 0),
+    Step::Show("judged.trace", "k", 0),
+    Step::Show("judged.trace", "j", 0),
     // a word that writes no key
-    Step::Show("%4", 2),
+    Step::Show("judged.trace", "%4", 2),
+    // a rejected trace is drawn
+    Step::Write("judged.trace", TURNED),
+    Step::Check("judged.trace", 1),
+    Step::Picture,
+    // `-` is the standard input, and no file
+    Step::Write("-", b"a 1 4 hit k v\n"),
+    Step::JudgeInput(b"a 1 4 put k v\n", 0),
+    Step::NoPicture,
+    Step::JudgeInput(b"a 1 4 hit k w\n", 1),
+    Step::Picture,
+    Step::CheckInput(TRACE, 0),
+    Step::NoPicture,
+    Step::CheckInput(TURNED, 1),
+    Step::Picture,
+    Step::ShowInput(TRACE, "k", 0),
+    Step::ShowInput(TRACE, "j", 0),
+    Step::Remove("-"),
+    // also where no file has that name
+    Step::JudgeInput(b"", 0),
+    Step::CheckInput(b"", 2),
+    Step::ShowInput(TRACE, "j", 0),
     Step::Remove("judged.txt"),
-    Step::Remove("judged.svg"),
     Step::Remove("judged.trace"),
 ];
 
 /// What these steps write.
-const WRITTEN: &str =
-    "bad trace ReadFault at 0\naccepted 2 calls\naccepted 2 calls\nrejected hit key k lines 2\nc0 1 4 put k v\nc1 5 6 hit k v\n";
+const WRITTEN: &str = "bad trace ReadFault at 0
+accepted 3 calls
+accepted 3 calls
+rejected hit key k lines 2
+c0 1 4 put k v
+c1 5 6 hit k v
+c0 7 8 put j w
+rejected WrongHit place 0
+accepted 1 calls
+rejected hit key k lines 1
+accepted 2 calls
+rejected WrongHit place 0
+c0 1 4 put k v
+c1 5 6 put j w
+accepted 0 calls
+bad trace Truncated at 0
+c1 5 6 put j w
+";
 
 /// What they tell of failures.
 const TOLD: &str = "file fault
@@ -58,22 +111,14 @@ there is no such file: No such file or directory (os error 2)
 check the name of the file and its permissions
 .: at offset 0: a read failed: check that this is a readable file, and try again
 --key: bad percent-encoding in the key: % must be followed by two hexadecimal digits
+standard input: warning: the input has no calls
+standard input: at offset 0: the input ends before the trace does: write or copy the whole trace again
 ";
 
-/// A check of a file, with nothing beside its verdict.
-fn check_of(alloc: Global, file: &str) -> Result<CheckRequest, AllocError> {
-    Ok(CheckRequest {
-        file: FileName::new(alloc, file)?,
-        explain: false,
-        json: false,
-        picture: None,
-    })
-}
-
-/// Judging `judged.txt`, with a picture and a trace.
-fn judge_all(alloc: Global) -> Result<JudgeRequest, AllocError> {
+/// Judging a file, with a picture and a trace.
+fn judge_of(alloc: Global, file: &str) -> Result<JudgeRequest, AllocError> {
     Ok(JudgeRequest {
-        file: FileName::new(alloc, "judged.txt")?,
+        file: FileName::new(alloc, file)?,
         explain: false,
         json: false,
         picture: Some(FileName::new(alloc, "judged.svg")?),
@@ -81,25 +126,47 @@ fn judge_all(alloc: Global) -> Result<JudgeRequest, AllocError> {
     })
 }
 
-/// Showing `judged.trace`, the calls of a key.
-fn show_key(alloc: Global, key: &str) -> Result<ShowRequest, AllocError> {
+/// A check of a file, with a picture.
+fn check_of(alloc: Global, file: &str) -> Result<CheckRequest, AllocError> {
+    Ok(CheckRequest {
+        file: FileName::new(alloc, file)?,
+        explain: false,
+        json: false,
+        picture: Some(FileName::new(alloc, "judged.svg")?),
+    })
+}
+
+/// Showing a file, the calls of a key.
+fn show_of(alloc: Global, file: &str, key: &str) -> Result<ShowRequest, AllocError> {
     Ok(ShowRequest {
-        file: FileName::new(alloc, "judged.trace")?,
+        file: FileName::new(alloc, file)?,
         key: Some(String::from_str(alloc, key)?),
     })
 }
 
-/// The status that judging ends with.
+/// The status that judging a file ends with.
 fn judged<R: AllocGlobal + Files + Input + RandomSource>(
     rt: &R,
+    file: &str,
     out: &mut Vec<u8>,
     err: &mut Vec<u8>,
 ) -> Result<u8, AllocError> {
-    let request = judge_all(rt.alloc())?;
+    let request = judge_of(rt.alloc(), file)?;
     Ok(run_judge(rt, &request, out, err))
 }
 
-/// The status that a check ends with.
+/// The same of a standard input of these bytes.
+fn judged_input<R: AllocGlobal + Files + RandomSource>(
+    rt: &R,
+    mut bytes: &[u8],
+    out: &mut Vec<u8>,
+    err: &mut Vec<u8>,
+) -> Result<u8, AllocError> {
+    let request = judge_of(rt.alloc(), "-")?;
+    Ok(judge_with(rt, &mut bytes, &request, out, err))
+}
+
+/// The status that a check of a file ends with.
 fn checked<R: AllocGlobal + Files + Input + RandomSource>(
     rt: &R,
     file: &str,
@@ -110,20 +177,45 @@ fn checked<R: AllocGlobal + Files + Input + RandomSource>(
     Ok(run_check(rt, &request, out, err))
 }
 
-/// The status that showing ends with.
+/// The same of a standard input of these bytes.
+fn checked_input<R: AllocGlobal + Files + RandomSource>(
+    rt: &R,
+    mut bytes: &[u8],
+    out: &mut Vec<u8>,
+    err: &mut Vec<u8>,
+) -> Result<u8, AllocError> {
+    let request = check_of(rt.alloc(), "-")?;
+    Ok(check_with(rt, &mut bytes, &request, out, err))
+}
+
+/// The status that showing a file ends with.
 fn shown<R: AllocGlobal + Files + Input>(
     rt: &R,
+    file: &str,
     key: &str,
     out: &mut Vec<u8>,
     err: &mut Vec<u8>,
 ) -> Result<u8, AllocError> {
-    let request = show_key(rt.alloc(), key)?;
+    let request = show_of(rt.alloc(), file, key)?;
     Ok(run_show(rt, &request, out, err))
 }
 
-/// Whether the picture is one element.
+/// The same of a standard input of these bytes.
+fn shown_input<R: AllocGlobal + Files>(
+    rt: &R,
+    mut bytes: &[u8],
+    key: &str,
+    out: &mut Vec<u8>,
+    err: &mut Vec<u8>,
+) -> Result<u8, AllocError> {
+    let request = show_of(rt.alloc(), "-", key)?;
+    Ok(show_with(rt, &mut bytes, &request, out, err))
+}
+
+/// Whether the picture is one element. It is removed.
 fn is_drawn<R: AllocGlobal + Files>(rt: &R) -> Result<bool, Fail> {
     let picture: Vec<u8> = fs::read(rt, "judged.svg")?;
+    fs::remove_file(rt, "judged.svg")?;
     Ok(picture.starts_with(b"<svg ") && picture.ends_with(b"</svg>\n"))
 }
 
@@ -134,16 +226,20 @@ fn is_met<R: AllocGlobal + Files + Input + RandomSource>(
     out: &mut Vec<u8>,
     err: &mut Vec<u8>,
 ) -> Result<bool, Fail> {
-    match step {
-        Step::Text(bytes) => fs::write(rt, "judged.txt", *bytes)?,
-        Step::Judge(status) => return Ok(judged(rt, out, err)? == *status),
-        Step::Check(file, status) => return Ok(checked(rt, file, out, err)? == *status),
-        Step::Show(key, status) => return Ok(shown(rt, key, out, err)? == *status),
-        Step::NoPicture => return Ok(fs::open(rt, "judged.svg").is_err()),
-        Step::Picture => return is_drawn(rt),
-        Step::Remove(file) => fs::remove_file(rt, file)?,
+    match *step {
+        Step::Judge(file, status) => Ok(judged(rt, file, out, err)? == status),
+        Step::Check(file, status) => Ok(checked(rt, file, out, err)? == status),
+        Step::Show(file, key, status) => Ok(shown(rt, file, key, out, err)? == status),
+        Step::JudgeInput(bytes, status) => Ok(judged_input(rt, bytes, out, err)? == status),
+        Step::CheckInput(bytes, status) => Ok(checked_input(rt, bytes, out, err)? == status),
+        Step::ShowInput(bytes, key, status) => {
+            Ok(shown_input(rt, bytes, key, out, err)? == status)
+        }
+        Step::Write(file, bytes) => Ok(fs::write(rt, file, bytes).is_ok()),
+        Step::Remove(file) => Ok(fs::remove_file(rt, file).is_ok()),
+        Step::NoPicture => Ok(fs::open(rt, "judged.svg").is_err()),
+        Step::Picture => is_drawn(rt),
     }
-    Ok(true)
 }
 
 /// The number of the first step that gives something else than is written.

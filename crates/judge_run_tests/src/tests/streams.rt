@@ -1,10 +1,12 @@
 // Readers and writers that fail.
 use figures::Form;
-use judge_run::{Outcome, TellFault, answer_check, answer_judge};
-use std::alloc::Global;
+use file_requests::{FileName, ShowRequest};
+use judge_run::{Outcome, TellFault, answer_check, answer_judge, show_with};
+use std::alloc::{AllocError, Global};
 use std::hash::{BuildHasherDefault, FoldHasher};
 use std::io;
 use std::io::{Error, ErrorKind, Read, Write};
+use std::rt::Files;
 
 /// A reader that fails, and a writer that takes three bytes and then fails.
 #[derive(Drop)]
@@ -85,10 +87,36 @@ fn is_unread_trace_bad(alloc: Global) -> bool {
         && told.as_slice() == b"bad trace ReadFault at 0\n".as_slice()
 }
 
-/// Neither a read nor a write that failed is tried again.
+/// A writer that takes all, and can't be flushed.
+#[derive(Drop)]
+struct Stuck;
+
+impl Write for Stuck {
+    fn write(&mut self, buf: &[u8]) -> io::Result<usize> {
+        Ok(buf.len())
+    }
+
+    fn flush(&mut self) -> io::Result<()> {
+        Err(Error::from(ErrorKind::Other))
+    }
+}
+
+/// The status that showing a trace with no calls ends with, where it is written and not flushed.
+fn status_unflushed<R: AllocGlobal + Files>(rt: &R) -> Result<u8, AllocError> {
+    let request = ShowRequest {
+        file: FileName::new(rt.alloc(), "-")?,
+        key: None,
+    };
+    let mut stdin = b"KGTRACE1\0\0\0\0".as_slice();
+    let mut err: Vec<u8> = Vec::new(rt.alloc());
+    Ok(show_with(rt, &mut stdin, &request, &mut Stuck, &mut err))
+}
+
+/// Neither a read nor a write that failed is tried again, and no flush that failed is passed over.
 #[test]
 fn streams_that_fail_are_told(rt: HostRuntime) {
     assert!(rt; is_unread_text_told(rt.alloc()));
     assert!(rt; is_unwritten_verdict_told(rt.alloc()));
     assert!(rt; is_unread_trace_bad(rt.alloc()));
+    assert_eq!(rt; status_unflushed(&rt), Ok(3));
 }
