@@ -281,7 +281,14 @@ impl<L: KeyLanes, J: Naming> Caller<L, J> {
         let moment = moment_of(load, number);
         let name = key_bytes(self.number, key);
         let seen = cache.get(rt, &mut self.seat, &name, moment, found);
-        judged(load, key, self.words[key as usize], moment, seen, found.bytes())
+        judged(
+            load,
+            key,
+            self.words[key as usize],
+            moment,
+            seen,
+            found.bytes(),
+        )
     }
 
     /// Looks a key up, and says whether a hit was right; at a miss it fills the key by the lease.

@@ -15,13 +15,12 @@ use page_device::PageDevice;
 use policy_laws::EvictionPolicy;
 use service_cache::ServiceCache;
 use std::alloc::Global;
-use std::io;
 use std::io::{IsTerminal, Write};
 use std::sync::Wait;
 use std::sync::atomic::{AtomicU64, Ordering};
-use std::thread;
 use std::thread::Threads;
 use std::time::{Clock, Instant};
+use std::{io, thread};
 
 /// Runs each caller in a thread, which sends its tally when it ended, beside the workers, until all have ended. A caller for which
 /// no thread can be made sends nothing, and halts the load. How many operations were made is told to `err` meanwhile, where that
@@ -81,8 +80,9 @@ pub(crate) fn run_crew<
                         requires most { M.most ≡ load.now.operations }
                         requires tallies { (counted : Counted) → IsTally load.now counted → M.is_tally counted }
                     {
-                        let tally = caller
-                            .make_all::<D, P, PAGE, M, R>(rt, alloc, cache, load, made, halted);
+                        let tally = caller.make_all::<D, P, PAGE, M, R>(
+                            rt, alloc, cache, load, made, halted,
+                        );
                         let _ = to.send(rt, tally);
                         end_one(running);
                     },

@@ -54,11 +54,7 @@ pub(crate) fn lane_ends<
     L: KeyLanes,
     J: Naming,
     R: Wait,
->(
-    rt: &R,
-    alloc: Global,
-    cache: &ServiceCache<D, P, PAGE, L, J>,
-) -> Result<Vec<LaneEnd>, AllocError>
+>(rt: &R, alloc: Global, cache: &ServiceCache<D, P, PAGE, L, J>) -> Result<Vec<LaneEnd>, AllocError>
     ensures { IfOk result (λ ends. length ends.items ≡ lanes_of cache.now) }
 {
     let mut ends = Vec::with_capacity(alloc, cache.lanes() as usize)?;

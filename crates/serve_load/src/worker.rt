@@ -41,7 +41,11 @@ pub(crate) fn work<
         if callers == 0 {
             break;
         }
-        idle = if tend(rt, cache, lane, STEPS) { 0 } else { idle + 1 };
+        idle = if tend(rt, cache, lane, STEPS) {
+            0
+        } else {
+            idle + 1
+        };
         if idle == lanes {
             running.park_timeout(
                 rt,

@@ -8,8 +8,7 @@ pub loop-preserved : goal.loop-preserved
 loop-preserved g c =
     let i = c.loop.invariant in
     let e = c.add.ensures in
-    let t = c.in-Ok.tally in
-    (
+    let t = c.in-Ok.tally in (
       let a = e.operations in let b = i.0 in let s = t.some in grind (arith, a, b, s),
       let a = e.operations in let b = i.1 in let s = t.few_refused in let r = e.refused in omega (arith, a, b, s, r),
       let b = i.2 in let s = t.one_wrong in let r = e.wrong in omega (arith, b, s, r),
