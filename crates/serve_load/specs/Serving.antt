@@ -11,7 +11,7 @@ use Rattle.serve_load.specs.Ends.{end_of_wrong_hits, status_of}
 use Rattle.serve_load.specs.Wanting.{RefusesSize}
 use Rattle.serve_load.specs.Reports.{IsMade, report_of}
 
--- the text of a report was written, in the form that the load wants, whose operations fit the load, and the load ended as its wrong hits say
+-- the text of a report on what the callers made was written, in the form that the load wants, and the load ended as its wrong hits say
 pub record IsTold (load : ServedLoad) (old new : Option (List ℕ)) (end : ServeEnd) : Type 0 where
   pub report : Report
   pub made : IsMade load report

@@ -1,6 +1,7 @@
 //! Loads of a cache that serves.
 mod ends;
 mod loads;
+mod numbers;
 mod operations;
 mod options;
 mod reports;

@@ -1,14 +1,19 @@
 -- The counts are those of one of the load's callers.
-use Rattle.std.proofs.Common.{arith, inl, refl, rules}
+use Rattle.std.proofs.Common.{arith}
+use Rattle.serve_load.specs.declared.counted.Counted.{Counted}
 use Rattle.serve_load.proofs.Making.{has_ended, is_tally, no_operations}
 use Rattle.serve_load.proofs.caller.Caller.make_all.Goals as goal
+
+-- what a caller counts that made nothing
+abbrev none : Counted
+none = record { operations = 0; refused = 0; wrong_hits = 0 }
 
 pub invariant_of-result : goal.invariant_of-result
 invariant_of-result g c = record {
   some = omega arith;
   few_refused = omega arith;
   one_wrong = omega arith;
-  is = ∣ c.requires.tallies _ (is_tally _ _ _ _ _ c.requires.begun _ (no_operations c.args.load.now c.args.self.number)) ∣₁;
+  is = ∣ c.requires.tallies none (is_tally c.args.load.now c.args.self.number c.args.self.generator c.args.self.words.items c.args.self.seat c.requires.begun none (no_operations c.args.load.now c.args.self.number)) ∣₁;
 }
 
 pub returns-in_default : goal.returns-in_default
@@ -21,8 +26,8 @@ invariant_of-result-2 g c =
       some = omega (arith, ended.some, c.requires.most);
       few_refused = ended.few_refused;
       one_wrong = ended.one_wrong;
-      is = ∣ c.requires.tallies _ (is_tally _ _ _ _ _ c.requires.begun _ (has_ended _ _ _ _ _ c.requires.begun _ ended)) ∣₁;
+      is = ∣ c.requires.tallies c.make_each-counted.result (is_tally c.args.load.now c.args.self.number c.args.self.generator c.args.self.words.items c.args.self.seat c.requires.begun c.make_each-counted.result (has_ended c.args.load.now c.args.self.number c.args.self.generator c.args.self.words.items c.args.self.seat c.requires.begun c.make_each-counted.result ended)) ∣₁;
     }
 
 pub returns : goal.returns
-returns g c = has_ended _ _ _ _ _ c.requires.begun _ c.make_each-counted.ensures
+returns g c = has_ended c.args.load.now c.args.self.number c.args.self.generator c.args.self.words.items c.args.self.seat c.requires.begun c.make_each-counted.result c.make_each-counted.ensures

@@ -7,7 +7,7 @@ use Rattle.serve_load.proofs.caller.Caller.make_each.Goals as goal
 pub returns-then-is_wrong : goal.returns-then-is_wrong
 returns-then-is_wrong g c =
     let i = c.loop-number.invariant in
-    ended_wrong c.args.load.now c.args.self.number c.args.self.generator c.loop-number.number c.loop-number.refused _ _ _ i.2 _ c.make_next-step.result _ i.0 (search (rules, c.is_wrong.ensures, c.if-is_wrong.true)) c.make_next-step.ensures.does c.loop-number-test.true
+    ended_wrong c.args.load.now c.args.self.number c.args.self.generator c.loop-number.number c.loop-number.refused (standing c.args.self.words.items c.args.self.seat) (standing c.loop-number.self.words.items c.loop-number.self.seat) c.loop-number.self.generator i.2 c.loop-number.self.number c.make_next-step.result (standing c.make_next-step.new.self.words.items c.make_next-step.new.self.seat) i.0 (search (rules, c.is_wrong.ensures, c.if-is_wrong.true)) c.make_next-step.ensures.does c.loop-number-test.true
 
 pub overflow_add-refused : goal.overflow_add-refused
 overflow_add-refused g c =
