@@ -3,4 +3,5 @@ pub mod Refilling
 pub mod Making
 pub mod Adding
 pub mod Rows
+pub mod Sampling
 pub mod Saying

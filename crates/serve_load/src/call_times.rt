@@ -1,5 +1,5 @@
 // How long the calls of callers took.
-ghost use Rattle.std.specs.Prelude.{◌≡◌, IfOk, []};
+ghost use Rattle.std.specs.Prelude.{◌≡◌, IfOk, [], IsNone};
 ghost use Rattle.serve_load.specs.Times.{AreTold, IsJoined, IsNoted, IsNotedOnce};
 
 use crate::report::Timed;
@@ -30,10 +30,19 @@ impl CallTimes {
         })
     }
 
-    /// Adds the time since an operation began, if the clock tells it.
-    pub(crate) fn note<R: Clock>(&mut self, rt: &R, operation: ServedOperation, start: &Instant)
-        ensures { IsNotedOnce operation self.old.gets self.new.gets self.old.puts self.new.puts }
+    /// Adds the time since an operation began, if it is known when that was and the clock tells the time.
+    pub(crate) fn note<R: Clock>(
+        &mut self,
+        rt: &R,
+        operation: ServedOperation,
+        start: &Option<Instant>,
+    )
+        ensures noted { IsNotedOnce operation self.old.gets self.new.gets self.old.puts self.new.puts }
+        ensures unknown { IsNone start.now → self.new ≡ self.old }
     {
+        let Some(start) = start else {
+            return;
+        };
         let Ok(taken) = start.elapsed(rt) else {
             return;
         };

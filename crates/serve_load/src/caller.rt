@@ -1,12 +1,13 @@
 // A caller of a load.
-ghost use Rattle.std.specs.Prelude.{◌≡◌, ◌≢◌, ◌<◌, ◌≤◌, ◌+◌, [], false, IfOk, length, slice_index};
+ghost use Rattle.std.specs.Prelude.{◌≡◌, ◌≢◌, ◌<◌, ◌≤◌, ◌+◌, ◌%◌, [], false, IfOk, IsSome, length, slice_index};
 ghost use mathlib.Core.List.{IsPrefix};
 ghost use Rattle.load.specs.Operations.{past};
 ghost use Rattle.load.specs.Served.{key_number_of, served_next_of};
 ghost use Rattle.serve_load.specs.Calls.{Does, HasEnded, IsEnded, IsOneOf, IsTally, Looks, Puts, Removes, is_wrong, standing};
 ghost use Rattle.serve_load.specs.declared.counted.Counted.{Counted};
 ghost use Rattle.serve_load.specs.Looking.{Finds, FindsAll};
-ghost use Rattle.serve_load.specs.Times.{IsNotedOnce, IsSampled};
+ghost use Rattle.serve_load.specs.Times.{IsSampled};
+ghost use Rattle.serve_load.specs.declared.call_times.TheConstants.{TIMED};
 ghost use Rattle.serve_load.specs.Objects.{key_of, value_of};
 
 use crate::call_times::{CallTimes, TIMED};
@@ -179,45 +180,7 @@ impl<L: KeyLanes, J: Naming> Caller<L, J> {
             times.old.gets times.new.gets times.old.puts times.new.puts }
     {
         let operation = ServedOperation::next(&mut self.generator, load);
-        if number % TIMED != 0 {
-            return self.make(rt, alloc, cache, load, operation, number, found);
-        }
-        self.make_timed(rt, alloc, cache, load, operation, number, times, found)
-    }
-
-    /// Makes an operation, which has this number, and adds the time that it took, if the clock tells it.
-    fn make_timed<
-        D: PageDevice<PAGE>,
-        P: EvictionPolicy + Drop,
-        const PAGE: usize,
-        R: Wait + Clock,
-    >(
-        &mut self,
-        rt: &R,
-        alloc: Global,
-        cache: &ServiceCache<D, P, PAGE, L, J>,
-        load: &ServedLoad,
-        operation: ServedOperation,
-        number: u32,
-        times: &mut CallTimes,
-        found: &mut ValueBuffer,
-    ) -> Step
-        requires key { key_number_of operation < length self.old.words.items }
-        requires number { number < 4294967295 }
-        ensures does { Does load.now self.old.number operation number result
-            (standing self.old.words.items self.old.seat)
-            (standing self.new.words.items self.new.seat) }
-        ensures finds { FindsAll L.is_honest L.lane_of load.now self.old.number operation self.old.words.items number
-            self.new.seat found.new result }
-        ensures number { self.new.number ≡ self.old.number }
-        ensures generator { self.new.generator ≡ self.old.generator }
-        ensures keys { length self.new.words.items ≡ length self.old.words.items }
-        ensures times { IsNotedOnce operation
-            times.old.gets times.new.gets times.old.puts times.new.puts }
-    {
-        let Ok(start) = Instant::now(rt) else {
-            return self.make(rt, alloc, cache, load, operation, number, found);
-        };
+        let start = start_of(rt, operation, number);
         let step = self.make(rt, alloc, cache, load, operation, number, found);
         times.note(rt, operation, &start);
         step
@@ -449,5 +412,21 @@ impl<L: KeyLanes, J: Naming> Caller<L, J> {
 fn count(made: &AtomicU64, number: u32) {
     if number % 1000 == 999 {
         made.fetch_add(1000, Ordering::SeqCst);
+    }
+}
+
+/// When an operation with this number began, if it is one of those that are timed and the clock tells it. No removal is timed.
+fn start_of<R: Clock>(rt: &R, operation: ServedOperation, number: u32) -> Option<Instant>
+    ensures { IsSome result → number % TIMED ≡ 0 }
+{
+    if number % TIMED != 0 {
+        return None;
+    }
+    if let ServedOperation::Remove(_) = operation {
+        return None;
+    }
+    match Instant::now(rt) {
+        Ok(start) => Some(start),
+        Err(_) => None,
     }
 }

@@ -1,8 +1,11 @@
--- The operation is the next one of the generator.
-use Rattle.std.proofs.Common.{inr, rules, subst}
+-- A time is added of an operation whose begin is known.
+use Rattle.std.proofs.Common.{subst}
 use Rattle.serve_load.specs.Times.{IsSampled}
+use Rattle.serve_load.proofs.Sampling.{sampled}
 use Rattle.serve_load.proofs.caller.Caller.make_next.Goals as goal
 
 pub returns-clause-times : goal.returns-clause-times
 returns-clause-times g c =
-    subst (λ o. IsSampled c.args.number o c.args.times.now.gets c.make_timed.new.times.gets c.args.times.now.puts c.make_timed.new.times.puts) c.next-operation.ensures.operation (inr (search rules, c.make_timed.ensures.times))
+    let before = c.args.times.now in
+    let after = c.note.new.self in
+    subst (λ o. IsSampled c.args.number o before.gets after.gets before.puts after.puts) c.next-operation.ensures.operation (sampled c.args.number c.next-operation.result c.start_of-start.result before after c.start_of-start.ensures c.note.ensures.unknown c.note.ensures.noted)
