@@ -1,17 +1,12 @@
 -- Which lane the keys of a cache have, and which lanes have an honest device.
-use Rattle.std.specs.Prelude.{◌≡◌, ℕ, ◌%◌, List, fold, Bool, false, IsTrue, Some, slice_get}
+use Rattle.std.specs.Prelude.{◌≡◌, ℕ, ◌/◌, ◌%◌, ◌^◌, List, Bool, false, IsTrue, Some, slice_get}
 use Rattle.std.specs.Option.{option_map_or}
-use Rattle.std.specs.Hash as fed
-use Rattle.key_hash.specs.Hashing.{started, written}
 use Rattle.key_hash.specs.declared.random_seed.RandomSeed.{RandomSeed}
+use Rattle.service_lane.specs.Leases.{hash_by}
 
--- the hash of a key with a seed
-abbrev pub hash_by : RandomSeed → List ℕ → ℕ
-hash_by seed key = (fold written (started seed) (fed.slice fed.u8 key)).state
-
--- the lane of a key among so many
+-- the lane of a key among so many: by the high half of its hash
 abbrev pub lane_by : RandomSeed → ℕ → List ℕ → ℕ
-lane_by seed count key = hash_by seed key % count
+lane_by seed count key = hash_by seed key / 2 ^ 32 % count
 
 -- each device whose lane, by its place among the devices, is said to be honest is honest
 abbrev pub AreAsSaid : {D : Type 0} → (ℕ → Bool) → (D → Bool) → List D → Type 0

@@ -13,8 +13,8 @@ use lane_devices::is_one_too_small;
 use page_device::PageDevice;
 use policy_laws::EvictionPolicy;
 use record_pages::{Config, Layout};
+use service_lane::hash_by;
 use std::alloc::Global;
-use std::hash::BuildHasher;
 use std::marker::Model;
 
 mod calls;
@@ -185,7 +185,7 @@ impl<
     fn lane(&self, key: &[u8]) -> (usize, &Locked<D, PAGE, L, J>)
         ensures { result.0 ≡ L.lane_of key.now }
     {
-        let number = (self.seed.hash_one(key) % self.lanes.len() as u64) as usize;
+        let number = (hash_by(self.seed, key) >> 32) as usize % self.lanes.len();
         (number, &self.lanes[number])
     }
 }
