@@ -185,7 +185,19 @@ impl<
     fn lane(&self, key: &[u8]) -> (usize, &Locked<D, PAGE, L, J>)
         ensures { result.0 ≡ L.lane_of key.now }
     {
-        let number = (hash_by(self.seed, key) >> 32) as usize % self.lanes.len();
+        let number = scaled((hash_by(self.seed, key) >> 32) as u32, self.lanes()) as usize;
         (number, &self.lanes[number])
     }
+}
+
+ghost use Rattle.std.specs.Prelude.{◌≤◌, ◌<◌, ◌^◌};
+ghost use Rattle.service_cache.specs.Sorted.{scaled};
+
+// A number scaled to one below this count, without a division (Lemire 2019).
+fn scaled(number: u32, count: u32) -> u32
+    requires { 1 ≤ count }
+    ensures scaled { result ≡ scaled number count }
+    ensures below { result < count }
+{
+    (u64::from(count) * u64::from(number) >> 32) as u32
 }
