@@ -11,17 +11,6 @@ use Rattle.serve_load.specs.Calls.{IsTally}
 use Rattle.serve_load.specs.Reports.{IsMade}
 use Rattle.serve_load.specs.Tallies.{AddUp, upto}
 
--- no callers counted nothing
-pub none_add_up : (is_tally : Counted → Type 0) → AddUp is_tally 0 0 0 0
-none_add_up is_tally = record {
-  counts = [];
-  few = omega arith;
-  tallies = λ k d less. absurd (omega (arith, less));
-  operations_are = refl;
-  refused_are = refl;
-  wrong_are = refl;
-}
-
 -- one caller more adds what it counted
 pub one_adds : (is_tally : Counted → Type 0) (most o r w : ℕ) (c : Counted) (o' r' w' : ℕ) → AddUp is_tally most o r w → ∥ is_tally c ∥₁ → o' ≡ o + c.operations → r' ≡ r + c.refused → w' ≡ w + c.wrong_hits → AddUp is_tally (most + 1) o' r' w'
 one_adds is_tally most o r w c o' r' w' h t eo er ew = record {
@@ -31,17 +20,6 @@ one_adds is_tally most o r w c o' r' w' h t eo er ew = record {
   operations_are = let is = h.operations_are in let more = sum_by-cons (λ x. x.operations) c h.counts in omega (arith, eo, is, more);
   refused_are = let is = h.refused_are in let more = sum_by-cons (λ x. x.refused) c h.counts in omega (arith, er, is, more);
   wrong_are = let is = h.wrong_are in let more = sum_by-cons (λ x. x.wrong_hits) c h.counts in omega (arith, ew, is, more);
-}
-
--- as few callers as so many are no more than some more
-pub more_callers : (is_tally : Counted → Type 0) (most most' o r w : ℕ) → most ≤ most' → AddUp is_tally most o r w → AddUp is_tally most' o r w
-more_callers is_tally most most' o r w le h = record {
-  counts = h.counts;
-  few = let few = h.few in omega (arith, few, le);
-  tallies = h.tallies;
-  operations_are = h.operations_are;
-  refused_are = h.refused_are;
-  wrong_are = h.wrong_are;
 }
 
 -- tallies that are others too add up as those

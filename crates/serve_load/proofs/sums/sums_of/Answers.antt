@@ -1,7 +1,6 @@
 -- One tally more, or no more.
-use Rattle.std.proofs.Common.{arith, rules}
-use Rattle.std.proofs.Math.Nat.{mul-le-mul_left}
-use Rattle.serve_load.proofs.Adding.{one_adds, none_add_up, more_callers}
+use Rattle.std.proofs.Common.{arith}
+use Rattle.serve_load.proofs.Adding.{one_adds}
 use Rattle.serve_load.proofs.sums.sums_of.Goals as goal
 
 pub loop-preserved : goal.loop-preserved
