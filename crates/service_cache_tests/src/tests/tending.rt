@@ -6,6 +6,7 @@ use super::caller::calls;
 use super::trials::{Trial, is_held};
 use super::*;
 use service_lane::Upkept;
+use upkeep::what_is_due;
 
 // How many calls bring about that upkeep is due, in each lane.
 const CALLS: u32 = 2_000;
@@ -22,7 +23,8 @@ fn steps_of<D: PageDevice<256>, L: KeyLanes, J: Naming, R: Wait>(
     steps
 }
 
-// Whether a step of upkeep in a lane is counted there, and in no other; and whether there was one.
+// Whether a step of upkeep in a lane is done exactly if one is due there, and is counted there and in no other; and whether there
+// was one.
 fn is_its_own<D: PageDevice<256>, L: KeyLanes, J: Naming, R: Wait>(
     rt: &R,
     cache: &Cache<D, L, J>,
@@ -32,11 +34,15 @@ fn is_its_own<D: PageDevice<256>, L: KeyLanes, J: Naming, R: Wait>(
     requires few { lane < 4 }
 {
     let mut wanted = steps_of(rt, cache);
-    let was_due = cache.upkeep_step(rt, lane).did != Upkept::Idle;
+    let was_due = what_is_due(&cache.log_usage(rt, lane)).is_some();
+    let was_done = cache.upkeep_step(rt, lane).did != Upkept::Idle;
     if was_due {
         wanted[lane as usize] = wanted[lane as usize].wrapping_add(1);
     }
-    (steps_of(rt, cache) == wanted, was_due)
+    (
+        was_done == was_due && steps_of(rt, cache) == wanted,
+        was_due,
+    )
 }
 
 /// Whether steps of upkeep, and what the devices were asked, are counted for the lane that is named.
