@@ -160,12 +160,12 @@ fn number_of(ran: &Ran, name: &str) -> Option<u64> {
     None
 }
 
-/// Puts alone, on small lanes, whose upkeep is due at the end where nobody does it.
+/// Puts alone, on so many small lanes that upkeep is due in some at the end, whatever the seed, if nobody does it.
 const DUE: &[&str] = &[
     "k",
     "serve-load",
     "--lanes",
-    "3",
+    "16",
     "--sets",
     "3",
     "--memory",
@@ -179,7 +179,7 @@ const DUE: &[&str] = &[
     "--workers",
     "1",
     "--operations",
-    "301",
+    "1605",
     "--keys",
     "200",
     "--gets",
