@@ -2,5 +2,6 @@
 mod files;
 mod json;
 mod rows;
+mod seeds;
 mod streams;
 mod telling;

@@ -1,13 +1,16 @@
 //! What the tests of the tiers on flash have alike: keys and values that are made once more where memory was refused,
-//! what a look-up is to give, a device that loses what is written, and one that knows which calls are to come.
+//! what a look-up is to give, a device that loses what is written, one that knows which calls are to come, and a host that has
+//! no random numbers.
 #![tactic(auto)]
 
 mod blank_device;
 mod made;
 mod planned_device;
 mod seen;
+mod without_random;
 
 pub use blank_device::BlankDevice;
 pub use made::{key, value};
 pub use planned_device::{Asked, PlannedDevice};
 pub use seen::Seen;
+pub use without_random::WithoutRandom;

@@ -156,7 +156,7 @@ fn judged<R: AllocGlobal + Files + Input + RandomSource>(
 }
 
 /// The same of a standard input of these bytes.
-fn judged_input<R: AllocGlobal + Files + RandomSource>(
+pub fn judged_input<R: AllocGlobal + Files + RandomSource>(
     rt: &R,
     mut bytes: &[u8],
     out: &mut Vec<u8>,
@@ -178,7 +178,7 @@ fn checked<R: AllocGlobal + Files + Input + RandomSource>(
 }
 
 /// The same of a standard input of these bytes.
-fn checked_input<R: AllocGlobal + Files + RandomSource>(
+pub fn checked_input<R: AllocGlobal + Files + RandomSource>(
     rt: &R,
     mut bytes: &[u8],
     out: &mut Vec<u8>,

@@ -5,26 +5,41 @@ ghost use Rattle.service_cache.specs.Serving.{lanes_of};
 use super::caller::calls;
 use super::trials::{Trial, is_held};
 use super::*;
+use klog::Flushed;
+use mover::Moved;
 use service_lane::Upkept;
 use upkeep::what_is_due;
 
-// How many calls bring about that upkeep is due, in each lane.
-const CALLS: u32 = 2_000;
+// How often each lane is tended once, and how many calls are made before each time: so many bring about that upkeep is due.
+const ROUNDS: u8 = 8;
 
-// How many steps of upkeep each lane has done.
-fn steps_of<D: PageDevice<256>, L: KeyLanes, J: Naming, R: Wait>(
+const CALLS: u32 = 500;
+
+// How many steps of upkeep each lane has done, and how many pages its device has written.
+fn counted<D: PageDevice<256>, L: KeyLanes, J: Naming, R: Wait>(
     rt: &R,
     cache: &Cache<D, L, J>,
-) -> [u64; 4] {
-    let mut steps = [0; 4];
+) -> [(u64, u64); 4] {
+    let mut counted = [(0, 0); 4];
     for lane in 0..cache.lanes().min(4) {
-        steps[lane as usize] = cache.counts(rt, lane).upkeep.steps;
+        counted[lane as usize] = (
+            cache.counts(rt, lane).upkeep.steps,
+            cache.device_counts(rt, lane).pages_written,
+        );
     }
-    steps
+    counted
 }
 
-// Whether a step of upkeep in a lane is done exactly if one is due there, and is counted there and in no other; and whether there
-// was one.
+// How many pages a step of upkeep has written.
+fn pages_of(did: Upkept) -> u64 {
+    match did {
+        Upkept::Flushed(Flushed::Wrote) | Upkept::Moved(Moved::Written) => 1,
+        _ => 0,
+    }
+}
+
+// Whether a step of upkeep in a lane is done exactly if one is due there, and is counted there and in no other, with the page that
+// it wrote; and whether it wrote one.
 fn is_its_own<D: PageDevice<256>, L: KeyLanes, J: Naming, R: Wait>(
     rt: &R,
     cache: &Cache<D, L, J>,
@@ -33,34 +48,53 @@ fn is_its_own<D: PageDevice<256>, L: KeyLanes, J: Naming, R: Wait>(
     requires within { lane < lanes_of cache.now }
     requires few { lane < 4 }
 {
-    let mut wanted = steps_of(rt, cache);
-    let was_due = what_is_due(&cache.log_usage(rt, lane)).is_some();
-    let was_done = cache.upkeep_step(rt, lane).did != Upkept::Idle;
-    if was_due {
-        wanted[lane as usize] = wanted[lane as usize].wrapping_add(1);
-    }
+    let mut wanted = counted(rt, cache);
+    let is_due = what_is_due(&cache.log_usage(rt, lane)).is_some();
+    let did = cache.upkeep_step(rt, lane).did;
+    let (steps, written) = wanted[lane as usize];
+    wanted[lane as usize] = (
+        steps.wrapping_add(u64::from(is_due)),
+        written.wrapping_add(pages_of(did)),
+    );
+    let was_done = did != Upkept::Idle;
     (
-        was_done == was_due && steps_of(rt, cache) == wanted,
-        was_due,
+        was_done == is_due && counted(rt, cache) == wanted,
+        pages_of(did) > 0,
     )
 }
 
-/// Whether steps of upkeep, and what the devices were asked, are counted for the lane that is named.
+// Tends each lane once; whether each step is that lane's own, and whether one wrote a page.
+fn tend_each<D: PageDevice<256>, L: KeyLanes, J: Naming, R: Wait>(
+    rt: &R,
+    cache: &Cache<D, L, J>,
+) -> (bool, bool) {
+    let mut any_wrote = false;
+    for lane in 0..cache.lanes().min(4) {
+        let (is_own, wrote) = is_its_own(rt, cache, lane);
+        if !is_own {
+            return (false, any_wrote);
+        }
+        any_wrote = any_wrote || wrote;
+    }
+    (true, any_wrote)
+}
+
+/// Whether steps of upkeep, and the pages that the devices have written, are counted for the lane that is named.
 pub fn tends_its_lane<D: PageDevice<256>, L: KeyLanes, J: Naming, R: Wait>(
     rt: &R,
     alloc: Global,
     cache: &Cache<D, L, J>,
 ) -> bool {
-    let _tally = calls(rt, alloc, cache, 7, CALLS);
-    let mut any_due = false;
-    for lane in 0..cache.lanes().min(4) {
-        let (is_own, was_due) = is_its_own(rt, cache, lane);
-        if !is_own || cache.device_counts(rt, lane).pages_written == 0 {
+    let mut any_wrote = false;
+    for round in 0..ROUNDS {
+        let _tally = calls(rt, alloc, cache, round, CALLS);
+        let (are_own, wrote) = tend_each(rt, cache);
+        if !are_own {
             return false;
         }
-        any_due = any_due || was_due;
+        any_wrote = any_wrote || wrote;
     }
-    any_due
+    any_wrote
 }
 
 #[test]
@@ -76,7 +110,7 @@ pub fn has_its_numbers<D: PageDevice<256>, L: KeyLanes, J: Naming, R: Wait>(
     alloc: Global,
     cache: &Cache<D, L, J>,
 ) -> bool {
-    let _tally = calls(rt, alloc, cache, 7, CALLS);
+    let _tally = calls(rt, alloc, cache, 7, 4 * CALLS);
     for lane in 0..cache.lanes() {
         let usage = cache.log_usage(rt, lane);
         if usage.segments != SMALL.segments
