@@ -1,0 +1,4 @@
+mod commands;
+mod finder;
+mod pictures;
+mod texts;

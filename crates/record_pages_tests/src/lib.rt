@@ -1,5 +1,0 @@
-//! The tests of keys, values and pages, through public calls.
-#![tactic(auto)]
-
-#[cfg(test)]
-mod tests;

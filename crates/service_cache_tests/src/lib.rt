@@ -1,5 +1,0 @@
-//! Tests of the cache that serves, through its public calls.
-#![tactic(auto)]
-
-#[cfg(test)]
-mod tests;

@@ -1,7 +1,0 @@
--- A step that flushes has done a page.
-use Rattle.service_lane_tests.proofs.Rows.{page_done}
-use Rattle.service_lane_tests.proofs.tests.rows.upkeep_seals_nothing.Goals as goal
-
-pub returns : goal.returns
-returns g c = λ answer is.
-    page_done g.row.PAGE g.D.PageDevice.honest g.D.PageDevice.failures g.D.PageDevice.held (g.P.EvictionPolicy.plan_of c.args.policy.now) c.args.lane.now c.upkeep_step-step.result.did c.upkeep_step-step.new.self answer is c.upkeep_step-step.ensures.upkept

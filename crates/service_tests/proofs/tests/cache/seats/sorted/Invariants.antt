@@ -1,0 +1,5 @@
+use Rattle.service_tests.proofs.tests.cache.seats.sorted.Given as goal
+
+-- the book that was just opened
+abbrev pub ghosts-found_by_both : goal.ghosts-found_by_both
+ghosts-found_by_both g a = record { book = a.book }

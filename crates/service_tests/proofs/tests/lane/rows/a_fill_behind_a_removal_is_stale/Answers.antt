@@ -1,0 +1,16 @@
+-- The slot of the key shows a write more than the lease.
+use Rattle.std.proofs.Common.{◌∙◌, List, ℕ, ap, subst, sym, refl}
+use Rattle.service_lane.specs.Leases.{HoldsLease, with_write}
+use Rattle.service_lane.specs.Serving.{Serving}
+use Rattle.service_tests.proofs.LaneRows.{lease_ended}
+use Rattle.service_tests.proofs.tests.lane.rows.a_fill_behind_a_removal_is_stale.Goals as goal
+
+pub returns-in-Ok : goal.returns-in-Ok
+returns-in-Ok g c =
+    let a = c.args in
+    let removed = c.remove.new.self in
+    let writes = c.lease-lease.result.writes in
+    let stays = ap (λ (s : Serving g.row.D.Denot). with_write s.slots a.name.now) c.lease-lease.ensures.leaves in
+    let ended : HoldsLease removed.slots a.key writes → ⊥ = λ holds.
+    lease_ended a.lane.now.slots removed.slots a.name.now writes c.layout-layout.ensures.slots c.lease-lease.ensures.lease (c.in-Ok.ensures.removed.slots ∙ stays) (subst (λ (k : List ℕ). HoldsLease removed.slots k writes) (sym c.requires) holds) in
+    rw (c.fill.ensures.stale.1 ended) refl

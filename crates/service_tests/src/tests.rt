@@ -1,0 +1,5 @@
+mod book;
+mod cache;
+mod for_c;
+mod lane;
+mod seated;

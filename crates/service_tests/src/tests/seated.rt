@@ -1,0 +1,183 @@
+//! Two threads call a lane under a lock, each with a seat; whoever has seen what both have seen gets the latest value.
+ghost use Rattle.std.specs.Prelude.{◌≡◌, [], ◌∷◌, IfOk, IfSome, IsTrue, true};
+ghost use Rattle.certificate_checker.specs.Deeds.{Deed};
+ghost use Rattle.mover.specs.Get.{answer_of};
+ghost use Rattle.service_lane.specs.Asked.{IsLiveHit};
+ghost use Rattle.seated_lane.specs.Seated.{put_of};
+ghost use Rattle.service_tests.specs.Standing.{Stands};
+
+use deed_book::{Naming, NewBook, OneLane, Seat};
+use key_hash::RandomSeed;
+use mover::Seen;
+use page_device::MemoryDevice;
+use record_pages::{Config, Key, NEVER, Tier, Value};
+use seated_lane::SeatedLane;
+use service_lane::ServiceLane;
+use std::alloc::Global;
+use std::marker::Brand;
+use std::sync::{Mutex, Wait};
+use std::test::*;
+use std::thread::{Threads, join};
+use value_buffer::ValueBuffer;
+
+// One lane of one set, with four objects in memory and two segments of one page.
+const SMALL: Config = Config {
+    lanes: 1,
+    sets: 1,
+    memory: 4,
+    segments: 2,
+    segment_pages: 1,
+    entries: 8,
+    threshold: 1,
+    admit: 65536,
+};
+
+type Lane<J> = SeatedLane<MemoryDevice<256>, 256, OneLane, J>;
+
+// An object that a thread puts.
+#[derive(Drop)]
+struct Object {
+    key: Key,
+    value: Value,
+}
+
+// What the last look-up gave, and the seat that it was made with.
+#[derive(Drop)]
+struct Last<J: Naming> {
+    seat: Seat<OneLane, J>,
+    seen: Seen,
+    found: ValueBuffer,
+}
+
+// An object of this key.
+fn object_of(alloc: Global, name: &[u8], bytes: &[u8]) -> Result<Object, Fail>
+    ensures { IfOk result (λ object. (object.key ≡ name.now) × (object.value ≡ bytes.now)) }
+{
+    Ok(Object {
+        key: Key::new(alloc, name)?,
+        value: Value::new(alloc, bytes)?,
+    })
+}
+
+// An empty lane.
+fn service_lane(alloc: Global) -> Result<ServiceLane<MemoryDevice<256>, 256>, Fail>
+    ensures { IfOk result (λ lane. lane.deeds ≡ []) }
+{
+    let device = MemoryDevice::new(alloc, 3)?;
+    Ok(ServiceLane::open(alloc, &SMALL, 8, device, RandomSeed::fixed())?)
+}
+
+#[test]
+fn two_callers_of_one_lane(rt: HostRuntime) -> Result<(), Fail> {
+    let alloc = rt.alloc();
+    let lane = service_lane(alloc)?;
+    let (first, second) = (
+        object_of(alloc, b"ax", b"one")?,
+        object_of(alloc, b"by", b"two")?,
+    );
+    let bytes = found_by_both::<Brand, _>(&rt, NewBook::<OneLane>::open(1), lane, first, second);
+    assert!(rt; bytes);
+    Ok(())
+}
+
+// Whether who has seen what both threads have seen finds the value of the first in memory.
+fn found_by_both<J: Naming + Send + Sync, R: Threads + Wait + Sync>(
+    rt: &R,
+    book: NewBook<OneLane>,
+    lane: ServiceLane<MemoryDevice<256>, 256>,
+    first: Object,
+    second: Object,
+) -> bool
+    requires book { book ≡ J.book }
+    requires opened { lane.deeds ≡ [] }
+{
+    match last_of_both::<J, R>(rt, book, lane, first, second) {
+        Some(last) => last.seen == Seen::Hit(Tier::Memory)
+            && last.found.bytes() == b"one".as_slice(),
+        None => false,
+    }
+}
+
+// Each thread puts its object. Who has seen what both have seen has seen both puts; and what he hits is his key's latest value in
+// what he has seen.
+fn last_of_both<J: Naming + Send + Sync, R: Threads + Wait + Sync>(
+    rt: &R,
+    book: NewBook<OneLane>,
+    lane: ServiceLane<MemoryDevice<256>, 256>,
+    first: Object,
+    second: Object,
+) -> Option<Last<J>>
+    requires book { book ≡ J.book }
+    requires opened { lane.deeds ≡ [] }
+    ensures first { IfSome result (λ last. Stands (put_of first.key first.value 18446744073709551615) last.seat) }
+    ensures second { IfSome result (λ last. Stands (put_of second.key second.value 18446744073709551615) last.seat) }
+    ensures live { IfSome result (λ last. IsLiveHit (IsTrue true) last.seat (97 ∷ 120 ∷ []) 0 (answer_of last.seen last.found)) }
+{
+    let mut book = book.named::<J>();
+    let seat = book.seat();
+    let lane = Mutex::new(SeatedLane::new(lane, book.register()));
+    let seat = seen_by_both(rt, &lane, seat, first, second)?;
+    get_in(rt, &lane, seat, b"ax")
+}
+
+// Each thread puts its object. Who has seen what both have seen has seen both puts.
+fn seen_by_both<J: Naming + Send + Sync, R: Threads + Wait + Sync>(
+    rt: &R,
+    lane: &Mutex<Lane<J>>,
+    seat: Seat<OneLane, J>,
+    first: Object,
+    second: Object,
+) -> Option<Seat<OneLane, J>>
+    ensures first { IfSome result (λ seat. Stands (put_of first.key first.value 18446744073709551615) seat) }
+    ensures second { IfSome result (λ seat. Stands (put_of second.key second.value 18446744073709551615) seat) }
+{
+    let other = seat.again();
+    let (one, two) = join(
+        rt,
+        || -> Option<Seat<OneLane, J>>
+            ensures { IfSome result (λ seat. Stands (put_of first.key first.value 18446744073709551615) seat) }
+        { put_in(rt, lane, seat, first) },
+        || -> Option<Seat<OneLane, J>>
+            ensures { IfSome result (λ seat. Stands (put_of second.key second.value 18446744073709551615) seat) }
+        { put_in(rt, lane, other, second) },
+    );
+    let mut seat = one?;
+    seat.learn(&two?);
+    Some(seat)
+}
+
+// Puts an object.
+fn put_in<J: Naming>(
+    rt: &impl Wait,
+    lane: &Mutex<Lane<J>>,
+    mut seat: Seat<OneLane, J>,
+    object: Object,
+) -> Option<Seat<OneLane, J>>
+    ensures { IfSome result (λ seat. Stands (put_of object.key object.value 18446744073709551615) seat) }
+{
+    let mut held = lane.lock(rt);
+    let _number = held.number();
+    match held.put(&mut seat, object.key, object.value, 0, NEVER) {
+        Ok(_) => Some(seat),
+        Err(_) => None,
+    }
+}
+
+// Looks a key up.
+fn get_in<J: Naming>(
+    rt: &impl Wait,
+    lane: &Mutex<Lane<J>>,
+    mut seat: Seat<OneLane, J>,
+    key: &[u8],
+) -> Option<Last<J>>
+    ensures live { IfSome result (λ last. IsLiveHit (IsTrue true) last.seat key.now 0 (answer_of last.seen last.found)) }
+    ensures seen { (deed : Deed) → Stands deed seat → IfSome result (λ last. Stands deed last.seat) }
+{
+    let mut held = lane.lock(rt);
+    let _number = held.number();
+    let mut found = ValueBuffer::empty();
+    match held.get(&mut seat, key, 0, &mut found) {
+        Ok(seen) => Some(Last { seat, seen, found }),
+        Err(_) => None,
+    }
+}

@@ -1,0 +1,5 @@
+pub mod SetOwnerLaws
+pub mod SetRowLaws
+pub mod LogOwnerLaws
+pub mod LogRowLaws
+pub mod Newest

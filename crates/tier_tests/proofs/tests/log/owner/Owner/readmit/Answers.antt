@@ -1,0 +1,9 @@
+use Rattle.tier_tests.proofs.LogOwnerLaws.{kept}
+use Rattle.tier_tests.proofs.tests.log.owner.Owner.readmit.Goals as goal
+
+pub invariant_of-self : goal.invariant_of-self
+invariant_of-self g c =
+    let s = c.self.inside in
+    let d = g.D.PageDevice in
+    kept g.row.PAGE s.layout d.page_count d.honest d.held (record { device = s.device; log = s.log }) (record { device = c.readmit.new.device; log = c.readmit.new.self }) c.self.invariant
+    c.readmit.ensures.shape c.readmit.ensures.reads.pages c.readmit.ensures.reads.honest c.readmit.ensures.spelled

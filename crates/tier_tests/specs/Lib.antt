@@ -1,0 +1,5 @@
+pub mod Another
+pub mod SetOwner
+pub mod SetRows
+pub mod LogOwner
+pub mod Telling

@@ -1,0 +1,2 @@
+mod checker;
+mod traces;
