@@ -7,3 +7,5 @@ pub mod Showing
 pub mod Inputs
 pub mod Ends
 pub mod Runs
+pub mod Telling
+pub mod FoundRows

@@ -15,8 +15,8 @@ use Rattle.history_picture.specs.Reasons.{reason_of}
 use Rattle.history_text.specs.declared.bad_line.BadLine as bad_lines
 use Rattle.history_text.specs.Causes.{bad_line_text, cause_text}
 use Rattle.history_text.specs.Text.{Text, text_by, text_of}
-use Rattle.judging.specs.FoundRows.{calls_row, found_rows, undecided_rows, verdict_row}
-use Rattle.judging.specs.Telling.{verdict_text}
+use Rattle.judge_run.specs.FoundRows.{calls_row, found_rows, undecided_rows, verdict_row}
+use Rattle.judge_run.specs.Telling.{verdict_text}
 use Rattle.trace_file.specs.declared.call.Call.{Call}
 use Rattle.trace_file.specs.declared.trace.Trace.{Trace}
 use Rattle.trace_file.specs.Sending.{Begun}

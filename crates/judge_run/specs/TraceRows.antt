@@ -7,7 +7,7 @@ use Rattle.certificate_checker.specs.declared.verdict.Verdict.{Verdict}
 use Rattle.certificate_checker.specs.Judgements.{IsLeftBy, IsVerdict, kind_of}
 use Rattle.figures.specs.Figures.{Row, number, row, word}
 use Rattle.figures.specs.Verdicts.{verdict_rows}
-use Rattle.judging.specs.FoundRows.{calls_row, verdict_row}
+use Rattle.judge_run.specs.FoundRows.{calls_row, verdict_row}
 use Rattle.trace_file.specs.declared.trace.Trace.{Trace}
 use Rattle.trace_file.specs.declared.trace_fault.TraceFault.{TraceFault}
 use Rattle.trace_file.specs.declared.trace_fault.TraceFault.TheVariants.{BadMagic, TooMany, BadKind, BadKey, BadValue, Truncated, TrailingBytes, ReadFault, OutOfMemory}

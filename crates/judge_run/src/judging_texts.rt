@@ -6,6 +6,8 @@ ghost use Rattle.history_text.specs.Text.{text_by};
 ghost use Rattle.judge_run.specs.TextTold.{IsHistoryTold, IsTextTold, IsTextUntold, ToldText, bad_answer, rejected_begun};
 
 use crate::answers::ended;
+use crate::judged_text::JudgedText;
+use crate::judging_text::judge_text;
 use crate::names::copied;
 use crate::outcome::Outcome;
 use crate::rejection::Rejection;
@@ -16,7 +18,6 @@ use certificate_finder::{Found, Witness};
 use figures::Form;
 use history_picture::Reason;
 use history_text::{BadLine, ReadTextFault, TextHistory};
-use judging::{JudgedText, judge_text};
 use std::alloc::{AllocError, Global};
 use std::hash::BuildHasher;
 use std::io::{Read, Write};

@@ -4,9 +4,11 @@ ghost use Rattle.certificate_finder.specs.Finding.{IsFound};
 ghost use Rattle.figures.specs.Figures.{with_rows};
 ghost use Rattle.judge_run.specs.TextTold.{bad_answer, bad_line_rows, found_begun};
 
+use crate::judged_text::JudgedText;
+use crate::telling_found::verdict_text;
+use crate::telling_rows::tell_found;
 use figures::{Figure, Form};
 use history_text::BadLine;
-use judging::{JudgedText, tell_found, verdict_text};
 use std::alloc::{AllocError, Global};
 use std::hash::BuildHasher;
 

@@ -9,7 +9,7 @@ use Rattle.figures.specs.declared.form.Form.TheVariants.{Json}
 use Rattle.figures.specs.Figures.{number, row, text_of_rows, word}
 use Rattle.figures.specs.Verdicts.{verdict_rows}
 use Rattle.history_picture.specs.Reasons.{reason_of}
-use Rattle.judging.specs.FoundRows.{found_rows}
+use Rattle.judge_run.specs.FoundRows.{found_rows}
 use Rattle.trace_file.specs.declared.trace.Trace.{Trace}
 use Rattle.judge_run.specs.declared.rejection.Rejection.{Rejection}
 

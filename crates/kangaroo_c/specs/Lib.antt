@@ -1,3 +1,4 @@
 pub mod Held
 pub mod Telling
 pub mod Sizing
+pub mod Lent

@@ -2,11 +2,12 @@
 ghost use Rattle.std.specs.Prelude.{◌≡◌, Some, None};
 ghost use Rattle.kangaroo_c.specs.Telling.{IsFull};
 
+use crate::device::MappedDevice;
 use crate::handle::Handle;
 use crate::kept_lane::KeptLane;
+use crate::lent_pages::LentPages;
 use crate::parts::Parts;
 use c_lane::{CLane, LaneShape, Seed, Status};
-use mapped_device::{LentPages, MappedDevice};
 use std::alloc::Global;
 use std::mem::replace;
 

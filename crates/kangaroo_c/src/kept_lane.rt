@@ -1,6 +1,6 @@
 // The lane of a place.
+use crate::device::MappedDevice;
 use c_lane::CLane;
-use mapped_device::MappedDevice;
 
 /// The lane of a place, over the pages that C lends it.
 #[derive(Drop)]

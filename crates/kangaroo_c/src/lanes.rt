@@ -7,8 +7,8 @@ ghost use Rattle.kangaroo_c.specs.Telling.{IsFull, Tells, TellsOpening, page_law
 
 use crate::handle::Handle;
 use crate::keeping::{filled, open_in, taken};
+use crate::lent_pages::LentPages;
 use c_lane::{Hit, LaneShape, Seed};
-use mapped_device::LentPages;
 use std::alloc::Global;
 
 /// Opens an empty lane over pages that C lends, and puts it into an empty place; or leaves the place empty, and the pages are C's

@@ -5,10 +5,13 @@
 //! one, what is handed to one call does not overlap where it is written, and nobody else reads or writes a lane's pages.
 #![tactic(auto)]
 
+mod device;
 mod handle;
 mod keeping;
 mod kept_lane;
 mod lanes;
+mod lent;
+mod lent_pages;
 mod parts;
 mod sizes;
 mod tending;

@@ -1,0 +1,55 @@
+// The line that tells what was found for the history of a text.
+ghost use Rattle.std.specs.Prelude.{◌≡◌, IfOk, length, string_bytes};
+ghost use Rattle.certificate_finder.specs.Witnesses.{IsWitness};
+ghost use Rattle.certificate_finder.specs.Finding.{IsFound};
+ghost use Rattle.judge_run.specs.Telling.{verdict_text};
+
+use crate::judged_text::JudgedText;
+use crate::key_word::{key_word, kind_word};
+use crate::told_lines::{lines_of, spaced};
+use certificate_finder::{Found, Witness};
+use std::alloc::{AllocError, Global};
+use std::hash::BuildHasher;
+use trace_file::History;
+
+/// The line that tells why a history is rejected.
+fn rejected_text(
+    alloc: Global,
+    history: &History,
+    lines: &[u32],
+    witness: &Witness,
+) -> Result<String, AllocError>
+    requires { IsWitness history.now witness.now }
+    ensures { IfOk result (λ text.
+        string_bytes text ≡ verdict_text history.now lines.now (Found.Rejected witness.now)) }
+{
+    let key = key_word(alloc, history, witness)?;
+    let kind = kind_word(witness);
+    let told = lines_of(alloc, lines, witness)?;
+    let numbers = spaced(alloc, &told)?;
+    format!(in alloc; "rejected {kind} key {key} lines{numbers}\n")
+}
+
+/// The line that tells what was found for the history of a text, with its line feed: `accepted N calls`, `rejected`, the kind
+/// of the reason, the key and the lines that it speaks of, or `undecided N hits`.
+pub fn verdict_text<S: BuildHasher>(
+    alloc: Global,
+    judged: &JudgedText<S>,
+) -> Result<String, AllocError>
+    requires { IsFound judged.now.text.history judged.now.found }
+    ensures { IfOk result (λ text. string_bytes text
+        ≡ verdict_text judged.now.text.history judged.now.text.lines.items judged.now.found) }
+{
+    let history = &judged.text.history;
+    match &judged.found {
+        Found::Accepted(_) => {
+            let calls = history.len();
+            format!(in alloc; "accepted {calls} calls\n")
+        }
+        Found::Rejected(witness) => rejected_text(alloc, history, &judged.text.lines, witness),
+        Found::Undecided(hits) => {
+            let count = hits.len();
+            format!(in alloc; "undecided {count} hits\n")
+        }
+    }
+}

@@ -1,0 +1,139 @@
+// The lines of a text that a verdict names.
+ghost use Rattle.std.specs.Prelude.{◌≡◌, ◌++◌, [], ◌∷◌, OnOk, IfOk, fold, string_bytes, take};
+ghost use Rattle.std.specs.List.{flat_map};
+ghost use Rattle.judge_run.specs.Telling.{put_in, ascending, excluded_positions, lines_at, side_positions, spaced, witness_positions};
+
+use certificate_finder::{Excluded, Excuse, Side, Witness};
+use std::alloc::{AllocError, Global};
+
+/// The most puts of a hit that are told.
+const MOST_PUTS: usize = 8;
+
+/// Puts a position behind others.
+fn add(positions: &mut Vec<u32>, position: u32) -> Result<(), AllocError>
+    ensures { OnOk result (positions.new.items ≡ positions.old.items ++ position ∷ []) }
+{
+    match positions.push(position) {
+        Ok(()) => Ok(()),
+        Err(_) => Err(AllocError),
+    }
+}
+
+/// Puts the positions of a put that was not read, and of what replaced it, behind others.
+fn add_excluded(positions: &mut Vec<u32>, excluded: &Excluded) -> Result<(), AllocError>
+    ensures { OnOk result (positions.new.items
+        ≡ positions.old.items ++ excluded_positions excluded.now) }
+{
+    add(positions, excluded.put)?;
+    match excluded.why {
+        Excuse::Replaced(write) => add(positions, write),
+        Excuse::Later | Excuse::Expired => Ok(()),
+    }
+}
+
+/// Puts the positions of the first few puts that were not read behind others.
+fn add_puts(positions: &mut Vec<u32>, puts: &[Excluded]) -> Result<(), AllocError>
+    ensures { OnOk result (positions.new.items
+        ≡ positions.old.items ++ flat_map excluded_positions (take 8 puts.now)) }
+{
+    let few = &puts[..puts.len().min(MOST_PUTS)];
+    for excluded in few {
+        match add_excluded(positions, excluded) {
+            Ok(()) => {}
+            Err(refused) => return Err(refused),
+        }
+    }
+    Ok(())
+}
+
+/// Puts the positions of a side behind others.
+fn add_side(positions: &mut Vec<u32>, side: &Side) -> Result<(), AllocError>
+    ensures { OnOk result (positions.new.items
+        ≡ positions.old.items ++ side_positions side.now) }
+{
+    add(positions, side.write)?;
+    add(positions, side.early)?;
+    add(positions, side.late)
+}
+
+/// The calls that a reason speaks of.
+fn positions_of(alloc: Global, witness: &Witness) -> Result<Vec<u32>, AllocError>
+    ensures { IfOk result (λ positions. positions.items ≡ witness_positions witness.now) }
+{
+    let mut positions = Vec::new(alloc);
+    match witness {
+        Witness::Interval(call) => add(&mut positions, *call)?,
+        Witness::Hit(hit, puts) => {
+            add(&mut positions, *hit)?;
+            add_puts(&mut positions, puts)?;
+        }
+        Witness::Crossed(one, other) => {
+            add_side(&mut positions, one)?;
+            add_side(&mut positions, other)?;
+        }
+    }
+    Ok(positions)
+}
+
+/// Puts a line at its place among ascending ones, unless it stands there.
+fn put_in(lines: &mut Vec<u32>, line: u32) -> Result<(), AllocError>
+    ensures { OnOk result (lines.new.items ≡ put_in lines.old.items line) }
+{
+    for place in 0..lines.len() {
+        if lines[place] == line {
+            return Ok(());
+        }
+        if line < lines[place] {
+            return match lines.insert(place, line) {
+                Ok(()) => Ok(()),
+                Err(_) => Err(AllocError),
+            };
+        }
+    }
+    add(lines, line)
+}
+
+/// Puts the line of the call at a position at its place among others, where there is one.
+fn put_line(lines: &mut Vec<u32>, all: &[u32], position: u32) -> Result<(), AllocError>
+    ensures { OnOk result (lines.new.items
+        ≡ fold put_in lines.old.items (lines_at all.now (position ∷ []))) }
+{
+    let place = position as usize;
+    if place < all.len() {
+        put_in(lines, all[place])
+    } else {
+        Ok(())
+    }
+}
+
+/// The lines of the calls that a reason speaks of, ascending and each once.
+pub(crate) fn lines_of(
+    alloc: Global,
+    lines: &[u32],
+    witness: &Witness,
+) -> Result<Vec<u32>, AllocError>
+    ensures { IfOk result (λ told.
+        told.items ≡ ascending (lines_at lines.now (witness_positions witness.now))) }
+{
+    let positions = positions_of(alloc, witness)?;
+    let mut told = Vec::new(alloc);
+    for position in &positions {
+        match put_line(&mut told, lines, *position) {
+            Ok(()) => {}
+            Err(refused) => return Err(refused),
+        }
+    }
+    Ok(told)
+}
+
+/// Numbers, each behind a space.
+pub(crate) fn spaced(alloc: Global, numbers: &[u32]) -> Result<String, AllocError>
+    ensures { IfOk result (λ text. string_bytes text ≡ spaced numbers.now) }
+{
+    let mut text = String::new(alloc);
+    for number in numbers {
+        let word = format!(in alloc; " {number}")?;
+        text.push_str(word.as_str())?;
+    }
+    Ok(text)
+}
