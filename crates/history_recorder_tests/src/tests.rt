@@ -1,4 +1,5 @@
 //! A recorded lane from end to end: each call with its reply and its record, in memory, in the log and in its set.
+mod rows;
 mod run;
 
 use self::run::{Found, Step, as_written, stamps_of, tell_of};
