@@ -335,14 +335,14 @@ kangaroo_status kangaroo_counters_read(kangaroo_cache *cache, kangaroo_counters 
 
 /* ------------------------------------------------------------------------------------------------ check of a trace */
 
-static kangaroo_status check_trace(const uint8_t *trace, size_t length, char line[KANGAROO_LINE_BYTES]) {
+static outcome check_trace(const uint8_t *trace, size_t length, char line[KANGAROO_LINE_BYTES]) {
     kl_seed seed;
     size_t line_length = 0;
-    kangaroo_status status = draw_random(&seed, sizeof seed);
-    if (status != KANGAROO_OK) return status;
-    status = (kangaroo_status)kl_check(&seed, trace, length, (uint8_t *)line, KANGAROO_LINE_BYTES - 1, &line_length);
-    line[status < 0 || line_length >= KANGAROO_LINE_BYTES ? 0 : line_length] = 0;
-    return status;
+    outcome drawn = draw_random(&seed, sizeof seed);
+    if (!is_done(drawn)) return drawn;
+    int32_t answer = kl_check(&seed, trace, length, (uint8_t *)line, KANGAROO_LINE_BYTES - 1, &line_length);
+    line[answer < 0 || line_length >= KANGAROO_LINE_BYTES ? 0 : line_length] = 0;
+    return outcome_of((kangaroo_status)answer);
 }
 
 kangaroo_status kangaroo_check(const void *trace, size_t trace_length, char *line, size_t line_size) {
@@ -353,8 +353,8 @@ kangaroo_status kangaroo_check(const void *trace, size_t trace_length, char *lin
     if (line_size != 0 && line_size < KANGAROO_LINE_BYTES) return KANGAROO_WRONG_ARGUMENT;
     if (overlap(trace, trace_length, line, line_size)) return KANGAROO_WRONG_ARGUMENT;
     pthread_setcancelstate(PTHREAD_CANCEL_DISABLE, &before);
-    kangaroo_status status = check_trace(trace_length == 0 ? &nothing : trace, trace_length, said);
+    outcome checked = check_trace(trace_length == 0 ? &nothing : trace, trace_length, said);
     if (line_size != 0) memcpy(line, said, sizeof said);
     pthread_setcancelstate(before, NULL);
-    return status;
+    return status_for_caller(checked);
 }

@@ -2,7 +2,6 @@
  * and put it behind the others where more of it is due. So there is no clock, and nobody wakes while nothing is due. */
 #define _GNU_SOURCE
 #include "inside.h"
-#include <errno.h>
 #include <signal.h>
 #include <stdlib.h>
 
@@ -92,16 +91,14 @@ static int start_one(kangaroo_cache *cache) {
     return 0;
 }
 
-kangaroo_status threads_start(kangaroo_cache *cache, uint32_t count) {
+outcome threads_start(kangaroo_cache *cache, uint32_t count) {
     sigset_t blocked, before;
     int cause = 0;
     signals_of_own_threads(&blocked);
     pthread_sigmask(SIG_SETMASK, &blocked, &before);
     while (cause == 0 && cache->thread_count < count) cause = start_one(cache);
     pthread_sigmask(SIG_SETMASK, &before, NULL);
-    if (cause == 0) return KANGAROO_OK;
-    errno = cause;
-    return refused_by_system();
+    return cause == 0 ? outcome_of(KANGAROO_OK) : refused_with(cause);
 }
 
 void threads_stop(kangaroo_cache *cache) {
