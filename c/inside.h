@@ -2,6 +2,11 @@
 #ifndef KANGAROO_INSIDE_H
 #define KANGAROO_INSIDE_H
 
+#if !defined(__linux__)
+#error "libkangaroo needs Linux: locks of open files, MADV_WIPEONFORK, fallocate and getrandom"
+#endif
+_Static_assert(sizeof(void *) == 8, "libkangaroo needs pointers of 64 bits: the lanes are built for them");
+
 #include "kangaroo.h"
 #include "lane.h"
 #include <errno.h>
@@ -10,15 +15,10 @@
 #include <stdatomic.h>
 #include <stdbool.h>
 
-#if !defined(__linux__)
-#error "libkangaroo needs Linux: locks of open files, MADV_WIPEONFORK, fallocate and getrandom"
-#endif
-_Static_assert(sizeof(void *) == 8, "libkangaroo needs pointers of 64 bits: the lanes are built for them");
-
 enum {
     PAGE_BYTES = 4096,
-    LANE_ALIGNMENT = 128,        /* two cache lines: processors fetch them in pairs */
-    STRUCT_BYTES_MAX = 4096,     /* no struct with a size is so long */
+    LANE_ALIGNMENT = 128,    /* two cache lines: processors fetch them in pairs */
+    STRUCT_BYTES_MAX = 4096, /* no struct with a size is so long */
     UPKEEP_THREADS_MAX = 16,
     NO_FILE = -1
 };
@@ -111,7 +111,10 @@ kangaroo_status queue_open(due_queue *queue, uint32_t lane_count);
 void queue_close(due_queue *queue);
 outcome threads_start(kangaroo_cache *cache, uint32_t count);
 void threads_stop(kangaroo_cache *cache);
-/* Hands a lane to the threads where it is due; the lane's lock is held. */
+/* Makes a lock. On Linux one without attributes is a few words that are written: the C library has nothing to ask the
+ * system for, so it does not refuse. */
+void init_lock(pthread_mutex_t *lock);
+/* Hands a lane to the threads if it is due; the lane's lock is held. */
 void hand_over_if_due(kangaroo_cache *cache, uint32_t number);
 
 /* random.c: random bytes of the system. */

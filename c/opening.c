@@ -60,7 +60,7 @@ static kangaroo_status make_lanes(kangaroo_cache *cache) {
     cache->lanes = aligned_alloc(LANE_ALIGNMENT, bytes);
     if (cache->lanes == NULL) return KANGAROO_NO_MEMORY;
     memset(cache->lanes, 0, bytes);
-    for (uint32_t i = 0; i < cache->lane_count; i++) pthread_mutex_init(&cache->lanes[i].lock, NULL);
+    for (uint32_t i = 0; i < cache->lane_count; i++) init_lock(&cache->lanes[i].lock);
     return KANGAROO_OK;
 }
 

@@ -5,14 +5,16 @@
 #include <signal.h>
 #include <stdlib.h>
 
-enum { STEP_WAS_REFUSED_MEMORY = 3 };
+void init_lock(pthread_mutex_t *lock) {
+    pthread_mutex_init(lock, NULL);
+}
 
 kangaroo_status queue_open(due_queue *queue, uint32_t lane_count) {
     *queue = (due_queue){.room = lane_count};
     queue->numbers = calloc(lane_count, sizeof *queue->numbers);
     if (queue->numbers == NULL) return KANGAROO_NO_MEMORY;
-    pthread_mutex_init(&queue->lock, NULL); /* on Linux neither of these two is refused */
-    pthread_cond_init(&queue->is_wanted, NULL);
+    init_lock(&queue->lock);
+    pthread_cond_init(&queue->is_wanted, NULL); /* not refused either, for the same reason */
     return KANGAROO_OK;
 }
 
@@ -60,7 +62,7 @@ static void tend(kangaroo_cache *cache, uint32_t number) {
     kl_step step = {0};
     pthread_mutex_lock(&lane->lock);
     kl_upkeep_step(&lane->lane, &step);
-    lane->is_queued = step.is_due != 0 && step.did != STEP_WAS_REFUSED_MEMORY;
+    lane->is_queued = step.is_due != 0 && step.did != KL_MEMORY_WAS_REFUSED;
     if (lane->is_queued) enter(&cache->due, number);
     pthread_mutex_unlock(&lane->lock);
 }
