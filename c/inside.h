@@ -60,7 +60,7 @@ typedef struct answer_counts {
     uint64_t short_buffers, put_too_large, put_no_memory;
 } answer_counts;
 
-/* A lane and its lock, on cache lines of their own. What stands behind the lock belongs to who holds it. */
+/* A lane and its lock, on cache lines of their own. What comes after the lock in the struct belongs to its holder. */
 typedef struct guarded_lane {
     alignas(LANE_ALIGNMENT) pthread_mutex_t lock;
     kl_lane lane;
@@ -71,7 +71,7 @@ typedef struct guarded_lane {
 
 /* Numbers of lanes in the order in which they became due: a ring with room for every lane, each at most once in it. */
 typedef struct due_queue {
-    pthread_mutex_t lock; /* taken behind a lane's lock, and no lock is taken behind it */
+    pthread_mutex_t lock; /* taken after a lane's lock, and no lock is taken after it */
     pthread_cond_t is_wanted;
     uint32_t *numbers;
     uint32_t room, first, count;
@@ -92,11 +92,11 @@ struct kangaroo_cache {
     atomic_uint_least64_t leases_dropped, fills_wrong_lease;
 };
 
-/* options.c: the shape of the options, or why there is none. The options are resolved where it is KANGAROO_OK. */
+/* options.c: the shape of the options, or why there is none. The options are resolved if it is KANGAROO_OK. */
 kangaroo_status resolve_options(kangaroo_options *options, kl_shape *shape, const char **field);
 /* Copies options of any version into those of this one. */
 kangaroo_status read_options(const kangaroo_options *from, kangaroo_options *to, const char **field);
-/* Writes the front of a struct, and zeros behind what this version knows. */
+/* Writes the front of a struct, and zeros after what this version knows. */
 void write_struct(void *to, size_t to_bytes, const void *from, size_t known_bytes);
 
 /* folder.c: files. What is written to the last argument is there only if the outcome is done. */

@@ -116,8 +116,8 @@ static bool is_shape_given(const kangaroo_options *options) {
     return !are_zeros((const uint8_t *)&given, sizeof given);
 }
 
-/* Works the shape out of what is wanted, or takes it over where all seven numbers are given. Then flash and memory are
- * not looked at: plenty of both is asked for, so that the other two alone are judged. */
+/* Works the shape out of what is wanted, or takes it over if all seven numbers are given. Then flash and memory are
+ * not looked at: plenty of both is asked for, so that only the other two are judged. */
 static kangaroo_status find_shape(const kangaroo_options *options, kl_shape *shape, const char **field) {
     kl_wanted wanted = {options->flash_bytes, options->memory_bytes, options->object_bytes, options->threads};
     bool is_given = is_shape_given(options);

@@ -1,5 +1,5 @@
 /* Upkeep by threads of the library's own. They sleep until a lane is due, do one step of the lane that waits longest,
- * and put it behind the others where more of it is due. So there is no clock, and nobody wakes while nothing is due. */
+ * and put it after the others if more of it is due. So there is no clock, and nobody wakes while nothing is due. */
 #define _GNU_SOURCE
 #include "inside.h"
 #include <signal.h>
