@@ -105,7 +105,7 @@ static outcome size_file(int file, size_t bytes, bool is_sparse) {
     return refused == 0 ? outcome_of(KANGAROO_OK) : refused_with(errno);
 }
 
-/* Takes a file's blocks from it, which a reservation that was refused may have left. If that is refused too, they stay. */
+/* Takes a file's blocks from it, which a refused reservation may have left. If that is refused too, they stay. */
 static void give_blocks_back(int file) {
     (void)!ftruncate(file, 0);
 }

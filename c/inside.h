@@ -23,8 +23,8 @@ enum {
     NO_FILE = -1
 };
 
-/* How a function of the library went. `cause` is the errno of a refusal if the status is KANGAROO_SYSTEM, else 0. So errno
- * is read right after the call of the system that set it, and clean-up may change it. */
+/* How a function of the library went. `cause` is the errno of a refusal if the status is KANGAROO_SYSTEM, else 0. So
+ * errno is read right after the call of the system that set it, and clean-up may change it. */
 typedef struct outcome {
     kangaroo_status status;
     int cause;

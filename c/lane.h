@@ -109,12 +109,12 @@ typedef struct kl_place {
 /* The place of a key among lanes, 1 at least. */
 void kl_place_of(const kl_seed *seed, uint32_t lanes, const uint8_t *key, size_t key_length, kl_place *to);
 
-/* Writes a shape for what is wanted, except threshold and admit, and answers KL_NO_SIZE_FAULT; or answers a kl_size_fault
- * and writes nothing. */
+/* Writes a shape for what is wanted, except threshold and admit, and answers KL_NO_SIZE_FAULT; or answers another
+ * kl_size_fault and writes nothing. */
 uint32_t kl_shape_of(const kl_wanted *wanted, kl_shape *to);
 
-/* If shape->lease_slots is 0, it becomes what kl_shape_of gives with as many sets. Answers the kl_shape_field that is the
- * first out of its range then, or KL_NO_FIELD. */
+/* If shape->lease_slots is 0, it becomes what kl_shape_of gives with as many sets. Answers the kl_shape_field that is
+ * the first out of its range then, or KL_NO_FIELD. */
 uint32_t kl_complete_shape(kl_shape *shape);
 
 /* Sizes of a shape: all zeros for one with a field out of its range. */
@@ -127,15 +127,15 @@ typedef struct kl_pages {
 } kl_pages;
 
 /* Opens an empty lane over pages, which are the lane's until kl_close: nobody else reads or writes them. `number` is
- * the lane's, for its own random words. *to must be without a lane. KANGAROO_OK; or KANGAROO_WRONG_OPTIONS (the shape, or
- * too few pages), or KANGAROO_NO_MEMORY: then *to is as it was, and the pages are the caller's. */
+ * the lane's, for its own random words. *to must be without a lane. KANGAROO_OK; or KANGAROO_WRONG_OPTIONS (the shape,
+ * or too few pages), or KANGAROO_NO_MEMORY: then *to is as it was, and the pages are the caller's. */
 int32_t kl_open(const kl_shape *shape, const kl_seed *seed, uint32_t number, kl_pages pages, kl_lane *to);
 
 /* Closes a lane. *lane becomes {NULL}; all memory that it took is given back, and the pages are the caller's. */
 void kl_close(kl_lane *lane);
 
-/* KANGAROO_OK: the value is at the front of `into`, and *hit is filled. KANGAROO_SHORT_BUFFER: *hit is filled, and nothing
- * is copied. KANGAROO_ABSENT, KANGAROO_EXPIRED, KANGAROO_UNREADABLE or KANGAROO_DAMAGED (the misses), or
+/* KANGAROO_OK: the value is at the front of `into`, and *hit is filled. KANGAROO_SHORT_BUFFER: *hit is filled, and
+ * nothing is copied. KANGAROO_ABSENT, KANGAROO_EXPIRED, KANGAROO_UNREADABLE or KANGAROO_DAMAGED (the misses), or
  * KANGAROO_WRONG_KEY: *hit is all zeros. */
 int32_t kl_get(kl_lane *lane, const uint8_t *key, size_t key_length, uint64_t moment, uint8_t *into, size_t into_length,
                kl_hit *hit);

@@ -1,6 +1,6 @@
-/* The layout of each struct that crosses between C and the lanes, as the repr(C) struct in Rattle has it: a fault stops the
- * compiler. The numbers are written by hand from the Rattle source that stands above them. There a u32 has 4 bytes, and a
- * u64, a usize or a pointer 8; each field lies at the next multiple of its size, and so does the end. The file has no code. */
+/* The layout of each struct that crosses between C and the lanes, as the repr(C) struct in Rattle has it. A difference
+ * stops the compiler. The numbers are written by hand, from the Rattle source that stands above them. There a u32 has 4
+ * bytes, and a u64, a usize or a pointer 8. Each field lies at the next multiple of its size. The file has no code. */
 #include "inside.h"
 
 /* Where a field lies, and how many bytes it has. */
