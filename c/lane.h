@@ -38,12 +38,12 @@ typedef enum kl_shape_field {
 } kl_shape_field;
 
 /* What a step of upkeep did. In Rattle the field `did` of Step. */
-typedef enum kl_deed {
+typedef enum kl_step_did {
     KL_NOTHING_WAS_DUE = 0,
     KL_FLUSHED = 1,           /* a page of the log was to be written */
     KL_MOVED = 2,             /* objects were to move to a set */
     KL_MEMORY_WAS_REFUSED = 3 /* to a move */
-} kl_deed;
+} kl_step_did;
 
 /* A lane, or a place without one: {NULL}. */
 typedef struct kl_lane {
@@ -79,7 +79,7 @@ typedef struct kl_hit {
 
 /* What a step did, whether it may have asked the device, and whether more is due after it: 0 or 1 each. */
 typedef struct kl_step {
-    uint32_t did; /* a kl_deed */
+    uint32_t did; /* one of kl_step_did */
     uint32_t asked_device, is_due;
 } kl_step;
 
