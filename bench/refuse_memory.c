@@ -8,16 +8,14 @@
 
 static size_t requests;
 
-static size_t number(const char *name)
-{
+static size_t number(const char *name) {
     const char *text = getenv(name);
     return text ? strtoull(text, NULL, 10) : 0;
 }
 
 /* Whether a request is refused: the one with this number, or each of more bytes than this. A byte on the
    descriptor of REFUSE_TOLD tells it. */
-static int refused(size_t bytes)
-{
+static int refused(size_t bytes) {
     size_t at = number("REFUSE_AT"), above = number("REFUSE_ABOVE");
     size_t mine = __atomic_add_fetch(&requests, 1, __ATOMIC_SEQ_CST);
     if (mine != at && (above == 0 || bytes <= above))
@@ -27,8 +25,7 @@ static int refused(size_t bytes)
     return 1;
 }
 
-void *malloc(size_t bytes)
-{
+void *malloc(size_t bytes) {
     static void *(*next)(size_t);
     if (!next)
         next = dlsym(RTLD_NEXT, "malloc");
@@ -36,8 +33,7 @@ void *malloc(size_t bytes)
 }
 
 /* A block that does not grow is no request. */
-void *realloc(void *old, size_t bytes)
-{
+void *realloc(void *old, size_t bytes) {
     static void *(*next)(void *, size_t);
     if (!next)
         next = dlsym(RTLD_NEXT, "realloc");

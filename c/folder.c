@@ -2,7 +2,6 @@
 #define _GNU_SOURCE
 #include "inside.h"
 #include <dirent.h>
-#include <errno.h>
 #include <fcntl.h>
 #include <stdio.h>
 #include <stdlib.h>
@@ -13,48 +12,42 @@
 
 enum { NAME_BYTES = 32, OWNER_ALONE = 0600 };
 
-/* What the system's last refusal is to a caller. */
-kangaroo_status refused_by_system(void) {
-    return errno == ENOMEM ? KANGAROO_NO_MEMORY : KANGAROO_SYSTEM;
-}
-
-/* Closes a descriptor that a refusal leaves behind, and keeps the errno of that refusal. */
-static kangaroo_status refused_with(int file) {
-    int cause = errno;
-    close(file);
-    errno = cause;
-    return refused_by_system();
-}
-
-/* Opens a file of the cache, which is made where it is absent. A link is not followed, and a pipe is not waited for. */
-static int open_file(int folder, const char *name) {
-    int flags = O_RDWR | O_CREAT | O_CLOEXEC | O_NOFOLLOW | O_NONBLOCK;
+/* Tests that an open file is a plain one. */
+static outcome test_file(int file) {
     struct stat is;
+    if (fstat(file, &is) != 0) return refused_with(errno);
+    return S_ISREG(is.st_mode) ? outcome_of(KANGAROO_OK) : refused_with(EINVAL);
+}
+
+/* Opens a file of the cache, which is made if it is absent. A link is not followed, and a pipe is not waited for. */
+static outcome open_file(int folder, const char *name, int *to) {
+    int flags = O_RDWR | O_CREAT | O_CLOEXEC | O_NOFOLLOW | O_NONBLOCK;
     int file;
     do file = openat(folder, name, flags, OWNER_ALONE);
     while (file < 0 && errno == EINTR);
-    if (file < 0) return -1;
-    if (fstat(file, &is) == 0) {
-        if (S_ISREG(is.st_mode)) return file;
-        errno = EINVAL;
-    }
-    refused_with(file);
-    return -1;
+    if (file < 0) return refused_with(errno);
+    outcome tested = test_file(file);
+    if (is_done(tested)) *to = file;
+    else close(file);
+    return tested;
 }
 
 /* The lock belongs to the open file and not to the process: so a second cache of this process is refused too, and the
  * lock goes with the last descriptor. */
-kangaroo_status lock_folder(int folder, int *lock_file) {
-    int file = open_file(folder, "kangaroo.lock");
-    if (file < 0) return refused_by_system();
+static outcome take_lock(int file) {
     struct flock whole = {.l_type = F_WRLCK, .l_whence = SEEK_SET};
-    if (fcntl(file, F_OFD_SETLK, &whole) == 0) {
-        *lock_file = file;
-        return KANGAROO_OK;
-    }
-    bool is_taken = errno == EAGAIN || errno == EACCES;
-    kangaroo_status status = refused_with(file);
-    return is_taken ? KANGAROO_IN_USE : status;
+    if (fcntl(file, F_OFD_SETLK, &whole) == 0) return outcome_of(KANGAROO_OK);
+    return errno == EAGAIN || errno == EACCES ? outcome_of(KANGAROO_IN_USE) : refused_with(errno);
+}
+
+outcome lock_folder(int folder, int *lock_file) {
+    int file = NO_FILE;
+    outcome opened = open_file(folder, "kangaroo.lock", &file);
+    if (!is_done(opened)) return opened;
+    outcome locked = take_lock(file);
+    if (is_done(locked)) *lock_file = file;
+    else close(file);
+    return locked;
 }
 
 static void name_of_lane_file(uint32_t number, char name[NAME_BYTES]) {
@@ -70,72 +63,80 @@ static bool is_lane_file_from(const char *name, uint32_t first) {
     return number >= first && strcmp(spelled, name) == 0;
 }
 
-static kangaroo_status remove_those_from(DIR *list, int folder, uint32_t first) {
+/* readdir tells its end from a refusal by errno alone. */
+static outcome remove_those_from(DIR *list, int folder, uint32_t first) {
     for (;;) {
         errno = 0;
         struct dirent *entry = readdir(list);
-        if (entry == NULL) return errno == 0 ? KANGAROO_OK : refused_by_system();
+        if (entry == NULL) return errno == 0 ? outcome_of(KANGAROO_OK) : refused_with(errno);
         if (is_lane_file_from(entry->d_name, first) && unlinkat(folder, entry->d_name, 0) != 0 && errno != ENOENT)
-            return refused_by_system();
+            return refused_with(errno);
     }
+}
+
+/* Lists a folder by a descriptor of its own: closing the list closes that one. */
+static outcome open_list(int folder, DIR **list) {
+    int again = openat(folder, ".", O_RDONLY | O_DIRECTORY | O_CLOEXEC);
+    if (again < 0) return refused_with(errno);
+    *list = fdopendir(again);
+    if (*list != NULL) return outcome_of(KANGAROO_OK);
+    outcome refused = refused_with(errno);
+    close(again);
+    return refused;
 }
 
 /* Removes what a cache with more lanes left. */
-kangaroo_status remove_files_from(int folder, uint32_t first) {
-    int again = openat(folder, ".", O_RDONLY | O_DIRECTORY | O_CLOEXEC);
-    if (again < 0) return refused_by_system();
-    DIR *list = fdopendir(again);
-    if (list == NULL) return refused_with(again);
-    kangaroo_status status = remove_those_from(list, folder, first);
-    int cause = errno;
+outcome remove_files_from(int folder, uint32_t first) {
+    DIR *list = NULL;
+    outcome opened = open_list(folder, &list);
+    if (!is_done(opened)) return opened;
+    outcome removed = remove_those_from(list, folder, first);
     closedir(list);
-    errno = cause;
-    return status;
+    return removed;
 }
 
 /* Makes a file zeros of so many bytes, with blocks of its own unless it is sparse. */
-static int size_file(int file, size_t bytes, bool is_sparse) {
-    int done;
-    if (ftruncate(file, 0) != 0 || ftruncate(file, (off_t)bytes) != 0) return -1;
-    if (is_sparse) return 0;
-    do done = fallocate(file, 0, 0, (off_t)bytes);
-    while (done != 0 && errno == EINTR);
-    return done;
+static outcome size_file(int file, size_t bytes, bool is_sparse) {
+    int refused;
+    if (ftruncate(file, 0) != 0 || ftruncate(file, (off_t)bytes) != 0) return refused_with(errno);
+    if (is_sparse) return outcome_of(KANGAROO_OK);
+    do refused = fallocate(file, 0, 0, (off_t)bytes);
+    while (refused != 0 && errno == EINTR);
+    return refused == 0 ? outcome_of(KANGAROO_OK) : refused_with(errno);
 }
 
-/* Takes a file's blocks from it, which a reservation that was refused may have left. */
+/* Takes a file's blocks from it, which a refused reservation may have left. If that is refused too, they stay. */
 static void give_blocks_back(int file) {
-    int cause = errno;
-    if (ftruncate(file, 0) != 0) errno = cause;
-    errno = cause;
+    (void)!ftruncate(file, 0);
 }
 
-/* Maps a file. Pages are asked for one at a time, so the system is not to read ahead. A forked child does not get the
- * mapping, so it can't write the parent's cache. */
-static int map_file(int file, size_t bytes, mapping *to) {
+/* Says how the pages of a mapping are used. They are asked for one at a time, so the system is not to read ahead. A
+ * forked child does not get the mapping, so it cannot write the parent's cache. */
+static outcome advise(void *at, size_t bytes) {
+    bool is_told = madvise(at, bytes, MADV_RANDOM) == 0 && madvise(at, bytes, MADV_DONTFORK) == 0;
+    return is_told ? outcome_of(KANGAROO_OK) : refused_with(errno);
+}
+
+static outcome map_file(int file, size_t bytes, mapping *to) {
     void *at = mmap(NULL, bytes, PROT_READ | PROT_WRITE, MAP_SHARED, file, 0);
-    if (at == MAP_FAILED) return -1;
-    if (madvise(at, bytes, MADV_RANDOM) != 0 || madvise(at, bytes, MADV_DONTFORK) != 0) {
-        int cause = errno;
-        munmap(at, bytes);
-        errno = cause;
-        return -1;
-    }
-    *to = (mapping){at, bytes};
-    return 0;
+    if (at == MAP_FAILED) return refused_with(errno);
+    outcome advised = advise(at, bytes);
+    if (is_done(advised)) *to = (mapping){at, bytes};
+    else munmap(at, bytes);
+    return advised;
 }
 
-kangaroo_status map_lane_file(int folder, uint32_t number, size_t bytes, bool is_sparse, mapping *to) {
+outcome map_lane_file(int folder, uint32_t number, size_t bytes, bool is_sparse, mapping *to) {
     char name[NAME_BYTES];
+    int file = NO_FILE;
     name_of_lane_file(number, name);
-    int file = open_file(folder, name);
-    if (file < 0) return refused_by_system();
-    if (size_file(file, bytes, is_sparse) == 0 && map_file(file, bytes, to) == 0) {
-        close(file); /* the mapping stays */
-        return KANGAROO_OK;
-    }
-    give_blocks_back(file);
-    return refused_with(file);
+    outcome is = open_file(folder, name, &file);
+    if (!is_done(is)) return is;
+    is = size_file(file, bytes, is_sparse);
+    if (is_done(is)) is = map_file(file, bytes, to);
+    if (!is_done(is)) give_blocks_back(file);
+    close(file); /* a mapping stays */
+    return is;
 }
 
 void remove_lane_file(int folder, uint32_t number) {

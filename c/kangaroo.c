@@ -267,18 +267,15 @@ static kl_step step_held(kangaroo_cache *cache, uint32_t number) {
     return step;
 }
 
-/* What a step did, as kl_step says it. */
-enum { NOTHING_WAS_DUE = 0, MEMORY_WAS_REFUSED = 3 };
-
 /* Goes round the lanes until enough steps are done, or none is due in all lanes one after another. */
 static kangaroo_status go_round(kangaroo_cache *cache, uint32_t steps, uint32_t *taken) {
     uint32_t idle = 0;
     while (*taken < steps && idle < cache->lane_count) {
         uint32_t next = atomic_fetch_add_explicit(&cache->next_upkeep, 1, memory_order_relaxed);
         kl_step step = step_held(cache, next % cache->lane_count);
-        if (step.did == MEMORY_WAS_REFUSED) return KANGAROO_NO_MEMORY;
-        idle = step.did == NOTHING_WAS_DUE ? idle + 1 : 0;
-        *taken += step.did != NOTHING_WAS_DUE;
+        if (step.did == KL_MEMORY_WAS_REFUSED) return KANGAROO_NO_MEMORY;
+        idle = step.did == KL_NOTHING_WAS_DUE ? idle + 1 : 0;
+        *taken += step.did != KL_NOTHING_WAS_DUE;
     }
     return KANGAROO_OK;
 }
@@ -291,11 +288,8 @@ kangaroo_status kangaroo_upkeep(kangaroo_cache *cache, uint32_t steps, uint32_t 
     return status;
 }
 
-/* The counters of a cache begin with those of a lane. The others are counted here. */
+/* The counters of a cache begin with those of a lane, in the same order (layout.c). The others are counted here. */
 enum { LANE_COUNTERS = sizeof(kl_counters) / sizeof(uint64_t) };
-_Static_assert(offsetof(kangaroo_counters, short_buffers) == sizeof(kl_counters), "the lane's counters come first");
-_Static_assert(offsetof(kangaroo_counters, puts) == offsetof(kl_counters, puts), "in one order");
-_Static_assert(offsetof(kangaroo_counters, bytes_put) == offsetof(kl_counters, bytes_put), "in one order");
 
 /* What a lane counts, and what is counted of it here, at one moment. */
 static kl_counters count_held(kangaroo_cache *cache, uint32_t number, answer_counts *answers) {
@@ -335,14 +329,14 @@ kangaroo_status kangaroo_counters_read(kangaroo_cache *cache, kangaroo_counters 
 
 /* ------------------------------------------------------------------------------------------------ check of a trace */
 
-static kangaroo_status check_trace(const uint8_t *trace, size_t length, char line[KANGAROO_LINE_BYTES]) {
+static outcome check_trace(const uint8_t *trace, size_t length, char line[KANGAROO_LINE_BYTES]) {
     kl_seed seed;
     size_t line_length = 0;
-    kangaroo_status status = draw_random(&seed, sizeof seed);
-    if (status != KANGAROO_OK) return status;
-    status = (kangaroo_status)kl_check(&seed, trace, length, (uint8_t *)line, KANGAROO_LINE_BYTES - 1, &line_length);
-    line[status < 0 || line_length >= KANGAROO_LINE_BYTES ? 0 : line_length] = 0;
-    return status;
+    outcome drawn = draw_random(&seed, sizeof seed);
+    if (!is_done(drawn)) return drawn;
+    int32_t answer = kl_check(&seed, trace, length, (uint8_t *)line, KANGAROO_LINE_BYTES - 1, &line_length);
+    line[answer < 0 || line_length >= KANGAROO_LINE_BYTES ? 0 : line_length] = 0;
+    return outcome_of((kangaroo_status)answer);
 }
 
 kangaroo_status kangaroo_check(const void *trace, size_t trace_length, char *line, size_t line_size) {
@@ -353,8 +347,8 @@ kangaroo_status kangaroo_check(const void *trace, size_t trace_length, char *lin
     if (line_size != 0 && line_size < KANGAROO_LINE_BYTES) return KANGAROO_WRONG_ARGUMENT;
     if (overlap(trace, trace_length, line, line_size)) return KANGAROO_WRONG_ARGUMENT;
     pthread_setcancelstate(PTHREAD_CANCEL_DISABLE, &before);
-    kangaroo_status status = check_trace(trace_length == 0 ? &nothing : trace, trace_length, said);
+    outcome checked = check_trace(trace_length == 0 ? &nothing : trace, trace_length, said);
     if (line_size != 0) memcpy(line, said, sizeof said);
     pthread_setcancelstate(before, NULL);
-    return status;
+    return status_for_caller(checked);
 }

@@ -2,12 +2,48 @@
  *
  * A lane is one part of a cache. It is given to one call at a time: kangaroo.c has a lock a lane. A pointer to bytes is
  * never NULL, also at length 0, and no two things that are handed to one call overlap where one of them is written.
- * Statuses are the numbers of kangaroo_status. */
+ * Statuses are the numbers of kangaroo_status; the enums below name every other number. layout.c compares the structs
+ * with those of the lanes. */
 #ifndef KANGAROO_LANE_H
 #define KANGAROO_LANE_H
 
 #include <stddef.h>
 #include <stdint.h>
+
+/* Why there is no shape for what is wanted: the first reason. In Rattle SizeFault, by number_of_fault. */
+typedef enum kl_size_fault {
+    KL_NO_SIZE_FAULT = 0,
+    KL_FLASH_TOO_SMALL = 1,
+    KL_FLASH_TOO_LARGE = 2,
+    KL_NO_OBJECT_BYTES = 3,
+    KL_OBJECT_TOO_LARGE = 4,
+    KL_NO_THREADS = 5,
+    KL_TOO_MANY_THREADS = 6,
+    KL_MEMORY_TOO_SMALL = 7
+} kl_size_fault;
+
+/* A field of a shape, in the order of kl_shape. In Rattle ShapeField, by its number. */
+typedef enum kl_shape_field {
+    KL_NO_FIELD = 0,
+    KL_SHARDS = 1,
+    KL_LANES = 2,
+    KL_SETS = 3,
+    KL_MEMORY_OBJECTS = 4,
+    KL_SEGMENTS = 5,
+    KL_SEGMENT_PAGES = 6,
+    KL_LOG_OBJECTS = 7,
+    KL_LEASE_SLOTS = 8,
+    KL_THRESHOLD = 9,
+    KL_ADMIT = 10
+} kl_shape_field;
+
+/* What a step of upkeep did. In Rattle the field `did` of Step. */
+typedef enum kl_step_did {
+    KL_NOTHING_WAS_DUE = 0,
+    KL_FLUSHED = 1,           /* a page of the log was to be written */
+    KL_MOVED = 2,             /* objects were to move to a set */
+    KL_MEMORY_WAS_REFUSED = 3 /* to a move */
+} kl_step_did;
 
 /* A lane, or a place without one: {NULL}. */
 typedef struct kl_lane {
@@ -35,15 +71,16 @@ typedef struct kl_sizes {
     uint64_t file_bytes, lane_pages, memory_fixed, memory_full, memory_objects, log_objects, set_objects;
 } kl_sizes;
 
-/* Where a value was found: tier 1 memory, 2 log, 3 set. */
+/* Where a value was found: `tier` is one of KANGAROO_TIER_.., `reserved` is 0. */
 typedef struct kl_hit {
     uint64_t length;
     uint32_t tier, reserved;
 } kl_hit;
 
-/* What a step did: 0 nothing was due, 1 flushed, 2 moved, 3 memory was refused; and whether more is due behind it. */
+/* What a step did, whether it may have asked the device, and whether more is due after it: 0 or 1 each. */
 typedef struct kl_step {
-    uint32_t did, asked_device, is_due;
+    uint32_t did; /* one of kl_step_did */
+    uint32_t asked_device, is_due;
 } kl_step;
 
 /* Counts of one lane since it was opened, modulo 2^64, and at the end numbers of the present. */
@@ -72,13 +109,12 @@ typedef struct kl_place {
 /* The place of a key among lanes, 1 at least. */
 void kl_place_of(const kl_seed *seed, uint32_t lanes, const uint8_t *key, size_t key_length, kl_place *to);
 
-/* A shape for what is wanted: 0, or the number of the first reason why there is none: 1 flash_bytes (too small), 2
- * flash_bytes (too large), 3 object_bytes (0), 4 object_bytes (too large), 5 threads (0), 6 threads (too many), 7
- * memory_bytes. threshold and admit of *to are not written, and nothing is at a fault. */
+/* Writes a shape for what is wanted, except threshold and admit, and answers KL_NO_SIZE_FAULT; or answers another
+ * kl_size_fault and writes nothing. */
 uint32_t kl_shape_of(const kl_wanted *wanted, kl_shape *to);
 
-/* Where shape->lease_slots is 0, it becomes as many as kl_shape_of gives with so many sets. 0, or the number of the first
- * field out of its range then, from 1 shards to 10 admit, in the order of kl_shape. */
+/* If shape->lease_slots is 0, it becomes what kl_shape_of gives with as many sets. Answers the kl_shape_field that is
+ * the first out of its range then, or KL_NO_FIELD. */
 uint32_t kl_complete_shape(kl_shape *shape);
 
 /* Sizes of a shape: all zeros for one with a field out of its range. */
@@ -91,39 +127,40 @@ typedef struct kl_pages {
 } kl_pages;
 
 /* Opens an empty lane over pages, which are the lane's until kl_close: nobody else reads or writes them. `number` is
- * the lane's, for its own random words. *to must be without a lane. 0, or KANGAROO_WRONG_OPTIONS (the shape, or too few
- * pages), or KANGAROO_NO_MEMORY; then *to is as it was, and the pages are the caller's. */
+ * the lane's, for its own random words. *to must be without a lane. KANGAROO_OK; or KANGAROO_WRONG_OPTIONS (the shape,
+ * or too few pages), or KANGAROO_NO_MEMORY: then *to is as it was, and the pages are the caller's. */
 int32_t kl_open(const kl_shape *shape, const kl_seed *seed, uint32_t number, kl_pages pages, kl_lane *to);
 
 /* Closes a lane. *lane becomes {NULL}; all memory that it took is given back, and the pages are the caller's. */
 void kl_close(kl_lane *lane);
 
-/* 0 and the value at the front of `into`, and *hit; 1 absent, 2 expired, 3 unreadable, 4 damaged; 5 the buffer is too
- * short (nothing copied, *hit is filled); -2 a wrong key. *hit is all zeros but at 0 and 5. */
+/* KANGAROO_OK: the value is at the front of `into`, and *hit is filled. KANGAROO_SHORT_BUFFER: *hit is filled, and
+ * nothing is copied. KANGAROO_ABSENT, KANGAROO_EXPIRED, KANGAROO_UNREADABLE or KANGAROO_DAMAGED (the misses), or
+ * KANGAROO_WRONG_KEY: *hit is all zeros. */
 int32_t kl_get(kl_lane *lane, const uint8_t *key, size_t key_length, uint64_t moment, uint8_t *into, size_t into_length,
                kl_hit *hit);
 
-/* The same; at 1 to 4 *writes becomes the number of the lease. */
+/* The same; at a miss *writes becomes the number of the lease. */
 int32_t kl_get_or_lease(kl_lane *lane, const uint8_t *key, size_t key_length, uint64_t moment, uint8_t *into,
                         size_t into_length, kl_hit *hit, uint64_t *writes);
 
-/* 0 stored; -2 wrong key, -3 too large, -4 no memory: nothing has changed but counters. It helps for the room that it
- * took. */
+/* KANGAROO_OK: stored. KANGAROO_WRONG_KEY, KANGAROO_TOO_LARGE or KANGAROO_NO_MEMORY: only counters have changed. It does
+ * upkeep itself if the log is nearly full. */
 int32_t kl_put(kl_lane *lane, const uint8_t *key, size_t key_length, const uint8_t *value, size_t value_length,
                uint64_t expires);
 
-/* The same, but at -3 and -4 the key is removed. */
+/* The same, but at KANGAROO_TOO_LARGE and KANGAROO_NO_MEMORY the key is removed. */
 int32_t kl_put_or_remove(kl_lane *lane, const uint8_t *key, size_t key_length, const uint8_t *value,
                          size_t value_length, uint64_t expires);
 
-/* 0 stored; 6 stale: nothing has changed but a counter; refusals as of a put. */
+/* KANGAROO_OK: stored. KANGAROO_STALE: only a counter has changed. Refusals as of a put. */
 int32_t kl_fill(kl_lane *lane, uint64_t writes, const uint8_t *key, size_t key_length, const uint8_t *value,
                 size_t value_length, uint64_t expires);
 
-/* 0, or -2 a wrong key. */
+/* KANGAROO_OK, or KANGAROO_WRONG_KEY. */
 int32_t kl_remove(kl_lane *lane, const uint8_t *key, size_t key_length);
 
-/* Does one step of upkeep, where one is due. */
+/* Does one step of upkeep, if one is due. */
 void kl_upkeep_step(kl_lane *lane, kl_step *to);
 
 /* Whether upkeep is due now: 0 or 1. */
@@ -131,8 +168,8 @@ uint32_t kl_is_due(kl_lane *lane);
 
 void kl_count(kl_lane *lane, kl_counters *to);
 
-/* Judges a trace: 0 accepted, 7 rejected, 8 no trace, -4 no memory; the line without line feed or NUL at the front of
- * `line` (room for 63 bytes at least), and *length its length. */
+/* Judges a trace: KANGAROO_OK (accepted), KANGAROO_REJECTED, KANGAROO_BAD_TRACE or KANGAROO_NO_MEMORY. The line, without
+ * line feed or NUL, is at the front of `line`, which has room for 63 bytes at least; *length is its length. */
 int32_t kl_check(const kl_seed *seed, const uint8_t *trace, size_t trace_length, uint8_t *line, size_t line_length,
                  size_t *length);
 

@@ -1,7 +1,6 @@
 /* Open and close. */
 #define _GNU_SOURCE
 #include "inside.h"
-#include <errno.h>
 #include <fcntl.h>
 #include <stdlib.h>
 #include <string.h>
@@ -42,18 +41,18 @@ static void free_cache(kangaroo_cache *cache) {
     free(cache->lanes);
     queue_close(&cache->due);
     if (cache->own_page != NULL) munmap(cache->own_page, PAGE_BYTES);
-    if (cache->lock_file != FOLDER_CLOSED) close(cache->lock_file);
+    if (cache->lock_file != NO_FILE) close(cache->lock_file);
     free(cache);
 }
 
 /* A page that is 1 here and zeros in each forked child, by the system's own doing: so no handler is installed. */
-static kangaroo_status make_own_page(kangaroo_cache *cache) {
+static outcome make_own_page(kangaroo_cache *cache) {
     void *page = mmap(NULL, PAGE_BYTES, PROT_READ | PROT_WRITE, MAP_PRIVATE | MAP_ANONYMOUS, -1, 0);
-    if (page == MAP_FAILED) return refused_by_system();
+    if (page == MAP_FAILED) return refused_with(errno);
     cache->own_page = page;
-    if (madvise(page, PAGE_BYTES, MADV_WIPEONFORK) != 0) return refused_by_system();
+    if (madvise(page, PAGE_BYTES, MADV_WIPEONFORK) != 0) return refused_with(errno);
     *cache->own_page = 1;
-    return KANGAROO_OK;
+    return outcome_of(KANGAROO_OK);
 }
 
 static kangaroo_status make_lanes(kangaroo_cache *cache) {
@@ -61,40 +60,46 @@ static kangaroo_status make_lanes(kangaroo_cache *cache) {
     cache->lanes = aligned_alloc(LANE_ALIGNMENT, bytes);
     if (cache->lanes == NULL) return KANGAROO_NO_MEMORY;
     memset(cache->lanes, 0, bytes);
-    for (uint32_t i = 0; i < cache->lane_count; i++) pthread_mutex_init(&cache->lanes[i].lock, NULL);
+    for (uint32_t i = 0; i < cache->lane_count; i++) init_lock(&cache->lanes[i].lock);
     return KANGAROO_OK;
 }
 
-/* A cache without files, lanes that are open, and threads. */
-static kangaroo_status make_cache(uint32_t lane_count, kangaroo_cache **to) {
-    kangaroo_cache *cache = calloc(1, sizeof *cache);
-    if (cache == NULL) return KANGAROO_NO_MEMORY;
-    cache->lane_count = lane_count;
-    cache->lock_file = FOLDER_CLOSED;
-    kangaroo_status status = queue_open(&cache->due, lane_count);
-    if (status == KANGAROO_OK) status = make_own_page(cache);
-    if (status == KANGAROO_OK) status = make_lanes(cache);
-    if (status == KANGAROO_OK) status = draw_random(&cache->seed, sizeof cache->seed);
-    if (status == KANGAROO_OK) status = draw_random(&cache->number, sizeof cache->number);
+/* Makes what a cache has in memory. */
+static outcome make_parts(kangaroo_cache *cache) {
+    outcome is = outcome_of(queue_open(&cache->due, cache->lane_count));
+    if (is_done(is)) is = make_own_page(cache);
+    if (is_done(is)) is = outcome_of(make_lanes(cache));
+    if (is_done(is)) is = draw_random(&cache->seed, sizeof cache->seed);
+    if (is_done(is)) is = draw_random(&cache->number, sizeof cache->number);
     cache->number |= 1; /* a lease of zeros is of no cache */
-    if (status == KANGAROO_OK) *to = cache;
+    return is;
+}
+
+/* A cache without files, lanes that are open, and threads. */
+static outcome make_cache(uint32_t lane_count, kangaroo_cache **to) {
+    kangaroo_cache *cache = calloc(1, sizeof *cache);
+    if (cache == NULL) return outcome_of(KANGAROO_NO_MEMORY);
+    cache->lane_count = lane_count;
+    cache->lock_file = NO_FILE;
+    outcome made = make_parts(cache);
+    if (is_done(made)) *to = cache;
     else free_cache(cache);
-    return status;
+    return made;
 }
 
-static kangaroo_status open_lane(kangaroo_cache *cache, const plan *by, int folder, uint32_t number) {
+static outcome open_lane(kangaroo_cache *cache, const plan *by, int folder, uint32_t number) {
     guarded_lane *lane = &cache->lanes[number];
-    kangaroo_status status = map_lane_file(folder, number, by->lane_bytes, by->is_sparse, &lane->file);
-    if (status != KANGAROO_OK) return status;
+    outcome mapped = map_lane_file(folder, number, by->lane_bytes, by->is_sparse, &lane->file);
+    if (!is_done(mapped)) return mapped;
     kl_pages pages = {lane->file.at, (uint32_t)(by->lane_bytes / PAGE_BYTES)};
-    return (kangaroo_status)kl_open(&by->shape, &cache->seed, number, pages, &lane->lane);
+    return outcome_of((kangaroo_status)kl_open(&by->shape, &cache->seed, number, pages, &lane->lane));
 }
 
-static kangaroo_status open_lanes(kangaroo_cache *cache, const plan *by, int folder) {
-    kangaroo_status status = lock_folder(folder, &cache->lock_file);
-    if (status == KANGAROO_OK) status = remove_files_from(folder, by->lane_count);
-    for (uint32_t i = 0; status == KANGAROO_OK && i < by->lane_count; i++) status = open_lane(cache, by, folder, i);
-    return status;
+static outcome open_lanes(kangaroo_cache *cache, const plan *by, int folder) {
+    outcome is = lock_folder(folder, &cache->lock_file);
+    if (is_done(is)) is = remove_files_from(folder, by->lane_count);
+    for (uint32_t i = 0; is_done(is) && i < by->lane_count; i++) is = open_lane(cache, by, folder, i);
+    return is;
 }
 
 /* A disk that was too small for all lanes is not left full. */
@@ -104,48 +109,43 @@ static void remove_files(kangaroo_cache *cache, int folder) {
 }
 
 /* Opens the lanes over the folder's files, and starts the threads. */
-static kangaroo_status fill_cache(kangaroo_cache *cache, const plan *by, const char *path) {
+static outcome fill_cache(kangaroo_cache *cache, const plan *by, const char *path) {
     int folder = open(path, O_RDONLY | O_DIRECTORY | O_CLOEXEC);
-    if (folder < 0) return refused_by_system();
-    kangaroo_status status = open_lanes(cache, by, folder);
-    if (status == KANGAROO_OK) status = threads_start(cache, by->upkeep_threads);
-    int cause = errno;
-    if (status != KANGAROO_OK) remove_files(cache, folder);
+    if (folder < 0) return refused_with(errno);
+    outcome is = open_lanes(cache, by, folder);
+    if (is_done(is)) is = threads_start(cache, by->upkeep_threads);
+    if (!is_done(is)) remove_files(cache, folder);
     close(folder);
-    errno = cause;
-    return status;
+    return is;
 }
 
-static kangaroo_status open_cache(const kangaroo_options *options, const char *folder, kangaroo_cache **to) {
+static outcome open_cache(const kangaroo_options *options, const char *folder, kangaroo_cache **to) {
     plan by;
     kangaroo_cache *cache = NULL;
-    kangaroo_status status = make_plan(options, &by);
-    if (status == KANGAROO_OK) status = make_cache(by.lane_count, &cache);
-    if (status != KANGAROO_OK) return status;
-    status = fill_cache(cache, &by, folder);
-    if (status == KANGAROO_OK) {
+    outcome is = outcome_of(make_plan(options, &by));
+    if (is_done(is)) is = make_cache(by.lane_count, &cache);
+    if (!is_done(is)) return is;
+    is = fill_cache(cache, &by, folder);
+    if (is_done(is)) {
         *to = cache;
-        return KANGAROO_OK;
+        return is;
     }
-    int cause = errno;
     threads_stop(cache);
     free_cache(cache);
-    errno = cause;
-    return status;
+    return is;
 }
 
 kangaroo_status kangaroo_open(const kangaroo_options *options, const char *folder, kangaroo_cache **cache,
                               int *system_errno) {
-    int before, cause = 0;
+    int before;
     kangaroo_cache *opened = NULL;
-    kangaroo_status status = KANGAROO_WRONG_ARGUMENT;
+    outcome is = outcome_of(KANGAROO_WRONG_ARGUMENT);
     pthread_setcancelstate(PTHREAD_CANCEL_DISABLE, &before);
-    if (folder != NULL && cache != NULL) status = open_cache(options, folder, &opened);
-    if (status == KANGAROO_SYSTEM) cause = errno;
+    if (folder != NULL && cache != NULL) is = open_cache(options, folder, &opened);
     if (cache != NULL) *cache = opened;
-    if (system_errno != NULL) *system_errno = cause;
+    if (system_errno != NULL) *system_errno = is.cause;
     pthread_setcancelstate(before, NULL);
-    return status;
+    return status_for_caller(is);
 }
 
 kangaroo_status kangaroo_close(kangaroo_cache *cache) {

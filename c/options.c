@@ -67,48 +67,67 @@ static uint32_t processors(void) {
 
 static kangaroo_status shape_of_wanted(const kl_wanted *wanted, kl_shape *shape, const char **field) {
     switch (kl_shape_of(wanted, shape)) {
-    case 0: return KANGAROO_OK;
-    case 1: case 2: return wrong(field, "flash_bytes");
-    case 3: case 4: return wrong(field, "object_bytes");
-    case 5: case 6: return wrong(field, "threads");
-    default: return wrong(field, "memory_bytes");
+    case KL_NO_SIZE_FAULT: return KANGAROO_OK;
+    case KL_FLASH_TOO_SMALL: case KL_FLASH_TOO_LARGE: return wrong(field, "flash_bytes");
+    case KL_NO_OBJECT_BYTES: case KL_OBJECT_TOO_LARGE: return wrong(field, "object_bytes");
+    case KL_NO_THREADS: case KL_TOO_MANY_THREADS: return wrong(field, "threads");
+    case KL_MEMORY_TOO_SMALL: default: return wrong(field, "memory_bytes");
     }
 }
 
-/* The numbers of the shape that the caller may give: of all seven, how many are not 0. */
-static unsigned given_numbers(const kangaroo_options *o) {
-    return (o->shards != 0) + 0u + (o->lanes != 0) + (o->sets != 0) + (o->memory_objects != 0) + (o->segments != 0) +
-           (o->segment_pages != 0) + (o->log_objects != 0);
+/* A field of a shape, which options have too: its name, and its place in each of the two structs. */
+typedef struct shape_field {
+    const char *name;
+    size_t in_options, in_shape;
+} shape_field;
+
+#define SHAPE_FIELD(name) {#name, offsetof(kangaroo_options, name), offsetof(kl_shape, name)}
+static const shape_field shape_fields[] = {
+    [KL_SHARDS] = SHAPE_FIELD(shards),
+    [KL_LANES] = SHAPE_FIELD(lanes),
+    [KL_SETS] = SHAPE_FIELD(sets),
+    [KL_MEMORY_OBJECTS] = SHAPE_FIELD(memory_objects),
+    [KL_SEGMENTS] = SHAPE_FIELD(segments),
+    [KL_SEGMENT_PAGES] = SHAPE_FIELD(segment_pages),
+    [KL_LOG_OBJECTS] = SHAPE_FIELD(log_objects),
+    [KL_LEASE_SLOTS] = SHAPE_FIELD(lease_slots),
+    [KL_THRESHOLD] = SHAPE_FIELD(threshold),
+    [KL_ADMIT] = SHAPE_FIELD(admit),
+};
+
+/* Copies fields of a shape out of options. */
+static void take_fields(const kangaroo_options *from, kl_shape *to, kl_shape_field first, kl_shape_field last) {
+    for (size_t i = first; i <= (size_t)last; i++)
+        memcpy((uint8_t *)to + shape_fields[i].in_shape, (const uint8_t *)from + shape_fields[i].in_options,
+               sizeof(uint32_t));
 }
 
-static void take_given_shape(const kangaroo_options *options, kl_shape *shape) {
-    shape->shards = options->shards;
-    shape->lanes = options->lanes;
-    shape->sets = options->sets;
-    shape->memory_objects = options->memory_objects;
-    shape->segments = options->segments;
-    shape->segment_pages = options->segment_pages;
-    shape->log_objects = options->log_objects;
+/* Copies all fields of a shape into options. */
+static void give_fields(const kl_shape *from, kangaroo_options *to) {
+    for (size_t i = KL_SHARDS; i <= KL_ADMIT; i++)
+        memcpy((uint8_t *)to + shape_fields[i].in_options, (const uint8_t *)from + shape_fields[i].in_shape,
+               sizeof(uint32_t));
 }
 
-/* Works the shape out of what is wanted, or takes it over where all seven numbers are given. Then flash and memory are
- * not looked at: plenty of both is asked for, so that the other two alone are judged. */
+/* Whether options give a number of the shape, of the seven that are all given or all 0. */
+static bool is_shape_given(const kangaroo_options *options) {
+    kl_shape given = {0};
+    take_fields(options, &given, KL_SHARDS, KL_LOG_OBJECTS);
+    return !are_zeros((const uint8_t *)&given, sizeof given);
+}
+
+/* Works the shape out of what is wanted, or takes it over if all seven numbers are given. Then flash and memory are
+ * not looked at: plenty of both is asked for, so that only the other two are judged. */
 static kangaroo_status find_shape(const kangaroo_options *options, kl_shape *shape, const char **field) {
     kl_wanted wanted = {options->flash_bytes, options->memory_bytes, options->object_bytes, options->threads};
-    bool is_given = given_numbers(options) != 0;
+    bool is_given = is_shape_given(options);
     if (is_given) {
         wanted.flash_bytes = (uint64_t)1 << 30;
         wanted.memory_bytes = (uint64_t)1 << 50;
     }
     kangaroo_status status = shape_of_wanted(&wanted, shape, field);
-    if (status == KANGAROO_OK && is_given) take_given_shape(options, shape);
+    if (status == KANGAROO_OK && is_given) take_fields(options, shape, KL_SHARDS, KL_LOG_OBJECTS);
     return status;
-}
-
-static const char *name_of_shape_fault(uint32_t fault) {
-    static const char *const names[] = {"shards", "lanes", "sets", "memory_objects", "segments", "segment_pages",
-                                        "log_objects", "lease_slots", "threshold", "admit"};
-    return fault <= sizeof names / sizeof names[0] ? names[fault - 1] : "shards";
 }
 
 static kangaroo_status test_own_fields(const kangaroo_options *options, const char **field) {
@@ -118,18 +137,6 @@ static kangaroo_status test_own_fields(const kangaroo_options *options, const ch
     return KANGAROO_OK;
 }
 
-/* Puts into the options what was worked out. */
-static void write_shape(const kl_shape *shape, kangaroo_options *options) {
-    options->lease_slots = shape->lease_slots;
-    options->shards = shape->shards;
-    options->lanes = shape->lanes;
-    options->sets = shape->sets;
-    options->memory_objects = shape->memory_objects;
-    options->segments = shape->segments;
-    options->segment_pages = shape->segment_pages;
-    options->log_objects = shape->log_objects;
-}
-
 kangaroo_status resolve_options(kangaroo_options *options, kl_shape *shape, const char **field) {
     memset(shape, 0, sizeof *shape);
     kangaroo_status status = test_own_fields(options, field);
@@ -137,12 +144,10 @@ kangaroo_status resolve_options(kangaroo_options *options, kl_shape *shape, cons
     if (options->threads == 0) options->threads = processors();
     status = find_shape(options, shape, field);
     if (status != KANGAROO_OK) return status;
-    shape->lease_slots = options->lease_slots;
-    shape->threshold = options->threshold;
-    shape->admit = options->admit;
+    take_fields(options, shape, KL_LEASE_SLOTS, KL_ADMIT);
     uint32_t fault = kl_complete_shape(shape);
-    if (fault != 0) return wrong(field, name_of_shape_fault(fault));
-    write_shape(shape, options);
+    if (fault != KL_NO_FIELD) return wrong(field, shape_fields[fault <= KL_ADMIT ? fault : KL_SHARDS].name);
+    give_fields(shape, options);
     return KANGAROO_OK;
 }
 

@@ -1,19 +1,20 @@
 /* Upkeep by threads of the library's own. They sleep until a lane is due, do one step of the lane that waits longest,
- * and put it behind the others where more of it is due. So there is no clock, and nobody wakes while nothing is due. */
+ * and put it after the others if more of it is due. So there is no clock, and nobody wakes while nothing is due. */
 #define _GNU_SOURCE
 #include "inside.h"
-#include <errno.h>
 #include <signal.h>
 #include <stdlib.h>
 
-enum { STEP_WAS_REFUSED_MEMORY = 3 };
+void init_lock(pthread_mutex_t *lock) {
+    pthread_mutex_init(lock, NULL);
+}
 
 kangaroo_status queue_open(due_queue *queue, uint32_t lane_count) {
     *queue = (due_queue){.room = lane_count};
     queue->numbers = calloc(lane_count, sizeof *queue->numbers);
     if (queue->numbers == NULL) return KANGAROO_NO_MEMORY;
-    pthread_mutex_init(&queue->lock, NULL); /* on Linux neither of these two is refused */
-    pthread_cond_init(&queue->is_wanted, NULL);
+    init_lock(&queue->lock);
+    pthread_cond_init(&queue->is_wanted, NULL); /* not refused either, for the same reason */
     return KANGAROO_OK;
 }
 
@@ -61,7 +62,7 @@ static void tend(kangaroo_cache *cache, uint32_t number) {
     kl_step step = {0};
     pthread_mutex_lock(&lane->lock);
     kl_upkeep_step(&lane->lane, &step);
-    lane->is_queued = step.is_due != 0 && step.did != STEP_WAS_REFUSED_MEMORY;
+    lane->is_queued = step.is_due != 0 && step.did != KL_MEMORY_WAS_REFUSED;
     if (lane->is_queued) enter(&cache->due, number);
     pthread_mutex_unlock(&lane->lock);
 }
@@ -92,16 +93,14 @@ static int start_one(kangaroo_cache *cache) {
     return 0;
 }
 
-kangaroo_status threads_start(kangaroo_cache *cache, uint32_t count) {
+outcome threads_start(kangaroo_cache *cache, uint32_t count) {
     sigset_t blocked, before;
     int cause = 0;
     signals_of_own_threads(&blocked);
     pthread_sigmask(SIG_SETMASK, &blocked, &before);
     while (cause == 0 && cache->thread_count < count) cause = start_one(cache);
     pthread_sigmask(SIG_SETMASK, &before, NULL);
-    if (cause == 0) return KANGAROO_OK;
-    errno = cause;
-    return refused_by_system();
+    return cause == 0 ? outcome_of(KANGAROO_OK) : refused_with(cause);
 }
 
 void threads_stop(kangaroo_cache *cache) {

@@ -212,7 +212,7 @@ static void do_upkeep(model *of, input *from) {
 
 /* A call that is refused, and changes nothing. */
 static void do_misuse(model *of, input *from) {
-    uint8_t bytes[KANGAROO_KEY_MAX + 1] = {0}, got[8];
+    uint8_t bytes[KANGAROO_KEY_MAX + 1] = {0}, got[8] = {0};
     kangaroo_hit hit;
     uint32_t taken;
     switch (take_byte(from) % 5) {

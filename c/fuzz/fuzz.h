@@ -12,7 +12,7 @@
 
 int LLVMFuzzerTestOneInput(const uint8_t *data, size_t length);
 
-__attribute__((unused)) static void expect(bool is_so, const char *what) {
+static inline void expect(bool is_so, const char *what) {
     if (is_so) return;
     fprintf(stderr, "fuzz: not so: %s\n", what);
     abort();
@@ -24,14 +24,14 @@ typedef struct input {
     size_t left;
 } input;
 
-__attribute__((unused)) static uint8_t take_byte(input *from) {
+static inline uint8_t take_byte(input *from) {
     if (from->left == 0) return 0;
     from->left--;
     return *from->at++;
 }
 
 /* A number below `bound`, which is at most 65,536. */
-__attribute__((unused)) static uint32_t take_below(input *from, uint32_t bound) {
+static inline uint32_t take_below(input *from, uint32_t bound) {
     uint32_t high = bound > 256 ? take_byte(from) : 0;
     return (high << 8 | take_byte(from)) % bound;
 }

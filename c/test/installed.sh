@@ -37,4 +37,11 @@ then
     echo "  FAILED: a put whose status is ignored is compiled without a warning"
     exit 1
 fi
-echo "  the compiler warns where the status of a put is ignored"
+echo "  the compiler warns if the status of a put is ignored"
+touch "$folder/prefix/lib/libother.a"
+${MAKE:-make} -s uninstall PREFIX="$folder/prefix"
+if [ "$(find "$folder/prefix" ! -type d)" != "$folder/prefix/lib/libother.a" ]; then
+    echo "  FAILED: uninstall left a file of the library, or took one that is not its own"
+    exit 1
+fi
+echo "  uninstall removes all files that install put, and no other"

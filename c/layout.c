@@ -1,0 +1,113 @@
+/* The layout of each struct that crosses between C and the lanes, as the repr(C) struct in Rattle has it. A difference
+ * stops the compiler. The numbers are written by hand, from the Rattle source that stands above them. There a u32 has 4
+ * bytes, and a u64, a usize or a pointer 8. Each field lies at the next multiple of its size. The file has no code. */
+#include "inside.h"
+
+/* Where a field lies, and how many bytes it has. */
+#define FIELD(type, field, at, bytes) \
+    _Static_assert(offsetof(type, field) == (at) && sizeof(((type *)0)->field) == (bytes), #type "." #field)
+/* How many bytes a struct has, and how it is aligned. */
+#define WHOLE(type, bytes, alignment) _Static_assert(sizeof(type) == (bytes) && alignof(type) == (alignment), #type)
+
+/* Handle, kangaroo_c/src/handle.rt: its field alloc has no bytes. */
+FIELD(kl_lane, at, 0, 8);
+WHOLE(kl_lane, 8, 8);
+
+/* LentPages, mapped_device/src/lent_pages.rt */
+FIELD(kl_pages, at, 0, 8);
+FIELD(kl_pages, count, 8, 4);
+WHOLE(kl_pages, 16, 8);
+
+/* Seed, c_lane/src/seed.rt */
+FIELD(kl_seed, first, 0, 8);
+FIELD(kl_seed, second, 8, 8);
+WHOLE(kl_seed, 16, 8);
+
+/* LaneShape, c_lane/src/lane_shape.rt: there memory_objects is memory, and log_objects is entries. */
+FIELD(kl_shape, shards, 0, 4);
+FIELD(kl_shape, lanes, 4, 4);
+FIELD(kl_shape, sets, 8, 4);
+FIELD(kl_shape, memory_objects, 12, 4);
+FIELD(kl_shape, segments, 16, 4);
+FIELD(kl_shape, segment_pages, 20, 4);
+FIELD(kl_shape, log_objects, 24, 4);
+FIELD(kl_shape, lease_slots, 28, 4);
+FIELD(kl_shape, threshold, 32, 4);
+FIELD(kl_shape, admit, 36, 4);
+WHOLE(kl_shape, 40, 4);
+
+/* WantedSizes, c_lane/src/wanted.rt */
+FIELD(kl_wanted, flash_bytes, 0, 8);
+FIELD(kl_wanted, memory_bytes, 8, 8);
+FIELD(kl_wanted, object_bytes, 16, 4);
+FIELD(kl_wanted, threads, 20, 4);
+WHOLE(kl_wanted, 24, 8);
+
+/* Sizes, c_lane/src/sizes.rt */
+FIELD(kl_sizes, file_bytes, 0, 8);
+FIELD(kl_sizes, lane_pages, 8, 8);
+FIELD(kl_sizes, memory_fixed, 16, 8);
+FIELD(kl_sizes, memory_full, 24, 8);
+FIELD(kl_sizes, memory_objects, 32, 8);
+FIELD(kl_sizes, log_objects, 40, 8);
+FIELD(kl_sizes, set_objects, 48, 8);
+WHOLE(kl_sizes, 56, 8);
+
+/* Hit, c_lane/src/hit.rt */
+FIELD(kl_hit, length, 0, 8);
+FIELD(kl_hit, tier, 8, 4);
+FIELD(kl_hit, reserved, 12, 4);
+WHOLE(kl_hit, 16, 8);
+
+/* Step, c_lane/src/step.rt */
+FIELD(kl_step, did, 0, 4);
+FIELD(kl_step, asked_device, 4, 4);
+FIELD(kl_step, is_due, 8, 4);
+WHOLE(kl_step, 12, 4);
+
+/* Place, c_lane/src/placing.rt */
+FIELD(kl_place, lane, 0, 4);
+FIELD(kl_place, word, 4, 4);
+WHOLE(kl_place, 8, 4);
+
+/* Counters, c_lane/src/counters.rt. The counters of a cache begin with them, in the same order. */
+#define COUNTER(field, index) \
+    FIELD(kl_counters, field, 8 * (index), 8); \
+    FIELD(kangaroo_counters, field, 8 * (index), 8)
+COUNTER(memory_hits, 0);
+COUNTER(log_hits, 1);
+COUNTER(set_hits, 2);
+COUNTER(absent, 3);
+COUNTER(expired, 4);
+COUNTER(unreadable, 5);
+COUNTER(damaged, 6);
+COUNTER(puts, 7);
+COUNTER(removes, 8);
+COUNTER(leases_given, 9);
+COUNTER(fills_stored, 10);
+COUNTER(fills_stale, 11);
+COUNTER(declined, 12);
+COUNTER(logged, 13);
+COUNTER(log_full, 14);
+COUNTER(index_full, 15);
+COUNTER(log_pages_written, 16);
+COUNTER(set_pages_written, 17);
+COUNTER(pages_read, 18);
+COUNTER(log_pages_lost, 19);
+COUNTER(sets_forgotten, 20);
+COUNTER(readmitted, 21);
+COUNTER(dropped, 22);
+COUNTER(segments_freed, 23);
+COUNTER(upkeep_steps, 24);
+COUNTER(put_steps, 25);
+COUNTER(upkeep_no_memory, 26);
+COUNTER(bytes_put, 27);
+COUNTER(memory_objects_now, 28);
+COUNTER(log_objects_now, 29);
+COUNTER(segments_now, 30);
+WHOLE(kl_counters, 31 * 8, 8);
+_Static_assert(offsetof(kangaroo_counters, short_buffers) == sizeof(kl_counters), "then come those that C counts");
+
+/* What a key's length, a value's length and an answer are: usize and i32 in the exports of kangaroo_c. */
+_Static_assert(sizeof(size_t) == 8 && sizeof(int32_t) == 4, "lengths and statuses");
+_Static_assert(sizeof(kangaroo_status) == sizeof(int32_t), "a status is what an export answers");
