@@ -13,7 +13,7 @@
 FIELD(kl_lane, at, 0, 8);
 WHOLE(kl_lane, 8, 8);
 
-/* LentPages, mapped_device/src/lent_pages.rt */
+/* LentPages, kangaroo_c/src/lent_pages.rt */
 FIELD(kl_pages, at, 0, 8);
 FIELD(kl_pages, count, 8, 4);
 WHOLE(kl_pages, 16, 8);
