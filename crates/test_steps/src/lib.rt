@@ -1,6 +1,5 @@
-//! What the tests of the tiers on flash have alike: keys and values that are made once more where memory was refused,
-//! what a look-up is to give, a device that loses what is written, one that knows which calls are to come, and a host that has
-//! no random numbers.
+//! What tests have alike: keys and values that are made once more if memory was refused, what a look-up is to give, a device
+//! that loses what is written, one that knows which calls are to come, and a host that has no random numbers.
 #![tactic(auto)]
 
 mod blank_device;
