@@ -9,6 +9,7 @@ use std::thread::Threads;
 use std::time::{Clock, Duration};
 
 /// A host that has no random numbers. All else is asked of another host.
+#[derive(Drop)]
 pub struct WithoutRandom<'a, R> {
     host: &'a R,
 }
