@@ -55,6 +55,7 @@ impl<'a, R: Clock> Clock for WithoutRandom<'a, R> {
 
 impl<'a, R: Files> Files for WithoutRandom<'a, R> {
     type File = R::File;
+
     type Dir = R::Dir;
 
     fn open_file(&self, how: &OpenOptions, path: &str) -> io::Result<R::File> {
