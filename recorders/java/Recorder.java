@@ -17,10 +17,8 @@ import java.util.regex.Pattern;
 public final class Recorder implements AutoCloseable {
     /** Sends a put and waits for its answer. It is given what it has to store, and throws if that was refused. */
     public interface Put<E extends Exception> { void store(byte[] stored) throws E; }
-
     /** Sends a removal and waits for its answer. It throws if that was refused. */
     public interface Remove<E extends Exception> { void remove() throws E; }
-
     /** Sends a get and waits for its answer. It returns what was found, or null, and throws if no answer came. */
     public interface Get<E extends Exception> { byte[] find() throws E; }
 
@@ -132,9 +130,7 @@ public final class Recorder implements AutoCloseable {
         Matcher tag = TAG.matcher(new String(value, 0, Math.min(value.length, 40), StandardCharsets.ISO_8859_1));
         return tag.find() ? tag.group() : "";
     }
-
     private static byte[] latin(String text) { return text.getBytes(StandardCharsets.ISO_8859_1); }
-
     private static String word(byte[] data) {
         StringBuilder coded = new StringBuilder(data.length == 0 ? "-" : "");
         for (byte b : data) {
@@ -143,7 +139,6 @@ public final class Recorder implements AutoCloseable {
         }
         return coded.toString();
     }
-
     private static String valueWord(byte[] value) throws Exception {
         String tag = tagOf(value);
         byte[] rest = Arrays.copyOfRange(value, tag.length(), value.length);

@@ -2,12 +2,7 @@
 
     with open("calls-1.txt", "wb", buffering=0) as out, Recorder(out) as recorder:
         with recorder.put("worker1", b"color", b"red") as call:     # START is read here
-            client.set(b"color", call.stored, noreply=False)        # wait for the answer
-        with recorder.get("worker1", b"color") as call:             # END is read at the end of the block
-            call.found = client.get(b"color")                       # None means a miss
-        use(call.value)                                             # what was found, without its tag
-        with recorder.remove("worker1", b"color"):
-            client.delete(b"color", noreply=False)
+            client.set(b"color", call.stored, noreply=False)        # wait for the answer; END is read after it
 
 No error of the recorder reaches the service: it stops recording, and counts the lines that it did not write."""
 import hashlib
