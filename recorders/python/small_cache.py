@@ -1,7 +1,6 @@
 """A small cache with threads, recorded: `python3 small_cache.py > calls.txt`, then `kangaroo judge calls.txt`.
 
 With `--near` each thread keeps a copy of what it read last, and reads it again without asking the cache: a stale read."""
-import io
 import random
 import sys
 import threading
@@ -46,26 +45,28 @@ class Near:
         self.cache.delete(key)
 
 
-def work(recorder, seed):
+def work(recorder, cache, caller, seed):
     chance = random.Random(seed)
     for number in range(200):
         key, kind = b"key %d" % chance.randrange(4), chance.random()
         if kind < 0.7:
-            recorder.get(key)
+            with recorder.get(caller, key) as call:
+                call.found = cache.get(key)
         elif kind < 0.95:
-            recorder.set(key, b"%d" % number)
+            with recorder.put(caller, key, b"%d" % number) as call:
+                cache.set(key, call.stored)
         else:
-            recorder.delete(key)
+            with recorder.remove(caller, key):
+                cache.delete(key)
         time.sleep(0.0001)  # let the others have their turns
 
 
 if __name__ == "__main__":
-    cache, outs = Cache(), [io.StringIO() for _ in range(4)]
-    clients = [Near(cache) if "--near" in sys.argv[1:] else cache for _ in outs]
-    recorders = [Recorder(client, "thread%d" % n, out) for n, (client, out) in enumerate(zip(clients, outs))]
-    threads = [threading.Thread(target=work, args=(recorder, n)) for n, recorder in enumerate(recorders)]
-    for thread in threads:
-        thread.start()
-    for thread in threads:
-        thread.join()
-    sys.stdout.write("".join(out.getvalue() for out in outs))
+    cache = Cache()
+    caches = [Near(cache) if "--near" in sys.argv[1:] else cache for _ in range(4)]
+    with Recorder(sys.stdout.buffer) as recorder:
+        threads = [threading.Thread(target=work, args=(recorder, it, "thread%d" % n, n)) for n, it in enumerate(caches)]
+        for thread in threads:
+            thread.start()
+        for thread in threads:
+            thread.join()

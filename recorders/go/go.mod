@@ -1,0 +1,3 @@
+module kangaroo/recorder
+
+go 1.19
