@@ -11,7 +11,6 @@ use std::rt::Files;
 use std::sync::Wait;
 use std::thread::Threads;
 use std::time::Clock;
-use test_steps::WithoutRandom;
 
 /// What a run ended with and wrote.
 #[derive(Drop)]
@@ -242,24 +241,6 @@ const NOWHERE: Row = Row {
 #[test]
 fn a_trace_that_can_not_be_made_is_a_file_fault(rt: HostRuntime) {
     assert!(rt; holds(&rt, &NOWHERE));
-}
-
-/// A run on a host that has no random numbers.
-const UNSEEDED: Row = Row {
-    words: &[
-        "k",
-        "run",
-        "--operations",
-        "100",
-        "--trace",
-        "unseeded.trace",
-    ],
-    ends: Ends::Refused(3, b"file fault\nno random numbers: permission denied\n"),
-};
-
-#[test]
-fn no_run_is_judged_without_random_numbers(rt: HostRuntime) {
-    assert!(rt; holds(&WithoutRandom::new(&rt), &UNSEEDED) && !is_removed(&rt, "unseeded.trace"));
 }
 
 /// A run that is told as JSON.

@@ -2,7 +2,7 @@
 use Rattle.std.proofs.Common.{arith}
 use Rattle.std.proofs.lemmas.Grind.{common_steps}
 use Rattle.latencies.specs.Cells.{top_of}
-use Rattle.load_tests.proofs.tests.served.times.half_of_two.Goals as goal
+use Rattle.serve_load_tests.proofs.tests.times.half_of_two.Goals as goal
 
 pub returns : goal.returns
 unfolding top_of

@@ -13,7 +13,6 @@ use std::sync::Wait;
 use std::test::Fail;
 use std::thread::Threads;
 use std::time::Clock;
-use test_steps::WithoutRandom;
 
 /// What a load ended with and wrote.
 #[derive(Drop)]
@@ -74,10 +73,6 @@ const RIGHT: &[u8] =
 const WRONG: &[u8] =
     b"\nrefused 0\nwrong-hits 1\nno history was recorded, so nothing was judged beyond each caller's check of the hits of its own keys\n";
 
-/// What is told where the host has no random numbers.
-const UNSEEDED: &[u8] =
-    b"file fault\nno random numbers: permission denied\nthey are the seed of the cache: try again\n";
-
 /// Whether a load made so many operations and met no wrong hit: its report says so, and nothing went to the other output.
 fn is_right(ran: &Ran, operations: &[u8]) -> bool {
     ran.status == 0
@@ -114,14 +109,6 @@ const SMALL: &[&str] = &[
 fn a_load_of_small_lanes_meets_no_wrong_hit(rt: HostRuntime) -> Result<(), Fail> {
     let load = load_of(rt.alloc(), SMALL).ok_or("a load")?;
     assert!(rt; is_right(&run_of(&rt, &load), b"operations 12000\nseconds "));
-    Ok(())
-}
-
-#[test]
-fn no_load_is_served_without_random_numbers(rt: HostRuntime) -> Result<(), Fail> {
-    let load = load_of(rt.alloc(), SMALL).ok_or("a load")?;
-    let ran = run_of(&WithoutRandom::new(&rt), &load);
-    assert!(rt; ran.status == 3 && ran.out.is_empty() && ran.err.as_slice() == UNSEEDED);
     Ok(())
 }
 

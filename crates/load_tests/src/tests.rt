@@ -1,2 +1,0 @@
-mod recorded;
-mod served;
