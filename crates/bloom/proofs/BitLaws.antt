@@ -7,7 +7,7 @@ use Rattle.std.proofs.lemmas.Nat.Bits.{bit_at_set_same, bit_at_set_other}
 use Rattle.std.proofs.lemmas.Grind.{get_or-set_at}
 use Rattle.std.specs.Int.{bit_at}
 use Rattle.std.specs.FinSet.{contains}
-use Rattle.bit_laws.proofs.PassingLaws.{contains-passing_below}
+use Rattle.record_pages.proofs.public_laws.PassingLaws.{contains-passing_below}
 use Rattle.bloom.specs.Filter.{has_bit, set_bits}
 
 -- a bit of another word

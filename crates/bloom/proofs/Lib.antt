@@ -1,2 +1,2 @@
-pub mod BitLaws
-pub mod FilterLaws
+mod BitLaws
+pub mod public_laws

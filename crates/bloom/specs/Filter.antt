@@ -4,7 +4,7 @@ use Rattle.std.specs.List.{list_all, concat}
 use Rattle.std.specs.Int.{bit_at}
 use Rattle.std.specs.Ordering.{nat_cmp}
 use Rattle.std.specs.FinSet.{FinSet, contains, union, from_list}
-use Rattle.bit_laws.specs.Passing.{passing_below}
+use Rattle.record_pages.specs.Passing.{passing_below}
 
 -- the bit with this number, 64 of them a word, is one
 abbrev pub has_bit : List ℕ → ℕ → Bool

@@ -5,7 +5,7 @@ use Rattle.std.proofs.lemmas.List.{append-nil}
 use Rattle.trace_file.specs.declared.trace_fault.TraceFault.{TraceFault}
 use Rattle.trace_file.specs.declared.trace_fault.TraceFault.TheVariants.{OutOfMemory}
 use Rattle.trace_file.specs.Reading.{outcome_of, first_fault_of}
-use Rattle.trace_file.proofs.Readings.{fault_is}
+use Rattle.trace_file.proofs.public_laws.Readings.{fault_is}
 
 -- the fault that was met in bytes that are fed first is what they give, whole
 pub fault_of_fed : (fed : Result (List ℕ) TraceFault) (bytes : List ℕ) (f : TraceFault) → fed ≡ Ok [] →

@@ -3,7 +3,7 @@ use Rattle.std.proofs.Common.{◌≡◌, ℕ, [], ap, ◌∙◌}
 use Rattle.record_pages.specs.declared.layout.Layout.{Layout}
 use Rattle.key_hash.specs.declared.random_seed.RandomSeed.{RandomSeed}
 use Rattle.key_hash.specs.Hashing.{derived}
-use Rattle.lane_devices.specs.Counting.{CountedDevice, no_device_counts}
+use Rattle.page_device.specs.Counting.{CountedDevice, no_device_counts}
 use Rattle.rand_pcg.specs.Lcg.{Lcg}
 use Rattle.mover.specs.Store.{opening}
 use Rattle.service_lane.specs.Counting.{no_counts}

@@ -3,7 +3,7 @@ use Rattle.std.proofs.Common.{◌≡◌, ℕ, List, Result, Ok, ap, subst, ◌�
 use Rattle.record_pages.specs.declared.pushed.Pushed.{Pushed}
 use Rattle.rand_pcg.specs.Lcg.{Lcg}
 use Rattle.rand_pcg.specs.Pcg.{pcg32}
-use Rattle.lane_devices.specs.Counting.{CountedDevice}
+use Rattle.page_device.specs.Counting.{CountedDevice}
 use Rattle.memory_cache.specs.declared.pair.Pair.{Pair}
 use Rattle.service_lane.specs.declared.filled.Filled.{Filled}
 use Rattle.service_lane.specs.declared.filled.Filled.TheVariants.{Stored, Stale}

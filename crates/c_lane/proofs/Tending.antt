@@ -1,7 +1,7 @@
 -- What a step of upkeep is to callers in C.
 use Rattle.std.proofs.Common.{◌≡◌, Bool, false, refl, ap, ◌∙◌}
 use Rattle.std.specs.Prelude.{is_some}
-use Rattle.lane_devices.specs.Counting.{CountedDevice}
+use Rattle.page_device.specs.Counting.{CountedDevice}
 use Rattle.rriparoo.specs.Rriparoo.{rriparoo_plan}
 use Rattle.service_lane.specs.declared.upkept.Upkept.{Upkept}
 use Rattle.service_lane.specs.Serving.{Serving}

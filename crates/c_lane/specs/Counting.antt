@@ -2,7 +2,7 @@
 use Rattle.std.specs.Prelude.{ℕ, ◌+◌, ◌-◌, ◌%◌, ◌^◌, length}
 use Rattle.klog.specs.declared.log_usage.LogUsage.{LogUsage}
 use Rattle.klog.specs.Usage.{usage_of}
-use Rattle.lane_devices.specs.declared.device_counts.DeviceCounts.{DeviceCounts}
+use Rattle.page_device.specs.declared.device_counts.DeviceCounts.{DeviceCounts}
 use Rattle.service_lane.specs.declared.counts.Counts.{Counts}
 use Rattle.c_lane.specs.declared.counters.Counters.{Counters}
 use Rattle.c_lane.specs.Lane.{LaneState}

@@ -10,7 +10,7 @@ use Rattle.service_lane.specs.Counting.{with_given}
 use Rattle.c_lane.specs.declared.hit.Hit.{Hit as Told}
 use Rattle.c_lane.specs.declared.status.Status.{Status}
 use Rattle.c_lane.specs.declared.status.Status.TheVariants as statuses
-use Rattle.lane_devices.specs.Counting.{CountedDevice}
+use Rattle.page_device.specs.Counting.{CountedDevice}
 use Rattle.c_lane.specs.Lane.{LaneState, Laws, page_bytes, honest_in, failures_in, held_in}
 use Rattle.c_lane.specs.Statuses.{status_of_miss}
 use Rattle.c_lane.specs.Copying.{copy_status, copied_into}

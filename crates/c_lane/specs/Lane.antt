@@ -1,7 +1,7 @@
 -- A lane as C has it, and the device that it is over.
 use Rattle.std.specs.Prelude.{ℕ, List, Option, Bool}
 use Rattle.rand_pcg.specs.Lcg.{Lcg}
-use Rattle.lane_devices.specs.Counting.{CountedDevice}
+use Rattle.page_device.specs.Counting.{CountedDevice}
 use Rattle.service_lane.specs.Serving.{Serving}
 
 -- a lane that serves over a device that counts what it is asked, and the generator of its words of admission

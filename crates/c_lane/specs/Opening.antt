@@ -3,7 +3,7 @@ use Rattle.std.specs.Prelude.{◌≡◌, ◌≤◌, ℕ, [], None}
 use Rattle.record_pages.specs.Asked.{HasNumbersOf}
 use Rattle.record_pages.specs.declared.layout.Layout.{Layout}
 use Rattle.cache_sizes.specs.Shapes.{file_pages}
-use Rattle.lane_devices.specs.Counting.{no_device_counts}
+use Rattle.page_device.specs.Counting.{no_device_counts}
 use Rattle.key_hash.specs.Hashing.{derived}
 use Rattle.mover.specs.Store.{opening}
 use Rattle.service_lane.specs.Counting.{no_counts}

@@ -3,7 +3,7 @@ ghost use Rattle.std.specs.Prelude.{◌≡◌, ◌≤◌};
 ghost use Rattle.c_lane.specs.Counting.{counters_with};
 
 use klog::LogUsage;
-use lane_devices::DeviceCounts;
+use page_device::DeviceCounts;
 use service_lane::Counts;
 
 /// Counts of a lane since it was opened, each modulo 2^64, and at the end numbers of the present.

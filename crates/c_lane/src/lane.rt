@@ -6,13 +6,12 @@ use crate::counters::Counters;
 use crate::lane_shape::LaneShape;
 use crate::seed::Seed;
 use crate::status::Status;
-use lane_devices::{Boxed, Counted};
-use page_device::PageDevice;
+use page_device::{Boxed, Counted, PageDevice};
 use rand_pcg::Lcg64Xsh32;
+use record_pages::{Layout, ValueBuffer};
 use service_lane::{ServiceLane, words_of};
 use std::alloc::{AllocError, Global};
 use std::marker::Model;
-use value_buffer::ValueBuffer;
 
 mod get;
 mod put;
@@ -96,8 +95,6 @@ impl<D: PageDevice<4096>> CLane<D> {
 
 ghost use Rattle.std.specs.Prelude.{MatchOption};
 ghost use Rattle.c_lane.specs.Shapes.{IsLayoutOf};
-
-use record_pages::Layout;
 
 // The layout of each shard of a shape whose numbers are in their ranges, where so many pages are enough for a lane.
 fn fitting(shape: &LaneShape, pages: u32) -> Option<Layout>

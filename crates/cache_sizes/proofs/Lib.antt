@@ -1,3 +1,3 @@
-pub mod DividingLaws
-pub mod FaultLaws
-pub mod ShapeLaws
+mod DividingLaws
+mod FaultLaws
+mod ShapeLaws

@@ -17,10 +17,10 @@ use Rattle.certificate_checker.specs.Latest.{IsLive}
 use Rattle.certificate_checker.specs.Current.{current, given_at}
 use Rattle.certificate_checker.specs.Acceptance.{IsAccepted}
 use Rattle.certificate_checker.specs.Faults.{HasFault, IsFirstFault, IsRight, IsBefore, IsFirstOfPlaces, tested_at, moment, earlier_calls, call_at, Moment}
-use Rattle.certificate_checker.proofs.Lookups.{contains_from_any, any_from_contains}
-use Rattle.certificate_checker.proofs.Laying.{cases_before}
+use Rattle.certificate_checker.proofs.public_laws.Lookups.{contains_from_any, any_from_contains}
+use Rattle.certificate_checker.proofs.public_laws.Laying.{cases_before}
 use Rattle.certificate_checker.proofs.Passing.{nothing_at, none_before}
-use Rattle.certificate_checker.proofs.Accepting.{told, accepted}
+use Rattle.certificate_checker.proofs.public_laws.Accepting.{told, accepted}
 
 -- ---- whether a fault is there
 

@@ -1,12 +1,3 @@
-pub mod Lookups
-pub mod LatestLemmas
-pub mod Passing
-pub mod Accepting
-pub mod Growing
-pub mod Listing
-pub mod Laying
-pub mod LaneLemmas
-pub mod LaneEnds
-pub mod Layouts
-pub mod Deciding
-pub mod Judging
+mod Passing
+mod Deciding
+pub mod public_laws

@@ -19,8 +19,8 @@ use Rattle.certificate_checker.specs.Values.{IsAllowed}
 use Rattle.certificate_checker.specs.Current.{after_deed, given_at}
 use Rattle.certificate_checker.specs.Deeds.{deed_of}
 use Rattle.certificate_checker.specs.Faults.{HasFault, IsRight, IsBefore, IsFirstOfPlaces, tested_at, moment, call_at}
-use Rattle.certificate_checker.proofs.Lookups.{some_and, and_some, take_next, in_order_next, contains_from_any, any_from_contains, call_at_is}
-use Rattle.certificate_checker.proofs.LatestLemmas.{latest_of, latest_of-push, live_found, live_is}
+use Rattle.certificate_checker.proofs.public_laws.Lookups.{some_and, and_some, take_next, in_order_next, contains_from_any, any_from_contains, call_at_is}
+use Rattle.certificate_checker.proofs.public_laws.LatestLemmas.{latest_of, latest_of-push, live_found, live_is}
 
 pub record Passed (history : List Call) (certificate : List ℕ) (place : ℕ) (seen : List Bool) (greatest : ℕ) (value_at : List ℕ → Option TimedValue) : Type 0 where
   -- the places so far are right

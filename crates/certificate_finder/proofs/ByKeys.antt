@@ -9,7 +9,7 @@ use Rattle.trace_file.specs.declared.act.Act.TheVariants.{Put, Remove, Hit, Miss
 use Rattle.certificate_checker.specs.Current.{after_deed, current, given_at}
 use Rattle.certificate_checker.specs.Deeds.{Deed}
 use Rattle.certificate_checker.specs.Latest.{IsWrite, IsLive, IsLawful}
-use Rattle.certificate_checker.proofs.LatestLemmas.{deed_kept, live_found, live_is}
+use Rattle.certificate_checker.proofs.public_laws.LatestLemmas.{deed_kept, live_found, live_is}
 use Rattle.certificate_finder.specs.Spots.{is_miss, is_of}
 
 -- ---- tests

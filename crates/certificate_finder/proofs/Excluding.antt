@@ -9,9 +9,9 @@ use Rattle.certificate_checker.specs.Acceptance.{IsAccepted}
 use Rattle.certificate_checker.specs.Deeds.{deed_of}
 use Rattle.certificate_checker.specs.Latest.{Writes}
 use Rattle.certificate_checker.specs.Orders.{Precedes}
-use Rattle.certificate_checker.proofs.Laying.{cases_before}
-use Rattle.certificate_checker.proofs.Listing.{member_contained, member_map, all_member}
-use Rattle.certificate_checker.proofs.Lookups.{some_and}
+use Rattle.certificate_checker.proofs.public_laws.Laying.{cases_before}
+use Rattle.certificate_checker.proofs.public_laws.Listing.{member_contained, member_map, all_member}
+use Rattle.certificate_checker.proofs.public_laws.Lookups.{some_and}
 use Rattle.certificate_finder.specs.declared.excluded.Excluded.{Excluded}
 use Rattle.certificate_finder.specs.declared.excluded.Excuse.{Excuse}
 use Rattle.certificate_finder.specs.declared.excluded.Excuse.TheVariants.{Later, Expired, Replaced}

@@ -12,7 +12,7 @@ use Rattle.trace_file.specs.declared.call.Call.{Call}
 use Rattle.certificate_checker.specs.Deeds.{deed_of}
 use Rattle.certificate_checker.specs.Latest.{IsWrite, Writes}
 use Rattle.certificate_checker.specs.Orders.{Precedes}
-use Rattle.certificate_checker.proofs.Lookups.{and_some}
+use Rattle.certificate_checker.proofs.public_laws.Lookups.{and_some}
 use Rattle.certificate_finder.specs.declared.excluded.Excluded.{Excluded}
 use Rattle.certificate_finder.specs.declared.excluded.Excuse.{Excuse}
 use Rattle.certificate_finder.specs.declared.excluded.Excuse.TheVariants.{Later, Expired, Replaced}

@@ -1,29 +1,29 @@
-pub mod ByKeys
-pub mod CrossingLemmas
-pub mod Excluding
-pub mod Lines
-pub mod Listing
-pub mod Merging
-pub mod NumberLemmas
-pub mod Placing
-pub mod Points
-pub mod PutLemmas
-pub mod Ranking
-pub mod Reading
-pub mod WriteLemmas
-pub mod Zones
-pub mod StepLemmas
-pub mod OwnLemmas
-pub mod ExcludingLemmas
-pub mod EndLemmas
-pub mod ZoneLemmas
-pub mod FindLemmas
-pub mod TurnLemmas
-pub mod SpotLemmas
-pub mod FoundLemmas
-pub mod Settling
-pub mod BestLemmas
-pub mod ReadingLemmas
-pub mod TreeLemmas
-pub mod LeafLemmas
-pub mod AskLemmas
+mod ByKeys
+mod CrossingLemmas
+mod Excluding
+mod Lines
+mod Listing
+mod Merging
+mod NumberLemmas
+mod Placing
+mod Points
+mod PutLemmas
+mod Ranking
+mod Reading
+mod WriteLemmas
+mod Zones
+mod StepLemmas
+mod OwnLemmas
+mod ExcludingLemmas
+mod EndLemmas
+mod ZoneLemmas
+mod FindLemmas
+mod TurnLemmas
+mod SpotLemmas
+mod FoundLemmas
+mod Settling
+mod BestLemmas
+mod ReadingLemmas
+mod TreeLemmas
+mod LeafLemmas
+mod AskLemmas

@@ -8,8 +8,8 @@ use Rattle.trace_file.specs.declared.call.Call.{Call}
 use Rattle.certificate_checker.specs.Deeds.{Deed, deed_of}
 use Rattle.certificate_checker.specs.Latest.{Writes, IsLive, IsLawful}
 use Rattle.certificate_checker.specs.Orders.{IsOrder, in_order}
-use Rattle.certificate_checker.proofs.Laying.{picked-map}
-use Rattle.certificate_checker.proofs.Listing.{Member, Pairs, member_either, member_left, member_right, member_map, member_picked, member_contained, member_all, pairs_from}
+use Rattle.certificate_checker.proofs.public_laws.Laying.{picked-map}
+use Rattle.certificate_checker.proofs.public_laws.Listing.{Member, Pairs, member_either, member_left, member_right, member_map, member_picked, member_contained, member_all, pairs_from}
 use Rattle.certificate_finder.specs.Turns.{IsHit, WritesAt, AreTurns}
 use Rattle.certificate_finder.proofs.Reading.{parted, found_mapped}
 

@@ -14,8 +14,8 @@ use Rattle.certificate_checker.specs.Acceptance.{IsAccepted}
 use Rattle.certificate_checker.specs.Deeds.{deed_of}
 use Rattle.certificate_checker.specs.Latest.{IsLawful}
 use Rattle.certificate_checker.specs.Orders.{Precedes, IsOrder, in_order, Agrees}
-use Rattle.certificate_checker.proofs.Listing.{Member, Pairs, member_map, member_contained, all_member, contained_member, member_filter, filter_member, pairs_from, pairs_to, pairs_weaker, pairs_both, pairs_map, map_pairs, pairs_filter, pairs_picked, same_in_order}
-use Rattle.certificate_checker.proofs.Lookups.{some_and}
+use Rattle.certificate_checker.proofs.public_laws.Listing.{Member, Pairs, member_map, member_contained, all_member, contained_member, member_filter, filter_member, pairs_from, pairs_to, pairs_weaker, pairs_both, pairs_map, map_pairs, pairs_filter, pairs_picked, same_in_order}
+use Rattle.certificate_checker.proofs.public_laws.Lookups.{some_and}
 use Rattle.certificate_finder.specs.Spots.{HappensAt, is_of, is_at, AreOfOne}
 use Rattle.certificate_finder.proofs.ByKeys.{each_key, all_keys}
 

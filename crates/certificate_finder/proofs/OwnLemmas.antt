@@ -19,7 +19,7 @@ use Rattle.certificate_finder.specs.Owning.{AreOwners, IsNoted, IsOwned, IsOwner
 use Rattle.certificate_finder.specs.Putting.{ArePuts, CanRead, EndsOver, GivesAt, Putting, TellsPut}
 use Rattle.certificate_finder.specs.Readings.{Says}
 use Rattle.certificate_finder.specs.Steps.{IsFit}
-use Rattle.certificate_checker.proofs.Laying.{cases_before}
+use Rattle.certificate_checker.proofs.public_laws.Laying.{cases_before}
 use Rattle.certificate_finder.proofs.Listing.{all_at, index_of, pair_at, same_at}
 use Rattle.certificate_finder.proofs.StepLemmas.{at_front, at_push}
 

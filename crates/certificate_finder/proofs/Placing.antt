@@ -8,9 +8,9 @@ use Rattle.trace_file.specs.declared.call.Call.{Call}
 use Rattle.certificate_checker.specs.Acceptance.{IsAccepted}
 use Rattle.certificate_checker.specs.Deeds.{deed_of}
 use Rattle.certificate_checker.specs.Orders.{IsOrder}
-use Rattle.certificate_checker.proofs.Accepting.{found_at}
-use Rattle.certificate_checker.proofs.Listing.{pairs_from}
-use Rattle.certificate_checker.proofs.Lookups.{and_some}
+use Rattle.certificate_checker.proofs.public_laws.Accepting.{found_at}
+use Rattle.certificate_checker.proofs.public_laws.Listing.{pairs_from}
+use Rattle.certificate_checker.proofs.public_laws.Lookups.{and_some}
 use Rattle.certificate_finder.specs.Points.{ArePoints}
 use Rattle.certificate_finder.specs.Spots.{is_miss, is_of, is_at, AreOfOne, HappensAt}
 use Rattle.certificate_finder.specs.Turns.{AreTurns, start_at, end_at}

@@ -13,9 +13,9 @@ use Rattle.certificate_checker.specs.Acceptance.{IsAccepted}
 use Rattle.certificate_checker.specs.Deeds.{Deed, deed_of}
 use Rattle.certificate_checker.specs.Latest.{IsWrite, Writes, IsLive}
 use Rattle.certificate_checker.specs.Orders.{Precedes, in_order}
-use Rattle.certificate_checker.proofs.Laying.{picked-map, cases_before}
-use Rattle.certificate_checker.proofs.Layouts.{picked_pairs}
-use Rattle.certificate_checker.proofs.Listing.{Member, member_at, picked_member, member_contained, place_of, all_member, pairs_from, pairs_at}
+use Rattle.certificate_checker.proofs.public_laws.Laying.{picked-map, cases_before}
+use Rattle.certificate_checker.proofs.public_laws.Layouts.{picked_pairs}
+use Rattle.certificate_checker.proofs.public_laws.Listing.{Member, member_at, picked_member, member_contained, place_of, all_member, pairs_from, pairs_at}
 use Rattle.certificate_finder.specs.Reads.{StandsBetween, HasBegun, CouldRead}
 
 -- ---- lists

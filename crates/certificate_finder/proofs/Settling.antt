@@ -10,9 +10,9 @@ use Rattle.trace_file.specs.declared.call.Call.{Call}
 use Rattle.certificate_checker.specs.Deeds.{deed_of}
 use Rattle.certificate_checker.specs.Latest.{Writes}
 use Rattle.certificate_checker.specs.Orders.{Precedes}
-use Rattle.certificate_checker.proofs.Laying.{cases_before}
-use Rattle.certificate_checker.proofs.Listing.{all_member, member_contained, member_map}
-use Rattle.certificate_checker.proofs.Lookups.{some_and}
+use Rattle.certificate_checker.proofs.public_laws.Laying.{cases_before}
+use Rattle.certificate_checker.proofs.public_laws.Listing.{all_member, member_contained, member_map}
+use Rattle.certificate_checker.proofs.public_laws.Lookups.{some_and}
 use Rattle.certificate_finder.specs.declared.excluded.Excluded.{Excluded}
 use Rattle.certificate_finder.specs.declared.step.Step.{Step}
 use Rattle.certificate_finder.specs.declared.witness.Side.{Side}

@@ -13,7 +13,7 @@ use Rattle.trace_file.specs.declared.act.Act.TheVariants.{Put, Remove, Hit, Miss
 use Rattle.trace_file.specs.declared.call.Call.{Call}
 use Rattle.certificate_checker.specs.Acceptance.{IsAccepted}
 use Rattle.certificate_checker.specs.Orders.{IsOrder}
-use Rattle.certificate_checker.proofs.Lookups.{take_next}
+use Rattle.certificate_checker.proofs.public_laws.Lookups.{take_next}
 use Rattle.certificate_finder.specs.declared.kind.Kind.TheVariants as kinds
 use Rattle.certificate_finder.specs.declared.ranked.Ranked.{Ranked}
 use Rattle.certificate_finder.specs.declared.step.Step.{Step}

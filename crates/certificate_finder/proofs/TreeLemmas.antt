@@ -4,7 +4,7 @@ use Rattle.std.specs.Prelude.{All, slice_get, slice_index}
 use Rattle.std.proofs.Math.Pow.{pow_mono}
 use Rattle.std.proofs.lemmas.Bool.{cases_eq}
 use Rattle.std.proofs.lemmas.Grind.{pow_more}
-use Rattle.certificate_checker.proofs.Laying.{cases_before}
+use Rattle.certificate_checker.proofs.public_laws.Laying.{cases_before}
 use Rattle.certificate_finder.specs.declared.best.Best.{Best}
 use Rattle.certificate_finder.specs.declared.best.Best.TheVariants.{Empty}
 use Rattle.certificate_finder.specs.declared.put.Put.{Put}

@@ -7,7 +7,7 @@ use Rattle.trace_file.specs.declared.call.Call.{Call}
 use Rattle.certificate_checker.specs.Deeds.{deed_of}
 use Rattle.certificate_checker.specs.Latest.{Writes}
 use Rattle.certificate_checker.specs.Orders.{Precedes, IsOrder}
-use Rattle.certificate_checker.proofs.Lookups.{and_some}
+use Rattle.certificate_checker.proofs.public_laws.Lookups.{and_some}
 use Rattle.certificate_finder.specs.declared.witness.Side.{Side}
 use Rattle.certificate_finder.specs.Spots.{is_at, AreOfOne}
 use Rattle.certificate_finder.specs.Turns.{start_at, end_at}

@@ -1,4 +1,4 @@
-pub mod FoundLaws
-pub mod Refusals
-pub mod CommandLaws
-pub mod AskedFiles
+mod FoundLaws
+mod Refusals
+mod CommandLaws
+mod AskedFiles

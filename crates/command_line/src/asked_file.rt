@@ -7,8 +7,9 @@ use crate::line::Line;
 use crate::line_fault::LineFault;
 use crate::telling::no_file;
 use clap::ArgMatches;
-use file_requests::{CheckRequest, FileName, JudgeRequest, ShowRequest};
+use judge_run::{CheckRequest, JudgeRequest, ShowRequest};
 use std::alloc::{AllocError, Global};
+use trace_file::FileName;
 
 /// The file that was found for an option; none where none is given.
 pub(crate) fn file_found<'a>(

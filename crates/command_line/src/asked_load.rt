@@ -8,9 +8,9 @@ use crate::line::Line;
 use crate::line_fault::LineFault;
 use crate::telling::{Loading, no_bytes, no_number, usage};
 use clap::ArgMatches;
-use file_requests::FileName;
 use load::{SERVED_SETTINGS, SETTINGS, Setting, SizeSetting, load_with, served_with};
 use std::alloc::Global;
+use trace_file::FileName;
 
 /// The number of a setting; none where what was found for it is no number in its range.
 fn number_of<'a>(found: &ArgMatches<'a>, setting: Setting) -> Option<u32>

@@ -1,5 +1,5 @@
 // What the command line asks for.
-use file_requests::{CheckRequest, JudgeRequest, ShowRequest};
+use judge_run::{CheckRequest, JudgeRequest, ShowRequest};
 use load::{Load, ServedLoad};
 
 /// What the words of the command line ask for.

@@ -1,3 +1,3 @@
-pub mod Beginnings
-pub mod Adding
-pub mod Stepping
+mod Beginnings
+mod Adding
+mod Stepping

@@ -1,3 +1,3 @@
-pub mod Sounding
-pub mod Remembering
-pub mod Serves
+mod Remembering
+mod Serves
+pub mod public_laws

@@ -41,9 +41,9 @@ use Rattle.mover.specs.declared.committed.Committed.{Committed}
 use Rattle.mover.specs.declared.committed.Committed.TheVariants as committed
 use Rattle.mover.specs.declared.moved.Moved.{Moved}
 use Rattle.mover.specs.declared.moved.Moved.TheVariants as moved
-use Rattle.mover.proofs.Keeping.{all_fronted}
-use Rattle.mover.proofs.Listing.{in_take, split}
-use Rattle.mover.proofs.Showing.{without_key}
+use Rattle.mover.proofs.public_laws.Keeping.{all_fronted}
+use Rattle.mover.proofs.public_laws.Listing.{in_take, split}
+use Rattle.mover.proofs.public_laws.Showing.{without_key}
 use Rattle.deeds.specs.Asked.{AreCurrent}
 
 -- ---- moves leave memory as it was

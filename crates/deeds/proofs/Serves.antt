@@ -13,15 +13,15 @@ use Rattle.trace_file.specs.declared.act.Act.TheVariants.{Put, Remove, Hit, Miss
 use Rattle.certificate_checker.specs.Deeds.{Deed}
 use Rattle.certificate_checker.specs.Current.{current}
 use Rattle.certificate_checker.specs.Latest.{IsLive}
-use Rattle.certificate_checker.proofs.Growing.{lawful-push}
+use Rattle.certificate_checker.proofs.public_laws.Growing.{lawful-push}
 use Rattle.mover.specs.Store.{StoreState, opening}
 use Rattle.mover.specs.Lane.{lane_of}
 use Rattle.mover.specs.Laws.{IsInOrder, StepsInOrder, OpeningShowsNothing, GetShows}
 use Rattle.mover.specs.Visible.{IsShown, TellsVisible}
 use Rattle.deeds.specs.Sound.{act_of}
-use Rattle.deeds.proofs.Sounding.{no_deed, reads, put_gives, sound_by, sound_put, sound_remove, none_some, hit_is, still_in_order}
+use Rattle.deeds.proofs.public_laws.Sounding.{no_deed, reads, put_gives, sound_by, sound_put, sound_remove, none_some, hit_is, still_in_order}
 use Rattle.deeds.specs.Asked.{Asked, IsServed, IsLiveHit}
-use Rattle.certificate_checker.proofs.LatestLemmas.{current-push, deed_kept, live_is, live_found}
+use Rattle.certificate_checker.proofs.public_laws.LatestLemmas.{current-push, deed_kept, live_is, live_found}
 use Rattle.certificate_checker.specs.Current.{given_at}
 use Rattle.record_pages.specs.Expiry.{value_at}
 use Rattle.record_pages.specs.declared.timed_value.TimedValue.{TimedValue}
@@ -30,7 +30,7 @@ use Rattle.memory_cache.specs.Laws.{FoundIsHeld}
 use Rattle.mover.specs.Get.{answer_by}
 use Rattle.mover.specs.Calls.{StoreGets}
 use Rattle.deeds.proofs.Remembering.{IsFewer, fewer_got, current_put, current_removed}
-use Rattle.mover.proofs.Beginning.{same_lane_held}
+use Rattle.mover.proofs.public_laws.Beginning.{same_lane_held}
 
 -- ---- what deeds give
 

@@ -7,9 +7,8 @@ ghost use Rattle.trace_file.specs.Lent.{act_shown};
 ghost use Rattle.deeds.specs.Sound.{act_of};
 
 use mover::Seen;
-use record_pages::Answer;
+use record_pages::{Answer, ValueBuffer};
 use trace_file::ActRef;
-use value_buffer::ValueBuffer;
 
 /// What an answer to a get of a moment does, lent.
 pub fn act_lent(answer: &Answer, moment: u64) -> ActRef<'_>

@@ -1,10 +1,10 @@
-pub mod ChainLaws
-pub mod PoolLaws
-pub mod Moves
-pub mod LinkLaws
-pub mod Written
-pub mod Sound
-pub mod Settled
-pub mod Marks
-pub mod BackLaws
-pub mod FreshLaws
+mod ChainLaws
+mod PoolLaws
+mod Moves
+mod LinkLaws
+mod Written
+mod Sound
+mod Settled
+mod Marks
+mod FreshLaws
+pub mod public_laws

@@ -17,7 +17,7 @@ use Rattle.history_recorder.specs.declared.reply.Reply.{Reply}
 use Rattle.history_recorder.specs.declared.reply.Reply.TheVariants as replies
 use Rattle.history_recorder.specs.Operations.{lane_of, act_done, calls_with}
 use Rattle.history_recorder.specs.Books.{Books, AreKept, HasStarted, IsDoneBy, opening_books, noted_of, lane_at, booked, ended_at, with_call, with_end, drawn, after_act, after_act_in, after_end_in, after_event, after_noted}
-use Rattle.history_recorder.proofs.Indexing.{all_set, all_then, at_or, set_nothing, map_has}
+use Rattle.history_recorder.proofs.public_laws.Indexing.{all_set, all_then, at_or, set_nothing, map_has}
 
 -- ---- numbers rise
 

@@ -4,7 +4,7 @@ use Rattle.std.specs.Prelude.{Any}
 use Rattle.std.proofs.lemmas.Bool.{cases_eq}
 use Rattle.std.proofs.lemmas.List.{length-map, get_or-map, get_or_default}
 use Rattle.std.proofs.lemmas.Option.{slice_get-get_or, slice_get_within, get_or_from_slice_get}
-use Rattle.history_recorder.proofs.Indexing.{map_has}
+use Rattle.history_recorder.proofs.public_laws.Indexing.{map_has}
 
 module _ {X : Type 0} (f : X → ℕ) (n : ℕ) (xs : List X) where
   -- one more of the first is not below

@@ -16,7 +16,7 @@ use Rattle.recorded_lane.specs.Lane.{IsOfLane, deeds_of}
 use Rattle.history_recorder.specs.declared.booked.Booked.{Booked}
 use Rattle.history_recorder.specs.Books.{Books, IsDoneBy, noted_of, closed, dones}
 use Rattle.history_recorder.specs.Game.{IsGame, IsWellKept, AreHonest}
-use Rattle.history_recorder.proofs.Indexing.{all_then, at_so, map_has, pairs_by_index, all_by_index, pairs_map, pairs_back, all_back}
+use Rattle.history_recorder.proofs.public_laws.Indexing.{all_then, at_so, map_has, pairs_by_index, all_by_index, pairs_map, pairs_back, all_back}
 use Rattle.history_recorder.proofs.GameKept.{as_many, linked_at}
 
 -- the end of a call is no earlier than its point

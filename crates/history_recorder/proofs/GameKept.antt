@@ -14,7 +14,7 @@ use Rattle.history_recorder.specs.declared.booked.Booked.{Booked}
 use Rattle.history_recorder.specs.Books.{Books, IsDoneBy, noted_of, lane_at}
 use Rattle.history_recorder.specs.World.{IsSoundWorld}
 use Rattle.history_recorder.specs.Game.{IsGame, IsWellKept, AreHonest, unboxed, world_of}
-use Rattle.history_recorder.proofs.Indexing.{set_here, set_elsewhere, all_set, all_then, at_so, map_has, set_nothing}
+use Rattle.history_recorder.proofs.public_laws.Indexing.{set_here, set_elsewhere, all_set, all_then, at_so, map_has, set_nothing}
 use Rattle.history_recorder.proofs.Booking.{GoesOn, noted_at}
 use Rattle.std.proofs.lemmas.List.Elements.{All-map}
 

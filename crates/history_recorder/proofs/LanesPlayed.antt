@@ -13,7 +13,7 @@ use Rattle.trace_file.specs.declared.act.Act.TheVariants as acts
 use Rattle.mover.specs.Lane.{LaneState, lane_of}
 use Rattle.mover.specs.Get.{GetGives}
 use Rattle.mover.specs.Store.{StoreState}
-use Rattle.mover.proofs.Beginning.{same_lane_held}
+use Rattle.mover.proofs.public_laws.Beginning.{same_lane_held}
 use Rattle.mover.specs.Calls.{StoreGets, StorePuts, StoreRemoves, StoreFlushes, StoreBegins, StoreCommits, StoreAborts}
 use Rattle.mover.specs.Begin.{BeginGives}
 use Rattle.mover.specs.Commit.{after_abort}
@@ -23,7 +23,7 @@ use Rattle.mover.specs.declared.begin.Begin.{Begin}
 use Rattle.mover.specs.declared.committed.Committed.{Committed}
 use Rattle.policy_laws.specs.declared.choice.Choice.{Choice}
 use Rattle.std.specs.declared.alloc.AllocError.{AllocError}
-use Rattle.recorded_lane.proofs.Ending.{commit_keeps_layout, abort_keeps_layout}
+use Rattle.recorded_lane.proofs.public_laws.Ending.{commit_keeps_layout, abort_keeps_layout}
 use Rattle.recorded_lane.specs.declared.noted.Noted.{Noted}
 use Rattle.recorded_lane.specs.declared.record_fault.RecordFault.{RecordFault}
 use Rattle.recorded_lane.specs.declared.record_fault.RecordFault.TheVariants as faults

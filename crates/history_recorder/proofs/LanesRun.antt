@@ -11,11 +11,11 @@ use Rattle.memory_cache.specs.declared.pair.Pair.{Pair}
 use Rattle.trace_file.specs.declared.act.Act.TheVariants as acts
 use Rattle.certificate_checker.specs.Current.{current, given_at}
 use Rattle.certificate_checker.specs.Latest.{IsLawful}
-use Rattle.certificate_checker.proofs.Growing.{lawful-push}
+use Rattle.certificate_checker.proofs.public_laws.Growing.{lawful-push}
 use Rattle.mover.specs.Lane.{LaneState}
 use Rattle.mover.specs.Laws.{IsInOrder, StepsInOrder}
 use Rattle.mover.specs.Get.{GetGives}
-use Rattle.mover.proofs.StepLaws.{get_law, put_law, removal_law, flush_law, begin_law, commit_law, abort_law}
+use Rattle.mover.proofs.public_laws.StepLaws.{get_law, put_law, removal_law, flush_law, begin_law, commit_law, abort_law}
 use Rattle.recorded_lane.specs.declared.noted.Noted.{Noted}
 use Rattle.recorded_lane.specs.declared.record_fault.RecordFault.TheVariants as faults
 use Rattle.recorded_lane.specs.Lane.{deed_noted, deeds_of, act_of, IsOfLane, IsSound}
@@ -28,7 +28,7 @@ use Rattle.history_recorder.specs.declared.reply.Reply.TheVariants as replies
 use Rattle.history_recorder.specs.Operations.{lane_of, noted_by, calls_with, HasRoomFor, AnswersAt}
 use Rattle.history_recorder.specs.Commands.{IsOperation, IsBackground}
 use Rattle.history_recorder.specs.Game.{IsWellKept}
-use Rattle.deeds.proofs.Sounding.{sound_by, sound_read, sound_put, sound_remove, hit_is, none_some}
+use Rattle.deeds.proofs.public_laws.Sounding.{sound_by, sound_read, sound_put, sound_remove, hit_is, none_some}
 
 -- what is true of a lane over an honest device, and of the calls that it recorded
 abbrev pub IsKeptLane : Layout → ℕ → List Noted → LaneState → Type 0

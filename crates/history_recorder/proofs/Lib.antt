@@ -1,18 +1,17 @@
-pub mod DonesIn
-pub mod Stamps
-pub mod Firsts
-pub mod Starts
-pub mod Listings
-pub mod SetEnd
-pub mod Indexing
-pub mod Counted
-pub mod Booking
-pub mod Gaming
-pub mod GameKept
-pub mod Acting
-pub mod EventsPlayed
-pub mod LanesPlayed
-pub mod Ended
-pub mod WorldsOpened
-pub mod LanesRun
-pub mod RunsKept
+mod DonesIn
+mod Firsts
+mod Starts
+mod Listings
+mod SetEnd
+mod Counted
+mod Booking
+mod Gaming
+mod GameKept
+mod Acting
+mod EventsPlayed
+mod LanesPlayed
+mod Ended
+mod WorldsOpened
+mod LanesRun
+mod RunsKept
+pub mod public_laws

@@ -11,12 +11,12 @@ use Rattle.certificate_checker.specs.declared.done.Done.{Done}
 use Rattle.trace_file.specs.declared.call.Call.{Call}
 use Rattle.certificate_checker.specs.Orders.{IsOrder}
 use Rattle.certificate_checker.specs.Lanes.{calls_of, PointsRise, Stamped, stamp, stamped, ComesFirst, IsLaidOut}
-use Rattle.certificate_checker.proofs.Accepting.{found_at}
-use Rattle.certificate_checker.proofs.Listing.{member_at, all_member, pairs_from, pairs_at}
+use Rattle.certificate_checker.proofs.public_laws.Accepting.{found_at}
+use Rattle.certificate_checker.proofs.public_laws.Listing.{member_at, all_member, pairs_from, pairs_at}
 use Rattle.history_recorder.specs.declared.head.Head.{Head}
 use Rattle.history_recorder.specs.declared.next.Next.{Next}
 use Rattle.history_recorder.specs.Merging.{first_of, stamped_at, ListsAll, AreHeads, AtTheFirst, IsNext, IsFirst, IsFirstBelow, ListsNext, IsListed, ListsSoFar}
-use Rattle.history_recorder.proofs.Stamps.{set_here, set_there, as_many, mark_of, place_of}
+use Rattle.history_recorder.proofs.public_laws.Stamps.{set_here, set_there, as_many, mark_of, place_of}
 use Rattle.history_recorder.proofs.Firsts.{never_itself, first_through}
 
 -- ---- listed positions

@@ -9,10 +9,10 @@ use Rattle.trace_file.specs.declared.act.Act.{Act}
 use Rattle.trace_file.specs.declared.call.Call.{Call}
 use Rattle.certificate_checker.specs.Acceptance.{IsAccepted}
 use Rattle.certificate_checker.specs.Lanes.{IsLaidOut}
-use Rattle.certificate_checker.proofs.LaneLemmas.{lanes_accepted}
+use Rattle.certificate_checker.proofs.public_laws.LaneLemmas.{lanes_accepted}
 use Rattle.mover.specs.Lane.{LaneState}
 use Rattle.mover.specs.Laws.{IsInOrder, opening_lane}
-use Rattle.mover.proofs.WholeLaws.{opening_law}
+use Rattle.mover.proofs.public_laws.WholeLaws.{opening_law}
 use Rattle.recorded_lane.specs.declared.noted.Noted.{Noted}
 use Rattle.history_recorder.specs.declared.event.Event.{Event}
 use Rattle.history_recorder.specs.declared.event.Event.TheVariants as events
@@ -27,11 +27,11 @@ use Rattle.history_recorder.specs.World.{World, OneSteps, LanesStep, Happens, Is
 use Rattle.history_recorder.specs.Game.{IsGame, IsWellKept, last_world}
 use Rattle.history_recorder.specs.Opened.{beginning}
 use Rattle.history_recorder.specs.Laws.{RunsAreSound, RunsAreAccepted}
-use Rattle.history_recorder.proofs.Indexing.{map_has, set_nothing, all_set, all_then, at_so}
+use Rattle.history_recorder.proofs.public_laws.Indexing.{map_has, set_nothing, all_set, all_then, at_so}
 use Rattle.history_recorder.proofs.Booking.{GoesOn, event_on, same_on, opening_kept, end_records, call_noted, noted_at}
 use Rattle.history_recorder.proofs.GameKept.{game_books, game_step, booked_of, counted_at, reached, sound_world}
 use Rattle.history_recorder.proofs.Ended.{ends_lanes, ends_apart}
-use Rattle.deeds.proofs.Sounding.{no_deed}
+use Rattle.deeds.proofs.public_laws.Sounding.{no_deed}
 use Rattle.history_recorder.proofs.LanesRun.{IsKeptLane, behind_kept, acted_kept}
 
 -- a lane of a run: its number, the calls that it recorded, and what it holds

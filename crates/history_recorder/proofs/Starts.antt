@@ -7,7 +7,7 @@ use Rattle.certificate_checker.specs.declared.done.Done.{Done}
 use Rattle.certificate_checker.specs.Lanes.{calls_of}
 use Rattle.history_recorder.specs.declared.head.Head.{Head}
 use Rattle.history_recorder.specs.Merging.{first_of, AtTheFirst}
-use Rattle.history_recorder.proofs.Stamps.{found_before, first_none, first_after, first_within}
+use Rattle.history_recorder.proofs.public_laws.Stamps.{found_before, first_none, first_after, first_within}
 
 -- the heads of the first lanes, and where the next one begins
 pub record StartsBelow (lanes : List (List Done)) (heads : List Head) (limit first : ℕ) : Type 0 where

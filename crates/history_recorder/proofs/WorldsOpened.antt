@@ -21,7 +21,7 @@ use Rattle.history_recorder.specs.World.{World, IsSoundRun}
 use Rattle.history_recorder.specs.Game.{IsGame, IsWellKept, AreHonest, SoundRunTo, unboxed, world_of, layout_in, honest_in, state_in}
 use Rattle.history_recorder.specs.Opened.{Opened, AreOpened, AreOpenedOver, AreTheLanes, opening_lane, opening_world, devices_of}
 use Rattle.history_recorder.proofs.Booking.{opening_kept}
-use Rattle.history_recorder.proofs.Indexing.{all_by_index, at_so}
+use Rattle.history_recorder.proofs.public_laws.Indexing.{all_by_index, at_so}
 use Rattle.history_recorder.proofs.RunsKept.{accepted_runs}
 
 -- an element of a list and one more is one of the list, or the one more

@@ -6,8 +6,7 @@ ghost use Rattle.mover.specs.Store.{IsTooSmall};
 
 use crate::lane_played::recall;
 use crate::open_world_fault::OpenWorldFault;
-use lane_devices::Boxed;
-use page_device::PageDevice;
+use page_device::{Boxed, PageDevice};
 use record_pages::{Config, Layout};
 use recorded_lane::RecordedLane;
 use std::alloc::{AllocError, Global};

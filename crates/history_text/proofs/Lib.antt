@@ -1,9 +1,9 @@
-pub mod Reading
-pub mod WritingLaws
-pub mod NameLaws
-pub mod LineLaws
-pub mod CodingLaws
-pub mod WordTexts
-pub mod LineTexts
-pub mod ReadBack
-pub mod Saying
+mod Reading
+mod WritingLaws
+mod NameLaws
+mod LineLaws
+mod CodingLaws
+mod WordTexts
+mod LineTexts
+mod ReadBack
+mod Saying

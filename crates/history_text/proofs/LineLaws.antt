@@ -5,7 +5,7 @@ use Rattle.std.proofs.lemmas.Bool.{cases_Bool}
 use Rattle.script_words.specs.declared.line_read.LineRead.{LineRead}
 use Rattle.script_words.specs.declared.line_read.LineRead.TheVariants.{Line, TooLong, End}
 use Rattle.script_words.specs.Lines.{Ahead, GivesNext, TakesWithin, feeds, is_ready_within, after_line as behind}
-use Rattle.script_words.proofs.NextLine.{reads, through, through_after}
+use Rattle.script_words.proofs.public_laws.NextLine.{reads, through, through_after}
 use Rattle.history_text.specs.Reading.{GivesLine, IsAhead, TakesOff}
 
 -- how often a reader is asked before a line can be taken: each read brings a byte, or is the last

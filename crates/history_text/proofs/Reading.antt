@@ -6,7 +6,7 @@ use Rattle.script_words.specs.declared.line_read.LineRead.TheVariants.{Line, Too
 use Rattle.script_words.specs.declared.read_line_fault.ReadLineFault as line_faults
 use Rattle.script_words.specs.declared.read_line_fault.ReadLineFault.TheVariants as line_kinds
 use Rattle.script_words.specs.Lines.{Ahead, feeds, lines_of, first_line, after_line as behind_line}
-use Rattle.script_words.proofs.NextLine.{feeds-append, next_lines}
+use Rattle.script_words.proofs.public_laws.NextLine.{feeds-append, next_lines}
 use Rattle.trace_file.specs.declared.call.Call.{Call}
 use Rattle.history_text.specs.declared.cause.Cause.{Cause}
 use Rattle.history_text.specs.declared.cause.Cause.TheVariants as causes

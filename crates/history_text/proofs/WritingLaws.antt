@@ -9,7 +9,7 @@ use Rattle.std.proofs.lemmas.List.Elements.{All-nil, All-cons, All-append}
 use Rattle.std.proofs.lemmas.Option.{get_or_from_slice_get}
 use Rattle.trace_file.specs.declared.call.Call.{Call}
 use Rattle.trace_file.specs.Sending.{Sent, Begun}
-use Rattle.trace_file.proofs.SendLaws.{begun_behind, begun_more}
+use Rattle.trace_file.proofs.public_laws.SendLaws.{begun_behind, begun_more}
 use Rattle.history_text.specs.declared.write_text_fault.WriteTextFault.{WriteTextFault}
 use Rattle.history_text.specs.declared.write_text_fault.WriteTextFault.TheVariants.{TooLate, OutOfMemory, WriteFault}
 use Rattle.history_text.specs.Writing.{line_where, written, is_chosen, has_text, HasTextWhere, StopsAt, IsFirstWithout, WroteBefore}

@@ -1,5 +1,5 @@
-pub mod RowLaws
-pub mod RunLaws
-pub mod TraceLines
-pub mod ShowLaws
-pub mod FoundLaws
+mod RowLaws
+mod RunLaws
+mod TraceLines
+mod ShowLaws
+mod FoundLaws

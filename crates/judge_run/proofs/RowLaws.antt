@@ -9,7 +9,7 @@ use Rattle.trace_file.specs.declared.version.Version.{Version}
 use Rattle.trace_file.specs.declared.version.Version.TheVariants.{Timed, Timeless}
 use Rattle.trace_file.specs.Reading.{outcome_of, at_end, trace_at, place}
 use Rattle.trace_file.specs.Text.{IsTraceOf, IsTrace}
-use Rattle.trace_file.proofs.TraceLaws.{trace_again}
+use Rattle.trace_file.proofs.public_laws.TraceLaws.{trace_again}
 use Rattle.trace_file.specs.Outcome.{IsFaultOf, Leaves}
 use Rattle.certificate_checker.specs.declared.judged.Judged.{Judged}
 use Rattle.figures.specs.Figures.{Row}

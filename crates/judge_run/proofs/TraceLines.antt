@@ -7,7 +7,7 @@ use Rattle.std.specs.Io.KnownBytes.{IsAtEnd}
 use Rattle.certificate_checker.specs.declared.judged.Judged.TheVariants as kinds
 use Rattle.certificate_checker.specs.declared.verdict.Verdict.TheVariants as verdicts
 use Rattle.certificate_checker.specs.VerdictLine.{bad_trace_line, verdict_line}
-use Rattle.certificate_checker.proofs.Judging.{line_on_fault, line_on_trace}
+use Rattle.certificate_checker.proofs.public_laws.Judging.{line_on_fault, line_on_trace}
 use Rattle.figures.specs.declared.form.Form.{Form}
 use Rattle.figures.specs.declared.form.Form.TheVariants.{Lines, Json}
 use Rattle.figures.specs.Figures.{Row, ended, text_of_rows, with_row}

@@ -2,7 +2,7 @@
 ghost use Rattle.std.specs.Prelude.{◌↔◌, IsTrue};
 ghost use Rattle.judge_run.specs.Inputs.{IsStandardInput};
 
-use file_requests::FileName;
+use trace_file::FileName;
 
 /// The file name that means the standard input.
 const STANDARD_INPUT: &str = "-";

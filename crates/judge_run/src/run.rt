@@ -12,13 +12,13 @@ use crate::judge_end::JudgeEnd;
 use crate::judging_texts::answer_judge;
 use crate::notes::{note_answer, note_bad_trace};
 use crate::outcome::Outcome;
+use crate::requests::{CheckRequest, JudgeRequest, ShowRequest};
 use crate::saving::save;
 use crate::showing::answer_show;
 use crate::shown::Shown;
 use crate::tell_fault::TellFault;
 use crate::telling::{no_key, out_of_memory, too_late, unopened, untold, without_random};
 use figures::Form;
-use file_requests::{CheckRequest, FileName, JudgeRequest, ShowRequest};
 use history_text::{LineFault, key_bytes};
 use key_hash::RandomSeed;
 use std::alloc::Global;
@@ -26,6 +26,7 @@ use std::fs;
 use std::io::{BufWriter, Read, Write};
 use std::random::RandomSource;
 use std::rt::Files;
+use trace_file::FileName;
 
 /// Judges the history of a text in a file or of standard input, and answers the status that the program ends with. The tables
 /// have a seed of their own. The verdict is written to `out`, and after it why it is so, if that is wanted. Then an accepted

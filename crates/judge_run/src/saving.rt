@@ -6,12 +6,11 @@ use crate::judge_end::JudgeEnd;
 use crate::outcome::Outcome;
 use crate::rejection::Rejection;
 use crate::telling::{out_of_memory, unopened, unwritten};
-use file_requests::FileName;
 use history_picture::{ExplainFault, draw};
 use std::fs;
 use std::io::{BufWriter, Write};
 use std::rt::Files;
-use trace_file::{Trace, write_trace};
+use trace_file::{FileName, Trace, write_trace};
 
 /// Writes the trace of an accepted history, or the picture of a rejected one, to its file, if that is wanted, and says how the
 /// program ends. A file to which nothing is to be written is left as it is.

@@ -4,10 +4,10 @@ ghost use Rattle.judge_run.specs.Ends.{end_of_fault};
 
 use crate::judge_end::JudgeEnd;
 use crate::tell_fault::TellFault;
-use file_requests::FileName;
 use history_text::Cause;
 use std::io;
 use std::io::Write;
+use trace_file::FileName;
 
 /// Tells that a file was not opened, with the system's cause. What `err` refuses is not told, here and below.
 pub(crate) fn unopened<E: Write>(err: &mut E, name: &FileName, error: &io::Error) -> JudgeEnd

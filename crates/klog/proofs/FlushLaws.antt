@@ -7,7 +7,7 @@ use Rattle.std.proofs.lemmas.List.Elements.{filter_passes}
 use Rattle.page_device.specs.Frames.{pages_from, pages_before}
 use Rattle.record_pages.specs.Recs.{Rec}
 use Rattle.record_pages.specs.PageText.{LogPageParts, SpellsLogPage}
-use Rattle.record_pages.proofs.PageLaws.{log_page_only}
+use Rattle.record_pages.proofs.public_laws.PageLaws.{log_page_only}
 use Rattle.klog_index.specs.declared.entry.Entry.{Entry}
 use Rattle.klog.specs.Buffer.{page_of}
 use Rattle.klog.specs.Log.{LogState}

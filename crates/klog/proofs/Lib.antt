@@ -1,26 +1,26 @@
-pub mod RingLaws
-pub mod BufferLaws
-pub mod LiveLaws
-pub mod ShownLaws
-pub mod OrderLaws
-pub mod OldestLaws
-pub mod AppendLaws
-pub mod FlushLaws
-pub mod FetchLaws
-pub mod KnownLaws
-pub mod LookLaws
-pub mod InBuffers
-pub mod LocateLaws
-pub mod MoveLaws
-pub mod TakeLaws
-pub mod TakenLaws
-pub mod CallLaws
-pub mod Numbered
-pub mod PlaceLaws
-pub mod ListedLaws
-pub mod KilledLaws
-pub mod StepLaws
-pub mod AnswersOnSegments
-pub mod OldestOnSegments
-pub mod FullOnSegments
-pub mod PutLaws
+mod RingLaws
+mod BufferLaws
+mod LiveLaws
+mod ShownLaws
+mod OrderLaws
+mod OldestLaws
+mod AppendLaws
+mod FlushLaws
+mod FetchLaws
+mod KnownLaws
+mod LookLaws
+mod InBuffers
+mod LocateLaws
+mod MoveLaws
+mod TakeLaws
+mod TakenLaws
+mod CallLaws
+mod Numbered
+mod PlaceLaws
+mod ListedLaws
+mod KilledLaws
+mod StepLaws
+mod AnswersOnSegments
+mod OldestOnSegments
+mod FullOnSegments
+mod PutLaws

@@ -13,8 +13,8 @@ use Rattle.record_pages.specs.Recs.{Rec}
 use Rattle.klog_index.specs.declared.entry.Entry.{Entry}
 use Rattle.klog_index.specs.declared.place.Place.{Place}
 use Rattle.klog_index.specs.Entries.{is_at, is_on}
-use Rattle.klog_index.proofs.EntryLaws.{of_place}
-use Rattle.klog_index.proofs.RowLaws.{filter-both}
+use Rattle.klog_index.proofs.public_laws.EntryLaws.{of_place}
+use Rattle.klog_index.proofs.public_laws.RowLaws.{filter-both}
 use Rattle.klog.specs.Buffer.{page_of, record_in}
 use Rattle.klog.specs.Log.{LogState}
 use Rattle.klog.specs.Names.{names, name_of, number_of, segment_of, flushed_number, filled_number}

@@ -11,7 +11,7 @@ use Rattle.page_device.specs.Frames.{pages_from}
 use Rattle.klog_index.specs.declared.entry.Entry.{Entry}
 use Rattle.klog_index.specs.declared.place.Place.{Place}
 use Rattle.klog_index.specs.Entries.{lowered, with_lowered}
-use Rattle.klog_index.proofs.EntryLaws.{length-with_lowered}
+use Rattle.klog_index.proofs.public_laws.EntryLaws.{length-with_lowered}
 use Rattle.klog.specs.Log.{Shape, LogState, with_list}
 use Rattle.klog.specs.Shown.{shown, live_on, CanStandFor, IsLive, IsFlushed, IsSpelledOn}
 use Rattle.klog.specs.Keeps.{IsHeld, IsBehind, AreOrdered, IsLog}

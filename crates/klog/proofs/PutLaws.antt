@@ -8,7 +8,7 @@ use Rattle.record_pages.specs.Recs.{Rec}
 use Rattle.klog_index.specs.declared.entry.Entry.{Entry}
 use Rattle.klog_index.specs.declared.place.Place.{Place}
 use Rattle.klog_index.specs.Entries.{is_at, is_place}
-use Rattle.klog_index.proofs.EntryLaws.{of_place}
+use Rattle.klog_index.proofs.public_laws.EntryLaws.{of_place}
 use Rattle.klog.specs.Buffer.{page_of, record_in, pages_with, fits_here, can_add, page_for, slot_for}
 use Rattle.klog.specs.Log.{LogState, filling_buffer}
 use Rattle.klog.specs.Names.{name_of, number_of, flushed_number, filled_number}

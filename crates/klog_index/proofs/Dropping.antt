@@ -8,7 +8,7 @@ use Rattle.entry_pool.specs.Rows.{Rows, numbers, with_rows, without_at, IsHeld}
 use Rattle.klog_index.specs.declared.entry.Entry.{Entry}
 use Rattle.klog_index.specs.Entries.{Entries, with_entries, without}
 use Rattle.klog_index.specs.Rows.{entry_of, entries_of, index_of, RowsApart, row_of}
-use Rattle.klog_index.proofs.RowLaws.{LieApart, IsRow, found-row, drop-found, drop-row, keep-all, fewer}
+use Rattle.klog_index.proofs.public_laws.RowLaws.{LieApart, IsRow, found-row, drop-found, drop-row, keep-all, fewer}
 
 -- what is not of the kind is as it was
 pub record IsDropping (p : Entry → Bool) (old : Entries) (pool : Rows) : Type 0 where

@@ -1,5 +1,4 @@
-pub mod EntryLaws
-pub mod RowLaws
-pub mod Dropping
-pub mod Lowering
-pub mod Walking
+mod Dropping
+mod Lowering
+mod Walking
+pub mod public_laws

@@ -7,7 +7,7 @@ use Rattle.klog_index.specs.declared.entry.Entry.{Entry}
 use Rattle.klog_index.specs.declared.place.Place.{Place}
 use Rattle.klog_index.specs.Entries.{Entries, with_entries, with_lowered}
 use Rattle.klog_index.specs.Rows.{entries_of, index_of, RowsApart, row_of}
-use Rattle.klog_index.proofs.RowLaws.{IsKindOfPlace, lower-found, lower-none, apart-repredicted}
+use Rattle.klog_index.proofs.public_laws.RowLaws.{IsKindOfPlace, lower-found, lower-none, apart-repredicted}
 
 pub lowered-index : (p : Entry → Bool) (place : Place) (pool new : Rows) (r : Row) (old : Entries) → index_of pool ≡ old → IsKindOfPlace p place → IsDistinct (numbers pool.rows) → RowsApart pool.rows → Some r ≡ row_of p pool.rows → new ≡ with_rows pool (with_prediction_at r.at (r.item.prediction - 1) pool.rows) →
     index_of new ≡ with_entries old (with_lowered p old.entries)

@@ -8,7 +8,7 @@ use Rattle.entry_pool.specs.Rows.{numbers, in_set, without_at, rows_after, IsMar
 use Rattle.klog_index.specs.declared.entry.Entry.{Entry}
 use Rattle.klog_index.specs.Entries.{is_of}
 use Rattle.klog_index.specs.Rows.{entry_of, row_of}
-use Rattle.klog_index.proofs.RowLaws.{IsRow, of_kind, filter-both, fewer}
+use Rattle.klog_index.proofs.public_laws.RowLaws.{IsRow, of_kind, filter-both, fewer}
 
 -- ---- rows behind a mark
 

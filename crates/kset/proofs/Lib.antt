@@ -1,7 +1,5 @@
-pub mod NotesLaws
-pub mod PageNotes
-pub mod LookLaws
-pub mod ShownLaws
-pub mod LocateLaws
-pub mod RewriteLaws
-pub mod MovingLaws
+mod PageNotes
+mod LookLaws
+mod LocateLaws
+mod RewriteLaws
+pub mod public_laws

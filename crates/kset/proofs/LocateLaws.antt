@@ -27,7 +27,7 @@ use Rattle.kset.specs.Look.{is_set_fault, SetLookLeaves, SetLookGives}
 use Rattle.kset.specs.Locate.{looked_of, is_hit, sets_after, IsSlot, NamesFirst, SetLocates}
 use Rattle.kset.specs.Calls.{SetLooks}
 use Rattle.kset.proofs.LookLaws.{Says, told_of, first_visible-hidden}
-use Rattle.kset.proofs.ShownLaws.{shown-hit}
+use Rattle.kset.proofs.public_laws.ShownLaws.{shown-hit}
 
 -- what visible records say of a key is what a look-up gives
 gives : (visible : List (ℕ × Rec)) (key : List ℕ) (moment : ℕ) (buffer : List ℕ) (set : ℕ) (k : SetsState) (found : Located) → Says visible key moment buffer found →

@@ -13,7 +13,7 @@ use Rattle.record_pages.specs.PageText.{SetPageParts, SpellsSetPage}
 use Rattle.record_pages.specs.Sizes.{max_set_records}
 use Rattle.record_pages.specs.Reading.{set_page_at}
 use Rattle.record_pages.specs.Looking.{has_key, first_from, first_with}
-use Rattle.record_pages.proofs.PageLaws.{set_page_only}
+use Rattle.record_pages.proofs.public_laws.PageLaws.{set_page_only}
 use Rattle.set_hash.specs.Fnv.{fnv1a}
 use Rattle.kset.specs.declared.located.Located.{Located}
 use Rattle.kset.specs.declared.located.Located.TheVariants.{Hit, Expired, Absent, Fault, Damaged}
@@ -21,7 +21,7 @@ use Rattle.kset.specs.Notes.{Notes, lets_show}
 use Rattle.kset.specs.Pages.{IsPageOf, records_on}
 use Rattle.kset.specs.Shown.{is_visible, visible_from, first_visible}
 use Rattle.kset.specs.Telling.{page_if_of, SetPageTells}
-use Rattle.kset.proofs.NotesLaws.{some_bit, lets_show-empty}
+use Rattle.kset.proofs.public_laws.NotesLaws.{some_bit, lets_show-empty}
 
 -- a record that is found lies among the records
 pub first_within : (key : List ℕ) (slot : ℕ) (rs : List Rec) (x : ℕ × Rec) → first_from slot key rs ≡ Some x → x.0 < slot + length rs

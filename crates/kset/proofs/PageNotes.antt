@@ -4,7 +4,7 @@ use Rattle.std.specs.List.{enumerate_from}
 use Rattle.std.specs.Ordering.{nat_cmp}
 use Rattle.std.specs.FinSet.{FinSet, empty, contains, contains-empty}
 use Rattle.bloom.specs.Filter.{with_bits, filter_of, admits}
-use Rattle.bloom.proofs.FilterLaws.{filter_of-push, admits-added, admits-kept}
+use Rattle.bloom.proofs.public_laws.FilterLaws.{filter_of-push, admits-added, admits-kept}
 use Rattle.set_hash.specs.Fnv.{fnv1a}
 use Rattle.set_hash.specs.Place.{probes_of}
 use Rattle.record_pages.specs.Recs.{Rec}

@@ -3,7 +3,7 @@ use Rattle.std.proofs.Common.{◌≡◌, ℕ, ◌<◌, Bool, true, false, List, 
 use Rattle.std.specs.Prelude.{IsTrue}
 use Rattle.page_device.specs.Device.{WritesPage}
 use Rattle.page_device.specs.Lending.{OnlyWrites}
-use Rattle.page_device.proofs.FrameLaws.{write_below}
+use Rattle.page_device.proofs.public_laws.FrameLaws.{write_below}
 use Rattle.record_pages.specs.Recs.{Rec}
 use Rattle.record_pages.specs.PageText.{SpellsSetPage, set_page_text}
 use Rattle.kset.specs.declared.rewritten.Rewritten.TheVariants.{Written, Forgotten}
@@ -13,10 +13,10 @@ use Rattle.kset.specs.Pages.{page_records}
 use Rattle.kset.specs.Rewrite.{after_rewrite}
 use Rattle.kset.specs.Keeps.{KeepsSets}
 use Rattle.kset.specs.Calls.{SetRewrites}
-use Rattle.kset.proofs.NotesLaws.{notes_of-with}
+use Rattle.kset.proofs.public_laws.NotesLaws.{notes_of-with}
 use Rattle.kset.proofs.PageNotes.{visible_from-page}
 use Rattle.kset.proofs.LookLaws.{written_records}
-use Rattle.kset.proofs.ShownLaws.{set_count-with, shown-anew, shown-refused}
+use Rattle.kset.proofs.public_laws.ShownLaws.{set_count-with, shown-anew, shown-refused}
 
 module _ {D T E : Type 0} (size : ℕ) (pages : D → ℕ) (honest : D → Bool) (failures : D → ℕ) (held : D → ℕ → Option (List ℕ)) (set : ℕ) (rs : List Rec) (old : SetsState) (device : D) (new : SetsState) (device' : D) (bytes : List ℕ) (within : set < set_count old) where
   -- the page is written

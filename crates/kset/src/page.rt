@@ -7,8 +7,7 @@ ghost use Rattle.kset.specs.Locate.{is_hit};
 ghost use Rattle.kset.specs.Telling.{page_if_of, SetPageTells};
 
 use crate::located::Located;
-use record_pages::{SetPage, is_live};
-use value_buffer::ValueBuffer;
+use record_pages::{SetPage, ValueBuffer, is_live};
 
 /// The page that these bytes spell, where it is the page of this set.
 pub(crate) fn page_of<const PAGE: usize>(bytes: &[u8; PAGE], set: u32) -> Option<SetPage<'_>>

@@ -18,11 +18,10 @@ use crate::set_read::SetRead;
 use crate::set_record::SetRecord;
 use crate::set_records::SetRecords;
 use page_device::PageDevice;
-use record_pages::{Key, Layout, Looked, Records, SetPageWriter, Value};
+use record_pages::{Key, Layout, Looked, Records, SetPageWriter, Value, ValueBuffer};
 use set_hash::{Placed, place};
 use std::alloc::{AllocError, Global};
 use std::marker::Model;
-use value_buffer::ValueBuffer;
 
 /// The sets of a lane. Each has a page of the device, the one with its number, and in memory a filter over the keys
 /// of that page, up to eight strikes and the hits since the page was written.

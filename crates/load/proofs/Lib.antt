@@ -1,2 +1,6 @@
-pub mod Drawing
-pub mod Ranges
+mod Drawing
+mod Ranges
+mod TopLaws
+mod SumLaws
+mod CountLaws
+mod HoldingLaws

@@ -3,3 +3,7 @@ pub mod Sizes
 pub mod Operations
 pub mod Served
 pub mod Asked
+pub mod Cells
+pub mod Holding
+pub mod Quantile
+pub mod Trails

@@ -1,15 +1,21 @@
 //! What a load asks of a cache: its settings, and the operations of its callers.
 #![tactic(auto)]
 
+mod cells;
+mod histogram;
 mod load;
+mod next;
 mod numbers;
 mod operations;
 mod served_load;
 mod served_operation;
 mod setting;
 mod size_setting;
+mod times;
+mod watching;
 
-pub use file_requests::FileName;
+pub use cells::LONGEST;
+pub use histogram::{Histogram, MOST_TIMES, Quantiles};
 pub use load::Load;
 pub use numbers::{load_with, served_with};
 pub use operations::next_operation;
@@ -17,3 +23,5 @@ pub use served_load::ServedLoad;
 pub use served_operation::ServedOperation;
 pub use setting::{SERVED_SETTINGS, SETTINGS, Setting};
 pub use size_setting::SizeSetting;
+pub use trace_file::FileName;
+pub use watching::watch;

@@ -5,8 +5,8 @@ ghost use Rattle.load.specs.Asked.{IsLayoutOf, numbers_of, served_numbers_of};
 
 use crate::load::Load;
 use crate::served_load::ServedLoad;
-use file_requests::FileName;
 use record_pages::{Config, Layout};
+use trace_file::FileName;
 
 /// The cache with the first eight of these numbers, in the order of the settings.
 fn layout_with(numbers: &[u32]) -> Layout

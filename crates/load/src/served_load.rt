@@ -1,8 +1,8 @@
 // What a load of a cache that serves is asked for.
 ghost use Rattle.std.specs.Prelude.{◌≤◌};
 
-use file_requests::FileName;
 use record_pages::Layout;
+use trace_file::FileName;
 
 /// What a load of a cache that serves is asked for: the cache, its callers and workers, their operations, and the files. Each
 /// number is in the range of its `Setting`.

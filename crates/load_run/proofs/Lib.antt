@@ -1,3 +1,3 @@
-pub mod Calling
-pub mod Counting
-pub mod Saying
+mod Calling
+mod Counting
+mod Saying

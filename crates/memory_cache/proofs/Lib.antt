@@ -1,3 +1,3 @@
-pub mod Finding
-pub mod Ordering
-pub mod KeepingLaws
+mod Finding
+mod Ordering
+mod KeepingLaws

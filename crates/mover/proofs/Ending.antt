@@ -1,6 +1,6 @@
 -- How a move ends, by how it began.
 use Rattle.mover.specs.declared.moving.Moving.{Moving}
-use Rattle.mover.proofs.FlightLists.{fresh_number, found_last, without_last}
+use Rattle.mover.proofs.public_laws.FlightLists.{fresh_number, found_last, without_last}
 use Rattle.std.proofs.Common.{◌≡◌, ◌<◌, ◌+◌, List, Option, refl, sym, subst, ◌∙◌, ap, ℕ, ◌≢◌, ◌≤◌, ◌∷◌, ◌++◌, [], length, Some}
 use Rattle.std.specs.Prelude.{Result, Ok, Err, OnErr, IsSomeAnd, All}
 use Rattle.std.proofs.lemmas.Bool.{lt-ltb}
@@ -14,7 +14,7 @@ use Rattle.mover.specs.Oldest.{oldest_in}
 use Rattle.mover.specs.Leaving.{EntryLeaves, BeginLeaves}
 use Rattle.mover.specs.Calls.{MovingLeaves}
 use Rattle.mover.specs.Laws.{IsPlanned, IsPlannedFor}
-use Rattle.mover.proofs.Beginning.{begun_job}
+use Rattle.mover.proofs.public_laws.Beginning.{begun_job}
 use Rattle.mover.proofs.Gathering.{begins_flight}
 use Rattle.policy_laws.specs.declared.job.Job.{Job}
 use Rattle.policy_laws.specs.declared.choice.Choice.{Choice}

@@ -17,7 +17,7 @@ use Rattle.klog.specs.Log.{LogState}
 use Rattle.klog.specs.Names.{name_of}
 use Rattle.klog.specs.Moves.{TellsOldest}
 use Rattle.mover.specs.Oldest.{is_before, is_first, first_in, told_first, live_in, oldest_in}
-use Rattle.mover.proofs.Listing.{split, in_filter}
+use Rattle.mover.proofs.public_laws.Listing.{split, in_filter}
 
 -- what alone passes a test is what is found
 pub find_only : {X : Type 0} (p : X → Bool) (xs : List X) (x : X) → Contains xs x → p x ≡ true → ((y : X) → Contains xs y → p y ≡ true → y ≡ x) → find p xs ≡ Some x

@@ -27,7 +27,7 @@ use Rattle.mover.specs.declared.moving.Moving.{Moving}
 use Rattle.mover.specs.Flight.{Flight, records_of, unstruck, is_struck, AreOfSet, just_begun}
 use Rattle.mover.specs.Job.{job_of, items_of}
 use Rattle.mover.specs.Commit.{planned, planned_of, IsFitting}
-use Rattle.mover.proofs.Listing.{in_map, in_filter, in_take}
+use Rattle.mover.proofs.public_laws.Listing.{in_map, in_filter, in_take}
 use Rattle.mover.proofs.Filling.{as_many}
 use Rattle.mover.proofs.Flying.{none_struck}
 use Rattle.std.specs.Prelude.{IsSomeAnd}

@@ -16,7 +16,7 @@ use Rattle.kset.specs.Notes.{lets_show}
 use Rattle.page_device.specs.Device.{faults_after}
 use Rattle.mover.specs.Asking.{AsksNothing, MemoryTells, NotesHit, RecallsBy, LogLeaves, SetLeaves, GetLeaves}
 use Rattle.mover.specs.Leaving.{HasAll, HasLog}
-use Rattle.mover.proofs.Beginning.{all_again}
+use Rattle.mover.proofs.public_laws.Beginning.{all_again}
 use Rattle.record_pages.specs.Expiry.{value_at}
 use Rattle.record_pages.specs.Recs.{Rec}
 use Rattle.record_pages.specs.declared.answer.Answer.{Answer}

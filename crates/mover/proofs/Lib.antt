@@ -1,27 +1,21 @@
-pub mod AnswerLaw
-pub mod Listing
-pub mod Keeping
-pub mod Lanes
-pub mod Flying
-pub mod FlightLists
-pub mod Expiring
-pub mod Getting
-pub mod Telling
-pub mod Recalling
-pub mod Touching
-pub mod Putting
-pub mod Showing
-pub mod Firsts
-pub mod Placing
-pub mod Beginning
-pub mod Committing
-pub mod Filling
-pub mod MovingShows
-pub mod Plans
-pub mod Ending
-pub mod Gathering
-pub mod Marking
-pub mod OrderKept
-pub mod MoveKept
-pub mod StepLaws
-pub mod WholeLaws
+mod AnswerLaw
+mod Lanes
+mod Flying
+mod Expiring
+mod Getting
+mod Telling
+mod Recalling
+mod Touching
+mod Putting
+mod Firsts
+mod Placing
+mod Committing
+mod Filling
+mod MovingShows
+mod Plans
+mod Ending
+mod Gathering
+mod Marking
+mod OrderKept
+mod MoveKept
+pub mod public_laws

@@ -17,9 +17,9 @@ use Rattle.mover.specs.Put.{put_step}
 use Rattle.mover.specs.Strike.{removed}
 use Rattle.mover.specs.Visible.{IsHeldInFlight, IsLogPlaced}
 use Rattle.mover.specs.Laws.{AreMarked}
-use Rattle.mover.proofs.Listing.{in_map}
+use Rattle.mover.proofs.public_laws.Listing.{in_map}
 use Rattle.mover.proofs.Flying.{hashes_stay}
-use Rattle.mover.proofs.Showing.{ShowsOthers, ShowsIt, removed_sees, put_sees, put_flies}
+use Rattle.mover.proofs.public_laws.Showing.{ShowsOthers, ShowsIt, removed_sees, put_sees, put_flies}
 
 -- the items of each move stay marked under a strike
 pub struck_marked : (hash : ℕ) (shape : Shape) (fs : List Flight) → All (AreMarked shape) fs → All (AreMarked shape) (map (flight_struck hash) fs)

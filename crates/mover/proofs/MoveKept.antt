@@ -20,7 +20,7 @@ use Rattle.kset.specs.declared.rewritten.Rewritten.{Rewritten}
 use Rattle.kset.specs.declared.rewritten.Rewritten.TheVariants as rewritten
 use Rattle.kset.specs.Laws.{IsKeyOf, AreOfTheirSets}
 use Rattle.kset.specs.After.{shown_after_rewriting}
-use Rattle.kset.proofs.MovingLaws.{rewritings_keep}
+use Rattle.kset.proofs.public_laws.MovingLaws.{rewritings_keep}
 use Rattle.mover.specs.Flight.{Flight, unstruck, AreOfSet, records_of, just_begun}
 use Rattle.mover.specs.Job.{job_of}
 use Rattle.mover.specs.Lane.{LaneState}
@@ -36,7 +36,7 @@ use Rattle.mover.specs.declared.committed.Committed.TheVariants as answers
 use Rattle.mover.specs.declared.aborted.Aborted.{Aborted}
 use Rattle.mover.specs.declared.aborted.Aborted.TheVariants as aborted
 use Rattle.mover.specs.Laws.{AreMarked, IsInOrder}
-use Rattle.mover.proofs.FlightLists.{held_found}
+use Rattle.mover.proofs.public_laws.FlightLists.{held_found}
 use Rattle.mover.proofs.Flying.{fresh_hashes}
 use Rattle.mover.proofs.Gathering.{moving_placed, planned_placed}
 use Rattle.mover.proofs.MovingShows.{begins_by}

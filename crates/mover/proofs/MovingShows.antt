@@ -47,10 +47,10 @@ use Rattle.mover.specs.declared.committed.Committed.{Committed}
 use Rattle.mover.specs.declared.committed.Committed.TheVariants as answers
 use Rattle.mover.specs.declared.aborted.Aborted.{Aborted}
 use Rattle.mover.specs.declared.aborted.Aborted.TheVariants as aborted
-use Rattle.mover.proofs.Listing.{in_filter, in_map, in_take, mapped, found_in, got, split}
+use Rattle.mover.proofs.public_laws.Listing.{in_filter, in_map, in_take, mapped, found_in, got, split}
 use Rattle.mover.proofs.Filling.{as_many}
-use Rattle.mover.proofs.Showing.{SeesNoMore, ShowsNoMore, held_still, sees_no_more, sees_fewer, appended_shows}
-use Rattle.mover.proofs.FlightLists.{held_found}
+use Rattle.mover.proofs.public_laws.Showing.{SeesNoMore, ShowsNoMore, held_still, sees_no_more, sees_fewer, appended_shows}
+use Rattle.mover.proofs.public_laws.FlightLists.{held_found}
 use Rattle.mover.proofs.Gathering.{moving_placed}
 
 -- what is so of a move that is busy, of one with nothing to do, and of one that looks at the oldest segment, is so of each that begins

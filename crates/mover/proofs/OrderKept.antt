@@ -28,7 +28,7 @@ use Rattle.klog.specs.Flush.{FlushGives, live_flushed, is_page_lost, is_on_page,
 use Rattle.kset.specs.Sets.{hit_in, notes_of}
 use Rattle.kset.specs.Shown.{first_visible}
 use Rattle.kset.specs.Laws.{AreOfTheirSets}
-use Rattle.kset.proofs.MovingLaws.{strikes_keep}
+use Rattle.kset.proofs.public_laws.MovingLaws.{strikes_keep}
 use Rattle.mover.specs.Flight.{AreOfSet, Flight}
 use Rattle.mover.specs.Lane.{LaneState}
 use Rattle.mover.proofs.Expiring.{found_lane}
@@ -37,9 +37,9 @@ use Rattle.mover.specs.Strike.{struck, removed}
 use Rattle.mover.specs.Put.{lane_appended, append_step, push_step, stored, put_step}
 use Rattle.mover.specs.Flush.{LaneFlushes}
 use Rattle.mover.specs.Laws.{AreMarked, IsInOrder}
-use Rattle.mover.proofs.Listing.{in_map}
+use Rattle.mover.proofs.public_laws.Listing.{in_map}
 use Rattle.mover.proofs.Flying.{struck_placed}
-use Rattle.mover.proofs.Showing.{shape_appended}
+use Rattle.mover.proofs.public_laws.Showing.{shape_appended}
 use Rattle.mover.proofs.Marking.{struck_marked}
 
 -- a lane is in order, and its log has the shape that it had

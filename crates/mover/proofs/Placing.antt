@@ -9,7 +9,7 @@ use Rattle.klog_index.specs.Entries.{AreApart, is_in, is_place}
 use Rattle.klog.specs.Log.{LogState}
 use Rattle.klog.specs.Shown.{shown_on, live_on}
 use Rattle.mover.specs.Oldest.{record_of}
-use Rattle.mover.proofs.Listing.{split, here, there}
+use Rattle.mover.proofs.public_laws.Listing.{split, here, there}
 use Rattle.mover.proofs.Firsts.{find_only, same_place}
 use Rattle.std.proofs.Common.{◌⊎◌, inl, inr, arith}
 

@@ -27,7 +27,7 @@ use Rattle.mover.specs.Lane.{LaneState, lane_of}
 use Rattle.mover.specs.Strike.{struck_at}
 use Rattle.mover.specs.Put.{append_step, push_step, put_step, IsStep, pushed_as}
 use Rattle.mover.specs.Flush.{LaneFlushes}
-use Rattle.mover.proofs.Listing.{got}
+use Rattle.mover.proofs.public_laws.Listing.{got}
 
 -- what holds of a pair that is put and of each in memory holds of each after the put
 pub all_put : (P : Pair → Type 0) (old new : MemoryList) (p : Pair) → new ≡ after_put p old → P p → All P old.pairs → All P new.pairs

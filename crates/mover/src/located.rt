@@ -5,9 +5,8 @@ ghost use Rattle.mover.specs.Touch.{answer_at, has_value};
 
 use crate::seen::Seen;
 use klog_index::Entry;
-use record_pages::{Answer, MissCause, Tier, Value};
+use record_pages::{Answer, MissCause, Tier, Value, ValueBuffer};
 use std::alloc::{AllocError, Global};
-use value_buffer::ValueBuffer;
 
 /// Where a store has the value of a key, which a touch then notes as asked for; or why it has none.
 #[derive(Clone, Copy, Debug)]

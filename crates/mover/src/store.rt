@@ -10,10 +10,9 @@ use klog::{KLog, LogUsage};
 use kset::KSet;
 use memory_cache::MemoryCache;
 use page_device::PageDevice;
-use record_pages::{Config, Layout};
+use record_pages::{Config, Layout, ValueBuffer};
 use std::alloc::{AllocError, Global};
 use std::marker::Model;
-use value_buffer::ValueBuffer;
 
 mod abort;
 mod begin;

@@ -1,3 +1,3 @@
-pub mod PutRow
-pub mod Struck
-pub mod OthersRow
+mod PutRow
+mod Struck
+mod OthersRow

@@ -18,8 +18,8 @@ use Rattle.record_pages.specs.declared.pushed.Pushed.{Pushed}
 use Rattle.record_pages.specs.declared.put_fault.PutFault.{PutFault}
 use Rattle.mover.specs.Lane.{LaneState}
 use Rattle.mover.specs.Put.{put_step, IsStep}
-use Rattle.mover.proofs.Showing.{put_flies}
-use Rattle.mover.proofs.FlightLists.{number_of_found}
+use Rattle.mover.proofs.public_laws.Showing.{put_flies}
+use Rattle.mover.proofs.public_laws.FlightLists.{number_of_found}
 
 -- another move is found where one is taken out
 others_found : (n other : ℕ) (fs : List Flight) → other ≢ n → flight_of other (without_flight n fs) ≡ flight_of other fs

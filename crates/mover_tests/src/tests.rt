@@ -23,11 +23,10 @@ use mover::{Moved, OpenFault, Store};
 use page_device::{FuseDevice, MemoryDevice, PageDevice};
 use record_pages::{Config, Field, Pushed};
 use rriparoo::Rriparoo;
-use stale_device::StaleDevice;
 use std::alloc::{AllocError, Global};
 use std::process::Abort;
 use std::test::Fail;
-use test_steps::{Asked, PlannedDevice, key, value};
+use test_steps::{Asked, PlannedDevice, StaleDevice, key, value};
 
 // One lane of one set, with one object in memory and two segments of one page. Page 0 is the set's, pages 1 and 2 are the log's.
 const ONE_SET: Config = Config {

@@ -1,1 +1,1 @@
-pub mod FrameLaws
+pub mod public_laws

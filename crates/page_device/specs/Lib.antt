@@ -2,3 +2,4 @@ pub mod Device
 pub mod Frames
 pub mod Fuse
 pub mod Lending
+pub mod Counting

@@ -1,12 +1,20 @@
 //! A device of pages: what its reads and writes promise, a device in memory and one that fails on demand.
 #![tactic(auto)]
 
+mod boxed;
+mod counted;
 mod device;
+mod device_counts;
 mod device_fault;
+mod fits;
 mod fuse;
 mod memory;
 
+pub use boxed::Boxed;
+pub use counted::Counted;
 pub use device::PageDevice;
+pub use device_counts::DeviceCounts;
 pub use device_fault::DeviceFault;
+pub use fits::is_one_too_small;
 pub use fuse::FuseDevice;
 pub use memory::MemoryDevice;

@@ -1,5 +1,5 @@
-pub mod OrderLaws
-pub mod ListLaws
-pub mod SortLaws
-pub mod FittingLaws
-pub mod RankLaws
+mod OrderLaws
+mod ListLaws
+mod SortLaws
+mod FittingLaws
+pub mod public_laws

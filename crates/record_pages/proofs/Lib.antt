@@ -1,6 +1,6 @@
-pub mod FrontLaws
-pub mod RecordLaws
-pub mod PageLaws
-pub mod MakingLaws
-pub mod AfterLaws
-pub mod WalkLaws
+mod FrontLaws
+mod RecordLaws
+mod MakingLaws
+mod AfterLaws
+mod WalkLaws
+pub mod public_laws

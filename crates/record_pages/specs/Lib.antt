@@ -12,3 +12,5 @@ pub mod Reading
 pub mod Walking
 pub mod Making
 pub mod Looking
+pub mod Given
+pub mod Passing

@@ -2,6 +2,7 @@
 #![tactic(auto)]
 
 mod answer;
+mod buffer;
 mod config;
 mod encode;
 mod field;
@@ -31,6 +32,7 @@ mod timed_value;
 mod value;
 
 pub use answer::Answer;
+pub use buffer::ValueBuffer;
 pub use config::{Config, ConfigFault};
 pub use encode::{encode_log_page, encode_set_page, fits};
 pub use field::Field;

@@ -1,3 +1,4 @@
+mod device_files;
 mod pages;
 mod parts;
 mod sizes;

@@ -1,5 +1,5 @@
-pub mod Ending
-pub mod InTurn
-pub mod Kept
-pub mod Points
-pub mod Noting
+mod InTurn
+mod Kept
+mod Points
+mod Noting
+pub mod public_laws

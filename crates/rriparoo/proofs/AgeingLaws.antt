@@ -8,7 +8,7 @@ use Rattle.std.specs.List.{filter}
 use Rattle.policy_laws.specs.declared.item.Item.{Item}
 use Rattle.policy_laws.specs.declared.candidate.Candidate.{Candidate}
 use Rattle.policy_laws.specs.Rank.{candidates_by}
-use Rattle.policy_laws.proofs.RankLaws.{HasItems}
+use Rattle.policy_laws.proofs.public_laws.RankLaws.{HasItems}
 use Rattle.rriparoo.specs.Rriparoo.{aged_candidate}
 use Rattle.rriparoo.specs.Ageing.{grows_older, greatest, farthest, farther, IsWithin}
 

@@ -5,7 +5,7 @@ use Rattle.std.proofs.lemmas.Nat.Bits.{bit_at_set_same, bit_at_set_other, bit_at
 use Rattle.std.specs.Int.{bit_at, w128}
 use Rattle.std.specs.Ordering.{nat_cmp}
 use Rattle.std.specs.FinSet.{empty, contains, insert, contains-empty}
-use Rattle.bit_laws.proofs.PassingLaws.{same_numbers, contains-insert_nat, contains-passing_below, joins}
+use Rattle.record_pages.proofs.public_laws.PassingLaws.{same_numbers, contains-insert_nat, contains-passing_below, joins}
 use Rattle.record_pages.specs.Sizes.{max_set_records}
 use Rattle.rriparoo.specs.HitBits.{bits_of}
 

@@ -1,2 +1,2 @@
-pub mod BitLaws
-pub mod AgeingLaws
+mod BitLaws
+mod AgeingLaws

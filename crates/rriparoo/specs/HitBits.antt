@@ -4,7 +4,7 @@ use Rattle.std.specs.Int.{bit_at}
 use Rattle.std.specs.Ordering.{nat_cmp}
 use Rattle.std.specs.FinSet.{FinSet}
 use Rattle.record_pages.specs.Sizes.{max_set_records}
-use Rattle.bit_laws.specs.Passing.{passing_below}
+use Rattle.record_pages.specs.Passing.{passing_below}
 
 -- the numbers of the bits of a word that are one, of as many bits as a set page may have records
 unfoldable pub bits_of : ℕ → FinSet nat_cmp

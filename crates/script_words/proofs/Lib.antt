@@ -1,4 +1,4 @@
-pub mod Numerals
-pub mod FirstLine
-pub mod Taken
-pub mod NextLine
+mod Numerals
+mod FirstLine
+mod Taken
+pub mod public_laws

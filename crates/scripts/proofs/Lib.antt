@@ -1,7 +1,7 @@
-pub mod OwnHistory
-pub mod Session
-pub mod AheadLaws
-pub mod Lanes
-pub mod Opening
-pub mod Seen
-pub mod Full
+mod OwnHistory
+mod Session
+mod AheadLaws
+mod Lanes
+mod Opening
+mod Seen
+mod Full

@@ -16,7 +16,7 @@ use Rattle.scripts.specs.declared.scripted.Scripted.TheVariants.{Ended, BadLine}
 use Rattle.scripts.specs.declared.turn.Turn.{Turn}
 use Rattle.scripts.specs.declared.turn.Turn.TheVariants.{GoesOn, Ends}
 use Rattle.script_words.specs.Lines.{Ahead, GivesNext, Takes, lines_of, first_line, after_line, feeds, is_ready}
-use Rattle.script_words.proofs.NextLine.{next_lines, feeds-append, through, through_after, one_feed, ready_line, reads}
+use Rattle.script_words.proofs.public_laws.NextLine.{next_lines, feeds-append, through, through_after, one_feed, ready_line, reads}
 use Rattle.scripts.specs.Own.{Opened}
 use Rattle.scripts.specs.Script.{LineReply, Transcript, bad_line, reply_to_line, reply_to_read, transcript, script_of, then_rest, by_turn, IsWhole, WroteAt, WroteWholeLines, WroteLinesBefore}
 use Rattle.scripts.specs.Reading.{Answers, Moves}

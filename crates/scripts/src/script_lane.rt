@@ -21,11 +21,11 @@ use klog::Flushed;
 use mover::Moved;
 use page_device::MemoryDevice;
 use record_pages::{Answer, Config, Field, Key, Pushed, Value};
-use recorded_lane::{RecordFault, RecordPutFault, RecordedLane, accepted_in_turn};
+use recorded_lane::{NotedRef, RecordFault, RecordPutFault, RecordedLane, accepted_in_turn};
 use rriparoo::Rriparoo;
 use std::alloc::{AllocError, Global};
 use std::marker::Model;
-use trace_file::{Certificate, History, Version, WriteTraceFault, write_trace};
+use trace_file::{Act, CallRef, Certificate, History, Version, WriteTraceFault, write_trace};
 
 /// The lane of a script, over a device in memory with just enough pages. Its call number `i`, from 0, has caller 0,
 /// start `3i + 1`, point `3i + 2` and end `3i + 3`. Its moves go by the plans of `Rriparoo`.
@@ -197,9 +197,6 @@ ghost use Rattle.trace_file.specs.Calls.{IsCall, value_of};
 ghost use Rattle.trace_file.specs.Lent.{act_shown, call_shown};
 ghost use Rattle.recorded_lane.specs.Points.{noted_shown};
 ghost use Rattle.scripts.specs.Own.{ended};
-
-use recorded_lane::NotedRef;
-use trace_file::{Act, CallRef};
 
 /// A recorded call, with its end.
 fn with_end(noted: NotedRef<'_>) -> CallRef<'_>

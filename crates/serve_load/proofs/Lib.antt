@@ -1,7 +1,7 @@
-pub mod Repeating
-pub mod Refilling
-pub mod Making
-pub mod Adding
-pub mod Rows
-pub mod Sampling
-pub mod Saying
+mod Repeating
+mod Refilling
+mod Making
+mod Adding
+mod Rows
+mod Sampling
+mod Saying

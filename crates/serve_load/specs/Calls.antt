@@ -10,7 +10,7 @@ use Rattle.load.specs.Served.{served_next_of}
 use Rattle.load.specs.declared.served_load.ServedLoad.{ServedLoad}
 use Rattle.load.specs.declared.served_operation.ServedOperation.{ServedOperation}
 use Rattle.load.specs.declared.served_operation.ServedOperation.TheVariants.{Get, Put, Remove}
-use Rattle.seated_lane.specs.Seated.{put_of}
+use Rattle.service_cache.specs.Seated.{put_of}
 use Rattle.service_cache.specs.Calls.{AddsLast}
 use Rattle.serve_load.specs.declared.counted.Counted.{Counted}
 use Rattle.serve_load.specs.declared.words.Step.{Step}

@@ -5,7 +5,7 @@ use Rattle.record_pages.specs.declared.answer.Answer.TheVariants as answers
 use Rattle.mover.specs.declared.seen.Seen.{Seen}
 use Rattle.mover.specs.declared.seen.Seen.TheVariants.{Hit, Miss}
 use Rattle.certificate_checker.specs.Deeds.{Deed}
-use Rattle.seated_lane.specs.declared.seat_fault.SeatFault.{SeatFault}
+use Rattle.service_cache.specs.declared.seat_fault.SeatFault.{SeatFault}
 use Rattle.service_cache.specs.Calls.{IsHit}
 use Rattle.load.specs.declared.served_load.ServedLoad.{ServedLoad}
 use Rattle.load.specs.declared.served_operation.ServedOperation.{ServedOperation}

@@ -1,7 +1,7 @@
 -- The rows of a report: names, each with a number.
 use Rattle.std.specs.Prelude.{ℕ, ◌+◌, ◌*◌, ◌/◌, List, [], ◌∷◌, codes, max}
 use Rattle.figures.specs.Figures.{Row, number, row, thousandths}
-use Rattle.latencies.specs.declared.histogram.Quantiles.{Quantiles}
+use Rattle.load.specs.declared.histogram.Quantiles.{Quantiles}
 use Rattle.service_lane.specs.declared.get_counts.GetCounts.{GetCounts}
 use Rattle.service_lane.specs.declared.put_counts.PutCounts.{PutCounts}
 use Rattle.service_lane.specs.declared.pushed_counts.PushedCounts.{PushedCounts}

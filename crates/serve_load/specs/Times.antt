@@ -1,9 +1,9 @@
 -- What is told of times: of those of gets and of those of puts.
 use Rattle.std.specs.Prelude.{◌≡◌, ◌⊎◌, ◌+◌, ◌%◌, ◌<◌, ◌≤◌, ◌++◌, ◌∷◌, [], List, ℕ, length, min, Option, None, Some}
-use Rattle.latencies.specs.declared.histogram.Quantiles.{Quantiles}
-use Rattle.latencies.specs.Cells.{longest}
-use Rattle.latencies.specs.Holding.{most_times}
-use Rattle.latencies.specs.Quantile.{IsQuantile, greatest}
+use Rattle.load.specs.declared.histogram.Quantiles.{Quantiles}
+use Rattle.load.specs.Cells.{longest}
+use Rattle.load.specs.Holding.{most_times}
+use Rattle.load.specs.Quantile.{IsQuantile, greatest}
 use Rattle.load.specs.declared.served_operation.ServedOperation.{ServedOperation}
 use Rattle.load.specs.declared.served_operation.ServedOperation.TheVariants.{Get, Put, Remove}
 use Rattle.serve_load.specs.declared.call_times.CallTimes.{CallTimes}

@@ -3,7 +3,7 @@
 use Rattle.std.specs.Prelude.{◌≡◌, ◌≢◌, ℕ, ◌+◌, ◌-◌, ◌<◌, List, Result, Ok, Err, slice_set}
 use Rattle.service_lane.specs.declared.filled.Filled.{Filled}
 use Rattle.service_lane.specs.declared.filled.Filled.TheVariants.{Stored, Stale}
-use Rattle.seated_lane.specs.declared.seat_fault.SeatPutFault.{SeatPutFault}
+use Rattle.service_cache.specs.declared.seat_fault.SeatPutFault.{SeatPutFault}
 use Rattle.load.specs.declared.served_load.ServedLoad.{ServedLoad}
 use Rattle.serve_load.specs.declared.words.Step.{Step}
 use Rattle.serve_load.specs.declared.words.Step.TheVariants.{Done, Refused, WrongHit}

@@ -3,8 +3,7 @@ ghost use Rattle.std.specs.Prelude.{◌≡◌, IfOk, [], IsNone};
 ghost use Rattle.serve_load.specs.Times.{AreTold, IsJoined, IsNoted, IsNotedOnce};
 
 use crate::report::Timed;
-use latencies::Histogram;
-use load::ServedOperation;
+use load::{Histogram, ServedOperation};
 use std::alloc::{AllocError, Global};
 use std::time::{Clock, Instant};
 

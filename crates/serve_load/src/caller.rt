@@ -23,7 +23,7 @@ use mover::Seen;
 use page_device::PageDevice;
 use policy_laws::EvictionPolicy;
 use rand_pcg::Lcg64Xsh32;
-use record_pages::{Key, Value};
+use record_pages::{Key, Value, ValueBuffer};
 use service_cache::{LookedUp, ServiceCache};
 use service_lane::Lease;
 use std::alloc::{AllocError, Global};
@@ -31,7 +31,6 @@ use std::marker::PhantomData;
 use std::sync::Wait;
 use std::sync::atomic::{AtomicU64, Ordering};
 use std::time::{Clock, Instant};
-use value_buffer::ValueBuffer;
 
 /// A caller: its number, its seat, the generator of its random words, what it knows of its keys, a word for each, and room for
 /// its values.

@@ -4,7 +4,7 @@ ghost use Rattle.figures.specs.Figures.{with_rows};
 ghost use Rattle.serve_load.specs.Rows.{fill_rows, get_latency_rows, hit_rows, miss_rows, move_rows, page_rows, pushed_rows, put_latency_rows, put_rows, rate_of, ratio_of, ratio_rows, upkeep_rows};
 
 use figures::{Figure, Form};
-use latencies::Quantiles;
+use load::Quantiles;
 use service_lane::{
     Counts, GetCounts, LeaseCounts, PushedCounts, PutCounts, StepCounts, UpkeepCounts,
 };

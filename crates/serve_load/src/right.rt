@@ -8,7 +8,7 @@ use crate::objects::{expires_of, word};
 use crate::words::Step;
 use load::ServedLoad;
 use mover::Seen;
-use seated_lane::SeatFault;
+use service_cache::SeatFault;
 
 /// How a look-up of a key went that gave this, and these bytes at a hit, for a caller that knew this word of the key, at this
 /// moment.

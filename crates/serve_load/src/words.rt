@@ -2,7 +2,7 @@
 ghost use Rattle.std.specs.Prelude.{◌≡◌, ◌<◌};
 ghost use Rattle.serve_load.specs.Words.{step_of_fill, word_after_fill};
 
-use seated_lane::SeatPutFault;
+use service_cache::SeatPutFault;
 use service_lane::Filled;
 
 /// How a call of a caller went.

@@ -4,7 +4,7 @@ use Rattle.certificate_checker.specs.Deeds.{Deed}
 use Rattle.service_lane.specs.declared.filled.Filled.{Filled}
 use Rattle.service_lane.specs.declared.filled.Filled.TheVariants.{Stored, Stale}
 use Rattle.deed_book.specs.Registers.{Registered}
-use Rattle.seated_lane.specs.Seated.{FillEnters}
+use Rattle.service_cache.specs.Seated.{FillEnters}
 use Rattle.service_cache.specs.Calls.{FillAdds}
 
 -- a fill that was entered by the lane is the last that the seat has seen, or was stale

@@ -1,3 +1,6 @@
-pub mod Filling
-pub mod Honesty
-pub mod Helping
+mod Filling
+mod Honesty
+mod Helping
+mod Latest
+mod Refusing
+mod Seating

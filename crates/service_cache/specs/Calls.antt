@@ -9,8 +9,8 @@ use Rattle.service_lane.specs.declared.filled.Filled.{Filled}
 use Rattle.service_lane.specs.declared.filled.Filled.TheVariants.{Stored, Stale}
 use Rattle.service_cache.specs.declared.looked_up.LookedUp.{LookedUp}
 use Rattle.service_cache.specs.declared.looked_up.LookedUp.TheVariants.{Hit, Miss}
-use Rattle.seated_lane.specs.declared.seat_fault.SeatPutFault.{SeatPutFault}
-use Rattle.seated_lane.specs.declared.seat_fault.SeatPutFault.TheVariants as refusals
+use Rattle.service_cache.specs.declared.seat_fault.SeatPutFault.{SeatPutFault}
+use Rattle.service_cache.specs.declared.seat_fault.SeatPutFault.TheVariants as refusals
 
 -- A hit is its key's latest value in the list not since removed, live at the moment: in memory whatever the devices do, on flash if
 -- the device of the key's lane is said to be honest.

@@ -7,7 +7,7 @@ use Rattle.record_pages.specs.Expiry.{timed}
 use Rattle.key_hash.specs.declared.random_seed.RandomSeed.{RandomSeed}
 use Rattle.key_hash.specs.Hashing.{derived}
 use Rattle.rand_pcg.specs.Lcg.{Lcg}
-use Rattle.lane_devices.specs.Counting.{CountedDevice, no_device_counts}
+use Rattle.page_device.specs.Counting.{CountedDevice, no_device_counts}
 use Rattle.mover.specs.Store.{opening}
 use Rattle.service_lane.specs.Counting.{no_counts, counts_stale, with_given}
 use Rattle.service_lane.specs.Leases.{no_writes, writes_for}
@@ -15,7 +15,7 @@ use Rattle.service_lane.specs.Serving.{Serving, Gets}
 use Rattle.service_lane.specs.WithHelp.{FillsAndHelps}
 use Rattle.service_lane.specs.declared.filled.Filled.{Filled}
 use Rattle.service_lane.specs.declared.filled.Filled.TheVariants.{Stored, Stale}
-use Rattle.seated_lane.specs.Seated.{Seated}
+use Rattle.service_cache.specs.Seated.{Seated}
 use Rattle.service_cache.specs.Calls.{looked_up}
 use Rattle.service_cache.specs.declared.looked_up.LookedUp.{LookedUp}
 use Rattle.service_cache.specs.declared.looked_up.LookedUp.TheVariants.{Hit, Miss}

@@ -14,25 +14,23 @@ ghost use Rattle.service_lane.specs.Upkeep.{Upkeeps, may_ask, due_in};
 ghost use Rattle.service_lane.specs.WithHelp.{PutsAndHelps};
 ghost use Rattle.service_lane.specs.Words.{next_word, next_words};
 ghost use Rattle.service_lane.specs.declared.filled.Filled.{Filled};
-ghost use Rattle.seated_lane.specs.Refusals.{RefusesGet, RefusesPut, RefusesRemoval};
-ghost use Rattle.seated_lane.specs.Seated.{put_of, PutLeaves, RemovalLeaves, FillRefusalLeaves};
-ghost use Rattle.seated_lane.specs.declared.seat_fault.SeatPutFault.{SeatPutFault};
+ghost use Rattle.service_cache.specs.Refusals.{RefusesGet, RefusesPut, RefusesRemoval};
+ghost use Rattle.service_cache.specs.Seated.{put_of, PutLeaves, RemovalLeaves, FillRefusalLeaves};
+ghost use Rattle.service_cache.specs.declared.seat_fault.SeatPutFault.{SeatPutFault};
 ghost use Rattle.service_cache.specs.Calls.{HasMissed, IsHit, looked_up, AddsLast, FillAdds, RefusedPutAdds};
 ghost use Rattle.service_cache.specs.Held.{honest_in, failures_in, held_in, LooksUp, FillsOrNot};
 
 use crate::looked_up::LookedUp;
+use crate::{SeatFault, SeatPutFault, SeatedLane};
 use deed_book::{KeyLanes, Naming, Seat};
-use lane_devices::{Boxed, Counted};
 use mover::Seen;
-use page_device::PageDevice;
+use page_device::{Boxed, Counted, PageDevice};
 use policy_laws::EvictionPolicy;
 use rand_core::utils::NextWord;
 use rand_pcg::Lcg64Xsh32;
-use record_pages::{Key, Pushed, Value};
-use seated_lane::{SeatFault, SeatPutFault, SeatedLane};
+use record_pages::{Key, Pushed, Value, ValueBuffer};
 use service_lane::{Filled, Lease, UpkeepStep};
 use std::marker::Model;
-use value_buffer::ValueBuffer;
 
 /// What the lock of a lane keeps: the lane with its register, and the generator of its words of admission.
 ///

@@ -4,11 +4,15 @@
 
 mod cache;
 mod guarded;
+mod lane;
 mod looked_up;
 mod open_service_fault;
 mod opening;
+mod seat_fault;
 
 pub use cache::ServiceCache;
 pub use cache_sizes::MAX_SHARDS;
+pub use lane::SeatedLane;
 pub use looked_up::LookedUp;
 pub use open_service_fault::OpenServiceFault;
+pub use seat_fault::{SeatFault, SeatPutFault};

@@ -6,14 +6,13 @@ ghost use Rattle.service_lane.specs.Words.{words_for};
 ghost use Rattle.service_cache.specs.Held.{new_lane};
 ghost use Rattle.service_cache.specs.Sorted.{AreAsSaid};
 
+use crate::SeatedLane;
 use crate::guarded::Guarded;
 use crossbeam_utils::CachePadded;
 use deed_book::{KeyLanes, NamedBook, Naming, Register};
 use key_hash::RandomSeed;
-use lane_devices::{Boxed, Counted};
-use page_device::PageDevice;
+use page_device::{Boxed, Counted, PageDevice};
 use record_pages::Layout;
-use seated_lane::SeatedLane;
 use service_lane::{ServiceLane, words_of};
 use std::alloc::{AllocError, Global};
 use std::collections::VecDeque;

@@ -1,2 +1,2 @@
-pub mod Writing
-pub mod Tending
+mod Writing
+mod Tending

@@ -26,8 +26,8 @@ use Rattle.mover.specs.declared.begin.Begin.{Begin}
 use Rattle.mover.specs.declared.begin.Begin.TheVariants as begin
 use Rattle.mover.specs.declared.moved.Moved.{Moved}
 use Rattle.mover.specs.declared.moved.Moved.TheVariants as moved
-use Rattle.upkeep.specs.declared.due.Due.TheVariants as due
-use Rattle.upkeep.specs.Dueness.{can_flush, wants_move, due_of, is_near_end, is_nearly_filled, has_above}
+use Rattle.service_lane.specs.declared.due.Due.TheVariants as due
+use Rattle.service_lane.specs.Dueness.{can_flush, wants_move, due_of, is_near_end, is_nearly_filled, has_above}
 use Rattle.service_lane.specs.declared.upkept.Upkept.{Upkept}
 use Rattle.service_lane.specs.declared.upkept.Upkept.TheVariants as upkept
 use Rattle.service_lane.specs.Counting.{with_step}

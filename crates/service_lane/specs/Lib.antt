@@ -5,3 +5,4 @@ pub mod Serving
 pub mod Upkeep
 pub mod WithHelp
 pub mod Words
+pub mod Dueness

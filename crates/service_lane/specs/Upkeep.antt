@@ -8,9 +8,9 @@ use Rattle.klog.specs.Usage.{usage_of}
 use Rattle.mover.specs.declared.moved.Moved.{Moved}
 use Rattle.mover.specs.declared.moved.Moved.TheVariants as moved
 use Rattle.mover.specs.Calls.{StoreFlushes, StoreMoves}
-use Rattle.upkeep.specs.declared.due.Due.{Due}
-use Rattle.upkeep.specs.declared.due.Due.TheVariants as due
-use Rattle.upkeep.specs.Dueness.{due_of, is_near_end}
+use Rattle.service_lane.specs.declared.due.Due.{Due}
+use Rattle.service_lane.specs.declared.due.Due.TheVariants as due
+use Rattle.service_lane.specs.Dueness.{due_of, is_near_end}
 use Rattle.service_lane.specs.declared.upkept.Upkept.{Upkept}
 use Rattle.service_lane.specs.declared.upkept.Upkept.TheVariants as upkept
 use Rattle.service_lane.specs.declared.helped.Helped.{Helped}

@@ -3,6 +3,7 @@
 #![tactic(auto)]
 
 mod counts;
+mod due;
 mod filled;
 mod get_counts;
 mod helped;
@@ -20,6 +21,7 @@ mod upkept;
 mod words;
 
 pub use counts::Counts;
+pub use due::{Due, is_near_end, what_is_due};
 pub use filled::Filled;
 pub use get_counts::GetCounts;
 pub use helped::{Helped, MAX_HELP_STEPS};

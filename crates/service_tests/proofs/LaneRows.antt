@@ -17,12 +17,12 @@ use Rattle.certificate_checker.specs.Deeds.{Deed}
 use Rattle.certificate_checker.specs.Current.{current}
 use Rattle.certificate_checker.specs.Latest.{IsLive}
 use Rattle.certificate_checker.specs.Laws.{LatestIsCurrent}
-use Rattle.certificate_checker.proofs.LatestLemmas.{current-push}
-use Rattle.deeds.proofs.Sounding.{put_gives, none_some}
+use Rattle.certificate_checker.proofs.public_laws.LatestLemmas.{current-push}
+use Rattle.deeds.proofs.public_laws.Sounding.{put_gives, none_some}
 use Rattle.mover.specs.Get.{answer_of}
 use Rattle.mover.specs.declared.seen.Seen.{Seen}
 use Rattle.mover.specs.declared.seen.Seen.TheVariants.{Hit}
-use Rattle.mover.proofs.Showing.{some_same}
+use Rattle.mover.proofs.public_laws.Showing.{some_same}
 use Rattle.service_lane.specs.Asked.{IsLiveHit}
 use Rattle.service_lane.specs.Leases.{LeaseSlots, hash_by, slot_of, slot_for, writes_for, with_write, one_more, most_writes, HoldsLease}
 use Rattle.service_lane.specs.Serving.{Serving}

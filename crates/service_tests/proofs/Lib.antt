@@ -1,1 +1,1 @@
-pub mod LaneRows
+mod LaneRows

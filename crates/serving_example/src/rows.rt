@@ -2,13 +2,12 @@
 use crate::database::Database;
 use deed_book::{KeyLanes, Naming, Seat};
 use page_device::MemoryDevice;
-use record_pages::{Key, NEVER, Value};
+use record_pages::{Key, NEVER, Value, ValueBuffer};
 use rriparoo::Rriparoo;
 use service_cache::{LookedUp, ServiceCache};
 use service_lane::Lease;
 use std::alloc::Global;
 use std::sync::Wait;
-use value_buffer::ValueBuffer;
 
 /// The cache, with pages of 256 bytes.
 pub type Cache<L, J> = ServiceCache<MemoryDevice<256>, Rriparoo, 256, L, J>;

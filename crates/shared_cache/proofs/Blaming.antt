@@ -8,8 +8,8 @@ use Rattle.std.proofs.lemmas.List.Elements.{All-append, All-cons, All-head, All-
 use Rattle.std.proofs.lemmas.List.Sorted.{All-permutation, Contains-permutation, IsPermutation-sym}
 use Rattle.std.proofs.lemmas.Option.{slice_get_within, same_Some}
 use Rattle.recorded_lane.specs.declared.noted.Noted.{Noted}
-use Rattle.history_recorder.proofs.Indexing.{at_so}
-use Rattle.history_recorder.proofs.Stamps.{found_right, set_here, set_there}
+use Rattle.history_recorder.proofs.public_laws.Indexing.{at_so}
+use Rattle.history_recorder.proofs.public_laws.Stamps.{found_right, set_here, set_there}
 use Rattle.certificate_checker.specs.declared.done.Done.{Done}
 use Rattle.shared_cache.specs.declared.finish_fault.FinishFault.{FinishFault}
 use Rattle.shared_cache.specs.declared.finish_fault.FinishFault.TheVariants.{MissingPass, Strange, OutOfMemory, LaneLost, Unlisted}

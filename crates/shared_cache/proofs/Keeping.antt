@@ -6,10 +6,10 @@ use Rattle.std.proofs.lemmas.List.Elements.{All-append, All-cons, All-head, All-
 use Rattle.std.proofs.lemmas.Option.{same_Some, slice_get-get_or, slice_get-map}
 use Rattle.trace_file.specs.declared.call.Call.{Call}
 use Rattle.trace_file.specs.Stored.{LiesIn, call_in}
-use Rattle.trace_file.proofs.StoreLaws.{calls_in-more}
+use Rattle.trace_file.proofs.public_laws.StoreLaws.{calls_in-more}
 use Rattle.recorded_lane.specs.declared.noted.Noted.{Noted}
 use Rattle.recorded_lane.specs.Points.{noted_in}
-use Rattle.history_recorder.proofs.Stamps.{found_right}
+use Rattle.history_recorder.proofs.public_laws.Stamps.{found_right}
 use Rattle.shared_cache.specs.declared.listed_entry.ListedEntry.{ListedEntry}
 use Rattle.shared_cache.specs.Listed.{Listed, calls_listed, listed_in}
 use Rattle.shared_cache.specs.Passes.{KeepsCalls, IsPass, IsTimely, kept_with_end, most_lanes, with_end}

@@ -6,7 +6,7 @@ use Rattle.std.proofs.lemmas.List.{take-append-le, take_all, take_more}
 use Rattle.std.proofs.lemmas.List.Elements.{All-append, All-nil}
 use Rattle.std.proofs.lemmas.Option.{get_or_from_slice_get, same_Some, slice_get_within}
 use Rattle.recorded_lane.specs.declared.noted.Noted.{Noted}
-use Rattle.history_recorder.proofs.Stamps.{found_before, found_left, found_right}
+use Rattle.history_recorder.proofs.public_laws.Stamps.{found_before, found_left, found_right}
 use Rattle.shared_cache.specs.Listed.{Listed}
 use Rattle.shared_cache.specs.Finished.{done_of}
 use Rattle.shared_cache.specs.Blames.{IsFree, IsOfPlace}

@@ -8,8 +8,8 @@ use mathlib.Core.List.{map-append}
 use Rattle.std.proofs.lemmas.Option.{slice_get-get_or, slice_get_within, same_Some, get_or_from_slice_get}
 use Rattle.recorded_lane.specs.declared.noted.Noted.{Noted}
 use Rattle.recorded_lane.specs.Points.{noted_in}
-use Rattle.history_recorder.proofs.Indexing.{at_so, all_by_index}
-use Rattle.history_recorder.proofs.Stamps.{found_before, found_left, found_right}
+use Rattle.history_recorder.proofs.public_laws.Indexing.{at_so, all_by_index}
+use Rattle.history_recorder.proofs.public_laws.Stamps.{found_before, found_left, found_right}
 use Rattle.certificate_checker.specs.declared.done.Done.{Done}
 use Rattle.certificate_checker.specs.Lanes.{Stamped, stamp, stamped_from}
 use Rattle.shared_cache.specs.declared.finish_fault.FinishFault.{FinishFault}

@@ -7,8 +7,7 @@ ghost use Rattle.shared_cache.specs.Acts.{ActGives, ActLeaves, IsFitting, asked_
 use crate::act_fault::ActFault;
 use crate::asked::Asked;
 use crate::outcome::Outcome;
-use lane_devices::Boxed;
-use page_device::PageDevice;
+use page_device::{Boxed, PageDevice};
 use recorded_lane::RecordedLane;
 
 /// Has a lane answer what is asked and record it. Only memory may be refused.

@@ -6,10 +6,12 @@ mod blank_device;
 mod made;
 mod planned_device;
 mod seen;
+mod stale;
 mod without_random;
 
 pub use blank_device::BlankDevice;
 pub use made::{key, value};
 pub use planned_device::{Asked, PlannedDevice};
 pub use seen::Seen;
+pub use stale::StaleDevice;
 pub use without_random::WithoutRandom;

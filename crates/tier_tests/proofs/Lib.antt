@@ -1,5 +1,5 @@
-pub mod SetOwnerLaws
-pub mod SetRowLaws
-pub mod LogOwnerLaws
-pub mod LogRowLaws
-pub mod Newest
+mod SetOwnerLaws
+mod SetRowLaws
+mod LogOwnerLaws
+mod LogRowLaws
+mod Newest

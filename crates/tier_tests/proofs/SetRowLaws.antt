@@ -18,7 +18,7 @@ use Rattle.kset.specs.Sets.{SetsState, set_count, notes_of, hit_in}
 use Rattle.kset.specs.Telling.{page_if_of}
 use Rattle.kset.specs.After.{IsForeign}
 use Rattle.kset.specs.Look.{is_set_fault}
-use Rattle.kset.proofs.NotesLaws.{notes_of-with}
+use Rattle.kset.proofs.public_laws.NotesLaws.{notes_of-with}
 use Rattle.tier_tests.specs.Another.{IsOfAnother}
 
 -- what is noted of a set once a slot of it is touched

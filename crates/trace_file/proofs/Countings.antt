@@ -16,7 +16,7 @@ use Rattle.trace_file.specs.Stream.{pair_of, in_front, TakesItems, FailsAs, coun
 use Rattle.trace_file.specs.declared.taken.Taken.{Taken}
 use Rattle.trace_file.proofs.ItemFormats.{header_format}
 use Rattle.trace_file.proofs.Takings.{bytes_from_All}
-use Rattle.trace_file.proofs.TraceLaws.{behind_header}
+use Rattle.trace_file.proofs.public_laws.TraceLaws.{behind_header}
 use Rattle.trace_file.specs.Text.{call_text, position_text, header_text, IsCallOf}
 
 abbrev last : List Call → List ℕ × Place → Result Trace Stop

@@ -5,7 +5,7 @@ use Rattle.std.proofs.Math.Seq.{take-append_seam}
 use Rattle.trace_file.specs.declared.call.Call.{Call}
 use Rattle.trace_file.specs.declared.entry.Entry.{Entry}
 use Rattle.trace_file.specs.Stored.{call_in, calls_in, LiesIn, AreStored}
-use Rattle.trace_file.proofs.StoreLaws.{calls_in-more}
+use Rattle.trace_file.proofs.public_laws.StoreLaws.{calls_in-more}
 
 -- a list less the element that was pushed last
 before_last : {X : Type 0} (xs : List X) (x : X) → take (length (xs ++ x ∷ []) - 1) (xs ++ x ∷ []) ≡ xs

@@ -8,7 +8,7 @@ use Rattle.trace_file.specs.declared.call.Call.{Call}
 use Rattle.trace_file.specs.declared.entry.Entry.{Entry}
 use Rattle.trace_file.specs.Ending.{ending_at, each_ending}
 use Rattle.trace_file.specs.Stored.{part, act_of, call_in, calls_in, each_ended, moved_by, each_moved, LiesIn, AreStored}
-use Rattle.trace_file.proofs.StoreLaws.{calls_in-more}
+use Rattle.trace_file.proofs.public_laws.StoreLaws.{calls_in-more}
 
 -- the bytes behind other ones
 part-behind : (front store : List ℕ) (bytes offset len : ℕ) → length front ≡ bytes → part (offset + bytes) len (front ++ store) ≡ part offset len store

@@ -1,14 +1,11 @@
-pub mod Countings
-pub mod DropLaws
-pub mod Extending
-pub mod Formats
-pub mod ItemFormats
-pub mod Meetings
-pub mod ReaderLaws
-pub mod Readings
-pub mod SendLaws
-pub mod Standings
-pub mod StoreLaws
-pub mod Takings
-pub mod ToldApart
-pub mod TraceLaws
+mod Countings
+mod DropLaws
+mod Extending
+mod Formats
+mod ItemFormats
+mod Meetings
+mod ReaderLaws
+mod Standings
+mod Takings
+mod ToldApart
+pub mod public_laws

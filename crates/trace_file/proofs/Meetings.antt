@@ -24,7 +24,7 @@ use Rattle.trace_file.proofs.Formats.{bytes_format, wide16, wide32, number_forma
 use Rattle.trace_file.proofs.ItemFormats.{key_format, read_act, read_key, read_end, read_start, read_caller, made, call_format, same_from_none, version_format, header_format}
 use Rattle.trace_file.proofs.ReaderLaws.{magic_len}
 use Rattle.trace_file.proofs.Standings.{not_not, timed_at}
-use Rattle.trace_file.proofs.TraceLaws.{after_calls, after_header}
+use Rattle.trace_file.proofs.public_laws.TraceLaws.{after_calls, after_header}
 use Rattle.trace_file.proofs.ToldApart.{behind_trace, some_bytes}
 
 -- ---- two steps

@@ -21,7 +21,7 @@ use Rattle.trace_file.specs.Calls.{IsCall, value_of}
 use Rattle.trace_file.specs.Reading.{Place, place, version_at, header_at, trace_at, at_end, outcome_of, first_fault_of, met}
 use Rattle.trace_file.specs.Stream.{pair_of, FailsAs, counted_text, text_so_far, read_behind, IsTaken, whole, standing, Advances, IsReading, IsReader, StartsOn, Keeps, FaultIn, stream_of, fed_of, finished}
 use Rattle.trace_file.specs.Text.{IsTrace, magic, time_text, act_text, call_text, position_text, header_text, IsCallOf}
-use Rattle.trace_file.proofs.TraceLaws.{goes_on, stopped_at_header, trace_takes, trace_stays}
+use Rattle.trace_file.proofs.public_laws.TraceLaws.{goes_on, stopped_at_header, trace_takes, trace_stays}
 use Rattle.trace_file.proofs.Takings.{bytes_from_All}
 use Rattle.std.specs.Prelude.{IfOk, IfErr}
 

@@ -28,9 +28,9 @@ use Rattle.trace_file.specs.Text.{magic, most_calls, call_text, position_text, k
 use Rattle.trace_file.proofs.Formats.{IsBytes, bind_err, at_first, at_second, same_fault, not_short, Takes, Takes-then, bytes_format, wide16, wide32, wide64, number_format, byte_format, many_format}
 use Rattle.trace_file.proofs.ItemFormats.{key_format, kind_text, kind_format, kind_number, kind_number-known, kind_number-put, kind_number-hit, read_act, read_key, read_end, read_start, read_caller, made, call_format, position_format, version_format, header_format}
 use Rattle.trace_file.proofs.ReaderLaws.{magic_len}
-use Rattle.trace_file.proofs.Readings.{stopped_by}
+use Rattle.trace_file.proofs.public_laws.Readings.{stopped_by}
 use Rattle.trace_file.proofs.Takings.{bytes_from_All}
-use Rattle.trace_file.proofs.TraceLaws.{after_calls, after_header}
+use Rattle.trace_file.proofs.public_laws.TraceLaws.{after_calls, after_header}
 
 -- ---- what meets no fault
 

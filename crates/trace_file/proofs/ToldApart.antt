@@ -14,10 +14,10 @@ use Rattle.trace_file.specs.declared.version.Version.{Version}
 use Rattle.trace_file.specs.declared.version.Version.TheVariants.{Timed, Timeless}
 use Rattle.trace_file.specs.Text.{magic, header_of, header_text, text_of, IsPairOf, IsTrace, IsTraceOf}
 use Rattle.trace_file.proofs.Countings.{bytes_behind}
-use Rattle.trace_file.proofs.Readings.{stopped_by}
+use Rattle.trace_file.proofs.public_laws.Readings.{stopped_by}
 use Rattle.trace_file.proofs.ReaderLaws.{ended_ok}
 use Rattle.trace_file.proofs.Takings.{bytes_from_All}
-use Rattle.trace_file.proofs.TraceLaws.{of_version, version_of, goes_on, trace_takes, trace_again, trace_stays}
+use Rattle.trace_file.proofs.public_laws.TraceLaws.{of_version, version_of, goes_on, trace_takes, trace_again, trace_stays}
 
 -- a trace is read as its pair
 read_as : (bytes : List ℕ) (h : List Call) (c : List ℕ) → IsTrace bytes h c → trace_at (place 0 bytes) ≡ Ok (pair_of h c)

@@ -11,7 +11,7 @@ use crate::hit::Hit;
 use crate::status::Status;
 use mover::Seen;
 use page_device::PageDevice;
-use value_buffer::ValueBuffer;
+use record_pages::ValueBuffer;
 
 impl<D: PageDevice<4096>> CLane<D> {
     /// Looks a key up. At `Done` its value stands at the front of the buffer, the rest of which is as it was; at any other status

@@ -8,7 +8,7 @@ use super::CLane;
 use crate::step::Step;
 use page_device::PageDevice;
 use rriparoo::Rriparoo;
-use upkeep::what_is_due;
+use service_lane::what_is_due;
 
 impl<D: PageDevice<4096>> CLane<D> {
     /// Does what is due, one step, or nothing where nothing is. At most 33 pages are read and one is written.

@@ -10,9 +10,8 @@ use crate::telling::{act_lent, act_seen};
 use memory_cache::found_is_held;
 use mover::{Seen, get_shows};
 use page_device::PageDevice;
-use record_pages::{Answer, Key};
+use record_pages::{Answer, Key, ValueBuffer};
 use std::alloc::AllocError;
-use value_buffer::ValueBuffer;
 
 impl<D: PageDevice<PAGE>, const PAGE: usize> DeedStore<D, PAGE> {
     /// Looks the key of these bytes up, and writes the value of a hit into the buffer: at a miss that stays as it was. The

@@ -17,9 +17,8 @@ use crate::located::Located;
 use crate::told::Told;
 use klog_index::{EntriesOf, Entry};
 use page_device::PageDevice;
-use record_pages::is_live;
+use record_pages::{ValueBuffer, is_live};
 use set_hash::Placed;
-use value_buffer::ValueBuffer;
 
 impl<const PAGE: usize> KLog<PAGE> {
     /// The entry of the newest live record of a key, if that has not expired at the moment: its value is then in the

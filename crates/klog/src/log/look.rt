@@ -10,10 +10,9 @@ use super::KLog;
 use crate::located::Located;
 use klog_index::Entry;
 use page_device::PageDevice;
-use record_pages::{Key, Looked, Value};
+use record_pages::{Key, Looked, Value, ValueBuffer};
 use set_hash::Placed;
 use std::alloc::{AllocError, Global};
-use value_buffer::ValueBuffer;
 
 impl<const PAGE: usize> KLog<PAGE> {
     /// The value of the newest live record of a key, if it has not expired at the moment: its prediction is then one less,

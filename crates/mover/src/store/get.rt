@@ -15,9 +15,8 @@ use crate::located::Located;
 use crate::recalled::Recalled;
 use crate::seen::Seen;
 use page_device::PageDevice;
-use record_pages::{Answer, Key, MissCause, Tier};
+use record_pages::{Answer, Key, MissCause, Tier, ValueBuffer};
 use std::alloc::AllocError;
-use value_buffer::ValueBuffer;
 
 impl<D: PageDevice<PAGE>, const PAGE: usize> Store<D, PAGE> {
     /// The value that a key has at a moment, with the first tier that has a pair of the key: memory, the log, its set. A pair

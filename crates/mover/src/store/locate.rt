@@ -12,9 +12,8 @@ use crate::located::Located;
 use klog::KLog;
 use kset::KSet;
 use page_device::PageDevice;
-use record_pages::MissCause;
+use record_pages::{MissCause, ValueBuffer};
 use set_hash::Placed;
-use value_buffer::ValueBuffer;
 
 // Where the log, or else its set, has a key. Its value goes into the buffer. Nothing changes but the device.
 pub(super) fn locate_below<D: PageDevice<PAGE>, const PAGE: usize>(

@@ -2,8 +2,7 @@
 use super::*;
 use mover::{Aborted, Begin, Committed, Seen};
 use policy_laws::{Choice, Item, Job, Plan};
-use record_pages::{Answer, Key, MissCause, Prediction, PutFault, Tier, Value};
-use value_buffer::ValueBuffer;
+use record_pages::{Answer, Key, MissCause, Prediction, PutFault, Tier, Value, ValueBuffer};
 
 /// When each value that is put expires.
 pub const EXPIRES: u64 = 10;

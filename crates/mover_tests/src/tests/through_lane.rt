@@ -2,9 +2,8 @@
 use super::run::{EXPIRES, WAS_HELD, held_then, is_put, is_seen, is_too_large};
 use super::*;
 use key_hash::RandomSeed;
-use record_pages::{Key, PutFault};
+use record_pages::{Key, PutFault, ValueBuffer};
 use service_lane::ServiceLane;
-use value_buffer::ValueBuffer;
 
 type Lane = ServiceLane<MemoryDevice<256>, 256>;
 

@@ -1,10 +1,11 @@
 // What the words of a command line ask for, and how the program ends.
 use command_line::{Ended, Ending, Line, LineFault, no_text, parse_line};
-use file_requests::{CheckRequest, FileName, JudgeRequest, ShowRequest};
+use judge_run::{CheckRequest, JudgeRequest, ShowRequest};
 use std::alloc::Global;
 use std::io;
 use std::io::ErrorKind;
 use std::test::Fail;
+use trace_file::FileName;
 
 /// What words ask for.
 #[derive(Clone, Copy, PartialEq, Eq)]

@@ -4,7 +4,6 @@ use command_line::{Line, parse_line};
 use load::ServedLoad;
 use page_device::PageDevice;
 use serve_load::{CacheShape, serve_load, serve_over};
-use stale_device::StaleDevice;
 use std::alloc::Global;
 use std::fs;
 use std::random::RandomSource;
@@ -13,6 +12,7 @@ use std::sync::Wait;
 use std::test::Fail;
 use std::thread::Threads;
 use std::time::Clock;
+use test_steps::StaleDevice;
 
 /// What a load ended with and wrote.
 #[derive(Drop)]

@@ -1,6 +1,6 @@
 //! The report of a load.
 use figures::Form;
-use latencies::Quantiles;
+use load::Quantiles;
 use serve_load::{Report, Timed};
 use service_lane::{
     Counts, GetCounts, LeaseCounts, PushedCounts, PutCounts, StepCounts, UpkeepCounts,

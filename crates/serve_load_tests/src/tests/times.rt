@@ -1,7 +1,7 @@
 //! Histograms of times, through public calls. The functions are rows: their clauses deny wrong bodies of the calls that they make.
 ghost use Rattle.std.specs.Prelude.{◌≡◌, []};
 
-use latencies::{Histogram, LONGEST};
+use load::{Histogram, LONGEST};
 use std::test::Fail;
 
 /// Half of a short and a long time do not exceed the short one: neither the next cell nor the longest time is answered.

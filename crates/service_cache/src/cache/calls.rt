@@ -7,22 +7,21 @@ ghost use Rattle.record_pages.specs.declared.put_fault.PutFault.{PutFault};
 ghost use Rattle.mover.specs.Get.{answer_of};
 ghost use Rattle.service_lane.specs.Asked.{IsMiss};
 ghost use Rattle.trace_file.specs.declared.act.Act.{Act};
-ghost use Rattle.seated_lane.specs.Refusals.{RefusesGet, RefusesPut, RefusesRemoval};
-ghost use Rattle.seated_lane.specs.Seated.{put_of};
-ghost use Rattle.seated_lane.specs.declared.seat_fault.SeatPutFault.{SeatPutFault};
+ghost use Rattle.service_cache.specs.Refusals.{RefusesGet, RefusesPut, RefusesRemoval};
+ghost use Rattle.service_cache.specs.Seated.{put_of};
+ghost use Rattle.service_cache.specs.declared.seat_fault.SeatPutFault.{SeatPutFault};
 ghost use Rattle.service_cache.specs.Calls.{HasMissed, IsHit, looked_up, AddsLast, FillAdds, RefusedPutAdds};
 
 use super::ServiceCache;
 use crate::looked_up::LookedUp;
+use crate::{SeatFault, SeatPutFault};
 use deed_book::{EntryFault, KeyLanes, Naming, Seat};
 use mover::Seen;
 use page_device::PageDevice;
 use policy_laws::EvictionPolicy;
-use record_pages::{Key, Pushed, Value};
-use seated_lane::{SeatFault, SeatPutFault};
+use record_pages::{Key, Pushed, Value, ValueBuffer};
 use service_lane::{Filled, Lease};
 use std::sync::Wait;
-use value_buffer::ValueBuffer;
 
 impl<
     D: PageDevice<PAGE>,

@@ -14,8 +14,7 @@ use crate::key_buffer::check_key;
 use crate::lease::Lease;
 use mover::Seen;
 use page_device::PageDevice;
-use record_pages::KeyFault;
-use value_buffer::ValueBuffer;
+use record_pages::{KeyFault, ValueBuffer};
 
 impl<D: PageDevice<PAGE>, const PAGE: usize> ServiceLane<D, PAGE> {
     /// Looks a key up, by its bytes. The value of a hit is in the buffer then; at a miss the buffer is as it was. No memory is

@@ -6,9 +6,9 @@ ghost use Rattle.service_lane.specs.Upkeep.{Upkeeps, HelpsOnce, Helps, may_ask, 
 use super::ServiceLane;
 use crate::helped::{Helped, MAX_HELP_STEPS};
 use crate::upkept::{UpkeepStep, Upkept};
+use crate::{Due, is_near_end, what_is_due};
 use page_device::PageDevice;
 use policy_laws::EvictionPolicy;
-use upkeep::{Due, is_near_end, what_is_due};
 
 impl<D: PageDevice<PAGE>, const PAGE: usize> ServiceLane<D, PAGE> {
     /// Does what is due in the lane, one step: writes a page of its log, or has the policy move what is oldest there; or

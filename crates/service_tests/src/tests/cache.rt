@@ -14,16 +14,14 @@ ghost use Rattle.std.specs.Prelude.{◌≡◌, IfOk, length};
 use deed_book::{KeyLanes, Naming, NewBook, Seat};
 use key_hash::RandomSeed;
 use page_device::{MemoryDevice, PageDevice};
-use record_pages::{Config, NEVER, Pushed, PutFault};
+use record_pages::{Config, NEVER, Pushed, PutFault, ValueBuffer};
 use rriparoo::Rriparoo;
-use seated_lane::{SeatFault, SeatPutFault};
-use service_cache::{LookedUp, OpenServiceFault, ServiceCache};
+use service_cache::{LookedUp, OpenServiceFault, SeatFault, SeatPutFault, ServiceCache};
 use service_lane::Filled;
 use std::alloc::Global;
 use std::sync::Wait;
 use std::test::Fail;
 use test_steps::{key, value};
-use value_buffer::ValueBuffer;
 
 type Cache<D, L, J> = ServiceCache<D, Rriparoo, 256, L, J>;
 

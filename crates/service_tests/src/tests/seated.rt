@@ -3,22 +3,21 @@ ghost use Rattle.std.specs.Prelude.{◌≡◌, [], ◌∷◌, IfOk, IfSome, IsTr
 ghost use Rattle.certificate_checker.specs.Deeds.{Deed};
 ghost use Rattle.mover.specs.Get.{answer_of};
 ghost use Rattle.service_lane.specs.Asked.{IsLiveHit};
-ghost use Rattle.seated_lane.specs.Seated.{put_of};
+ghost use Rattle.service_cache.specs.Seated.{put_of};
 ghost use Rattle.service_tests.specs.Standing.{Stands};
 
 use deed_book::{Naming, NewBook, OneLane, Seat};
 use key_hash::RandomSeed;
 use mover::Seen;
 use page_device::MemoryDevice;
-use record_pages::{Config, Key, NEVER, Tier, Value};
-use seated_lane::SeatedLane;
+use record_pages::{Config, Key, NEVER, Tier, Value, ValueBuffer};
+use service_cache::SeatedLane;
 use service_lane::ServiceLane;
 use std::alloc::Global;
 use std::marker::Brand;
 use std::sync::{Mutex, Wait};
 use std::test::*;
 use std::thread::{Threads, join};
-use value_buffer::ValueBuffer;
 
 // One lane of one set, with four objects in memory and two segments of one page.
 const SMALL: Config = Config {

@@ -6,10 +6,10 @@ use super::test_device::TestDevice;
 use super::test_policy::TestPolicy;
 use record_pages::Config;
 use shared_cache::{Pass, SharedCache};
-use stale_device::StaleDevice;
 use std::alloc::Global;
 use std::sync::Arc;
 use std::test::Fail;
+use test_steps::StaleDevice;
 
 /// A cache whose devices and policy do what a test asks for.
 pub type Cache = SharedCache<TestDevice, TestPolicy, 256>;

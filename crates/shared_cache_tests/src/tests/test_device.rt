@@ -3,9 +3,9 @@ ghost use Rattle.std.specs.Prelude.{length, false, None};
 
 use super::gate::Gate;
 use page_device::{DeviceFault, PageDevice};
-use stale_device::StaleDevice;
 use std::alloc::Global;
 use std::sync::Arc;
+use test_steps::StaleDevice;
 
 /// Pages in memory with a number, and how many of them were written that are no sets' pages, and that are. A read waits at
 /// the gate, if there is one, and fails where that was not opened in time.

@@ -1,6 +1,6 @@
 -- No fault is the same as accepted, and a first fault is a fault.
 use Rattle.std.proofs.Common.{refl}
-use Rattle.certificate_checker.proofs.Accepting.{accepted, no_fault}
+use Rattle.certificate_checker.proofs.public_laws.Accepting.{accepted, no_fault}
 use Rattle.certificate_checker.proofs.acceptance.check_with_hasher.Goals as goal
 
 pub returns-in-None-clause-accepted : goal.returns-in-None-clause-accepted

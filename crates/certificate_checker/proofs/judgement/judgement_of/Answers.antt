@@ -1,7 +1,7 @@
 -- The line on a trace, and on a fault.
 use Rattle.std.proofs.Common.{refl}
 use Rattle.certificate_checker.specs.VerdictLine.{bad_trace_line}
-use Rattle.certificate_checker.proofs.Judging.{line_on_trace, line_on_fault}
+use Rattle.certificate_checker.proofs.public_laws.Judging.{line_on_trace, line_on_fault}
 use Rattle.certificate_checker.proofs.judgement.judgement_of.Goals as goal
 
 pub returns-in-Ok-on_trace-clause-line : goal.returns-in-Ok-on_trace-clause-line

@@ -1,4 +1,4 @@
-use Rattle.certificate_checker.proofs.Accepting.{no_fault}
+use Rattle.certificate_checker.proofs.public_laws.Accepting.{no_fault}
 use Rattle.certificate_checker.proofs.laws.accepted_has_no_fault.Goals as goal
 
 pub returns : goal.returns

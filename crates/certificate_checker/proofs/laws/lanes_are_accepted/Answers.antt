@@ -1,4 +1,4 @@
-use Rattle.certificate_checker.proofs.LaneLemmas.{lanes_accepted}
+use Rattle.certificate_checker.proofs.public_laws.LaneLemmas.{lanes_accepted}
 use Rattle.certificate_checker.proofs.laws.lanes_are_accepted.Goals as goal
 
 pub returns : goal.returns

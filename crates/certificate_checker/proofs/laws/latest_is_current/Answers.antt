@@ -1,5 +1,5 @@
 -- The two lemmas on the fold.
-use Rattle.certificate_checker.proofs.LatestLemmas.{latest_found, latest_is}
+use Rattle.certificate_checker.proofs.public_laws.LatestLemmas.{latest_found, latest_is}
 use Rattle.certificate_checker.proofs.laws.latest_is_current.Goals as goal
 
 pub returns : goal.returns

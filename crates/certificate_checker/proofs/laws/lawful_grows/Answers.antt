@@ -1,4 +1,4 @@
-use Rattle.certificate_checker.proofs.Growing.{lawful-push}
+use Rattle.certificate_checker.proofs.public_laws.Growing.{lawful-push}
 use Rattle.certificate_checker.proofs.laws.lawful_grows.Goals as goal
 
 pub returns : goal.returns

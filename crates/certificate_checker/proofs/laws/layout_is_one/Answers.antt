@@ -1,4 +1,4 @@
-use Rattle.certificate_checker.proofs.Layouts.{one_layout}
+use Rattle.certificate_checker.proofs.public_laws.Layouts.{one_layout}
 use Rattle.certificate_checker.proofs.laws.layout_is_one.Goals as goal
 
 pub returns : goal.returns

@@ -1,6 +1,6 @@
 use Rattle.std.proofs.Common.{map}
 use Rattle.std.proofs.lemmas.List.Sorted.{IsPermutation-map, All-permutation}
-use Rattle.certificate_checker.proofs.Listing.{pairs_from}
+use Rattle.certificate_checker.proofs.public_laws.Listing.{pairs_from}
 use Rattle.certificate_finder.specs.Spots.{Spotted, IsWithin}
 use Rattle.certificate_finder.proofs.Merging.{order_permuted, merged}
 use Rattle.certificate_finder.proofs.laws.sorted_spots_are_accepted.Goals as goal

@@ -1,7 +1,7 @@
 -- The history and the certificate are a layout, and a layout of well recorded lanes is accepted.
 use Rattle.std.proofs.Common.{List, subst}
 use Rattle.certificate_checker.specs.declared.done.Done.{Done}
-use Rattle.certificate_checker.proofs.LaneLemmas.{lanes_accepted}
+use Rattle.certificate_checker.proofs.public_laws.LaneLemmas.{lanes_accepted}
 use Rattle.history_recorder.specs.Merging.{ListsAll}
 use Rattle.history_recorder.proofs.Listings.{laid_out}
 use Rattle.history_recorder.proofs.layout.lay_out.Goals as goal

@@ -1,11 +1,14 @@
 // Files and standard input that are read, and files that are written.
-use file_requests::{CheckRequest, FileName, JudgeRequest, ShowRequest};
-use judge_run::{check_with, judge_with, run_check, run_judge, run_show, show_with};
+use judge_run::{
+    CheckRequest, JudgeRequest, ShowRequest, check_with, judge_with, run_check, run_judge,
+    run_show, show_with,
+};
 use std::alloc::{AllocError, Global};
 use std::fs;
 use std::random::RandomSource;
 use std::rt::Files;
 use std::test::Fail;
+use trace_file::FileName;
 
 /// What is done with files, and what comes of it.
 #[derive(Clone, Copy)]

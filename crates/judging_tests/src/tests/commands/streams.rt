@@ -1,12 +1,12 @@
 // Readers and writers that fail.
 use figures::Form;
-use file_requests::{FileName, ShowRequest};
-use judge_run::{Outcome, TellFault, answer_check, answer_judge, show_with};
+use judge_run::{Outcome, ShowRequest, TellFault, answer_check, answer_judge, show_with};
 use std::alloc::{AllocError, Global};
 use std::hash::{BuildHasherDefault, FoldHasher};
 use std::io;
 use std::io::{Error, ErrorKind, Read, Write};
 use std::rt::Files;
+use trace_file::FileName;
 
 /// A reader that fails, and a writer that takes three bytes and then fails.
 #[derive(Drop)]

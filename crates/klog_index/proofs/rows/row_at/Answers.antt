@@ -3,7 +3,7 @@ use Rattle.std.proofs.lemmas.Iterator.Consumers.{nth_from_yields_List, YieldsLis
 use Rattle.entry_pool.specs.declared.row.Row.{Row}
 use Rattle.klog_index.specs.Entries.{is_at}
 use Rattle.klog_index.specs.Rows.{entry_of}
-use Rattle.klog_index.proofs.RowLaws.{same-option}
+use Rattle.klog_index.proofs.public_laws.RowLaws.{same-option}
 use Rattle.klog_index.proofs.rows.row_at.Goals as goal
 
 pub returns-clause-found : goal.returns-clause-found

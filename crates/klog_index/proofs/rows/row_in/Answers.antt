@@ -5,7 +5,7 @@ use Rattle.entry_pool.specs.declared.row.Row.{Row}
 use Rattle.entry_pool.specs.Rows.{in_set}
 use Rattle.klog_index.specs.Entries.{is_at}
 use Rattle.klog_index.specs.Rows.{entry_of}
-use Rattle.klog_index.proofs.RowLaws.{filter-both, same-option}
+use Rattle.klog_index.proofs.public_laws.RowLaws.{filter-both, same-option}
 use Rattle.klog_index.proofs.rows.row_in.Goals as goal
 
 pub returns-clause-found : goal.returns-clause-found

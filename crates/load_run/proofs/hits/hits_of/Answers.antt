@@ -1,7 +1,7 @@
 -- One call more, which is a hit or not.
 use Rattle.std.proofs.Common.{◌≡◌, ◌∙◌, ◌≤◌, ◌+◌, ℕ, Bool, true, false, List, Some, ap, arith, cond, count_by, refl, slice_get, sym, take}
 use Rattle.std.proofs.lemmas.List.Sums.{sum_by_push}
-use Rattle.certificate_checker.proofs.Lookups.{take_next}
+use Rattle.certificate_checker.proofs.public_laws.Lookups.{take_next}
 use Rattle.trace_file.specs.declared.call.Call.{Call}
 use Rattle.load_run.specs.Summaries.{is_hit}
 use Rattle.load_run.proofs.hits.hits_of.Goals.{then-is_hit, else-is_hit}

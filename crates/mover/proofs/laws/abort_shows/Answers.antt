@@ -1,4 +1,4 @@
-use Rattle.mover.proofs.StepLaws.{abort_law}
+use Rattle.mover.proofs.public_laws.StepLaws.{abort_law}
 use Rattle.mover.proofs.laws.abort_shows.Goals as goal
 
 pub returns : goal.returns

@@ -1,4 +1,4 @@
-use Rattle.mover.proofs.StepLaws.{begin_law}
+use Rattle.mover.proofs.public_laws.StepLaws.{begin_law}
 use Rattle.mover.proofs.laws.begin_shows.Goals as goal
 
 pub returns : goal.returns

@@ -1,4 +1,4 @@
-use Rattle.mover.proofs.StepLaws.{commit_law}
+use Rattle.mover.proofs.public_laws.StepLaws.{commit_law}
 use Rattle.mover.proofs.laws.commit_shows.Goals as goal
 
 pub returns : goal.returns

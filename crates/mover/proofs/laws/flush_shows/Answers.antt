@@ -1,4 +1,4 @@
-use Rattle.mover.proofs.StepLaws.{flush_law}
+use Rattle.mover.proofs.public_laws.StepLaws.{flush_law}
 use Rattle.mover.proofs.laws.flush_shows.Goals as goal
 
 pub returns : goal.returns

@@ -1,4 +1,4 @@
-use Rattle.mover.proofs.StepLaws.{get_law}
+use Rattle.mover.proofs.public_laws.StepLaws.{get_law}
 use Rattle.mover.proofs.laws.get_shows.Goals as goal
 
 pub returns : goal.returns

@@ -1,4 +1,4 @@
-use Rattle.mover.proofs.StepLaws.{put_law}
+use Rattle.mover.proofs.public_laws.StepLaws.{put_law}
 use Rattle.mover.proofs.laws.put_shows.Goals as goal
 
 pub returns : goal.returns

@@ -1,4 +1,4 @@
-use Rattle.mover.proofs.StepLaws.{removal_law}
+use Rattle.mover.proofs.public_laws.StepLaws.{removal_law}
 use Rattle.mover.proofs.laws.removal_shows.Goals as goal
 
 pub returns : goal.returns

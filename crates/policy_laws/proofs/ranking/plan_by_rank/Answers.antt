@@ -2,7 +2,7 @@
 use Rattle.std.proofs.Common.{sym, subst, arith}
 use Rattle.std.proofs.lemmas.Grind.{common_steps}
 use Rattle.policy_laws.specs.Rank.{KeepsByRank}
-use Rattle.policy_laws.proofs.RankLaws.{keeps_by_rank}
+use Rattle.policy_laws.proofs.public_laws.RankLaws.{keeps_by_rank}
 use Rattle.policy_laws.proofs.ranking.plan_by_rank.Goals as goal
 
 pub returns-clause-plan : goal.returns-clause-plan

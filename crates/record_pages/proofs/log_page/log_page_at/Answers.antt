@@ -1,6 +1,6 @@
 use Rattle.std.proofs.Common.{sym, arith, rules}
 use Rattle.record_pages.specs.Reading.{log_page_at}
-use Rattle.record_pages.proofs.PageLaws.{log_page_takes}
+use Rattle.record_pages.proofs.public_laws.PageLaws.{log_page_takes}
 use Rattle.record_pages.proofs.log_page.log_page_at.Goals as goal
 
 pub returns-clause-exact : goal.returns-clause-exact

@@ -3,7 +3,7 @@ ghost use Rattle.std.specs.Prelude.{◌≡◌, [], ◌∷◌, IfSome};
 ghost use Rattle.certificate_checker.specs.Deeds.{Deed};
 ghost use Rattle.mover.specs.Get.{answer_of};
 ghost use Rattle.service_cache.specs.Calls.{IsHit};
-ghost use Rattle.seated_lane.specs.Seated.{put_of};
+ghost use Rattle.service_cache.specs.Seated.{put_of};
 ghost use Rattle.service_cache.specs.Sorted.{SortsBy};
 ghost use Rattle.service_tests.specs.Standing.{Stands};
 

@@ -7,8 +7,7 @@ use super::trials::{Trial, is_held};
 use super::*;
 use klog::Flushed;
 use mover::Moved;
-use service_lane::Upkept;
-use upkeep::what_is_due;
+use service_lane::{Upkept, what_is_due};
 
 // How often each lane is tended once, and how many calls are made before each time: so many bring about that upkeep is due.
 const ROUNDS: u8 = 8;

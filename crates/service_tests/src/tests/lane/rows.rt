@@ -12,9 +12,8 @@ use certificate_checker::latest_is_current;
 use mover::Seen;
 use page_device::PageDevice;
 use policy_laws::EvictionPolicy;
-use record_pages::{Key, KeyFault, PutFault, Value};
+use record_pages::{Key, KeyFault, PutFault, Value, ValueBuffer};
 use service_lane::{Filled, ServiceLane, UpkeepStep};
-use value_buffer::ValueBuffer;
 
 /// A hit behind a put of its key has the value that was put: in memory whatever the device does, on flash where it gives back
 /// what was written.

@@ -2,10 +2,9 @@
 use super::*;
 use mover::Seen;
 use page_device::PageDevice;
-use record_pages::{KeyFault, MissCause, Tier};
+use record_pages::{KeyFault, MissCause, Tier, ValueBuffer};
 use rriparoo::Rriparoo;
 use service_lane::{Helped, Lease, UpkeepStep};
-use value_buffer::ValueBuffer;
 
 /// What a get is to find.
 #[derive(Clone, Copy)]

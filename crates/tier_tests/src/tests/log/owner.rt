@@ -5,10 +5,9 @@ ghost use Rattle.klog.specs.Shown.{place_in};
 ghost use Rattle.tier_tests.specs.LogOwner.{OwnerState, IsOwner};
 
 use super::*;
-use record_pages::{TimedValue, is_too_large};
+use record_pages::{TimedValue, ValueBuffer, is_too_large};
 use set_hash::{Placed, place};
 use std::marker::Model;
-use value_buffer::ValueBuffer;
 
 /// The log of a lane with its device.
 #[derive(Drop)]

@@ -20,9 +20,8 @@ ghost use Rattle.tier_tests.specs.Telling.{looked_by};
 
 use super::*;
 use klog::names_tell_numbers;
-use record_pages::TimedValue;
+use record_pages::{TimedValue, ValueBuffer};
 use set_hash::Placed;
-use value_buffer::ValueBuffer;
 
 /// A record that was just appended is found, or has expired at the moment, over any device, and the device is not called.
 pub fn look_after_append<D: PageDevice<PAGE>, const PAGE: usize>(

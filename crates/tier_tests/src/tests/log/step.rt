@@ -4,7 +4,7 @@ ghost use Rattle.record_pages.specs.Sizes.{IsPageSize};
 use super::passing::{Told, told_by};
 use super::retried::{EXPIRES, append, look, look_at, strike, take};
 use super::*;
-use value_buffer::ValueBuffer;
+use record_pages::ValueBuffer;
 
 /// A record that a taking gives.
 #[derive(Clone, Copy)]

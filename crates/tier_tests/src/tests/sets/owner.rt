@@ -7,11 +7,10 @@ ghost use Rattle.tier_tests.specs.SetOwner.{OwnerState, IsOwner};
 
 use super::*;
 use page_device::PageDevice;
-use record_pages::{Key, Layout, SetPageWriter};
+use record_pages::{Key, Layout, SetPageWriter, ValueBuffer};
 use set_hash::place;
 use std::alloc::{AllocError, Global};
 use std::marker::Model;
-use value_buffer::ValueBuffer;
 
 /// The sets of a lane with their device. A call speaks of the set of the key that it is given.
 #[derive(Drop)]

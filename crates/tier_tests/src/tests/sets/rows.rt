@@ -16,8 +16,8 @@ ghost use Rattle.tier_tests.specs.Another.{IsOfAnother};
 ghost use Rattle.tier_tests.specs.SetRows.{HasExpired};
 
 use super::*;
+use record_pages::ValueBuffer;
 use set_hash::Placed;
-use value_buffer::ValueBuffer;
 
 /// Off the page of another set, that an honest device has at a set's place, nothing is found; nor is there no record.
 pub fn look_off_the_page_of_another_set<D: PageDevice<PAGE>, const PAGE: usize>(

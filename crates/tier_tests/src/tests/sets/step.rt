@@ -3,7 +3,7 @@ ghost use Rattle.record_pages.specs.Sizes.{IsPageSize};
 
 use super::retried::{EXPIRES, forget, look, look_at, read, read_of, rewrite, rewrite_of, strike};
 use super::*;
-use value_buffer::ValueBuffer;
+use record_pages::ValueBuffer;
 
 /// A record that a reading lists, with the prediction that it entered with.
 #[derive(Clone, Copy)]

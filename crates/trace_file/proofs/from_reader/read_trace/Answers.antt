@@ -1,6 +1,6 @@
 use Rattle.std.proofs.Common.{take, arith}
 use Rattle.std.proofs.lemmas.List.{length-take}
-use Rattle.trace_file.proofs.Readings.{read_none, read_more, fault_read, fault_leaves, failed_read}
+use Rattle.trace_file.proofs.public_laws.Readings.{read_none, read_more, fault_read, fault_leaves, failed_read}
 use Rattle.trace_file.proofs.from_reader.read_trace.Goals as goal
 
 pub loop-parts-init : goal.loop-parts-init

@@ -1,5 +1,5 @@
 use Rattle.std.proofs.Common.{◌-◌, ◌^◌}
-use Rattle.trace_file.proofs.Readings.{ReadSoFar, length_fed}
+use Rattle.trace_file.proofs.public_laws.Readings.{ReadSoFar, length_fed}
 use Rattle.trace_file.proofs.from_reader.read_trace.Given as goal
 
 abbrev pub invariant-loop-parts : goal.invariant-loop-parts

@@ -4,7 +4,7 @@ use Rattle.trace_file.specs.declared.version.Version.TheVariants.{Timed}
 use Rattle.trace_file.specs.Calls.{value_of, time_of}
 use Rattle.trace_file.specs.Lent.{act_shown}
 use Rattle.trace_file.specs.Text.{kind_byte, act_text, call_text}
-use Rattle.trace_file.proofs.SendLaws.{joined}
+use Rattle.trace_file.proofs.public_laws.SendLaws.{joined}
 use Rattle.trace_file.proofs.to_writer.put_call.Goals as goal
 
 pub returns : goal.returns

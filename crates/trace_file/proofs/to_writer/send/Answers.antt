@@ -3,7 +3,7 @@ use Rattle.std.specs.Io.KnownBytes.{Appends}
 use Rattle.trace_file.specs.Sending.{Begun}
 use Rattle.trace_file.specs.declared.version.Version.TheVariants.{Timed}
 use Rattle.trace_file.specs.Text.{text_of}
-use Rattle.trace_file.proofs.SendLaws.{header_put, stopped_in_calls, stopped_in_positions, all_put, sent_whole, begun_more}
+use Rattle.trace_file.proofs.public_laws.SendLaws.{header_put, stopped_in_calls, stopped_in_positions, all_put, sent_whole, begun_more}
 use Rattle.trace_file.proofs.to_writer.send.Goals as goal
 
 pub returns-in-Err-clause-err : goal.returns-in-Err-clause-err

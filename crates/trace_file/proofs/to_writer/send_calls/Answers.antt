@@ -2,7 +2,7 @@ use Rattle.std.proofs.Common.{arith}
 use Rattle.trace_file.specs.Lent.{call_shown}
 use Rattle.trace_file.specs.declared.version.Version.TheVariants.{Timed}
 use Rattle.trace_file.specs.Text.{call_text}
-use Rattle.trace_file.proofs.SendLaws.{begun_items, sent_item}
+use Rattle.trace_file.proofs.public_laws.SendLaws.{begun_items, sent_item}
 use Rattle.trace_file.proofs.to_writer.send_calls.Goals as goal
 
 pub returns-in-Err-clause-err : goal.returns-in-Err-clause-err

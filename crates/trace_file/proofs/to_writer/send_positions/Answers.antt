@@ -1,6 +1,6 @@
 use Rattle.std.proofs.Common.{arith, rules}
 use Rattle.trace_file.specs.Text.{position_text}
-use Rattle.trace_file.proofs.SendLaws.{begun_items, sent_item}
+use Rattle.trace_file.proofs.public_laws.SendLaws.{begun_items, sent_item}
 use Rattle.trace_file.proofs.to_writer.send_positions.Goals as goal
 
 pub returns-in-Err-clause-err : goal.returns-in-Err-clause-err

@@ -1,4 +1,4 @@
-use Rattle.trace_file.proofs.SendLaws.{begun_none}
+use Rattle.trace_file.proofs.public_laws.SendLaws.{begun_none}
 use Rattle.trace_file.proofs.to_writer.write_trace.Goals as goal
 
 pub returns-then-len-clause-begun : goal.returns-then-len-clause-begun

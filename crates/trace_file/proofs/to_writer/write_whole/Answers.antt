@@ -1,5 +1,5 @@
 use Rattle.std.proofs.lemmas.List.{take_rest}
-use Rattle.trace_file.proofs.SendLaws.{sent_more, sent_front}
+use Rattle.trace_file.proofs.public_laws.SendLaws.{sent_more, sent_front}
 use Rattle.trace_file.proofs.to_writer.write_whole.Goals as goal
 
 pub loop-rest-preserved : goal.loop-rest-preserved

@@ -5,7 +5,7 @@ use Rattle.std.proofs.lemmas.Grind.{common_steps}
 use Rattle.std.specs.FinSet.{FinSet, insert}
 use Rattle.std.specs.Ordering.{nat_cmp}
 use Rattle.bloom.specs.Filter.{with_bits, admits}
-use Rattle.bloom.proofs.FilterLaws.{with_bits-none, with_bits-push, admits-added, admits-kept}
+use Rattle.bloom.proofs.public_laws.FilterLaws.{with_bits-none, with_bits-push, admits-added, admits-kept}
 use Rattle.bloom.proofs.filter.Filter.add.Goals as goal
 
 pub loop-probe-init : goal.loop-probe-init

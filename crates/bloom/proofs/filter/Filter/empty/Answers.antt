@@ -1,5 +1,5 @@
 -- No bit of a zero is one.
-use Rattle.bloom.proofs.FilterLaws.{set_bits-zeros}
+use Rattle.bloom.proofs.public_laws.FilterLaws.{set_bits-zeros}
 use Rattle.bloom.proofs.filter.Filter.empty.Goals as goal
 
 pub returns : goal.returns

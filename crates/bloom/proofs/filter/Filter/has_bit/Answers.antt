@@ -1,7 +1,7 @@
 -- The bit of the word is the one of the set.
 use Rattle.std.proofs.Common.{◌<◌, ◌∙◌, ap, arith}
 use Rattle.std.specs.FinSet.{contains}
-use Rattle.bloom.proofs.FilterLaws.{contains-at}
+use Rattle.bloom.proofs.public_laws.FilterLaws.{contains-at}
 use Rattle.bloom.proofs.filter.Filter.has_bit.Goals as goal
 
 pub returns : goal.returns

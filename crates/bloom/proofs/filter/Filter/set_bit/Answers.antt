@@ -1,7 +1,7 @@
 -- The bit joins the set.
 use Rattle.std.proofs.Common.{◌<◌, ◌∙◌, ap, arith}
 use Rattle.std.specs.FinSet.{insert}
-use Rattle.bloom.proofs.FilterLaws.{set_bits-set}
+use Rattle.bloom.proofs.public_laws.FilterLaws.{set_bits-set}
 use Rattle.bloom.proofs.filter.Filter.set_bit.Goals as goal
 
 pub returns : goal.returns

@@ -4,7 +4,7 @@ use Rattle.mover.specs.Lane.{lane_of}
 use Rattle.deeds.specs.Asked.{Asked}
 use Rattle.deeds.proofs.Remembering.{fewer_same, begun_stays}
 use Rattle.deeds.proofs.Serves.{served_step}
-use Rattle.deeds.proofs.Sounding.{begun_in_order}
+use Rattle.deeds.proofs.public_laws.Sounding.{begun_in_order}
 use Rattle.deeds.proofs.store.DeedStore.move_begin.Goals as goal
 
 pub invariant_of-self : goal.invariant_of-self

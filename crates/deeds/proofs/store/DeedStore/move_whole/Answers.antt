@@ -1,11 +1,11 @@
 -- The store after a whole move, or a refused one.
 use Rattle.std.proofs.Common.{None}
 use Rattle.mover.specs.Lane.{lane_of}
-use Rattle.mover.proofs.FlightLists.{flights_counted}
+use Rattle.mover.proofs.public_laws.FlightLists.{flights_counted}
 use Rattle.deeds.specs.Asked.{Asked}
 use Rattle.deeds.proofs.Remembering.{fewer_same, moved_stays}
 use Rattle.deeds.proofs.Serves.{served_step}
-use Rattle.deeds.proofs.Sounding.{moved_in_order}
+use Rattle.deeds.proofs.public_laws.Sounding.{moved_in_order}
 use Rattle.deeds.proofs.store.DeedStore.move_whole.Goals as goal
 
 pub invariant_of-self : goal.invariant_of-self

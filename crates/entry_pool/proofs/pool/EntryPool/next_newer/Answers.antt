@@ -8,7 +8,7 @@ use Rattle.entry_pool.specs.Rows.{Rows, rows_of}
 use Rattle.entry_pool.specs.Pool.{IsSound, rows_in, ages_of}
 use Rattle.entry_pool.proofs.Sound.{below-ages, apart-ages, named}
 use Rattle.entry_pool.proofs.Marks.{rows-are, mark-in, next-none, next-some, next-in}
-use Rattle.entry_pool.proofs.BackLaws.{map-reverse, path-back, in-back, apart-back}
+use Rattle.entry_pool.proofs.public_laws.BackLaws.{map-reverse, path-back, in-back, apart-back}
 use Rattle.entry_pool.proofs.pool.EntryPool.next_newer.Goals as goal
 
 rows-back : (l : Links) (p : Rows) → rows_in l ≡ p → rows_of (chains_of l).item (reverse (ages_of l)) ≡ reverse p.rows

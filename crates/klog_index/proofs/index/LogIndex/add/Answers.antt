@@ -4,7 +4,7 @@ use Rattle.entry_pool.specs.declared.row.Row.{Row}
 use Rattle.entry_pool.specs.Rows.{Rows}
 use Rattle.klog_index.specs.Entries.{Entries, IsFree}
 use Rattle.klog_index.specs.Rows.{RowsApart}
-use Rattle.klog_index.proofs.RowLaws.{LieApart, apart-free}
+use Rattle.klog_index.proofs.public_laws.RowLaws.{LieApart, apart-free}
 use Rattle.klog_index.proofs.index.LogIndex.add.Goals as goal
 
 pub invariant_of-self : goal.invariant_of-self

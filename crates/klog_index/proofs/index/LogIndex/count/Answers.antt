@@ -3,7 +3,7 @@ use Rattle.std.proofs.lemmas.Iterator.Consumers.{count_from_yields_List, YieldsL
 use Rattle.std.proofs.lemmas.List.Sums.{length-filter}
 use Rattle.klog_index.specs.declared.entry.Entry.{Entry}
 use Rattle.klog_index.specs.Entries.{of_set, is_of}
-use Rattle.klog_index.proofs.RowLaws.{length-kept}
+use Rattle.klog_index.proofs.public_laws.RowLaws.{length-kept}
 use Rattle.klog_index.proofs.index.LogIndex.count.Goals as goal
 
 pub count-requires-clause-fits : goal.count-requires-clause-fits

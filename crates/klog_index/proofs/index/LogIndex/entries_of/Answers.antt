@@ -2,7 +2,7 @@ use Rattle.std.proofs.Common.{List, ap, ◌∙◌}
 use Rattle.entry_pool.specs.declared.row.Row.{Row}
 use Rattle.klog_index.specs.Entries.{Entries, of_set}
 use Rattle.klog_index.specs.Rows.{entries_of}
-use Rattle.klog_index.proofs.RowLaws.{entries-in-set}
+use Rattle.klog_index.proofs.public_laws.RowLaws.{entries-in-set}
 use Rattle.klog_index.proofs.index.LogIndex.entries_of.Goals as goal
 
 pub returns : goal.returns

@@ -3,7 +3,7 @@ use Rattle.std.specs.Prelude.{◌==◌, slice_get}
 use Rattle.std.proofs.lemmas.Iterator.Consumers.{nth_from_yields_List, YieldsList-from_filter, YieldsList-from_first}
 use Rattle.klog_index.specs.declared.entry.Entry.{Entry}
 use Rattle.klog_index.specs.Entries.{of_set, is_of}
-use Rattle.klog_index.proofs.RowLaws.{same-option, filter-both}
+use Rattle.klog_index.proofs.public_laws.RowLaws.{same-option, filter-both}
 use Rattle.klog_index.proofs.index.LogIndex.find.Goals as goal
 
 pub returns : goal.returns

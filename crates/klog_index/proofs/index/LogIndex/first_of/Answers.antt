@@ -6,7 +6,7 @@ use Rattle.klog_index.specs.declared.entry.Entry.{Entry}
 use Rattle.klog_index.specs.Entries.{Entries, is_of_any, without}
 use Rattle.klog_index.specs.First.{FindsFirst}
 use Rattle.klog_index.specs.Rows.{entries_of, entry_of}
-use Rattle.klog_index.proofs.RowLaws.{without-kept, without-gone, same-map}
+use Rattle.klog_index.proofs.public_laws.RowLaws.{without-kept, without-gone, same-map}
 use Rattle.klog_index.proofs.index.LogIndex.first_of.Goals as goal
 
 pub loop-row-preserved-then-not-contains : goal.loop-row-preserved-then-not-contains

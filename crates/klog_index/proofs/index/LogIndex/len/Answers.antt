@@ -1,6 +1,6 @@
 use Rattle.std.proofs.Common.{subst}
 use Rattle.klog_index.specs.Entries.{Entries, AreApart}
-use Rattle.klog_index.proofs.RowLaws.{apart-entries}
+use Rattle.klog_index.proofs.public_laws.RowLaws.{apart-entries}
 use Rattle.klog_index.proofs.index.LogIndex.len.Goals as goal
 
 pub returns-clause-apart : goal.returns-clause-apart

@@ -1,6 +1,6 @@
 -- The row that was found is lowered, and it alone.
 use Rattle.klog_index.specs.Entries.{is_in}
-use Rattle.klog_index.proofs.EntryLaws.{of_place_in}
+use Rattle.klog_index.proofs.public_laws.EntryLaws.{of_place_in}
 use Rattle.klog_index.proofs.Dropping.{dropping-held}
 use Rattle.klog_index.proofs.Lowering.{lowered-index, lowered-none, lowered-apart}
 use Rattle.klog_index.proofs.index.LogIndex.lower_in.Goals as goal

@@ -1,7 +1,7 @@
 use Rattle.std.proofs.Common.{sym, ◌∙◌}
 use Rattle.std.proofs.lemmas.Iterator.Consumers.{nth_from_yields_List, YieldsList-from_first}
 use Rattle.klog_index.specs.Entries.{of_set}
-use Rattle.klog_index.proofs.RowLaws.{same-option}
+use Rattle.klog_index.proofs.public_laws.RowLaws.{same-option}
 use Rattle.klog_index.proofs.index.LogIndex.of_set.Goals as goal
 
 pub returns : goal.returns

@@ -4,12 +4,12 @@ use Rattle.std.proofs.lemmas.Iterator.{YieldsList-from_map}
 use Rattle.std.proofs.lemmas.Iterator.Consumers.{YieldsList-from_first, YieldsList-at}
 use Rattle.std.proofs.lemmas.Iterator.Search.{YieldsList-from_take_while, find_from_yields_List}
 use Rattle.entry_pool.specs.declared.row.Row.{Row}
-use Rattle.entry_pool.proofs.BackLaws.{map-reverse}
+use Rattle.entry_pool.proofs.public_laws.BackLaws.{map-reverse}
 use Rattle.klog_index.specs.declared.entry.Entry.{Entry}
 use Rattle.klog_index.specs.Entries.{Entries, is_of_any, is_of_segment}
 use Rattle.klog_index.specs.First.{first_but, oldest_but}
 use Rattle.klog_index.specs.Rows.{entry_of}
-use Rattle.klog_index.proofs.RowLaws.{same-option}
+use Rattle.klog_index.proofs.public_laws.RowLaws.{same-option}
 use Rattle.klog_index.proofs.index.LogIndex.oldest_but.Goals as goal
 
 pub returns : goal.returns

@@ -1,7 +1,7 @@
 use Rattle.std.proofs.Common.{◌∙◌, ap, arith}
 use Rattle.std.proofs.lemmas.Grind.{common_steps}
 use Rattle.kset.specs.Shown.{visible_in}
-use Rattle.kset.proofs.ShownLaws.{shown-forgotten}
+use Rattle.kset.proofs.public_laws.ShownLaws.{shown-forgotten}
 use Rattle.kset.proofs.sets.KSet.forget.Goals as goal
 
 pub returns-clause-forgotten : goal.returns-clause-forgotten

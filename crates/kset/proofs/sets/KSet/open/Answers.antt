@@ -1,4 +1,4 @@
-use Rattle.kset.proofs.ShownLaws.{shown-opening}
+use Rattle.kset.proofs.public_laws.ShownLaws.{shown-opening}
 use Rattle.kset.proofs.sets.KSet.open.Goals as goal
 
 pub returns-clause-shown : goal.returns-clause-shown

@@ -8,7 +8,7 @@ use Rattle.kset.specs.Sets.{notes_of, set_count}
 use Rattle.kset.specs.Pages.{page_records}
 use Rattle.kset.specs.Shown.{with_flags, visible_from}
 use Rattle.kset.proofs.LookLaws.{reads_page, records_read, some_read, visible_from-empty}
-use Rattle.kset.proofs.ShownLaws.{shown-lost}
+use Rattle.kset.proofs.public_laws.ShownLaws.{shown-lost}
 use Rattle.kset.proofs.sets.KSet.read_set.Goals as goal
 
 pub returns-then-is_empty : goal.returns-then-is_empty

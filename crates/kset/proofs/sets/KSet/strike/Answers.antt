@@ -2,9 +2,9 @@ use Rattle.std.proofs.Common.{◌≡◌, ◌∙◌, ap, false, sym, subst, arith
 use Rattle.std.proofs.lemmas.Grind.{common_steps}
 use Rattle.kset.specs.Notes.{lets_show}
 use Rattle.kset.specs.Sets.{SetsState, notes_of}
-use Rattle.kset.proofs.NotesLaws.{hidden_in}
+use Rattle.kset.proofs.public_laws.NotesLaws.{hidden_in}
 use Rattle.kset.specs.Shown.{visible_in}
-use Rattle.kset.proofs.ShownLaws.{shown-struck}
+use Rattle.kset.proofs.public_laws.ShownLaws.{shown-struck}
 use Rattle.kset.proofs.sets.KSet.strike.Goals as goal
 
 pub returns-clause-struck : goal.returns-clause-struck

@@ -1,6 +1,6 @@
 use Rattle.std.proofs.Common.{◌≡◌, sym, ap, ◌∙◌, arith}
 use Rattle.std.specs.FinSet.{len}
-use Rattle.kset.proofs.NotesLaws.{insert-known, room-known, room-new, room-none}
+use Rattle.kset.proofs.public_laws.NotesLaws.{insert-known, room-known, room-new, room-none}
 use Rattle.kset.proofs.strikes.Strikes.add.Goals as goal
 
 pub returns-then-has-clause-room : goal.returns-then-has-clause-room

@@ -1,7 +1,7 @@
 use Rattle.std.proofs.Common.{◌≡◌, ◌<◌, ◌+◌, length, sym, ap, ◌∙◌, arith}
 use Rattle.std.specs.Ordering.{nat_cmp}
 use Rattle.std.specs.FinSet.{FinSet, contains, insert, len}
-use Rattle.kset.proofs.NotesLaws.{from_list-put, len-insert_new}
+use Rattle.kset.proofs.public_laws.NotesLaws.{from_list-put, len-insert_new}
 use Rattle.kset.proofs.strikes.Strikes.push.Goals as goal
 
 -- there is a place behind the others

@@ -3,7 +3,7 @@ use Rattle.std.proofs.lemmas.List.{take_all}
 use Rattle.std.proofs.lemmas.List.Elements.{All-more}
 use Rattle.std.proofs.lemmas.Option.{slice_get-get_or}
 use Rattle.mover.specs.Flight.{Flight, flight_of}
-use Rattle.mover.proofs.FlightLists.{none_found, found_here}
+use Rattle.mover.proofs.public_laws.FlightLists.{none_found, found_here}
 use Rattle.mover.proofs.flights.Flights.place_of.Goals as goal
 
 pub returns-then-index-number-clause-found : goal.returns-then-index-number-clause-found

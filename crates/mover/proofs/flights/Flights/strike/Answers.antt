@@ -1,7 +1,7 @@
 use Rattle.std.proofs.Common.{◌≡◌, List, map, sym, ap, ◌∙◌, rules}
 use Rattle.std.proofs.lemmas.List.{with_items_is, places}
-use Rattle.mover.proofs.Listing.{mapped_step, mapped_all}
-use Rattle.mover.proofs.FlightLists.{sets_struck}
+use Rattle.mover.proofs.public_laws.Listing.{mapped_step, mapped_all}
+use Rattle.mover.proofs.public_laws.FlightLists.{sets_struck}
 use Rattle.mover.specs.Flight.{Flight, flight_struck, sets_in_flight}
 use Rattle.mover.proofs.flights.Flights.strike.Goals as goal
 

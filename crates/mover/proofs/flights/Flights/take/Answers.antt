@@ -1,7 +1,7 @@
 use Rattle.std.proofs.Common.{Some, sym, ap, subst, ◌∙◌, ◌<◌, ◌≤◌, remove, length, List, slice_get, ◌≡◌}
 use Rattle.std.proofs.lemmas.Option.{slice_get-get_or}
 use Rattle.mover.specs.Flight.{Flight, most_flights, sets_in_flight}
-use Rattle.mover.proofs.FlightLists.{map_removed}
+use Rattle.mover.proofs.public_laws.FlightLists.{map_removed}
 use Rattle.mover.proofs.flights.Flights.take.Goals as goal
 
 pub invariant_of-self : goal.invariant_of-self

@@ -1,4 +1,4 @@
-use Rattle.mover.proofs.Listing.{mapped_step}
+use Rattle.mover.proofs.public_laws.Listing.{mapped_step}
 use Rattle.mover.specs.Flight.{mark_struck}
 use Rattle.mover.proofs.marks.Marks.strike.Goals as goal
 

@@ -3,7 +3,7 @@ use Rattle.klog.specs.Append.{entering}
 use Rattle.mover.specs.Store.{StoreState}
 use Rattle.mover.specs.Lane.{lane_of}
 use Rattle.mover.specs.Put.{append_step, IsStep, pushed_as}
-use Rattle.mover.proofs.Keeping.{kept_flash}
+use Rattle.mover.proofs.public_laws.Keeping.{kept_flash}
 use Rattle.mover.proofs.Putting.{append_told}
 use Rattle.mover.proofs.store.Store.append.Goals as goal
 

@@ -1,5 +1,5 @@
 use Rattle.std.proofs.Common.{refl}
-use Rattle.mover.proofs.Keeping.{kept_flash}
+use Rattle.mover.proofs.public_laws.Keeping.{kept_flash}
 use Rattle.mover.proofs.store.Store.drop_entry.Goals as goal
 
 pub invariant_of-self : goal.invariant_of-self

@@ -3,7 +3,7 @@ use Rattle.std.specs.Prelude.{IsTrue}
 use Rattle.mover.specs.Store.{StoreState}
 use Rattle.mover.specs.Lane.{lane_of}
 use Rattle.mover.specs.Flush.{LaneFlushes}
-use Rattle.mover.proofs.Keeping.{kept_flash, sets_framed, visible_framed, counted_alike}
+use Rattle.mover.proofs.public_laws.Keeping.{kept_flash, sets_framed, visible_framed, counted_alike}
 use Rattle.mover.proofs.Putting.{lane_flushed}
 use Rattle.kset.specs.Laws.{AreOfTheirSets}
 use Rattle.mover.proofs.store.Store.flush_step.Goals as goal

@@ -4,8 +4,8 @@ use Rattle.klog.specs.Log.{Shape}
 use Rattle.mover.specs.Flight.{Flight, most_flights, is_any, sets_in_flight, AreOfSet}
 use Rattle.mover.specs.Store.{StoreState, IsStore, most_moves}
 use Rattle.std.proofs.lemmas.List.Elements.{All-push}
-use Rattle.mover.proofs.Keeping.{kept_flights}
-use Rattle.mover.proofs.FlightLists.{flights_more}
+use Rattle.mover.proofs.public_laws.Keeping.{kept_flights}
+use Rattle.mover.proofs.public_laws.FlightLists.{flights_more}
 use Rattle.mover.proofs.Flying.{flies_anew}
 use Rattle.mover.proofs.store.Store.fly.Goals as goal
 

@@ -7,7 +7,7 @@ use Rattle.mover.specs.Lane.{lane_of}
 use Rattle.mover.specs.Begin.{LaneTakes, LaneReads}
 use Rattle.mover.specs.Leaving.{TakingLeaves, ReadingLeaves}
 use Rattle.mover.proofs.Gathering.{gathered_few, gathered_placed}
-use Rattle.mover.proofs.Beginning.{all_again, flown_after}
+use Rattle.mover.proofs.public_laws.Beginning.{all_again, flown_after}
 use Rattle.mover.proofs.store.Store.gather.Goals as goal
 
 pub fly-requires : goal.fly-requires

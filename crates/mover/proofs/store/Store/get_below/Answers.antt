@@ -3,7 +3,7 @@ use Rattle.std.specs.Prelude.{Ok}
 use Rattle.mover.specs.Calls.{StoreGets}
 use Rattle.mover.specs.Store.{StoreState}
 use Rattle.mover.specs.Touch.{answer_at, touched, LooksBelow}
-use Rattle.mover.proofs.Keeping.{kept_device}
+use Rattle.mover.proofs.public_laws.Keeping.{kept_device}
 use Rattle.mover.proofs.Touching.{below_gets, short_gets}
 use Rattle.mover.proofs.store.Store.get_below.Goals as goal
 

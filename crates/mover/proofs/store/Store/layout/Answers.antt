@@ -4,7 +4,7 @@ use Rattle.mover.specs.Store.{StoreState}
 use Rattle.mover.specs.Lane.{lane_of}
 use Rattle.mover.specs.Visible.{IsPlaced}
 use Rattle.mover.specs.Laws.{IsInOrder}
-use Rattle.mover.proofs.WholeLaws.{stores_law}
+use Rattle.mover.proofs.public_laws.WholeLaws.{stores_law}
 use Rattle.mover.proofs.store.Store.layout.Goals as goal
 
 pub returns-clause-order : goal.returns-clause-order

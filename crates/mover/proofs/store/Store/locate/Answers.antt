@@ -5,7 +5,7 @@ use Rattle.memory_cache.specs.MemoryList.{value_in}
 use Rattle.mover.specs.Store.{StoreState}
 use Rattle.mover.specs.Touch.{answer_at, touched, LooksBelow}
 use Rattle.mover.proofs.Getting.{told_by_memory}
-use Rattle.mover.proofs.Keeping.{kept_device}
+use Rattle.mover.proofs.public_laws.Keeping.{kept_device}
 use Rattle.mover.proofs.Recalling.{recalled_live, recalled_absent}
 use Rattle.mover.proofs.Touching.{below_gets}
 use Rattle.mover.proofs.store.Store.locate.Goals as goal

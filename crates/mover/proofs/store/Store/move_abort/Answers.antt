@@ -3,7 +3,7 @@ use Rattle.std.specs.Prelude.{IsSome, slice_get}
 use Rattle.mover.specs.Flight.{Flight, flight_of, without_flight}
 use Rattle.mover.specs.Store.{StoreState}
 use Rattle.mover.specs.Lane.{lane_of}
-use Rattle.mover.proofs.FlightLists.{number_of_found}
+use Rattle.mover.proofs.public_laws.FlightLists.{number_of_found}
 use Rattle.mover.proofs.store.Store.move_abort.Goals as goal
 
 pub returns : goal.returns

@@ -6,8 +6,8 @@ use Rattle.mover.specs.Lane.{lane_of}
 use Rattle.mover.specs.Flight.{Flight, flight_of, IsFlightOf, AreOfSet}
 use Rattle.mover.specs.Job.{job_of}
 use Rattle.mover.specs.Commit.{IsFitting, landed, landed_in}
-use Rattle.mover.proofs.Listing.{got}
-use Rattle.mover.proofs.Showing.{some_same}
+use Rattle.mover.proofs.public_laws.Listing.{got}
+use Rattle.mover.proofs.public_laws.Showing.{some_same}
 use Rattle.mover.proofs.Ending.{landed_committed, commit_answers, commit_leaves, commit_gives}
 use Rattle.mover.proofs.store.Store.move_commit.Goals as goal
 

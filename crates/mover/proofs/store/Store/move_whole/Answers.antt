@@ -2,7 +2,7 @@ use Rattle.std.proofs.Common.{rules, subst, inr}
 use Rattle.mover.specs.Lane.{lane_of}
 use Rattle.mover.specs.Begin.{BeginGives}
 use Rattle.mover.specs.Leaving.{BeginLeaves}
-use Rattle.mover.proofs.FlightLists.{flights_counted}
+use Rattle.mover.proofs.public_laws.FlightLists.{flights_counted}
 use Rattle.mover.proofs.Ending.{on_err, after_job, ends_leaves, job_flies, counted_lane, planned_job}
 use Rattle.mover.proofs.store.Store.move_whole.Goals as goal
 

@@ -5,9 +5,9 @@ use Rattle.kset.specs.ReadSet.{is_set_lost}
 use Rattle.mover.specs.Store.{StoreState}
 use Rattle.mover.specs.Lane.{lane_of}
 use Rattle.mover.specs.Begin.{LaneReads}
-use Rattle.mover.proofs.Keeping.{kept_set_read}
+use Rattle.mover.proofs.public_laws.Keeping.{kept_set_read}
 use Rattle.mover.specs.Leaving.{ReadingLeaves}
-use Rattle.mover.proofs.Beginning.{lane_read, set_failed, not_lost, reading_leaves}
+use Rattle.mover.proofs.public_laws.Beginning.{lane_read, set_failed, not_lost, reading_leaves}
 use Rattle.kset.specs.Laws.{AreOfTheirSets}
 use Rattle.kset.specs.Shown.{visible_in}
 use Rattle.mover.proofs.store.Store.read_set.Goals as goal

@@ -3,8 +3,8 @@ use Rattle.std.specs.Prelude.{IsTrue}
 use Rattle.mover.specs.Store.{StoreState}
 use Rattle.mover.specs.Lane.{lane_of}
 use Rattle.mover.specs.Begin.{LaneReadmits}
-use Rattle.mover.proofs.Beginning.{lane_readmitted}
-use Rattle.mover.proofs.Keeping.{kept_log_read}
+use Rattle.mover.proofs.public_laws.Beginning.{lane_readmitted}
+use Rattle.mover.proofs.public_laws.Keeping.{kept_log_read}
 use Rattle.mover.proofs.store.Store.readmit.Goals as goal
 
 pub returns-clause-gives : goal.returns-clause-gives

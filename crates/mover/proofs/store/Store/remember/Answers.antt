@@ -1,7 +1,7 @@
 use Rattle.std.proofs.Common.{ap}
 use Rattle.memory_cache.specs.MemoryList.{MemoryList}
 use Rattle.mover.specs.Store.{IsSmall}
-use Rattle.mover.proofs.Keeping.{kept_memory}
+use Rattle.mover.proofs.public_laws.Keeping.{kept_memory}
 use Rattle.mover.proofs.Putting.{all_put, out_of_put}
 use Rattle.mover.proofs.store.Store.remember.Goals as goal
 

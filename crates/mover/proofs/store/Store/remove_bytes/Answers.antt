@@ -1,6 +1,6 @@
 use Rattle.std.proofs.Common.{rules, ap}
 use Rattle.memory_cache.specs.MemoryList.{MemoryList}
-use Rattle.mover.proofs.Keeping.{kept_memory, small_removed}
+use Rattle.mover.proofs.public_laws.Keeping.{kept_memory, small_removed}
 use Rattle.mover.proofs.store.Store.remove_bytes.Goals as goal
 
 pub invariant_of-self : goal.invariant_of-self

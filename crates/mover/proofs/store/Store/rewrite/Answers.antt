@@ -3,7 +3,7 @@ use Rattle.std.specs.Prelude.{IsTrue}
 use Rattle.mover.specs.Store.{StoreState}
 use Rattle.mover.specs.Lane.{lane_of}
 use Rattle.mover.specs.Commit.{lane_rewritten}
-use Rattle.mover.proofs.Keeping.{kept_flash, log_framed, counted_alike}
+use Rattle.mover.proofs.public_laws.Keeping.{kept_flash, log_framed, counted_alike}
 use Rattle.mover.proofs.Committing.{lane_rewrote}
 use Rattle.std.specs.Prelude.{All}
 use Rattle.record_pages.specs.Recs.{Rec}

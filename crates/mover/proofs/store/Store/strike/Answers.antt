@@ -3,8 +3,8 @@ use Rattle.mover.specs.Store.{StoreState, IsStore}
 use Rattle.mover.specs.Lane.{lane_of}
 use Rattle.mover.specs.Strike.{struck_at}
 use Rattle.mover.specs.Flight.{Flight, flight_struck}
-use Rattle.mover.proofs.Keeping.{kept_flash, kept_flights}
-use Rattle.mover.proofs.FlightLists.{flights_struck}
+use Rattle.mover.proofs.public_laws.Keeping.{kept_flash, kept_flights}
+use Rattle.mover.proofs.public_laws.FlightLists.{flights_struck}
 use Rattle.mover.proofs.Lanes.{lane_struck}
 use Rattle.mover.proofs.Flying.{struck_placed}
 use Rattle.kset.specs.Laws.{AreOfTheirSets}

@@ -3,8 +3,8 @@ use Rattle.std.specs.Prelude.{slice_get}
 use Rattle.std.proofs.lemmas.List.Elements.{All-filter}
 use Rattle.mover.specs.Flight.{Flight, flight_of, without_flight, AreOfSet}
 use Rattle.mover.specs.Store.{StoreState, IsStore}
-use Rattle.mover.proofs.FlightLists.{found_at, removed_without, flights_left}
-use Rattle.mover.proofs.Keeping.{kept_flights}
+use Rattle.mover.proofs.public_laws.FlightLists.{found_at, removed_without, flights_left}
+use Rattle.mover.proofs.public_laws.Keeping.{kept_flights}
 use Rattle.mover.proofs.store.Store.take_flight.Goals as goal
 
 pub invariant_of-self : goal.invariant_of-self

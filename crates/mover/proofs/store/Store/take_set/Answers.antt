@@ -3,9 +3,9 @@ use Rattle.std.specs.Prelude.{IsTrue}
 use Rattle.mover.specs.Store.{StoreState}
 use Rattle.mover.specs.Lane.{lane_of}
 use Rattle.mover.specs.Begin.{LaneTakes, WritesNothing}
-use Rattle.mover.proofs.Keeping.{kept_log_read}
+use Rattle.mover.proofs.public_laws.Keeping.{kept_log_read}
 use Rattle.mover.specs.Leaving.{TakingLeaves}
-use Rattle.mover.proofs.Beginning.{lane_taken, taking_leaves}
+use Rattle.mover.proofs.public_laws.Beginning.{lane_taken, taking_leaves}
 use Rattle.mover.proofs.store.Store.take_set.Goals as goal
 
 pub invariant_of-self : goal.invariant_of-self

@@ -2,7 +2,7 @@ use Rattle.std.proofs.Common.{refl, sym, ap, subst}
 use Rattle.memory_cache.specs.MemoryList.{MemoryList}
 use Rattle.kset.specs.Laws.{AreOfTheirSets}
 use Rattle.mover.specs.Store.{IsSmall}
-use Rattle.mover.proofs.Keeping.{kept_memory, kept_log_read, kept_set_read, all_fronted}
+use Rattle.mover.proofs.public_laws.Keeping.{kept_memory, kept_log_read, kept_set_read, all_fronted}
 use Rattle.mover.proofs.store.Store.touch.Goals as goal
 
 pub invariant_of-self : goal.invariant_of-self

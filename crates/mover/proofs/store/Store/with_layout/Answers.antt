@@ -1,6 +1,6 @@
 -- A store that was just opened is kept by what its tiers say of themselves.
 use Rattle.std.proofs.Common.{rules}
-use Rattle.mover.proofs.Keeping.{opened}
+use Rattle.mover.proofs.public_laws.Keeping.{opened}
 use Rattle.mover.proofs.store.Store.with_layout.Goals as goal
 
 pub invariant_of-result : goal.invariant_of-result

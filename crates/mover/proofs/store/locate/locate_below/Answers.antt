@@ -10,7 +10,7 @@ use Rattle.kset.specs.Locate.{looked_of, sets_after}
 use Rattle.mover.specs.Get.{answer_of_set}
 use Rattle.mover.specs.Store.{StoreState}
 use Rattle.mover.specs.Touch.{answer_at, has_value, in_set, with_flash, LooksBelow}
-use Rattle.mover.proofs.Keeping.{kept_device}
+use Rattle.mover.proofs.public_laws.Keeping.{kept_device}
 use Rattle.mover.proofs.Touching.{below_by_log, below_by_set, log_looks, set_looks, in_set_answer, in_set_touched, in_set_can, in_set_stays}
 use Rattle.mover.proofs.store.locate.locate_below.Goals as goal
 

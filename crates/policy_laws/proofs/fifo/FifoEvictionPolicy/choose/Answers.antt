@@ -2,7 +2,7 @@
 use Rattle.std.proofs.Common.{◌≡◌, ◌∙◌, ap, refl}
 use Rattle.policy_laws.specs.Rank.{candidates_by}
 use Rattle.policy_laws.specs.Fifo.{fifo_candidate}
-use Rattle.policy_laws.proofs.RankLaws.{HasItems, chosen_lawful, chosen_by_rank}
+use Rattle.policy_laws.proofs.public_laws.RankLaws.{HasItems, chosen_lawful, chosen_by_rank}
 use Rattle.policy_laws.proofs.fifo.FifoEvictionPolicy.choose.Goals as goal
 
 has_items : HasItems fifo_candidate

@@ -1,5 +1,5 @@
 use Rattle.std.proofs.Common.{◌∙◌}
-use Rattle.record_pages.proofs.PageLaws.{log_page_only, log_page_texts_differ}
+use Rattle.record_pages.proofs.public_laws.PageLaws.{log_page_only, log_page_texts_differ}
 use Rattle.record_pages.proofs.log_page.LogPage.read.Goals as goal
 
 pub returns-clause-found : goal.returns-clause-found

@@ -1,5 +1,5 @@
 use Rattle.std.proofs.Common.{◌∙◌}
-use Rattle.record_pages.proofs.PageLaws.{set_page_only, set_page_texts_differ}
+use Rattle.record_pages.proofs.public_laws.PageLaws.{set_page_only, set_page_texts_differ}
 use Rattle.record_pages.proofs.set_page.SetPage.read.Goals as goal
 
 pub returns-clause-found : goal.returns-clause-found

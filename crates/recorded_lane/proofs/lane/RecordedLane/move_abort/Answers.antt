@@ -2,7 +2,7 @@
 use Rattle.std.proofs.Common.{refl, ap, ◌∙◌, subst}
 use Rattle.mover.specs.Store.{StoreState}
 use Rattle.mover.specs.Calls.{StoreAborts}
-use Rattle.recorded_lane.proofs.Ending.{abort_keeps_layout}
+use Rattle.recorded_lane.proofs.public_laws.Ending.{abort_keeps_layout}
 use Rattle.recorded_lane.specs.Lane.{Lane}
 use Rattle.recorded_lane.proofs.Noting.{noted_step}
 use Rattle.recorded_lane.proofs.lane.RecordedLane.move_abort.Goals as goal

@@ -1,7 +1,7 @@
 -- The lane after a move ended, or was not to end.
 use Rattle.std.proofs.Common.{refl, subst}
 use Rattle.mover.specs.Calls.{StoreCommits}
-use Rattle.recorded_lane.proofs.Ending.{commit_keeps_layout}
+use Rattle.recorded_lane.proofs.public_laws.Ending.{commit_keeps_layout}
 use Rattle.recorded_lane.specs.Lane.{Lane}
 use Rattle.recorded_lane.proofs.Noting.{noted_step}
 use Rattle.recorded_lane.proofs.lane.RecordedLane.move_commit.Goals as goal

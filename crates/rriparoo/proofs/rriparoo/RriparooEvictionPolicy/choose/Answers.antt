@@ -1,5 +1,5 @@
 -- What keeps items by rank meets the laws.
-use Rattle.policy_laws.proofs.RankLaws.{chosen_plan, chosen_lawful, chosen_by_rank}
+use Rattle.policy_laws.proofs.public_laws.RankLaws.{chosen_plan, chosen_lawful, chosen_by_rank}
 use Rattle.rriparoo.specs.Ageing.{farthest}
 use Rattle.rriparoo.specs.Rriparoo.{aged_candidate}
 use Rattle.rriparoo.proofs.AgeingLaws.{has_items, are_aged}

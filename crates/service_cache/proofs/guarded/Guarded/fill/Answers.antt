@@ -6,7 +6,7 @@ use Rattle.service_lane.specs.Serving.{FillLeaves, FillsStore}
 use Rattle.service_lane.specs.Words.{next_word}
 use Rattle.service_lane.specs.WithHelp.{FillsAndHelps}
 use Rattle.deed_book.specs.Registers.{EntersIn}
-use Rattle.seated_lane.specs.Seated.{put_of, FillEnters, FillRefusalLeaves}
+use Rattle.service_cache.specs.Seated.{put_of, FillEnters, FillRefusalLeaves}
 use Rattle.service_cache.specs.Held.{Held, honest_in, failures_in, held_in}
 use Rattle.service_cache.proofs.Helping.{fill_and_help}
 use Rattle.service_cache.proofs.Honesty.{fills_keep, helps_keep, said_stays}

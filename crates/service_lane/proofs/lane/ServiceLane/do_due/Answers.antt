@@ -1,8 +1,8 @@
 -- What is due is done.
 use Rattle.std.proofs.Common.{◌≡◌, Some, ap, sym, ◌∙◌, subst}
 use Rattle.klog.specs.Usage.{usage_of}
-use Rattle.upkeep.specs.declared.due.Due.TheVariants as due
-use Rattle.upkeep.specs.Dueness.{due_of}
+use Rattle.service_lane.specs.declared.due.Due.TheVariants as due
+use Rattle.service_lane.specs.Dueness.{due_of}
 use Rattle.service_lane.specs.declared.upkeep_counts.UpkeepCounts.{UpkeepCounts}
 use Rattle.service_lane.specs.Counting.{with_flushed, with_moved, with_refused_move}
 use Rattle.service_lane.specs.Serving.{Serving}

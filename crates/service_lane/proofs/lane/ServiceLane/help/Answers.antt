@@ -1,7 +1,7 @@
 -- What was done in help.
 use Rattle.std.proofs.Common.{◌≡◌, ◌+◌, suc, ap, subst, sym, ◌∙◌, inl, inr, arith, true, false, true≢false}
 use Rattle.klog.specs.Usage.{usage_of}
-use Rattle.upkeep.specs.Dueness.{is_near_end}
+use Rattle.service_lane.specs.Dueness.{is_near_end}
 use Rattle.service_lane.specs.Counting.{with_help, with_step, with_helps}
 use Rattle.service_lane.specs.Serving.{Serving}
 use Rattle.service_lane.specs.Upkeep.{is_lane_near_end, HelpsSteps}

@@ -4,7 +4,7 @@ use Rattle.recorded_lane.specs.Points.{noted_in}
 use Rattle.shared_cache.specs.declared.lane_left.LaneLeft.{LaneLeft}
 use Rattle.shared_cache.specs.Settled.{recorded_in}
 use Rattle.shared_cache.proofs.Blaming.{blamed}
-use Rattle.certificate_checker.proofs.LaneEnds.{placed_apart}
+use Rattle.certificate_checker.proofs.public_laws.LaneEnds.{placed_apart}
 use Rattle.history_recorder.specs.Operations.{lane_of_key}
 use Rattle.shared_cache.specs.Over.{AreOver}
 use Rattle.shared_cache.proofs.LanesOver.{rise_over, few_in, lanes_over, placed_over, lanes_as_left}

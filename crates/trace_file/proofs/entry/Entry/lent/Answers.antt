@@ -1,6 +1,6 @@
 use Rattle.std.proofs.Common.{◌+◌, List, ℕ, ap, refl, sym, ◌∙◌}
 use Rattle.trace_file.specs.Stored.{act_of}
-use Rattle.trace_file.proofs.StoreLaws.{lent_call, slice_is}
+use Rattle.trace_file.proofs.public_laws.StoreLaws.{lent_call, slice_is}
 use Rattle.trace_file.proofs.entry.Entry.lent.Goals as goal
 
 pub returns-clause-call : goal.returns-clause-call

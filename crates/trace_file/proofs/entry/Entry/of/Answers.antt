@@ -2,7 +2,7 @@ use Rattle.std.proofs.Common.{ap, refl, length, ◌∙◌}
 use Rattle.trace_file.specs.Calls.{value_of}
 use Rattle.trace_file.specs.Stored.{act_of}
 use Rattle.trace_file.specs.Lent.{act_shown, call_shown}
-use Rattle.trace_file.proofs.StoreLaws.{call_in-new}
+use Rattle.trace_file.proofs.public_laws.StoreLaws.{call_in-new}
 use Rattle.trace_file.proofs.entry.Entry.of.Goals as goal
 
 pub returns-clause-call : goal.returns-clause-call

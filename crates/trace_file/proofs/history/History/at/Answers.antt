@@ -1,7 +1,7 @@
 use Rattle.std.proofs.Common.{◌≡◌}
 use Rattle.trace_file.specs.Lent.{call_shown}
 use Rattle.trace_file.specs.Stored.{call_in}
-use Rattle.trace_file.proofs.StoreLaws.{lies_at, read_call}
+use Rattle.trace_file.proofs.public_laws.StoreLaws.{lies_at, read_call}
 use Rattle.trace_file.proofs.history.History.at.Goals as goal
 
 pub lent-requires : goal.lent-requires

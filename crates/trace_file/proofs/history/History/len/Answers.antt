@@ -1,7 +1,7 @@
 use Rattle.std.proofs.Common.{List, All, subst}
 use Rattle.trace_file.specs.Calls.{IsCall}
 use Rattle.trace_file.specs.declared.call.Call.{Call}
-use Rattle.trace_file.proofs.StoreLaws.{calls_in-lawful}
+use Rattle.trace_file.proofs.public_laws.StoreLaws.{calls_in-lawful}
 use Rattle.trace_file.proofs.history.History.len.Goals as goal
 
 pub returns-clause-calls : goal.returns-clause-calls

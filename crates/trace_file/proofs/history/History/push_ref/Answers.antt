@@ -1,6 +1,6 @@
 use Rattle.std.proofs.Common.{rules}
 use Rattle.trace_file.specs.Lent.{call_shown}
-use Rattle.trace_file.proofs.StoreLaws.{pushed_call}
+use Rattle.trace_file.proofs.public_laws.StoreLaws.{pushed_call}
 use Rattle.trace_file.proofs.history.History.push_ref.Goals as goal
 
 pub returns-clause-ok : goal.returns-clause-ok

@@ -3,7 +3,7 @@ use Rattle.trace_file.specs.Given.{shown}
 use Rattle.trace_file.specs.declared.header.Header.{Header}
 use Rattle.trace_file.specs.Stream.{read_behind}
 use Rattle.trace_file.proofs.Countings.{opened_now}
-use Rattle.trace_file.proofs.TraceLaws.{stopped_at_header}
+use Rattle.trace_file.proofs.public_laws.TraceLaws.{stopped_at_header}
 use Rattle.trace_file.proofs.taken.Taken.take_header.Goals as goal
 
 pub returns-in-Ok-clause-ok : goal.returns-in-Ok-clause-ok

@@ -1,2 +1,0 @@
-//! Laws of sets of numbers that are the bits of words. It has no code.
-#![tactic(auto)]

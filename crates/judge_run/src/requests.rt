@@ -1,0 +1,39 @@
+// What `judge`, `check` and `show` are asked.
+use trace_file::FileName;
+
+/// The history that is to be judged, and what is wanted beside its verdict.
+#[derive(Debug, Drop)]
+pub struct JudgeRequest {
+    /// The file of the text; `-` is the standard input.
+    pub file: FileName,
+    /// Whether it is said why the history is rejected.
+    pub explain: bool,
+    /// Whether the answer is a JSON object and not lines.
+    pub json: bool,
+    /// The file that a picture of why it is rejected is drawn to.
+    pub picture: Option<FileName>,
+    /// The file that an accepted history is written to, as a trace with the certificate that was found.
+    pub trace: Option<FileName>,
+}
+
+/// The trace that is to be judged, and what is wanted beside its verdict.
+#[derive(Debug, Drop)]
+pub struct CheckRequest {
+    /// The file of the trace.
+    pub file: FileName,
+    /// Whether it is said why the trace is rejected.
+    pub explain: bool,
+    /// Whether the answer is a JSON object and not lines.
+    pub json: bool,
+    /// The file that a picture of why it is rejected is drawn to.
+    pub picture: Option<FileName>,
+}
+
+/// The trace that is to be written as text.
+#[derive(Debug, Drop)]
+pub struct ShowRequest {
+    /// The file of the trace.
+    pub file: FileName,
+    /// The key whose calls alone are written, as the text spells it.
+    pub key: Option<String>,
+}

@@ -1,0 +1,3 @@
+-- What other crates may cite of the lemmas here.
+pub mod EntryLaws
+pub mod RowLaws

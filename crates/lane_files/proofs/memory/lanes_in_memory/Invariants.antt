@@ -1,6 +1,0 @@
--- As many devices as lanes that were counted, each of so many pages.
-use Rattle.std.proofs.Common.{◌≡◌, All, length}
-use Rattle.lane_files.proofs.memory.lanes_in_memory.Given as goal
-
-abbrev pub invariant-loop : goal.invariant-loop
-invariant-loop g l = (length l.devices.items ≡ l.counter) × All (λ d. length d ≡ l.pages) l.devices.items

@@ -1,6 +1,0 @@
--- As many devices as lanes so far, each of so many pages.
-use Rattle.std.proofs.Common.{◌≡◌, All, length}
-use Rattle.lane_files.proofs.opening.lanes_in_files.Given as goal
-
-abbrev pub invariant-loop-lane : goal.invariant-loop-lane
-invariant-loop-lane g l = (length l.devices.items ≡ l.lane) × All (λ d. d.pages ≡ l.pages) l.devices.items

@@ -1,4 +1,0 @@
-pub mod TopLaws
-pub mod SumLaws
-pub mod CountLaws
-pub mod HoldingLaws

@@ -1,6 +1,0 @@
-use Rattle.std.proofs.Common.{◌≡◌, length}
-use Rattle.std.specs.List.{sum}
-use Rattle.latencies.proofs.cells.zeros.Given as goal
-
-abbrev pub invariant-loop : goal.invariant-loop
-invariant-loop l = (length l.counts.items ≡ l.counter) × (sum l.counts.items ≡ 0)

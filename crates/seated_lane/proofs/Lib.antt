@@ -1,3 +1,0 @@
-pub mod Latest
-pub mod Refusing
-pub mod Seating

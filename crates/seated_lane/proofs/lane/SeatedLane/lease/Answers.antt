@@ -1,7 +1,0 @@
-use Rattle.std.proofs.Common.{List, sym, ap, subst}
-use Rattle.certificate_checker.specs.Deeds.{Deed}
-use Rattle.seated_lane.specs.Seated.{IsSeated}
-use Rattle.seated_lane.proofs.lane.SeatedLane.lease.Goals as goal
-
-pub invariant_of-self : goal.invariant_of-self
-invariant_of-self g c = subst (λ (ds : List Deed). IsSeated g.L.KeyLanes.lane_of c.self.inside.register ds) (sym (ap (λ s. s.deeds) c.lease.ensures.leaves)) c.self.invariant

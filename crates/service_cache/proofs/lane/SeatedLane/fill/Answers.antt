@@ -1,0 +1,54 @@
+use Rattle.std.proofs.Common.{Ok, ◌≡◌, ℕ, List, [], ◌∷◌, ◌++◌, sym, ◌∙◌, ap, subst}
+use Rattle.trace_file.specs.declared.act.Act.TheVariants.{Remove}
+use Rattle.certificate_checker.specs.Deeds.{Deed}
+use Rattle.service_lane.specs.Serving.{Removes}
+use Rattle.deed_book.specs.Registers.{Registered, EntersIn}
+use Rattle.service_cache.specs.Seated.{IsSeated, put_of}
+use Rattle.service_cache.proofs.Seating.{seated_put, seated_undone}
+use Rattle.service_cache.proofs.Refusing.{not_stale}
+use Rattle.service_cache.proofs.lane.SeatedLane.fill.Goals as goal
+
+pub invariant_of-self : goal.invariant_of-self
+invariant_of-self g c =
+    subst (λ (ds : List Deed). IsSeated g.L.KeyLanes.lane_of c.self.inside.register ds) (sym (ap (λ s. s.deeds) c.in_err-fill.ensures.refused)) c.self.invariant
+
+pub invariant_of-self-in-Stale-1 : goal.invariant_of-self-in-Stale-1
+invariant_of-self-in-Stale-1 g c =
+    let stale = rw c.in-Stale.is at c.in_ok-fill.ensures.filled in
+    subst (λ (ds : List Deed). IsSeated g.L.KeyLanes.lane_of c.self.inside.register ds) (sym (ap (λ s. s.deeds) stale)) c.self.invariant
+
+pub invariant_of-self-in_default : goal.invariant_of-self-in_default
+invariant_of-self-in_default g c =
+    let lane_of = g.L.KeyLanes.lane_of in
+    let stored = rw c.in-Stored.is at c.in_ok-fill.ensures.filled in
+    let enters : EntersIn lane_of c.self.inside.register c.args.seat.now (put_of c.args.key c.args.value c.args.expires) c.enter_or_remove.new.register c.enter_or_remove.new.seat =
+    subst (λ (w : Deed). EntersIn lane_of c.self.inside.register c.args.seat.now w c.enter_or_remove.new.register c.enter_or_remove.new.seat) c.put-put.ensures c.in_default.ensures.entered in
+    seated_put lane_of c.self.inside.register c.self.inside.lane.deeds c.self.invariant c.args.key c.args.value c.args.expires c.enter_or_remove.new.lane.deeds c.args.seat.now c.enter_or_remove.new.seat c.enter_or_remove.new.register (ap (λ s. s.deeds) c.in_default.ensures.stays ∙ stored.deeds) enters
+
+pub invariant_of-self-in-Stored : goal.invariant_of-self-in-Stored
+invariant_of-self-in-Stored g c =
+    let lane_of = g.L.KeyLanes.lane_of in
+    let stored = rw c.in-Stored.is at c.in_ok-fill.ensures.filled in
+    let gone : c.enter_or_remove.new.lane.deeds ≡ c.fill.new.self.deeds ++ record { key = c.args.key; act = Remove } ∷ [] =
+    c.in-Err.ensures.removed.deeds ∙ ap (λ (k : List ℕ). c.fill.new.self.deeds ++ record { key = k; act = Remove } ∷ []) (c.bytes.ensures.bytes ∙ c.of-copy.ensures) in
+    let undone : IsSeated lane_of c.self.inside.register c.enter_or_remove.new.lane.deeds =
+    seated_undone lane_of c.self.inside.register c.self.inside.lane.deeds c.self.invariant (put_of c.args.key c.args.value c.args.expires) c.fill.new.self.deeds c.enter_or_remove.new.lane.deeds stored.deeds gone in
+    subst (λ (r : Registered). IsSeated lane_of r c.enter_or_remove.new.lane.deeds) (sym c.in-Err.ensures.refused.0) undone
+
+pub returns-in-Err-clause-refused : goal.returns-in-Err-clause-refused
+returns-in-Err-clause-refused g c =
+    let stored = rw c.in-Stored.is at c.in_ok-fill.ensures.filled in
+    let removed : Removes g.D.PageDevice.held c.args.key c.fill.new.self c.enter_or_remove.new.lane =
+    subst (λ (k : List ℕ). Removes g.D.PageDevice.held k c.fill.new.self c.enter_or_remove.new.lane) (c.bytes.ensures.bytes ∙ c.of-copy.ensures) c.in-Err.ensures.removed in
+    rw (← c.self.view_is) (record { pushed = c.in-Stored.pushed; between = c.fill.new.self; fills = stored; removes = removed }, c.in-Err.ensures.refused.0, c.in-Err.ensures.refused.1)
+
+pub returns-in_default-clause-stale : goal.returns-in_default-clause-stale
+returns-in_default-clause-stale g c =
+    rw (← c.self.view_is) (not_stale (Ok c.in_ok-fill.field-0) _ c.in-Stored.pushed _ (ap Ok c.in-Stored.is) c.in_ok-fill.ensures.stale (λ is. cc))
+
+pub returns-in-Err-clause-stale : goal.returns-in-Err-clause-stale
+returns-in-Err-clause-stale g c =
+    rw (← c.self.view_is) (not_stale (Ok c.in_ok-fill.field-0) _ c.in-Stored.pushed _ (ap Ok c.in-Stored.is) c.in_ok-fill.ensures.stale (λ is. cc))
+
+pub returns-in_default-clause-room : goal.returns-in_default-clause-room
+returns-in_default-clause-room g c = rw (← c.self.view_is) (λ none. absurd (c.in_default.not-Err _ (c.in_default.is ∙ c.in_default.ensures.full.1 none)))

@@ -1,0 +1,39 @@
+use Rattle.std.proofs.Common.{rules, Err, refl, ◌≡◌, [], ◌∷◌, ◌++◌, sym, ◌∙◌, ap, subst}
+use Rattle.trace_file.specs.declared.act.Act.TheVariants.{Remove}
+use Rattle.certificate_checker.specs.Deeds.{Deed}
+use Rattle.deed_book.specs.Registers.{Registered, EntersIn}
+use Rattle.service_cache.specs.Seated.{IsSeated, put_of}
+use Rattle.service_cache.proofs.Seating.{seated_put, seated_removed, seated_forgotten}
+use Rattle.service_cache.proofs.Refusing.{refused_put, refused_object}
+use Rattle.service_cache.proofs.lane.SeatedLane.put.Goals as goal
+
+pub invariant_of-self : goal.invariant_of-self
+invariant_of-self g c =
+    let lane_of = g.L.KeyLanes.lane_of in
+    let forgotten : IsSeated lane_of c.self.inside.register c.enter_or_remove.new.lane.deeds =
+    seated_forgotten lane_of c.self.inside.register c.self.inside.lane.deeds c.self.invariant c.bytes-bytes.result.now c.enter_or_remove.new.lane.deeds c.in_err-enter_or_remove.ensures.removed.deeds in
+    subst (λ (r : Registered). IsSeated lane_of r c.enter_or_remove.new.lane.deeds) (sym c.in_err-enter_or_remove.ensures.refused.0) forgotten
+
+pub invariant_of-self-in_err-pushed : goal.invariant_of-self-in_err-pushed
+invariant_of-self-in_err-pushed g c =
+    let lane_of = g.L.KeyLanes.lane_of in
+    let put : Deed = put_of c.args.key c.args.value c.args.expires in
+    let enters : EntersIn lane_of c.self.inside.register c.args.seat.now put c.enter_or_remove.new.register c.enter_or_remove.new.seat =
+    subst (λ (w : Deed). EntersIn lane_of c.self.inside.register c.args.seat.now w c.enter_or_remove.new.register c.enter_or_remove.new.seat) c.put-put.ensures c.in_ok-enter_or_remove.ensures.entered in
+    let gone : c.put_or_remove.new.self.deeds ≡ c.self.inside.lane.deeds ++ record { key = c.args.key; act = Remove } ∷ [] =
+    c.in_err-pushed.ensures.removed.deeds ∙ ap (λ s. s.deeds ++ record { key = c.args.key; act = Remove } ∷ []) c.in_ok-enter_or_remove.ensures.stays in
+    seated_removed lane_of c.self.inside.register c.self.inside.lane.deeds c.self.invariant put c.put_or_remove.new.self.deeds c.args.seat.now c.enter_or_remove.new.seat c.enter_or_remove.new.register gone enters
+
+pub invariant_of-self-2 : goal.invariant_of-self-2
+invariant_of-self-2 g c =
+    let lane_of = g.L.KeyLanes.lane_of in
+    let put : Deed = put_of c.args.key c.args.value c.args.expires in
+    let enters : EntersIn lane_of c.self.inside.register c.args.seat.now put c.enter_or_remove.new.register c.enter_or_remove.new.seat =
+    subst (λ (w : Deed). EntersIn lane_of c.self.inside.register c.args.seat.now w c.enter_or_remove.new.register c.enter_or_remove.new.seat) c.put-put.ensures c.in_ok-enter_or_remove.ensures.entered in
+    let stored : c.put_or_remove.new.self.deeds ≡ c.self.inside.lane.deeds ++ put ∷ [] =
+    c.in_ok-pushed.ensures.stored.deeds ∙ ap (λ s. s.deeds ++ put ∷ []) c.in_ok-enter_or_remove.ensures.stays in
+    seated_put lane_of c.self.inside.register c.self.inside.lane.deeds c.self.invariant c.args.key c.args.value c.args.expires c.put_or_remove.new.self.deeds c.args.seat.now c.enter_or_remove.new.seat c.enter_or_remove.new.register stored enters
+
+pub returns-in_err-pushed-clause-cause : goal.returns-in_err-pushed-clause-cause
+returns-in_err-pushed-clause-cause g c =
+    refused_object g.row.PAGE c.args.key c.args.value c.from_residual-in_err-pushed.result c.in_err-pushed.field-0.0 (search rules) (refused_put g.row.PAGE c.args.key c.args.value (Err c.in_err-pushed.field-0.0) c.in_err-pushed.field-0.0 refl c.in_err-pushed.ensures.large)

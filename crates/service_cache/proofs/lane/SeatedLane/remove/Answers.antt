@@ -1,0 +1,34 @@
+use Rattle.std.proofs.Common.{rules, sym, subst}
+use Rattle.trace_file.specs.declared.act.Act.TheVariants.{Remove}
+use Rattle.certificate_checker.specs.Deeds.{Deed}
+use Rattle.deed_book.specs.Registers.{Registered, EntersIn}
+use Rattle.service_cache.specs.Seated.{IsSeated}
+use Rattle.service_cache.proofs.Seating.{seated_removed, seated_forgotten}
+use Rattle.service_cache.proofs.Refusing.{is_key, refused_key, full_exactly}
+use Rattle.service_cache.proofs.lane.SeatedLane.remove.Goals as goal
+
+pub invariant_of-self-in_err-enter : goal.invariant_of-self-in_err-enter
+invariant_of-self-in_err-enter g c =
+    let lane_of = g.L.KeyLanes.lane_of in
+    let forgotten : IsSeated lane_of c.self.inside.register c.remove.new.self.deeds =
+    seated_forgotten lane_of c.self.inside.register c.self.inside.lane.deeds c.self.invariant c.args.key.now c.remove.new.self.deeds c.in_ok-remove.ensures.removed.deeds in
+    subst (λ (r : Registered). IsSeated lane_of r c.remove.new.self.deeds) (sym c.in_err-enter.ensures.refused.0) forgotten
+
+pub invariant_of-self-2 : goal.invariant_of-self-2
+invariant_of-self-2 g c =
+    let lane_of = g.L.KeyLanes.lane_of in
+    let removal : Deed = record { key = c.args.key.now; act = Remove } in
+    let enters : EntersIn lane_of c.self.inside.register c.args.seat.now removal c.enter.new.self c.enter.new.seat =
+    subst (λ (w : Deed). EntersIn lane_of c.self.inside.register c.args.seat.now w c.enter.new.self c.enter.new.seat) c.removal-removal.ensures c.in_ok-enter.ensures.entered in
+    seated_removed lane_of c.self.inside.register c.self.inside.lane.deeds c.self.invariant removal c.remove.new.self.deeds c.args.seat.now c.enter.new.seat c.enter.new.self c.in_ok-remove.ensures.removed.deeds enters
+
+pub returns-in_err-enter-clause-cause : goal.returns-in_err-enter-clause-cause
+returns-in_err-enter-clause-cause g c =
+    refused_key c.from_residual-in_err-enter.result c.args.key.now c.in_err-enter.field-0.0 (search rules) (is_key c.in_ok-remove.field-0 c.args.key.now c.in_ok-remove.ensures.empty c.in_ok-remove.ensures.too_long)
+
+pub returns-clause-answered : goal.returns-clause-answered
+returns-clause-answered g c = is_key c.in_ok-remove.field-0 c.args.key.now c.in_ok-remove.ensures.empty c.in_ok-remove.ensures.too_long
+
+pub returns-in_err-enter-clause-full : goal.returns-in_err-enter-clause-full
+returns-in_err-enter-clause-full g c =
+    rw (← c.self.view_is) (full_exactly c.from_residual-in_err-enter.result c.in_err-enter.field-0.0 c.args.key.now _ (search rules) c.in_err-enter.ensures.full (is_key c.in_ok-remove.field-0 c.args.key.now c.in_ok-remove.ensures.empty c.in_ok-remove.ensures.too_long))

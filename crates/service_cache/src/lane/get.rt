@@ -1,0 +1,66 @@
+// Gets and leases with a seat.
+ghost use Rattle.std.specs.Prelude.{◌≡◌, IfOk, IfErr, OnOk, OnErr, IsTrue};
+ghost use mathlib.Core.List.{IsPrefix};
+ghost use Rattle.record_pages.specs.Bounded.{IsKey};
+ghost use Rattle.mover.specs.Get.{answer_of};
+ghost use Rattle.service_lane.specs.Asked.{IsLiveHit, IsMiss};
+ghost use Rattle.service_lane.specs.Counting.{with_given};
+ghost use Rattle.service_lane.specs.Leases.{writes_for};
+ghost use Rattle.service_lane.specs.Serving.{Gets};
+ghost use Rattle.service_cache.specs.Refusals.{RefusesGet};
+
+use super::SeatedLane;
+use crate::seat_fault::SeatFault;
+use deed_book::{KeyLanes, Naming, Seat};
+use mover::Seen;
+use page_device::PageDevice;
+use record_pages::ValueBuffer;
+use service_lane::Lease;
+
+impl<D: PageDevice<PAGE>, const PAGE: usize, L: KeyLanes, J: Naming> SeatedLane<D, PAGE, L, J> {
+    /// Looks a key of the lane up, by its bytes, as `ServiceLane::get` does; and the seat sees the list as it is.
+    ///
+    /// A hit is the key's latest value not since removed in the list that the seat has seen then, live at the moment: in
+    /// memory whatever the device does, on flash where it gives back what was written.
+    pub fn get(
+        &mut self,
+        seat: &mut Seat<L, J>,
+        key: &[u8],
+        moment: u64,
+        found: &mut ValueBuffer,
+    ) -> Result<Seen, SeatFault>
+        requires { L.lane_of key.now ≡ self.old.register.number }
+        ensures live { IfOk result (λ seen. IsLiveHit (IsTrue (D.honest self.old.serving.store.device)) seat.new
+            key.now moment (answer_of seen found.new)) }
+        ensures seen { IsPrefix seat.old seat.new }
+        ensures gets { IfOk result (λ seen. Gets PAGE D.honest D.failures D.held key.now moment
+            (answer_of seen found.new) self.old.serving self.new.serving) }
+        ensures number { self.new.register.number ≡ self.old.register.number }
+        ensures untouched { IfOk result (λ seen. IsMiss seen → found.new ≡ found.old) }
+
+        // When it is refused, and what that leaves.
+        ensures cause { IfErr result (RefusesGet key.now) }
+        ensures answered { OnOk result (IsKey key.now) }
+        ensures refused { OnErr result ((self.new.serving ≡ self.old.serving) × (found.new ≡ found.old)) }
+    {
+        let Ok(()) = self.register.look(seat) else {
+            return Err(SeatFault::foreign(key));
+        };
+        let seen = self.lane.get(key, moment, found)?;
+        Ok(seen)
+    }
+
+    /// A lease of a key, to be taken in the same hold of the lane as the get that missed.
+    pub fn lease(&mut self, key: &[u8]) -> Lease
+        ensures lease { result.writes ≡ writes_for self.old.serving.slots key.now }
+        ensures leaves { self.new ≡ record self.old {
+          serving = record self.old.serving {
+            counts = record self.old.serving.counts {
+              leases = with_given self.old.serving.counts.leases;
+            };
+          };
+        } }
+    {
+        self.lane.lease(key)
+    }
+}
