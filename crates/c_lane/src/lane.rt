@@ -6,7 +6,7 @@ use crate::counters::Counters;
 use crate::lane_shape::LaneShape;
 use crate::seed::Seed;
 use crate::status::Status;
-use page_device::{Boxed, Counted, PageDevice};
+use page_device::{Boxed, CountedPages, PageDevice};
 use rand_pcg::Lcg64Xsh32;
 use record_pages::{Layout, ValueBuffer};
 use service_lane::{ServiceLane, words_of};
@@ -24,7 +24,7 @@ mod tend;
 #[derive(Drop)]
 pub struct CLane<D: PageDevice<4096>> {
     // The device lies in memory of its own, so that the lane's size is known whatever the device.
-    lane: ServiceLane<Counted<Boxed<D>>, 4096>,
+    lane: ServiceLane<CountedPages<Boxed<D>>, 4096>,
     words: Lcg64Xsh32,
     // Room for the value of a hit, which is made once: a get writes as many bytes of it as the value has.
     found: ValueBuffer,
@@ -68,7 +68,7 @@ impl<D: PageDevice<4096>> CLane<D> {
         let Ok(boxed) = Boxed::new(alloc, device) else {
             return Err(Status::NoMemory);
         };
-        let counted = Counted::new(boxed);
+        let counted = CountedPages::new(boxed);
         let table_seed = seed.derive(number);
         match ServiceLane::with_layout(alloc, &layout, shape.lease_slots, counted, table_seed) {
             Ok(lane) => Ok(CLane {

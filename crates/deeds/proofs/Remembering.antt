@@ -39,8 +39,8 @@ use Rattle.mover.specs.declared.aborted.Aborted.{Aborted}
 use Rattle.mover.specs.declared.aborted.Aborted.TheVariants as aborted
 use Rattle.mover.specs.declared.committed.Committed.{Committed}
 use Rattle.mover.specs.declared.committed.Committed.TheVariants as committed
-use Rattle.mover.specs.declared.moved.Moved.{Moved}
-use Rattle.mover.specs.declared.moved.Moved.TheVariants as moved
+use Rattle.mover.specs.declared.moved_whole.MovedWhole.{MovedWhole}
+use Rattle.mover.specs.declared.moved_whole.MovedWhole.TheVariants as moved
 use Rattle.mover.proofs.public_laws.Keeping.{all_fronted}
 use Rattle.mover.proofs.public_laws.Listing.{in_take, split}
 use Rattle.mover.proofs.public_laws.Showing.{without_key}
@@ -88,7 +88,7 @@ module _ {D : Type 0} (size : ℕ) (old : StoreState D) where
   begin_stays : (begun : Begin) (new : StoreState D) → BeginLeaves size old begun new → Stays new
   begin_stays begun new leaves = room_stays (nat_lt (length old.flights) most_flights) begun new leaves
 
-  pub moving_stays : (plan_of : Job → List Choice) (answer : Moved) (new : StoreState D) → MovingLeaves size plan_of old answer new → Stays new
+  pub moving_stays : (plan_of : Job → List Choice) (answer : MovedWhole) (new : StoreState D) → MovingLeaves size plan_of old answer new → Stays new
   moving_stays plan_of moved.Written new ends = same new _ ends.landed.left (begin_stays (begin.Job ends.job) ends.between ends.begun)
   moving_stays plan_of moved.Forgotten new ends = same new _ ends.landed.left (begin_stays (begin.Job ends.job) ends.between ends.begun)
   moving_stays plan_of moved.Nothing new leaves = begin_stays begin.Nothing new leaves
@@ -103,7 +103,7 @@ module _ {D : Type 0} (size : ℕ) (old : StoreState D) where
   refused_stays new (inr up) = same new _ up.rest (begin_stays (begin.Job up.job) up.between up.begun)
 
   -- so by what a whole move answers
-  pub moved_stays : (plan_of : Job → List Choice) (result : Result Moved AllocError) (new : StoreState D) → IfOk result (λ answer. MovingLeaves size plan_of old answer new) → OnErr result (HasAll old new ⊎ GivesUp size old new) → Stays new
+  pub moved_stays : (plan_of : Job → List Choice) (result : Result MovedWhole AllocError) (new : StoreState D) → IfOk result (λ answer. MovingLeaves size plan_of old answer new) → OnErr result (HasAll old new ⊎ GivesUp size old new) → Stays new
   moved_stays plan_of (Ok answer) new leaves refused = moving_stays plan_of answer new leaves
   moved_stays plan_of (Err e) new leaves refused = refused_stays new refused
 

@@ -3,7 +3,7 @@ use Rattle.std.proofs.Common.{◌≡◌, ℕ, ◌<◌, Bool, true, false, cond, 
 use Rattle.std.specs.Prelude.{◌&&◌, ◌||◌}
 use Rattle.std.proofs.lemmas.Bool.{eq-eqb, ne_eqb, cases_eq}
 use Rattle.std.proofs.lemmas.List.{get_or-set_same, get_or-set_other}
-use Rattle.entry_pool.specs.declared.item.Item.{Item}
+use Rattle.entry_pool.specs.declared.pool_item.PoolItem.{PoolItem}
 use Rattle.entry_pool.specs.declared.node.Node.{Node}
 use Rattle.entry_pool.specs.Chains.{none}
 use Rattle.entry_pool.specs.Linked.{blank, node_at, from, chains, put, put_next, put_free, put_item, with_node}
@@ -182,7 +182,7 @@ node-set ns hs a b f at n m lt named e = λ i. record {
       | inr ne ↦ part-else (λ x. x.item) ns at j n ne ∙ ap (λ (c : Bool). cond c m.item (node_at ns j).item) (sym (ne_eqb j at ne))
     ]
 
-pub item-set : (ns : List Node) (hs : List ℕ) (a b f : ℕ) (at : ℕ) (it : Item) (n : Node) → at < length ns → n ≡ record (node_at ns at) { item = it } → chains (set ns at n) hs a b f ≡ record (chains ns hs a b f) { item = put_item at it (chains ns hs a b f).item }
+pub item-set : (ns : List Node) (hs : List ℕ) (a b f : ℕ) (at : ℕ) (it : PoolItem) (n : Node) → at < length ns → n ≡ record (node_at ns at) { item = it } → chains (set ns at n) hs a b f ≡ record (chains ns hs a b f) { item = put_item at it (chains ns hs a b f).item }
 item-set ns hs a b f at it n lt e = λ i. record {
   older = λ j. from-kept (λ x. x.older) a ns at j n lt (ap (λ (x : Node). x.older) e) i;
   newer = λ j. from-kept (λ x. x.newer) b ns at j n lt (ap (λ (x : Node). x.newer) e) i;

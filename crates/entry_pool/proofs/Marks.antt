@@ -2,7 +2,7 @@
 use Rattle.std.proofs.Common.{◌≡◌, ℕ, Bool, cond, eqb, Some, None, List, [], ◌∷◌, length, filter, inl, inr, refl, sym, ap, subst, ◌∙◌, arith}
 use Rattle.std.specs.List.{last_or}
 use Rattle.std.proofs.lemmas.Bool.{eq-eqb, ne_eqb, cases_Bool, cases_eq}
-use Rattle.entry_pool.specs.declared.item.Item.{Item}
+use Rattle.entry_pool.specs.declared.pool_item.PoolItem.{PoolItem}
 use Rattle.entry_pool.specs.declared.row.Row.{Row}
 use Rattle.entry_pool.specs.declared.links.Links.{Links}
 use Rattle.entry_pool.specs.Chains.{none, IsPath, IsBack, IsIn, IsDistinct, end_of, Chains, IsPool, is_in_set, after_of}
@@ -14,7 +14,7 @@ use Rattle.entry_pool.proofs.PoolLaws.{path-from, after-in, after-next}
 use Rattle.entry_pool.proofs.Moves.{filter-agree}
 use Rattle.entry_pool.proofs.Sound.{numbers-rows, settled, settled-ages, count-ages}
 
-pub rows-after : (q p : ℕ) (item : ℕ → Item) (xs : List ℕ) → rows_after q p (rows_of item xs) ≡ rows_of item (after_of q p xs)
+pub rows-after : (q p : ℕ) (item : ℕ → PoolItem) (xs : List ℕ) → rows_after q p (rows_of item xs) ≡ rows_of item (after_of q p xs)
 rows-after q p item [] = refl
 rows-after q p item (x ∷ xs) =
     let r : Row = record { at = x; item = item x } in
@@ -23,7 +23,7 @@ rows-after q p item (x ∷ xs) =
       | inr e ↦ ap (λ (b : Bool). cond b (r ∷ rows_of item xs) (rows_after q x (rows_of item xs))) e ∙ rows-after q x item xs ∙ sym (ap (λ (b : Bool). rows_of item (cond b (x ∷ xs) (after_of q x xs))) e)
     ]
 
-pub in-set : (set : ℕ) (item : ℕ → Item) (xs : List ℕ) → in_set set (rows_of item xs) ≡ rows_of item (filter (is_in_set item set) xs)
+pub in-set : (set : ℕ) (item : ℕ → PoolItem) (xs : List ℕ) → in_set set (rows_of item xs) ≡ rows_of item (filter (is_in_set item set) xs)
 in-set set item [] = refl
 in-set set item (x ∷ xs) =
     let r : Row = record { at = x; item = item x } in
@@ -42,7 +42,7 @@ unfolding bucket_of
 bucket-rows l p set is = sym (in-set set (chains_of l).item (ages_of l)) ∙ ap (λ (rs : List Row). in_set set rs) (rows-are l p is)
 
 -- a mark is the number of a node, or none
-pub mark-in : (item : ℕ → Item) (xs : List ℕ) (rows : List Row) (q : ℕ) → rows_of item xs ≡ rows → IsMark q rows → IsIn q (none ∷ xs)
+pub mark-in : (item : ℕ → PoolItem) (xs : List ℕ) (rows : List Row) (q : ℕ) → rows_of item xs ≡ rows → IsMark q rows → IsIn q (none ∷ xs)
 mark-in item xs rows q is mark = subst (λ (zs : List ℕ). IsIn q (none ∷ zs)) (ap (λ (rs : List Row). numbers rs) (sym is) ∙ numbers-rows item xs) mark
 
 end-here : (f : ℕ → ℕ) (xs rest : List ℕ) (q : ℕ) → IsPath f none xs → IsDistinct (none ∷ xs) → IsIn q (none ∷ xs) → after_of q none xs ≡ rest → f q ≡ none → rest ≡ []
@@ -64,32 +64,32 @@ next-here f xs (z ∷ zs) q path apart i e n =
     (e ∙ ap (λ (vs : List ℕ). z ∷ vs) (sym next) ∙ ap (λ (k : ℕ). k ∷ after_of k none xs) (sym is), in-same z (f q) xs (sym is) inside)
 
 -- nothing comes behind a mark that leads nowhere
-pub next-none : (f : ℕ → ℕ) (item : ℕ → Item) (xs : List ℕ) (rows : List Row) (q y : ℕ) → IsPath f none xs → IsDistinct (none ∷ xs) → rows_of item xs ≡ rows → IsMark q rows → y ≡ f q → y ≡ none → rows_after q none rows ≡ []
+pub next-none : (f : ℕ → ℕ) (item : ℕ → PoolItem) (xs : List ℕ) (rows : List Row) (q y : ℕ) → IsPath f none xs → IsDistinct (none ∷ xs) → rows_of item xs ≡ rows → IsMark q rows → y ≡ f q → y ≡ none → rows_after q none rows ≡ []
 next-none f item xs rows q y path apart is mark at e =
     let none_left : after_of q none xs ≡ [] = end-here f xs (after_of q none xs) q path apart (mark-in item xs rows q is mark) refl (sym at ∙ e) in
     ap (λ (rs : List Row). rows_after q none rs) (sym is) ∙ rows-after q none item xs ∙ ap (λ (zs : List ℕ). rows_of item zs) none_left
 
 -- what a mark leads to comes behind it
-pub next-some : (f : ℕ → ℕ) (item : ℕ → Item) (xs : List ℕ) (rows : List Row) (q y : ℕ) (it : Item) → IsPath f none xs → IsDistinct (none ∷ xs) → rows_of item xs ≡ rows → IsMark q rows → y ≡ f q → (y ≡ none → ⊥) → it ≡ item y →
+pub next-some : (f : ℕ → ℕ) (item : ℕ → PoolItem) (xs : List ℕ) (rows : List Row) (q y : ℕ) (it : PoolItem) → IsPath f none xs → IsDistinct (none ∷ xs) → rows_of item xs ≡ rows → IsMark q rows → y ≡ f q → (y ≡ none → ⊥) → it ≡ item y →
     (rows_after q none rows ≡ record { at = y; item = it } ∷ rows_after y none rows) × IsMark y rows
 next-some f item xs rows q y it path apart is mark at n noted =
     let step = next-here f xs (after_of q none xs) q path apart (mark-in item xs rows q is mark) refl (λ e. n (at ∙ e)) in
     let here : after_of q none xs ≡ y ∷ after_of y none xs = subst (λ (k : ℕ). after_of q none xs ≡ k ∷ after_of k none xs) (sym at) step.0 in
     let shown : rows_after q none (rows_of item xs) ≡ record { at = y; item = it } ∷ rows_after y none (rows_of item xs) =
     rows-after q none item xs ∙ ap (λ (zs : List ℕ). rows_of item zs) here
-    ∙ ap (λ (w : Item). record { at = y; item = w } ∷ rows_of item (after_of y none xs)) (sym noted)
+    ∙ ap (λ (w : PoolItem). record { at = y; item = w } ∷ rows_of item (after_of y none xs)) (sym noted)
     ∙ ap (λ (rs : List Row). record { at = y; item = it } ∷ rs) (sym (rows-after y none item xs)) in (
       subst (λ (rs : List Row). rows_after q none rs ≡ record { at = y; item = it } ∷ rows_after y none rs) is shown,
       inr (subst (λ (zs : List ℕ). IsIn y zs) (sym (ap (λ (rs : List Row). numbers rs) (sym is) ∙ numbers-rows item xs)) (in-same (f q) y xs (sym at) step.1)),
     )
 
 -- the row that comes next behind a mark, as a node of the chain
-pub record NextNode (item : ℕ → Item) (xs : List ℕ) (q : ℕ) (r : Row) : Type 0 where
+pub record NextNode (item : ℕ → PoolItem) (xs : List ℕ) (q : ℕ) (r : Row) : Type 0 where
   pub inside : IsIn r.at xs
   pub set : (item r.at).set ≡ r.item.set
   pub behind : IsBehind r.at (after_of q none xs)
 
-pub next-node : (item : ℕ → Item) (xs : List ℕ) (rows : List Row) (q : ℕ) (r : Row) → rows_of item xs ≡ rows → IsNext q rows (Some r) → NextNode item xs q r
+pub next-node : (item : ℕ → PoolItem) (xs : List ℕ) (rows : List Row) (q : ℕ) (r : Row) → rows_of item xs ≡ rows → IsNext q rows (Some r) → NextNode item xs q r
 next-node item xs rows q r is next = by_nodes (after_of q none xs) refl (sym (rows-after q none item xs) ∙ ap (λ (rs : List Row). rows_after q none rs) is ∙ next.0)
   where
     by_nodes : (ys : List ℕ) → after_of q none xs ≡ ys → rows_of item (after_of q none xs) ≡ r ∷ rows_after r.at none rows → NextNode item xs q r
@@ -111,11 +111,11 @@ pub back-end : (f : ℕ → ℕ) (p : ℕ) (xs : List ℕ) → IsBack f p xs →
 back-end f p [] h = h
 back-end f p (x ∷ xs) h = back-end f x xs h.1
 
-last-rows : (item : ℕ → Item) (p : ℕ) (xs : List ℕ) → last_or (Some (record { at = p; item = item p })) (rows_of item xs) ≡ Some (record { at = end_of p xs; item = item (end_of p xs) })
+last-rows : (item : ℕ → PoolItem) (p : ℕ) (xs : List ℕ) → last_or (Some (record { at = p; item = item p })) (rows_of item xs) ≡ Some (record { at = end_of p xs; item = item (end_of p xs) })
 last-rows item p [] = refl
 last-rows item p (x ∷ xs) = last-rows item x xs
 
-pub last-none : (item : ℕ → Item) (xs : List ℕ) → ¬ IsIn none xs → end_of none xs ≡ none → None ≡ last_or None (rows_of item xs)
+pub last-none : (item : ℕ → PoolItem) (xs : List ℕ) → ¬ IsIn none xs → end_of none xs ≡ none → None ≡ last_or None (rows_of item xs)
 last-none item [] n e = refl
 last-none item (x ∷ xs) n e = absurd (n (in-same (end_of x xs) none (x ∷ xs) e (end-in x xs)))
 
@@ -123,13 +123,13 @@ pub last-in : (xs : List ℕ) → (end_of none xs ≡ none → ⊥) → IsIn (en
 last-in [] n = absurd (n refl)
 last-in (x ∷ xs) n = end-in x xs
 
-pub last-some : (item : ℕ → Item) (xs : List ℕ) (y : ℕ) (it : Item) → y ≡ end_of none xs → (y ≡ none → ⊥) → it ≡ item y → Some (record { at = y; item = it }) ≡ last_or None (rows_of item xs)
+pub last-some : (item : ℕ → PoolItem) (xs : List ℕ) (y : ℕ) (it : PoolItem) → y ≡ end_of none xs → (y ≡ none → ⊥) → it ≡ item y → Some (record { at = y; item = it }) ≡ last_or None (rows_of item xs)
 last-some item [] y it e n noted = absurd (n e)
 last-some item (x ∷ xs) y it e n noted =
-    ap (λ (w : Item). Some (record { at = y; item = w })) noted ∙ ap (λ (k : ℕ). Some (record { at = k; item = item k })) e ∙ sym (last-rows item x xs)
+    ap (λ (w : PoolItem). Some (record { at = y; item = w })) noted ∙ ap (λ (k : ℕ). Some (record { at = k; item = item k })) e ∙ sym (last-rows item x xs)
 
 -- another prediction leaves the sets
-pub set-same : (at n : ℕ) (f : ℕ → Item) (y : ℕ) → (put_item at (with_prediction n (f at)) f y).set ≡ (f y).set
+pub set-same : (at n : ℕ) (f : ℕ → PoolItem) (y : ℕ) → (put_item at (with_prediction n (f at)) f y).set ≡ (f y).set
 set-same at n f y = elim (cases_eq y at) [
   | inl e ↦ ap (λ (b : Bool). (cond b (with_prediction n (f at)) (f y)).set) (eq-eqb y at e) ∙ ap (λ (k : ℕ). (f k).set) (sym e)
   | inr ne ↦ ap (λ (b : Bool). (cond b (with_prediction n (f at)) (f y)).set) (ne_eqb y at ne)
@@ -148,7 +148,7 @@ repredicted-pool c total at n ages frees pool =
       few = pool.few;
     }
 
-pub repredicted-rows : (at n : ℕ) (f : ℕ → Item) (xs : List ℕ) → rows_of (put_item at (with_prediction n (f at)) f) xs ≡ with_prediction_at at n (rows_of f xs)
+pub repredicted-rows : (at n : ℕ) (f : ℕ → PoolItem) (xs : List ℕ) → rows_of (put_item at (with_prediction n (f at)) f) xs ≡ with_prediction_at at n (rows_of f xs)
 repredicted-rows at n f [] = refl
 repredicted-rows at n f (x ∷ xs) =
     let r : Row = record { at = x; item = f x } in

@@ -4,7 +4,7 @@ use Rattle.std.specs.Prelude.{◌⊎◌}
 use Rattle.std.proofs.lemmas.Bool.{eqb-true, eq-eqb, ne_eqb, cases_eq}
 use Rattle.std.proofs.lemmas.List.Elements.{filter-append}
 use Rattle.std.proofs.lemmas.List.{length-append}
-use Rattle.entry_pool.specs.declared.item.Item.{Item}
+use Rattle.entry_pool.specs.declared.pool_item.PoolItem.{PoolItem}
 use Rattle.entry_pool.specs.Chains.{none, IsPath, IsBack, IsIn, IsDistinct, end_of, start_of, Chains, IsPool, is_in_set, IsTaken, IsGiven}
 use Rattle.entry_pool.proofs.ChainLaws.{path-turn, path-push, path-behind, path-start, path-unlink, back-turn, back-at, back-unlink, in-left, in-right, in-same, end-in}
 use Rattle.entry_pool.proofs.PoolLaws.{filter-in, distinct-filter, distinct-left, distinct-apart, in-moved, moved-in, distinct-moved, distinct-back}
@@ -62,7 +62,7 @@ module _ (c d : Chains) (total x q : ℕ) (bs ys frees : List ℕ) (pool : IsPoo
   ]
 
   same_items : (set : ℕ) (zs : List ℕ) → filter (is_in_set d.item set) zs ≡ filter (is_in_set c.item set) zs
-  same_items set zs = filter-agree (is_in_set d.item set) (is_in_set c.item set) zs (λ y i. ap (λ (it : Item). eqb it.set set) (taken.item y))
+  same_items set zs = filter-agree (is_in_set d.item set) (is_in_set c.item set) zs (λ y i. ap (λ (it : PoolItem). eqb it.set set) (taken.item y))
 
   remove-own : IsPath (d.next (c.item x).set) none (filter (is_in_set c.item (c.item x).set) (bs ++ ys))
   remove-own =
@@ -137,7 +137,7 @@ module _ (c d : Chains) (total x q : ℕ) (bs ys frees : List ℕ) (pool : IsPoo
         few = pool.few;
       }
 
-module _ (c d : Chains) (total x : ℕ) (item : Item) (ages frees : List ℕ) (pool : IsPool c total ages (x ∷ frees)) (given : IsGiven c d x item) where
+module _ (c d : Chains) (total x : ℕ) (item : PoolItem) (ages frees : List ℕ) (pool : IsPool c total ages (x ∷ frees)) (given : IsGiven c d x item) where
   free_named : ¬ IsIn none (ages ++ x ∷ frees)
   free_named = unnamed c total ages (x ∷ frees) pool
 
@@ -166,7 +166,7 @@ module _ (c d : Chains) (total x : ℕ) (item : Item) (ages frees : List ℕ) (p
       )
 
   same_old : (set : ℕ) → filter (is_in_set d.item set) ages ≡ filter (is_in_set c.item set) ages
-  same_old set = filter-agree (is_in_set d.item set) (is_in_set c.item set) ages (λ y i. ap (λ (it : Item). eqb it.set set) (given.item_else y (not_x y i)))
+  same_old set = filter-agree (is_in_set d.item set) (is_in_set c.item set) ages (λ y i. ap (λ (it : PoolItem). eqb it.set set) (given.item_else y (not_x y i)))
 
   in_ages : (set y : ℕ) → IsIn y (filter (is_in_set c.item set) ages) → IsIn y ages
   in_ages set y i = (filter-in (is_in_set c.item set) y ages i).0
@@ -176,13 +176,13 @@ module _ (c d : Chains) (total x : ℕ) (item : Item) (ages frees : List ℕ) (p
     | inl e ↦
         let zs = filter (is_in_set c.item item.set) ages in
         let path : IsPath (d.next item.set) none (x ∷ zs) = path-push (c.next item.set) (d.next item.set) none x zs (pool.next item.set) given.next_head given.next_at (λ y i. given.next_else item.set y (not_none y (in_ages item.set y i)) (not_x y (in_ages item.set y i))) in
-        let first : is_in_set d.item item.set x ≡ true = eq-eqb (d.item x).set item.set (ap (λ (it : Item). it.set) given.item_at) in
+        let first : is_in_set d.item item.set x ≡ true = eq-eqb (d.item x).set item.set (ap (λ (it : PoolItem). it.set) given.item_at) in
         let all : filter (is_in_set d.item item.set) (x ∷ ages) ≡ x ∷ zs = ap (λ (b : Bool). cond b (x ∷ filter (is_in_set d.item item.set) ages) (filter (is_in_set d.item item.set) ages)) first ∙ ap (λ (vs : List ℕ). x ∷ vs) (same_old item.set) in
         subst (λ (s : ℕ). IsPath (d.next s) none (filter (is_in_set d.item s) (x ∷ ages))) e (subst (λ (vs : List ℕ). IsPath (d.next item.set) none vs) (sym all) path)
     | inr n ↦
         let zs = filter (is_in_set c.item set) ages in
         let path : IsPath (d.next set) none zs = path-turn (c.next set) (d.next set) none none zs (pool.next set) (given.next_heads set (λ w. n (sym w))) (λ y i. given.next_else set y (not_none y (in_ages set y i)) (not_x y (in_ages set y i))) in
-        let first : is_in_set d.item set x ≡ false = ne_eqb (d.item x).set set (λ w. n (sym (ap (λ (it : Item). it.set) given.item_at) ∙ w)) in
+        let first : is_in_set d.item set x ≡ false = ne_eqb (d.item x).set set (λ w. n (sym (ap (λ (it : PoolItem). it.set) given.item_at) ∙ w)) in
         let all : filter (is_in_set d.item set) (x ∷ ages) ≡ zs = ap (λ (b : Bool). cond b (x ∷ filter (is_in_set d.item set) ages) (filter (is_in_set d.item set) ages)) first ∙ same_old set in
         subst (λ (vs : List ℕ). IsPath (d.next set) none vs) (sym all) path
   ]

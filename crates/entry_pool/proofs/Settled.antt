@@ -2,7 +2,7 @@
 use Rattle.std.proofs.Common.{◌≡◌, ◌≢◌, ℕ, ◌+◌, ◌<◌, List, [], ◌∷◌, ◌++◌, length, filter, inl, refl, sym, ap, subst, ◌∙◌, arith}
 use Rattle.std.proofs.lemmas.List.{length-append}
 use Rattle.std.proofs.lemmas.Bool.{eq-eqb}
-use Rattle.entry_pool.specs.declared.item.Item.{Item}
+use Rattle.entry_pool.specs.declared.pool_item.PoolItem.{PoolItem}
 use Rattle.entry_pool.specs.declared.row.Row.{Row}
 use Rattle.entry_pool.specs.declared.links.Links.{Links}
 use Rattle.entry_pool.specs.Words.{Fits}
@@ -32,7 +32,7 @@ has-free l (y ∷ ys) sound room e =
 pub free-there : (l : Links) → IsSound l → l.count < length l.nodes.items → HasFree l
 free-there l sound room = has-free l (frees_of l) sound room refl
 
-pub can-give : (l : Links) (item : Item) → IsSound l → l.count < length l.nodes.items → item.set < length l.heads.items → Fits item → CanGive l item
+pub can-give : (l : Links) (item : PoolItem) → IsSound l → l.count < length l.nodes.items → item.set < length l.heads.items → Fits item → CanGive l item
 can-give l item sound room set fits =
     let c = chains_of l in
     let x = c.free none in
@@ -59,12 +59,12 @@ can-give l item sound room set fits =
         distinct-apart (ages_of l) (frees_of l) y sound.pool.apart inside (in-same ((chains_of l).free none) y (frees_of l) (sym same ∙ path.0) i)
 
 -- the pool after a row came
-given-pool : (l d : Links) (x : ℕ) (item : Item) (rest : List ℕ) → IsSound l → frees_of l ≡ x ∷ rest → IsGiven (chains_of l) (chains_of d) x item → length d.nodes.items ≡ length l.nodes.items → IsPool (chains_of d) (length d.nodes.items) (x ∷ ages_of l) rest
+given-pool : (l d : Links) (x : ℕ) (item : PoolItem) (rest : List ℕ) → IsSound l → frees_of l ≡ x ∷ rest → IsGiven (chains_of l) (chains_of d) x item → length d.nodes.items ≡ length l.nodes.items → IsPool (chains_of d) (length d.nodes.items) (x ∷ ages_of l) rest
 given-pool l d x item rest sound e given nodes =
     let pool : IsPool (chains_of l) (length l.nodes.items) (ages_of l) (x ∷ rest) = subst (λ (zs : List ℕ). IsPool (chains_of l) (length l.nodes.items) (ages_of l) zs) e sound.pool in
     subst (λ (n : ℕ). IsPool (chains_of d) n (x ∷ ages_of l) rest) (sym nodes) (pool-push (chains_of l) (chains_of d) (length l.nodes.items) x item (ages_of l) rest pool given)
 
-module _ (l d : Links) (x : ℕ) (item : Item) (sound : IsSound l) (room : l.count < length l.nodes.items) (is : x ≡ (chains_of l).free none) (given : IsGiven (chains_of l) (chains_of d) x item) (nodes : length d.nodes.items ≡ length l.nodes.items) (heads : length d.heads.items ≡ length l.heads.items) (count : d.count ≡ l.count + 1) where
+module _ (l d : Links) (x : ℕ) (item : PoolItem) (sound : IsSound l) (room : l.count < length l.nodes.items) (is : x ≡ (chains_of l).free none) (given : IsGiven (chains_of l) (chains_of d) x item) (nodes : length d.nodes.items ≡ length l.nodes.items) (heads : length d.heads.items ≡ length l.heads.items) (count : d.count ≡ l.count + 1) where
   rest : List ℕ
   rest = (free-there l sound room).rest
 
@@ -93,7 +93,7 @@ module _ (l d : Links) (x : ℕ) (item : Item) (sound : IsSound l) (room : l.cou
   given-rows =
       let all : rows_of (chains_of d).item (ages_of d) ≡ record { at = x; item = item } ∷ rows_of (chains_of l).item (ages_of l) =
       ap (λ (zs : List ℕ). rows_of (chains_of d).item zs) ages
-      ∙ ap (λ (it : Item). record { at = x; item = it } ∷ rows_of (chains_of d).item (ages_of l)) given.item_at
+      ∙ ap (λ (it : PoolItem). record { at = x; item = it } ∷ rows_of (chains_of d).item (ages_of l)) given.item_at
       ∙ ap (λ (rs : List Row). record { at = x; item = item } ∷ rs) (rows-same (chains_of d).item (chains_of l).item (ages_of l) (λ y i. given.item_else y (free_apart y i))) in
       λ i. record { sets = heads i; limit = nodes i; rows = all i }
 

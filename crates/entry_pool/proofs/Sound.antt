@@ -2,7 +2,7 @@
 use Rattle.std.proofs.Common.{◌≡◌, ℕ, suc, ◌-◌, ◌<◌, ◌≤◌, Bool, cond, not, List, [], ◌∷◌, ◌++◌, length, get_or, inl, inr, refl, sym, ap, subst, ◌∙◌, arith}
 use Rattle.std.proofs.lemmas.Bool.{eq-eqb, ne_eqb, cases_lt}
 use Rattle.std.proofs.lemmas.List.{get_or_past}
-use Rattle.entry_pool.specs.declared.item.Item.{Item}
+use Rattle.entry_pool.specs.declared.pool_item.PoolItem.{PoolItem}
 use Rattle.entry_pool.specs.declared.row.Row.{Row}
 use Rattle.entry_pool.specs.declared.links.Links.{Links}
 use Rattle.entry_pool.specs.Chains.{none, IsPath, IsBack, IsIn, IsDistinct, IsPool, is_in_set, after_of, walk}
@@ -37,29 +37,29 @@ split x [] h = absurd h
 split x (y ∷ ys) (inl e) = record { front = []; rest = ys; is = ap (λ (k : ℕ). k ∷ ys) (sym e) }
 split x (y ∷ ys) (inr i) = let s = split x ys i in record { front = y ∷ s.front; rest = s.rest; is = ap (λ (zs : List ℕ). y ∷ zs) s.is }
 
-pub numbers-rows : (item : ℕ → Item) (xs : List ℕ) → numbers (rows_of item xs) ≡ xs
+pub numbers-rows : (item : ℕ → PoolItem) (xs : List ℕ) → numbers (rows_of item xs) ≡ xs
 numbers-rows item [] = refl
 numbers-rows item (x ∷ xs) = ap (λ (ys : List ℕ). x ∷ ys) (numbers-rows item xs)
 
-pub length-rows : (item : ℕ → Item) (xs : List ℕ) → length (rows_of item xs) ≡ length xs
+pub length-rows : (item : ℕ → PoolItem) (xs : List ℕ) → length (rows_of item xs) ≡ length xs
 length-rows item [] = refl
 length-rows item (x ∷ xs) = ap suc (length-rows item xs)
 
-pub rows-same : (f g : ℕ → Item) (xs : List ℕ) → ((y : ℕ) → IsIn y xs → f y ≡ g y) → rows_of f xs ≡ rows_of g xs
+pub rows-same : (f g : ℕ → PoolItem) (xs : List ℕ) → ((y : ℕ) → IsIn y xs → f y ≡ g y) → rows_of f xs ≡ rows_of g xs
 rows-same f g [] same = refl
 rows-same f g (x ∷ xs) same =
-    ap (λ (it : Item). record { at = x; item = it } ∷ rows_of f xs) (same x (inl refl))
+    ap (λ (it : PoolItem). record { at = x; item = it } ∷ rows_of f xs) (same x (inl refl))
     ∙ ap (λ (rs : List Row). record { at = x; item = g x } ∷ rs) (rows-same f g xs (λ y i. same y (inr i)))
 
 -- rows without one that is not among them
-without-none : (x : ℕ) (item : ℕ → Item) (xs : List ℕ) → ¬ IsIn x xs → without_at x (rows_of item xs) ≡ rows_of item xs
+without-none : (x : ℕ) (item : ℕ → PoolItem) (xs : List ℕ) → ¬ IsIn x xs → without_at x (rows_of item xs) ≡ rows_of item xs
 without-none x item [] n = refl
 without-none x item (y ∷ ys) n =
     let r : Row = record { at = y; item = item y } in
     ap (λ (b : Bool). cond (not b) (r ∷ without_at x (rows_of item ys)) (without_at x (rows_of item ys))) (ne_eqb y x (λ e. n (inl (sym e))))
     ∙ ap (λ (rs : List Row). r ∷ rs) (without-none x item ys (λ i. n (inr i)))
 
-pub without-split : (x : ℕ) (item : ℕ → Item) (bs ys : List ℕ) → IsDistinct (bs ++ x ∷ ys) → without_at x (rows_of item (bs ++ x ∷ ys)) ≡ rows_of item (bs ++ ys)
+pub without-split : (x : ℕ) (item : ℕ → PoolItem) (bs ys : List ℕ) → IsDistinct (bs ++ x ∷ ys) → without_at x (rows_of item (bs ++ x ∷ ys)) ≡ rows_of item (bs ++ ys)
 without-split x item [] ys apart =
     let r : Row = record { at = x; item = item x } in
     ap (λ (b : Bool). cond (not b) (r ∷ without_at x (rows_of item ys)) (without_at x (rows_of item ys))) (eq-eqb x x refl)

@@ -2,7 +2,7 @@
 use Rattle.std.proofs.Common.{◌≡◌, ℕ, Bool, false, cond, eqb, not, inl, inr, refl, sym, ap, ◌∙◌}
 use Rattle.std.specs.Prelude.{◌&&◌, ◌||◌}
 use Rattle.std.proofs.lemmas.Bool.{eq-eqb, ne_eqb, cases_Bool}
-use Rattle.entry_pool.specs.declared.item.Item.{Item}
+use Rattle.entry_pool.specs.declared.pool_item.PoolItem.{PoolItem}
 use Rattle.entry_pool.specs.Chains.{none, Chains, IsGiven, IsTaken}
 use Rattle.entry_pool.specs.Linked.{put, put_next, put_free, put_item, with_node}
 
@@ -43,10 +43,10 @@ free-head at to f = elim (cases_Bool (eqb none at)) [
   | inr e ↦ ap (λ (b : Bool). cond (b && false) to (f none)) e
 ]
 
-item-is : (at : ℕ) (item : Item) (f : ℕ → Item) (j : ℕ) → j ≡ at → put_item at item f j ≡ item
+item-is : (at : ℕ) (item : PoolItem) (f : ℕ → PoolItem) (j : ℕ) → j ≡ at → put_item at item f j ≡ item
 item-is at item f j e = ap (λ (b : Bool). cond b item (f j)) (eq-eqb j at e)
 
-item-not : (at : ℕ) (item : Item) (f : ℕ → Item) (j : ℕ) → (j ≡ at → ⊥) → put_item at item f j ≡ f j
+item-not : (at : ℕ) (item : PoolItem) (f : ℕ → PoolItem) (j : ℕ) → (j ≡ at → ⊥) → put_item at item f j ≡ f j
 item-not at item f j n = ap (λ (b : Bool). cond b item (f j)) (ne_eqb j at n)
 
 -- chains of which one link leads elsewhere
@@ -83,7 +83,7 @@ written-taken c x q s n older newer free named apart es en eo ew ef =
     }
 
 -- what is written when a node is given
-pub written-given : (c : Chains) (x : ℕ) (item : Item) (free next older : ℕ) → (x ≡ none → ⊥) → (c.older none ≡ x → ⊥) → free ≡ c.free x → next ≡ c.next item.set none → older ≡ c.older none →
+pub written-given : (c : Chains) (x : ℕ) (item : PoolItem) (free next older : ℕ) → (x ≡ none → ⊥) → (c.older none ≡ x → ⊥) → free ≡ c.free x → next ≡ c.next item.set none → older ≡ c.older none →
     IsGiven c (with_next item.set none x (with_older none x (with_newer older x (with_node x (record { item = item; next = next; older = older; newer = none }) (with_free free c))))) x item
 written-given c x item free next older named apart ef en eo =
     let c1 = with_free free c in

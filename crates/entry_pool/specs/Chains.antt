@@ -1,6 +1,6 @@
 -- Nodes chained by age, by set and as free ones. A link is the number of a node, or none.
 use Rattle.std.specs.Prelude.{◌≡◌, ◌≢◌, ℕ, zero, suc, ◌+◌, ◌<◌, ◌==◌, Bool, cond, List, [], ◌∷◌, ◌++◌, length, filter, ◌⊎◌}
-use Rattle.entry_pool.specs.declared.item.Item.{Item}
+use Rattle.entry_pool.specs.declared.pool_item.PoolItem.{PoolItem}
 
 -- the link that leads nowhere; as a node's number it stands for the head of a chain
 abbrev pub none : ℕ
@@ -42,10 +42,10 @@ pub record Chains : Type 0 where
   pub newer : ℕ → ℕ
   pub next : ℕ → ℕ → ℕ
   pub free : ℕ → ℕ
-  pub item : ℕ → Item
+  pub item : ℕ → PoolItem
 
 -- a node is of this set
-abbrev pub is_in_set : (ℕ → Item) → ℕ → ℕ → Bool
+abbrev pub is_in_set : (ℕ → PoolItem) → ℕ → ℕ → Bool
 is_in_set item set i = (item i).set == set
 
 -- the chains spell these nodes, newest first, and those that are free, of so many in all
@@ -84,7 +84,7 @@ pub record IsTaken (c d : Chains) (x q : ℕ) : Type 0 where
   pub item : (y : ℕ) → d.item y ≡ c.item y
 
 -- a free node with an item was put before the others in its chains
-pub record IsGiven (c d : Chains) (x : ℕ) (item : Item) : Type 0 where
+pub record IsGiven (c d : Chains) (x : ℕ) (item : PoolItem) : Type 0 where
   pub older_head : d.older none ≡ x
   pub older_at : d.older x ≡ c.older none
   pub older_else : (y : ℕ) → y ≢ none → y ≢ x → d.older y ≡ c.older y

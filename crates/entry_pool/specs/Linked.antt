@@ -1,6 +1,6 @@
 -- The chains that nodes and heads make.
 use Rattle.std.specs.Prelude.{◌≡◌, ℕ, ◌<◌, ◌==◌, ◌&&◌, ◌||◌, not, if◌then◌else◌, List, slice_index_or, ◌⊎◌}
-use Rattle.entry_pool.specs.declared.item.Item.{Item}
+use Rattle.entry_pool.specs.declared.pool_item.PoolItem.{PoolItem}
 use Rattle.entry_pool.specs.declared.node.Node.{Node}
 use Rattle.entry_pool.specs.declared.links.Links.{Links}
 use Rattle.entry_pool.specs.Chains.{none, Chains}
@@ -55,7 +55,7 @@ abbrev pub put_free : ℕ → ℕ → (ℕ → ℕ) → ℕ → ℕ
 put_free at to f j = if j == at && not (j == none) then to else f j
 
 -- what nodes note, where one notes something else
-abbrev pub put_item : ℕ → Item → (ℕ → Item) → ℕ → Item
+abbrev pub put_item : ℕ → PoolItem → (ℕ → PoolItem) → ℕ → PoolItem
 put_item at item f j = if j == at then item else f j
 
 -- the chains where a node is another one
@@ -70,5 +70,5 @@ with_node at node c =
     }
 
 -- an item with another prediction
-abbrev pub with_prediction : ℕ → Item → Item
+abbrev pub with_prediction : ℕ → PoolItem → PoolItem
 with_prediction prediction item = record item { prediction = prediction }

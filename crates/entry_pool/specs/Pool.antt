@@ -1,6 +1,6 @@
 -- The nodes and heads of a pool as its rows.
 use Rattle.std.specs.Prelude.{◌≡◌, ◌≢◌, ℕ, ◌-◌, ◌≤◌, ◌<◌, List, ◌∷◌, length, filter}
-use Rattle.entry_pool.specs.declared.item.Item.{Item}
+use Rattle.entry_pool.specs.declared.pool_item.PoolItem.{PoolItem}
 use Rattle.entry_pool.specs.declared.links.Links.{Links}
 use Rattle.entry_pool.specs.Words.{Fits}
 use Rattle.entry_pool.specs.Chains.{none, IsPool, walk, is_in_set}
@@ -39,7 +39,7 @@ abbrev pub IsBehind : ℕ → List ℕ → Type 0
 IsBehind at xs = (rest : List ℕ) × (xs ≡ at ∷ rest)
 
 -- there is a free node for this item
-pub record CanGive (l : Links) (item : Item) : Type 0 where
+pub record CanGive (l : Links) (item : PoolItem) : Type 0 where
   pub few : length l.nodes.items < none
   pub free : (chains_of l).free none < length l.nodes.items
   pub newest : IsLink ((chains_of l).older none) (length l.nodes.items)

@@ -1,7 +1,7 @@
 -- A pool as the list of its rows.
 use Rattle.std.specs.Prelude.{◌≡◌, ℕ, ◌==◌, not, cond, if◌then◌else◌, Option, MatchOption, List, [], ◌∷◌, filter, map}
 use Rattle.entry_pool.specs.Linked.{with_prediction}
-use Rattle.entry_pool.specs.declared.item.Item.{Item}
+use Rattle.entry_pool.specs.declared.pool_item.PoolItem.{PoolItem}
 use Rattle.entry_pool.specs.declared.row.Row.{Row}
 use Rattle.entry_pool.specs.Chains.{none, IsIn}
 
@@ -41,7 +41,7 @@ abbrev pub IsMark : ℕ → List Row → Type 0
 IsMark at rows = IsIn at (none ∷ numbers rows)
 
 -- the rows of nodes, by what each notes
-abbrev pub rows_of : (ℕ → Item) → List ℕ → List Row
+abbrev pub rows_of : (ℕ → PoolItem) → List ℕ → List Row
 rows_of item ages = map (λ i. record { at = i; item = item i }) ages
 
 -- a row with another prediction

@@ -1,6 +1,6 @@
 -- A node as two words.
 use Rattle.std.specs.Prelude.{ℕ, ◌/◌, ◌%◌, ◌^◌, ◌<◌, ◌≤◌}
-use Rattle.entry_pool.specs.declared.item.Item.{Item}
+use Rattle.entry_pool.specs.declared.pool_item.PoolItem.{PoolItem}
 use Rattle.entry_pool.specs.declared.node.Node.{Node}
 
 -- the bits of a word from one on, so many of them, as a number
@@ -8,7 +8,7 @@ abbrev pub bits : ℕ → ℕ → ℕ → ℕ
 bits from count word = word / 2 ^ from % 2 ^ count
 
 -- the item that two words note
-abbrev pub item_of : ℕ → ℕ → Item
+abbrev pub item_of : ℕ → ℕ → PoolItem
 item_of first second =
     record {
       set = bits 0 16 second;
@@ -30,7 +30,7 @@ node_of first second =
     }
 
 -- an item's numbers have room in their bits
-pub record Fits (item : Item) : Type 0 where
+pub record Fits (item : PoolItem) : Type 0 where
   pub set : item.set < 2 ^ 16
   pub tag : item.tag < 2 ^ 16
   pub segment : item.segment < 2 ^ 9

@@ -5,9 +5,9 @@ ghost use Rattle.entry_pool.specs.Chains.{none, Chains, IsGiven, IsTaken, IsIn, 
 ghost use Rattle.entry_pool.specs.Linked.{chains_of, IsLink, put, put_next, put_free, put_item, with_node, with_prediction};
 ghost use Rattle.entry_pool.specs.Pool.{IsSound, CanGive, CanTake, bucket_of, IsBehind};
 
-use crate::item::Item;
 use crate::node::{NONE, Node};
 use crate::packed_node::PackedNode;
+use crate::pool_item::PoolItem;
 use record_pages::Prediction;
 
 // The nodes, and the heads of their chains: `NONE` as the number of a node stands for the head.
@@ -61,7 +61,7 @@ impl Links {
     }
 
     // What a node notes.
-    pub(crate) fn item(&self, at: u32) -> Item
+    pub(crate) fn item(&self, at: u32) -> PoolItem
         requires { at < length self.now.nodes.items }
         ensures { result ≡ (chains_of self.now).item at }
     {
@@ -150,7 +150,7 @@ impl Links {
     }
 
     // Puts the first free node, with an item, before the others of its chains.
-    pub(crate) fn give(&mut self, item: Item) -> u32
+    pub(crate) fn give(&mut self, item: PoolItem) -> u32
         requires { CanGive self.old item }
         ensures at { result ≡ (chains_of self.old).free none }
         ensures given { IsGiven (chains_of self.old) (chains_of self.new) result item }
@@ -238,6 +238,6 @@ impl Links {
         let _number = prediction.get();
         let node = &mut self.nodes[at as usize];
         let item = node.get().item;
-        node.set_item(Item { prediction, ..item });
+        node.set_item(PoolItem { prediction, ..item });
     }
 }

@@ -1,11 +1,11 @@
 // An item with its links.
-use crate::item::Item;
+use crate::pool_item::PoolItem;
 
 /// An item with its links. A link is the number of another node, or `NONE`.
 #[derive(Clone, Copy, Debug, PartialEq, Eq)]
 pub struct Node {
     /// What is noted.
-    pub item: Item,
+    pub item: PoolItem,
     /// The next node of the set's bucket, or the next free node.
     pub next: u32,
     /// The next older node.

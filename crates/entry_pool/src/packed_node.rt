@@ -2,8 +2,8 @@
 ghost use Rattle.std.specs.Prelude.{◌≡◌, ◌<◌, ◌^◌};
 ghost use Rattle.entry_pool.specs.Words.{Fits, IsNode};
 
-use crate::item::Item;
 use crate::node::Node;
+use crate::pool_item::PoolItem;
 use crate::words;
 use std::marker::Model;
 
@@ -50,7 +50,7 @@ impl PackedNode {
     }
 
     /// The item of the node.
-    pub fn item(&self) -> Item
+    pub fn item(&self) -> PoolItem
         ensures { result ≡ self.now.item }
     {
         words::item_of(self.first, self.second)
@@ -108,7 +108,7 @@ impl PackedNode {
     }
 
     /// Has another item.
-    pub fn set_item(&mut self, item: Item)
+    pub fn set_item(&mut self, item: PoolItem)
         requires { Fits item }
         ensures { self.new ≡ record self.old { item = item } }
     {

@@ -7,10 +7,10 @@ ghost use Rattle.entry_pool.specs.Rows.{numbers, in_set, with_rows, without_at, 
 use crate::by_age::{ByAge, rows_by_age};
 use crate::from_oldest::{FromOldest, rows_from_oldest};
 use crate::in_set::{InSet, rows_in_set};
-use crate::item::Item;
 use crate::links::Links;
 use crate::node::{NONE, Node};
 use crate::packed_node::PackedNode;
+use crate::pool_item::PoolItem;
 use crate::row::Row;
 use record_pages::Prediction;
 use std::alloc::{AllocError, Global};
@@ -73,7 +73,7 @@ impl EntryPool {
     }
 
     /// Holds an item before the others, and gives the number of its row.
-    pub fn push(&mut self, item: Item) -> u32
+    pub fn push(&mut self, item: PoolItem) -> u32
         requires room { length self.old.rows < self.old.limit }
         requires set { item.set < self.old.sets }
         requires segment { item.segment < 2 ^ 9 }
@@ -216,7 +216,7 @@ fn free_node(next: u32) -> PackedNode
     ensures { result.next ≡ next }
 {
     PackedNode::new(Node {
-        item: Item {
+        item: PoolItem {
             set: 0,
             tag: 0,
             segment: 0,

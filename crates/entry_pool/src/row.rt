@@ -1,5 +1,5 @@
 // A row of the pool.
-use crate::item::Item;
+use crate::pool_item::PoolItem;
 
 /// An item that the pool holds, with the number of its node.
 #[derive(Clone, Copy, Debug, PartialEq, Eq)]
@@ -7,5 +7,5 @@ pub struct Row {
     /// The number of its node, which stays as long as it is held.
     pub at: u32,
     /// What is noted.
-    pub item: Item,
+    pub item: PoolItem,
 }

@@ -2,11 +2,11 @@
 ghost use Rattle.std.specs.Prelude.{◌≡◌, ◌<◌, ◌^◌};
 ghost use Rattle.entry_pool.specs.Words.{bits, Fits, item_of};
 
-use crate::item::Item;
+use crate::pool_item::PoolItem;
 use record_pages::Prediction;
 
 // The first word: tag, segment, page, slot, prediction and the next node, from the lowest bit on.
-pub(crate) fn first_word(item: &Item, next: u32) -> u64
+pub(crate) fn first_word(item: &PoolItem, next: u32) -> u64
     requires item { Fits item.now }
     requires next { next < 2 ^ 21 }
     ensures tag { bits 0 16 result ≡ item.now.tag }
@@ -37,11 +37,11 @@ pub(crate) fn second_word(set: u32, older: u32, newer: u32) -> u64
 }
 
 // The item that two words note.
-pub(crate) fn item_of(first: u64, second: u64) -> Item
+pub(crate) fn item_of(first: u64, second: u64) -> PoolItem
     ensures { result ≡ item_of first second }
 {
     let prediction = Prediction::new((first / (1 << 37) % 8) as u8).unwrap();
-    Item {
+    PoolItem {
         set: (second % 65536) as u32,
         tag: (first % 65536) as u16,
         segment: (first / (1 << 16) % 512) as u16,

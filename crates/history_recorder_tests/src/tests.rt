@@ -4,7 +4,7 @@ mod run;
 
 use self::run::{Found, Step, as_written, stamps_of, tell_of};
 use klog::Flushed;
-use mover::{Moved, OpenFault};
+use mover::{MovedWhole, OpenFault};
 use page_device::{FuseDevice, MemoryDevice, PageDevice};
 use record_pages::{Answer, Config, Field, Key, MissCause, NEVER, Pushed, Tier};
 use recorded_lane::{NotedRef, RecordFault, RecordPutFault, RecordedLane};
@@ -104,7 +104,7 @@ const EACH_TIER: [Step; 14] = [
     Step::Flush(Flushed::Sealed),
     Step::Flush(Flushed::Wrote),
     Step::Get(b"ax", Found::Log(b"1")),
-    Step::Move(Moved::Written),
+    Step::Move(MovedWhole::Written),
     Step::Get(b"ax", Found::Set(b"1")),
     Step::Remove(b"ax"),
     Step::Get(b"ax", Found::Absent),

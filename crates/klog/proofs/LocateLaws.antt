@@ -11,8 +11,8 @@ use Rattle.record_pages.specs.Looking.{has_key}
 use Rattle.klog_index.specs.declared.entry.Entry.{Entry}
 use Rattle.klog_index.specs.Entries.{is_in, of_tag}
 use Rattle.set_hash.specs.declared.placed.Placed.{Placed}
-use Rattle.klog.specs.declared.located.Located.{Located}
-use Rattle.klog.specs.declared.located.Located.TheVariants as located
+use Rattle.klog.specs.declared.located_in_log.LocatedInLog.{LocatedInLog}
+use Rattle.klog.specs.declared.located_in_log.LocatedInLog.TheVariants as located
 use Rattle.klog.specs.Log.{LogState}
 use Rattle.klog.specs.Shown.{live_on, place_in, IsLiveOn, IsSpelledOn}
 use Rattle.klog.specs.Known.{no_pages, AreHeldBy, AreBuffered}
@@ -25,7 +25,7 @@ use Rattle.klog.proofs.LookLaws.{spelled_live, reached_listed, hit_newest, absen
 use Rattle.klog.proofs.InBuffers.{told_by_buffers}
 
 -- what a search shows of each answer, whatever else is known of the pages
-abbrev pub FindsAt : ℕ → (ℕ → Option (List ℕ)) → LogState → ℕ → ℕ → List ℕ → ℕ → List ℕ → Type 0 → Located → Type 0
+abbrev pub FindsAt : ℕ → (ℕ → Option (List ℕ)) → LogState → ℕ → ℕ → List ℕ → ℕ → List ℕ → Type 0 → LocatedInLog → Type 0
 FindsAt bytes held k set tag key moment buffer not_called (located.Hit e) = NamesReached bytes held k set tag key moment buffer (located.Hit e)
 FindsAt bytes held k set tag key moment buffer not_called located.Expired = ExpiredAt bytes held k set tag key moment k not_called
 FindsAt bytes held k set tag key moment buffer not_called located.Absent = All (ShowsOther bytes held k key) (of_tag set tag k.entries)
@@ -34,7 +34,7 @@ FindsAt bytes held k set tag key moment buffer not_called located.Damaged = Dama
 
 module _ (bytes : ℕ) (held : ℕ → Option (List ℕ)) (k : LogState) (key : List ℕ) (moment : ℕ) (placed : Placed) (buffer : List ℕ) (nc : Type 0) where
   -- the entry of a hit is named
-  names_reached : (f : Located) → FindsAt bytes held k placed.set placed.tag key moment buffer nc f → NamesReached bytes held k placed.set placed.tag key moment buffer f
+  names_reached : (f : LocatedInLog) → FindsAt bytes held k placed.set placed.tag key moment buffer nc f → NamesReached bytes held k placed.set placed.tag key moment buffer f
   names_reached (located.Hit e) at = at
   names_reached located.Expired at = tt
   names_reached located.Absent at = tt
@@ -42,7 +42,7 @@ module _ (bytes : ℕ) (held : ℕ → Option (List ℕ)) (k : LogState) (key : 
   names_reached located.Damaged at = tt
 
   -- and what is shown lies behind a look-up's answer
-  looks_by : (f : Located) → IsOfTag k placed.set placed.tag nc f → FindsAt bytes held k placed.set placed.tag key moment buffer nc f
+  looks_by : (f : LocatedInLog) → IsOfTag k placed.set placed.tag nc f → FindsAt bytes held k placed.set placed.tag key moment buffer nc f
       → LooksAt bytes held k placed.set placed.tag key moment (Ok (looked_of f buffer)) (log_after f k) nc
   looks_by (located.Hit e) its at = record {
     entry = e;
@@ -57,7 +57,7 @@ module _ (bytes : ℕ) (held : ℕ → Option (List ℕ)) (k : LogState) (key : 
   looks_by located.Damaged its at = at
 
   -- and where all live records are known the entry is that of the newest
-  names_newest : placed ≡ place_in k.shape key → IsSpelledOn bytes held k → (f : Located) → FindsAt bytes held k placed.set placed.tag key moment buffer nc f → NamesNewest (live_on held k) key moment buffer f
+  names_newest : placed ≡ place_in k.shape key → IsSpelledOn bytes held k → (f : LocatedInLog) → FindsAt bytes held k placed.set placed.tag key moment buffer nc f → NamesNewest (live_on held k) key moment buffer f
   names_newest is spelled (located.Hit e) at = hit_newest bytes held k key moment placed e (Some buffer) is spelled at.0 at.1
   names_newest is spelled located.Expired at = tt
   names_newest is spelled located.Absent at = tt
@@ -65,7 +65,7 @@ module _ (bytes : ℕ) (held : ℕ → Option (List ℕ)) (k : LogState) (key : 
   names_newest is spelled located.Damaged at = tt
 
   -- so the answer is by the live records
-  gives_by : (held' : ℕ → Option (List ℕ)) → held' ≡ held → placed ≡ place_in k.shape key → IsSpelledOn bytes held k → (f : Located) → FindsAt bytes held k placed.set placed.tag key moment buffer nc f
+  gives_by : (held' : ℕ → Option (List ℕ)) → held' ≡ held → placed ≡ place_in k.shape key → IsSpelledOn bytes held k → (f : LocatedInLog) → FindsAt bytes held k placed.set placed.tag key moment buffer nc f
       → LogLookGives (live_on held k) key moment k (looked_of f buffer) (log_after f k) (live_on held' (log_after f k))
   gives_by held' same is spelled (located.Hit e) at =
       let new = lowered_in k e.set e.place in
@@ -91,7 +91,7 @@ module _ (bytes : ℕ) (held : ℕ → Option (List ℕ)) (k : LogState) (key : 
       (reached_listed bytes held k placed.set placed.tag key at.entry at.reached)))
 
 -- what a hit leaves, and all else
-leaves_by : (k : LogState) (set tag : ℕ) (buffer : List ℕ) (nc : Type 0) (f : Located) → IsOfTag k set tag nc f → LogLookLeaves k set tag (Ok (looked_of f buffer)) (log_after f k) nc
+leaves_by : (k : LogState) (set tag : ℕ) (buffer : List ℕ) (nc : Type 0) (f : LocatedInLog) → IsOfTag k set tag nc f → LogLookLeaves k set tag (Ok (looked_of f buffer)) (log_after f k) nc
 leaves_by k set tag buffer nc (located.Hit e) its = record {
   entry = e;
   listed = its.0;
@@ -104,21 +104,21 @@ leaves_by k set tag buffer nc located.Fault its = refl
 leaves_by k set tag buffer nc located.Damaged its = refl
 
 -- a log keeps its shape and stays spelled when the entry of a hit is touched
-shape_after : (f : Located) (k : LogState) → (log_after f k).shape ≡ k.shape
+shape_after : (f : LocatedInLog) (k : LogState) → (log_after f k).shape ≡ k.shape
 shape_after (located.Hit e) k = refl
 shape_after located.Expired k = refl
 shape_after located.Absent k = refl
 shape_after located.Fault k = refl
 shape_after located.Damaged k = refl
 
-spelled_after : (bytes : ℕ) (held : ℕ → Option (List ℕ)) (k : LogState) (f : Located) → IsSpelledOn bytes held k → IsSpelledOn bytes held (log_after f k)
+spelled_after : (bytes : ℕ) (held : ℕ → Option (List ℕ)) (k : LogState) (f : LocatedInLog) → IsSpelledOn bytes held k → IsSpelledOn bytes held (log_after f k)
 spelled_after bytes held k (located.Hit e) h = spelled_lowered bytes held k (is_in e.set e.place) h
 spelled_after bytes held k located.Expired h = h
 spelled_after bytes held k located.Absent h = h
 spelled_after bytes held k located.Fault h = h
 spelled_after bytes held k located.Damaged h = h
 
-module _ {D : Type 0} {size : ℕ} {pages : D → ℕ} {honest : D → Bool} {failures : D → ℕ} {held : D → ℕ → Option (List ℕ)} {placed : Placed} {key : List ℕ} {moment : ℕ} {k : LogState} {device : D} {was : List ℕ} {f : Located} {device' : D} {buffer : List ℕ} where
+module _ {D : Type 0} {size : ℕ} {pages : D → ℕ} {honest : D → Bool} {failures : D → ℕ} {held : D → ℕ → Option (List ℕ)} {placed : Placed} {key : List ℕ} {moment : ℕ} {k : LogState} {device : D} {was : List ℕ} {f : LocatedInLog} {device' : D} {buffer : List ℕ} where
   -- so a search that shows this of its answer locates
   pub locates : placed ≡ place_in k.shape key
       → OnlyReads pages honest failures held device (is_log_fault (Ok (looked_of f buffer))) device'

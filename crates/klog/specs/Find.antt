@@ -3,8 +3,8 @@ use Rattle.std.specs.Prelude.{◌≡◌, ℕ, ◌==◌, filter, List, Option, So
 use Rattle.record_pages.specs.Expiry.{value_at}
 use Rattle.record_pages.specs.Looking.{has_key}
 use Rattle.klog_index.specs.declared.entry.Entry.{Entry}
-use Rattle.klog.specs.declared.told.Told.{Told}
-use Rattle.klog.specs.declared.told.Told.TheVariants as told
+use Rattle.klog.specs.declared.record_answer.RecordAnswer.{RecordAnswer}
+use Rattle.klog.specs.declared.record_answer.RecordAnswer.TheVariants as told
 use Rattle.klog.specs.Log.{LogState}
 use Rattle.klog.specs.Shown.{IsLiveOn}
 use Rattle.klog.specs.Known.{ShowsIfHad}
@@ -15,18 +15,18 @@ abbrev pub with_tag : ℕ → List Entry → List Entry
 with_tag tag es = filter (λ e. e.tag == tag) es
 
 -- the device failed when a record was asked for
-abbrev pub is_told_fault : Told → Bool
+abbrev pub is_told_fault : RecordAnswer → Bool
 is_told_fault told.Fault = true
 is_told_fault _ = false
 
 -- a live value is told
-abbrev pub is_told_hit : Told → Bool
+abbrev pub is_told_hit : RecordAnswer → Bool
 is_told_hit told.Hit = true
 is_told_hit _ = false
 
 -- What is told of what an entry shows at a moment, if that is known: it has the key, and the value in the buffer, or has
 -- expired; or it has another key. If it is damaged no record lies there that may stand for the entry.
-abbrev pub TellsKey : ℕ → (ℕ → Option (List ℕ)) → LogState → Entry → List ℕ → ℕ → List ℕ → Told → Type 0
+abbrev pub TellsKey : ℕ → (ℕ → Option (List ℕ)) → LogState → Entry → List ℕ → ℕ → List ℕ → RecordAnswer → Type 0
 TellsKey bytes held k e key moment buffer told.Hit = ShowsIfHad bytes held k e (λ r. (has_key key r ≡ true) × (value_at moment r.value ≡ Some buffer))
 TellsKey bytes held k e key moment buffer told.Expired = ShowsIfHad bytes held k e (λ r. (has_key key r ≡ true) × (value_at moment r.value ≡ None))
 TellsKey bytes held k e key moment buffer told.Other = ShowsOther bytes held k key e

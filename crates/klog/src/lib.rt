@@ -9,17 +9,17 @@ mod fetched;
 mod flushed;
 mod gathered;
 mod laws;
-mod located;
+mod located_in_log;
 mod log;
 mod log_usage;
 mod oldest;
 mod readmitted;
+mod record_answer;
 mod segment_laws;
 mod set_taken;
 mod sources;
 mod taken_record;
 mod taken_records;
-mod told;
 
 pub use answer_laws::{
     count_tells_live, full_where_none_takes, look_finds_newest, oldest_tells_first,
@@ -31,7 +31,7 @@ pub use laws::{
     append_keeps_places, flush_keeps_places, frames_keep_log, freeing_keeps_places,
     list_keeps_places, live_are_as_many, names_tell_numbers,
 };
-pub use located::Located;
+pub use located_in_log::LocatedInLog;
 pub use log::{KLog, MAX_TAKEN};
 pub use log_usage::LogUsage;
 pub use oldest::Oldest;

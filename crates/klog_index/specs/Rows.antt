@@ -1,13 +1,13 @@
 -- An index as the rows of its pool.
 use Rattle.std.specs.Prelude.{◌≢◌, Bool, List, map, filter, AllPairs, Option, slice_get}
-use Rattle.entry_pool.specs.declared.item.Item.{Item}
+use Rattle.entry_pool.specs.declared.pool_item.PoolItem.{PoolItem}
 use Rattle.entry_pool.specs.declared.row.Row.{Row}
 use Rattle.entry_pool.specs.Rows.{Rows}
 use Rattle.klog_index.specs.declared.entry.Entry.{Entry}
 use Rattle.klog_index.specs.Entries.{Entries}
 
 -- the entry that an item notes
-abbrev pub entry_of : Item → Entry
+abbrev pub entry_of : PoolItem → Entry
 entry_of item =
     record {
       set = item.set;

@@ -4,7 +4,7 @@ ghost use Rattle.klog_index.specs.Rows.{entry_of, entries_of};
 
 use crate::entry::Entry;
 use crate::place::Place;
-use entry_pool::{InSet, Item};
+use entry_pool::{InSet, PoolItem};
 use std::marker::Model;
 
 /// The entries of a set, newest first.
@@ -32,7 +32,7 @@ pub(crate) fn entries_in(rows: InSet<'_>) -> EntriesOf<'_>
 }
 
 // The entry that an item notes.
-pub(crate) fn entry_of(item: &Item) -> Entry
+pub(crate) fn entry_of(item: &PoolItem) -> Entry
     ensures { result ≡ entry_of item.now }
 {
     Entry {
@@ -50,7 +50,7 @@ pub(crate) fn entry_of(item: &Item) -> Entry
 impl<'a> Iterator for EntriesOf<'a> {
     ghost use Rattle.std.specs.Iterator.{YieldsFirst, item_count};
 
-    type Item = Entry;
+    type PoolItem = Entry;
 
     ghost next_gives = { YieldsFirst (λ rest. rest) };
 

@@ -8,7 +8,7 @@ use crate::entry_test::{EntryTest, HasTag, LiesAt};
 use crate::index_full::IndexFull;
 use crate::place::Place;
 use crate::rows::{lies_on, row_at, row_behind, row_behind_in, row_in};
-use entry_pool::{EntryPool, Item, NONE, Row};
+use entry_pool::{EntryPool, NONE, PoolItem, Row};
 use record_pages::Prediction;
 use std::alloc::{AllocError, Global};
 use std::marker::Model;
@@ -96,7 +96,7 @@ impl LogIndex {
             page,
             slot,
         } = place;
-        let _number = self.pool.push(Item {
+        let _number = self.pool.push(PoolItem {
             set,
             tag,
             segment,

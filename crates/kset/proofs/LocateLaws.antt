@@ -14,8 +14,8 @@ use Rattle.record_pages.specs.declared.looked.Looked.{Looked}
 use Rattle.record_pages.specs.declared.looked.Looked.TheVariants as looked
 use Rattle.set_hash.specs.Fnv.{fnv1a}
 use Rattle.set_hash.specs.declared.placed.Placed.{Placed}
-use Rattle.kset.specs.declared.located.Located.{Located}
-use Rattle.kset.specs.declared.located.Located.TheVariants.{Hit, Expired, Absent, Fault, Damaged}
+use Rattle.kset.specs.declared.located_in_set.LocatedInSet.{LocatedInSet}
+use Rattle.kset.specs.declared.located_in_set.LocatedInSet.TheVariants.{Hit, Expired, Absent, Fault, Damaged}
 use Rattle.kset.specs.Notes.{Notes, lets_show}
 use Rattle.kset.specs.Sets.{SetsState, set_count, notes_of, hit_in}
 use Rattle.kset.specs.Pages.{AreSpelledOn, page_records}
@@ -30,7 +30,7 @@ use Rattle.kset.proofs.LookLaws.{Says, told_of, first_visible-hidden}
 use Rattle.kset.proofs.public_laws.ShownLaws.{shown-hit}
 
 -- what visible records say of a key is what a look-up gives
-gives : (visible : List (ℕ × Rec)) (key : List ℕ) (moment : ℕ) (buffer : List ℕ) (set : ℕ) (k : SetsState) (found : Located) → Says visible key moment buffer found →
+gives : (visible : List (ℕ × Rec)) (key : List ℕ) (moment : ℕ) (buffer : List ℕ) (set : ℕ) (k : SetsState) (found : LocatedInSet) → Says visible key moment buffer found →
     SetLookGives visible key moment k set (looked_of found buffer) (sets_after found set k)
 gives visible key moment buffer set k (Hit slot) says = noted (first_visible visible key) says
   where
@@ -44,7 +44,7 @@ gives visible key moment buffer set k Fault says = absurd says
 gives visible key moment buffer set k Damaged says = says
 
 -- and names the first of them
-names : (visible : List (ℕ × Rec)) (key : List ℕ) (moment : ℕ) (buffer : List ℕ) (found : Located) → Says visible key moment buffer found → NamesFirst visible key found
+names : (visible : List (ℕ × Rec)) (key : List ℕ) (moment : ℕ) (buffer : List ℕ) (found : LocatedInSet) → Says visible key moment buffer found → NamesFirst visible key found
 names visible key moment buffer (Hit slot) says = first (first_visible visible key) says
   where
     first : (o : Option (ℕ × Rec)) → IsSomeAnd o (λ x. (x.0 ≡ slot) × (value_at moment x.1.value ≡ Some buffer)) → IsSomeAnd o (λ x. x.0 ≡ slot)
@@ -56,7 +56,7 @@ names visible key moment buffer Fault says = tt
 names visible key moment buffer Damaged says = tt
 
 -- a page tells of no failure of the device
-told_fault : (key : List ℕ) (moment : ℕ) (buffer : List ℕ) (read : Option SetPageParts) (found : Located) → SetPageTells key moment buffer read found → is_set_fault (Ok (looked_of found buffer)) ≡ false
+told_fault : (key : List ℕ) (moment : ℕ) (buffer : List ℕ) (read : Option SetPageParts) (found : LocatedInSet) → SetPageTells key moment buffer read found → is_set_fault (Ok (looked_of found buffer)) ≡ false
 told_fault key moment buffer read (Hit slot) told = refl
 told_fault key moment buffer read Expired told = refl
 told_fault key moment buffer read Absent told = refl
@@ -65,7 +65,7 @@ told_fault key moment buffer (Some p) Fault told = absurd told
 told_fault key moment buffer read Damaged told = refl
 
 -- it tells of a slot that a page can have
-told_slot : (key : List ℕ) (moment : ℕ) (buffer : List ℕ) (read : Option SetPageParts) (found : Located) → SetPageTells key moment buffer read found → IsSlot found
+told_slot : (key : List ℕ) (moment : ℕ) (buffer : List ℕ) (read : Option SetPageParts) (found : LocatedInSet) → SetPageTells key moment buffer read found → IsSlot found
 told_slot key moment buffer None (Hit slot) told = absurd told
 told_slot key moment buffer (Some p) (Hit slot) told = told.0
 told_slot key moment buffer read Expired told = tt
@@ -74,7 +74,7 @@ told_slot key moment buffer read Fault told = tt
 told_slot key moment buffer read Damaged told = tt
 
 -- no page is damaged
-told_none : (key : List ℕ) (moment : ℕ) (buffer : List ℕ) (found : Located) → SetPageTells key moment buffer None found → found ≡ Damaged
+told_none : (key : List ℕ) (moment : ℕ) (buffer : List ℕ) (found : LocatedInSet) → SetPageTells key moment buffer None found → found ≡ Damaged
 told_none key moment buffer (Hit slot) told = absurd told
 told_none key moment buffer Expired told = absurd told
 told_none key moment buffer Absent told = absurd told
@@ -82,14 +82,14 @@ told_none key moment buffer Fault told = absurd told
 told_none key moment buffer Damaged told = refl
 
 -- off a page that is known to be foreign nothing else is told
-told_foreign : (set : ℕ) (known : Option (List ℕ)) (bytes key : List ℕ) (moment : ℕ) (buffer : List ℕ) (found : Located) → IsForeign set known → IsKnown known bytes →
+told_foreign : (set : ℕ) (known : Option (List ℕ)) (bytes key : List ℕ) (moment : ℕ) (buffer : List ℕ) (found : LocatedInSet) → IsForeign set known → IsKnown known bytes →
     SetPageTells key moment buffer (page_if_of set (set_page_at bytes)) found → found ≡ Damaged
 told_foreign set None bytes key moment buffer found foreign same told = absurd foreign
 told_foreign set (Some there) bytes key moment buffer found foreign same told =
     told_none key moment buffer found (subst (λ (o : Option SetPageParts). SetPageTells key moment buffer o found) (ap (λ (b : List ℕ). page_if_of set (set_page_at b)) same ∙ foreign) told)
 
 -- a slot that a page can have is left to be touched, and else nothing
-leaves : (set : ℕ) (k : SetsState) (buffer : List ℕ) (found : Located) → IsSlot found → SetLookLeaves k set (Ok (looked_of found buffer)) (sets_after found set k)
+leaves : (set : ℕ) (k : SetsState) (buffer : List ℕ) (found : LocatedInSet) → IsSlot found → SetLookLeaves k set (Ok (looked_of found buffer)) (sets_after found set k)
 leaves set k buffer (Hit slot) within = record { slot = slot; within = within; noted = refl }
 leaves set k buffer Expired within = refl
 leaves set k buffer Absent within = refl
@@ -97,7 +97,7 @@ leaves set k buffer Fault within = refl
 leaves set k buffer Damaged within = refl
 
 -- a touch of what is located shows nothing and hides nothing
-shown_after : (held : ℕ → Option (List ℕ)) (set : ℕ) (k : SetsState) (found : Located) → set < set_count k → visible_in held (sets_after found set k) ≡ visible_in held k
+shown_after : (held : ℕ → Option (List ℕ)) (set : ℕ) (k : SetsState) (found : LocatedInSet) → set < set_count k → visible_in held (sets_after found set k) ≡ visible_in held k
 shown_after held set k (Hit slot) within = shown-hit held k set slot within
 shown_after held set k Expired within = refl
 shown_after held set k Absent within = refl
@@ -105,7 +105,7 @@ shown_after held set k Fault within = refl
 shown_after held set k Damaged within = refl
 
 module _ {D : Type 0} (size : ℕ) (pages : D → ℕ) (honest : D → Bool) (failures : D → ℕ) (held : D → ℕ → Option (List ℕ)) (at : Placed) (key : List ℕ) (moment : ℕ) (k : SetsState) (device : D) (was : List ℕ) where
-  abbrev pub Locates : Located → D → List ℕ → Type 0
+  abbrev pub Locates : LocatedInSet → D → List ℕ → Type 0
   Locates found device' buffer = SetLocates size pages honest failures held at key moment k device was found device' buffer
 
   abbrev pub Looks : Result Looked AllocError → SetsState → D → Type 0
@@ -133,7 +133,7 @@ module _ {D : Type 0} (size : ℕ) (pages : D → ℕ) (honest : D → Bool) (fa
   keeps device' same = record { sizes = refl; spelled = λ is spelled. subst (λ (h : ℕ → Option (List ℕ)). AreSpelledOn size h k) (sym (same is)) spelled }
 
   -- what a page tells that was read
-  pub locates-told : (notes : Notes) (device' : D) (bytes buffer : List ℕ) (found : Located) → at.hash ≡ fnv1a key → notes ≡ notes_of k at.set → true ≡ lets_show notes at.hash → at.set < set_count k →
+  pub locates-told : (notes : Notes) (device' : D) (bytes buffer : List ℕ) (found : LocatedInSet) → at.hash ≡ fnv1a key → notes ≡ notes_of k at.set → true ≡ lets_show notes at.hash → at.set < set_count k →
       OnlyReads pages honest failures held device false device' → (IsTrue (honest device) → IsKnown (held device at.set) bytes) →
       SetPageTells key moment buffer (page_if_of at.set (set_page_at bytes)) found → OnFalse (is_hit found) (buffer ≡ was) → Locates found device' buffer
   locates-told notes device' bytes buffer found hashed noted lets within reads known told stays =

@@ -15,8 +15,8 @@ use Rattle.record_pages.specs.Reading.{set_page_at}
 use Rattle.record_pages.specs.Looking.{has_key, first_from, first_with}
 use Rattle.record_pages.proofs.public_laws.PageLaws.{set_page_only}
 use Rattle.set_hash.specs.Fnv.{fnv1a}
-use Rattle.kset.specs.declared.located.Located.{Located}
-use Rattle.kset.specs.declared.located.Located.TheVariants.{Hit, Expired, Absent, Fault, Damaged}
+use Rattle.kset.specs.declared.located_in_set.LocatedInSet.{LocatedInSet}
+use Rattle.kset.specs.declared.located_in_set.LocatedInSet.TheVariants.{Hit, Expired, Absent, Fault, Damaged}
 use Rattle.kset.specs.Notes.{Notes, lets_show}
 use Rattle.kset.specs.Pages.{IsPageOf, records_on}
 use Rattle.kset.specs.Shown.{is_visible, visible_from, first_visible}
@@ -94,14 +94,14 @@ reads_page size count set held bytes within p known =
     }
 
 -- what a page says of a key, told of the visible records
-abbrev pub Says : List (ℕ × Rec) → List ℕ → ℕ → List ℕ → Located → Type 0
+abbrev pub Says : List (ℕ × Rec) → List ℕ → ℕ → List ℕ → LocatedInSet → Type 0
 Says visible key moment buffer (Hit slot) = IsSomeAnd (first_visible visible key) (λ x. (x.0 ≡ slot) × (value_at moment x.1.value ≡ Some buffer))
 Says visible key moment buffer Expired = IsSomeAnd (first_visible visible key) (λ x. value_at moment x.1.value ≡ None)
 Says visible key moment buffer Absent = first_visible visible key ≡ None
 Says visible key moment buffer Fault = ⊥
 Says visible key moment buffer Damaged = ⊥
 
-says_of : (visible : List (ℕ × Rec)) (key : List ℕ) (moment : ℕ) (buffer : List ℕ) (p : SetPageParts) (told : Located) → first_visible visible key ≡ first_with key p.records → SetPageTells key moment buffer (Some p) told →
+says_of : (visible : List (ℕ × Rec)) (key : List ℕ) (moment : ℕ) (buffer : List ℕ) (p : SetPageParts) (told : LocatedInSet) → first_visible visible key ≡ first_with key p.records → SetPageTells key moment buffer (Some p) told →
     Says visible key moment buffer told
 says_of visible key moment buffer p (Hit slot) first t =
     let P : Option (ℕ × Rec) → Type 0 = λ o. IsSomeAnd o (λ x. (x.0 ≡ slot) × (value_at moment x.1.value ≡ Some buffer)) in
@@ -113,7 +113,7 @@ says_of visible key moment buffer p Absent first t = first ∙ t
 says_of visible key moment buffer p Fault first t = t
 says_of visible key moment buffer p Damaged first t = t
 
-says : (size set : ℕ) (seen : Option (List ℕ)) (bytes key : List ℕ) (moment : ℕ) (buffer : List ℕ) (notes : Notes) (told : Located) →
+says : (size set : ℕ) (seen : Option (List ℕ)) (bytes key : List ℕ) (moment : ℕ) (buffer : List ℕ) (notes : Notes) (told : LocatedInSet) →
     lets_show notes (fnv1a key) ≡ true → ReadsPage size set seen bytes → SetPageTells key moment buffer (page_if_of set (set_page_at bytes)) told →
     Says (visible_from notes 0 (records_on seen)) key moment buffer told
 says size set seen bytes key moment buffer notes told shows r t =
@@ -123,7 +123,7 @@ says size set seen bytes key moment buffer notes told shows r t =
     says_of (visible_from notes 0 (records_on seen)) key moment buffer r.page told first at
 
 -- what was read of a set that can show a key says of the key what the visible records say
-pub told_of : (size count set : ℕ) (held : ℕ → Option (List ℕ)) (bytes key : List ℕ) (moment : ℕ) (buffer : List ℕ) (hash : ℕ) (notes : Notes) (told : Located) → hash ≡ fnv1a key → true ≡ lets_show notes hash →
+pub told_of : (size count set : ℕ) (held : ℕ → Option (List ℕ)) (bytes key : List ℕ) (moment : ℕ) (buffer : List ℕ) (hash : ℕ) (notes : Notes) (told : LocatedInSet) → hash ≡ fnv1a key → true ≡ lets_show notes hash →
     set < count → (notes.filter ≢ empty → IsPageOf size set (pages_before count held set)) → IsKnown (held set) bytes → SetPageTells key moment buffer (page_if_of set (set_page_at bytes)) told →
     Says (visible_from notes 0 (records_on (pages_before count held set))) key moment buffer told
 told_of size count set held bytes key moment buffer hash notes told hashed shows within paged known t =

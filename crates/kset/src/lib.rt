@@ -2,7 +2,7 @@
 #![tactic(auto)]
 
 mod laws;
-mod located;
+mod located_in_set;
 mod notes;
 mod page;
 mod rewritten;
@@ -16,7 +16,7 @@ pub use laws::{
     forgotten_show_nothing, frames_keep_sets, readings_keep_current, readings_keep_sets,
     rewritings_keep_current, rewritings_keep_sets, strikes_keep_current, strikes_keep_sets,
 };
-pub use located::Located;
+pub use located_in_set::LocatedInSet;
 pub use rewritten::Rewritten;
 pub use set_read::SetRead;
 pub use set_record::SetRecord;

@@ -6,7 +6,7 @@ ghost use Rattle.record_pages.specs.Reading.{set_page_at};
 ghost use Rattle.kset.specs.Locate.{is_hit};
 ghost use Rattle.kset.specs.Telling.{page_if_of, SetPageTells};
 
-use crate::located::Located;
+use crate::located_in_set::LocatedInSet;
 use record_pages::{SetPage, ValueBuffer, is_live};
 
 /// The page that these bytes spell, where it is the page of this set.
@@ -28,20 +28,20 @@ pub(crate) fn tell<const PAGE: usize>(
     key: &[u8],
     moment: u64,
     into: &mut ValueBuffer,
-) -> Located
+) -> LocatedInSet
     ensures tells { SetPageTells key.now moment into.new (page_if_of set (set_page_at bytes.now))
         result }
     ensures stays { OnFalse (is_hit result) (into.new ≡ into.old) }
 {
     let Some(page) = page_of(bytes, set) else {
-        return Located::Damaged;
+        return LocatedInSet::Damaged;
     };
     let Some(found) = page.records().find_key(key) else {
-        return Located::Absent;
+        return LocatedInSet::Absent;
     };
     if !is_live(found.lent.expires, moment) {
-        return Located::Expired;
+        return LocatedInSet::Expired;
     }
     into.set(found.lent.value);
-    Located::Hit { slot: found.slot }
+    LocatedInSet::Hit { slot: found.slot }
 }

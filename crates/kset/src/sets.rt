@@ -10,7 +10,7 @@ ghost use Rattle.kset.specs.Locate.{SetLocates};
 ghost use Rattle.kset.specs.After.{with_set, after_strike};
 ghost use Rattle.kset.specs.Calls.{SetLooks, SetReads, SetRewrites};
 
-use crate::located::Located;
+use crate::located_in_set::LocatedInSet;
 use crate::notes::SetNotes;
 use crate::page::{page_of, tell};
 use crate::rewritten::Rewritten;
@@ -75,7 +75,7 @@ impl<const PAGE: usize> KSet<PAGE> {
         key: &[u8],
         moment: u64,
         found: &mut ValueBuffer,
-    ) -> Located
+    ) -> LocatedInSet
         requires page_size { IsPageSize PAGE }
         requires room { set_count self.now ≤ D.page_count device.old }
         requires place { IsPlaceIn self.now placed.now }
@@ -84,11 +84,11 @@ impl<const PAGE: usize> KSet<PAGE> {
             key.now moment self.now device.old found.old result device.new found.new }
     {
         if !self.notes(placed.set).lets_show(placed) {
-            return Located::Absent;
+            return LocatedInSet::Absent;
         }
         let mut bytes = [0u8; PAGE];
         let Ok(()) = device.read(placed.set, &mut bytes) else {
-            return Located::Fault;
+            return LocatedInSet::Fault;
         };
         tell(&bytes, placed.set, key, moment, found)
     }
@@ -126,17 +126,17 @@ impl<const PAGE: usize> KSet<PAGE> {
     {
         let mut found = ValueBuffer::empty();
         match self.locate(device, placed, key.bytes(), moment, &mut found) {
-            Located::Hit { slot } => {
+            LocatedInSet::Hit { slot } => {
                 let Ok(value) = Value::new(alloc, found.bytes()) else {
                     return Err(AllocError);
                 };
                 self.touch(placed.set, slot);
                 Ok(Looked::Hit(value))
             }
-            Located::Expired => Ok(Looked::Expired),
-            Located::Absent => Ok(Looked::Absent),
-            Located::Fault => Ok(Looked::Fault),
-            Located::Damaged => Ok(Looked::Damaged),
+            LocatedInSet::Expired => Ok(Looked::Expired),
+            LocatedInSet::Absent => Ok(Looked::Absent),
+            LocatedInSet::Fault => Ok(Looked::Fault),
+            LocatedInSet::Damaged => Ok(Looked::Damaged),
         }
     }
 

@@ -29,8 +29,8 @@ use Rattle.mover.specs.declared.committed.Committed.{Committed}
 use Rattle.mover.specs.Whole.{end_step, ended_by, whole_step, MoveGives, EndGives, EndLeaves, moved_by}
 use Rattle.mover.specs.declared.begin.Begin.{Begin}
 use Rattle.mover.specs.declared.begin.Begin.TheVariants as begin
-use Rattle.mover.specs.declared.moved.Moved.{Moved}
-use Rattle.mover.specs.declared.moved.Moved.TheVariants as moved
+use Rattle.mover.specs.declared.moved_whole.MovedWhole.{MovedWhole}
+use Rattle.mover.specs.declared.moved_whole.MovedWhole.TheVariants as moved
 
 -- what holds at all holds of an error
 pub on_err : {T E P : Type 0} (r : Result T E) → P → OnErr r P
@@ -93,7 +93,7 @@ first_leaves size old new e b free room first leaves = rw (lt-ltb (length old.fl
 
 module _ {D : Type 0} (size : ℕ) (plan_of : Job → List Choice) (old between new : StoreState D) (job : Job) (begun : BeginLeaves size old (begin.Job job) between) where
   -- a move that had a job ended so
-  pub ends_leaves : (answer : Moved) → EndLeaves job.number (plan_of job) between answer new → MovingLeaves size plan_of old answer new
+  pub ends_leaves : (answer : MovedWhole) → EndLeaves job.number (plan_of job) between answer new → MovingLeaves size plan_of old answer new
   ends_leaves moved.Written left = record { job = job; between = between; begun = begun; landed = left }
   ends_leaves moved.Forgotten left = record { job = job; between = between; begun = begun; landed = left }
   ends_leaves moved.Nothing left = absurd left
@@ -134,13 +134,13 @@ module _ {D : Type 0} (size : ℕ) (plan_of : Job → List Choice) (old between 
         })
 
 -- the plan of a job was lawful
-pub planned_job : (plan_of : Job → List Choice) (answer : Moved) (job : Job) (reply : Begin) → begin.Job job ≡ reply → IsLawful job (plan_of job) → IsPlannedFor plan_of answer reply
+pub planned_job : (plan_of : Job → List Choice) (answer : MovedWhole) (job : Job) (reply : Begin) → begin.Job job ≡ reply → IsLawful job (plan_of job) → IsPlannedFor plan_of answer reply
 planned_job plan_of answer job reply is lawful = by_answer answer
   where
     planned : IsPlanned plan_of reply
     planned = subst (IsPlanned plan_of) is lawful
 
-    by_answer : (answer : Moved) → IsPlannedFor plan_of answer reply
+    by_answer : (answer : MovedWhole) → IsPlannedFor plan_of answer reply
     by_answer moved.Written = planned
     by_answer moved.Forgotten = planned
     by_answer moved.Nothing = tt
@@ -152,7 +152,7 @@ planned_job plan_of answer job reply is lawful = by_answer answer
 
 module _ (size least : ℕ) (plan_of : Job → List Choice) (old new : LaneState) (b : Begin) (gives : BeginGives size least old b new) where
   -- a move whose beginning this reply tells ends so
-  after : (reply : Begin) (answer : Moved) (ended : Rewritten) (last : LaneState) → reply ≡ (begin_step size least old).reply → IsStep (end_step plan_of ended reply (begin_step size least old).lane) answer last →
+  after : (reply : Begin) (answer : MovedWhole) (ended : Rewritten) (last : LaneState) → reply ≡ (begin_step size least old).reply → IsStep (end_step plan_of ended reply (begin_step size least old).lane) answer last →
       IsStep (whole_step size least plan_of ended old) answer last
   after reply answer ended last is = subst (λ r. IsStep (end_step plan_of ended r (begin_step size least old).lane) answer last) is
 
@@ -172,13 +172,13 @@ module _ (size least : ℕ) (plan_of : Job → List Choice) (old new : LaneState
   after_dropped is = let it = subst (λ x. BeginGives size least old x new) is gives in after begin.Dropped moved.Dropped rewritten.Written new it.0 (refl, it.1)
 
   -- a move that has a job ends by the policy's plan
-  pub after_job : (job : Job) (answer : Moved) (last : LaneState) → b ≡ begin.Job job → EndGives job.number (plan_of job) new answer last → MoveGives size least plan_of old answer last
+  pub after_job : (job : Job) (answer : MovedWhole) (last : LaneState) → b ≡ begin.Job job → EndGives job.number (plan_of job) new answer last → MoveGives size least plan_of old answer last
   after_job job answer last is = let it = subst (λ x. BeginGives size least old x new) is gives in by_answer it answer
     where
       so : (ended : Rewritten) → IsStep (begin_step size least old) (begin.Job job) new → last ≡ ended_by (plan_of job) ended (flight_of job.number new.flights) new → IsStep (whole_step size least plan_of ended old) (moved_by ended) last
       so ended it left = after (begin.Job job) (moved_by ended) ended last it.0 (refl, left ∙ ap (λ (l : LaneState). ended_by (plan_of job) ended (flight_of job.number l.flights) l) it.1)
 
-      by_answer : IsStep (begin_step size least old) (begin.Job job) new → (answer : Moved) → EndGives job.number (plan_of job) new answer last → MoveGives size least plan_of old answer last
+      by_answer : IsStep (begin_step size least old) (begin.Job job) new → (answer : MovedWhole) → EndGives job.number (plan_of job) new answer last → MoveGives size least plan_of old answer last
       by_answer it moved.Written left = so rewritten.Written it left
       by_answer it moved.Forgotten left = so rewritten.Forgotten it left
       by_answer it moved.Nothing left = absurd left

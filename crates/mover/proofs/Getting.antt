@@ -29,8 +29,8 @@ use Rattle.std.proofs.lemmas.Option.{none-some}
 use Rattle.klog.specs.Shown.{place_in, live_on, newest_with}
 use Rattle.kset.specs.Sets.{SetsState, hit_in, notes_of}
 use Rattle.kset.specs.Shown.{visible_in, first_visible}
-use Rattle.kset.specs.declared.located.Located.TheVariants as set
-use Rattle.kset.specs.declared.located.Located.{Located as SetLocated}
+use Rattle.kset.specs.declared.located_in_set.LocatedInSet.TheVariants as set
+use Rattle.kset.specs.declared.located_in_set.LocatedInSet.{LocatedInSet}
 use Rattle.kset.specs.Locate.{looked_of as set_looked_of}
 use Rattle.kset.specs.Look.{SetLookGives, SetLookLeaves, is_set_fault}
 use Rattle.mover.specs.Store.{StoreState, OnlyReads}
@@ -186,9 +186,9 @@ pub asks_set : {D : Type 0} (key : List ℕ) (s mid : StoreState D) (at : Placed
 asks_set key s mid at is all asks = (λ i. lets_show (notes_of (all i).sets (is i).set) (is i).hash) ∙ asks.denied
 
 -- a page of a set is asked for only where its filter admits the key, and it is not struck
-pub asked_page_at : (shows : Bool) (located : SetLocated) (found : List ℕ) (not_called : Type 0) → OnFalse shows ((located ≡ set.Absent) × not_called) → set_looked_of located found ≡ look.Fault → shows ≡ true
+pub asked_page_at : (shows : Bool) (located : LocatedInSet) (found : List ℕ) (not_called : Type 0) → OnFalse shows ((located ≡ set.Absent) × not_called) → set_looked_of located found ≡ look.Fault → shows ≡ true
 asked_page_at true located found not_called denied is = refl
-asked_page_at false located found not_called denied is = let no : look.Fault ≡ look.Absent = sym is ∙ ap (λ (l : SetLocated). set_looked_of l found) denied.0 in absurd cc
+asked_page_at false located found not_called denied is = let no : look.Fault ≡ look.Absent = sym is ∙ ap (λ (l : LocatedInSet). set_looked_of l found) denied.0 in absurd cc
 
 -- ---- what a look leaves of a store, on any device
 

@@ -12,11 +12,11 @@ use Rattle.record_pages.specs.declared.looked.Looked.{Looked}
 use Rattle.record_pages.specs.declared.looked.Looked.TheVariants as look
 use Rattle.set_hash.specs.declared.placed.Placed.{Placed}
 use Rattle.memory_cache.specs.MemoryList.{value_in}
-use Rattle.klog.specs.declared.located.Located.{Located as LogLocated}
+use Rattle.klog.specs.declared.located_in_log.LocatedInLog.{LocatedInLog}
 use Rattle.klog.specs.Locate.{LogLocates, log_after, looked_of as log_looked_of}
 use Rattle.klog.specs.Shown.{place_in, IsSpelledOn}
-use Rattle.kset.specs.declared.located.Located.{Located as SetLocated}
-use Rattle.kset.specs.declared.located.Located.TheVariants as set
+use Rattle.kset.specs.declared.located_in_set.LocatedInSet.{LocatedInSet}
+use Rattle.kset.specs.declared.located_in_set.LocatedInSet.TheVariants as set
 use Rattle.kset.specs.Locate.{SetLocates, sets_after, is_hit as is_set_hit, looked_of as set_looked_of, IsSlot}
 use Rattle.kset.specs.Notes.{lets_show}
 use Rattle.kset.specs.Pages.{AreSpelledOn}
@@ -32,7 +32,7 @@ use Rattle.mover.proofs.Getting.{log_told, log_leaves, record_told, set_told, se
 use Rattle.mover.proofs.Telling.{log_faulty, ended_leaves, ended_in_buffers, ended_gives, not_in_buffers}
 
 -- what a set locates is answered as a set's answer is
-pub in_set_answer : (n : ℕ) (l : SetLocated) (buffer : List ℕ) → answer_of_set (set_looked_of l buffer) ≡ answer_at (in_set n l) buffer
+pub in_set_answer : (n : ℕ) (l : LocatedInSet) (buffer : List ℕ) → answer_of_set (set_looked_of l buffer) ≡ answer_at (in_set n l) buffer
 in_set_answer n (set.Hit slot) buffer = refl
 in_set_answer n set.Expired buffer = refl
 in_set_answer n set.Absent buffer = refl
@@ -40,7 +40,7 @@ in_set_answer n set.Fault buffer = refl
 in_set_answer n set.Damaged buffer = refl
 
 -- and its touch is that of the sets
-pub in_set_touched : {D : Type 0} (key : List ℕ) (n : ℕ) (l : SetLocated) (s : StoreState D) → record s { sets = sets_after l n s.sets } ≡ touched key (in_set n l) s
+pub in_set_touched : {D : Type 0} (key : List ℕ) (n : ℕ) (l : LocatedInSet) (s : StoreState D) → record s { sets = sets_after l n s.sets } ≡ touched key (in_set n l) s
 in_set_touched key n (set.Hit slot) s = refl
 in_set_touched key n set.Expired s = refl
 in_set_touched key n set.Absent s = refl
@@ -48,7 +48,7 @@ in_set_touched key n set.Fault s = refl
 in_set_touched key n set.Damaged s = refl
 
 -- it can be touched
-pub in_set_can : (n : ℕ) (l : SetLocated) (sets : ℕ) → IsSlot l → n < sets → IsOfSets (in_set n l) sets
+pub in_set_can : (n : ℕ) (l : LocatedInSet) (sets : ℕ) → IsSlot l → n < sets → IsOfSets (in_set n l) sets
 in_set_can n (set.Hit slot) sets is within = (within, is)
 in_set_can n set.Expired sets is within = tt
 in_set_can n set.Absent sets is within = tt
@@ -56,7 +56,7 @@ in_set_can n set.Fault sets is within = tt
 in_set_can n set.Damaged sets is within = tt
 
 -- the buffer stays if no value is located
-pub in_set_stays : (n : ℕ) (l : SetLocated) (same : Type 0) → OnFalse (is_set_hit l) same → OnFalse (has_value (in_set n l)) same
+pub in_set_stays : (n : ℕ) (l : LocatedInSet) (same : Type 0) → OnFalse (is_set_hit l) same → OnFalse (has_value (in_set n l)) same
 in_set_stays n (set.Hit slot) same stays = tt
 in_set_stays n set.Expired same stays = stays
 in_set_stays n set.Absent same stays = stays
@@ -64,7 +64,7 @@ in_set_stays n set.Fault same stays = stays
 in_set_stays n set.Damaged same stays = stays
 
 -- what the log locates, of the store
-pub log_looks : {D : Type 0} (size : ℕ) (pages : D → ℕ) (honest : D → Bool) (failures : D → ℕ) (held : D → ℕ → Option (List ℕ)) (s : StoreState D) (placed : Placed) (key : List ℕ) (moment : ℕ) (d : D) (was : List ℕ) (located : LogLocated) (buffer : List ℕ) →
+pub log_looks : {D : Type 0} (size : ℕ) (pages : D → ℕ) (honest : D → Bool) (failures : D → ℕ) (held : D → ℕ → Option (List ℕ)) (s : StoreState D) (placed : Placed) (key : List ℕ) (moment : ℕ) (d : D) (was : List ℕ) (located : LocatedInLog) (buffer : List ℕ) →
     (IsTrue (honest s.device) → IsSpelledOn size (held s.device) s.log) → LogLocates size pages honest failures held placed key moment s.log s.device was located d buffer →
     LooksInLog size honest failures held placed key moment s (log_looked_of located buffer) (record s { device = d; log = log_after located s.log })
 log_looks size pages honest failures held s placed key moment d was located buffer spelled l =
@@ -79,7 +79,7 @@ log_looks size pages honest failures held s placed key moment d was located buff
     }
 
 -- what a set locates, of the store
-pub set_looks : {D : Type 0} (size : ℕ) (pages : D → ℕ) (honest : D → Bool) (failures : D → ℕ) (held : D → ℕ → Option (List ℕ)) (s : StoreState D) (placed : Placed) (key : List ℕ) (moment : ℕ) (d : D) (was : List ℕ) (located : SetLocated) (buffer : List ℕ) → placed ≡ place_in s.log.shape key →
+pub set_looks : {D : Type 0} (size : ℕ) (pages : D → ℕ) (honest : D → Bool) (failures : D → ℕ) (held : D → ℕ → Option (List ℕ)) (s : StoreState D) (placed : Placed) (key : List ℕ) (moment : ℕ) (d : D) (was : List ℕ) (located : LocatedInSet) (buffer : List ℕ) → placed ≡ place_in s.log.shape key →
     (IsTrue (honest s.device) → AreSpelledOn size (held s.device) s.sets) → SetLocates size pages honest failures held placed key moment s.sets s.device was located d buffer →
     LooksInSet honest failures held placed key moment s (answer_of_set (set_looked_of located buffer)) (record s { device = d; sets = sets_after located placed.set s.sets })
 set_looks size pages honest failures held s placed key moment d was located buffer is spelled l =

@@ -43,8 +43,8 @@ use Rattle.mover.specs.declared.begin.Begin.{Begin}
 use Rattle.mover.specs.declared.begin.Begin.TheVariants as begin
 use Rattle.mover.specs.declared.committed.Committed.{Committed}
 use Rattle.mover.specs.declared.aborted.Aborted.{Aborted}
-use Rattle.mover.specs.declared.moved.Moved.{Moved}
-use Rattle.mover.specs.declared.moved.Moved.TheVariants as moved
+use Rattle.mover.specs.declared.moved_whole.MovedWhole.{MovedWhole}
+use Rattle.mover.specs.declared.moved_whole.MovedWhole.TheVariants as moved
 
 -- an entry of a set is asked for once more, and nothing else changes, the device neither
 abbrev pub IsLowered : {D : Type 0} → ℕ → Entry → StoreState D → StoreState D → Type 0
@@ -139,7 +139,7 @@ pub record GivesUp {D : Type 0} (size : ℕ) (old new : StoreState D) : Type 0 w
   pub rest : new ≡ record between { flights = without_flight job.number between.flights }
 
 -- what a whole move leaves of a store, on any device, by what it answers
-abbrev pub MovingLeaves : {D : Type 0} → ℕ → (Job → List Choice) → StoreState D → Moved → StoreState D → Type 0
+abbrev pub MovingLeaves : {D : Type 0} → ℕ → (Job → List Choice) → StoreState D → MovedWhole → StoreState D → Type 0
 MovingLeaves size plan_of old moved.Written new = Ends size plan_of rewritten.Written old new
 MovingLeaves size plan_of old moved.Forgotten new = Ends size plan_of rewritten.Forgotten old new
 MovingLeaves size plan_of old moved.Nothing new = BeginLeaves size old begin.Nothing new
@@ -151,7 +151,7 @@ MovingLeaves size plan_of old moved.PageLost new = BeginLeaves size old begin.Pa
 
 -- A whole move by a policy. On any device it leaves the store as is answered; where the device is honest it has failed exactly
 -- where a page is lost or not written, the lane is as a whole move gives, and the policy's plan was lawful.
-pub record StoreMoves {D : Type 0} (size : ℕ) (honest : D → Bool) (failures : D → ℕ) (held : D → ℕ → Option (List ℕ)) (plan_of : Job → List Choice) (old : StoreState D) (result : Result Moved AllocError) (new : StoreState D) : Type 0 where
+pub record StoreMoves {D : Type 0} (size : ℕ) (honest : D → Bool) (failures : D → ℕ) (held : D → ℕ → Option (List ℕ)) (plan_of : Job → List Choice) (old : StoreState D) (result : Result MovedWhole AllocError) (new : StoreState D) : Type 0 where
   pub layout : new.layout ≡ old.layout
   pub honesty : honest new.device ≡ honest old.device
   pub leaves : IfOk result (λ moved. MovingLeaves size plan_of old moved new)

@@ -16,8 +16,8 @@ use Rattle.mover.specs.declared.begin.Begin.{Begin}
 use Rattle.mover.specs.declared.begin.Begin.TheVariants as begin
 use Rattle.mover.specs.declared.committed.Committed.{Committed}
 use Rattle.mover.specs.declared.mark.Mark.{Mark}
-use Rattle.mover.specs.declared.moved.Moved.{Moved}
-use Rattle.mover.specs.declared.moved.Moved.TheVariants as moved
+use Rattle.mover.specs.declared.moved_whole.MovedWhole.{MovedWhole}
+use Rattle.mover.specs.declared.moved_whole.MovedWhole.TheVariants as moved
 use Rattle.mover.specs.Store.{opening}
 use Rattle.mover.specs.Flight.{Flight, AreFlights, records_of}
 use Rattle.mover.specs.Lane.{LaneState, lane_of}
@@ -106,7 +106,7 @@ IsPlanned plan_of (begin.Job job) = IsLawful job (plan_of job)
 IsPlanned plan_of _ = Unit {0}
 
 -- the same where a whole move answers that it ended by a plan
-abbrev pub IsPlannedFor : (Job → List Choice) → Moved → Begin → Type 0
+abbrev pub IsPlannedFor : (Job → List Choice) → MovedWhole → Begin → Type 0
 IsPlannedFor plan_of moved.Written begun = IsPlanned plan_of begun
 IsPlannedFor plan_of moved.Forgotten begun = IsPlanned plan_of begun
 IsPlannedFor plan_of moved.Nothing begun = Unit {0}
@@ -123,7 +123,7 @@ AreCounted lane = All (λ (f : Flight). f.moving.number ≤ lane.moves) lane.fli
 -- nor a whole move by a lawful plan
 abbrev pub WholeMoveShows : Type 0
 WholeMoveShows =
-    (size least : ℕ) (plan_of : Job → List Choice) (old new : LaneState) (answer : Moved)
+    (size least : ℕ) (plan_of : Job → List Choice) (old new : LaneState) (answer : MovedWhole)
     → IsInOrder old
     → AreCounted old
     → IsPlannedFor plan_of answer (begin_step size least old).reply

@@ -15,8 +15,8 @@ use Rattle.klog.specs.Known.{AreBuffered}
 use Rattle.klog.specs.Log.{LogState}
 use Rattle.klog.specs.Look.{lowered_in, is_log_fault, IsInBuffers}
 use Rattle.klog.specs.Shown.{place_in}
-use Rattle.kset.specs.declared.located.Located.{Located as SetLocated}
-use Rattle.kset.specs.declared.located.Located.TheVariants as set
+use Rattle.kset.specs.declared.located_in_set.LocatedInSet.{LocatedInSet}
+use Rattle.kset.specs.declared.located_in_set.LocatedInSet.TheVariants as set
 use Rattle.kset.specs.Notes.{lets_show}
 use Rattle.kset.specs.Sets.{SetsState, notes_of, hit_in, set_count}
 use Rattle.record_pages.specs.declared.miss_cause.MissCause.TheVariants.{Absent, Expired, Fault, Damaged}
@@ -64,7 +64,7 @@ abbrev pub with_flash : {D : Type 0} → StoreState D → D → LogState → Set
 with_flash s device log sets = record s { device = device; log = log; sets = sets }
 
 -- where a store has a key, by what the set of this number locates
-abbrev pub in_set : ℕ → SetLocated → Located
+abbrev pub in_set : ℕ → LocatedInSet → Located
 in_set n (set.Hit slot) = at.Set n slot
 in_set n set.Expired = at.Miss Expired
 in_set n set.Absent = at.Miss Absent

@@ -14,11 +14,11 @@ use Rattle.mover.specs.Store.{StoreState}
 use Rattle.mover.specs.Commit.{committed, Lands}
 use Rattle.mover.specs.declared.begin.Begin.{Begin}
 use Rattle.mover.specs.declared.begin.Begin.TheVariants as begin
-use Rattle.mover.specs.declared.moved.Moved.{Moved}
-use Rattle.mover.specs.declared.moved.Moved.TheVariants as moved
+use Rattle.mover.specs.declared.moved_whole.MovedWhole.{MovedWhole}
+use Rattle.mover.specs.declared.moved_whole.MovedWhole.TheVariants as moved
 
 -- what a move did that ended by a rewriting
-abbrev pub moved_by : Rewritten → Moved
+abbrev pub moved_by : Rewritten → MovedWhole
 moved_by rewritten.Written = moved.Written
 moved_by rewritten.Forgotten = moved.Forgotten
 
@@ -28,7 +28,7 @@ ended_by plan ended None lane = lane
 ended_by plan ended (Some f) lane = committed f plan ended lane
 
 -- a move that began so ends by the policy's plan, where there is a job; else it is over
-abbrev pub end_step : (Job → List Choice) → Rewritten → Begin → LaneState → Step Moved
+abbrev pub end_step : (Job → List Choice) → Rewritten → Begin → LaneState → Step MovedWhole
 end_step plan_of ended (begin.Job job) lane = record { reply = moved_by ended; lane = ended_by (plan_of job) ended (flight_of job.number lane.flights) lane }
 end_step plan_of ended begin.Nothing lane = record { reply = moved.Nothing; lane = lane }
 end_step plan_of ended begin.Busy lane = record { reply = moved.Busy; lane = lane }
@@ -38,35 +38,35 @@ end_step plan_of ended begin.Dropped lane = record { reply = moved.Dropped; lane
 end_step plan_of ended begin.PageLost lane = record { reply = moved.PageLost; lane = lane }
 
 -- a whole move where the device reads each page, and writes that of the set or does not
-abbrev pub whole_step : ℕ → ℕ → (Job → List Choice) → Rewritten → LaneState → Step Moved
+abbrev pub whole_step : ℕ → ℕ → (Job → List Choice) → Rewritten → LaneState → Step MovedWhole
 whole_step size least plan_of ended lane =
     end_step plan_of ended (begin_step size least lane).reply (begin_step size least lane).lane
 
 -- a whole move where no call of the device fails
-abbrev pub move_step : ℕ → ℕ → (Job → List Choice) → LaneState → Step Moved
+abbrev pub move_step : ℕ → ℕ → (Job → List Choice) → LaneState → Step MovedWhole
 move_step size least plan_of lane = whole_step size least plan_of rewritten.Written lane
 
 -- what a whole move answers and does: its step; or a page is lost as it begins; or the set's page is not written
-abbrev pub MoveGives : ℕ → ℕ → (Job → List Choice) → LaneState → Moved → LaneState → Type 0
+abbrev pub MoveGives : ℕ → ℕ → (Job → List Choice) → LaneState → MovedWhole → LaneState → Type 0
 MoveGives size least plan_of old moved.PageLost new = BeginGives size least old begin.PageLost new
 MoveGives size least plan_of old moved.Forgotten new =
     IsStep (whole_step size least plan_of rewritten.Forgotten old) moved.Forgotten new
 MoveGives size least plan_of old answer new = IsStep (move_step size least plan_of old) answer new
 
 -- the move with this number ends by a plan, and that is answered
-abbrev pub EndGives : ℕ → List Choice → LaneState → Moved → LaneState → Type 0
+abbrev pub EndGives : ℕ → List Choice → LaneState → MovedWhole → LaneState → Type 0
 EndGives number plan old moved.Written new = new ≡ ended_by plan rewritten.Written (flight_of number old.flights) old
 EndGives number plan old moved.Forgotten new = new ≡ ended_by plan rewritten.Forgotten (flight_of number old.flights) old
 EndGives number plan old _ new = ⊥
 
 -- the same of a store
-abbrev pub EndLeaves : {D : Type 0} → ℕ → List Choice → StoreState D → Moved → StoreState D → Type 0
+abbrev pub EndLeaves : {D : Type 0} → ℕ → List Choice → StoreState D → MovedWhole → StoreState D → Type 0
 EndLeaves number plan old moved.Written new = Lands plan number rewritten.Written old new
 EndLeaves number plan old moved.Forgotten new = Lands plan number rewritten.Forgotten old new
 EndLeaves number plan old _ new = ⊥
 
 -- the device failed: a page was not read, or not written
-abbrev pub is_failed : Result Moved AllocError → Bool
+abbrev pub is_failed : Result MovedWhole AllocError → Bool
 is_failed (Ok moved.PageLost) = true
 is_failed (Ok moved.Forgotten) = true
 is_failed _ = false

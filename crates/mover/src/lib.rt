@@ -11,7 +11,7 @@ mod laws;
 mod located;
 mod mark;
 mod marks;
-mod moved;
+mod moved_whole;
 mod moving;
 mod open_fault;
 mod recalled;
@@ -25,7 +25,7 @@ pub use laws::{
     abort_shows, begin_shows, commit_shows, flush_shows, get_finds_last, get_shows,
     opening_shows_nothing, put_shows, removal_shows, stores_are_in_order, whole_move_shows,
 };
-pub use moved::Moved;
+pub use moved_whole::MovedWhole;
 pub use open_fault::OpenFault;
 pub use seen::Seen;
 pub use store::Store;

@@ -19,7 +19,7 @@ mod untrue_device;
 
 use self::run::{Found, Step, run};
 use klog::Flushed;
-use mover::{Moved, OpenFault, Store};
+use mover::{MovedWhole, OpenFault, Store};
 use page_device::{FuseDevice, MemoryDevice, PageDevice};
 use record_pages::{Config, Field, Pushed};
 use rriparoo::Rriparoo;

@@ -2,7 +2,7 @@
 #![tactic(auto)]
 
 mod boxed;
-mod counted;
+mod counted_pages;
 mod device;
 mod device_counts;
 mod device_fault;
@@ -11,7 +11,7 @@ mod fuse;
 mod memory;
 
 pub use boxed::Boxed;
-pub use counted::Counted;
+pub use counted_pages::CountedPages;
 pub use device::PageDevice;
 pub use device_counts::DeviceCounts;
 pub use device_fault::DeviceFault;

@@ -15,7 +15,7 @@ use Rattle.std.proofs.lemmas.List.Sums.{sum_by-cons, sum_by_push}
 use Rattle.record_pages.specs.Sizes.{room, max_set_records, max_log_records}
 use Rattle.record_pages.specs.Recs.{Rec, IsRecord, size, sizes, fit, fit_log}
 use Rattle.record_pages.specs.PageText.{CanSay, record_text, records_text, body_text, padded_to, set_head, log_head, set_text, log_text, SpellsSetForm, SpellsLogForm}
-use Rattle.record_pages.specs.declared.form.Form.TheVariants.{Timed}
+use Rattle.record_pages.specs.declared.form.RecordForm.TheVariants.{Timed}
 use Rattle.record_pages.specs.declared.form.SetForm.TheVariants.{Large}
 use Rattle.record_pages.specs.Reading.{record_at, records_at, records_of}
 use Rattle.record_pages.specs.Making.{HoldsRecords, IsInTheMaking, AreStarts, IsLogInTheMaking}

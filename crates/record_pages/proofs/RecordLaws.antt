@@ -10,8 +10,8 @@ use Rattle.std.proofs.lemmas.List.{take_at, drop_at, take-append-drop, drop-drop
 use Rattle.record_pages.specs.Recs.{Rec, rec, IsRecord, size, sizes}
 use Rattle.record_pages.specs.Expiry.{never, timed}
 use Rattle.record_pages.specs.PageText.{CanSay, expiry_text, overhead, record_text, records_text, text_sizes}
-use Rattle.record_pages.specs.declared.form.Form.{Form}
-use Rattle.record_pages.specs.declared.form.Form.TheVariants.{Timed, Lasting}
+use Rattle.record_pages.specs.declared.form.RecordForm.{RecordForm}
+use Rattle.record_pages.specs.declared.form.RecordForm.TheVariants.{Timed, Lasting}
 use Rattle.record_pages.specs.Reading.{◌>>=◌, number_at, byte_at, expiry_at, is_bad, record_at, records_at, records_of}
 use Rattle.record_pages.proofs.FrontLaws.{IsBytes, IsBytes-drop, IsBytes-take, bind_some, guard_some, some_is, Takes, Takes-then, wide16, wide64, number_takes, number_again, byte_takes}
 
@@ -41,17 +41,17 @@ good_is k v p rest g =
 
 -- ---- expiries
 
-pub expiry_takes : (form : Form) (bytes : List ℕ) (e : ℕ) (rest : List ℕ) → IsBytes bytes → expiry_at form bytes ≡ Some (e, rest) → Takes bytes (expiry_text form e) rest × (e < 2 ^ 64)
+pub expiry_takes : (form : RecordForm) (bytes : List ℕ) (e : ℕ) (rest : List ℕ) → IsBytes bytes → expiry_at form bytes ≡ Some (e, rest) → Takes bytes (expiry_text form e) rest × (e < 2 ^ 64)
 expiry_takes Timed bytes e rest fits is = number_takes w64 (2 ^ 64) wide64 bytes e rest fits is
 expiry_takes Lasting bytes e rest fits is =
     subst (λ (y : ℕ × List ℕ). Takes bytes [] y.1 × (y.0 < 2 ^ 64)) (some_is (never, bytes) (e, rest) is) (record { parts = refl; rest_fits = fits }, lit< tt)
 
 -- what is read can be said
-can_say : (form : Form) (bytes rest : List ℕ) (r : Rec) → expiry_at form bytes ≡ Some (r.value.expires, rest) → CanSay form r
+can_say : (form : RecordForm) (bytes rest : List ℕ) (r : Rec) → expiry_at form bytes ≡ Some (r.value.expires, rest) → CanSay form r
 can_say Timed bytes rest r is = tt
 can_say Lasting bytes rest r is = sym (ap (λ (y : ℕ × List ℕ). y.0) (some_is (never, bytes) (r.value.expires, rest) is))
 
-pub expiry_again : (form : Form) (r : Rec) (rest : List ℕ) → r.value.expires < 2 ^ 64 → CanSay form r → expiry_at form (expiry_text form r.value.expires ++ rest) ≡ Some (r.value.expires, rest)
+pub expiry_again : (form : RecordForm) (r : Rec) (rest : List ℕ) → r.value.expires < 2 ^ 64 → CanSay form r → expiry_at form (expiry_text form r.value.expires ++ rest) ≡ Some (r.value.expires, rest)
 expiry_again Timed r rest fits said = number_again w64 (2 ^ 64) wide64 r.value.expires rest fits
 expiry_again Lasting r rest fits said = ap (λ (e : ℕ). Some (e, rest)) (sym said)
 
@@ -62,12 +62,12 @@ abbrev tested : ℕ → ℕ → ℕ → ℕ × List ℕ → Option (Rec × List 
 tested k v p e = cond (is_bad k v p e.1) None (Some (body k v p e))
 
 -- a record that was read
-pub record WasRead (form : Form) (bytes : List ℕ) (r : Rec) (rest : List ℕ) : Type 0 where
+pub record WasRead (form : RecordForm) (bytes : List ℕ) (r : Rec) (rest : List ℕ) : Type 0 where
   pub takes : Takes bytes (record_text form r) rest
   pub lawful : IsRecord r
   pub said : CanSay form r
 
-pub record_takes : (form : Form) (bytes : List ℕ) (x : Rec × List ℕ) → IsBytes bytes → record_at form bytes ≡ Some x → WasRead form bytes x.0 x.1
+pub record_takes : (form : RecordForm) (bytes : List ℕ) (x : Rec × List ℕ) → IsBytes bytes → record_at form bytes ≡ Some x → WasRead form bytes x.0 x.1
 unfolding record_at
 record_takes form bytes x fits is =
     let a = bind_some (byte_at bytes) (λ k. number_at w16 k.1 >>= λ v. byte_at v.1 >>= λ p. expiry_at form p.1 >>= λ e. tested k.0 v.0 p.0 e) x is in
@@ -101,7 +101,7 @@ record_takes form bytes x fits is =
     let is_record : IsRecord (body k.0 v.0 p.0 e).0 = record { key = (omega (arith, key_len, good.some), omega (arith, key_len, t0.1)); value = omega (arith, value_len, good.value); expires = t3.1; pred = good.prediction } in
     subst (λ (y : Rec × List ℕ). WasRead form bytes y.0 y.1) g.1 (record { takes = whole; lawful = is_record; said = can_say form p.1 e.1 (body k.0 v.0 p.0 e).0 f.1 })
 
-pub record_again : (form : Form) (r : Rec) (rest : List ℕ) → IsRecord r → CanSay form r → record_at form (record_text form r ++ rest) ≡ Some (r, rest)
+pub record_again : (form : RecordForm) (r : Rec) (rest : List ℕ) → IsRecord r → CanSay form r → record_at form (record_text form r ++ rest) ≡ Some (r, rest)
 unfolding record_at
 record_again form r rest is said =
     let value = r.value.value in
@@ -116,13 +116,13 @@ record_again form r rest is said =
     ap (record_at form) regrouped ∙ rw (number_again w16 (2 ^ 16) wide16 v (r.pred ∷ (text ++ tail)) (omega (arith, is.value)), expiry_again form r tail is.expires said, good_is k v r.pred tail good, take_at r.key (value ++ rest) k refl, drop_at r.key (value ++ rest) k refl, take_at value rest v refl, drop_at value rest v refl) refl
 
 -- records that were read
-pub record WereRead (form : Form) (n : ℕ) (bytes : List ℕ) (rs : List Rec) (rest : List ℕ) : Type 0 where
+pub record WereRead (form : RecordForm) (n : ℕ) (bytes : List ℕ) (rs : List Rec) (rest : List ℕ) : Type 0 where
   pub takes : Takes bytes (records_text form rs) rest
   pub many : length rs ≡ n
   pub each : AllByRecursion IsRecord rs
   pub said : AllByRecursion (CanSay form) rs
 
-pub records_take : (form : Form) (n : ℕ) (bytes : List ℕ) (x : List Rec × List ℕ) → IsBytes bytes → records_at form n bytes ≡ Some x → WereRead form n bytes x.0 x.1
+pub records_take : (form : RecordForm) (n : ℕ) (bytes : List ℕ) (x : List Rec × List ℕ) → IsBytes bytes → records_at form n bytes ≡ Some x → WereRead form n bytes x.0 x.1
 unfolding records_at records_text
 records_take form zero bytes x fits e =
     subst (λ (y : List Rec × List ℕ). WereRead form 0 bytes y.0 y.1) (some_is ([], bytes) x e) (record { takes = record { parts = refl; rest_fits = fits }; many = refl; each = tt; said = tt })
@@ -134,7 +134,7 @@ records_take form (suc n) bytes x fits e =
     let both = Takes-then bytes (record_text form a.0.0) a.0.1 (records_text form b.0.0) b.0.1 t.takes u.takes in
     subst (λ (y : List Rec × List ℕ). WereRead form (suc n) bytes y.0 y.1) (some_is (a.0.0 ∷ b.0.0, b.0.1) x b.2) (record { takes = both; many = ap suc u.many; each = (t.lawful, u.each); said = (t.said, u.said) })
 
-pub records_again : (form : Form) (rs : List Rec) (rest : List ℕ) → AllByRecursion IsRecord rs → AllByRecursion (CanSay form) rs → records_at form (length rs) (records_text form rs ++ rest) ≡ Some (rs, rest)
+pub records_again : (form : RecordForm) (rs : List Rec) (rest : List ℕ) → AllByRecursion IsRecord rs → AllByRecursion (CanSay form) rs → records_at form (length rs) (records_text form rs ++ rest) ≡ Some (rs, rest)
 unfolding records_at records_text
 records_again form [] rest each said = refl
 records_again form (r ∷ rs) rest each said =
@@ -146,15 +146,15 @@ pub said_all : (rs : List Rec) → AllByRecursion (CanSay Timed) rs
 said_all [] = tt
 said_all (r ∷ rs) = (tt, said_all rs)
 
-length-expiry_text : (form : Form) (e : ℕ) → 4 + length (expiry_text form e) ≡ overhead form
+length-expiry_text : (form : RecordForm) (e : ℕ) → 4 + length (expiry_text form e) ≡ overhead form
 length-expiry_text Timed e = refl
 length-expiry_text Lasting e = refl
 
 -- how many bytes a record has in a form
-abbrev pub text_size : Form → Rec → ℕ
+abbrev pub text_size : RecordForm → Rec → ℕ
 text_size form r = overhead form + length r.key + length r.value.value
 
-pub length-record_text : (form : Form) (r : Rec) → length (record_text form r) ≡ text_size form r
+pub length-record_text : (form : RecordForm) (r : Rec) → length (record_text form r) ≡ text_size form r
 length-record_text form r =
     omega (arith, length-append (expiry_text form r.value.expires) (r.key ++ r.value.value), length-append r.key r.value.value, length-expiry_text form r.value.expires)
 
@@ -172,7 +172,7 @@ record_from (x ∷ rs) (suc n) tail r each e =
     ap (λ (k : ℕ). record_at Timed (drop k ((record_text Timed x ++ records_text Timed rs) ++ tail))) (sum_by-cons size x (take n rs)) ∙ ap (record_at Timed) split ∙ record_from rs n tail r each.1 e
 
 -- as many as were asked for
-records_at-length : (form : Form) (n : ℕ) (bytes : List ℕ) (x : List Rec × List ℕ) → records_at form n bytes ≡ Some x → length x.0 ≡ n
+records_at-length : (form : RecordForm) (n : ℕ) (bytes : List ℕ) (x : List Rec × List ℕ) → records_at form n bytes ≡ Some x → length x.0 ≡ n
 unfolding records_at
 records_at-length form zero bytes x e = ap (λ (y : List Rec × List ℕ). length y.0) (sym (some_is ([], bytes) x e))
 records_at-length form (suc n) bytes x e =
@@ -184,10 +184,10 @@ there : (n : ℕ) (o : Option (List Rec × List ℕ)) → ((x : List Rec × List
 there n None each e = absurd cc
 there n (Some x) each e = each x refl
 
-pub records_of-length : (form : Form) (n : ℕ) (bytes : List ℕ) → is_some (records_at form n bytes) ≡ true → length (records_of form n bytes) ≡ n
+pub records_of-length : (form : RecordForm) (n : ℕ) (bytes : List ℕ) → is_some (records_at form n bytes) ≡ true → length (records_of form n bytes) ≡ n
 records_of-length form n bytes e = there n (records_at form n bytes) (records_at-length form n bytes) e
 
-pub length-records_text : (form : Form) (rs : List Rec) → length (records_text form rs) ≡ text_sizes form rs
+pub length-records_text : (form : RecordForm) (rs : List Rec) → length (records_text form rs) ≡ text_sizes form rs
 unfolding records_text
 length-records_text form [] = refl
 length-records_text form (r ∷ rs) =
@@ -209,7 +209,7 @@ abbrev pub prediction_of : List ℕ → ℕ
 prediction_of bytes = get_or (take 4 bytes) 3 0
 
 -- what lies at the front where a record is there
-pub record Lies (form : Form) (bytes : List ℕ) : Type 0 where
+pub record Lies (form : RecordForm) (bytes : List ℕ) : Type 0 where
   pub long : 4 ≤ length bytes
   pub expires : ℕ
   pub after : List ℕ
@@ -218,23 +218,23 @@ pub record Lies (form : Form) (bytes : List ℕ) : Type 0 where
   pub is : record_at form bytes ≡ Some (body (key_len_of bytes) (value_len_of bytes) (prediction_of bytes) (expires, after))
 
 -- a record with four bytes and an expiry before its key
-opened : (form : Form) (k h l p : ℕ) (rest : List ℕ) → record_at form (k ∷ h ∷ l ∷ p ∷ rest) ≡ (expiry_at form rest >>= λ x. tested k (from_be_bytes w16 (h ∷ l ∷ [])) p x)
+opened : (form : RecordForm) (k h l p : ℕ) (rest : List ℕ) → record_at form (k ∷ h ∷ l ∷ p ∷ rest) ≡ (expiry_at form rest >>= λ x. tested k (from_be_bytes w16 (h ∷ l ∷ [])) p x)
 unfolding record_at
 opened form k h l p rest =
     let long : ltb (length (h ∷ l ∷ p ∷ rest)) 2 ≡ false = le-ltb (length (h ∷ l ∷ p ∷ rest)) 2 (omega arith) in
     rw long refl
 
-cut_short : (form : Form) (k : ℕ) (rest : List ℕ) → length rest < 3 → record_at form (k ∷ rest) ≡ None
+cut_short : (form : RecordForm) (k : ℕ) (rest : List ℕ) → length rest < 3 → record_at form (k ∷ rest) ≡ None
 unfolding record_at
 cut_short form k [] few = refl
 cut_short form k (h ∷ []) few = refl
 cut_short form k (h ∷ l ∷ []) few = refl
 cut_short form k (h ∷ l ∷ p ∷ rest) few = absurd (omega (arith, few))
 
-not_there : (form : Form) (bytes : List ℕ) → record_at form bytes ≡ None → is_some (record_at form bytes) ≡ true → ⊥
+not_there : (form : RecordForm) (bytes : List ℕ) → record_at form bytes ≡ None → is_some (record_at form bytes) ≡ true → ⊥
 not_there form bytes none e = let no : false ≡ true = ap is_some (sym none) ∙ e in absurd cc
 
-no_bytes : (form : Form) → record_at form [] ≡ None
+no_bytes : (form : RecordForm) → record_at form [] ≡ None
 unfolding record_at
 no_bytes form = refl
 
@@ -242,7 +242,7 @@ there_is : {A : Type 0} (o : Option A) → is_some o ≡ true → (x : A) × (o 
 there_is None e = absurd cc
 there_is (Some x) e = (x, refl)
 
-pub lies : (form : Form) (bytes : List ℕ) → is_some (record_at form bytes) ≡ true → Lies form bytes
+pub lies : (form : RecordForm) (bytes : List ℕ) → is_some (record_at form bytes) ≡ true → Lies form bytes
 lies form [] e = absurd (not_there form [] (no_bytes form) e)
 lies form (k ∷ []) e = absurd (not_there form (k ∷ []) (cut_short form k [] (omega arith)) e)
 lies form (k ∷ h ∷ []) e = absurd (not_there form (k ∷ h ∷ []) (cut_short form k (h ∷ []) (omega arith)) e)
@@ -255,7 +255,7 @@ lies form (k ∷ h ∷ l ∷ p ∷ rest) e =
     record { long = omega arith; expires = f.0.0; after = f.0.1; expiry = f.1; good = good_from k v p f.0.1 g.0; is = y.1 ∙ ap (λ (z : Rec × List ℕ). Some z) (sym g.1) }
 
 -- the parts that are cut from bytes where a record lies
-pub record Cut (form : Form) (bytes front mid back key after value rest : List ℕ) (e v : ℕ) : Type 0 where
+pub record Cut (form : RecordForm) (bytes front mid back key after value rest : List ℕ) (e v : ℕ) : Type 0 where
   pub front_is : front ≡ take 4 bytes
   pub mid_is : mid ≡ drop 4 bytes
   pub expiry : expiry_at form mid ≡ Some (e, back)
@@ -266,10 +266,10 @@ pub record Cut (form : Form) (bytes front mid back key after value rest : List �
   pub rest_is : rest ≡ drop v after
 
 -- what is cut as the expiry is what lies there
-cut_same : (form : Form) (bytes front mid back key after value rest : List ℕ) (e v : ℕ) (l : Lies form bytes) → Cut form bytes front mid back key after value rest e v → ◌≡◌ {A = ℕ × List ℕ} (l.expires, l.after) (e, back)
+cut_same : (form : RecordForm) (bytes front mid back key after value rest : List ℕ) (e v : ℕ) (l : Lies form bytes) → Cut form bytes front mid back key after value rest e v → ◌≡◌ {A = ℕ × List ℕ} (l.expires, l.after) (e, back)
 cut_same form bytes front mid back key after value rest e v l c = some_is (l.expires, l.after) (e, back) (sym l.expiry ∙ ap (expiry_at form) (sym c.mid_is) ∙ c.expiry)
 
-pub cut_value : (form : Form) (bytes front mid back key after value rest : List ℕ) (e v : ℕ) → is_some (record_at form bytes) ≡ true → Cut form bytes front mid back key after value rest e v
+pub cut_value : (form : RecordForm) (bytes front mid back key after value rest : List ℕ) (e v : ℕ) → is_some (record_at form bytes) ≡ true → Cut form bytes front mid back key after value rest e v
     → record_at form bytes ≡ Some (rec key (timed value e) (get_or front 3 0), rest)
 cut_value form bytes front mid back key after value rest e v there c =
     let l = lies form bytes there in
@@ -277,7 +277,7 @@ cut_value form bytes front mid back key after value rest e v there c =
     rw (c.rest_is, c.value_is, c.key_is, c.after_is, c.v_is, c.front_is) (l.is ∙ ap (λ (x : ℕ × List ℕ). Some (body (key_len_of bytes) (value_len_of bytes) (prediction_of bytes) x)) same)
 
 -- what is cut is long enough
-pub cut_good : (form : Form) (bytes front mid back : List ℕ) (e v : ℕ) → is_some (record_at form bytes) ≡ true → front ≡ take 4 bytes → mid ≡ drop 4 bytes → expiry_at form mid ≡ Some (e, back) → v ≡ from_be_bytes w16 (get_or front 1 0 ∷ get_or front 2 0 ∷ [])
+pub cut_good : (form : RecordForm) (bytes front mid back : List ℕ) (e v : ℕ) → is_some (record_at form bytes) ≡ true → front ≡ take 4 bytes → mid ≡ drop 4 bytes → expiry_at form mid ≡ Some (e, back) → v ≡ from_be_bytes w16 (get_or front 1 0 ∷ get_or front 2 0 ∷ [])
     → IsGood (get_or front 0 0) v (get_or front 3 0) back
 cut_good form bytes front mid back e v there front_is mid_is expiry v_is =
     let l = lies form bytes there in
@@ -285,7 +285,7 @@ cut_good form bytes front mid back e v there front_is mid_is expiry v_is =
     rw (v_is, front_is) (subst (λ (x : ℕ × List ℕ). IsGood (key_len_of bytes) (value_len_of bytes) (prediction_of bytes) x.1) same l.good)
 
 -- an expiry is there
-pub expiry_there : (form : Form) (bytes mid : List ℕ) → is_some (record_at form bytes) ≡ true → mid ≡ drop 4 bytes → expiry_at form mid ≡ None → ⊥
+pub expiry_there : (form : RecordForm) (bytes mid : List ℕ) → is_some (record_at form bytes) ≡ true → mid ≡ drop 4 bytes → expiry_at form mid ≡ None → ⊥
 expiry_there form bytes mid stands mid_is none =
     let l = lies form bytes stands in
     none_is (l.expires, l.after) (sym l.expiry ∙ ap (expiry_at form) (sym mid_is) ∙ none)
@@ -293,7 +293,7 @@ expiry_there form bytes mid stands mid_is none =
     none_is : (x : ℕ × List ℕ) → Some x ≡ None → ⊥
     none_is x same = absurd cc
 
-pub cut_lawful : (form : Form) (bytes front mid back key after value rest : List ℕ) (e v : ℕ) → IsBytes bytes → is_some (record_at form bytes) ≡ true → Cut form bytes front mid back key after value rest e v → IsRecord (rec key (timed value e) (get_or front 3 0))
+pub cut_lawful : (form : RecordForm) (bytes front mid back key after value rest : List ℕ) (e v : ℕ) → IsBytes bytes → is_some (record_at form bytes) ≡ true → Cut form bytes front mid back key after value rest e v → IsRecord (rec key (timed value e) (get_or front 3 0))
 cut_lawful form bytes front mid back key after value rest e v fits there c =
     let good = cut_good form bytes front mid back e v there c.front_is c.mid_is c.expiry c.v_is in
     let small : get_or front 0 0 < 256 = rw c.front_is (IsBytes-take 4 bytes fits 0) in

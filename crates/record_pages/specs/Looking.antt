@@ -4,7 +4,7 @@ use Rattle.std.specs.List.{enumerate_from}
 use Rattle.std.specs.Cmp.Lexicographic.{pointwise}
 use Rattle.record_pages.specs.Recs.{Rec}
 use Rattle.record_pages.specs.Lent.{record_shown}
-use Rattle.record_pages.specs.declared.found.Found.{Found}
+use Rattle.record_pages.specs.declared.slot_record.SlotRecord.{SlotRecord}
 
 -- whether a record has this key
 abbrev pub has_key : List ℕ → Rec → Bool
@@ -19,5 +19,5 @@ abbrev pub first_with : List ℕ → List Rec → Option (ℕ × Rec)
 first_with key rs = first_from 0 key rs
 
 -- the slot and the record of a find
-abbrev pub found_shown : Found → ℕ × Rec
+abbrev pub found_shown : SlotRecord → ℕ × Rec
 found_shown f = (f.slot, record_shown f.lent)

@@ -4,7 +4,7 @@ use Rattle.record_pages.specs.Sizes.{max_log_records}
 use Rattle.record_pages.specs.Recs.{Rec, IsRecord, sizes, fit}
 use Rattle.record_pages.specs.PageText.{records_text}
 use Rattle.record_pages.specs.Reading.{records_of}
-use Rattle.record_pages.specs.declared.form.Form.TheVariants.{Timed}
+use Rattle.record_pages.specs.declared.form.RecordForm.TheVariants.{Timed}
 
 -- the bytes begin with the texts of these records, which fit on a set page
 pub record HoldsRecords (page : ℕ) (bytes : List ℕ) (used count : ℕ) (rs : List Rec) : Type 0 where

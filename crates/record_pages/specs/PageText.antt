@@ -7,37 +7,37 @@ use Rattle.std.specs.Int.{w16, w32, w64, to_be_bytes}
 use Rattle.record_pages.specs.Expiry.{never}
 use Rattle.record_pages.specs.Recs.{Rec, IsRecord}
 use Rattle.record_pages.specs.Sizes.{max_set_records, max_log_records, max_former_records}
-use Rattle.record_pages.specs.declared.form.Form.{Form}
-use Rattle.record_pages.specs.declared.form.Form.TheVariants.{Timed, Lasting}
+use Rattle.record_pages.specs.declared.form.RecordForm.{RecordForm}
+use Rattle.record_pages.specs.declared.form.RecordForm.TheVariants.{Timed, Lasting}
 use Rattle.record_pages.specs.declared.form.SetForm.{SetForm}
 use Rattle.record_pages.specs.declared.form.SetForm.TheVariants as set_forms
 
 -- an expiry, which pages of the older form don't have
-abbrev pub expiry_text : Form → ℕ → List ℕ
+abbrev pub expiry_text : RecordForm → ℕ → List ℕ
 expiry_text Timed expires = to_be_bytes w64 expires
 expiry_text Lasting expires = []
 
 -- a record: the length of its key, that of its value, its prediction, its expiry, its key, its value
-abbrev pub record_text : Form → Rec → List ℕ
+abbrev pub record_text : RecordForm → Rec → List ℕ
 record_text form r =
     (length r.key ∷ [])
     ++ (to_be_bytes w16 (length r.value.value) ++ ((r.pred ∷ []) ++ (expiry_text form r.value.expires ++ (r.key ++ r.value.value))))
 
 -- one record after the other
-unfoldable pub records_text : Form → List Rec → List ℕ
+unfoldable pub records_text : RecordForm → List Rec → List ℕ
 records_text form rs = flat_map (record_text form) rs
 
 -- how many bytes a record has beside its key and value
-abbrev pub overhead : Form → ℕ
+abbrev pub overhead : RecordForm → ℕ
 overhead Timed = 12
 overhead Lasting = 4
 
 -- how many bytes the texts of records have together
-abbrev pub text_sizes : Form → List Rec → ℕ
+abbrev pub text_sizes : RecordForm → List Rec → ℕ
 text_sizes form rs = sum_by (λ r. overhead form + length r.key + length r.value.value) rs
 
 -- a record of the older form never expires
-abbrev pub CanSay : Form → Rec → Type 0
+abbrev pub CanSay : RecordForm → Rec → Type 0
 CanSay Timed r = Unit {0}
 CanSay Lasting r = r.value.expires ≡ never
 
@@ -46,7 +46,7 @@ abbrev pub padded_to : ℕ → List ℕ → List ℕ
 padded_to size text = text ++ replicate (size - length text) 0
 
 -- what the records of a set page say of expiry
-abbrev pub records_form : SetForm → Form
+abbrev pub records_form : SetForm → RecordForm
 records_form set_forms.Large = Timed
 records_form set_forms.Timed = Timed
 records_form set_forms.Lasting = Lasting
@@ -64,7 +64,7 @@ set_magic set_forms.Timed = 0x4b53_4531
 set_magic set_forms.Lasting = 0x4b53_4554
 
 -- the first four bytes of a log page, as a number: KLO1, or KLOG
-abbrev pub log_magic : Form → ℕ
+abbrev pub log_magic : RecordForm → ℕ
 log_magic Timed = 0x4b4c_4f31
 log_magic Lasting = 0x4b4c_4f47
 
@@ -73,11 +73,11 @@ abbrev pub set_head : SetForm → ℕ → ℕ → List ℕ
 set_head form set write = to_be_bytes w32 (set_magic form) ++ (to_be_bytes w32 set ++ to_be_bytes w64 write)
 
 -- the first four bytes, the segment, the page of the segment
-abbrev pub log_head : Form → ℕ → ℕ → List ℕ
+abbrev pub log_head : RecordForm → ℕ → ℕ → List ℕ
 log_head form segment page = to_be_bytes w32 (log_magic form) ++ (to_be_bytes w64 segment ++ to_be_bytes w16 page)
 
 -- what stands on a page of either kind behind its head: the number of records, and the records
-abbrev pub body_text : Form → List Rec → List ℕ
+abbrev pub body_text : RecordForm → List Rec → List ℕ
 body_text form rs = to_be_bytes w16 (length rs) ++ records_text form rs
 
 -- the text of a set page of this form and size
@@ -85,7 +85,7 @@ unfoldable pub set_text : SetForm → ℕ → ℕ → ℕ → List Rec → List 
 set_text form size set write rs = padded_to size (set_head form set write ++ body_text (records_form form) rs)
 
 -- the text of a log page of this form and size
-unfoldable pub log_text : Form → ℕ → ℕ → ℕ → List Rec → List ℕ
+unfoldable pub log_text : RecordForm → ℕ → ℕ → ℕ → List Rec → List ℕ
 log_text form size segment page rs = padded_to size (log_head form segment page ++ body_text form rs)
 
 -- the text of a set page that is written
@@ -118,7 +118,7 @@ pub record IsSetPage (form : SetForm) (size : ℕ) (p : SetPageParts) : Type 0 w
   pub room : 18 + text_sizes (records_form form) p.records ≤ size
 
 -- what a log page of this form and size can say
-pub record IsLogPage (form : Form) (size : ℕ) (p : LogPageParts) : Type 0 where
+pub record IsLogPage (form : RecordForm) (size : ℕ) (p : LogPageParts) : Type 0 where
   pub segment_fits : p.segment < 2 ^ 64
   pub page_fits : p.page < 2 ^ 16
   pub each : All IsRecord p.records
@@ -132,7 +132,7 @@ pub record SpellsSetForm (form : SetForm) (size : ℕ) (bytes : List ℕ) (p : S
   pub text : bytes ≡ set_text form size p.set p.write p.records
 
 -- the bytes are the text of this log page in this form
-pub record SpellsLogForm (form : Form) (size : ℕ) (bytes : List ℕ) (p : LogPageParts) : Type 0 where
+pub record SpellsLogForm (form : RecordForm) (size : ℕ) (bytes : List ℕ) (p : LogPageParts) : Type 0 where
   pub lawful : IsLogPage form size p
   pub text : bytes ≡ log_text form size p.segment p.page p.records
 

@@ -7,8 +7,8 @@ use Rattle.record_pages.specs.Expiry.{never, timed}
 use Rattle.record_pages.specs.Recs.{Rec, rec}
 use Rattle.record_pages.specs.Sizes.{max_log_records}
 use Rattle.record_pages.specs.PageText.{SetPageParts, LogPageParts, records_form, limit, set_magic, log_magic}
-use Rattle.record_pages.specs.declared.form.Form.{Form}
-use Rattle.record_pages.specs.declared.form.Form.TheVariants.{Timed, Lasting}
+use Rattle.record_pages.specs.declared.form.RecordForm.{RecordForm}
+use Rattle.record_pages.specs.declared.form.RecordForm.TheVariants.{Timed, Lasting}
 use Rattle.record_pages.specs.declared.form.SetForm.{SetForm}
 use Rattle.record_pages.specs.declared.form.SetForm.TheVariants as set_forms
 use Rattle.record_pages.specs.declared.form.PageForm.{PageForm}
@@ -34,12 +34,12 @@ abbrev pub is_bad : ℕ → ℕ → ℕ → List ℕ → Bool
 is_bad k v p rest = k == 0 || nat_lt 2048 v || nat_lt 7 p || nat_lt (length rest) (k + v)
 
 -- the expiry at the front, and the bytes behind it: a record of the older form has none, and never expires
-abbrev pub expiry_at : Form → List ℕ → Option (ℕ × List ℕ)
+abbrev pub expiry_at : RecordForm → List ℕ → Option (ℕ × List ℕ)
 expiry_at Timed bytes = number_at w64 bytes
 expiry_at Lasting bytes = Some (never, bytes)
 
 -- the record at the front, and the bytes behind it
-unfoldable pub record_at : Form → List ℕ → Option (Rec × List ℕ)
+unfoldable pub record_at : RecordForm → List ℕ → Option (Rec × List ℕ)
 record_at form bytes = do
   k ← byte_at bytes
   v ← number_at w16 k.1
@@ -49,7 +49,7 @@ record_at form bytes = do
       else Some (rec (take k.0 e.1) (timed (take v.0 (drop k.0 e.1)) e.0) p.0, drop v.0 (drop k.0 e.1))
 
 -- so many records at the front, and the bytes behind them
-unfoldable pub records_at : Form → ℕ → List ℕ → Option (List Rec × List ℕ)
+unfoldable pub records_at : RecordForm → ℕ → List ℕ → Option (List Rec × List ℕ)
 records_at form zero bytes = Some ([], bytes)
 records_at form (suc n) bytes = do
   first ← record_at form bytes
@@ -57,7 +57,7 @@ records_at form (suc n) bytes = do
   Some (first.0 ∷ others.0, others.1)
 
 -- so many records at the front, where they are there
-abbrev pub records_of : Form → ℕ → List ℕ → List Rec
+abbrev pub records_of : RecordForm → ℕ → List ℕ → List Rec
 records_of form n bytes = option_map_or (λ x. x.0) (records_at form n bytes) []
 
 -- only zeros
@@ -65,7 +65,7 @@ abbrev pub all_zero : List ℕ → Bool
 all_zero bytes = list_all (λ b. b == 0) bytes
 
 -- what the records of a page say of expiry
-abbrev pub form_within : PageForm → Form
+abbrev pub form_within : PageForm → RecordForm
 form_within (page_forms.Set form) = records_form form
 form_within (page_forms.Log form) = form
 
@@ -90,7 +90,7 @@ set_form_of magic =
     else if magic == set_magic set_forms.Lasting then Some set_forms.Lasting else None
 
 -- the form of a log page whose first four bytes are this number
-abbrev pub log_form_of : ℕ → Option Form
+abbrev pub log_form_of : ℕ → Option RecordForm
 log_form_of magic =
     if magic == log_magic Timed then Some Timed else if magic == log_magic Lasting then Some Lasting else None
 

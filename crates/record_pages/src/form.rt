@@ -3,7 +3,7 @@ use crate::object::{MAX_FORMER_RECORDS, MAX_LOG_RECORDS, MAX_SET_RECORDS};
 
 // What a record says of expiry. A log page has one of these forms, in all its records.
 #[derive(Clone, Copy, Debug, PartialEq, Eq)]
-pub(crate) enum Form {
+pub(crate) enum RecordForm {
     // It has its expiry: what is written.
     Timed,
     // It has none, and never expires: what was written before there was expiry. Such records are still read.
@@ -27,7 +27,7 @@ pub(crate) enum PageForm {
     // A set page of this form.
     Set(SetForm),
     // A log page of this form.
-    Log(Form),
+    Log(RecordForm),
 }
 
 impl PageForm {
@@ -35,13 +35,13 @@ impl PageForm {
     ghost use Rattle.record_pages.specs.Reading.{form_within, limit_of};
 
     // What the records of a page say of expiry.
-    pub(crate) fn within(self) -> Form
+    pub(crate) fn within(self) -> RecordForm
         ensures { result ≡ form_within self }
     {
         match self {
-            PageForm::Set(SetForm::Large) => Form::Timed,
-            PageForm::Set(SetForm::Timed) => Form::Timed,
-            PageForm::Set(SetForm::Lasting) => Form::Lasting,
+            PageForm::Set(SetForm::Large) => RecordForm::Timed,
+            PageForm::Set(SetForm::Timed) => RecordForm::Timed,
+            PageForm::Set(SetForm::Lasting) => RecordForm::Lasting,
             PageForm::Log(form) => form,
         }
     }

@@ -3,7 +3,7 @@ ghost use Rattle.std.specs.Prelude.{◌≡◌, IfSome, Some, length};
 ghost use Rattle.record_pages.specs.PageText.{LogPageParts, SpellsLogPage, LogPageTextsDiffer};
 ghost use Rattle.record_pages.specs.Reading.{log_form_of, log_page_at};
 
-use crate::form::{Form, PageForm};
+use crate::form::{PageForm, RecordForm};
 use crate::front::{u16_at, u32_at, u64_at};
 use crate::records::{Records, body_at};
 use std::marker::Model;
@@ -80,12 +80,12 @@ fn log_page_at(bytes: &[u8]) -> Option<LogPage<'_>>
 }
 
 // The form of a log page that begins so.
-fn form_of(magic: u32) -> Option<Form>
+fn form_of(magic: u32) -> Option<RecordForm>
     ensures { result ≡ log_form_of magic }
 {
     match magic {
-        LOG_MAGIC => Some(Form::Timed),
-        LASTING_LOG_MAGIC => Some(Form::Lasting),
+        LOG_MAGIC => Some(RecordForm::Timed),
+        LASTING_LOG_MAGIC => Some(RecordForm::Lasting),
         _ => None,
     }
 }

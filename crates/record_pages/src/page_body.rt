@@ -6,9 +6,9 @@ ghost use Rattle.record_pages.specs.Lent.{record_shown};
 ghost use Rattle.record_pages.specs.PageText.{records_text};
 ghost use Rattle.record_pages.specs.Reading.{records_of};
 ghost use Rattle.record_pages.specs.Making.{IsInTheMaking};
-ghost use Rattle.record_pages.specs.declared.form.Form.TheVariants.{Timed};
+ghost use Rattle.record_pages.specs.declared.form.RecordForm.TheVariants.{Timed};
 
-use crate::form::Form;
+use crate::form::RecordForm;
 use crate::object::PAGE_OVERHEAD;
 use crate::put::put_record;
 use crate::record_ref::RecordRef;
@@ -95,7 +95,7 @@ impl<const PAGE: usize> PageBody<PAGE> {
         ensures lawful { IsRecord (record_shown result) }
     {
         let bytes = &self.bytes[..];
-        let (record, _) = record_there(Form::Timed, &bytes[start..]);
+        let (record, _) = record_there(RecordForm::Timed, &bytes[start..]);
         record
     }
 
@@ -103,6 +103,6 @@ impl<const PAGE: usize> PageBody<PAGE> {
     pub(crate) fn records(&self) -> Records<'_>
         ensures { result ≡ self.now }
     {
-        records_in(Form::Timed, self.count, &self.bytes)
+        records_in(RecordForm::Timed, self.count, &self.bytes)
     }
 }

@@ -4,7 +4,7 @@ ghost use Rattle.std.specs.Int.{w16, to_be_bytes};
 ghost use Rattle.record_pages.specs.Recs.{IsRecord, size, sizes};
 ghost use Rattle.record_pages.specs.Lent.{record_shown};
 ghost use Rattle.record_pages.specs.PageText.{record_text, records_text, set_head, log_head};
-ghost use Rattle.record_pages.specs.declared.form.Form.TheVariants.{Timed};
+ghost use Rattle.record_pages.specs.declared.form.RecordForm.TheVariants.{Timed};
 ghost use Rattle.record_pages.specs.declared.form.SetForm.TheVariants.{Large};
 
 use crate::log_page::LOG_MAGIC;

@@ -8,12 +8,12 @@ ghost use Rattle.record_pages.specs.Reading.{expiry_at, record_at, records_at, r
 ghost use Rattle.record_pages.specs.Walking.{StepsOverRecord};
 ghost use Rattle.record_pages.specs.Looking.{first_with, found_shown};
 
-use crate::form::{Form, PageForm};
-use crate::found::Found;
+use crate::form::{PageForm, RecordForm};
 use crate::front::{byte_at, is_zero, u16_at, u64_at};
 use crate::key::Key;
 use crate::prediction::Prediction;
 use crate::record_ref::RecordRef;
+use crate::slot_record::SlotRecord;
 use crate::timed_value::NEVER;
 use crate::value::Value;
 use std::marker::Model;
@@ -21,7 +21,7 @@ use std::marker::Model;
 /// A walk over the records of a page, in order, which lends their bytes.
 #[derive(Debug, Drop)]
 pub struct Records<'a> {
-    form: Form,
+    form: RecordForm,
     left: u16,
     rest: &'a [u8],
 }
@@ -63,14 +63,14 @@ impl<'a> Records<'a> {
     }
 
     /// The first of the records that has this key, or nothing where none has it.
-    pub fn find_key(mut self, key: &[u8]) -> Option<Found<'a>>
+    pub fn find_key(mut self, key: &[u8]) -> Option<SlotRecord<'a>>
         ensures value { option_map found_shown result ≡ first_with key.now self.entry }
         ensures lawful { IfSome result (λ f. IsRecord (record_shown f.lent)) }
     {
         for slot in 0..self.len() {
             let lent = self.next()?;
             if lent.key == key {
-                return Some(Found { slot, lent });
+                return Some(SlotRecord { slot, lent });
             }
         }
         None
@@ -108,7 +108,7 @@ impl<'a> Iterator for Records<'a> {
 }
 
 // The walk over so many records, which are there.
-pub(crate) fn records_in(form: Form, left: u16, rest: &[u8]) -> Records<'_>
+pub(crate) fn records_in(form: RecordForm, left: u16, rest: &[u8]) -> Records<'_>
     requires { is_some (records_at form left rest.now) ≡ true }
     ensures { result ≡ records_of form left rest.now }
 {
@@ -134,7 +134,7 @@ pub(crate) fn body_at(form: PageForm, bytes: &[u8]) -> Option<Records<'_>>
 
 // The bytes behind so many records.
 #[tactic(auto, unfolding(crate::specs::Reading::records_at))]
-fn after_records(form: Form, count: u16, bytes: &[u8]) -> Option<&[u8]>
+fn after_records(form: RecordForm, count: u16, bytes: &[u8]) -> Option<&[u8]>
     ensures { option_map (λ x. x.now) result
         ≡ option_map (λ x. x.1) (records_at form count bytes.now) }
 {
@@ -150,7 +150,7 @@ fn after_records(form: Form, count: u16, bytes: &[u8]) -> Option<&[u8]>
 
 // The record at the front, and the bytes behind it.
 #[tactic(auto, unfolding(crate::specs::Reading::record_at))]
-fn record_at(form: Form, bytes: &[u8]) -> Option<(RecordRef<'_>, &[u8])>
+fn record_at(form: RecordForm, bytes: &[u8]) -> Option<(RecordRef<'_>, &[u8])>
     ensures value { option_map (λ x. (record_shown x.0, x.1.now)) result ≡ record_at form bytes.now }
     ensures lawful { IfSome result (λ x. IsRecord (record_shown x.0)) }
 {
@@ -178,17 +178,17 @@ fn record_at(form: Form, bytes: &[u8]) -> Option<(RecordRef<'_>, &[u8])>
 }
 
 // When the record at the front expires, and the bytes behind that.
-fn expiry_at(form: Form, bytes: &[u8]) -> Option<(u64, &[u8])>
+fn expiry_at(form: RecordForm, bytes: &[u8]) -> Option<(u64, &[u8])>
     ensures { option_map (λ x. (x.0, x.1.now)) result ≡ expiry_at form bytes.now }
 {
     match form {
-        Form::Timed => u64_at(bytes),
-        Form::Lasting => Some((NEVER, bytes)),
+        RecordForm::Timed => u64_at(bytes),
+        RecordForm::Lasting => Some((NEVER, bytes)),
     }
 }
 
 // The record at the front, which is there, and the bytes behind it. Nothing is tested again.
-pub(crate) fn record_there(form: Form, bytes: &[u8]) -> (RecordRef<'_>, &[u8])
+pub(crate) fn record_there(form: RecordForm, bytes: &[u8]) -> (RecordRef<'_>, &[u8])
     requires { is_some (record_at form bytes.now) ≡ true }
     ensures value { record_at form bytes.now ≡ Some (record_shown result.0, result.1.now) }
     ensures lawful { IsRecord (record_shown result.0) }

@@ -12,8 +12,8 @@ use Rattle.mover.specs.Get.{Step, StepGives, is_fault}
 use Rattle.mover.specs.Put.{IsStep}
 use Rattle.mover.specs.Flush.{LaneFlushes, flush_step, seal_step, write_step, log_flushed}
 use Rattle.mover.specs.Whole.{MoveGives, move_step, is_failed}
-use Rattle.mover.specs.declared.moved.Moved.{Moved}
-use Rattle.mover.specs.declared.moved.Moved.TheVariants as moved
+use Rattle.mover.specs.declared.moved_whole.MovedWhole.{MovedWhole}
+use Rattle.mover.specs.declared.moved_whole.MovedWhole.TheVariants as moved
 use Rattle.policy_laws.specs.declared.choice.Choice.{Choice}
 use Rattle.policy_laws.specs.declared.job.Job.{Job}
 use Rattle.record_pages.specs.Recs.{Rec}
@@ -84,7 +84,7 @@ flush_is_step old new flushed.Wrote unfailed gives =
 flush_is_step old new flushed.PageLost unfailed gives = cc
 
 -- a move that lost no page and wrote its set is its function
-pub move_is_step : (size least : ℕ) (plan_of : Job → List Choice) (old new : LaneState) (answer : Moved) → is_failed (Ok answer) ≡ false → MoveGives size least plan_of old answer new → IsStep (move_step size least plan_of old) answer new
+pub move_is_step : (size least : ℕ) (plan_of : Job → List Choice) (old new : LaneState) (answer : MovedWhole) → is_failed (Ok answer) ≡ false → MoveGives size least plan_of old answer new → IsStep (move_step size least plan_of old) answer new
 move_is_step size least plan_of old new moved.Nothing unfailed gives = gives
 move_is_step size least plan_of old new moved.Busy unfailed gives = gives
 move_is_step size least plan_of old new moved.Freed unfailed gives = gives

@@ -11,7 +11,7 @@ use Rattle.klog.specs.declared.flushed.Flushed.{Flushed}
 use Rattle.klog.specs.Flush.{is_page_lost}
 use Rattle.policy_laws.specs.declared.choice.Choice.{Choice}
 use Rattle.policy_laws.specs.declared.job.Job.{Job}
-use Rattle.mover.specs.declared.moved.Moved.{Moved}
+use Rattle.mover.specs.declared.moved_whole.MovedWhole.{MovedWhole}
 use Rattle.mover.specs.Lane.{LaneState, lane_of}
 use Rattle.mover.specs.Get.{get_step, is_fault, NeedsPage}
 use Rattle.mover.specs.Store.{StoreState}
@@ -73,7 +73,7 @@ flushed old new answer whole flushes =
     (step.0, uncalled old new (flush_step (lane_of held_by old.store)).lane whole layout step.1)
 
 -- a whole move answers and leaves what its function does
-pub moved : (size : ℕ) (plan_of : Job → List Choice) (old new : Lane Pages) (answer : Moved) → new ≡ record old { store = new.store } →
+pub moved : (size : ℕ) (plan_of : Job → List Choice) (old new : Lane Pages) (answer : MovedWhole) → new ≡ record old { store = new.store } →
     StoreMoves size honest failures held_by plan_of old.store (Ok answer) new.store →
     (answer ≡ (move_step size old.store.layout.threshold plan_of (seen_of old).lane).reply)
     × (seen_of new ≡ with_lane (seen_of old) (move_step size old.store.layout.threshold plan_of (seen_of old).lane).lane)

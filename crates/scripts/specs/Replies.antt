@@ -17,8 +17,8 @@ use Rattle.certificate_checker.specs.VerdictLine.{verdict_line}
 use Rattle.klog.specs.declared.flushed.Flushed.{Flushed}
 use Rattle.klog.specs.declared.flushed.Flushed.TheVariants as flushed
 use Rattle.rriparoo.specs.Rriparoo.{rriparoo_plan}
-use Rattle.mover.specs.declared.moved.Moved.{Moved}
-use Rattle.mover.specs.declared.moved.Moved.TheVariants as moved
+use Rattle.mover.specs.declared.moved_whole.MovedWhole.{MovedWhole}
+use Rattle.mover.specs.declared.moved_whole.MovedWhole.TheVariants as moved
 use Rattle.mover.specs.Get.{Step, get_step}
 use Rattle.mover.specs.Put.{put_step}
 use Rattle.mover.specs.Strike.{removed}
@@ -60,7 +60,7 @@ flush_text flushed.Sealed = codes "sealed"
 flush_text flushed.LogFull = codes "log full"
 
 -- how a reply names what a move did
-abbrev pub move_text : Moved → List ℕ
+abbrev pub move_text : MovedWhole → List ℕ
 move_text moved.Nothing = codes "nothing"
 move_text moved.Busy = codes "busy"
 move_text moved.Readmitted = codes "readmitted"
@@ -92,7 +92,7 @@ abbrev pub reply_to_flush : Opened → Step Flushed → Reply
 reply_to_flush o step = reply (flush_text step.reply) (with_lane o step.lane)
 
 -- the reply to a move, by its step
-abbrev pub reply_to_move : Opened → Step Moved → Reply
+abbrev pub reply_to_move : Opened → Step MovedWhole → Reply
 reply_to_move o step = reply (move_text step.reply) (with_lane o step.lane)
 
 -- The reply to a command over pages of this many bytes, and the script's lane after it. Each call of a device succeeds, and

@@ -6,7 +6,7 @@ ghost use Rattle.scripts.specs.Replies.{shown, answer_text, tier_text, cause_tex
 use crate::script_lane::ScriptLane;
 use certificate_checker::verdict_line_with_hasher;
 use klog::Flushed;
-use mover::Moved;
+use mover::MovedWhole;
 use record_pages::{Answer, Key, MissCause, Tier, Value};
 use recorded_lane::{RecordFault, RecordPutFault};
 use script_words::Command;
@@ -57,18 +57,18 @@ fn flush_name(flushed: Flushed) -> &'static str
 }
 
 /// How a reply names what a move did.
-fn move_name(moved: Moved) -> &'static str
+fn move_name(moved: MovedWhole) -> &'static str
     ensures { result.now ≡ move_text moved }
 {
     match moved {
-        Moved::Nothing => "nothing",
-        Moved::Busy => "busy",
-        Moved::Readmitted => "readmitted",
-        Moved::Dropped => "dropped",
-        Moved::PageLost => "page lost",
-        Moved::Freed => "freed",
-        Moved::Written => "written",
-        Moved::Forgotten => "forgotten",
+        MovedWhole::Nothing => "nothing",
+        MovedWhole::Busy => "busy",
+        MovedWhole::Readmitted => "readmitted",
+        MovedWhole::Dropped => "dropped",
+        MovedWhole::PageLost => "page lost",
+        MovedWhole::Freed => "freed",
+        MovedWhole::Written => "written",
+        MovedWhole::Forgotten => "forgotten",
     }
 }
 

@@ -18,7 +18,7 @@ ghost use Rattle.scripts.specs.Own.{seen_of, opened_by, after_call, with_lane, o
 use crate::open_lane_fault::OpenLaneFault;
 use crate::recording::Recording;
 use klog::Flushed;
-use mover::Moved;
+use mover::MovedWhole;
 use page_device::MemoryDevice;
 use record_pages::{Answer, Config, Field, Key, Pushed, Value};
 use recorded_lane::{NotedRef, RecordFault, RecordPutFault, RecordedLane, accepted_in_turn};
@@ -141,7 +141,7 @@ impl<const PAGE: usize> ScriptLane<PAGE> {
 
     /// A whole move by the plan of `Rriparoo`. It is no call of the script's history. After `AllocError` the calls and
     /// the tiers are as they were.
-    pub fn move_whole(&mut self) -> Result<Moved, AllocError>
+    pub fn move_whole(&mut self) -> Result<MovedWhole, AllocError>
         ensures answer { IfOk result (λ moved. moved ≡ (move_step PAGE self.old.store.layout.threshold
             rriparoo_plan (seen_of self.old).lane).reply) }
         ensures after { OnOk result (seen_of self.new ≡ with_lane (seen_of self.old)

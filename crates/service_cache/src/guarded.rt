@@ -24,7 +24,7 @@ use crate::looked_up::LookedUp;
 use crate::{SeatFault, SeatPutFault, SeatedLane};
 use deed_book::{KeyLanes, Naming, Seat};
 use mover::Seen;
-use page_device::{Boxed, Counted, PageDevice};
+use page_device::{Boxed, CountedPages, PageDevice};
 use policy_laws::EvictionPolicy;
 use rand_core::utils::NextWord;
 use rand_pcg::Lcg64Xsh32;
@@ -37,7 +37,7 @@ use std::marker::Model;
 /// Its device is honest if the type of the lanes says so of its number.
 #[derive(Drop)]
 pub(crate) struct Guarded<D: PageDevice<PAGE>, const PAGE: usize, L: KeyLanes, J: Naming> {
-    lane: SeatedLane<Counted<Boxed<D>>, PAGE, L, J>,
+    lane: SeatedLane<CountedPages<Boxed<D>>, PAGE, L, J>,
     words: Lcg64Xsh32,
 }
 
@@ -60,7 +60,7 @@ impl<D: PageDevice<PAGE>, const PAGE: usize, L: KeyLanes, J: Naming> Guarded<D, 
     ghost use Rattle.service_cache.specs.Held.{IsAsSaid};
 
     /// A lane with its register, and its generator of words.
-    pub(crate) fn new(lane: SeatedLane<Counted<Boxed<D>>, PAGE, L, J>, words: Lcg64Xsh32) -> Self
+    pub(crate) fn new(lane: SeatedLane<CountedPages<Boxed<D>>, PAGE, L, J>, words: Lcg64Xsh32) -> Self
         requires { IsAsSaid L.is_honest D.honest (record { lane = lane; words = words }) }
         ensures { result ≡ record { lane = lane; words = words } }
     {
@@ -75,7 +75,7 @@ impl<D: PageDevice<PAGE>, const PAGE: usize, L: KeyLanes, J: Naming> Guarded<D, 
     }
 
     /// The lane.
-    pub(crate) fn lane(&self) -> &SeatedLane<Counted<Boxed<D>>, PAGE, L, J>
+    pub(crate) fn lane(&self) -> &SeatedLane<CountedPages<Boxed<D>>, PAGE, L, J>
         ensures { result.now ≡ self.now.lane }
     {
         &self.lane

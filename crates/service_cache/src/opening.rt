@@ -11,7 +11,7 @@ use crate::guarded::Guarded;
 use crossbeam_utils::CachePadded;
 use deed_book::{KeyLanes, NamedBook, Naming, Register};
 use key_hash::RandomSeed;
-use page_device::{Boxed, Counted, PageDevice};
+use page_device::{Boxed, CountedPages, PageDevice};
 use record_pages::Layout;
 use service_lane::{ServiceLane, words_of};
 use std::alloc::{AllocError, Global};
@@ -74,7 +74,7 @@ fn guarded_over<D: PageDevice<PAGE>, const PAGE: usize, L: KeyLanes, J: Naming>(
     ensures words { IfOk result (λ guarded. guarded.words ≡ words_for seed register.number) }
 {
     let number = register.number() as u32;
-    let counted = Counted::new(Boxed::new(alloc, device)?);
+    let counted = CountedPages::new(Boxed::new(alloc, device)?);
     let lane_seed = seed.derive(number);
     let lane = ServiceLane::with_layout(alloc, layout, lease_slots, counted, lane_seed)?;
     let lane = SeatedLane::new(lane, register);

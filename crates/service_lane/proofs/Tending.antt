@@ -24,8 +24,8 @@ use Rattle.mover.specs.Oldest.{oldest_in}
 use Rattle.mover.specs.Store.{StoreState, most_moves}
 use Rattle.mover.specs.declared.begin.Begin.{Begin}
 use Rattle.mover.specs.declared.begin.Begin.TheVariants as begin
-use Rattle.mover.specs.declared.moved.Moved.{Moved}
-use Rattle.mover.specs.declared.moved.Moved.TheVariants as moved
+use Rattle.mover.specs.declared.moved_whole.MovedWhole.{MovedWhole}
+use Rattle.mover.specs.declared.moved_whole.MovedWhole.TheVariants as moved
 use Rattle.service_lane.specs.declared.due.Due.TheVariants as due
 use Rattle.service_lane.specs.Dueness.{can_flush, wants_move, due_of, is_near_end, is_nearly_filled, has_above}
 use Rattle.service_lane.specs.declared.upkept.Upkept.{Upkept}
@@ -111,7 +111,7 @@ room_asks_none size false old new b asks leaves = ap (λ s. s.device) leaves.1
 begin_asks_none : {D : Type 0} (size : ℕ) (old new : StoreState D) (b : Begin) → asks_none b ≡ true → BeginLeaves size old b new → new.device ≡ old.device
 begin_asks_none size old new b asks leaves = room_asks_none size (ltb (length old.flights) most_flights) old new b asks leaves
 
-pub moved_asks_none : {D : Type 0} (size : ℕ) (plan_of : Job → List Choice) (old new : StoreState D) (m : Moved) → may_move_ask m ≡ false → MovingLeaves size plan_of old m new → new.device ≡ old.device
+pub moved_asks_none : {D : Type 0} (size : ℕ) (plan_of : Job → List Choice) (old new : StoreState D) (m : MovedWhole) → may_move_ask m ≡ false → MovingLeaves size plan_of old m new → new.device ≡ old.device
 moved_asks_none size plan_of old new moved.Nothing asks leaves = begin_asks_none size old new begin.Nothing refl leaves
 moved_asks_none size plan_of old new moved.Busy asks leaves = begin_asks_none size old new begin.Busy refl leaves
 moved_asks_none size plan_of old new moved.Freed asks leaves = begin_asks_none size old new begin.Freed refl leaves

@@ -12,8 +12,8 @@ use Rattle.record_pages.specs.declared.put_fault.PutFault.{PutFault}
 use Rattle.record_pages.specs.declared.put_fault.PutFault.TheVariants.{TooLarge, OutOfMemory}
 use Rattle.klog.specs.declared.flushed.Flushed.{Flushed}
 use Rattle.klog.specs.declared.flushed.Flushed.TheVariants as flushed
-use Rattle.mover.specs.declared.moved.Moved.{Moved}
-use Rattle.mover.specs.declared.moved.Moved.TheVariants as moved
+use Rattle.mover.specs.declared.moved_whole.MovedWhole.{MovedWhole}
+use Rattle.mover.specs.declared.moved_whole.MovedWhole.TheVariants as moved
 use Rattle.service_lane.specs.declared.get_counts.GetCounts.{GetCounts}
 use Rattle.service_lane.specs.declared.put_counts.PutCounts.{PutCounts}
 use Rattle.service_lane.specs.declared.pushed_counts.PushedCounts.{PushedCounts}
@@ -125,7 +125,7 @@ with_flushed flushed.Nothing c = c
 with_flushed flushed.LogFull c = c
 
 -- a move more
-abbrev pub with_moved : Moved → StepCounts → StepCounts
+abbrev pub with_moved : MovedWhole → StepCounts → StepCounts
 with_moved moved.Nothing c = c
 with_moved moved.Busy c = c
 with_moved moved.Freed c = record c { segments_freed = more c.segments_freed }

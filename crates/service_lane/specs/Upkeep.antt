@@ -5,8 +5,8 @@ use Rattle.policy_laws.specs.declared.job.Job.{Job}
 use Rattle.klog.specs.declared.flushed.Flushed.{Flushed}
 use Rattle.klog.specs.declared.flushed.Flushed.TheVariants as flushed
 use Rattle.klog.specs.Usage.{usage_of}
-use Rattle.mover.specs.declared.moved.Moved.{Moved}
-use Rattle.mover.specs.declared.moved.Moved.TheVariants as moved
+use Rattle.mover.specs.declared.moved_whole.MovedWhole.{MovedWhole}
+use Rattle.mover.specs.declared.moved_whole.MovedWhole.TheVariants as moved
 use Rattle.mover.specs.Calls.{StoreFlushes, StoreMoves}
 use Rattle.service_lane.specs.declared.due.Due.{Due}
 use Rattle.service_lane.specs.declared.due.Due.TheVariants as due
@@ -35,7 +35,7 @@ IsPageDone flushed.Sealed = ⊥
 IsPageDone flushed.LogFull = ⊥
 
 -- whether a move may have asked the device
-abbrev pub may_move_ask : Moved → Bool
+abbrev pub may_move_ask : MovedWhole → Bool
 may_move_ask moved.Nothing = false
 may_move_ask moved.Busy = false
 may_move_ask moved.Freed = false
@@ -60,7 +60,7 @@ pub record Flushes {D : Type 0} (honest : D → Bool) (failures : D → ℕ) (he
   pub flushes : StoreFlushes honest failures held old.store answer new.store
 
 -- a move was due, and is done
-pub record Moves {D : Type 0} (size : ℕ) (honest : D → Bool) (failures : D → ℕ) (held : D → ℕ → Option (List ℕ)) (plan_of : Job → List Choice) (old : Serving D) (answer : Moved) (new : Serving D) : Type 0 where
+pub record Moves {D : Type 0} (size : ℕ) (honest : D → Bool) (failures : D → ℕ) (held : D → ℕ → Option (List ℕ)) (plan_of : Job → List Choice) (old : Serving D) (answer : MovedWhole) (new : Serving D) : Type 0 where
   pub due : due_in old ≡ Some due.Move
   pub rest : new ≡ record old { store = new.store; counts = record old.counts { steps = with_moved answer old.counts.steps; upkeep = with_step old.counts.upkeep } }
   pub moves : StoreMoves size honest failures held plan_of old.store (Ok answer) new.store

@@ -2,7 +2,7 @@
 ghost use Rattle.std.specs.Prelude.{◌≡◌};
 
 use klog::Flushed;
-use mover::Moved;
+use mover::MovedWhole;
 
 /// What steps of flushing and moves did since the lane was opened, each number modulo 2^64.
 #[derive(Clone, Copy, Debug, PartialEq, Eq)]
@@ -60,17 +60,17 @@ impl StepCounts {
     }
 
     /// Counts a move.
-    pub(crate) fn moved(&mut self, moved: Moved)
+    pub(crate) fn moved(&mut self, moved: MovedWhole)
         ensures { self.new ≡ with_moved moved self.old }
     {
         match moved {
-            Moved::Nothing | Moved::Busy => {}
-            Moved::Freed => self.segments_freed = self.segments_freed.wrapping_add(1),
-            Moved::Readmitted => self.readmitted = self.readmitted.wrapping_add(1),
-            Moved::Dropped => self.dropped = self.dropped.wrapping_add(1),
-            Moved::PageLost => self.pages_lost = self.pages_lost.wrapping_add(1),
-            Moved::Written => self.sets_written = self.sets_written.wrapping_add(1),
-            Moved::Forgotten => self.sets_forgotten = self.sets_forgotten.wrapping_add(1),
+            MovedWhole::Nothing | MovedWhole::Busy => {}
+            MovedWhole::Freed => self.segments_freed = self.segments_freed.wrapping_add(1),
+            MovedWhole::Readmitted => self.readmitted = self.readmitted.wrapping_add(1),
+            MovedWhole::Dropped => self.dropped = self.dropped.wrapping_add(1),
+            MovedWhole::PageLost => self.pages_lost = self.pages_lost.wrapping_add(1),
+            MovedWhole::Written => self.sets_written = self.sets_written.wrapping_add(1),
+            MovedWhole::Forgotten => self.sets_forgotten = self.sets_forgotten.wrapping_add(1),
         }
     }
 

@@ -3,7 +3,7 @@ ghost use Rattle.std.specs.Prelude.{◌≡◌};
 ghost use Rattle.service_lane.specs.Upkeep.{may_ask};
 
 use klog::Flushed;
-use mover::Moved;
+use mover::MovedWhole;
 
 /// What a step of upkeep did.
 #[derive(Clone, Copy, Debug, PartialEq, Eq)]
@@ -13,7 +13,7 @@ pub enum Upkept {
     /// A page of the log was to be written, and was written or lost.
     Flushed(Flushed),
     /// Records were to move, and this was done.
-    Moved(Moved),
+    Moved(MovedWhole),
     /// Records were to move, and memory was refused.
     OutOfMemory,
 }
@@ -36,7 +36,7 @@ impl Upkept {
     {
         match self {
             Upkept::Idle => false,
-            Upkept::Moved(Moved::Nothing | Moved::Busy | Moved::Freed) => false,
+            Upkept::Moved(MovedWhole::Nothing | MovedWhole::Busy | MovedWhole::Freed) => false,
             Upkept::Moved(_) | Upkept::Flushed(_) | Upkept::OutOfMemory => true,
         }
     }

@@ -24,7 +24,7 @@ use Rattle.klog.specs.Laws.{NamesTellNumbers}
 use Rattle.klog.specs.Known.{no_pages, is_buffered, AreBuffered}
 use Rattle.klog.specs.Append.{entering, entry_for, sealed, taker}
 use Rattle.klog.specs.Look.{LooksAt, LogLookGives, GivesAt, GivesRecord, lowered_in}
-use Rattle.klog.specs.declared.located.Located.{Located}
+use Rattle.klog.specs.declared.located_in_log.LocatedInLog.{LocatedInLog}
 use Rattle.klog.specs.Locate.{looked_of, log_after, LogLocates}
 use Rattle.klog.specs.Calls.{LogLooks}
 use Rattle.set_hash.specs.declared.placed.Placed.{Placed}
@@ -241,7 +241,7 @@ untouched old new e other is h apart = subst (λ (k : LogState). Contains k.entr
 pub as_many : (old new : LogState) (e : Entry) → new ≡ lowered_in old e.set e.place → length new.entries ≡ length old.entries
 as_many old new e is = ap (λ (k : LogState). length k.entries) is ∙ length-map old.entries (λ x. cond (is_in e.set e.place x) (lowered x) x)
 
-module _ {D : Type 0} {size : ℕ} {pages : D → ℕ} {honest : D → Bool} {failures : D → ℕ} {held : D → ℕ → Option (List ℕ)} {placed : Placed} {key : List ℕ} {moment : ℕ} {k : LogState} {device : D} {was : List ℕ} {f : Located} {device' : D} {buffer : List ℕ} where
+module _ {D : Type 0} {size : ℕ} {pages : D → ℕ} {honest : D → Bool} {failures : D → ℕ} {held : D → ℕ → Option (List ℕ)} {placed : Placed} {key : List ℕ} {moment : ℕ} {k : LogState} {device : D} {was : List ℕ} {f : LocatedInLog} {device' : D} {buffer : List ℕ} where
   -- what is located is what a look-up answers, where the log is left with the entry of a hit touched
   pub looks_of : (new : LogState) → LogLocates size pages honest failures held placed key moment k device was f device' buffer → new ≡ log_after f k → new.shape ≡ k.shape → ((on : ℕ → Option (List ℕ)) → IsSpelledOn size on k → IsSpelledOn size on new)
       → LogLooks size pages honest failures held placed key moment k device (Ok (looked_of f buffer)) new device'

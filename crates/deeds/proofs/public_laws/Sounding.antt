@@ -16,7 +16,7 @@ use Rattle.mover.specs.Begin.{lane_counted, begin_step, BeginGives}
 use Rattle.mover.specs.Whole.{MoveGives}
 use Rattle.mover.specs.Laws.{IsInOrder, StepsInOrder, BeginShows, WholeMoveShows, IsPlannedFor, AreCounted}
 use Rattle.mover.specs.declared.begin.Begin.{Begin}
-use Rattle.mover.specs.declared.moved.Moved.{Moved}
+use Rattle.mover.specs.declared.moved_whole.MovedWhole.{MovedWhole}
 use Rattle.policy_laws.specs.declared.choice.Choice.{Choice}
 use Rattle.policy_laws.specs.declared.job.Job.{Job}
 use Rattle.std.specs.declared.alloc.AllocError.{AllocError}
@@ -110,7 +110,7 @@ begun_in_order law size least old new (Ok begun) was gives stays = law size leas
 begun_in_order law size least old new (Err e) was gives stays = still_in_order old new was stays
 
 -- a whole move was made, or memory was refused
-pub moved_in_order : WholeMoveShows → (size least : ℕ) (plan_of : Job → List Choice) (old new : LaneState) (result : Result Moved AllocError) → IsInOrder old → AreCounted old → IfOk result (λ moved. IsPlannedFor plan_of moved (begin_step size least old).reply) →
+pub moved_in_order : WholeMoveShows → (size least : ℕ) (plan_of : Job → List Choice) (old new : LaneState) (result : Result MovedWhole AllocError) → IsInOrder old → AreCounted old → IfOk result (λ moved. IsPlannedFor plan_of moved (begin_step size least old).reply) →
     IfOk result (λ moved. MoveGives size least plan_of old moved new) → OnErr result ((new ≡ old) ⊎ (new ≡ lane_counted old)) → StepsInOrder None None old new
 moved_in_order law size least plan_of old new (Ok moved) was numbered planned gives stays = law size least plan_of old new moved was numbered planned gives
 moved_in_order law size least plan_of old new (Err e) was numbered planned gives (inl same) = still_in_order old new was same

@@ -5,7 +5,7 @@ ghost use Rattle.mover.specs.Calls.{StoreFlushes, StoreBegins, StoreCommits, Sto
 use super::DeedStore;
 use klog::Flushed;
 use mover::{
-    Aborted, Begin, Committed, Moved, abort_shows, begin_shows, commit_shows, flush_shows,
+    Aborted, Begin, Committed, MovedWhole, abort_shows, begin_shows, commit_shows, flush_shows,
     whole_move_shows,
 };
 use page_device::PageDevice;
@@ -53,7 +53,7 @@ impl<D: PageDevice<PAGE>, const PAGE: usize> DeedStore<D, PAGE> {
     }
 
     /// A whole move, as `Store::move_whole` does it.
-    pub fn move_whole<P: EvictionPolicy>(&mut self, policy: &P) -> Result<Moved, AllocError>
+    pub fn move_whole<P: EvictionPolicy>(&mut self, policy: &P) -> Result<MovedWhole, AllocError>
         ensures moves { StoreMoves PAGE D.honest D.failures D.held (P.plan_of policy.now)
             self.old.store result self.new.store }
         ensures deeds { self.new.deeds ≡ self.old.deeds }

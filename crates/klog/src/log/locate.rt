@@ -13,8 +13,8 @@ ghost use Rattle.klog.specs.Locate.{LogLocates};
 
 use super::KLog;
 use crate::fetched::Fetched;
-use crate::located::Located;
-use crate::told::Told;
+use crate::located_in_log::LocatedInLog;
+use crate::record_answer::RecordAnswer;
 use klog_index::{EntriesOf, Entry};
 use page_device::PageDevice;
 use record_pages::{ValueBuffer, is_live};
@@ -31,7 +31,7 @@ impl<const PAGE: usize> KLog<PAGE> {
         key: &[u8],
         moment: u64,
         found: &mut ValueBuffer,
-    ) -> Located
+    ) -> LocatedInLog
         requires page_size { IsPageSize PAGE }
         requires room { HasRoom (D.page_count device.old) self.now }
         requires place { placed.now ≡ place_in self.now.shape key.now }
@@ -41,17 +41,17 @@ impl<const PAGE: usize> KLog<PAGE> {
         let mut entries = self.index.entries_of(placed.set);
         for _ in 0..self.index.len() {
             let Some(entry) = next_with_tag(&mut entries, placed.tag) else {
-                return Located::Absent;
+                return LocatedInLog::Absent;
             };
             match self.ask(device, &entry, key, moment, found) {
-                Told::Other => {}
-                Told::Hit => return Located::Hit(entry),
-                Told::Expired => return Located::Expired,
-                Told::Fault => return Located::Fault,
-                Told::Damaged => return Located::Damaged,
+                RecordAnswer::Other => {}
+                RecordAnswer::Hit => return LocatedInLog::Hit(entry),
+                RecordAnswer::Expired => return LocatedInLog::Expired,
+                RecordAnswer::Fault => return LocatedInLog::Fault,
+                RecordAnswer::Damaged => return LocatedInLog::Damaged,
             }
         }
-        Located::Absent
+        LocatedInLog::Absent
     }
 
     // What the record of an entry says of a key. A live value of the key goes into the buffer. Bytes for a page are made
@@ -63,7 +63,7 @@ impl<const PAGE: usize> KLog<PAGE> {
         key: &[u8],
         moment: u64,
         found: &mut ValueBuffer,
-    ) -> Told
+    ) -> RecordAnswer
         requires page_size { IsPageSize PAGE }
         requires room { HasRoom (D.page_count device.old) self.now }
         requires listed { Contains self.now.entries entry.now }
@@ -96,7 +96,7 @@ impl<const PAGE: usize> KLog<PAGE> {
         key: &[u8],
         moment: u64,
         found: &mut ValueBuffer,
-    ) -> Told
+    ) -> RecordAnswer
         requires { IsItsOwn PAGE self.now.shape entry.now fetched }
         ensures fault { is_told_fault result ≡ is_fetch_fault fetched.entry }
         ensures stays { OnFalse (is_told_hit result) (found.new ≡ found.old) }
@@ -106,17 +106,17 @@ impl<const PAGE: usize> KLog<PAGE> {
             TellsKey PAGE known self.now entry.now key.now moment found.new result }
     {
         match fetched {
-            Fetched::Fault => Told::Fault,
-            Fetched::Damaged => Told::Damaged,
+            Fetched::Fault => RecordAnswer::Fault,
+            Fetched::Damaged => RecordAnswer::Damaged,
             Fetched::Record(record) => {
                 if record.key != key {
-                    return Told::Other;
+                    return RecordAnswer::Other;
                 }
                 if !is_live(record.expires, moment) {
-                    return Told::Expired;
+                    return RecordAnswer::Expired;
                 }
                 found.set(record.value);
-                Told::Hit
+                RecordAnswer::Hit
             }
         }
     }

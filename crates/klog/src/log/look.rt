@@ -7,7 +7,7 @@ ghost use Rattle.klog.specs.Look.{lowered_in, live_lowered};
 ghost use Rattle.klog.specs.Calls.{LogLooks};
 
 use super::KLog;
-use crate::located::Located;
+use crate::located_in_log::LocatedInLog;
 use klog_index::Entry;
 use page_device::PageDevice;
 use record_pages::{Key, Looked, Value, ValueBuffer};
@@ -34,11 +34,11 @@ impl<const PAGE: usize> KLog<PAGE> {
     {
         let mut found = ValueBuffer::empty();
         match self.locate(device, placed, key.bytes(), moment, &mut found) {
-            Located::Absent => Ok(Looked::Absent),
-            Located::Expired => Ok(Looked::Expired),
-            Located::Fault => Ok(Looked::Fault),
-            Located::Damaged => Ok(Looked::Damaged),
-            Located::Hit(entry) => {
+            LocatedInLog::Absent => Ok(Looked::Absent),
+            LocatedInLog::Expired => Ok(Looked::Expired),
+            LocatedInLog::Fault => Ok(Looked::Fault),
+            LocatedInLog::Damaged => Ok(Looked::Damaged),
+            LocatedInLog::Hit(entry) => {
                 let Ok(value) = Value::new(alloc, found.bytes()) else {
                     return Err(AllocError);
                 };

@@ -32,8 +32,8 @@ use Rattle.mover.specs.Commit.{IsFitting, committed}
 use Rattle.mover.specs.Whole.{ended_by, end_step, whole_step, MoveGives}
 use Rattle.mover.specs.declared.begin.Begin.{Begin}
 use Rattle.mover.specs.declared.begin.Begin.TheVariants as begin
-use Rattle.mover.specs.declared.moved.Moved.{Moved}
-use Rattle.mover.specs.declared.moved.Moved.TheVariants as moved
+use Rattle.mover.specs.declared.moved_whole.MovedWhole.{MovedWhole}
+use Rattle.mover.specs.declared.moved_whole.MovedWhole.TheVariants as moved
 use Rattle.mover.specs.Laws.{AreMarked, AreCounted, IsInOrder, opening_lane, StepsInOrder, IsPlanned, IsPlannedFor, WholeMoveShows, OpeningShowsNothing, StoresAreInOrder}
 use Rattle.mover.proofs.public_laws.FlightLists.{held_found, found_last, fresh_number}
 use Rattle.mover.proofs.public_laws.Showing.{no_more, then}
@@ -120,7 +120,7 @@ whole_move_law size least plan_of old new answer was counted = by_answer answer
         (after old mid (whole_step size least plan_of ended old).lane first (ended_shows size plan_of ended mid first.order (begin_step size least old).reply (begin_job size least old counted) planned))
 
     -- a move that ended by no plan had no job
-    unplanned : (answer : Moved) (b : Begin) → answer ≡ (end_step plan_of rewritten.Written b mid).reply → (answer ≡ moved.Written → ⊥) → IsPlanned plan_of b
+    unplanned : (answer : MovedWhole) (b : Begin) → answer ≡ (end_step plan_of rewritten.Written b mid).reply → (answer ≡ moved.Written → ⊥) → IsPlanned plan_of b
     unplanned answer (begin.Job job) is other = absurd (other is)
     unplanned answer begin.Nothing is other = tt
     unplanned answer begin.Busy is other = tt
@@ -129,7 +129,7 @@ whole_move_law size least plan_of old new answer was counted = by_answer answer
     unplanned answer begin.Dropped is other = tt
     unplanned answer begin.PageLost is other = tt
 
-    by_answer : (answer : Moved) → IsPlannedFor plan_of answer (begin_step size least old).reply → MoveGives size least plan_of old answer new → StepsInOrder None None old new
+    by_answer : (answer : MovedWhole) → IsPlannedFor plan_of answer (begin_step size least old).reply → MoveGives size least plan_of old answer new → StepsInOrder None None old new
     by_answer moved.PageLost planned gives = begin_law size least old new begin.PageLost was gives
     by_answer moved.Forgotten planned gives = so rewritten.Forgotten planned gives.1
     by_answer moved.Written planned gives = so rewritten.Written planned gives.1

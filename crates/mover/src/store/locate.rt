@@ -42,11 +42,11 @@ pub(super) fn locate_below<D: PageDevice<PAGE>, const PAGE: usize>(
     ensures stays { OnFalse (has_value result) (found.new ≡ found.old) }
 {
     match log.locate(device, placed, key, moment, found) {
-        klog::Located::Hit(entry) => Located::Log(entry),
-        klog::Located::Expired => Located::Miss(MissCause::Expired),
-        klog::Located::Fault => Located::Miss(MissCause::Fault),
-        klog::Located::Damaged => Located::Miss(MissCause::Damaged),
-        klog::Located::Absent => {
+        klog::LocatedInLog::Hit(entry) => Located::Log(entry),
+        klog::LocatedInLog::Expired => Located::Miss(MissCause::Expired),
+        klog::LocatedInLog::Fault => Located::Miss(MissCause::Fault),
+        klog::LocatedInLog::Damaged => Located::Miss(MissCause::Damaged),
+        klog::LocatedInLog::Absent => {
             let located = sets.locate(device, placed, key, moment, found);
             in_set(placed.set, located)
         }
@@ -54,14 +54,14 @@ pub(super) fn locate_below<D: PageDevice<PAGE>, const PAGE: usize>(
 }
 
 // Where a store has what a set locates.
-fn in_set(set: u32, located: kset::Located) -> Located
+fn in_set(set: u32, located: kset::LocatedInSet) -> Located
     ensures { result ≡ in_set set located }
 {
     match located {
-        kset::Located::Hit { slot } => Located::Set { set, slot },
-        kset::Located::Expired => Located::Miss(MissCause::Expired),
-        kset::Located::Absent => Located::Miss(MissCause::Absent),
-        kset::Located::Fault => Located::Miss(MissCause::Fault),
-        kset::Located::Damaged => Located::Miss(MissCause::Damaged),
+        kset::LocatedInSet::Hit { slot } => Located::Set { set, slot },
+        kset::LocatedInSet::Expired => Located::Miss(MissCause::Expired),
+        kset::LocatedInSet::Absent => Located::Miss(MissCause::Absent),
+        kset::LocatedInSet::Fault => Located::Miss(MissCause::Fault),
+        kset::LocatedInSet::Damaged => Located::Miss(MissCause::Damaged),
     }
 }

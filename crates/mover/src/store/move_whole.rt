@@ -11,7 +11,7 @@ ghost use Rattle.mover.specs.Calls.{StoreMoves};
 use super::Store;
 use crate::begin::Begin;
 use crate::committed::Committed;
-use crate::moved::Moved;
+use crate::moved_whole::MovedWhole;
 use page_device::PageDevice;
 use policy_laws::{EvictionPolicy, Job};
 use std::alloc::AllocError;
@@ -22,19 +22,19 @@ impl<D: PageDevice<PAGE>, const PAGE: usize> Store<D, PAGE> {
     ///
     /// Where memory is refused the tiers stay as they were. Where it is the policy that is refused, a move began, is given
     /// up, and its number is not given again.
-    pub fn move_whole<P: EvictionPolicy>(&mut self, policy: &P) -> Result<Moved, AllocError>
+    pub fn move_whole<P: EvictionPolicy>(&mut self, policy: &P) -> Result<MovedWhole, AllocError>
         ensures { StoreMoves PAGE D.honest D.failures D.held (P.plan_of policy.now) self.old result
             self.new }
     {
         // What is true of every store is true of its moves in flight.
         let _layout = self.layout();
         match self.move_begin()? {
-            Begin::Nothing => Ok(Moved::Nothing),
-            Begin::Busy => Ok(Moved::Busy),
-            Begin::Freed => Ok(Moved::Freed),
-            Begin::Readmitted => Ok(Moved::Readmitted),
-            Begin::Dropped => Ok(Moved::Dropped),
-            Begin::PageLost => Ok(Moved::PageLost),
+            Begin::Nothing => Ok(MovedWhole::Nothing),
+            Begin::Busy => Ok(MovedWhole::Busy),
+            Begin::Freed => Ok(MovedWhole::Freed),
+            Begin::Readmitted => Ok(MovedWhole::Readmitted),
+            Begin::Dropped => Ok(MovedWhole::Dropped),
+            Begin::PageLost => Ok(MovedWhole::PageLost),
             Begin::Job(job) => {
                 let moved = self.end_by(&job, policy)?;
                 Ok(moved)
@@ -43,7 +43,7 @@ impl<D: PageDevice<PAGE>, const PAGE: usize> Store<D, PAGE> {
     }
 
     // Ends the move of a job by a policy's plan, or gives it up where the policy is refused memory.
-    fn end_by<P: EvictionPolicy>(&mut self, job: &Job, policy: &P) -> Result<Moved, AllocError>
+    fn end_by<P: EvictionPolicy>(&mut self, job: &Job, policy: &P) -> Result<MovedWhole, AllocError>
         requires { IsSomeAnd (flight_of job.now.number self.old.flights) (IsJustBegun PAGE job.now) }
         ensures layout { self.new.layout ≡ self.old.layout }
         ensures honest { D.honest self.new.device ≡ D.honest self.old.device }
@@ -65,8 +65,8 @@ impl<D: PageDevice<PAGE>, const PAGE: usize> Store<D, PAGE> {
             return Err(AllocError);
         };
         match self.move_commit(&plan, job.number) {
-            Committed::Written => Ok(Moved::Written),
-            Committed::Forgotten => Ok(Moved::Forgotten),
+            Committed::Written => Ok(MovedWhole::Written),
+            Committed::Forgotten => Ok(MovedWhole::Forgotten),
             _ => unreachable!(),
         }
     }

@@ -6,8 +6,8 @@ use Rattle.std.proofs.lemmas.Bool.{eqb-true, ltb-false, le-ltb}
 use Rattle.std.proofs.lemmas.List.{length-append}
 use Rattle.std.proofs.lemmas.List.Elements.{All-from_recursion, recursion_from_All}
 use Rattle.record_pages.specs.Recs.{Rec, IsRecord}
-use Rattle.record_pages.specs.declared.form.Form.{Form}
-use Rattle.record_pages.specs.declared.form.Form.TheVariants.{Timed, Lasting}
+use Rattle.record_pages.specs.declared.form.RecordForm.{RecordForm}
+use Rattle.record_pages.specs.declared.form.RecordForm.TheVariants.{Timed, Lasting}
 use Rattle.record_pages.specs.declared.form.SetForm.{SetForm}
 use Rattle.record_pages.specs.declared.form.SetForm.TheVariants as set_forms
 use Rattle.record_pages.specs.declared.form.PageForm.{PageForm}
@@ -104,7 +104,7 @@ set_magic_is magic form is =
     (tested set_magic magic set_forms.Timed form _ (tested set_magic magic set_forms.Lasting form None (no_other set_magic magic form) (eqb magic (set_magic set_forms.Lasting)) refl) (eqb magic (set_magic set_forms.Timed)) refl)
     (eqb magic (set_magic set_forms.Large)) refl is
 
-log_magic_is : (magic : ℕ) (form : Form) → log_form_of magic ≡ Some form → magic ≡ log_magic form
+log_magic_is : (magic : ℕ) (form : RecordForm) → log_form_of magic ≡ Some form → magic ≡ log_magic form
 log_magic_is magic form is =
     tested log_magic magic Timed form _ (tested log_magic magic Lasting form None (no_other log_magic magic form) (eqb magic (log_magic Lasting)) refl) (eqb magic (log_magic Timed)) refl is
 
@@ -185,11 +185,11 @@ log_page_takes bytes p fits e =
     let lawful : IsLogPage m.0 (length bytes) (record { segment = b.0.0; page = d.0.0; records = f.0 }) = record { segment_fits = t1.1; page_fits = t2.1; each = body.each; said = body.said; few = body.few; room = omega (arith, len, body.room) } in
     log_either m.0 (length bytes) bytes p (subst (SpellsLogForm m.0 (length bytes) bytes) (some_is (record { segment = b.0.0; page = d.0.0; records = f.0 }) p f.2) (record { lawful = lawful; text = page_from (page_forms.Log m.0) bytes (log_head m.0 b.0.0 d.0.0) d.0.1 f.0 head body }))
   where
-    log_either : (form : Form) (size : ℕ) (bytes : List ℕ) (p : LogPageParts) → SpellsLogForm form size bytes p → SpellsLogPage size bytes p
+    log_either : (form : RecordForm) (size : ℕ) (bytes : List ℕ) (p : LogPageParts) → SpellsLogForm form size bytes p → SpellsLogPage size bytes p
     log_either Timed size bytes p s = inl s
     log_either Lasting size bytes p s = inr s
 
-log_page_again : (form : Form) (size : ℕ) (p : LogPageParts) → IsLogPage form size p → log_page_at (log_text form size p.segment p.page p.records) ≡ Some p
+log_page_again : (form : RecordForm) (size : ℕ) (p : LogPageParts) → IsLogPage form size p → log_page_at (log_text form size p.segment p.page p.records) ≡ Some p
 unfolding log_page_at log_text
 log_page_again form size p is =
     let a = to_be_bytes w32 (log_magic form) in
@@ -201,11 +201,11 @@ log_page_again form size p is =
     let regrouped : ((a ++ (b ++ d)) ++ (n ++ records_text form p.records)) ++ replicate gap 0 ≡ a ++ (b ++ (d ++ body)) = simp append_assoc in
     ap log_page_at regrouped ∙ rw (number_again w32 (2 ^ 32) wide32 (log_magic form) (b ++ (d ++ body)) (log_magic_fits form), log_form form, number_again w64 (2 ^ 64) wide64 p.segment (d ++ body) is.segment_fits, number_again w16 (2 ^ 16) wide16 p.page body is.page_fits, body_again (page_forms.Log form) p.records gap is.each is.said is.few) refl
   where
-    log_magic_fits : (form : Form) → log_magic form < 2 ^ 32
+    log_magic_fits : (form : RecordForm) → log_magic form < 2 ^ 32
     log_magic_fits Timed = lit< tt
     log_magic_fits Lasting = lit< tt
 
-    log_form : (form : Form) → log_form_of (log_magic form) ≡ Some form
+    log_form : (form : RecordForm) → log_form_of (log_magic form) ≡ Some form
     log_form Timed = refl
     log_form Lasting = refl
 

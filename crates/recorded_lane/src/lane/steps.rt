@@ -4,7 +4,7 @@ ghost use Rattle.mover.specs.Calls.{StoreRemoves, StoreFlushes, StoreMoves};
 
 use super::RecordedLane;
 use klog::Flushed;
-use mover::Moved;
+use mover::MovedWhole;
 use page_device::PageDevice;
 use policy_laws::EvictionPolicy;
 use record_pages::Key;
@@ -34,7 +34,7 @@ impl<D: PageDevice<PAGE>, const PAGE: usize> RecordedLane<D, PAGE> {
     ///
     /// Where memory is refused the tiers stay as they were. Where it is the policy that is refused, a move began, is given
     /// up, and its number is not given again.
-    pub fn move_whole<P: EvictionPolicy>(&mut self, policy: &P) -> Result<Moved, AllocError>
+    pub fn move_whole<P: EvictionPolicy>(&mut self, policy: &P) -> Result<MovedWhole, AllocError>
         ensures unrecorded { self.new ≡ record self.old { store = self.new.store } }
         ensures moves { StoreMoves PAGE D.honest D.failures D.held (P.plan_of policy.now)
             self.old.store result self.new.store }

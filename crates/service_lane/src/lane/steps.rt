@@ -5,7 +5,7 @@ ghost use Rattle.service_lane.specs.Counting.{with_flushed, with_moved, with_ref
 
 use super::ServiceLane;
 use klog::Flushed;
-use mover::Moved;
+use mover::MovedWhole;
 use page_device::PageDevice;
 use policy_laws::EvictionPolicy;
 use std::alloc::AllocError;
@@ -30,7 +30,7 @@ impl<D: PageDevice<PAGE>, const PAGE: usize> ServiceLane<D, PAGE> {
     ///
     /// Where memory is refused the tiers stay as they were. Where it is the policy that is refused, a move began, is given
     /// up, and its number is not given again.
-    pub fn move_whole<P: EvictionPolicy>(&mut self, policy: &P) -> Result<Moved, AllocError>
+    pub fn move_whole<P: EvictionPolicy>(&mut self, policy: &P) -> Result<MovedWhole, AllocError>
         ensures moved { IfOk result (λ moved. self.new ≡ record self.old {
           store = self.new.store;
           counts = record self.old.counts { steps = with_moved moved self.old.counts.steps };

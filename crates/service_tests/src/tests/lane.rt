@@ -5,7 +5,7 @@ mod run;
 use self::run::{Found, Step, run};
 use key_hash::RandomSeed;
 use klog::Flushed;
-use mover::{Moved, OpenFault};
+use mover::{MovedWhole, OpenFault};
 use page_device::MemoryDevice;
 use record_pages::{Config, Field, NEVER, Pushed, PutFault};
 use service_lane::{Counts, Filled, LeaseCounts, OpenLaneFault, ServiceLane, Upkept};
@@ -65,12 +65,12 @@ const EACH_TIER: [Step; 15] = [
     Step::Flush(Flushed::Sealed),
     Step::Flush(Flushed::Wrote),
     Step::Get(b"ax", 8, Found::Log(b"1")),
-    Step::Move(Moved::Written),
+    Step::Move(MovedWhole::Written),
     Step::Get(b"ax", 8, Found::Set(b"1")),
     Step::Get(b"ax", 9, Found::Expired),
     Step::Remove(b"ax"),
     Step::Get(b"ax", 8, Found::Absent),
-    Step::Move(Moved::Freed),
+    Step::Move(MovedWhole::Freed),
 ];
 
 #[test]
@@ -138,7 +138,7 @@ const APART: [Step; 8] = [
     Step::TooLarge(b"ax", &[7; 225]),
     Step::Get(b"ax", 0, Found::Absent),
     Step::Flush(Flushed::Nothing),
-    Step::Move(Moved::Nothing),
+    Step::Move(MovedWhole::Nothing),
     Step::Fill(0, b"ax", b"2", Filled::Stored(Pushed::Logged)),
 ];
 
@@ -199,8 +199,8 @@ const TENDED: [Step; 13] = [
     Step::Put(b"ex", &FULL, NEVER, Pushed::Logged),
     Step::Put(b"fx", &FULL, NEVER, Pushed::Logged),
     Step::Help(1, true),
-    Step::Tend(Upkept::Moved(Moved::Written), true, true),
-    Step::Tend(Upkept::Moved(Moved::Freed), false, false),
+    Step::Tend(Upkept::Moved(MovedWhole::Written), true, true),
+    Step::Tend(Upkept::Moved(MovedWhole::Freed), false, false),
 ];
 
 #[test]

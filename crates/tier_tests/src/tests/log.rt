@@ -18,7 +18,7 @@ mod step;
 use self::owner::Owner;
 use self::step::{Kept, Step, run};
 use klog::{
-    Appended, Flushed, KLog, Located, Oldest, Readmitted, SetTaken, TakenRecord, TakenRecords,
+    Appended, Flushed, KLog, LocatedInLog, Oldest, Readmitted, SetTaken, TakenRecord, TakenRecords,
 };
 use klog_index::{Entry, Place};
 use page_device::{FuseDevice, MemoryDevice, PageDevice};

@@ -13,7 +13,7 @@ mod striking;
 
 use self::owner::Owner;
 use self::step::{Listed, Step, run};
-use kset::{KSet, Located, Rewritten, SetRead, SetRecord};
+use kset::{KSet, LocatedInSet, Rewritten, SetRead, SetRecord};
 use page_device::{FuseDevice, MemoryDevice, PageDevice};
 use record_pages::{
     Config, Key, Layout, Looked, MAX_SET_RECORDS, Prediction, Record, SetPageWriter,

@@ -1,6 +1,6 @@
 use Rattle.std.proofs.Common.{inl, arith, ◌∙◌}
 use Rattle.record_pages.specs.PageText.{log_head, SpellsLogForm}
-use Rattle.record_pages.specs.declared.form.Form.TheVariants.{Timed}
+use Rattle.record_pages.specs.declared.form.RecordForm.TheVariants.{Timed}
 use Rattle.record_pages.proofs.MakingLaws.{Written, log_page_written}
 use Rattle.record_pages.proofs.encode.encode_log_page.Goals as goal
 

@@ -1,7 +1,7 @@
 use Rattle.std.proofs.Common.{◌+◌, ◌++◌, take, ap, ◌∙◌}
 use Rattle.record_pages.specs.Recs.{size}
 use Rattle.record_pages.specs.PageText.{record_text}
-use Rattle.record_pages.specs.declared.form.Form.TheVariants.{Timed}
+use Rattle.record_pages.specs.declared.form.RecordForm.TheVariants.{Timed}
 use Rattle.record_pages.proofs.MakingLaws.{put_none, put_more}
 use Rattle.record_pages.proofs.put.put_records.Goals as goal
 

@@ -6,7 +6,7 @@ use super::caller::calls;
 use super::trials::{Trial, is_held};
 use super::*;
 use klog::Flushed;
-use mover::Moved;
+use mover::MovedWhole;
 use service_lane::{Upkept, what_is_due};
 
 // How often each lane is tended once, and how many calls are made before each time: so many bring about that upkeep is due.
@@ -32,7 +32,7 @@ fn counted<D: PageDevice<256>, L: KeyLanes, J: Naming, R: Wait>(
 // How many pages a step of upkeep has written.
 fn pages_of(did: Upkept) -> u64 {
     match did {
-        Upkept::Flushed(Flushed::Wrote) | Upkept::Moved(Moved::Written) => 1,
+        Upkept::Flushed(Flushed::Wrote) | Upkept::Moved(MovedWhole::Written) => 1,
         _ => 0,
     }
 }

@@ -79,7 +79,7 @@ impl<D: PageDevice<PAGE>, const PAGE: usize> Owner<D, PAGE> {
     }
 
     /// Where the newest record of a key is at a moment.
-    pub(super) fn locate(&mut self, key: &[u8], moment: u64, found: &mut ValueBuffer) -> Located
+    pub(super) fn locate(&mut self, key: &[u8], moment: u64, found: &mut ValueBuffer) -> LocatedInLog
         requires { IsPageSize PAGE }
     {
         let placed = self.placed(key);

@@ -8,7 +8,7 @@ ghost use Rattle.record_pages.specs.Recs.{Rec};
 ghost use Rattle.klog_index.specs.declared.entry.Entry.{Entry};
 ghost use Rattle.record_pages.specs.declared.looked.Looked.{Looked};
 ghost use Rattle.klog_index.specs.Entries.{is_in, of_tag, lowered};
-ghost use Rattle.klog.specs.declared.located.Located.{Located};
+ghost use Rattle.klog.specs.declared.located_in_log.LocatedInLog.{LocatedInLog};
 ghost use Rattle.klog.specs.declared.readmitted.Readmitted.{Readmitted};
 ghost use Rattle.klog.specs.Names.{HasRoom, flushed_number, device_page};
 ghost use Rattle.klog.specs.Shown.{IsSpelledOn, live_on, newest_with, place_in};
@@ -170,23 +170,23 @@ pub fn touch_what_is_located<D: PageDevice<PAGE>, const PAGE: usize>(
     key: &[u8],
     moment: u64,
     found: &mut ValueBuffer,
-) -> Located
+) -> LocatedInLog
     requires page_size { IsPageSize PAGE }
     requires pages { HasRoom (D.page_count device.old) log.old }
     requires place { placed.now ≡ place_in log.old.shape key.now }
     ensures looks { LogLooks PAGE D.page_count D.honest D.failures D.held placed.now key.now moment log.old
         device.old (Ok (looked_of result found.new)) log.new device.new }
-    ensures expired { result ≡ Located.Expired → log.new ≡ log.old }
+    ensures expired { result ≡ LocatedInLog.Expired → log.new ≡ log.old }
 {
     match log.locate(device, placed, key, moment, found) {
-        Located::Hit(entry) => {
+        LocatedInLog::Hit(entry) => {
             log.touch(&entry);
-            Located::Hit(entry)
+            LocatedInLog::Hit(entry)
         }
-        Located::Expired => Located::Expired,
-        Located::Absent => Located::Absent,
-        Located::Fault => Located::Fault,
-        Located::Damaged => Located::Damaged,
+        LocatedInLog::Expired => LocatedInLog::Expired,
+        LocatedInLog::Absent => LocatedInLog::Absent,
+        LocatedInLog::Fault => LocatedInLog::Fault,
+        LocatedInLog::Damaged => LocatedInLog::Damaged,
     }
 }
 
@@ -208,7 +208,7 @@ pub fn locate_newest<D: PageDevice<PAGE>, const PAGE: usize>(
         (newest_with (live_on (D.held device.old) log.now) key.now) ≡ Some e) }
     ensures its { IfSome result (λ e. Contains (of_tag placed.now.set placed.now.tag log.now.entries) e) }
 {
-    let Located::Hit(entry) = log.locate(device, placed, key, moment, found) else {
+    let LocatedInLog::Hit(entry) = log.locate(device, placed, key, moment, found) else {
         return None;
     };
     Some(entry)

@@ -104,7 +104,7 @@ fn moves<D: PageDevice<PAGE>, const PAGE: usize>(owner: &mut Owner<D, PAGE>, ste
             is_located(owner, key, *place, *prediction, held)
         }
         Step::LocateNone(key, wanted) => { is_missed(locate_none(owner, key, EXPIRES - 1), wanted) }
-        Step::LocateLate(key) => locate_none(owner, key, EXPIRES) == Some(Located::Expired),
+        Step::LocateLate(key) => locate_none(owner, key, EXPIRES) == Some(LocatedInLog::Expired),
         Step::Touch(key) => is_touched(owner, key),
         Step::Flush(wanted) => owner.flush() == *wanted,
         Step::First(tag, place, prediction) => is_first(owner.oldest(), *tag, *place, *prediction),
@@ -144,7 +144,7 @@ fn is_located<D: PageDevice<PAGE>, const PAGE: usize>(
 {
     let mut found = ValueBuffer::empty();
     found.set(WAS_HELD);
-    let Located::Hit(entry) = owner.locate(key, EXPIRES - 1, &mut found) else {
+    let LocatedInLog::Hit(entry) = owner.locate(key, EXPIRES - 1, &mut found) else {
         return false;
     };
     let placed = owner.placed(key);
@@ -160,7 +160,7 @@ fn locate_none<D: PageDevice<PAGE>, const PAGE: usize>(
     owner: &mut Owner<D, PAGE>,
     key: &[u8],
     moment: u64,
-) -> Option<Located>
+) -> Option<LocatedInLog>
     requires { IsPageSize PAGE }
 {
     let mut found = ValueBuffer::empty();
@@ -172,11 +172,11 @@ fn locate_none<D: PageDevice<PAGE>, const PAGE: usize>(
     Some(located)
 }
 
-fn is_missed(located: Option<Located>, wanted: &Seen) -> bool {
+fn is_missed(located: Option<LocatedInLog>, wanted: &Seen) -> bool {
     match (located, wanted) {
-        (Some(Located::Absent), Seen::Absent) => true,
-        (Some(Located::Fault), Seen::Fault) => true,
-        (Some(Located::Damaged), Seen::Damaged) => true,
+        (Some(LocatedInLog::Absent), Seen::Absent) => true,
+        (Some(LocatedInLog::Fault), Seen::Fault) => true,
+        (Some(LocatedInLog::Damaged), Seen::Damaged) => true,
         _ => false,
     }
 }
@@ -189,7 +189,7 @@ fn is_touched<D: PageDevice<PAGE>, const PAGE: usize>(
     requires { IsPageSize PAGE }
 {
     let mut found = ValueBuffer::empty();
-    let Located::Hit(entry) = owner.locate(key, EXPIRES - 1, &mut found) else {
+    let LocatedInLog::Hit(entry) = owner.locate(key, EXPIRES - 1, &mut found) else {
         return false;
     };
     owner.touch(&entry);

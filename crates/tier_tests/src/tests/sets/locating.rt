@@ -2,7 +2,7 @@
 //! until a slot is touched.
 use super::step::WAS_HELD;
 use super::*;
-use kset::Located::{Absent, Damaged, Fault, Hit};
+use kset::LocatedInSet::{Absent, Damaged, Fault, Hit};
 
 // A key may have 255 bytes.
 const TOO_LONG: [u8; 256] = [b'a'; 256];

@@ -70,7 +70,7 @@ impl<D: PageDevice<PAGE>, const PAGE: usize> Owner<D, PAGE> {
     }
 
     /// What is located of the bytes of a key.
-    pub(super) fn locate(&mut self, key: &[u8], moment: u64, found: &mut ValueBuffer) -> Located
+    pub(super) fn locate(&mut self, key: &[u8], moment: u64, found: &mut ValueBuffer) -> LocatedInSet
         requires { IsPageSize PAGE }
     {
         let placed = place(&self.layout, key);

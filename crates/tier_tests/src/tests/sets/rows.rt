@@ -8,7 +8,7 @@ ghost use Rattle.kset.specs.Notes.{lets_show};
 ghost use Rattle.kset.specs.Sets.{set_count, notes_of, IsPlaceIn};
 ghost use Rattle.kset.specs.Pages.{AreSpelledOn};
 ghost use Rattle.kset.specs.Shown.{first_visible, visible_in};
-ghost use Rattle.kset.specs.declared.located.Located.{Located};
+ghost use Rattle.kset.specs.declared.located_in_set.LocatedInSet.{LocatedInSet};
 ghost use Rattle.record_pages.specs.declared.looked.Looked.{Looked};
 ghost use Rattle.kset.specs.declared.set_read.SetRead.{SetRead};
 ghost use Rattle.kset.specs.declared.set_record.SetRecord.{SetRecord};
@@ -98,7 +98,7 @@ pub fn locate_the_first<D: PageDevice<PAGE>, const PAGE: usize>(
     key: &[u8],
     moment: u64,
     found: &mut ValueBuffer,
-) -> Located
+) -> LocatedInSet
     requires page_size { IsPageSize PAGE }
     requires room { set_count sets.now ≤ D.page_count device.old }
     requires place { IsPlaceIn sets.now placed.now }
@@ -107,7 +107,7 @@ pub fn locate_the_first<D: PageDevice<PAGE>, const PAGE: usize>(
     requires spelled { AreSpelledOn PAGE (D.held device.old) sets.now }
     ensures { (first : ℕ × Rec) →
         first_visible (visible_in (D.held device.old) sets.now placed.now.set) key.now ≡ Some first →
-        (slot : ℕ) → slot ≢ first.0 → result ≢ Located.Hit slot }
+        (slot : ℕ) → slot ≢ first.0 → result ≢ LocatedInSet.Hit slot }
 {
     sets.locate(device, placed, key, moment, found)
 }

@@ -23,7 +23,7 @@ pub enum Step {
     /// A key whose record has expired at the moment when it expires, and at none before.
     LookLate(&'static [u8]),
     /// The bytes of a key, what is located of them, and what is in the buffer then.
-    Locate(&'static [u8], Located, &'static [u8]),
+    Locate(&'static [u8], LocatedInSet, &'static [u8]),
     /// The bytes of a key whose record has expired at the moment when it expires, which leaves the buffer.
     LocateLate(&'static [u8]),
     /// The bytes of a key, and the slot of its set that is touched.
@@ -71,7 +71,7 @@ fn gives<D: PageDevice<PAGE>, const PAGE: usize>(
         Step::Locate(key, wanted, held) => {
             Ok(is_located(owner, key, EXPIRES - 1, *wanted, held))
         }
-        Step::LocateLate(key) => Ok(is_located(owner, key, EXPIRES, Located::Expired, WAS_HELD)),
+        Step::LocateLate(key) => Ok(is_located(owner, key, EXPIRES, LocatedInSet::Expired, WAS_HELD)),
         Step::Touch(key, slot) => Ok(touches(owner, key, *slot)),
         Step::WriteOf(key, pairs) => Ok(
             rewrite_of(alloc, owner, key, pairs)? == Rewritten::Written,
@@ -108,7 +108,7 @@ fn is_located<D: PageDevice<PAGE>, const PAGE: usize>(
     owner: &mut Owner<D, PAGE>,
     key: &[u8],
     moment: u64,
-    wanted: Located,
+    wanted: LocatedInSet,
     held: &[u8],
 ) -> bool
     requires { IsPageSize PAGE }

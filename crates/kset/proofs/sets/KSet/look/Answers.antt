@@ -1,5 +1,5 @@
 use Rattle.std.proofs.Common.{List, ℕ, subst, ◌∙◌}
-use Rattle.kset.specs.declared.located.Located.TheVariants.{Hit}
+use Rattle.kset.specs.declared.located_in_set.LocatedInSet.TheVariants.{Hit}
 use Rattle.kset.proofs.LocateLaws.{Locates, looks-hit}
 use Rattle.kset.proofs.sets.KSet.look.Goals as goal
 

@@ -5,7 +5,7 @@ use Rattle.record_pages.specs.declared.answer.Answer.TheVariants.{Hit, Miss}
 use Rattle.record_pages.specs.declared.looked.Looked.TheVariants as look
 use Rattle.record_pages.specs.declared.miss_cause.MissCause.TheVariants.{Expired, Fault, Damaged}
 use Rattle.record_pages.specs.declared.tier.Tier.TheVariants.{Log}
-use Rattle.klog.specs.declared.located.Located.TheVariants as in_log
+use Rattle.klog.specs.declared.located_in_log.LocatedInLog.TheVariants as in_log
 use Rattle.kset.specs.Locate.{looked_of, sets_after}
 use Rattle.mover.specs.Get.{answer_of_set}
 use Rattle.mover.specs.Store.{StoreState}

@@ -2,7 +2,7 @@ use Rattle.std.proofs.Common.{inl, ◌+◌, ◌++◌, take, arith, ap, subst, �
 use Rattle.std.specs.Int.{w16, to_be_bytes}
 use Rattle.record_pages.specs.Recs.{Rec}
 use Rattle.record_pages.specs.PageText.{log_head, SpellsLogForm}
-use Rattle.record_pages.specs.declared.form.Form.TheVariants.{Timed}
+use Rattle.record_pages.specs.declared.form.RecordForm.TheVariants.{Timed}
 use Rattle.record_pages.proofs.MakingLaws.{Written, log_page_written}
 use Rattle.record_pages.proofs.log_page_writer.LogPageWriter.text.Goals as goal
 

@@ -2,7 +2,7 @@
 
 /// What a look-up of a key in a set finds, whose value goes into room of the caller's.
 #[derive(Clone, Copy, Debug, PartialEq, Eq)]
-pub enum Located {
+pub enum LocatedInSet {
     /// The first visible record with the key lies in this slot of the set's page. It is live at the moment, and its
     /// value is in the buffer.
     Hit { slot: usize },

@@ -2,7 +2,7 @@
 
 /// What the record of an entry says of a key.
 #[derive(Clone, Copy, Debug)]
-pub(crate) enum Told {
+pub(crate) enum RecordAnswer {
     /// It has the key and is live at the moment, and its value is in the buffer.
     Hit,
     /// It has the key, and has expired.

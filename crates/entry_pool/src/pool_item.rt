@@ -3,7 +3,7 @@ use record_pages::Prediction;
 
 /// What an index notes of a live record.
 #[derive(Clone, Copy, Debug, PartialEq, Eq)]
-pub struct Item {
+pub struct PoolItem {
     /// The set of its key, below 65536.
     pub set: u32,
     /// The tag of its key.

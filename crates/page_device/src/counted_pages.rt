@@ -9,12 +9,12 @@ use std::marker::Model;
 
 /// A device that counts what it is asked. Else it is that device.
 #[derive(Drop)]
-pub struct Counted<D> {
+pub struct CountedPages<D> {
     device: D,
     counts: DeviceCounts,
 }
 
-impl<D> Model for Counted<D> {
+impl<D> Model for CountedPages<D> {
     ghost use Rattle.page_device.specs.Counting.{CountedDevice};
 
     ghost Value = { CountedDevice D };
@@ -22,12 +22,12 @@ impl<D> Model for Counted<D> {
     ghost view = { λ c. record { device = c.device; counts = c.counts } };
 }
 
-impl<D> Counted<D> {
+impl<D> CountedPages<D> {
     /// The device, with nothing counted yet.
-    pub fn new(device: D) -> Counted<D>
+    pub fn new(device: D) -> CountedPages<D>
         ensures { result ≡ record { device = device; counts = no_device_counts } }
     {
-        Counted {
+        CountedPages {
             device,
             counts: DeviceCounts {
                 pages_read: 0,
@@ -53,7 +53,7 @@ impl<D> Counted<D> {
     }
 }
 
-impl<D: PageDevice<PAGE>, const PAGE: usize> PageDevice<PAGE> for Counted<D> {
+impl<D: PageDevice<PAGE>, const PAGE: usize> PageDevice<PAGE> for CountedPages<D> {
     ghost page_count = { λ c. D.page_count c.device };
 
     ghost honest = { λ c. D.honest c.device };

@@ -3,7 +3,7 @@ use klog_index::Entry;
 
 /// What a search for a key in the log finds at a moment.
 #[derive(Clone, Copy, Debug, PartialEq, Eq)]
-pub enum Located {
+pub enum LocatedInLog {
     /// The newest live record with the key is this entry's. It has not expired, and its value is in the buffer.
     Hit(Entry),
     /// The newest live record with the key has expired.
