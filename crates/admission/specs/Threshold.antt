@@ -4,7 +4,7 @@ use Rattle.record_pages.specs.Sizes.{entering_prediction}
 use Rattle.admission.specs.declared.judgement.Judgement.{Judgement}
 use Rattle.admission.specs.declared.judgement.Judgement.TheVariants.{Move, Readmit, Drop}
 
--- objects of a set move where there are as many as the threshold; else one that was hit in the log, so that its
+-- objects of a set move if there are as many as the threshold; otherwise one that was hit in the log, so that its
 -- prediction is below the one that it entered with, enters again, and one that was not is dropped
 abbrev pub judgement_of : ℕ → ℕ → ℕ → Judgement
 judgement_of least count prediction =

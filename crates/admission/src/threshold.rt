@@ -12,7 +12,7 @@ pub struct Threshold {
 }
 
 impl Threshold {
-    /// What becomes of an object with this prediction, where the log holds so many objects of its set. With a lower
+    /// What becomes of an object with this prediction, if the log holds this many objects of its set. With a lower
     /// prediction than `Prediction::ENTERING` it was hit there.
     pub fn judge(&self, count: usize, prediction: Prediction) -> Judgement
         ensures { result ≡ judgement_of self.now.least count prediction }

@@ -18,7 +18,7 @@ set_bits words = passing_below (has_bit words) 256
 abbrev pub with_bits : FinSet nat_cmp → List ℕ → FinSet nat_cmp
 with_bits filter probes = union filter (from_list probes)
 
--- a filter admits what asks for these bits where it has each of them
+-- a filter admits what asks for these bits if it has each of them
 abbrev pub admits : FinSet nat_cmp → List ℕ → Bool
 admits filter probes = list_all (contains filter) probes
 

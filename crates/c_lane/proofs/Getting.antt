@@ -27,7 +27,7 @@ miss_is_miss Fault is = absurd (cc)
 miss_is_miss Damaged is = absurd (cc)
 
 module _ {D : Type 0} (laws : Laws D) (key : List ℕ) (moment : ℕ) (buffer : List ℕ) (old : LaneState D) (status : Status) (mid : LaneState D) (into : List ℕ) (hit : Told) (writes : ℕ) where
-  -- a get that missed, and the lease behind it
+  -- a get that missed, and the lease after it
   pub leased : (new : LaneState D) (lease : ℕ) → Answers laws key moment buffer old status mid into hit → is_miss_status status ≡ true →
       new.serving ≡ record mid.serving { counts = record mid.serving.counts { leases = with_given mid.serving.counts.leases } } → lease ≡ writes_for mid.serving.slots key → new.words ≡ mid.words →
       AnswersOrLeases laws key moment buffer writes old status new into hit lease

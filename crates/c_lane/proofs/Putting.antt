@@ -28,7 +28,7 @@ module _ {D : Type 0} (laws : Laws D) (key value : List ℕ) (expires : ℕ) (ol
   word_is : word ≡ next_word old.words
   word_is = ap (λ (p : ℕ × Lcg). p.0) drawn
 
-  -- a put that the lane stored, and the help behind it
+  -- a put that the lane stored, and the help after it
   pub stored : PutsStore page_bytes (held_in laws) (pair_of k v expires) word pushed old.serving between → Stores laws key value expires old (record { serving = after; words = words })
   stored puts = record {
     pushed = pushed;
@@ -43,7 +43,7 @@ module _ {D : Type 0} (laws : Laws D) (key value : List ℕ) (expires : ℕ) (ol
     words = ap (λ (p : ℕ × Lcg). p.1) drawn;
   }
 
-  -- a fill that the lane stored, and the help behind it
+  -- a fill that the lane stored, and the help after it
   pub filled : (writes : ℕ) → (¬ ¬ HoldsLease old.serving.slots k writes) → FillsStore page_bytes (held_in laws) (pair_of k v expires) word writes pushed old.serving between →
       Fills laws writes key value expires old (record { serving = after; words = words })
   filled writes held fills = record {

@@ -7,6 +7,6 @@ use Rattle.c_lane.specs.declared.status.Status.TheVariants.{Done, ShortBuffer}
 abbrev pub copy_status : List ℕ → List ℕ → Status
 copy_status value buffer = if nat_le (length value) (length buffer) then Done else ShortBuffer
 
--- a buffer with a value at its front, where it fits; else as it was
+-- a buffer with a value at its front, if it fits; otherwise as it was
 abbrev pub copied_into : List ℕ → List ℕ → List ℕ
 copied_into value buffer = if nat_le (length value) (length buffer) then value ++ drop (length value) buffer else buffer

@@ -39,7 +39,7 @@ abbrev pub status_of : Answer → List ℕ → Status
 status_of (Hit value tier) buffer = copy_status value buffer
 status_of (Miss cause) buffer = status_of_miss cause
 
--- what a buffer holds behind an answer
+-- what a buffer holds after an answer
 abbrev pub buffer_after : Answer → List ℕ → List ℕ
 buffer_after (Hit value tier) buffer = copied_into value buffer
 buffer_after (Miss cause) buffer = buffer
@@ -61,7 +61,7 @@ pub record Answers {D : Type 0} (laws : Laws D) (key : List ℕ) (moment : ℕ) 
   pub words : new.words ≡ old.words
   pub tells : TellsAnswer answer buffer status into hit
 
--- what comes behind an answer: at a miss a lease, which is counted; at a hit nothing
+-- what comes after an answer: at a miss a lease, which is counted; at a hit nothing
 abbrev pub LeasedAfter : {D : Type 0} → Answer → List ℕ → ℕ → Serving (CountedDevice D) → Serving (CountedDevice D) → ℕ → Type 0
 LeasedAfter (Hit value tier) key writes between new lease = (new ≡ between) × (lease ≡ writes)
 LeasedAfter (Miss cause) key writes between new lease =

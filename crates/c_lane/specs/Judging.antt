@@ -33,11 +33,11 @@ abbrev pub IsLineBy : Result Trace TraceFault → Status → List ℕ → Type 0
 IsLineBy (Ok trace) status line = IsLineOfTrace trace status line
 IsLineBy (Err fault) status line = IsLineOfFault fault status line
 
--- the status and the line of some bytes: of their verdict where they are a trace, else of their first fault
+-- the status and the line of some bytes: of their verdict if they are a trace, else of their first fault
 abbrev pub IsLineFor : List ℕ → Status → List ℕ → Type 0
 IsLineFor bytes status line = IsLineBy (outcome_of bytes) status line
 
--- a buffer with so many bytes of a text at its front
+-- a buffer with this many bytes of a text at its front
 abbrev pub front_written : List ℕ → List ℕ → ℕ → List ℕ
 front_written text buffer len = take len text ++ drop len buffer
 

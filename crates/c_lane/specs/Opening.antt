@@ -29,12 +29,12 @@ pub record Opens {D : Type 0} (s : LaneShape) (seed : Seed) (number : ℕ) (devi
   }
   pub words : lane.words ≡ words_for (seed_of seed) number
 
--- a lane of a shape can be opened over so many pages, memory aside
+-- a lane of a shape can be opened over this many pages, memory aside
 pub record CanOpen (s : LaneShape) (pages : ℕ) : Type 0 where
   pub numbers : first_faulty_field s ≡ None
   pub enough : file_pages s.sets s.segments s.segment_pages ≤ pages
 
--- When each refusal comes, over so many pages.
+-- When each refusal comes, over this many pages.
 abbrev pub RefusesOpening : LaneShape → ℕ → Status → Type 0
 RefusesOpening s pages statuses.WrongOptions = ¬ CanOpen s pages
 RefusesOpening s pages statuses.NoMemory = CanOpen s pages

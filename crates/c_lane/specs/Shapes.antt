@@ -101,7 +101,7 @@ pub record IsLayoutOf (s : LaneShape) (layout : Layout) : Type 0 where
   pub least_slots : 1 ≤ s.lease_slots
   pub most_slots : s.lease_slots ≤ MAX_LEASE_SLOTS
 
--- the shape with slots for leases: where it has none, as many as sizes would give a lane of its sets
+-- the shape with slots for leases: if it has none, as many as sizes would give a lane of its sets
 abbrev pub with_slots : LaneShape → LaneShape
 with_slots s = record s { lease_slots = if s.lease_slots == 0 then lease_slots_of s.sets else s.lease_slots }
 
@@ -176,6 +176,6 @@ abbrev pub SizesBy : Option ShapeField → LaneShape → ℕ → Sizes → Type 
 SizesBy None s object_bytes sizes = SizesOfParts s object_bytes sizes
 SizesBy (Some field) s object_bytes sizes = sizes ≡ no_sizes
 
--- the sizes of a shape: zeros where a number of it is out of its range
+-- the sizes of a shape: zeros if a number of it is out of its range
 abbrev pub SizesOf : LaneShape → ℕ → Sizes → Type 0
 SizesOf s object_bytes sizes = SizesBy (first_faulty_field s) s object_bytes sizes

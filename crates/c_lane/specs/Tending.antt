@@ -15,11 +15,11 @@ number_of_did (upkept.Flushed flushed) = 1
 number_of_did (upkept.Moved moved) = 2
 number_of_did upkept.OutOfMemory = 3
 
--- what is told of a step
+-- what is reported of a step
 abbrev pub step_with : Upkept → Bool → Bool → Step
 step_with did asked is_due = record { did = number_of_did did; asked_device = from_bool asked; is_due = from_bool is_due }
 
--- A step of upkeep: the lane did what was due, and what is told is what it did.
+-- A step of upkeep: the lane did what was due, and what is reported is what it did.
 pub record Tends {D : Type 0} (laws : Laws D) (old : LaneState D) (told : Step) (new : LaneState D) : Type 0 where
   pub did : Upkept
   pub upkept : Upkeeps page_bytes (honest_in laws) (failures_in laws) (held_in laws) rriparoo_plan old.serving did new.serving

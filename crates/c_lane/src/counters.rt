@@ -26,7 +26,7 @@ pub struct Counters {
     pub damaged: u64,
     /// Puts that were stored.
     pub puts: u64,
-    /// Removals, those behind refused puts too.
+    /// Removals, those after refused puts too.
     pub removes: u64,
     /// Leases that were given.
     pub leases_given: u64,

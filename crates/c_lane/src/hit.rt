@@ -4,13 +4,13 @@ ghost use Rattle.c_lane.specs.Getting.{no_hit, hit_with};
 
 use record_pages::Tier;
 
-/// What a get tells of its hit; all zeros where there is none.
+/// What a get tells of its hit; all zeros if there is none.
 #[repr(C)]
 #[derive(Clone, Copy, Debug, PartialEq, Eq)]
 pub struct Hit {
     /// Bytes of the value.
     pub length: u64,
-    /// Where it was found: 1 in memory, 2 in the log, 3 in a set; 0 where there is no hit.
+    /// Where it was found: 1 in memory, 2 in the log, 3 in a set; 0 if there is no hit.
     pub tier: u32,
     /// Always 0.
     pub reserved: u32,

@@ -9,10 +9,10 @@ use std::alloc::{AllocError, Global};
 use trace_file::{Trace, TraceFault, TraceReader};
 
 /// Judges a trace, and writes the line of its verdict, without line feed, to the front of a buffer of 64 bytes or more: `Done`
-/// where it is accepted, `Rejected`, or `BadTrace`. `length` becomes the line's. `NoMemory` where memory was refused: then the
+/// if it is accepted, `Rejected`, or `BadTrace`. `length` becomes the line's. `NoMemory` if memory was refused: then the
 /// buffer is as it was and the length is 0.
 ///
-/// The seed is that of the table of its keys: draw it at random where a stranger wrote the trace.
+/// The seed is that of the table of its keys: draw it at random if a stranger wrote the trace.
 pub fn judge_trace(
     alloc: Global,
     seed: &Seed,
@@ -36,7 +36,7 @@ pub fn judge_trace(
 
 // What was judged, and the line that says it.
 #[derive(Drop)]
-struct Judgement {
+struct JudgedLine {
     status: Status,
     line: String,
 }
@@ -45,7 +45,7 @@ ghost use Rattle.std.specs.Prelude.{IfOk, length, min, string_bytes};
 ghost use Rattle.c_lane.specs.Judging.{IsLineFor, IsLineOfTrace, IsLineOfFault, front_written};
 
 // The judgement on the bytes of a trace.
-fn judgement_of(alloc: Global, seed: &Seed, bytes: &[u8]) -> Result<Judgement, AllocError>
+fn judgement_of(alloc: Global, seed: &Seed, bytes: &[u8]) -> Result<JudgedLine, AllocError>
     ensures { IfOk result (λ j. IsLineFor bytes.now j.status (string_bytes j.line)) }
 {
     match read(alloc, bytes) {
@@ -82,31 +82,31 @@ fn read(alloc: Global, bytes: &[u8]) -> Result<Trace, TraceFault>
 }
 
 // The judgement on a trace.
-fn on_trace(alloc: Global, seed: &Seed, trace: &Trace) -> Result<Judgement, AllocError>
+fn on_trace(alloc: Global, seed: &Seed, trace: &Trace) -> Result<JudgedLine, AllocError>
     ensures { IfOk result (λ j. IsLineOfTrace trace.now j.status (string_bytes j.line)) }
 {
     let calls = trace.history.len();
     let verdict = check_with_hasher(alloc, seed.random(), &trace.history, &trace.certificate)?;
     match verdict {
-        Verdict::Accepted => Ok(Judgement {
+        Verdict::Accepted => Ok(JudgedLine {
             status: Status::Done,
             line: format!(in alloc; "accepted {calls} calls")?,
         }),
-        Verdict::Rejected(fault) => Ok(Judgement {
+        Verdict::Rejected(fault) => Ok(JudgedLine {
             status: Status::Rejected,
             line: format!(in alloc; "rejected {fault}")?,
         }),
     }
 }
 
-// The judgement on what is no trace. Where memory was refused for it there is none.
-fn on_fault(alloc: Global, fault: TraceFault) -> Result<Judgement, AllocError>
+// The judgement on what is no trace. If memory was refused for it there is none.
+fn on_fault(alloc: Global, fault: TraceFault) -> Result<JudgedLine, AllocError>
     ensures { IfOk result (λ j. IsLineOfFault fault j.status (string_bytes j.line)) }
 {
     if let TraceFault::OutOfMemory = fault {
         return Err(AllocError);
     }
-    Ok(Judgement {
+    Ok(JudgedLine {
         status: Status::BadTrace,
         line: format!(in alloc; "bad trace {fault}")?,
     })

@@ -45,8 +45,8 @@ impl<D: PageDevice<4096>> Model for CLane<D> {
 impl<D: PageDevice<4096>> CLane<D> {
     ghost use Rattle.c_lane.specs.Counting.{counters_of};
 
-    /// An empty lane over a device. `WrongOptions` comes where the shape has a number out of its range or the device has too few
-    /// pages for it, `NoMemory` where memory was refused; the device is dropped with both.
+    /// An empty lane over a device. `WrongOptions` comes if the shape has a number out of its range or the device has too few
+    /// pages for it, `NoMemory` if memory was refused; the device is dropped with both.
     ///
     /// The number is the lane's among those of the cache: it and the seed start the generator of its words, and seed its table and its slots.
     pub fn open(
@@ -96,7 +96,7 @@ impl<D: PageDevice<4096>> CLane<D> {
 ghost use Rattle.std.specs.Prelude.{MatchOption};
 ghost use Rattle.c_lane.specs.Shapes.{IsLayoutOf};
 
-// The layout of each shard of a shape whose numbers are in their ranges, where so many pages are enough for a lane.
+// The layout of each shard of a shape whose numbers are in their ranges, if this many pages are enough for a lane.
 fn fitting(shape: &LaneShape, pages: u32) -> Option<Layout>
     ensures { MatchOption result (¬ CanOpen shape.now pages)
         (λ layout. CanOpen shape.now pages × IsLayoutOf shape.now layout) }

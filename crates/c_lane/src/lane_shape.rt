@@ -25,7 +25,7 @@ pub struct LaneShape {
     pub entries: u32,
     /// Slots of a lane for leases, 1 to 1,048,576.
     pub lease_slots: u32,
-    /// So many objects of a set move to it together, 1 to 32.
+    /// This many objects of a set move to it together, 1 to 32.
     pub threshold: u32,
     /// How many of 65,536 objects that leave memory enter the log, 0 to 65,536.
     pub admit: u32,
@@ -34,7 +34,7 @@ pub struct LaneShape {
 impl LaneShape {
     ghost use Rattle.c_lane.specs.Shapes.{config_of, first_faulty_field, HasPartsOf, IsLayoutOf, with_slots};
 
-    /// Gives the shape slots for leases, where it has 0: as many as sizes would give a lane of its sets.
+    /// Gives the shape slots for leases, if it has 0: as many as sizes would give a lane of its sets.
     #[tactic(auto, unfolding(cache_sizes::specs::Memory::lease_slots_of))]
     pub fn give_slots(&mut self)
         ensures { self.new ≡ with_slots self.old }

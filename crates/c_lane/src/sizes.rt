@@ -28,7 +28,7 @@ pub struct Sizes {
 impl Sizes {
     ghost use Rattle.c_lane.specs.Shapes.{SizesOf};
 
-    /// What a cache of this shape takes and holds, with typical objects of so many bytes; all zeros where a number of the shape
+    /// What a cache of this shape takes and holds, with typical objects of this many bytes; all zeros if a number of the shape
     /// is out of its range.
     pub fn of(shape: &LaneShape, object_bytes: u32) -> Sizes
         ensures { SizesOf shape.now object_bytes result }

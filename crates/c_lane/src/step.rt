@@ -10,9 +10,9 @@ use service_lane::{UpkeepStep, Upkept};
 pub struct Step {
     /// 0 nothing was due, 1 a page of the log was to be written, 2 records were to move, 3 they were and memory was refused.
     pub did: u32,
-    /// 1 where the device may have been asked, else 0.
+    /// 1 if the device may have been asked, else 0.
     pub asked_device: u32,
-    /// 1 where something is due behind it, else 0.
+    /// 1 if something is due after it, else 0.
     pub is_due: u32,
 }
 

@@ -43,6 +43,6 @@ few_lanes lanes h =
       | inr few ↦ omega (arith, mul-le shards each 1 lanes (omega arith) (omega arith))
     ]
 
--- each of them has three pages, where there are three
+-- each of them has three pages, if there are three
 pub lanes_have_pages : (pages lanes all : ℕ) → 3 ≤ pages → 1 ≤ lanes → lanes * 1024 ≤ max 1024 pages → 1 ≤ all → all + 1 ≤ 2 * lanes → 3 ≤ pages / all
 lanes_have_pages pages lanes all h some wide least few = le-div 3 pages all least (omega arith)

@@ -20,7 +20,7 @@ segments_of pages = max MIN_SEGMENTS (min (log_share pages / segment_pages_of pa
 abbrev pub log_pages_of : ℕ → ℕ
 log_pages_of pages = segments_of pages * segment_pages_of pages
 
--- the number, or one less where it is even: a set and the bits of its filter come from one hash, and an odd number of sets keeps
+-- the number, or one less if it is even: a set and the bits of its filter come from one hash, and an odd number of sets keeps
 -- them apart
 abbrev pub odd_of : ℕ → ℕ
 odd_of number = if number % 2 == 0 then number - 1 else number

@@ -5,7 +5,7 @@ use Rattle.record_pages.specs.declared.limits.TheConstants.{MAX_LANES}
 use Rattle.cache_sizes.specs.declared.limits.TheConstants.{MAX_ODD_SETS}
 use Rattle.cache_sizes.specs.declared.proportions.TheConstants.{SETS_PERCENT, LANES_FOR_THREAD, LEAST_LANE_PAGES}
 
--- the lanes that the sets on so many pages need: 95 pages of 100 are of sets
+-- the lanes that the sets on this many pages need: 95 pages of 100 are of sets
 unfoldable pub lanes_for_sets : ℕ → ℕ
 lanes_for_sets pages = div_ceil (SETS_PERCENT * pages) (100 * MAX_ODD_SETS)
 
@@ -14,7 +14,7 @@ lanes_for_sets pages = div_ceil (SETS_PERCENT * pages) (100 * MAX_ODD_SETS)
 unfoldable pub lanes_wanted : ℕ → ℕ → ℕ
 lanes_wanted pages threads = max (lanes_for_sets pages) (min (LANES_FOR_THREAD * threads) (max 1 (pages / LEAST_LANE_PAGES)))
 
--- the shards of so many lanes: as few as hold them
+-- the shards of this many lanes: as few as hold them
 unfoldable pub shards_of : ℕ → ℕ
 shards_of lanes = div_ceil lanes MAX_LANES
 

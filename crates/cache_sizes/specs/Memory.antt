@@ -26,7 +26,7 @@ lane_bytes_of sets entries segment_pages lease_slots =
     + ESTIMATED_LEASE_SLOT_BYTES * lease_slots
     + ESTIMATED_LANE_BYTES
 
--- the bytes that an object takes in memory, one in each of so many lanes
+-- the bytes that an object takes in memory, one in each of this many lanes
 unfoldable pub layer_bytes_of : ℕ → ℕ → ℕ
 layer_bytes_of lanes object_bytes = lanes * (object_bytes + ESTIMATED_OBJECT_BYTES)
 

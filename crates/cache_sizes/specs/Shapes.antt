@@ -17,7 +17,7 @@ use Rattle.cache_sizes.specs.Wanting.{lanes_of, lane_pages_for, all_lanes_for, e
 abbrev pub all_lanes_of : Shape → ℕ
 all_lanes_of s = s.shards * s.lanes
 
--- the pages of a lane's file: one for each set, and those of the log, which has segments of so many pages
+-- the pages of a lane's file: one for each set, and those of the log, which has segments of this many pages
 abbrev pub file_pages : ℕ → ℕ → ℕ → ℕ
 file_pages sets segments segment_pages = sets + segments * segment_pages
 
@@ -55,7 +55,7 @@ objects_in_logs_of s object_bytes =
     all_lanes_of s * min (s.segments * s.segment_pages * log_records (possible_bytes object_bytes)) s.entries
 
 -- the typical objects that fit in the sets: 93 of 100 that have room on their pages, since keys fall into sets by chance, and
--- where there are more, many find their set full
+-- if there are more, many find their set full
 abbrev pub objects_in_sets_of : Shape → ℕ → ℕ
 objects_in_sets_of s object_bytes = FULL_PERCENT * (all_lanes_of s * s.sets * set_records (possible_bytes object_bytes)) / 100
 

@@ -20,7 +20,7 @@ pub(crate) struct LanePages {
 }
 
 impl LanePages {
-    // The division of so many pages.
+    // The division of this many pages.
     pub(crate) fn of(pages: u64) -> LanePages
         requires { 3 ≤ pages }
         ensures sets { result.sets ≡ sets_of pages }

@@ -6,7 +6,7 @@ use crate::limits::{MAX_ALL_LANES, MAX_ODD_SETS, MAX_SHARDS, MAX_THREADS};
 use crate::proportions::{LANES_FOR_THREAD, LEAST_LANE_PAGES, SETS_PERCENT};
 use record_pages::MAX_LANES;
 
-// The lanes that the sets on so many pages need.
+// The lanes that the sets on this many pages need.
 #[tactic(auto, unfolding(crate::specs::Lanes::lanes_for_sets))]
 pub(crate) fn lanes_for_sets(pages: u64) -> u64
     requires { pages ≤ 2 ^ 52 }
@@ -15,7 +15,7 @@ pub(crate) fn lanes_for_sets(pages: u64) -> u64
     (SETS_PERCENT * pages).div_ceil(100 * u64::from(MAX_ODD_SETS))
 }
 
-// The lanes that are wanted for so many pages and threads.
+// The lanes that are wanted for this many pages and threads.
 #[tactic(auto, unfolding(crate::specs::Lanes::lanes_wanted))]
 pub(crate) fn lanes_wanted(pages: u64, threads: u32) -> u32
     requires pages { pages ≤ 2 ^ 52 }
@@ -31,7 +31,7 @@ pub(crate) fn lanes_wanted(pages: u64, threads: u32) -> u32
     lanes_for_sets(pages).max(for_threads) as u32
 }
 
-// The shards of so many lanes.
+// The shards of this many lanes.
 #[tactic(auto, unfolding(crate::specs::Lanes::shards_of))]
 pub(crate) fn shards_of(lanes: u32) -> u32
     requires least { 1 ≤ lanes }
@@ -43,7 +43,7 @@ pub(crate) fn shards_of(lanes: u32) -> u32
     lanes.div_ceil(MAX_LANES)
 }
 
-// The lanes of a shard, where there are so many in all.
+// The lanes of a shard, if there are this many in all.
 #[tactic(auto, unfolding(crate::specs::Lanes::shard_lanes_of))]
 pub(crate) fn shard_lanes_of(lanes: u32) -> u32
     requires { 1 ≤ lanes }

@@ -23,7 +23,7 @@ pub(crate) fn entries_of(segments: u32, segment_pages: u32, object_bytes: u32) -
     entries.min(u64::from(MAX_ENTRIES)) as u32
 }
 
-// The slots for leases of a lane with so many sets.
+// The slots for leases of a lane with this many sets.
 #[tactic(auto, unfolding(crate::specs::Memory::lease_slots_of))]
 pub(crate) fn lease_slots_of(sets: u32) -> u32
     requires { sets ≤ MAX_SETS }

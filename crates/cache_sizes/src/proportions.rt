@@ -6,7 +6,7 @@ pub(crate) const SETS_PERCENT: u64 = 95;
 // Pages of a lane for each page of its log: with one of 20 enough objects of a set meet in the log to move together.
 pub(crate) const PAGES_FOR_LOG_PAGE: u64 = 20;
 
-// Segments that a log has where its pages are enough for it: two of them are in memory, so they are a small part.
+// Segments that a log has if its pages are enough for it: two of them are in memory, so they are a small part.
 pub(crate) const USUAL_SEGMENTS: u64 = 128;
 
 // Lanes for each thread: with four of them two threads seldom want one lane.

@@ -5,7 +5,7 @@ ghost use Rattle.cache_sizes.specs.Records.{log_records, set_records};
 use crate::limits::{MAX_OBJECT_BYTES, PAGE_BYTES};
 use record_pages::{MAX_LOG_RECORDS, MAX_SET_RECORDS, PAGE_OVERHEAD, RECORD_OVERHEAD};
 
-// How many records of objects of so many bytes lie on a page of a set.
+// How many records of objects of this many bytes lie on a page of a set.
 #[tactic(auto, unfolding(crate::specs::Records::set_records))]
 pub(crate) fn set_records(object_bytes: u32) -> u64
     ensures records { result ≡ set_records object_bytes }
@@ -17,7 +17,7 @@ pub(crate) fn set_records(object_bytes: u32) -> u64
     records.min(MAX_SET_RECORDS as u64)
 }
 
-// How many records of objects of so many bytes lie on a page of the log.
+// How many records of objects of this many bytes lie on a page of the log.
 #[tactic(auto, unfolding(crate::specs::Records::log_records))]
 pub(crate) fn log_records(object_bytes: u32) -> u64
     ensures records { result ≡ log_records object_bytes }

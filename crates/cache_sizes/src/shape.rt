@@ -177,7 +177,7 @@ impl Shape {
             + ESTIMATED_LANE_BYTES
     }
 
-    // Bytes of memory that an object of so many bytes takes, one in each lane.
+    // Bytes of memory that an object of this many bytes takes, one in each lane.
     #[tactic(auto, unfolding(crate::specs::Memory::layer_bytes_of))]
     fn layer_bytes(&self, object_bytes: u32) -> u64
         ensures bytes { result
@@ -197,8 +197,8 @@ impl Shape {
         u64::from(self.all_lanes()) * self.lane_bytes()
     }
 
-    /// Bytes of memory that all lanes take once they are full of objects of so many bytes: an estimate. More bytes than
-    /// `MAX_OBJECT_BYTES` count as those, here and below.
+    /// Bytes of memory that all lanes take once they are full of objects of this many bytes: an estimate. More bytes
+    /// than `MAX_OBJECT_BYTES` count as those, here and below.
     pub fn memory_bytes(&self, object_bytes: u32) -> u64
         ensures bytes { result ≡ memory_bytes_of self.now object_bytes }
         ensures most { result ≤ 2 ^ 47 }
@@ -214,7 +214,7 @@ impl Shape {
         u64::from(self.all_lanes()) * u64::from(self.memory)
     }
 
-    /// Objects of so many bytes that fit in the logs.
+    /// Objects of this many bytes that fit in the logs.
     pub fn objects_in_logs(&self, object_bytes: u32) -> u64
         ensures objects { result ≡ objects_in_logs_of self.now object_bytes }
         ensures most { result ≤ 2 ^ 34 }
@@ -224,7 +224,7 @@ impl Shape {
         u64::from(self.all_lanes()) * records.min(u64::from(self.entries))
     }
 
-    /// Objects of so many bytes that fit in the sets before many of them find theirs full.
+    /// Objects of this many bytes that fit in the sets before many of them find theirs full.
     pub fn objects_in_sets(&self, object_bytes: u32) -> u64
         ensures objects { result ≡ objects_in_sets_of self.now object_bytes }
         ensures most { result ≤ 2 ^ 37 }
@@ -233,7 +233,7 @@ impl Shape {
         FULL_PERCENT * (sets * set_records(object_bytes.min(MAX_OBJECT_BYTES))) / 100
     }
 
-    /// Objects of so many bytes that fit in all, in memory, in the logs and in the sets.
+    /// Objects of this many bytes that fit in all, in memory, in the logs and in the sets.
     pub fn objects(&self, object_bytes: u32) -> u64
         ensures objects { result ≡ objects_of self.now object_bytes }
         ensures most { result ≤ 2 ^ 38 }

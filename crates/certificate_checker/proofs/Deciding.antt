@@ -117,7 +117,7 @@ module _ (h : List Call) (c : List ℕ) where
         hits_latest = nothing_at {o = call_at h c place} _ (rw none refl);
       }
 
-  -- the first of the four tests of a place that fails, where the earlier places are right
+  -- the first of the four tests of a place that fails, if the earlier places are right
   first_here : (place : ℕ) → ((q : ℕ) → q < place → IsRight h c q) → IsWrong place → (fault : Fault) × IsFirstOfPlaces h c (Some fault)
   first_here place right wrong = elim (fault_or_not h c (NotAPlace place)) [
     | inl one ↦ (NotAPlace place, (one, refl, none_before h c place 1 right (λ l. absurd (omega arith)) (λ l. absurd (omega arith)) (λ l. absurd (omega arith)) (λ l. absurd (omega arith))))
@@ -156,7 +156,7 @@ module _ (h : List Call) (c : List ℕ) where
   none_in_round_2 none (OutOfOrder q) b = absurd (omega arith)
   none_in_round_2 none (WrongHit q) b = absurd (omega arith)
 
-  -- the first fault of the places is the first of all, where no interval is bad and the count is right
+  -- the first fault of the places is the first of all, if no interval is bad and the count is right
   none_earlier : ((p : ℕ) → ¬ HasFault h c (BadInterval p)) → ¬ HasFault h c WrongCount → (fault : Fault) → IsFirstOfPlaces h c (Some fault) → (other : Fault) → IsBefore (tested_at other) (tested_at fault) → ¬ HasFault h c other
   none_earlier none count fault first (BadInterval q) b = none q
   none_earlier none count fault first WrongCount b = count

@@ -22,6 +22,6 @@ after_deed key value deed = if bytes_eq deed.key key then after_act value deed.a
 abbrev pub current : List Deed → List ℕ → Option TimedValue
 current deeds key = fold (after_deed key) None deeds
 
--- what a get at a moment is given of it: the value, where there is one and it is live
+-- what a get at a moment is given of it: the value, if there is one and it is live
 abbrev pub given_at : ℕ → Option TimedValue → Option (List ℕ)
 given_at moment value = option_and_then (value_at moment) value

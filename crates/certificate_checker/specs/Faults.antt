@@ -12,7 +12,7 @@ use Rattle.certificate_checker.specs.Latest.{IsLive}
 abbrev pub earlier_calls : List Call → List ℕ → ℕ → List Call
 earlier_calls history certificate place = in_order history (take place certificate)
 
--- the call at a place, where its position has one
+-- the call at a place, if its position has one
 abbrev pub call_at : List Call → List ℕ → ℕ → Option Call
 call_at history certificate place = option_and_then (slice_get history) (slice_get certificate place)
 
@@ -68,12 +68,12 @@ pub record IsFirstFault (history : List Call) (certificate : List ℕ) (fault : 
   pub found : HasFault history certificate fault
   pub first : (other : Fault) → IsBefore (tested_at other) (tested_at fault) → ¬ HasFault history certificate other
 
--- the first fault, or none where there is none
+-- the first fault, or none if there is none
 abbrev pub IsFirstOrNone : List Call → List ℕ → Option Fault → Type 0
 IsFirstOrNone history certificate None = (fault : Fault) → ¬ HasFault history certificate fault
 IsFirstOrNone history certificate (Some fault) = IsFirstFault history certificate fault
 
--- the first position with a bad interval, or none where each is good
+-- the first position with a bad interval, or none if each is good
 abbrev pub IsFirstBadInterval : List Call → Option ℕ → Type 0
 IsFirstBadInterval history None = (position : ℕ) → ¬ HasFault history [] (BadInterval position)
 IsFirstBadInterval history (Some position) =

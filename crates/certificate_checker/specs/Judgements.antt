@@ -37,11 +37,11 @@ abbrev pub IsJudged : Result Trace TraceFault → Judged → List ℕ → Type 0
 IsJudged (Ok trace) judged line = IsTold trace judged line
 IsJudged (Err fault) judged line = (judged ≡ kinds.BadTrace) × (line ≡ bad_trace_line fault)
 
--- these whole bytes are judged so, by this line without its line feed: of the verdict where they are a trace, else of their first fault
+-- these whole bytes are judged so, by this line without its line feed: of the verdict if they are a trace, otherwise of their first fault
 abbrev pub IsVerdictLineOf : List ℕ → Judged → List ℕ → Type 0
 IsVerdictLineOf bytes judged line = IsJudged (outcome_of bytes) judged line
 
--- the line of a read that failed behind so many of these bytes, which have no fault by themselves and were taken from the reader
+-- the line of a read that failed after some of these bytes, which have no fault by themselves and were taken from the reader
 pub record IsFailedReadOf (bytes : List ℕ) (left : Option (List ℕ)) (judged : Judged) (line : List ℕ) : Type 0 where
   pub at : ℕ
   pub within : at ≤ length bytes
@@ -49,12 +49,12 @@ pub record IsFailedReadOf (bytes : List ℕ) (left : Option (List ℕ)) (judged 
   pub taken : Consumes (Some bytes) left (take at bytes)
   pub is : IsJudged (Err (ReadFault at)) judged line
 
--- what reading left: nothing behind a trace, else what its fault leaves
+-- what reading left: nothing after a trace, otherwise what its fault leaves
 abbrev pub IsLeftBy : Result Trace TraceFault → Option (List ℕ) → Option (List ℕ) → Type 0
 IsLeftBy (Ok trace) known left = IsAtEnd left
 IsLeftBy (Err fault) known left = Leaves known left fault
 
--- the verdict line of some bytes, which are the reader's where those are known; or the line of a failed read in them
+-- the verdict line of some bytes, which are the reader's if those are known; or the line of a failed read in them
 pub record IsLineOn (known left : Option (List ℕ)) (judged : Judged) (line : List ℕ) : Type 0 where
   pub read : Result Trace TraceFault
   pub is : IsJudged read judged line

@@ -52,12 +52,12 @@ pub record Stamped : Type 0 where
 abbrev pub stamp : ℕ → Done → Stamped
 stamp lane done = record { lane = lane; done = done }
 
--- the done calls of lanes, one lane after the other, where the first lane has this number
+-- the done calls of lanes, one lane after the other, if the first lane has this number
 abbrev pub stamped_from : ℕ → List (List Done) → List Stamped
 stamped_from number [] = []
 stamped_from number (lane ∷ lanes) = map (stamp number) lane ++ stamped_from (suc number) lanes
 
--- the done calls of lanes, one lane after the other, where the first lane is lane 0
+-- the done calls of lanes, one lane after the other, if the first lane is lane 0
 abbrev pub stamped : List (List Done) → List Stamped
 stamped lanes = stamped_from 0 lanes
 

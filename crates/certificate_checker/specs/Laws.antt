@@ -14,7 +14,7 @@ use Rattle.certificate_checker.specs.Lanes.{Done, calls_of, PointsRise, IsLane, 
 use Rattle.certificate_checker.specs.Latest.{IsLatest, IsLawful}
 use Rattle.certificate_checker.specs.Current.{current, given_at}
 
--- a value is a key's latest, with its expiry, exactly where the lossy map has it
+-- a value is a key's latest, with its expiry, exactly when the lossy map has it
 abbrev pub LatestIsCurrent : Type 0
 LatestIsCurrent = (deeds : List Deed) (key : List ℕ) (latest : TimedValue) → IsLatest deeds key latest ↔ (current deeds key ≡ Some latest)
 

@@ -11,12 +11,12 @@ use Rattle.certificate_checker.specs.FaultText.{fault_text}
 use Rattle.certificate_checker.specs.Acceptance.{IsAccepted}
 use Rattle.certificate_checker.specs.Faults.{IsFirstFault}
 
--- the line of a verdict on so many calls, without its line feed
+-- the line of a verdict on this many calls, without its line feed
 abbrev pub verdict_line : Verdict → ℕ → List ℕ
 verdict_line Accepted calls = codes "accepted " ++ decimal calls ++ codes " calls"
 verdict_line (Rejected fault) calls = codes "rejected " ++ fault_text fault
 
--- a line tells the verdict on a pair: that it is accepted, or else its first fault
+-- a line tells the verdict on a pair: that it is accepted, or its first fault
 pub record TellsVerdict (history : List Call) (certificate line : List ℕ) : Type 0 where
   pub accepted : IsAccepted history certificate → line ≡ verdict_line Accepted (length history)
   pub rejected : (IsAccepted history certificate → ⊥) → (fault : Fault) × IsFirstFault history certificate fault × (line ≡ verdict_line (Rejected fault) (length history))

@@ -14,10 +14,10 @@ use trace_file::{Certificate, History};
 /// answers the first fault of any other pair.
 ///
 /// It makes one pass over the history and one over the certificate, in memory linear in the number of
-/// calls, and copies no key and no value. Its time is linear too where the keys were not picked to be
+/// calls, and copies no key and no value. Its time is linear too if the keys were not picked to be
 /// slow: the map that it looks keys up in hashes them by a seed that anyone can read. Whoever judges a
 /// stranger's history calls `check_with_hasher`.
-/// `AllocError` comes where memory was refused.
+/// `AllocError` comes if memory was refused.
 pub fn check(
     alloc: Global,
     history: &History,
@@ -35,7 +35,7 @@ pub fn check(
     }
 }
 
-/// The same by a map that hashes keys as it is told, as by a `RandomState` of the runtime, whose seed
+/// The same with keys hashed by `hash_builder`, such as a `RandomState` of the runtime, whose seed
 /// was unknown to whoever wrote the history. Then no keys can be picked beforehand that are known to
 /// make it slow.
 pub fn check_with_hasher<S: BuildHasher + Drop>(

@@ -16,7 +16,7 @@ use trace_file::{Trace, TraceFault, Unwritten, read_trace, write_whole};
 
 /// What was judged, and the line that says it, with its line feed.
 #[derive(Drop)]
-struct Judgement {
+struct VerdictLine {
     judged: Judged,
     line: String,
 }
@@ -50,7 +50,7 @@ pub fn judge<R: Read, W: Write>(
     }
 }
 
-/// The same by a map that hashes keys as it is told: see `check_with_hasher`.
+/// The same with keys hashed by `hash_builder`: see `check_with_hasher`.
 pub fn judge_with_hasher<S: BuildHasher + Drop, R: Read, W: Write>(
     alloc: Global,
     hash_builder: S,
@@ -79,7 +79,7 @@ fn judgement_of<S: BuildHasher + Drop, R: Read>(
     alloc: Global,
     hash_builder: S,
     reader: &mut R,
-) -> Result<Judgement, AllocError>
+) -> Result<VerdictLine, AllocError>
     ensures end { IfOk result (λ j. j.judged ≢ Judged.BadTrace → IsAtEnd (R.remaining reader.new)) }
     ensures line { IfOk result (λ j. (line : List ℕ)
         × IsLineOn (R.remaining reader.old) (R.remaining reader.new) j.judged line
@@ -102,20 +102,20 @@ fn on_trace<S: BuildHasher + Drop>(
     alloc: Global,
     hash_builder: S,
     trace: &Trace,
-) -> Result<Judgement, AllocError>
+) -> Result<VerdictLine, AllocError>
     ensures { IfOk result (λ j. (line : List ℕ) × IsTold trace.now j.judged line
         × (string_bytes j.line ≡ line ++ codes "\n")) }
 {
     let verdict = check_with_hasher(alloc, hash_builder, &trace.history, &trace.certificate)?;
     let line = told(alloc, verdict, trace.history.len())?;
-    Ok(Judgement {
+    Ok(VerdictLine {
         judged: Judged::of(verdict),
         line: format!(in alloc; "{line}\n")?,
     })
 }
 
-/// The judgement on what is no trace. A trace for which memory was refused gets none.
-fn on_fault(alloc: Global, fault: TraceFault) -> Result<Judgement, AllocError>
+/// The judgement on input that is no trace; `AllocError` if memory was refused while it was read.
+fn on_fault(alloc: Global, fault: TraceFault) -> Result<VerdictLine, AllocError>
     ensures fault { OnOk result (fault ≢ TraceFault.OutOfMemory) }
     ensures kind { IfOk result (λ j. j.judged ≡ Judged.BadTrace) }
     ensures line { IfOk result (λ j. string_bytes j.line ≡ bad_trace_line fault ++ codes "\n") }
@@ -123,7 +123,7 @@ fn on_fault(alloc: Global, fault: TraceFault) -> Result<Judgement, AllocError>
     if let TraceFault::OutOfMemory = fault {
         return Err(AllocError);
     }
-    Ok(Judgement {
+    Ok(VerdictLine {
         judged: Judged::BadTrace,
         line: format!(in alloc; "bad trace {fault}\n")?,
     })

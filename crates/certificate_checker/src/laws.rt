@@ -1,7 +1,7 @@
 // Laws of the definitions, for those who record a history.
 ghost use Rattle.certificate_checker.specs.Laws.{LatestIsCurrent, LawfulGrows, PlacedLanesAreApart, EndsMayMove, LanesAreAccepted, LayoutExists, LayoutIsOne, AcceptedOrFaulty, AcceptedHasNoFault, FirstFaultIsOne, VerdictLineExists, VerdictLineIsOne};
 
-/// A value is a key's latest exactly where the lossy map of the deeds has it.
+/// A value is a key's latest exactly when the lossy map of the deeds has it.
 pub fn latest_is_current()
     ensures { LatestIsCurrent }
 {}
@@ -11,7 +11,7 @@ pub fn lawful_grows()
     ensures { LawfulGrows }
 {}
 
-/// Lanes have no key in common, where each has the keys that are placed in the lane of its number.
+/// Lanes have no key in common if each has the keys that are placed in the lane of its number.
 pub fn placed_lanes_are_apart()
     ensures { PlacedLanesAreApart }
 {}

@@ -1,7 +1,7 @@
 //! The checker of recorded histories: whether an order that a certificate spells makes every hit true.
 //!
 //! A history is linearized (Herlihy and Wing 1990) by an order of its calls that agrees with their
-//! recorded times. Such an order is lawful for a cache, which may forget but never invent, where each
+//! recorded times. Such an order is lawful for a cache, which may forget but never invent, if each
 //! hit reads its key's latest put that was not since removed and has not expired at the hit's moment.
 #![tactic(auto)]
 

@@ -24,7 +24,7 @@ pub(crate) fn bad_interval(history: &History) -> Option<usize>
     None
 }
 
-/// The first fault of the places in order, by a map that hashes so.
+/// The first fault of the places in order, with keys hashed by `hash_builder`.
 pub(crate) fn first_fault_of_places<S: BuildHasher + Drop>(
     alloc: Global,
     hash_builder: S,

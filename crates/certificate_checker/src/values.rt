@@ -34,7 +34,7 @@ pub(crate) fn note<'a, S: BuildHasher>(
     Ok(())
 }
 
-/// Whether a call, where it is a hit, has the value that the map has for its key, live at the call's moment.
+/// Whether a call, if it is a hit, has the value that the map has for its key, live at the call's moment.
 pub(crate) fn allows<'a, S: BuildHasher>(
     values: &HashMap<LentKey<'a>, LentValue<'a>, S>,
     call: CallRef<'a>,

@@ -9,7 +9,7 @@ use std::hash::{BuildHasher, BuildHasherDefault, FoldHasher};
 use trace_file::{Certificate, History};
 
 /// The line that tells the verdict on a history and its certificate, without a line feed:
-/// `accepted N calls`, or `rejected` with the first fault. `AllocError` comes where memory was refused.
+/// `accepted N calls`, or `rejected` with the first fault. `AllocError` comes if memory was refused.
 /// As `check`, it is for histories whose keys were not picked to be slow.
 pub fn verdict_line_of(
     alloc: Global,
@@ -25,7 +25,7 @@ pub fn verdict_line_of(
     }
 }
 
-/// The same by a map that hashes keys as it is told: see `check_with_hasher`.
+/// The same with keys hashed by `hash_builder`: see `check_with_hasher`.
 pub fn verdict_line_with_hasher<S: BuildHasher + Drop>(
     alloc: Global,
     hash_builder: S,
@@ -41,7 +41,7 @@ pub fn verdict_line_with_hasher<S: BuildHasher + Drop>(
     }
 }
 
-/// The line of a verdict on so many calls.
+/// The line of a verdict on this many calls.
 pub(crate) fn told(alloc: Global, verdict: Verdict, calls: usize) -> Result<String, AllocError>
     ensures { IfOk result (λ line. string_bytes line ≡ verdict_line verdict calls) }
 {

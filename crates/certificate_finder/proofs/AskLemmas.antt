@@ -10,8 +10,8 @@ use Rattle.certificate_finder.specs.declared.best.Best.TheVariants.{Empty}
 use Rattle.certificate_finder.specs.declared.put.Put.{Put}
 use Rattle.certificate_finder.specs.declared.ranked.Ranked.{Ranked}
 use Rattle.certificate_finder.specs.declared.reads.Reading.{Reading}
-use Rattle.certificate_finder.specs.declared.shape.Shape.{Shape}
-use Rattle.certificate_finder.specs.declared.step.Step.{Step}
+use Rattle.certificate_finder.specs.declared.tree_shape.TreeShape.{TreeShape}
+use Rattle.certificate_finder.specs.declared.numbered_call.NumberedCall.{NumberedCall}
 use Rattle.certificate_finder.specs.Asking.{AreAsked, AreReadings, Asking, TellsHit}
 use Rattle.certificate_finder.specs.Bests.{AreAmong}
 use Rattle.certificate_finder.specs.Lists.{Lists, TellsOne}
@@ -24,18 +24,18 @@ use Rattle.certificate_finder.proofs.Listing.{all_at, all_from_at, index_of, lis
 use Rattle.certificate_finder.proofs.Ranking.{rank_at}
 use Rattle.certificate_finder.proofs.TreeLemmas.{tree_begins}
 
-pub are_asked : (steps : List Step) (xs ys : List Ranked) → Lists steps Asking TellsHit (length steps) xs → IsPermutation xs ys → IsNonDecreasingBy (λ (hit : Ranked). hit.rank) ys → AreAsked steps ys
+pub are_asked : (steps : List NumberedCall) (xs ys : List Ranked) → Lists steps Asking TellsHit (length steps) xs → IsPermutation xs ys → IsNonDecreasingBy (λ (hit : Ranked). hit.rank) ys → AreAsked steps ys
 are_asked steps xs ys had moved sorted = record { lists = lists_permuted steps Asking TellsHit (length steps) xs ys moved had; sorted = sorted }
 
 -- the hits below an index have their readings, and the puts below another one have entered the tree
-pub record ReadSoFar (steps : List Step) (puts : List Put) (leaves : List ℕ) (shape : Shape) (asked : List Ranked) (index taken : ℕ) (nodes : List Best) (readings : List Reading) : Type 0 where
+pub record ReadSoFar (steps : List NumberedCall) (puts : List Put) (leaves : List ℕ) (shape : TreeShape) (asked : List Ranked) (index taken : ℕ) (nodes : List Best) (readings : List Reading) : Type 0 where
   pub bound : taken ≤ length puts
   pub low : (k j : ℕ) (put : Put) (hit : Ranked) → k < taken → index ≤ j → slice_get puts k ≡ Some put → slice_get asked j ≡ Some hit → put_rank put ≤ hit.rank
   pub nodes_count : length nodes ≡ 2 * shape.width
   pub among : All (AreAmong puts) nodes
   pub tree : IsTree puts leaves shape taken nodes
   pub count : length readings ≡ length steps
-  pub done : (j : ℕ) (hit : Ranked) (step : Step) (reading : Reading) → j < index → slice_get asked j ≡ Some hit → slice_get steps hit.position ≡ Some step → slice_get readings hit.position ≡ Some reading → Says (GivesAt puts step) reading
+  pub done : (j : ℕ) (hit : Ranked) (step : NumberedCall) (reading : Reading) → j < index → slice_get asked j ≡ Some hit → slice_get steps hit.position ≡ Some step → slice_get readings hit.position ≡ Some reading → Says (GivesAt puts step) reading
 
 -- before the first hit no put has entered
 empty_at : (n k : ℕ) (best : Best) → slice_get (replicate n Empty) k ≡ Some best → best ≡ Empty
@@ -44,7 +44,7 @@ empty_at n k best at =
     let len : length (replicate n Empty) ≡ n = length-replicate n Empty in
     sym (get_or_from_slice_get (replicate n Empty) k best best at) ∙ get_or-replicate n k Empty best (omega arith)
 
-pub read_begins : (steps : List Step) (puts : List Put) (leaves : List ℕ) (shape : Shape) (asked : List Ranked) (nodes : List Best) (readings : List Reading) → nodes ≡ replicate (2 * shape.width) Empty → length readings ≡ length steps → ReadSoFar steps puts leaves shape asked 0 0 nodes readings
+pub read_begins : (steps : List NumberedCall) (puts : List Put) (leaves : List ℕ) (shape : TreeShape) (asked : List Ranked) (nodes : List Best) (readings : List Reading) → nodes ≡ replicate (2 * shape.width) Empty → length readings ≡ length steps → ReadSoFar steps puts leaves shape asked 0 0 nodes readings
 read_begins steps puts leaves shape asked nodes readings is count =
     let empty : (k : ℕ) (best : Best) → slice_get nodes k ≡ Some best → best ≡ Empty = λ k best at. empty_at (2 * shape.width) k best (ap (λ ns. slice_get ns k) (sym is) ∙ at) in
     record {
@@ -57,9 +57,9 @@ read_begins steps puts leaves shape asked nodes readings is count =
       done = λ j hit step reading less at step_at r_at. absurd (omega arith);
     }
 
-module _ (steps : List Step) (puts : List Put) (leaves : List ℕ) (shape : Shape) (asked : List Ranked) (are : AreAsked steps asked) where
+module _ (steps : List NumberedCall) (puts : List Put) (leaves : List ℕ) (shape : TreeShape) (asked : List Ranked) (are : AreAsked steps asked) where
   -- the call of a hit that asks
-  pub call_of : (j : ℕ) (hit : Ranked) → slice_get asked j ≡ Some hit → (step : Step) × (slice_get steps hit.position ≡ Some step) × (hit.rank ≡ value_rank step.key step.value step.end)
+  pub call_of : (j : ℕ) (hit : Ranked) → slice_get asked j ≡ Some hit → (step : NumberedCall) × (slice_get steps hit.position ≡ Some step) × (hit.rank ≡ value_rank step.key step.value step.end)
   call_of j hit at =
       let t = all_at (TellsOne steps Asking TellsHit) asked j hit are.lists.sound at in
       (t.step, ap (slice_get steps) t.told.is_at ∙ t.at, t.told.rank)
@@ -77,7 +77,7 @@ module _ (steps : List Step) (puts : List Put) (leaves : List ℕ) (shape : Shap
           absurd (omega arith)
     ]
 
-    pub read_more : (step : Step) (reading : Reading) (new : List Best) → slice_get steps hit.position ≡ Some step → length new ≡ length nodes → All (AreAmong puts) new → IsTree puts leaves shape upto new → Says (GivesAt puts step) reading → ReadSoFar steps puts leaves shape asked (index + 1) upto new (set readings hit.position reading)
+    pub read_more : (step : NumberedCall) (reading : Reading) (new : List Best) → slice_get steps hit.position ≡ Some step → length new ≡ length nodes → All (AreAmong puts) new → IsTree puts leaves shape upto new → Says (GivesAt puts step) reading → ReadSoFar steps puts leaves shape asked (index + 1) upto new (set readings hit.position reading)
     read_more step reading new step_at len among tree says = record {
       bound = split.bound;
       low = λ k j put other less le put_at other_at.

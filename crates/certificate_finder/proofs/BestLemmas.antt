@@ -33,7 +33,7 @@ module _ (puts : List Put) (P : ℕ → Type 0) (index : ℕ) (fresh : ¬ P inde
   apart_from : (k : ℕ) → P k → k ≢ index
   apart_from k p same = fresh (subst P same p)
 
-  -- it expires behind the first one
+  -- it expires after the first one
   pub leads : (first : ℕ) → P first → ((k : ℕ) → P k → expiry_at puts k ≤ expiry_at puts first) → expiry_at puts first < expiry_at puts index → AreBoth puts (λ k. P k ⊎ (k ≡ index)) index first
   leads first is most less = record {
     first_is = inr refl;
@@ -43,7 +43,7 @@ module _ (puts : List Put) (P : ℕ → Type 0) (index : ℕ) (fresh : ¬ P inde
     next = λ k more other. elim more [ inl p ↦ most k p | inr same ↦ absurd (other same) ];
   }
 
-  -- it expires behind all but the first one
+  -- it expires after all but the first one
   pub follows : (first : ℕ) → P first → ((k : ℕ) → P k → k ≢ first → expiry_at puts k ≤ expiry_at puts index) → expiry_at puts index ≤ expiry_at puts first → AreBoth puts (λ k. P k ⊎ (k ≡ index)) first index
   follows first is next most = record {
     first_is = inl is;
@@ -53,7 +53,7 @@ module _ (puts : List Put) (P : ℕ → Type 0) (index : ℕ) (fresh : ¬ P inde
     next = λ k more other. elim more [ inl p ↦ next k p other | inr same ↦ subst (λ j. expiry_at puts j ≤ expiry_at puts index) (sym same) (omega arith) ];
   }
 
-  -- it expires behind neither
+  -- it expires after neither
   stays : (first second : ℕ) → AreBoth puts P first second → expiry_at puts index ≤ expiry_at puts second → AreBoth puts More first second
   stays first second is le = record {
     first_is = inl is.first_is;
@@ -106,7 +106,7 @@ among_with puts (Two first second) index new among within with = elim with [
 
 -- ---- which of them are live
 
--- what expires later is live where what expires sooner is
+-- what expires later is live when what expires sooner is
 pub live_later : (sooner later moment : ℕ) → sooner ≤ later → later < 2 ^ 64 → IsTrue (is_live sooner moment) → IsTrue (is_live later moment)
 live_later sooner later moment le small live = grind (arith, nat_tests)
 
@@ -120,7 +120,7 @@ module _ (puts : List Put) (P : ℕ → Type 0) (moment : ℕ) (small : (k : ℕ
     | inr dead ↦ subst (λ r. Says Live r) (sym dead.1) (λ k p. dead.0 (subst (λ j. IsLiveAt puts moment j) (is.1 k p.0) p.1))
   ]
 
-  -- where the second one is not live, no other than the first one is
+  -- if the second one is not live, no other than the first one is
   only_first : (first second : ℕ) → AreBoth puts P first second → ¬ IsLiveAt puts moment second → (k : ℕ) → P k → IsLiveAt puts moment k → k ≡ first
   only_first first second is dead k p live = elim (cases_eq k first) [
     | inl same ↦ same

@@ -15,7 +15,7 @@ pub record HighSoFar (zones : List Zone) (upto : ℕ) (high : Zone) : Type 0 whe
   pub index : ℕ
   pub below : index < upto
   pub at : slice_get zones index ≡ Some high
-  -- none of its key comes behind one of another key
+  -- none of its key comes after one of another key
   pub last : (k : ℕ) (zone : Zone) → k < upto → slice_get zones k ≡ Some zone → zone.key ≤ high.key
   -- none of its key starts later
   pub most : (k : ℕ) (zone : Zone) → k < upto → slice_get zones k ≡ Some zone → zone.key ≡ high.key → zone.start ≤ high.start
@@ -56,7 +56,7 @@ module _ (zones : List Zone) (sorted : IsNonDecreasingBy zone_rank zones) (fit :
       let d = enough same in
       omega arith
 
-  -- one zone more, where it takes the place of the highest
+  -- one zone more, if it takes the place of the highest
   pub high_goes : (upto : ℕ) (high zone next : Zone) → HighSoFar zones upto high → slice_get zones upto ≡ Some zone → (zone.key ≡ high.key → high.start ≤ zone.end) → ((next ≡ zone) ⊎ ((next ≡ high) × (zone.key ≡ high.key) × (zone.start ≤ high.start))) → (zone.key ≡ high.key → high.start ≤ next.start) → HighSoFar zones (upto + 1) next
   high_goes upto high zone next had at enough chosen above =
       let rises = keys_rise had.index upto high zone (let h = had.below in omega arith) had.at at in

@@ -4,7 +4,7 @@ use Rattle.std.specs.Prelude.{slice_get}
 use Rattle.std.proofs.lemmas.Bool.{cases_eq}
 use Rattle.std.proofs.lemmas.List.{get_or-set_same, get_or-set_other, length-set, length_push}
 use Rattle.std.proofs.lemmas.Option.{get_or_from_slice_get, slice_get_within, slice_get-get_or}
-use Rattle.certificate_finder.specs.declared.step.Step.{Step}
+use Rattle.certificate_finder.specs.declared.numbered_call.NumberedCall.{NumberedCall}
 use Rattle.certificate_finder.specs.Zones.{AreEarliest, AreLatest, ArePositions, Goes}
 use Rattle.certificate_finder.proofs.Listing.{same_at}
 use Rattle.certificate_finder.proofs.StepLemmas.{at_front, at_push}
@@ -47,17 +47,17 @@ positions_begin = record { len = refl; each = λ k p at. absurd (let within = sl
 abbrev pub GoesBelow : List ℕ → ℕ → ℕ → ℕ → Type 0
 GoesBelow owners upto write position = (position ≡ write) ⊎ ((position < upto) × (slice_get owners position ≡ Some write))
 
-pub record IsBestCall (R : Step → Step → Type 0) (steps : List Step) (owners : List ℕ) (upto write position : ℕ) : Type 0 where
-  pub step : Step
+pub record IsBestCall (R : NumberedCall → NumberedCall → Type 0) (steps : List NumberedCall) (owners : List ℕ) (upto write position : ℕ) : Type 0 where
+  pub step : NumberedCall
   pub at : slice_get steps position ≡ Some step
   pub goes : Goes owners write position
-  pub best : (other : ℕ) (call : Step) → slice_get steps other ≡ Some call → GoesBelow owners upto write other → R step call
+  pub best : (other : ℕ) (call : NumberedCall) → slice_get steps other ≡ Some call → GoesBelow owners upto write other → R step call
 
-pub record BestSoFar (R : Step → Step → Type 0) (steps : List Step) (owners : List ℕ) (upto : ℕ) (bests : List ℕ) : Type 0 where
+pub record BestSoFar (R : NumberedCall → NumberedCall → Type 0) (steps : List NumberedCall) (owners : List ℕ) (upto : ℕ) (bests : List ℕ) : Type 0 where
   pub count : length bests ≡ length steps
   pub each : (write position : ℕ) → slice_get bests write ≡ Some position → IsBestCall R steps owners upto write position
 
-module _ (R : Step → Step → Type 0) (same_best : (s : Step) → R s s) (join : (a b c : Step) → R a b → R b c → R a c) (steps : List Step) (owners : List ℕ) where
+module _ (R : NumberedCall → NumberedCall → Type 0) (same_best : (s : NumberedCall) → R s s) (join : (a b c : NumberedCall) → R a b → R b c → R a c) (steps : List NumberedCall) (owners : List ℕ) where
   pub best_begins : (bests : List ℕ) → ArePositions (length steps) bests → BestSoFar R steps owners 0 bests
   best_begins bests are = record {
     count = are.len;
@@ -77,7 +77,7 @@ module _ (R : Step → Step → Type 0) (same_best : (s : Step) → R s s) (join
         };
   }
 
-  module _ (upto owner known : ℕ) (step known_step : Step) (bests : List ℕ) (had : BestSoFar R steps owners upto bests) (at : slice_get steps upto ≡ Some step) (owned : slice_get owners upto ≡ Some owner) (known_at : slice_get bests owner ≡ Some known) (known_is : slice_get steps known ≡ Some known_step) where
+  module _ (upto owner known : ℕ) (step known_step : NumberedCall) (bests : List ℕ) (had : BestSoFar R steps owners upto bests) (at : slice_get steps upto ≡ Some step) (owned : slice_get owners upto ≡ Some owner) (known_at : slice_get bests owner ≡ Some known) (known_is : slice_get steps known ≡ Some known_step) where
     -- what goes with a write as far as one call more tells
     below : (w q : ℕ) → GoesBelow owners (upto + 1) w q → GoesBelow owners upto w q ⊎ ((q ≡ upto) × (w ≡ owner))
     below w q goes = elim goes [
@@ -143,31 +143,31 @@ module _ (R : Step → Step → Type 0) (same_best : (s : Step) → R s s) (join
 
 -- ---- the two orders
 
-abbrev pub EndsBefore : Step → Step → Type 0
+abbrev pub EndsBefore : NumberedCall → NumberedCall → Type 0
 EndsBefore a b = a.end ≤ b.end
 
-abbrev pub StartsBehind : Step → Step → Type 0
+abbrev pub StartsBehind : NumberedCall → NumberedCall → Type 0
 StartsBehind a b = b.start ≤ a.start
 
-pub ends_self : (s : Step) → EndsBefore s s
+pub ends_self : (s : NumberedCall) → EndsBefore s s
 ends_self s = omega arith
 
-pub ends_join : (a b c : Step) → EndsBefore a b → EndsBefore b c → EndsBefore a c
+pub ends_join : (a b c : NumberedCall) → EndsBefore a b → EndsBefore b c → EndsBefore a c
 ends_join a b c one other = omega arith
 
-pub starts_self : (s : Step) → StartsBehind s s
+pub starts_self : (s : NumberedCall) → StartsBehind s s
 starts_self s = omega arith
 
-pub starts_join : (a b c : Step) → StartsBehind a b → StartsBehind b c → StartsBehind a c
+pub starts_join : (a b c : NumberedCall) → StartsBehind a b → StartsBehind b c → StartsBehind a c
 starts_join a b c one other = omega arith
 
-to_below : (steps : List Step) (owners : List ℕ) (upto w q : ℕ) (call : Step) → slice_get steps q ≡ Some call → length steps ≤ upto → Goes owners w q → GoesBelow owners upto w q
+to_below : (steps : List NumberedCall) (owners : List ℕ) (upto w q : ℕ) (call : NumberedCall) → slice_get steps q ≡ Some call → length steps ≤ upto → Goes owners w q → GoesBelow owners upto w q
 to_below steps owners upto w q call at all goes = elim goes [
   | inl own ↦ inl own
   | inr owned ↦ inr (let within = slice_get_within steps q call at in let l : q < upto = omega arith in l, owned)
 ]
 
-pub are_earliest : (steps : List Step) (owners : List ℕ) (upto : ℕ) (bests : List ℕ) → BestSoFar EndsBefore steps owners upto bests → length steps ≤ upto → AreEarliest steps owners bests
+pub are_earliest : (steps : List NumberedCall) (owners : List ℕ) (upto : ℕ) (bests : List ℕ) → BestSoFar EndsBefore steps owners upto bests → length steps ≤ upto → AreEarliest steps owners bests
 are_earliest steps owners upto bests had all = record {
   count = had.count;
   each = λ w p at.
@@ -175,7 +175,7 @@ are_earliest steps owners upto bests had all = record {
       (b.step, record { at = b.at; goes = b.goes; least = λ q call at_q goes. b.best q call at_q (to_below steps owners upto w q call at_q all goes) });
 }
 
-pub are_latest : (steps : List Step) (owners : List ℕ) (upto : ℕ) (bests : List ℕ) → BestSoFar StartsBehind steps owners upto bests → length steps ≤ upto → AreLatest steps owners bests
+pub are_latest : (steps : List NumberedCall) (owners : List ℕ) (upto : ℕ) (bests : List ℕ) → BestSoFar StartsBehind steps owners upto bests → length steps ≤ upto → AreLatest steps owners bests
 are_latest steps owners upto bests had all = record {
   count = had.count;
   each = λ w p at.
@@ -183,7 +183,7 @@ are_latest steps owners upto bests had all = record {
       (b.step, record { at = b.at; goes = b.goes; greatest = λ q call at_q goes. b.best q call at_q (to_below steps owners upto w q call at_q all goes) });
 }
 
-pub known_within : (R : Step → Step → Type 0) (steps : List Step) (owners : List ℕ) (upto : ℕ) (bests : List ℕ) → BestSoFar R steps owners upto bests → (owner known : ℕ) (lent : List ℕ) → lent ≡ bests → slice_get lent owner ≡ Some known → known < length steps
+pub known_within : (R : NumberedCall → NumberedCall → Type 0) (steps : List NumberedCall) (owners : List ℕ) (upto : ℕ) (bests : List ℕ) → BestSoFar R steps owners upto bests → (owner known : ℕ) (lent : List ℕ) → lent ≡ bests → slice_get lent owner ≡ Some known → known < length steps
 known_within R steps owners upto bests had owner known lent same at =
     let b = had.each owner known (ap (λ xs. slice_get xs owner) (sym same) ∙ at) in
     slice_get_within steps known b.step b.at

@@ -9,7 +9,7 @@ use Rattle.certificate_finder.specs.declared.excluded.Excluded.{Excluded}
 use Rattle.certificate_finder.specs.declared.excluded.Excuse.{Excuse}
 use Rattle.certificate_finder.specs.declared.excluded.Excuse.TheVariants.{Later, Expired, Replaced}
 use Rattle.certificate_finder.specs.declared.put.Put.{Put}
-use Rattle.certificate_finder.specs.declared.step.Step.{Step}
+use Rattle.certificate_finder.specs.declared.numbered_call.NumberedCall.{NumberedCall}
 use Rattle.certificate_finder.specs.Excluding.{AreExcluded, ExcludesStep, IsExcludedStep, GrowsByExcluded, IsExcuse}
 use Rattle.certificate_finder.specs.Lists.{TellsOne}
 use Rattle.certificate_finder.specs.Owning.{ReadsNoLive}
@@ -17,36 +17,36 @@ use Rattle.certificate_finder.specs.Putting.{ArePuts, EndsOver, IsOver, Putting,
 use Rattle.certificate_finder.proofs.Listing.{all_at, index_of, same_at}
 use Rattle.certificate_finder.proofs.OwnLemmas.{may_read}
 
-pub record ExcludedSoFar (steps : List Step) (puts : List Put) (hit : Step) (upto : ℕ) (excluded : List Excluded) : Type 0 where
+pub record ExcludedSoFar (steps : List NumberedCall) (puts : List Put) (hit : NumberedCall) (upto : ℕ) (excluded : List Excluded) : Type 0 where
   pub each : All (IsExcludedStep steps hit) excluded
   pub all : (k : ℕ) (put : Put) → k < upto → slice_get puts k ≡ Some put → put.key ≡ hit.key → put.value ≡ hit.value → Contains (map (λ one. one.put) excluded) put.position
 
-pub excluded_begin : (steps : List Step) (puts : List Put) (hit : Step) → ExcludedSoFar steps puts hit 0 []
+pub excluded_begin : (steps : List NumberedCall) (puts : List Put) (hit : NumberedCall) → ExcludedSoFar steps puts hit 0 []
 excluded_begin steps puts hit = record { each = All-nil (IsExcludedStep steps hit); all = λ k put less at key value. absurd (omega arith) }
 
-ends_at : (steps : List Step) (step : Step) (dead write : ℕ) (over : Option ℕ) → over ≡ Some write → MatchOption over (dead ≡ 18446744073709551615) (EndsOver steps step dead) → EndsOver steps step dead write
+ends_at : (steps : List NumberedCall) (step : NumberedCall) (dead write : ℕ) (over : Option ℕ) → over ≡ Some write → MatchOption over (dead ≡ 18446744073709551615) (EndsOver steps step dead) → EndsOver steps step dead write
 ends_at steps step dead write over is by = subst (λ o. MatchOption o (dead ≡ 18446744073709551615) (EndsOver steps step dead)) is by
 
-greatest : (steps : List Step) (step : Step) (dead : ℕ) (over : Option ℕ) → over ≡ None → MatchOption over (dead ≡ 18446744073709551615) (EndsOver steps step dead) → dead ≡ 18446744073709551615
+greatest : (steps : List NumberedCall) (step : NumberedCall) (dead : ℕ) (over : Option ℕ) → over ≡ None → MatchOption over (dead ≡ 18446744073709551615) (EndsOver steps step dead) → dead ≡ 18446744073709551615
 greatest steps step dead over is by = subst (λ o. MatchOption o (dead ≡ 18446744073709551615) (EndsOver steps step dead)) is by
 
-module _ (steps : List Step) (puts : List Put) (are : ArePuts steps puts) (hit : Step) (small : hit.start < 2 ^ 64) (none : ReadsNoLive steps hit) where
-  excludes_later : (p : ℕ) (step : Step) (put : Put) → TellsPut steps p step put → hit.end < put.start → hit.end < step.start
+module _ (steps : List NumberedCall) (puts : List Put) (are : ArePuts steps puts) (hit : NumberedCall) (small : hit.start < 2 ^ 64) (none : ReadsNoLive steps hit) where
+  excludes_later : (p : ℕ) (step : NumberedCall) (put : Put) → TellsPut steps p step put → hit.end < put.start → hit.end < step.start
   excludes_later p step put told less = let start : put.start ≡ step.start = told.start in omega arith
 
-  excludes_replaced : (p : ℕ) (step : Step) (put : Put) (write : ℕ) → TellsPut steps p step put → put.over ≡ Some write → put.dead < hit.start → (other : Step) × (slice_get steps write ≡ Some other) × IsOver step other × (other.end < hit.start)
+  excludes_replaced : (p : ℕ) (step : NumberedCall) (put : Put) (write : ℕ) → TellsPut steps p step put → put.over ≡ Some write → put.dead < hit.start → (other : NumberedCall) × (slice_get steps write ≡ Some other) × IsOver step other × (other.end < hit.start)
   excludes_replaced p step put write told over less =
       let ends = ends_at steps step put.dead write put.over over told.dead.by in
       let end : ends.other.end ≡ put.dead = ends.end in
       let before : ends.other.end < hit.start = omega arith in
       (ends.other, ends.at, ends.over, before)
 
-  stands_still : (p : ℕ) (step : Step) (put : Put) → TellsPut steps p step put → (put.over ≡ None) ⊎ (hit.start ≤ put.dead) → hit.start ≤ put.dead
+  stands_still : (p : ℕ) (step : NumberedCall) (put : Put) → TellsPut steps p step put → (put.over ≡ None) ⊎ (hit.start ≤ put.dead) → hit.start ≤ put.dead
   stands_still p step put told (inl none_over) = let g : put.dead ≡ 18446744073709551615 = greatest steps step put.dead put.over none_over told.dead.by in omega (arith, small, g)
   stands_still p step put told (inr le) = le
 
   -- an excuse excludes the put
-  excludes : (p : ℕ) (step : Step) (put : Put) (why : Excuse) → slice_get steps p ≡ Some step → Putting step → TellsPut steps p step put → put.key ≡ hit.key → put.value ≡ hit.value → IsExcuse put hit why → ExcludesStep steps hit step why
+  excludes : (p : ℕ) (step : NumberedCall) (put : Put) (why : Excuse) → slice_get steps p ≡ Some step → Putting step → TellsPut steps p step put → put.key ≡ hit.key → put.value ≡ hit.value → IsExcuse put hit why → ExcludesStep steps hit step why
   excludes p step put Later at is told key value why = excludes_later p step put told why
   excludes p step put (Replaced write) at is told key value why = excludes_replaced p step put write told why.0 why.1
   excludes p step put Expired at is told key value why =

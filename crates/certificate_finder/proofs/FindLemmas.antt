@@ -16,8 +16,8 @@ use Rattle.certificate_checker.proofs.public_laws.Lookups.{and_some}
 use Rattle.certificate_finder.specs.declared.excluded.Excluded.{Excluded}
 use Rattle.certificate_finder.specs.declared.excluded.Excuse.{Excuse}
 use Rattle.certificate_finder.specs.declared.excluded.Excuse.TheVariants.{Later, Expired, Replaced}
-use Rattle.certificate_finder.specs.declared.kind.Kind.TheVariants as kinds
-use Rattle.certificate_finder.specs.declared.step.Step.{Step}
+use Rattle.certificate_finder.specs.declared.call_kind.CallKind.TheVariants as kinds
+use Rattle.certificate_finder.specs.declared.numbered_call.NumberedCall.{NumberedCall}
 use Rattle.certificate_finder.specs.declared.zone.Zone.{Zone}
 use Rattle.certificate_finder.specs.Excluding.{AreExcludedAt, ExcludesStep, IsExcludedStep}
 use Rattle.certificate_finder.specs.Lists.{TellsOne}
@@ -57,15 +57,15 @@ writing_of Remove h = tt
 writing_of (Hit value moment) h = absurd h
 writing_of Miss h = absurd h
 
-module _ (history : List Call) (steps : List Step) (are : AreSteps history steps) where
-  pub call_at : (p : ℕ) (step : Step) → slice_get steps p ≡ Some step → (call : Call) × (slice_get history p ≡ Some call) × IsStep call step
+module _ (history : List Call) (steps : List NumberedCall) (are : AreSteps history steps) where
+  pub call_at : (p : ℕ) (step : NumberedCall) → slice_get steps p ≡ Some step → (call : Call) × (slice_get history p ≡ Some call) × IsStep call step
   call_at p step at =
       let within = slice_get_within steps p step at in
       let count = are.count in
       let c = found_at history p (omega arith) in
       (c.0, c.1, are.each p c.0 step c.1 at)
 
-  pub step_at : (p : ℕ) (call : Call) → slice_get history p ≡ Some call → (step : Step) × (slice_get steps p ≡ Some step) × IsStep call step
+  pub step_at : (p : ℕ) (call : Call) → slice_get history p ≡ Some call → (step : NumberedCall) × (slice_get steps p ≡ Some step) × IsStep call step
   step_at p call at =
       let within = slice_get_within history p call at in
       let count = are.count in
@@ -73,18 +73,18 @@ module _ (history : List Call) (steps : List Step) (are : AreSteps history steps
       (s.0, s.1, are.each p call s.0 at s.1)
 
   -- a put in numbers
-  pub put_at : (p : ℕ) (call : Call) (step : Step) → IsStep call step → step.kind ≡ kinds.Put → (value : List ℕ) × (expires : ℕ) × (call.act ≡ Put value expires) × (step.time ≡ expires)
+  pub put_at : (p : ℕ) (call : Call) (step : NumberedCall) → IsStep call step → step.kind ≡ kinds.Put → (value : List ℕ) × (expires : ℕ) × (call.act ≡ Put value expires) × (step.time ≡ expires)
   put_at p call step is kind =
       let w = put_of call.act (sym is.kind ∙ kind) in
       (w.0, w.1, w.2, is.time ∙ ap time_of w.2)
 
-  pub hit_at : (p : ℕ) (call : Call) (step : Step) → IsStep call step → step.kind ≡ kinds.Hit → (value : List ℕ) × (moment : ℕ) × (call.act ≡ Hit value moment) × (step.time ≡ moment)
+  pub hit_at : (p : ℕ) (call : Call) (step : NumberedCall) → IsStep call step → step.kind ≡ kinds.Hit → (value : List ℕ) × (moment : ℕ) × (call.act ≡ Hit value moment) × (step.time ≡ moment)
   hit_at p call step is kind =
       let w = hit_of call.act (sym is.kind ∙ kind) in
       (w.0, w.1, w.2, is.time ∙ ap time_of w.2)
 
   -- a write that stands between, in numbers and back
-  pub between : (h p q : ℕ) (hit put call : Call) (s t o : Step) → slice_get history h ≡ Some hit → slice_get history p ≡ Some put → slice_get history q ≡ Some call → slice_get steps h ≡ Some s → slice_get steps p ≡ Some t → slice_get steps q ≡ Some o → hit.key ≡ put.key → IsOver t o → o.end < s.start → StandsBetween hit.key put hit call
+  pub between : (h p q : ℕ) (hit put call : Call) (s t o : NumberedCall) → slice_get history h ≡ Some hit → slice_get history p ≡ Some put → slice_get history q ≡ Some call → slice_get steps h ≡ Some s → slice_get steps p ≡ Some t → slice_get steps q ≡ Some o → hit.key ≡ put.key → IsOver t o → o.end < s.start → StandsBetween hit.key put hit call
   between h p q hit put call s t o at_hit at_put at_call at_s at_t at_o same over less =
       let hs = are.each h hit s at_hit at_s in
       let ps = are.each p put t at_put at_t in
@@ -101,7 +101,7 @@ module _ (history : List Call) (steps : List Step) (are : AreSteps history steps
         before = omega arith;
       }
 
-  pub over_between : (h p q : ℕ) (hit put call : Call) (s t o : Step) → slice_get history h ≡ Some hit → slice_get history p ≡ Some put → slice_get history q ≡ Some call → slice_get steps h ≡ Some s → slice_get steps p ≡ Some t → slice_get steps q ≡ Some o → put.key ≡ hit.key → StandsBetween hit.key put hit call → IsOver t o × (o.end < s.start)
+  pub over_between : (h p q : ℕ) (hit put call : Call) (s t o : NumberedCall) → slice_get history h ≡ Some hit → slice_get history p ≡ Some put → slice_get history q ≡ Some call → slice_get steps h ≡ Some s → slice_get steps p ≡ Some t → slice_get steps q ≡ Some o → put.key ≡ hit.key → StandsBetween hit.key put hit call → IsOver t o × (o.end < s.start)
   over_between h p q hit put call s t o at_hit at_put at_call at_s at_t at_o same stands =
       let hs = are.each h hit s at_hit at_s in
       let ps = are.each p put t at_put at_t in
@@ -124,7 +124,7 @@ module _ (history : List Call) (steps : List Step) (are : AreSteps history steps
   -- ---- what a hit could read, in numbers and back
 
   -- a put that a hit does not precede, in numbers: its key, its value and its start
-  begun_of : (h p : ℕ) (s t : Step) → slice_get steps h ≡ Some s → slice_get steps p ≡ Some t → HasBegun history h p → (t.kind ≡ kinds.Put) × (t.key ≡ s.key) × (t.value ≡ s.value) × (t.start ≤ s.end)
+  begun_of : (h p : ℕ) (s t : NumberedCall) → slice_get steps h ≡ Some s → slice_get steps p ≡ Some t → HasBegun history h p → (t.kind ≡ kinds.Put) × (t.key ≡ s.key) × (t.value ≡ s.value) × (t.start ≤ s.end)
   begun_of h p s t at_s at_t has =
       let hs = are.each h has.hit_call s has.hit_at at_s in
       let ps = are.each p has.put_call t has.put_at at_t in
@@ -138,7 +138,7 @@ module _ (history : List Call) (steps : List Step) (are : AreSteps history steps
         elim (cases_lt has.hit_call.end has.put_call.start) [ inl less ↦ absurd (begun less) | inr not ↦ omega arith ],
       )
 
-  has_begun : (h p : ℕ) (s t : Step) → slice_get steps h ≡ Some s → slice_get steps p ≡ Some t → s.kind ≡ kinds.Hit → t.kind ≡ kinds.Put → t.key ≡ s.key → t.value ≡ s.value → t.start ≤ s.end → HasBegun history h p
+  has_begun : (h p : ℕ) (s t : NumberedCall) → slice_get steps h ≡ Some s → slice_get steps p ≡ Some t → s.kind ≡ kinds.Hit → t.kind ≡ kinds.Put → t.key ≡ s.key → t.value ≡ s.value → t.start ≤ s.end → HasBegun history h p
   has_begun h p s t at_s at_t hit put one_key one_value begun =
       let hc = call_at h s at_s in
       let pc = call_at p t at_t in
@@ -162,7 +162,7 @@ module _ (history : List Call) (steps : List Step) (are : AreSteps history steps
         begun = λ less. let l : hc.0.end < pc.0.start = less in absurd (omega arith);
       }
 
-  pub may_of : (h p : ℕ) (s t : Step) → slice_get steps h ≡ Some s → slice_get steps p ≡ Some t → StandsFor history h p → MayRead steps s t
+  pub may_of : (h p : ℕ) (s t : NumberedCall) → slice_get steps h ≡ Some s → slice_get steps p ≡ Some t → StandsFor history h p → MayRead steps s t
   may_of h p s t at_s at_t could =
       let has = could.has in
       let b = begun_of h p s t at_s at_t has in
@@ -179,7 +179,7 @@ module _ (history : List Call) (steps : List Step) (are : AreSteps history steps
         ];
       }
 
-  none_between : (h p : ℕ) (s t : Step) (has : HasBegun history h p) → slice_get steps h ≡ Some s → slice_get steps p ≡ Some t → MayRead steps s t → All (λ call. ¬ StandsBetween has.hit_call.key has.put_call has.hit_call call) history
+  none_between : (h p : ℕ) (s t : NumberedCall) (has : HasBegun history h p) → slice_get steps h ≡ Some s → slice_get steps p ≡ Some t → MayRead steps s t → All (λ call. ¬ StandsBetween has.hit_call.key has.put_call has.hit_call call) history
   none_between h p s t has at_s at_t may = all_from_at (λ call. ¬ StandsBetween has.hit_call.key has.put_call has.hit_call call) history (λ q call at stands.
       let o = step_at q call at in
       let over = over_between h p q has.hit_call has.put_call call s t o.0 has.hit_at has.put_at at at_s at_t o.1 has.one_key stands in
@@ -187,19 +187,19 @@ module _ (history : List Call) (steps : List Step) (are : AreSteps history steps
       let less = over.1 in
       omega arith)
 
-  pub stands_of : (h p : ℕ) (s t : Step) → slice_get steps h ≡ Some s → slice_get steps p ≡ Some t → s.kind ≡ kinds.Hit → MayRead steps s t → StandsFor history h p
+  pub stands_of : (h p : ℕ) (s t : NumberedCall) → slice_get steps h ≡ Some s → slice_get steps p ≡ Some t → s.kind ≡ kinds.Hit → MayRead steps s t → StandsFor history h p
   stands_of h p s t at_s at_t hit may =
       let has = has_begun h p s t at_s at_t hit may.kind may.key may.value may.begun in
       record { has = has; stands = none_between h p s t has at_s at_t may }
 
-  times_of : (h p : ℕ) (s t : Step) (has : HasBegun history h p) → slice_get steps h ≡ Some s → slice_get steps p ≡ Some t → (s.time ≡ has.moment) × (t.time ≡ has.expires)
+  times_of : (h p : ℕ) (s t : NumberedCall) (has : HasBegun history h p) → slice_get steps h ≡ Some s → slice_get steps p ≡ Some t → (s.time ≡ has.moment) × (t.time ≡ has.expires)
   times_of h p s t has at_s at_t = (
     (are.each h has.hit_call s has.hit_at at_s).time ∙ ap time_of has.hit_is,
     (are.each p has.put_call t has.put_at at_t).time ∙ ap time_of has.put_is,
   )
 
   -- a put that the hit could read, in numbers and back
-  pub reads_of : (h p : ℕ) (s t : Step) → slice_get steps h ≡ Some s → slice_get steps p ≡ Some t → CouldRead history h p → ReadsLive steps s t
+  pub reads_of : (h p : ℕ) (s t : NumberedCall) → slice_get steps h ≡ Some s → slice_get steps p ≡ Some t → CouldRead history h p → ReadsLive steps s t
   reads_of h p s t at_s at_t could =
       let has = could.lives.has in
       let times = times_of h p s t has at_s at_t in
@@ -208,7 +208,7 @@ module _ (history : List Call) (steps : List Step) (are : AreSteps history steps
         live = subst (λ e. IsTrue (is_live e s.time)) (sym times.1) (subst (λ m. IsTrue (is_live has.expires m)) (sym times.0) could.lives.live);
       }
 
-  pub could_by : (h p : ℕ) (s t : Step) → slice_get steps h ≡ Some s → slice_get steps p ≡ Some t → s.kind ≡ kinds.Hit → ReadsLive steps s t → CouldRead history h p
+  pub could_by : (h p : ℕ) (s t : NumberedCall) → slice_get steps h ≡ Some s → slice_get steps p ≡ Some t → s.kind ≡ kinds.Hit → ReadsLive steps s t → CouldRead history h p
   could_by h p s t at_s at_t hit reads =
       let may = reads.may in
       let has = has_begun h p s t at_s at_t hit may.kind may.key may.value may.begun in
@@ -222,7 +222,7 @@ module _ (history : List Call) (steps : List Step) (are : AreSteps history steps
       }
 
   -- the one that a hit may have read alone
-  pub could_of : (h p : ℕ) (s : Step) → slice_get steps h ≡ Some s → s.kind ≡ kinds.Hit → ReadsOnly steps s p → CouldRead history h p
+  pub could_of : (h p : ℕ) (s : NumberedCall) → slice_get steps h ≡ Some s → s.kind ≡ kinds.Hit → ReadsOnly steps s p → CouldRead history h p
   could_of h p s at_s hit only = could_by h p s only.put at_s only.at hit only.reads
 
   pub several_of : (h : ℕ) → HasSeveral history h → IsUnsure steps h
@@ -262,7 +262,7 @@ module _ (history : List Call) (steps : List Step) (are : AreSteps history steps
 
   -- ---- a hit that can have read no put
 
-  excludes : (h p : ℕ) (hit put : Call) (s t : Step) (moment expires : ℕ) (why : Excuse) → slice_get history h ≡ Some hit → slice_get history p ≡ Some put → slice_get steps h ≡ Some s → slice_get steps p ≡ Some t → hit.key ≡ put.key → s.time ≡ moment → t.time ≡ expires → ExcludesStep steps s t why → Excludes history hit put moment expires why
+  excludes : (h p : ℕ) (hit put : Call) (s t : NumberedCall) (moment expires : ℕ) (why : Excuse) → slice_get history h ≡ Some hit → slice_get history p ≡ Some put → slice_get steps h ≡ Some s → slice_get steps p ≡ Some t → hit.key ≡ put.key → s.time ≡ moment → t.time ≡ expires → ExcludesStep steps s t why → Excludes history hit put moment expires why
   excludes h p hit put s t moment expires Later at_hit at_put at_s at_t same time until why =
       let a = (are.each h hit s at_hit at_s).end in
       let b = (are.each p put t at_put at_t).start in
@@ -309,7 +309,7 @@ module _ (history : List Call) (steps : List Step) (are : AreSteps history steps
 
   -- ---- two writes that are crossed
 
-  pub goes_with : (owners unsure : List ℕ) (write q : ℕ) (s : Step) → AreOwners steps (length steps) owners unsure → slice_get steps q ≡ Some s → Goes owners write q → GoesWith history write q
+  pub goes_with : (owners unsure : List ℕ) (write q : ℕ) (s : NumberedCall) → AreOwners steps (length steps) owners unsure → slice_get steps q ≡ Some s → Goes owners write q → GoesWith history write q
   goes_with owners unsure write q s own at goes = elim goes [
     | inl same ↦ inl same
     | inr owned ↦ elim (own.owned q s write at owned) [

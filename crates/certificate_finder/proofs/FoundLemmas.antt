@@ -7,7 +7,7 @@ use Rattle.std.proofs.lemmas.Option.{slice_get_within}
 use Rattle.trace_file.specs.declared.call.Call.{Call}
 use Rattle.certificate_finder.specs.declared.crossing.Crossing.{Crossing}
 use Rattle.certificate_finder.specs.declared.found.Found.TheVariants.{Rejected}
-use Rattle.certificate_finder.specs.declared.step.Step.{Step}
+use Rattle.certificate_finder.specs.declared.numbered_call.NumberedCall.{NumberedCall}
 use Rattle.certificate_finder.specs.declared.zone.Zone.{Zone}
 use Rattle.certificate_finder.specs.Finding.{IsFound}
 use Rattle.certificate_finder.specs.Owning.{AreOwners}
@@ -18,7 +18,7 @@ use Rattle.certificate_finder.proofs.FindLemmas.{are_crossed}
 use Rattle.certificate_finder.proofs.Listing.{all_from_at}
 
 -- owners are positions
-pub owners_in : (steps : List Step) (owners unsure : List ℕ) → AreOwners steps (length steps) owners unsure → All (λ owner. owner < length steps) owners
+pub owners_in : (steps : List NumberedCall) (owners unsure : List ℕ) → AreOwners steps (length steps) owners unsure → All (λ owner. owner < length steps) owners
 owners_in steps owners unsure own = all_from_at (λ owner. owner < length steps) owners (λ p owner at.
     let within = slice_get_within owners p owner at in
     let count = own.count in
@@ -29,14 +29,14 @@ owners_in steps owners unsure own = all_from_at (λ owner. owner < length steps)
     ])
 
 -- two zones that are crossed are a reason
-pub found_crossed : (history : List Call) (steps : List Step) (owners unsure : List ℕ) (zones : List Zone) (crossing : Crossing) → AreSteps history steps → AreOwners steps (length steps) owners unsure → AreZones steps owners zones → AreCrossing zones crossing → IsFound history (Rejected (crossed_by crossing))
+pub found_crossed : (history : List Call) (steps : List NumberedCall) (owners unsure : List ℕ) (zones : List Zone) (crossing : Crossing) → AreSteps history steps → AreOwners steps (length steps) owners unsure → AreZones steps owners zones → AreCrossing zones crossing → IsFound history (Rejected (crossed_by crossing))
 found_crossed history steps owners unsure zones crossing are own zs crossed = record {
   accepted = tt;
   rejected = are_crossed history steps are owners unsure own zones zs crossing.one crossing.other crossed;
   undecided = tt;
 }
 
--- some hits are left where the list of them is not empty
+-- some hits are left if the list of them is not empty
 pub some_left : (unsure lent : List ℕ) → lent ≡ unsure → false ≡ eqb (length lent) 0 → unsure ≢ []
 some_left unsure lent same some none =
     let l : length lent ≡ 0 = ap length (same ∙ none) in
@@ -49,6 +49,6 @@ none_left unsure lent same none =
     let l : length lent ≡ 0 = grind (arith, nat_tests) in
     sym same ∙ nil_from_length lent l
 
--- no hit is unsure where the list of them is empty
-pub sure : (steps : List Step) (owners unsure lent : List ℕ) → lent ≡ unsure → true ≡ eqb (length lent) 0 → AreOwners steps (length steps) owners unsure → AreOwners steps (length steps) owners []
+-- no hit is unsure if the list of them is empty
+pub sure : (steps : List NumberedCall) (owners unsure lent : List ℕ) → lent ≡ unsure → true ≡ eqb (length lent) 0 → AreOwners steps (length steps) owners unsure → AreOwners steps (length steps) owners []
 sure steps owners unsure lent same none own = subst (λ u. AreOwners steps (length steps) owners u) (none_left unsure lent same none) own

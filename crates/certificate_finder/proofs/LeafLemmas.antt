@@ -12,7 +12,7 @@ use Rattle.std.proofs.lemmas.List.{length_push}
 use Rattle.std.proofs.lemmas.Option.{get_or_from_slice_get, slice_get_within, slice_get-map}
 use Rattle.record_pages.specs.Expiry.{is_live}
 use Rattle.certificate_finder.specs.declared.put.Put.{Put}
-use Rattle.certificate_finder.specs.declared.step.Step.{Step}
+use Rattle.certificate_finder.specs.declared.numbered_call.NumberedCall.{NumberedCall}
 use Rattle.certificate_finder.specs.Leaves.{AreEnds, AreLeavesOf, IsBelow, itself}
 use Rattle.certificate_finder.specs.Putting.{AreInOrder, CanRead, GivesAt, IsFitPut, expiry_at, last_rank, put_rank, value_rank}
 use Rattle.certificate_finder.specs.Steps.{IsFit}
@@ -116,7 +116,7 @@ same_key k v s l w t u r a b c d e f low high = omega arith
 same_value : (k v s w t u r : ℕ) → s < 2 ^ 64 → t < 2 ^ 64 → u < 2 ^ 64 → r < 2 ^ 64 → value_rank k v s ≤ value_rank k w t → value_rank k w u ≤ value_rank k v r → w ≡ v
 same_value k v s w t u r c d e f low high = omega arith
 
-module _ (puts : List Put) (ends leaves : List ℕ) (order : AreInOrder puts) (are : AreEnds puts ends) (of : AreLeavesOf puts ends (length puts) leaves) (hit : Step) (fit : IsFit hit) (upto leaf : ℕ) (split : IsSplit put_rank puts (value_rank hit.key hit.value hit.end) upto) (below : IsBelow ends (value_rank hit.key hit.value hit.start) leaf) where
+module _ (puts : List Put) (ends leaves : List ℕ) (order : AreInOrder puts) (are : AreEnds puts ends) (of : AreLeavesOf puts ends (length puts) leaves) (hit : NumberedCall) (fit : IsFit hit) (upto leaf : ℕ) (split : IsSplit put_rank puts (value_rank hit.key hit.value hit.end) upto) (below : IsBelow ends (value_rank hit.key hit.value hit.start) leaf) where
   leaf_of : (k : ℕ) (put : Put) → slice_get puts k ≡ Some put → IsBelow ends (last_rank put) (slice_index leaves k)
   leaf_of k put at =
       let within = slice_get_within puts k put at in

@@ -11,7 +11,7 @@ use Rattle.std.proofs.lemmas.List.Sorted.{All-permutation, Contains-permutation,
 use Rattle.std.proofs.lemmas.Map.Keys.{IsDistinct-IsPermutation}
 use Rattle.std.proofs.lemmas.Map.Made.{AllPairs-from_IsDistinct, IsDistinct-from_AllPairs}
 use Rattle.std.proofs.lemmas.Option.{get_or_from_slice_get, slice_get_within, same_Some, slice_get-get_or}
-use Rattle.certificate_finder.specs.declared.step.Step.{Step}
+use Rattle.certificate_finder.specs.declared.numbered_call.NumberedCall.{NumberedCall}
 use Rattle.certificate_finder.specs.Lists.{TellsOne, Lists, AreApart, GrowsBy}
 
 -- what holds of each element holds of the one at an index
@@ -41,11 +41,11 @@ contains_at xs k x at = (k, slice_get_within xs k x at, get_or_from_slice_get xs
 pub same_at : {X : Type 0} (xs : List X) (i j : ℕ) (x y : X) → i ≡ j → slice_get xs i ≡ Some x → slice_get xs j ≡ Some y → x ≡ y
 same_at xs i j x y same one other = same_Some x y (sym one ∙ ap (slice_get xs) same ∙ other)
 
-module _ {X : Type 0} (steps : List Step) (wanted : Step → Type 0) (tells : ℕ → Step → X → Type 0) where
+module _ {X : Type 0} (steps : List NumberedCall) (wanted : NumberedCall → Type 0) (tells : ℕ → NumberedCall → X → Type 0) where
   pub lists_none : Lists steps wanted tells 0 []
   lists_none = record { few = omega arith; sound = All-nil (TellsOne steps wanted tells); complete = λ p s less at want. absurd (omega arith) }
 
-  pub lists_push : (upto : ℕ) (items : List X) (step : Step) (item : X) → Lists steps wanted tells upto items → slice_get steps upto ≡ Some step → wanted step → tells upto step item → Lists steps wanted tells (upto + 1) (items ++ item ∷ [])
+  pub lists_push : (upto : ℕ) (items : List X) (step : NumberedCall) (item : X) → Lists steps wanted tells upto items → slice_get steps upto ≡ Some step → wanted step → tells upto step item → Lists steps wanted tells (upto + 1) (items ++ item ∷ [])
   lists_push upto items step item had at is told = record {
     few = let l = length_push items item in let f = had.few in omega arith;
     sound = All-push (TellsOne steps wanted tells) items item had.sound (record { position = upto; step = step; at = at; is_wanted = is; told = told });
@@ -61,7 +61,7 @@ module _ {X : Type 0} (steps : List Step) (wanted : Step → Type 0) (tells : �
     ];
   }
 
-  pub lists_pass : (upto : ℕ) (items : List X) (step : Step) → Lists steps wanted tells upto items → slice_get steps upto ≡ Some step → ¬ wanted step → Lists steps wanted tells (upto + 1) items
+  pub lists_pass : (upto : ℕ) (items : List X) (step : NumberedCall) → Lists steps wanted tells upto items → slice_get steps upto ≡ Some step → ¬ wanted step → Lists steps wanted tells (upto + 1) items
   lists_pass upto items step had at not = record {
     few = let f = had.few in omega arith;
     sound = had.sound;
@@ -122,21 +122,21 @@ module _ {X : Type 0} (place : X → ℕ) where
 
 -- ---- a list that grows by a call, if it is wanted
 
-module _ {X : Type 0} (steps : List Step) (wanted : Step → Type 0) (tells : ℕ → Step → X → Type 0) where
-  pub lists_grow : (upto : ℕ) (old new : List X) (step : Step) → Lists steps wanted tells upto old → slice_get steps upto ≡ Some step → GrowsBy wanted tells upto step old new → Lists steps wanted tells (upto + 1) new
+module _ {X : Type 0} (steps : List NumberedCall) (wanted : NumberedCall → Type 0) (tells : ℕ → NumberedCall → X → Type 0) where
+  pub lists_grow : (upto : ℕ) (old new : List X) (step : NumberedCall) → Lists steps wanted tells upto old → slice_get steps upto ≡ Some step → GrowsBy wanted tells upto step old new → Lists steps wanted tells (upto + 1) new
   lists_grow upto old new step had at grows = elim grows [
     | inl more ↦ subst (λ items. Lists steps wanted tells (upto + 1) items) (sym more.1.2) (lists_push steps wanted tells upto old step more.1.0 had at more.0 more.1.1)
     | inr same ↦ subst (λ items. Lists steps wanted tells (upto + 1) items) (sym same.1) (lists_pass steps wanted tells upto old step had at same.0)
   ]
 
-pub apart_grows : {X : Type 0} (place : X → ℕ) (wanted : Step → Type 0) (tells : ℕ → Step → X → Type 0) (upto : ℕ) (old new : List X) (step : Step) → AreApart place upto old → ((item : X) → tells upto step item → place item ≡ upto) → GrowsBy wanted tells upto step old new → AreApart place (upto + 1) new
+pub apart_grows : {X : Type 0} (place : X → ℕ) (wanted : NumberedCall → Type 0) (tells : ℕ → NumberedCall → X → Type 0) (upto : ℕ) (old new : List X) (step : NumberedCall) → AreApart place upto old → ((item : X) → tells upto step item → place item ≡ upto) → GrowsBy wanted tells upto step old new → AreApart place (upto + 1) new
 apart_grows place wanted tells upto old new step had at grows = elim grows [
   | inl more ↦ subst (λ items. AreApart place (upto + 1) items) (sym more.1.2) (apart_push place upto old more.1.0 had (at more.1.0 more.1.1))
   | inr same ↦ subst (λ items. AreApart place (upto + 1) items) (sym same.1) (apart_pass place upto old had)
 ]
 
 -- growing by items of which more is known
-pub grows_weaker : {X : Type 0} (wanted : Step → Type 0) (tells knows : ℕ → Step → X → Type 0) (p q : ℕ) (step : Step) (old new : List X) → ((item : X) → tells p step item → knows q step item) → GrowsBy wanted tells p step old new → GrowsBy wanted knows q step old new
+pub grows_weaker : {X : Type 0} (wanted : NumberedCall → Type 0) (tells knows : ℕ → NumberedCall → X → Type 0) (p q : ℕ) (step : NumberedCall) (old new : List X) → ((item : X) → tells p step item → knows q step item) → GrowsBy wanted tells p step old new → GrowsBy wanted knows q step old new
 grows_weaker wanted tells knows p q step old new more grows = elim grows [
   | inl one ↦ inl (one.0, (one.1.0, more one.1.0 one.1.1, one.1.2))
   | inr same ↦ inr same

@@ -8,12 +8,12 @@ use Rattle.std.proofs.lemmas.List.Elements.{All-nil, All-push, All-weaker, Conta
 use Rattle.std.proofs.lemmas.List.Quantifiers.{all_pairs_push}
 use Rattle.std.proofs.lemmas.Option.{slice_get_within}
 use Rattle.record_pages.specs.Expiry.{is_live}
-use Rattle.certificate_finder.specs.declared.kind.Kind.TheVariants as kinds
+use Rattle.certificate_finder.specs.declared.call_kind.CallKind.TheVariants as kinds
 use Rattle.certificate_finder.specs.declared.owner.Owner.{Owner}
 use Rattle.certificate_finder.specs.declared.owner.Owner.TheVariants as kinds_of_owner
 use Rattle.certificate_finder.specs.declared.put.Put.{Put}
 use Rattle.certificate_finder.specs.declared.reads.Reading.TheVariants as readings
-use Rattle.certificate_finder.specs.declared.step.Step.{Step}
+use Rattle.certificate_finder.specs.declared.numbered_call.NumberedCall.{NumberedCall}
 use Rattle.certificate_finder.specs.Lists.{TellsOne}
 use Rattle.certificate_finder.specs.Owning.{AreOwners, IsNoted, IsOwned, IsOwner, IsOwnerAt, IsRefused, IsUnsure, MayRead, ReadsLive, ReadsNoLive, ReadsOnly, ReadsSeveral}
 use Rattle.certificate_finder.specs.Putting.{ArePuts, CanRead, EndsOver, GivesAt, Putting, TellsPut}
@@ -25,7 +25,7 @@ use Rattle.certificate_finder.proofs.StepLemmas.{at_front, at_push}
 
 -- ---- what a put says of its call
 
-pub may_read : (steps : List Step) (p : ℕ) (step hit : Step) (put : Put) → Putting step → TellsPut steps p step put → CanRead hit put → MayRead steps hit step
+pub may_read : (steps : List NumberedCall) (p : ℕ) (step hit : NumberedCall) (put : Put) → Putting step → TellsPut steps p step put → CanRead hit put → MayRead steps hit step
 may_read steps p step hit put is told can =
     let start : put.start ≡ step.start = told.start in
     let begun = can.begun in
@@ -38,14 +38,14 @@ may_read steps p step hit put is told can =
       stands = λ q other at over. let least = told.dead.least q other at over in omega arith;
     }
 
-still_stands : (steps : List Step) (step hit : Step) (dead : ℕ) (over : Option ℕ) → hit.start < 2 ^ 64 → MayRead steps hit step → MatchOption over (dead ≡ 18446744073709551615) (EndsOver steps step dead) → hit.start ≤ dead
+still_stands : (steps : List NumberedCall) (step hit : NumberedCall) (dead : ℕ) (over : Option ℕ) → hit.start < 2 ^ 64 → MayRead steps hit step → MatchOption over (dead ≡ 18446744073709551615) (EndsOver steps step dead) → hit.start ≤ dead
 still_stands steps step hit dead None small may by = omega arith
 still_stands steps step hit dead (Some q) small may by =
     let le = may.stands q by.other by.at by.over in
     let end : by.other.end ≡ dead = by.end in
     omega arith
 
-pub can_read : (steps : List Step) (p : ℕ) (step hit : Step) (put : Put) → hit.start < 2 ^ 64 → TellsPut steps p step put → MayRead steps hit step → CanRead hit put
+pub can_read : (steps : List NumberedCall) (p : ℕ) (step hit : NumberedCall) (put : Put) → hit.start < 2 ^ 64 → TellsPut steps p step put → MayRead steps hit step → CanRead hit put
 can_read steps p step hit put small told may =
     let start : put.start ≡ step.start = told.start in
     let begun = may.begun in
@@ -58,9 +58,9 @@ can_read steps p step hit put small told may =
 
 -- ---- what the puts say of a hit
 
-module _ (steps : List Step) (puts : List Put) (are : ArePuts steps puts) (hit : Step) (fit : IsFit hit) where
+module _ (steps : List NumberedCall) (puts : List Put) (are : ArePuts steps puts) (hit : NumberedCall) (fit : IsFit hit) where
   -- a put that the hit may have read has an index
-  given : (p : ℕ) (step : Step) → slice_get steps p ≡ Some step → ReadsLive steps hit step → (index : ℕ) × (put : Put) × (slice_get puts index ≡ Some put) × (put.position ≡ p) × GivesAt puts hit index
+  given : (p : ℕ) (step : NumberedCall) → slice_get steps p ≡ Some step → ReadsLive steps hit step → (index : ℕ) × (put : Put) × (slice_get puts index ≡ Some put) × (put.position ≡ p) × GivesAt puts hit index
   given p step at reads =
       let t = are.lists.complete p step (slice_get_within steps p step at) at reads.may.kind in
       let k = index_of puts t.item t.listed in
@@ -68,7 +68,7 @@ module _ (steps : List Step) (puts : List Put) (are : ArePuts steps puts) (hit :
       (k.0, t.item, k.1, t.told.is_at, record { put = t.item; at = k.1; reads = can_read steps p step hit t.item fit.start t.told reads.may; live = live })
 
   -- and the put at an index is one that the hit may have read
-  pub read_by : (index : ℕ) (put : Put) → slice_get puts index ≡ Some put → GivesAt puts hit index → (step : Step) × (slice_get steps put.position ≡ Some step) × ReadsLive steps hit step
+  pub read_by : (index : ℕ) (put : Put) → slice_get puts index ≡ Some put → GivesAt puts hit index → (step : NumberedCall) × (slice_get steps put.position ≡ Some step) × ReadsLive steps hit step
   read_by index put at gives =
       let same = same_at puts index index gives.put put refl gives.at at in
       let t = all_at (TellsOne steps Putting (TellsPut steps)) puts index put are.lists.sound at in
@@ -125,7 +125,7 @@ module _ (steps : List Step) (puts : List Put) (are : ArePuts steps puts) (hit :
 
 -- ---- one call more has its owner
 
-pub owners_begin : (steps : List Step) → AreOwners steps 0 [] []
+pub owners_begin : (steps : List NumberedCall) → AreOwners steps 0 [] []
 owners_begin steps = record {
   count = refl;
   owned = λ p step owner at none. absurd (let within = slice_get_within {A = ℕ} [] p owner none in omega arith);
@@ -135,8 +135,8 @@ owners_begin steps = record {
   below = All-nil (λ p. p < 0);
 }
 
-module _ (steps : List Step) (upto : ℕ) (owners unsure : List ℕ) (had : AreOwners steps upto owners unsure) (step : Step) (at : slice_get steps upto ≡ Some step) where
-  owned_more : (owner : ℕ) → IsOwned steps upto step owner → (p : ℕ) (s : Step) (o : ℕ) → slice_get steps p ≡ Some s → slice_get (owners ++ owner ∷ []) p ≡ Some o → IsOwned steps p s o
+module _ (steps : List NumberedCall) (upto : ℕ) (owners unsure : List ℕ) (had : AreOwners steps upto owners unsure) (step : NumberedCall) (at : slice_get steps upto ≡ Some step) where
+  owned_more : (owner : ℕ) → IsOwned steps upto step owner → (p : ℕ) (s : NumberedCall) (o : ℕ) → slice_get steps p ≡ Some s → slice_get (owners ++ owner ∷ []) p ≡ Some o → IsOwned steps p s o
   owned_more owner is p s o at_s at_o = elim (cases_eq p upto) [
     | inl same ↦
         let e = at_push owners owner o p at_o (same ∙ sym had.count) in
@@ -174,7 +174,7 @@ module _ (steps : List Step) (upto : ℕ) (owners unsure : List ℕ) (had : AreO
 
   -- no hit is sure
   pub itself_more : ¬ (step.kind ≡ kinds.Hit) → AreOwners steps (upto + 1) (owners ++ upto ∷ []) unsure
-  itself_more no_hit = owner_more upto (inl (refl, λ hit. absurd (no_hit hit))) (λ one. no_hit (ap (λ (s : Step). s.kind) (same_at steps upto upto step one.step refl at one.at) ∙ one.kind))
+  itself_more no_hit = owner_more upto (inl (refl, λ hit. absurd (no_hit hit))) (λ one. no_hit (ap (λ (s : NumberedCall). s.kind) (same_at steps upto upto step one.step refl at one.at) ∙ one.kind))
 
   -- a hit that may have read one put alone is sure
   pub put_more : (owner : ℕ) → (step.kind ≡ kinds.Hit) → ReadsOnly steps step owner → AreOwners steps (upto + 1) (owners ++ owner ∷ []) unsure
@@ -184,7 +184,7 @@ module _ (steps : List Step) (upto : ℕ) (owners unsure : List ℕ) (had : AreO
 
 -- ---- an owner is noted
 
-noted_is : (steps : List Step) (upto : ℕ) (owners unsure new new_unsure : List ℕ) (step : Step) (owner : Owner) → AreOwners steps upto owners unsure → slice_get steps upto ≡ Some step → IsOwner steps step owner → IsNoted upto owner owners new unsure new_unsure true → AreOwners steps (upto + 1) new new_unsure
+noted_is : (steps : List NumberedCall) (upto : ℕ) (owners unsure new new_unsure : List ℕ) (step : NumberedCall) (owner : Owner) → AreOwners steps upto owners unsure → slice_get steps upto ≡ Some step → IsOwner steps step owner → IsNoted upto owner owners new unsure new_unsure true → AreOwners steps (upto + 1) new new_unsure
 noted_is steps upto owners unsure new new_unsure step kinds_of_owner.Itself had at is noted =
     subst (λ o. AreOwners steps (upto + 1) o new_unsure) (sym noted.1) (subst (λ u. AreOwners steps (upto + 1) (owners ++ upto ∷ []) u) (sym noted.2) (itself_more steps upto owners unsure had step at is))
 noted_is steps upto owners unsure new new_unsure step (kinds_of_owner.Put put) had at is noted =
@@ -193,14 +193,14 @@ noted_is steps upto owners unsure new new_unsure step kinds_of_owner.Unsure had 
     subst (λ o. AreOwners steps (upto + 1) o new_unsure) (sym noted.1) (subst (λ u. AreOwners steps (upto + 1) (owners ++ upto ∷ []) u) (sym noted.2) (unsure_more steps upto owners unsure had step at is.0 is.1))
 noted_is steps upto owners unsure new new_unsure step kinds_of_owner.Nothing had at is noted = let h : true ≡ false = noted in cc
 
-pub noted_more : (steps : List Step) (upto : ℕ) (owners unsure new new_unsure : List ℕ) (owner : Owner) → AreOwners steps upto owners unsure → IsOwnerAt steps upto owner → IsNoted upto owner owners new unsure new_unsure true → AreOwners steps (upto + 1) new new_unsure
+pub noted_more : (steps : List NumberedCall) (upto : ℕ) (owners unsure new new_unsure : List ℕ) (owner : Owner) → AreOwners steps upto owners unsure → IsOwnerAt steps upto owner → IsNoted upto owner owners new unsure new_unsure true → AreOwners steps (upto + 1) new new_unsure
 noted_more steps upto owners unsure new new_unsure owner had is noted = noted_is steps upto owners unsure new new_unsure is.step owner had is.at is.is noted
 
-refused_is : (steps : List Step) (upto : ℕ) (owners unsure new new_unsure : List ℕ) (step : Step) (owner : Owner) → slice_get steps upto ≡ Some step → IsOwner steps step owner → IsNoted upto owner owners new unsure new_unsure false → IsRefused steps upto
+refused_is : (steps : List NumberedCall) (upto : ℕ) (owners unsure new new_unsure : List ℕ) (step : NumberedCall) (owner : Owner) → slice_get steps upto ≡ Some step → IsOwner steps step owner → IsNoted upto owner owners new unsure new_unsure false → IsRefused steps upto
 refused_is steps upto owners unsure new new_unsure step kinds_of_owner.Itself at is noted = let h : false ≡ true = noted.0 in cc
 refused_is steps upto owners unsure new new_unsure step (kinds_of_owner.Put put) at is noted = let h : false ≡ true = noted.0 in cc
 refused_is steps upto owners unsure new new_unsure step kinds_of_owner.Unsure at is noted = let h : false ≡ true = noted.0 in cc
 refused_is steps upto owners unsure new new_unsure step kinds_of_owner.Nothing at is noted = record { step = step; at = at; kind = is.0; none = is.1 }
 
-pub refused : (steps : List Step) (upto : ℕ) (owners unsure new new_unsure : List ℕ) (owner : Owner) → IsOwnerAt steps upto owner → IsNoted upto owner owners new unsure new_unsure false → IsRefused steps upto
+pub refused : (steps : List NumberedCall) (upto : ℕ) (owners unsure new new_unsure : List ℕ) (owner : Owner) → IsOwnerAt steps upto owner → IsNoted upto owner owners new unsure new_unsure false → IsRefused steps upto
 refused steps upto owners unsure new new_unsure owner is noted = refused_is steps upto owners unsure new new_unsure is.step owner is.at is.is noted

@@ -79,7 +79,7 @@ module _ (OfOne : ℕ → ℕ → Type 0) (start : ℕ → ℕ) where
         point_until (take i (map position line)) (position (get_or line i d)) (point (get_or line i d)) (point (get_or line j d)) first (second.above (position (get_or line i d)) there one)
         (λ q has of_one. second.above q (further_front (map position line) i j q (omega arith) has) (join q (position (get_or line i d)) (position (get_or line j d)) of_one one))
 
-    -- and each is between the start and the end of its call, where none of its key before it starts later than it ends
+    -- and each is between the start and the end of its call, if none of its key before it starts later than it ends
     pub points_within : (end : ℕ → ℕ) (line : List X) → ArePoints position point OfOne start line → All (λ x. start (position x) ≤ end (position x)) line → AllPairs (λ a b. OfOne (position a) (position b) → start (position a) ≤ end (position b)) line → All (λ x. (start (position x) ≤ point x) × (point x ≤ end (position x))) line
     points_within end line points intervals fits = λ k d less.
         let is = points k d less in

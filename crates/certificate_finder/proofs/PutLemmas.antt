@@ -5,7 +5,7 @@ use Rattle.std.specs.List.Sorted.{IsNonDecreasingBy, IsPermutation}
 use Rattle.std.proofs.lemmas.List.Elements.{All-weaker, All-contains}
 use Rattle.std.proofs.lemmas.Option.{slice_get_within}
 use Rattle.certificate_finder.specs.declared.put.Put.{Put}
-use Rattle.certificate_finder.specs.declared.step.Step.{Step}
+use Rattle.certificate_finder.specs.declared.numbered_call.NumberedCall.{NumberedCall}
 use Rattle.certificate_finder.specs.declared.write.Write.{Write}
 use Rattle.certificate_finder.specs.Lists.{IsTold, Lists, TellsOne}
 use Rattle.certificate_finder.specs.Putting.{ArePuts, EndsOver, IsFitPut, IsOver, IsPut, Putting, TellsPut, put_rank}
@@ -15,14 +15,14 @@ use Rattle.certificate_finder.proofs.Listing.{all_at, distinct_permuted, lists_p
 
 -- ---- until when a put can be read
 
-module _ (steps : List Step) (writes : List Write) (are : AreWrites steps writes) where
+module _ (steps : List NumberedCall) (writes : List Write) (are : AreWrites steps writes) where
   -- a write of a history is among the writes
-  written : (q : ℕ) (other : Step) → slice_get steps q ≡ Some other → Writing other → IsTold TellsWrite writes q other
+  written : (q : ℕ) (other : NumberedCall) → slice_get steps q ≡ Some other → Writing other → IsTold TellsWrite writes q other
   written q other at writing = are.lists.complete q other (slice_get_within steps q other at) at writing
 
-  pub dead_of_none : (p : ℕ) (step : Step) (put : Put) → IsFirstOver writes step.key step.end None → IsPut p step None put → TellsPut steps p step put
+  pub dead_of_none : (p : ℕ) (step : NumberedCall) (put : Put) → IsFirstOver writes step.key step.end None → IsPut p step None put → TellsPut steps p step put
   dead_of_none p step put first is =
-      let nothing : (q : ℕ) (other : Step) → slice_get steps q ≡ Some other → IsOver step other → ⊥
+      let nothing : (q : ℕ) (other : NumberedCall) → slice_get steps q ≡ Some other → IsOver step other → ⊥
       = λ q other at over.
       let w = written q other at over.writes in
       let start : w.item.start ≡ other.start = w.told.start in
@@ -40,7 +40,7 @@ module _ (steps : List Step) (writes : List Write) (are : AreWrites steps writes
         };
       }
 
-  pub dead_of_some : (p : ℕ) (step : Step) (put : Put) (write : Write) → IsFirstOver writes step.key step.end (Some write) → IsPut p step (Some write) put → TellsPut steps p step put
+  pub dead_of_some : (p : ℕ) (step : NumberedCall) (put : Put) (write : Write) → IsFirstOver writes step.key step.end (Some write) → IsPut p step (Some write) put → TellsPut steps p step put
   dead_of_some p step put write first is =
       let one : TellsOne steps Writing TellsWrite write = All-contains (TellsOne steps Writing TellsWrite) writes write are.lists.sound first.listed in
       let dead : put.dead ≡ write.end = is.is_over.1 in
@@ -71,12 +71,12 @@ module _ (steps : List Step) (writes : List Write) (are : AreWrites steps writes
         };
       }
 
-  pub dead_of : (p : ℕ) (step : Step) (put : Put) (over : Option Write) → IsFirstOver writes step.key step.end over → IsPut p step over put → TellsPut steps p step put
+  pub dead_of : (p : ℕ) (step : NumberedCall) (put : Put) (over : Option Write) → IsFirstOver writes step.key step.end over → IsPut p step over put → TellsPut steps p step put
   dead_of p step put None first is = dead_of_none p step put first is
   dead_of p step put (Some write) first is = dead_of_some p step put write first is
 
 -- a put's last stamp is in its range
-dead_fits : (steps : List Step) (step : Step) (dead : ℕ) (over : Option ℕ) → All IsFit steps → MatchOption over (dead ≡ 18446744073709551615) (EndsOver steps step dead) → dead < 2 ^ 64
+dead_fits : (steps : List NumberedCall) (step : NumberedCall) (dead : ℕ) (over : Option ℕ) → All IsFit steps → MatchOption over (dead ≡ 18446744073709551615) (EndsOver steps step dead) → dead < 2 ^ 64
 dead_fits steps step dead None fit by = omega arith
 dead_fits steps step dead (Some q) fit by =
     let f : IsFit by.other = all_at IsFit steps q by.other fit by.at in
@@ -85,7 +85,7 @@ dead_fits steps step dead (Some q) fit by =
     omega arith
 
 -- the listed puts, sorted
-pub are_puts : (steps : List Step) (xs ys : List Put) → All IsFit steps → Lists steps Putting (TellsPut steps) (length steps) xs → AllPairs (λ one other. one.position ≢ other.position) xs → IsPermutation xs ys → IsNonDecreasingBy put_rank ys → ArePuts steps ys
+pub are_puts : (steps : List NumberedCall) (xs ys : List Put) → All IsFit steps → Lists steps Putting (TellsPut steps) (length steps) xs → AllPairs (λ one other. one.position ≢ other.position) xs → IsPermutation xs ys → IsNonDecreasingBy put_rank ys → ArePuts steps ys
 are_puts steps xs ys fit had apart moved sorted =
     let lists = lists_permuted steps Putting (TellsPut steps) (length steps) xs ys moved had in
     record {

@@ -106,7 +106,7 @@ pub no_write : (act : Act) (value : List ℕ) (moment : ℕ) → act ≡ Hit val
 no_write act value moment e writes = let none : IsWrite (Hit value moment) = subst IsWrite e writes in none
 
 module _ (history : List Call) (certificate : List ℕ) (a : IsAccepted history certificate) where
-  -- no call stands behind one that it precedes
+  -- no call stands after one that it precedes
   pub agrees_at : (i j p q : ℕ) (one other : Call) → i < j → slice_get certificate i ≡ Some p → slice_get certificate j ≡ Some q → slice_get history p ≡ Some one → slice_get history q ≡ Some other → ¬ Precedes other one
   agrees_at i j p q one other less at_i at_j at_p at_q =
       let pairs = picked_pairs (slice_get history) (λ (b c : Call). ¬ Precedes c b) certificate (pairs_from (λ (b c : Call). ¬ Precedes c b) (in_order history certificate) a.agrees) in

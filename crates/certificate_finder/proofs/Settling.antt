@@ -1,4 +1,4 @@
--- Where nothing was decided, no reason was passed over.
+-- If nothing was decided, no reason was passed over.
 use Rattle.std.proofs.Common.{◌≡◌, ◌≢◌, ℕ, ◌<◌, ◌≤◌, ◌⊎◌, Some, List, [], length, sym, ap, ◌∙◌, subst, arith, inl, inr}
 use Rattle.std.specs.Prelude.{All, AllPairs, Contains, slice_get, map, IsSomeAnd, IsTrue}
 use Rattle.std.proofs.lemmas.List.Elements.{All-weaker}
@@ -14,7 +14,7 @@ use Rattle.certificate_checker.proofs.public_laws.Laying.{cases_before}
 use Rattle.certificate_checker.proofs.public_laws.Listing.{all_member, member_contained, member_map}
 use Rattle.certificate_checker.proofs.public_laws.Lookups.{some_and}
 use Rattle.certificate_finder.specs.declared.excluded.Excluded.{Excluded}
-use Rattle.certificate_finder.specs.declared.step.Step.{Step}
+use Rattle.certificate_finder.specs.declared.numbered_call.NumberedCall.{NumberedCall}
 use Rattle.certificate_finder.specs.declared.witness.Side.{Side}
 use Rattle.certificate_finder.specs.declared.witness.Witness.{Witness}
 use Rattle.certificate_finder.specs.declared.witness.Witness.TheVariants as witnesses
@@ -58,10 +58,10 @@ none_read history hit put puts none could =
     let live = subst (λ m. IsTrue (is_live has.expires m)) moment (live_of history hit put could.lives has) in
     not_this history none.call has.put_call none.value none.moment has.expires put has.put_at put_is begun live stands listed.0 listed.2 excluded
 
-module _ (history : List Call) (steps : List Step) (are : AreSteps history steps) (owners unsure : List ℕ) (own : AreOwners steps (length steps) owners unsure) where
+module _ (history : List Call) (steps : List NumberedCall) (are : AreSteps history steps) (owners unsure : List ℕ) (own : AreOwners steps (length steps) owners unsure) where
   -- ---- a hit that is not listed reads a put
 
-  owner_of : (p : ℕ) (step : Step) → slice_get steps p ≡ Some step → (owner : ℕ) × (slice_get owners p ≡ Some owner)
+  owner_of : (p : ℕ) (step : NumberedCall) → slice_get steps p ≡ Some step → (owner : ℕ) × (slice_get owners p ≡ Some owner)
   owner_of p step at =
       let within = slice_get_within steps p step at in
       let count = own.count in
@@ -95,7 +95,7 @@ module _ (history : List Call) (steps : List Step) (are : AreSteps history steps
 
   module _ (zones : List Zone) (zs : AreZones steps owners zones) (follow : AllPairs FollowOn zones) where
     -- a zone ends for some call no later, and starts for some call no earlier, than any call that goes with its write
-    ends_by : (write q : ℕ) (step : Step) (zone : Zone) (call : Call) → TellsZone steps owners write step zone → Goes owners write q → slice_get history q ≡ Some call → zone.end ≤ call.end
+    ends_by : (write q : ℕ) (step : NumberedCall) (zone : Zone) (call : Call) → TellsZone steps owners write step zone → Goes owners write q → slice_get history q ≡ Some call → zone.end ≤ call.end
     ends_by write q step zone call tells goes at =
         let s = step_at history steps are q call at in
         let le = tells.earliest.least q s.0 s.1 goes in
@@ -103,7 +103,7 @@ module _ (history : List Call) (steps : List Step) (are : AreSteps history steps
         let b = s.2.end in
         omega arith
 
-    starts_by : (write q : ℕ) (step : Step) (zone : Zone) (call : Call) → TellsZone steps owners write step zone → Goes owners write q → slice_get history q ≡ Some call → call.start ≤ zone.start
+    starts_by : (write q : ℕ) (step : NumberedCall) (zone : Zone) (call : Call) → TellsZone steps owners write step zone → Goes owners write q → slice_get history q ≡ Some call → call.start ≤ zone.start
     starts_by write q step zone call tells goes at =
         let s = step_at history steps are q call at in
         let le = tells.latest.greatest q s.0 s.1 goes in
@@ -112,14 +112,14 @@ module _ (history : List Call) (steps : List Step) (are : AreSteps history steps
         omega arith
 
     -- the zone of a write of a key
-    zone_of : (key : List ℕ) (write : ℕ) → IsSomeAnd (slice_get history write) (λ w. Writes (deed_of w) key) → (call : Call) × (step : Step) × (slice_get history write ≡ Some call) × (slice_get steps write ≡ Some step) × (call.key ≡ key) × IsTold (TellsZone steps owners) zones write step
+    zone_of : (key : List ℕ) (write : ℕ) → IsSomeAnd (slice_get history write) (λ w. Writes (deed_of w) key) → (call : Call) × (step : NumberedCall) × (slice_get history write ≡ Some call) × (slice_get steps write ≡ Some step) × (call.key ≡ key) × IsTold (TellsZone steps owners) zones write step
     zone_of key write writes =
         let w = some_and (slice_get history write) (λ w. Writes (deed_of w) key) writes in
         let s = step_at history steps are write w.0 w.1 in
         (w.0, s.0, w.1, s.1, w.2.0, zs.lists.complete write s.0 (slice_get_within steps write s.0 s.1) s.1 (subst IsWriting (sym s.2.kind) (writing_of w.0.act w.2.1)))
 
-    -- where one side's zone stands first, no call of the other side precedes one of it
-    in_order : (key : List ℕ) (one other : Side) (s t : Step) (v w : Zone) (i j : ℕ) → i < j → slice_get zones i ≡ Some v → slice_get zones j ≡ Some w → v.key ≡ w.key → TellsZone steps owners one.write s v → TellsZone steps owners other.write t w → Goes owners one.write one.late → Goes owners other.write other.early → ¬ IsSide history key other one
+    -- if one side's zone stands first, no call of the other side precedes one of it
+    in_order : (key : List ℕ) (one other : Side) (s t : NumberedCall) (v w : Zone) (i j : ℕ) → i < j → slice_get zones i ≡ Some v → slice_get zones j ≡ Some w → v.key ≡ w.key → TellsZone steps owners one.write s v → TellsZone steps owners other.write t w → Goes owners one.write one.late → Goes owners other.write other.early → ¬ IsSide history key other one
     in_order key one other s t v w i j less at_i at_j keys tells others late_goes early_goes second =
         let fits = pair_at FollowOn zones i j v w follow less at_i at_j keys in
         let early = some_and (slice_get history other.early) (λ early. IsSomeAnd (slice_get history one.late) (λ late. Precedes early late)) second.precedes in

@@ -14,9 +14,9 @@ use Rattle.trace_file.specs.declared.call.Call.{Call}
 use Rattle.certificate_checker.specs.Acceptance.{IsAccepted}
 use Rattle.certificate_checker.specs.Orders.{IsOrder}
 use Rattle.certificate_checker.proofs.public_laws.Lookups.{take_next}
-use Rattle.certificate_finder.specs.declared.kind.Kind.TheVariants as kinds
+use Rattle.certificate_finder.specs.declared.call_kind.CallKind.TheVariants as kinds
 use Rattle.certificate_finder.specs.declared.ranked.Ranked.{Ranked}
-use Rattle.certificate_finder.specs.declared.step.Step.{Step}
+use Rattle.certificate_finder.specs.declared.numbered_call.NumberedCall.{NumberedCall}
 use Rattle.certificate_finder.specs.declared.zone.Zone.{Zone}
 use Rattle.certificate_finder.specs.Lists.{TellsOne}
 use Rattle.certificate_finder.specs.Writing.{Writing}
@@ -70,17 +70,17 @@ act_no_miss Remove h = refl
 act_no_miss (Hit value moment) h = refl
 act_no_miss Miss h = absurd (h refl)
 
-miss_of : (call : Call) (step : Step) → IsStep call step → step.kind ≢ kinds.Miss → is_miss call.act ≡ false
+miss_of : (call : Call) (step : NumberedCall) → IsStep call step → step.kind ≢ kinds.Miss → is_miss call.act ≡ false
 miss_of call step is some = act_no_miss call.act (λ m. some (is.kind ∙ m))
 
 -- two calls with one key number, neither a miss
-joined : (history : List Call) (steps : List Step) → AreSteps history steps → (p q : ℕ) (s t : Step) (c : Call) → slice_get steps p ≡ Some s → slice_get steps q ≡ Some t → slice_get history q ≡ Some c → s.kind ≢ kinds.Miss → is_miss c.act ≡ false → s.key ≡ t.key → AreOfOne history p q
+joined : (history : List Call) (steps : List NumberedCall) → AreSteps history steps → (p q : ℕ) (s t : NumberedCall) (c : Call) → slice_get steps p ≡ Some s → slice_get steps q ≡ Some t → slice_get history q ≡ Some c → s.kind ≢ kinds.Miss → is_miss c.act ≡ false → s.key ≡ t.key → AreOfOne history p q
 joined history steps are p q s t c at_s at_t at_c some other key =
     let a = call_at history steps are p s at_s in
     let alike = are.alike p q a.0 c s t a.1 at_c at_s at_t in
     of_one history p q a.0 c a.1 at_c (alike.keys.0 key) (miss_of a.0 s a.2 some) other
 
-module _ (history : List Call) (steps : List Step) (are : AreSteps history steps) (owners : List ℕ) (own : AreOwners steps (length steps) owners []) (zones : List Zone) (zs : AreZones steps owners zones) (places : List ℕ) (pl : ArePlaces (length steps) zones (length zones) places) (line : List Ranked) (is : IsLine steps owners places (length zones) line) where
+module _ (history : List Call) (steps : List NumberedCall) (are : AreSteps history steps) (owners : List ℕ) (own : AreOwners steps (length steps) owners []) (zones : List Zone) (zs : AreZones steps owners zones) (places : List ℕ) (pl : ArePlaces (length steps) zones (length zones) places) (line : List Ranked) (is : IsLine steps owners places (length zones) line) where
   pub line_order : IsOrder history (positions_in line)
   line_order = order_permuted history (positions_in is.listed) (positions_in line) (IsPermutation-map (λ (r : Ranked). r.position) is.listed line is.moved) (position_order history (length steps) (positions_in is.listed) are.count is.positions)
 
@@ -96,7 +96,7 @@ module _ (history : List Call) (steps : List Step) (are : AreSteps history steps
   pub line_in_turn : AllPairs (λ p q. turn_at steps owners places (length zones) p ≤ turn_at steps owners places (length zones) q) (positions_in line)
   line_in_turn = pairs_from_at (λ p q. turn_at steps owners places (length zones) p ≤ turn_at steps owners places (length zones) q) (positions_in line) (λ i j p q less one other. turns_rise i j p q (omega arith) one other)
 
-  step_of : (k p : ℕ) → slice_get (positions_in line) k ≡ Some p → (s : Step) × (slice_get steps p ≡ Some s)
+  step_of : (k p : ℕ) → slice_get (positions_in line) k ≡ Some p → (s : NumberedCall) × (slice_get steps p ≡ Some s)
   step_of k p at =
       let within : p < length history = all_at (λ q. q < length history) (positions_in line) k p line_order.positions at in
       let count = are.count in
@@ -132,7 +132,7 @@ module _ (history : List Call) (steps : List Step) (are : AreSteps history steps
         joined history steps are q r t.0 u.0 c.0 t.1 u.1 c.1 mid both.2 same;
   }
 
-  pub line_neighbours : (k p q : ℕ) (s t : Step) → slice_get (positions_in line) k ≡ Some p → slice_get (positions_in line) (k + 1) ≡ Some q → slice_get steps p ≡ Some s → slice_get steps q ≡ Some t → t.kind ≢ kinds.Miss → s.key ≡ t.key → AreOfOne history p q
+  pub line_neighbours : (k p q : ℕ) (s t : NumberedCall) → slice_get (positions_in line) k ≡ Some p → slice_get (positions_in line) (k + 1) ≡ Some q → slice_get steps p ≡ Some s → slice_get steps q ≡ Some t → t.kind ≢ kinds.Miss → s.key ≡ t.key → AreOfOne history p q
   line_neighbours k p q s t at_p at_q at_s at_t some key =
       let le = turns_rise k (k + 1) p q (omega arith) at_p at_q in
       let other = before_no_miss history steps are owners own zones zs places pl p q s t at_s at_t some le in
@@ -163,9 +163,9 @@ spots_begin history line = record {
 div_is : (n k : ℕ) → k < 4294967296 → (n * 4294967296 + k) / 4294967296 ≡ n
 div_is n k less = omega arith
 
-module _ (history : List Call) (steps : List Step) (are : AreSteps history steps) (line : List Ranked) (inline : InLine history steps (positions_in line)) where
+module _ (history : List Call) (steps : List NumberedCall) (are : AreSteps history steps) (line : List Ranked) (inline : InLine history steps (positions_in line)) where
   -- the point of one call more
-  next_is : (spots : List Ranked) (upto point next p : ℕ) (step before : Step) → HavePoints history line spots upto point → slice_get (positions_in line) upto ≡ Some p → slice_get steps p ≡ Some step → (upto ≡ 0 → before ≡ step) → ((q : ℕ) → 0 < upto → slice_get (positions_in line) (upto - 1) ≡ Some q → slice_get steps q ≡ Some before) → IsNextPoint step before point next → IsPoint (AreOfOne history) (start_at history) (take upto (positions_in line)) p next
+  next_is : (spots : List Ranked) (upto point next p : ℕ) (step before : NumberedCall) → HavePoints history line spots upto point → slice_get (positions_in line) upto ≡ Some p → slice_get steps p ≡ Some step → (upto ≡ 0 → before ≡ step) → ((q : ℕ) → 0 < upto → slice_get (positions_in line) (upto - 1) ≡ Some q → slice_get steps q ≡ Some before) → IsNextPoint step before point next → IsPoint (AreOfOne history) (start_at history) (take upto (positions_in line)) p next
   next_is spots upto point next p step before had at at_step first later chosen =
       let c = call_at history steps are p step at_step in
       let start : start_at history p ≡ step.start = start_is history p c.0 c.1 ∙ sym c.2.start in
@@ -212,7 +212,7 @@ module _ (history : List Call) (steps : List Step) (are : AreSteps history steps
             ]
       ]
 
-  pub spots_go_on : (spots : List Ranked) (upto point next : ℕ) (turn : Ranked) (step before : Step) → HavePoints history line spots upto point → upto < 4294967296 → slice_get line upto ≡ Some turn → slice_get steps turn.position ≡ Some step → (upto ≡ 0 → before ≡ step) → ((q : ℕ) → 0 < upto → slice_get (positions_in line) (upto - 1) ≡ Some q → slice_get steps q ≡ Some before) → IsNextPoint step before point next → HavePoints history line (spots ++ record { position = turn.position; rank = next * 4294967296 + upto } ∷ []) (upto + 1) next
+  pub spots_go_on : (spots : List Ranked) (upto point next : ℕ) (turn : Ranked) (step before : NumberedCall) → HavePoints history line spots upto point → upto < 4294967296 → slice_get line upto ≡ Some turn → slice_get steps turn.position ≡ Some step → (upto ≡ 0 → before ≡ step) → ((q : ℕ) → 0 < upto → slice_get (positions_in line) (upto - 1) ≡ Some q → slice_get steps q ≡ Some before) → IsNextPoint step before point next → HavePoints history line (spots ++ record { position = turn.position; rank = next * 4294967296 + upto } ∷ []) (upto + 1) next
   spots_go_on spots upto point next turn step before had few at at_step first later chosen =
       let at_p : slice_get (positions_in line) upto ≡ Some turn.position = slice_get-map (λ (r : Ranked). r.position) line upto ∙ ap (option_map (λ (r : Ranked). r.position)) at in
       let is = next_is spots upto point next turn.position step before had at_p at_step first later chosen in
@@ -253,19 +253,19 @@ module _ (history : List Call) (steps : List Step) (are : AreSteps history steps
 
 -- ---- the turns, call by call
 
-pub turned_begin : (steps : List Step) (owners places : List ℕ) (zones : ℕ) → AreTurned steps owners places zones 0 []
+pub turned_begin : (steps : List NumberedCall) (owners places : List ℕ) (zones : ℕ) → AreTurned steps owners places zones 0 []
 turned_begin steps owners places zones = record { positions = positions_begin; ranks = All-nil (λ (r : Ranked). r.rank ≡ turn_at steps owners places zones r.position) }
 
-pub turned_more : (steps : List Step) (owners places : List ℕ) (zones upto owner place : ℕ) (step : Step) (line : List Ranked) (rank : ℕ) → AreTurned steps owners places zones upto line → slice_get steps upto ≡ Some step → slice_get owners upto ≡ Some owner → slice_get places owner ≡ Some place → rank ≡ turn_of step.kind step.start place zones → AreTurned steps owners places zones (upto + 1) (line ++ record { position = upto; rank = rank } ∷ [])
+pub turned_more : (steps : List NumberedCall) (owners places : List ℕ) (zones upto owner place : ℕ) (step : NumberedCall) (line : List Ranked) (rank : ℕ) → AreTurned steps owners places zones upto line → slice_get steps upto ≡ Some step → slice_get owners upto ≡ Some owner → slice_get places owner ≡ Some place → rank ≡ turn_of step.kind step.start place zones → AreTurned steps owners places zones (upto + 1) (line ++ record { position = upto; rank = rank } ∷ [])
 turned_more steps owners places zones upto owner place step line rank had at owned placed is =
     let here : place_at owners places upto ≡ place = ap (λ o. get_or places o 0) (get_or_from_slice_get owners upto owner 0 owned) ∙ get_or_from_slice_get places owner place 0 placed in
-    let turn : turn_at steps owners places zones upto ≡ turn_of step.kind step.start (place_at owners places upto) zones = ap (λ o. option_map_or (λ (s : Step). turn_of s.kind s.start (place_at owners places upto) zones) o 0) at in
+    let turn : turn_at steps owners places zones upto ≡ turn_of step.kind step.start (place_at owners places upto) zones = ap (λ o. option_map_or (λ (s : NumberedCall). turn_of s.kind s.start (place_at owners places upto) zones) o 0) at in
     record {
       positions = subst (λ ps. ArePositions (upto + 1) ps) (sym (map_push (λ (r : Ranked). r.position) line (record { position = upto; rank = rank }))) (positions_more upto (positions_in line) had.positions);
       ranks = All-push (λ (r : Ranked). r.rank ≡ turn_at steps owners places zones r.position) line (record { position = upto; rank = rank }) had.ranks (is ∙ ap (λ p. turn_of step.kind step.start p zones) (sym here) ∙ sym turn);
     }
 
-pub is_line : (steps : List Step) (owners places : List ℕ) (zones : ℕ) (xs ys : List Ranked) → AreTurned steps owners places zones (length steps) xs → IsPermutation xs ys → IsNonDecreasingBy (λ (r : Ranked). r.rank) ys → IsLine steps owners places zones ys
+pub is_line : (steps : List NumberedCall) (owners places : List ℕ) (zones : ℕ) (xs ys : List Ranked) → AreTurned steps owners places zones (length steps) xs → IsPermutation xs ys → IsNonDecreasingBy (λ (r : Ranked). r.rank) ys → IsLine steps owners places zones ys
 is_line steps owners places zones xs ys had moved sorted = record {
   listed = xs;
   positions = had.positions;
@@ -274,7 +274,7 @@ is_line steps owners places zones xs ys had moved sorted = record {
   sorted = sorted;
 }
 
-pub line_within : (steps : List Step) (owners places : List ℕ) (zones : ℕ) (line : List Ranked) → IsLine steps owners places zones line → All (λ turn. turn.position < length steps) line
+pub line_within : (steps : List NumberedCall) (owners places : List ℕ) (zones : ℕ) (line : List Ranked) → IsLine steps owners places zones line → All (λ turn. turn.position < length steps) line
 line_within steps owners places zones line is =
     All-permutation (λ (r : Ranked). r.position < length steps) is.listed line is.moved (all_from_at (λ (r : Ranked). r.position < length steps) is.listed (λ k r at.
     let here : slice_get (positions_in is.listed) k ≡ Some r.position = slice_get-map (λ (r : Ranked). r.position) is.listed k ∙ ap (option_map (λ (r : Ranked). r.position)) at in
@@ -283,7 +283,7 @@ line_within steps owners places zones line is =
     let len = is.positions.len in
     omega arith))
 
-pub line_length : (steps : List Step) (owners places : List ℕ) (zones : ℕ) (line : List Ranked) → IsLine steps owners places zones line → length line ≡ length steps
+pub line_length : (steps : List NumberedCall) (owners places : List ℕ) (zones : ℕ) (line : List Ranked) → IsLine steps owners places zones line → length line ≡ length steps
 line_length steps owners places zones line is = length_permutation is.listed line is.moved ∙ sym (length-map is.listed (λ (r : Ranked). r.position)) ∙ is.positions.len
 
 -- ---- the places of zones
@@ -310,11 +310,11 @@ places_more count zones upto places zone distinct had at within = record {
   ];
 }
 
-pub zones_in : (steps : List Step) (owners : List ℕ) (zones : List Zone) → AreZones steps owners zones → All (λ (zone : Zone). zone.write < length steps) zones
+pub zones_in : (steps : List NumberedCall) (owners : List ℕ) (zones : List Zone) → AreZones steps owners zones → All (λ (zone : Zone). zone.write < length steps) zones
 zones_in steps owners zones zs = All-weaker (TellsOne steps Writing (TellsZone steps owners)) (λ (zone : Zone). zone.write < length steps) (λ z one. let e : z.write ≡ one.position = one.told.write in let within = slice_get_within steps one.position one.step one.at in omega arith) zones zs.lists.sound
 
 -- the whole way from zones to a certificate
-pub accepted_by_spots : (history : List Call) (steps : List Step) (are : AreSteps history steps) (owners : List ℕ) (own : AreOwners steps (length steps) owners []) (zones : List Zone) (zs : AreZones steps owners zones) (placed places : List ℕ) → placed ≡ places → ArePlaces (length steps) zones (length zones) places → (line turns : List Ranked) → turns ≡ line → IsLine steps owners placed (length zones) line → (spots spotted : List Ranked) → spotted ≡ spots → AllPairs FollowOn zones → All (λ (call : Call). call.start ≤ call.end) history → (InLine history steps (positions_in turns) → AreSpots history turns spots) → (certificate : List ℕ) → certificate ≡ positions_in spotted → IsAccepted history certificate
+pub accepted_by_spots : (history : List Call) (steps : List NumberedCall) (are : AreSteps history steps) (owners : List ℕ) (own : AreOwners steps (length steps) owners []) (zones : List Zone) (zs : AreZones steps owners zones) (placed places : List ℕ) → placed ≡ places → ArePlaces (length steps) zones (length zones) places → (line turns : List Ranked) → turns ≡ line → IsLine steps owners placed (length zones) line → (spots spotted : List Ranked) → spotted ≡ spots → AllPairs FollowOn zones → All (λ (call : Call). call.start ≤ call.end) history → (InLine history steps (positions_in turns) → AreSpots history turns spots) → (certificate : List ℕ) → certificate ≡ positions_in spotted → IsAccepted history certificate
 accepted_by_spots history steps are owners own zones zs placed places same_places pl line turns same_turns is spots spotted same_spots follow intervals make certificate written =
     let pl' : ArePlaces (length steps) zones (length zones) placed = subst (λ p. ArePlaces (length steps) zones (length zones) p) (sym same_places) pl in
     let inline : InLine history steps (positions_in line) = record { neighbours = line_neighbours history steps are owners own zones zs placed pl' line is; grouped = line_grouped history steps are owners own zones zs placed pl' line is } in

@@ -7,21 +7,21 @@ use Rattle.std.proofs.lemmas.List.Elements.{All-nil, All-push}
 use Rattle.std.proofs.lemmas.Option.{get_or_from_slice_get, slice_get_within, slice_get-get_or, same_Some}
 use Rattle.trace_file.specs.Calls.{IsCall, value_of}
 use Rattle.trace_file.specs.declared.call.Call.{Call}
-use Rattle.certificate_finder.specs.declared.step.Step.{Step}
+use Rattle.certificate_finder.specs.declared.numbered_call.NumberedCall.{NumberedCall}
 use Rattle.certificate_finder.specs.Numbers.{AreNumbers, KeepsNumbers}
 use Rattle.certificate_finder.specs.Steps.{AreSteps, IsFit, IsStep}
 use Rattle.certificate_finder.proofs.Listing.{same_at}
 
 -- a call with its numbers
-pub record IsNumbered (known : List ℕ → Option ℕ) (call : Call) (step : Step) : Type 0 where
+pub record IsNumbered (known : List ℕ → Option ℕ) (call : Call) (step : NumberedCall) : Type 0 where
   pub is : IsStep call step
   pub key : known call.key ≡ Some step.key
   pub value : known (value_of call.act) ≡ Some step.value
 
-pub record StepsSoFar (history : List Call) (upto : ℕ) (steps : List Step) (known : List ℕ → Option ℕ) : Type 0 where
+pub record StepsSoFar (history : List Call) (upto : ℕ) (steps : List NumberedCall) (known : List ℕ → Option ℕ) : Type 0 where
   pub count : length steps ≡ upto
   pub numbers : AreNumbers known (2 * upto)
-  pub each : (p : ℕ) (call : Call) (step : Step) → slice_get history p ≡ Some call → slice_get steps p ≡ Some step → IsNumbered known call step
+  pub each : (p : ℕ) (call : Call) (step : NumberedCall) → slice_get history p ≡ Some call → slice_get steps p ≡ Some step → IsNumbered known call step
   pub fit : All IsFit steps
 
 -- what is at an index of a list with one more: the new one, or one from before
@@ -39,11 +39,11 @@ pub steps_begin : (history : List Call) (known : List ℕ → Option ℕ) → ((
 steps_begin history known none = record {
   count = refl;
   numbers = record { below = λ w n has. let no = none w in absurd (cc); apart = λ w o n one other. let no = none w in absurd (cc) };
-  each = λ p call step at none_at. absurd (let within = slice_get_within {A = Step} [] p step none_at in omega arith);
+  each = λ p call step at none_at. absurd (let within = slice_get_within {A = NumberedCall} [] p step none_at in omega arith);
   fit = All-nil IsFit;
 }
 
-pub steps_go_on : (history : List Call) (upto : ℕ) (steps : List Step) (known more most : List ℕ → Option ℕ) (call : Call) (step : Step) → StepsSoFar history upto steps known → upto < 2 ^ 31 → slice_get history upto ≡ Some call → IsCall call → IsStep call step → more call.key ≡ Some step.key → KeepsNumbers known more → KeepsNumbers more most → AreNumbers more (2 * upto + 1) → AreNumbers most (2 * upto + 1 + 1) → most (value_of call.act) ≡ Some step.value → StepsSoFar history (upto + 1) (steps ++ step ∷ []) most
+pub steps_go_on : (history : List Call) (upto : ℕ) (steps : List NumberedCall) (known more most : List ℕ → Option ℕ) (call : Call) (step : NumberedCall) → StepsSoFar history upto steps known → upto < 2 ^ 31 → slice_get history upto ≡ Some call → IsCall call → IsStep call step → more call.key ≡ Some step.key → KeepsNumbers known more → KeepsNumbers more most → AreNumbers more (2 * upto + 1) → AreNumbers most (2 * upto + 1 + 1) → most (value_of call.act) ≡ Some step.value → StepsSoFar history (upto + 1) (steps ++ step ∷ []) most
 steps_go_on history upto steps known more most call step had few at is_call is key kept kept_more numbers_more numbers value = record {
   count = let l = length_push steps step in let c = had.count in omega arith;
   numbers = subst (λ n. AreNumbers most n) (let e : 2 * upto + 1 + 1 ≡ 2 * (upto + 1) = omega arith in e) numbers;
@@ -66,7 +66,7 @@ steps_go_on history upto steps known more most call step had few at is_call is k
   });
 }
 
-pub steps_end : (history : List Call) (upto : ℕ) (steps : List Step) (known : List ℕ → Option ℕ) → StepsSoFar history upto steps known → upto ≡ length history → AreSteps history steps
+pub steps_end : (history : List Call) (upto : ℕ) (steps : List NumberedCall) (known : List ℕ → Option ℕ) → StepsSoFar history upto steps known → upto ≡ length history → AreSteps history steps
 steps_end history upto steps known had all = record {
   count = had.count ∙ all;
   each = λ p a s at_a at_s. (had.each p a s at_a at_s).is;

@@ -9,7 +9,7 @@ use Rattle.certificate_finder.specs.declared.best.Best.{Best}
 use Rattle.certificate_finder.specs.declared.best.Best.TheVariants.{Empty}
 use Rattle.certificate_finder.specs.declared.put.Put.{Put}
 use Rattle.certificate_finder.specs.declared.reads.Reading.{Reading}
-use Rattle.certificate_finder.specs.declared.shape.Shape.{Shape}
+use Rattle.certificate_finder.specs.declared.tree_shape.TreeShape.{TreeShape}
 use Rattle.certificate_finder.specs.Bests.{IsBestOf, IsLiveAt, IsWith, SaysLive}
 use Rattle.certificate_finder.specs.Putting.{expiry_at}
 use Rattle.certificate_finder.specs.Readings.{IsJoined, Says}
@@ -29,7 +29,7 @@ pub over_mono : (rows one other : ℕ) → one ≤ other → node_over rows one 
 over_mono zero one other le = le
 over_mono (suc rows) one other le = let h = over_mono rows one other le in omega arith
 
--- and none is behind the node
+-- and none is after the node
 pub over_le : (rows node : ℕ) → node_over rows node ≤ node
 over_le zero node = omega arith
 over_le (suc rows) node = let h = over_le rows node in omega arith
@@ -83,13 +83,13 @@ root_alone node is =
 
 -- ---- rows that count the same
 
-pub rows_same : (puts : List Put) (leaves : List ℕ) (shape : Shape) (counted other : ℕ → ℕ → Type 0) (nodes : List Best) → ((rows k : ℕ) → rows ≤ shape.depth → counted rows k → other rows k) → ((rows k : ℕ) → rows ≤ shape.depth → other rows k → counted rows k) → AreRows puts leaves shape counted nodes → AreRows puts leaves shape other nodes
+pub rows_same : (puts : List Put) (leaves : List ℕ) (shape : TreeShape) (counted other : ℕ → ℕ → Type 0) (nodes : List Best) → ((rows k : ℕ) → rows ≤ shape.depth → counted rows k → other rows k) → ((rows k : ℕ) → rows ≤ shape.depth → other rows k → counted rows k) → AreRows puts leaves shape counted nodes → AreRows puts leaves shape other nodes
 rows_same puts leaves shape counted other nodes to from are = record {
   each = λ rows node best le row at. best_same puts (IsCounted leaves shape.width counted rows node) (IsCounted leaves shape.width other rows node) best (λ k c. (to rows k le c.0, c.1)) (λ k c. (from rows k le c.0, c.1)) (are.each rows node best le row at);
 }
 
 -- an empty tree
-pub tree_begins : (puts : List Put) (leaves : List ℕ) (shape : Shape) (nodes : List Best) → ((k : ℕ) (best : Best) → slice_get nodes k ≡ Some best → best ≡ Empty) → IsTree puts leaves shape 0 nodes
+pub tree_begins : (puts : List Put) (leaves : List ℕ) (shape : TreeShape) (nodes : List Best) → ((k : ℕ) (best : Best) → slice_get nodes k ≡ Some best → best ≡ Empty) → IsTree puts leaves shape 0 nodes
 tree_begins puts leaves shape nodes empty = record {
   each = λ rows node best le row at. subst (λ b. IsBestOf puts (IsCounted leaves shape.width (λ r k. k < 0) rows node) b) (sym (empty node best at)) (λ k c. let less : k < 0 = c.0 in omega arith);
 }
@@ -102,16 +102,16 @@ all_set P xs i v all is = all_from_at P (set xs i v) (λ k x at. elim (cases_eq 
   | inr other ↦ all_at P xs k x all (at_set_other xs i v k x other at)
 ])
 
-pub entering : (puts : List Put) (leaves : List ℕ) (shape : Shape) (taken : ℕ) (nodes : List Best) → IsTree puts leaves shape taken nodes → AreRows puts leaves shape (HasEntered taken 0) nodes
+pub entering : (puts : List Put) (leaves : List ℕ) (shape : TreeShape) (taken : ℕ) (nodes : List Best) → IsTree puts leaves shape taken nodes → AreRows puts leaves shape (HasEntered taken 0) nodes
 entering puts leaves shape taken nodes is = rows_same puts leaves shape (λ rows k. k < taken) (HasEntered taken 0) nodes (λ rows k le less. inl less) (λ rows k le h. elim h [ inl less ↦ less | inr more ↦ let l : rows < 0 = more.1 in absurd (omega arith) ]) is
 
-pub entered : (puts : List Put) (leaves : List ℕ) (shape : Shape) (taken upto : ℕ) (nodes : List Best) → shape.depth < upto → AreRows puts leaves shape (HasEntered taken upto) nodes → IsTree puts leaves shape (taken + 1) nodes
+pub entered : (puts : List Put) (leaves : List ℕ) (shape : TreeShape) (taken upto : ℕ) (nodes : List Best) → shape.depth < upto → AreRows puts leaves shape (HasEntered taken upto) nodes → IsTree puts leaves shape (taken + 1) nodes
 entered puts leaves shape taken upto nodes all is = rows_same puts leaves shape (HasEntered taken upto) (λ rows k. k < taken + 1) nodes (λ rows k le h. elim h [ inl less ↦ omega arith | inr more ↦ let e = more.0 in omega arith ]) (λ rows k le less. elim (cases_eq k taken) [
   | inl same ↦ inr (same, omega arith)
   | inr other ↦ inl (omega arith)
 ]) is
 
-module _ (puts : List Put) (leaves : List ℕ) (shape : Shape) (power : shape.width ≡ 2 ^ shape.depth) (taken level at : ℕ) (old new : Best) (nodes : List Best) (within : slice_index leaves taken < shape.width) (below : level ≤ shape.depth) (over : at ≡ node_over level (shape.width + slice_index leaves taken)) (are : AreRows puts leaves shape (HasEntered taken level) nodes) (had : slice_get nodes at ≡ Some old) (with : IsWith puts old taken new) where
+module _ (puts : List Put) (leaves : List ℕ) (shape : TreeShape) (power : shape.width ≡ 2 ^ shape.depth) (taken level at : ℕ) (old new : Best) (nodes : List Best) (within : slice_index leaves taken < shape.width) (below : level ≤ shape.depth) (over : at ≡ node_over level (shape.width + slice_index leaves taken)) (are : AreRows puts leaves shape (HasEntered taken level) nodes) (had : slice_get nodes at ≡ Some old) (with : IsWith puts old taken new) where
   at_in_row : IsInRow (shape.depth - level) at
   at_in_row = subst (λ n. IsInRow (shape.depth - level) n) (sym over) (over_in_row level shape.depth (shape.width + slice_index leaves taken) below (leaf_in_row shape.width shape.depth (slice_index leaves taken) power within))
 
@@ -167,7 +167,7 @@ pub record IsReached (puts : List Put) (leaves : List ℕ) (taken leaf moment wi
   pub from : IsFrom puts leaves taken leaf moment index
   pub under : IsUnder leaves width rows at index
 
-module _ (puts : List Put) (leaves : List ℕ) (shape : Shape) (power : shape.width ≡ 2 ^ shape.depth) (taken leaf moment : ℕ) (nodes : List Best) (inside : leaf < shape.width) (small : (k : ℕ) → expiry_at puts k < 2 ^ 64) (is : IsTree puts leaves shape taken nodes) where
+module _ (puts : List Put) (leaves : List ℕ) (shape : TreeShape) (power : shape.width ≡ 2 ^ shape.depth) (taken leaf moment : ℕ) (nodes : List Best) (inside : leaf < shape.width) (small : (k : ℕ) → expiry_at puts k < 2 ^ 64) (is : IsTree puts leaves shape taken nodes) where
   abbrev Reached : ℕ → ℕ → ℕ → Type 0
   Reached rows at index = IsReached puts leaves taken leaf moment shape.width rows at index
 

@@ -1,4 +1,4 @@
--- Each call behind the write that it goes with, and the zones one behind the other.
+-- Each call after the write that it goes with, and the zones one after the other.
 use Rattle.std.proofs.Common.{◌≡◌, ◌≢◌, ℕ, ◌+◌, ◌*◌, ◌^◌, ◌<◌, ◌≤◌, ◌⊎◌, false, Some, List, [], length, get_or, refl, sym, ap, ◌∙◌, subst, arith, inl, inr}
 use Rattle.std.specs.Prelude.{All, AllPairs, slice_get, IsTrue}
 use Rattle.std.specs.Option.{option_map_or}
@@ -9,9 +9,9 @@ use Rattle.trace_file.specs.Calls.{time_of, value_of}
 use Rattle.trace_file.specs.declared.act.Act.{Act}
 use Rattle.trace_file.specs.declared.act.Act.TheVariants.{Put, Remove, Hit, Miss}
 use Rattle.trace_file.specs.declared.call.Call.{Call}
-use Rattle.certificate_finder.specs.declared.kind.Kind.{Kind}
-use Rattle.certificate_finder.specs.declared.kind.Kind.TheVariants as kinds
-use Rattle.certificate_finder.specs.declared.step.Step.{Step}
+use Rattle.certificate_finder.specs.declared.call_kind.CallKind.{CallKind}
+use Rattle.certificate_finder.specs.declared.call_kind.CallKind.TheVariants as kinds
+use Rattle.certificate_finder.specs.declared.numbered_call.NumberedCall.{NumberedCall}
 use Rattle.certificate_finder.specs.declared.zone.Zone.{Zone}
 use Rattle.certificate_finder.specs.Lining.{ArePlaces, place_at, turn_at, turn_of}
 use Rattle.certificate_finder.specs.Owning.{AreOwners, ReadsOnly}
@@ -31,47 +31,47 @@ no_miss_of Remove h same = cc
 no_miss_of (Hit value moment) h same = cc
 no_miss_of Miss h same = cc
 
--- a hit or a write, where it is no miss
-hit_or_write : (kind : Kind) → kind ≢ kinds.Miss → (kind ≡ kinds.Hit) ⊎ IsWriting kind
+-- a hit or a write, if it is no miss
+hit_or_write : (kind : CallKind) → kind ≢ kinds.Miss → (kind ≡ kinds.Hit) ⊎ IsWriting kind
 hit_or_write kinds.Put h = inr tt
 hit_or_write kinds.Remove h = inr tt
 hit_or_write kinds.Hit h = inl refl
 hit_or_write kinds.Miss h = absurd (h refl)
 
-no_hit : (kind : Kind) → IsWriting kind → kind ≢ kinds.Hit
+no_hit : (kind : CallKind) → IsWriting kind → kind ≢ kinds.Hit
 no_hit kinds.Put w same = cc
 no_hit kinds.Remove w same = cc
 no_hit kinds.Hit w same = absurd w
 no_hit kinds.Miss w same = absurd w
 
-hit_no_miss : (kind : Kind) → kind ≡ kinds.Hit → kind ≢ kinds.Miss
+hit_no_miss : (kind : CallKind) → kind ≡ kinds.Hit → kind ≢ kinds.Miss
 hit_no_miss kinds.Put h same = cc
 hit_no_miss kinds.Remove h same = cc
 hit_no_miss kinds.Hit h same = cc
 hit_no_miss kinds.Miss h same = cc
 
-no_miss : (kind : Kind) → IsWriting kind → kind ≢ kinds.Miss
+no_miss : (kind : CallKind) → IsWriting kind → kind ≢ kinds.Miss
 no_miss kinds.Put w same = cc
 no_miss kinds.Remove w same = cc
 no_miss kinds.Hit w same = absurd w
 no_miss kinds.Miss w same = absurd w
 
-turn_of_write : (kind : Kind) (start place zones : ℕ) → IsWriting kind → turn_of kind start place zones ≡ place * 2 ^ 65
+turn_of_write : (kind : CallKind) (start place zones : ℕ) → IsWriting kind → turn_of kind start place zones ≡ place * 2 ^ 65
 turn_of_write kinds.Put start place zones w = refl
 turn_of_write kinds.Remove start place zones w = refl
 turn_of_write kinds.Hit start place zones w = absurd w
 turn_of_write kinds.Miss start place zones w = absurd w
 
-turn_of_hit : (kind : Kind) (start place zones : ℕ) → kind ≡ kinds.Hit → turn_of kind start place zones ≡ place * 2 ^ 65 + 2 ^ 64 + start
+turn_of_hit : (kind : CallKind) (start place zones : ℕ) → kind ≡ kinds.Hit → turn_of kind start place zones ≡ place * 2 ^ 65 + 2 ^ 64 + start
 turn_of_hit kind start place zones is = ap (λ k. turn_of k start place zones) is
 
-turn_low : (kind : Kind) (start place zones : ℕ) → kind ≢ kinds.Miss → place * 2 ^ 65 ≤ turn_of kind start place zones
+turn_low : (kind : CallKind) (start place zones : ℕ) → kind ≢ kinds.Miss → place * 2 ^ 65 ≤ turn_of kind start place zones
 turn_low kind start place zones h = elim (hit_or_write kind h) [
   | inl hit ↦ let e = turn_of_hit kind start place zones hit in omega arith
   | inr write ↦ let e = turn_of_write kind start place zones write in omega arith
 ]
 
-turn_high : (kind : Kind) (start place zones : ℕ) → kind ≢ kinds.Miss → start < 2 ^ 64 → turn_of kind start place zones < place * 2 ^ 65 + 2 ^ 65
+turn_high : (kind : CallKind) (start place zones : ℕ) → kind ≢ kinds.Miss → start < 2 ^ 64 → turn_of kind start place zones < place * 2 ^ 65 + 2 ^ 65
 turn_high kind start place zones h small = elim (hit_or_write kind h) [
   | inl hit ↦ let e = turn_of_hit kind start place zones hit in omega arith
   | inr write ↦ let e = turn_of_write kind start place zones write in omega arith
@@ -81,9 +81,9 @@ place_le : (a b x y : ℕ) → a * 2 ^ 65 ≤ x → x ≤ y → y < b * 2 ^ 65 +
 place_le a b x y low le high = omega arith
 
 -- a call goes with the write of a zone
-pub record IsPlaced (steps : List Step) (owners places : List ℕ) (zones : List Zone) (p : ℕ) (step : Step) : Type 0 where
+pub record IsPlaced (steps : List NumberedCall) (owners places : List ℕ) (zones : List Zone) (p : ℕ) (step : NumberedCall) : Type 0 where
   pub zone : Zone
-  pub owner : Step
+  pub owner : NumberedCall
   pub owner_at : slice_get steps (get_or owners p 0) ≡ Some owner
   pub writes : Writing owner
   pub zone_at : slice_get zones (place_at owners places p) ≡ Some zone
@@ -91,9 +91,9 @@ pub record IsPlaced (steps : List Step) (owners places : List ℕ) (zones : List
   pub goes : Goes owners (get_or owners p 0) p
   pub one_key : owner.key ≡ step.key
 
-module _ (history : List Call) (steps : List Step) (are : AreSteps history steps) (owners : List ℕ) (own : AreOwners steps (length steps) owners []) (zones : List Zone) (zs : AreZones steps owners zones) (places : List ℕ) (pl : ArePlaces (length steps) zones (length zones) places) where
+module _ (history : List Call) (steps : List NumberedCall) (are : AreSteps history steps) (owners : List ℕ) (own : AreOwners steps (length steps) owners []) (zones : List Zone) (zs : AreZones steps owners zones) (places : List ℕ) (pl : ArePlaces (length steps) zones (length zones) places) where
   -- the owner of a call that is there
-  owner_of : (p : ℕ) (step : Step) → slice_get steps p ≡ Some step → slice_get owners p ≡ Some (get_or owners p 0)
+  owner_of : (p : ℕ) (step : NumberedCall) → slice_get steps p ≡ Some step → slice_get owners p ≡ Some (get_or owners p 0)
   owner_of p step at =
       let within = slice_get_within steps p step at in
       let count = own.count in
@@ -101,7 +101,7 @@ module _ (history : List Call) (steps : List Step) (are : AreSteps history steps
       o.1 ∙ ap Some (sym (get_or_from_slice_get owners p o.0 0 o.1))
 
   -- a hit has read one put alone
-  pub hit_reads : (p : ℕ) (step : Step) → slice_get steps p ≡ Some step → step.kind ≡ kinds.Hit → ReadsOnly steps step (get_or owners p 0)
+  pub hit_reads : (p : ℕ) (step : NumberedCall) → slice_get steps p ≡ Some step → step.kind ≡ kinds.Hit → ReadsOnly steps step (get_or owners p 0)
   hit_reads p step at hit = elim (own.owned p step (get_or owners p 0) at (owner_of p step at)) [
     | inl alone ↦
         let none = own.all p (slice_get_within steps p step at) (record { step = step; at = at; kind = hit; several = alone.1 hit }) in
@@ -111,14 +111,14 @@ module _ (history : List Call) (steps : List Step) (are : AreSteps history steps
   ]
 
   -- a write goes with itself
-  pub write_owns : (p : ℕ) (step : Step) → slice_get steps p ≡ Some step → Writing step → get_or owners p 0 ≡ p
+  pub write_owns : (p : ℕ) (step : NumberedCall) → slice_get steps p ≡ Some step → Writing step → get_or owners p 0 ≡ p
   write_owns p step at writes = elim (own.owned p step (get_or owners p 0) at (owner_of p step at)) [
     | inl alone ↦ alone.0
     | inr only ↦ absurd (no_hit step.kind writes only.0)
   ]
 
   -- the zone of a write, at its place
-  zone_of : (q : ℕ) (owner : Step) → slice_get steps q ≡ Some owner → Writing owner → (zone : Zone) × (slice_get zones (get_or places q 0) ≡ Some zone) × TellsZone steps owners q owner zone
+  zone_of : (q : ℕ) (owner : NumberedCall) → slice_get steps q ≡ Some owner → Writing owner → (zone : Zone) × (slice_get zones (get_or places q 0) ≡ Some zone) × TellsZone steps owners q owner zone
   zone_of q owner at writes =
       let t = zs.lists.complete q owner (slice_get_within steps q owner at) at writes in
       let k = index_of zones t.item t.listed in
@@ -126,7 +126,7 @@ module _ (history : List Call) (steps : List Step) (are : AreSteps history steps
       let here : get_or places q 0 ≡ k.0 = ap (λ w. get_or places w 0) (sym t.told.write) ∙ get_or_from_slice_get places t.item.write k.0 0 place in
       (t.item, ap (slice_get zones) here ∙ k.1, t.told)
 
-  pub placed : (p : ℕ) (step : Step) → slice_get steps p ≡ Some step → step.kind ≢ kinds.Miss → IsPlaced steps owners places zones p step
+  pub placed : (p : ℕ) (step : NumberedCall) → slice_get steps p ≡ Some step → step.kind ≢ kinds.Miss → IsPlaced steps owners places zones p step
   placed p step at some = elim (hit_or_write step.kind some) [
     | inl hit ↦
         let r = hit_reads p step at hit in
@@ -140,10 +140,10 @@ module _ (history : List Call) (steps : List Step) (are : AreSteps history steps
         record { zone = z.0; owner = step; owner_at = at'; writes = writes; zone_at = z.1; tells = z.2; goes = inl (sym same); one_key = refl }
   ]
 
-  turn_is : (p : ℕ) (step : Step) → slice_get steps p ≡ Some step → turn_at steps owners places (length zones) p ≡ turn_of step.kind step.start (place_at owners places p) (length zones)
-  turn_is p step at = ap (λ o. option_map_or (λ (s : Step). turn_of s.kind s.start (place_at owners places p) (length zones)) o 0) at
+  turn_is : (p : ℕ) (step : NumberedCall) → slice_get steps p ≡ Some step → turn_at steps owners places (length zones) p ≡ turn_of step.kind step.start (place_at owners places p) (length zones)
+  turn_is p step at = ap (λ o. option_map_or (λ (s : NumberedCall). turn_of s.kind s.start (place_at owners places p) (length zones)) o 0) at
 
-  pub rising_at : (p q : ℕ) (s t : Step) → slice_get steps p ≡ Some s → slice_get steps q ≡ Some t → s.kind ≢ kinds.Miss → t.kind ≢ kinds.Miss → turn_at steps owners places (length zones) p ≤ turn_at steps owners places (length zones) q → place_at owners places p ≤ place_at owners places q
+  pub rising_at : (p q : ℕ) (s t : NumberedCall) → slice_get steps p ≡ Some s → slice_get steps q ≡ Some t → s.kind ≢ kinds.Miss → t.kind ≢ kinds.Miss → turn_at steps owners places (length zones) p ≤ turn_at steps owners places (length zones) q → place_at owners places p ≤ place_at owners places q
   rising_at p q s t at_s at_t some other le =
       let f : IsFit t = all_at IsFit steps q t are.fit at_t in
       let low = turn_low s.kind s.start (place_at owners places p) (length zones) some in
@@ -152,8 +152,8 @@ module _ (history : List Call) (steps : List Step) (are : AreSteps history steps
       let b = turn_is q t at_t in
       place_le (place_at owners places p) (place_at owners places q) (turn_at steps owners places (length zones) p) (turn_at steps owners places (length zones) q) (omega arith) le (omega arith)
 
-  -- a miss comes behind all others
-  pub before_no_miss : (p q : ℕ) (s t : Step) → slice_get steps p ≡ Some s → slice_get steps q ≡ Some t → t.kind ≢ kinds.Miss → turn_at steps owners places (length zones) p ≤ turn_at steps owners places (length zones) q → s.kind ≢ kinds.Miss
+  -- a miss comes after all others
+  pub before_no_miss : (p q : ℕ) (s t : NumberedCall) → slice_get steps p ≡ Some s → slice_get steps q ≡ Some t → t.kind ≢ kinds.Miss → turn_at steps owners places (length zones) p ≤ turn_at steps owners places (length zones) q → s.kind ≢ kinds.Miss
   before_no_miss p q s t at_s at_t some le miss =
       let f : IsFit t = all_at IsFit steps q t are.fit at_t in
       let high = turn_high t.kind t.start (place_at owners places q) (length zones) some f.start in
@@ -164,7 +164,7 @@ module _ (history : List Call) (steps : List Step) (are : AreSteps history steps
       let within = slice_get_within zones (place_at owners places q) z.zone z.zone_at in
       omega arith
 
-  -- ---- each hit behind its owner, and no other write between
+  -- ---- each hit after its owner, and no other write between
 
   pub are_turns : AreTurns history (λ p. get_or owners p 0) (turn_at steps owners places (length zones))
   are_turns = record {
@@ -270,7 +270,7 @@ module _ (history : List Call) (steps : List Step) (are : AreSteps history steps
                     let r = hit_reads q t.0 t.1 hit in
                     let own' = write_owns p s.0 s.1 write in
                     let is = same_at steps p (get_or owners q 0) s.0 r.put (sym own' ∙ owner) s.1 r.at in
-                    let begun = subst (λ (o : Step). o.start ≤ t.0.end) (sym is) r.reads.may.begun in
+                    let begun = subst (λ (o : NumberedCall). o.start ≤ t.0.end) (sym is) r.reads.may.begun in
                     omega arith
                 | inr write_too ↦ absurd (differ (sym (write_owns p s.0 s.1 write) ∙ owner ∙ write_owns q t.0 t.1 write_too))
               ]

@@ -1,4 +1,4 @@
--- The writes of a history, and which of them ends first behind a call.
+-- The writes of a history, and which of them ends first after a call.
 use Rattle.std.proofs.Common.{◌≡◌, ◌≢◌, ℕ, ◌+◌, ◌-◌, ◌^◌, ◌<◌, ◌≤◌, Some, None, List, length, get_or, set, refl, sym, ap, ◌∙◌, subst, arith, inl, inr}
 use Rattle.std.specs.Prelude.{All, slice_get}
 use Rattle.std.specs.List.Sorted.{IsNonDecreasingBy, IsPermutation}
@@ -6,7 +6,7 @@ use Rattle.std.proofs.lemmas.Bool.{cases_eq, cases_lt}
 use Rattle.std.proofs.lemmas.List.{get_or-set_same, get_or-set_other, length-set}
 use Rattle.std.proofs.lemmas.List.Elements.{All-weaker}
 use Rattle.std.proofs.lemmas.Option.{get_or_from_slice_get, slice_get_within, slice_get-get_or}
-use Rattle.certificate_finder.specs.declared.step.Step.{Step}
+use Rattle.certificate_finder.specs.declared.numbered_call.NumberedCall.{NumberedCall}
 use Rattle.certificate_finder.specs.declared.write.Write.{Write}
 use Rattle.certificate_finder.specs.Lists.{TellsOne, Lists}
 use Rattle.certificate_finder.specs.Steps.{IsFit}
@@ -15,7 +15,7 @@ use Rattle.certificate_finder.proofs.Listing.{all_at, all_from_at, contains_at, 
 use Rattle.certificate_finder.proofs.Ranking.{rank_at, key_le}
 
 -- the listed writes, sorted
-pub are_writes : (steps : List Step) (xs ys : List Write) → All IsFit steps → Lists steps Writing TellsWrite (length steps) xs → IsPermutation xs ys → IsNonDecreasingBy write_rank ys → AreWrites steps ys
+pub are_writes : (steps : List NumberedCall) (xs ys : List Write) → All IsFit steps → Lists steps Writing TellsWrite (length steps) xs → IsPermutation xs ys → IsNonDecreasingBy write_rank ys → AreWrites steps ys
 are_writes steps xs ys fit had moved sorted =
     let lists = lists_permuted steps Writing TellsWrite (length steps) xs ys moved had in
     record {
@@ -27,7 +27,7 @@ are_writes steps xs ys fit had moved sorted =
 -- ---- the one that ends first
 
 module _ (writes : List Write) (sorted : IsNonDecreasingBy write_rank writes) (fit : All (λ w. w.start < 2 ^ 64) writes) where
-  -- behind a write of another key no write of the key comes
+  -- after a write of another key no write of the key comes
   no_more : (index k : ℕ) (write next other : Write) → slice_get writes index ≡ Some write → slice_get writes (index + 1) ≡ Some next → next.key ≢ write.key → index < k → slice_get writes k ≡ Some other → other.key ≢ write.key
   no_more index k write next other at next_at differs less other_at same =
       let one = rank_at write_rank writes index (index + 1) write next sorted (omega arith) at next_at in

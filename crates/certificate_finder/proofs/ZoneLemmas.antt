@@ -3,7 +3,7 @@ use Rattle.std.proofs.Common.{◌≡◌, ℕ, Some, List, length, refl, ap, arit
 use Rattle.std.specs.Prelude.{All, slice_get}
 use Rattle.std.specs.List.Sorted.{IsNonDecreasingBy, IsPermutation}
 use Rattle.std.proofs.lemmas.List.Elements.{All-weaker}
-use Rattle.certificate_finder.specs.declared.step.Step.{Step}
+use Rattle.certificate_finder.specs.declared.numbered_call.NumberedCall.{NumberedCall}
 use Rattle.certificate_finder.specs.declared.zone.Zone.{Zone}
 use Rattle.certificate_finder.specs.Lists.{Lists, TellsOne}
 use Rattle.certificate_finder.specs.Steps.{IsFit}
@@ -11,7 +11,7 @@ use Rattle.certificate_finder.specs.Writing.{Writing}
 use Rattle.certificate_finder.specs.Zones.{AreEarliest, AreLatest, AreDistinct, AreZones, IsFitZone, TellsZone, zone_rank}
 use Rattle.certificate_finder.proofs.Listing.{all_at, distinct_permuted, lists_permuted, same_at}
 
-pub tells_zone : (steps : List Step) (owners earliest latest : List ℕ) (position early late : ℕ) (step first last : Step) → AreEarliest steps owners earliest → AreLatest steps owners latest → slice_get earliest position ≡ Some early → slice_get latest position ≡ Some late → slice_get steps early ≡ Some first → slice_get steps late ≡ Some last → TellsZone steps owners position step (record { write = position; key = step.key; early = early; late = late; end = first.end; start = last.start })
+pub tells_zone : (steps : List NumberedCall) (owners earliest latest : List ℕ) (position early late : ℕ) (step first last : NumberedCall) → AreEarliest steps owners earliest → AreLatest steps owners latest → slice_get earliest position ≡ Some early → slice_get latest position ≡ Some late → slice_get steps early ≡ Some first → slice_get steps late ≡ Some last → TellsZone steps owners position step (record { write = position; key = step.key; early = early; late = late; end = first.end; start = last.start })
 tells_zone steps owners earliest latest position early late step first last es ls early_at late_at first_at last_at =
     let e = es.each position early early_at in
     let l = ls.each position late late_at in
@@ -22,11 +22,11 @@ tells_zone steps owners earliest latest position early late step first last es l
       last = l.0;
       earliest = e.1;
       latest = l.1;
-      end = ap (λ (s : Step). s.end) (same_at steps early early first e.0 refl first_at e.1.at);
-      start = ap (λ (s : Step). s.start) (same_at steps late late last l.0 refl last_at l.1.at);
+      end = ap (λ (s : NumberedCall). s.end) (same_at steps early early first e.0 refl first_at e.1.at);
+      start = ap (λ (s : NumberedCall). s.start) (same_at steps late late last l.0 refl last_at l.1.at);
     }
 
-pub are_zones : (steps : List Step) (owners : List ℕ) (xs ys : List Zone) → All IsFit steps → Lists steps Writing (TellsZone steps owners) (length steps) xs → AreDistinct xs → IsPermutation xs ys → IsNonDecreasingBy zone_rank ys → AreZones steps owners ys
+pub are_zones : (steps : List NumberedCall) (owners : List ℕ) (xs ys : List Zone) → All IsFit steps → Lists steps Writing (TellsZone steps owners) (length steps) xs → AreDistinct xs → IsPermutation xs ys → IsNonDecreasingBy zone_rank ys → AreZones steps owners ys
 are_zones steps owners xs ys fit had apart moved sorted =
     let lists = lists_permuted steps Writing (TellsZone steps owners) (length steps) xs ys moved had in
     record {

@@ -1,4 +1,4 @@
--- Writes with the hits that go with them: one behind the other, or crossed.
+-- Writes with the hits that go with them: one after the other, or crossed.
 use Rattle.std.proofs.Common.{◌≡◌, ◌≢◌, ℕ, ◌+◌, ◌<◌, ◌≤◌, true, Some, List, map, get_or, sym, ◌∙◌, subst, arith, inl, inr}
 use Rattle.std.specs.Prelude.{slice_get, AllPairs, IsSomeAnd}
 use Rattle.std.proofs.lemmas.Bool.{cases_lt}
@@ -13,7 +13,7 @@ use Rattle.certificate_finder.specs.Spots.{is_at, AreOfOne}
 use Rattle.certificate_finder.specs.Turns.{start_at, end_at}
 use Rattle.certificate_finder.specs.Witnesses.{GoesWith, AreCrossed}
 
--- ---- one behind the other
+-- ---- one after the other
 
 -- early and late are the least end and the greatest start of the calls in the zone of a call
 module _ (history : List Call) (zone turn early late : ℕ → ℕ) (spans : (p : ℕ) (key : List ℕ) → is_at history key p ≡ true → (start_at history p ≤ late p) × (early p ≤ end_at history p)) (rising : (p q : ℕ) → AreOfOne history p q → turn p ≤ turn q → zone p ≤ zone q) (apart : (p q : ℕ) → AreOfOne history p q → zone p < zone q → late p ≤ early q) (beside : (p q : ℕ) → AreOfOne history p q → zone p ≡ zone q → turn p ≤ turn q → p ≢ q → start_at history p ≤ end_at history q) where

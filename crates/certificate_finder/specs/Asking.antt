@@ -1,30 +1,30 @@
 -- The hits of a history, and what each can have read.
 use Rattle.std.specs.Prelude.{◌≡◌, ℕ, List, length, slice_get, Some}
 use Rattle.std.specs.List.Sorted.{IsNonDecreasingBy}
-use Rattle.certificate_finder.specs.declared.kind.Kind.TheVariants as kinds
+use Rattle.certificate_finder.specs.declared.call_kind.CallKind.TheVariants as kinds
 use Rattle.certificate_finder.specs.declared.put.Put.{Put}
 use Rattle.certificate_finder.specs.declared.ranked.Ranked.{Ranked}
 use Rattle.certificate_finder.specs.declared.reads.Reading.{Reading}
-use Rattle.certificate_finder.specs.declared.step.Step.{Step}
+use Rattle.certificate_finder.specs.declared.numbered_call.NumberedCall.{NumberedCall}
 use Rattle.certificate_finder.specs.Lists.{Lists}
 use Rattle.certificate_finder.specs.Putting.{GivesAt, value_rank}
 use Rattle.certificate_finder.specs.Readings.{Says}
 
 -- the call hits
-abbrev pub Asking : Step → Type 0
+abbrev pub Asking : NumberedCall → Type 0
 Asking step = step.kind ≡ kinds.Hit
 
 -- a hit with its rank, by keys, values and ends
-pub record TellsHit (position : ℕ) (step : Step) (hit : Ranked) : Type 0 where
+pub record TellsHit (position : ℕ) (step : NumberedCall) (hit : Ranked) : Type 0 where
   pub is_at : hit.position ≡ position
   pub rank : hit.rank ≡ value_rank step.key step.value step.end
 
 -- the hits, in the order of their ranks
-pub record AreAsked (steps : List Step) (asked : List Ranked) : Type 0 where
+pub record AreAsked (steps : List NumberedCall) (asked : List Ranked) : Type 0 where
   pub lists : Lists steps Asking TellsHit (length steps) asked
   pub sorted : IsNonDecreasingBy (λ (hit : Ranked). hit.rank) asked
 
 -- for each hit which puts it can have read
-pub record AreReadings (steps : List Step) (puts : List Put) (readings : List Reading) : Type 0 where
+pub record AreReadings (steps : List NumberedCall) (puts : List Put) (readings : List Reading) : Type 0 where
   pub count : length readings ≡ length steps
-  pub each : (position : ℕ) (step : Step) (reading : Reading) → slice_get steps position ≡ Some step → slice_get readings position ≡ Some reading → Asking step → Says (GivesAt puts step) reading
+  pub each : (position : ℕ) (step : NumberedCall) (reading : Reading) → slice_get steps position ≡ Some step → slice_get readings position ≡ Some reading → Asking step → Says (GivesAt puts step) reading

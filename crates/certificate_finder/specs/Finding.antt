@@ -23,19 +23,19 @@ pub record AreUndecided (history : List Call) (hits : List ℕ) : Type 0 where
   pub rise : AllPairs (λ earlier later. earlier < later) hits
   pub settled : (witness : Witness) → IsWitness history witness → IsOfListed hits witness
 
--- a fact of the certificate, where one was found
+-- a fact of the certificate, if one was found
 abbrev pub IfAccepted : Found → (List ℕ → Type 0) → Type 0
 IfAccepted (Accepted certificate) P = P certificate
 IfAccepted (Rejected witness) P = Unit {0}
 IfAccepted (Undecided hits) P = Unit {0}
 
--- a fact of the reason, where one was found
+-- a fact of the reason, if one was found
 abbrev pub IfRejected : Found → (Witness → Type 0) → Type 0
 IfRejected (Accepted certificate) P = Unit {0}
 IfRejected (Rejected witness) P = P witness
 IfRejected (Undecided hits) P = Unit {0}
 
--- a fact of the hits, where nothing was decided
+-- a fact of the hits, if nothing was decided
 abbrev pub IfUndecided : Found → (List ℕ → Type 0) → Type 0
 IfUndecided (Accepted certificate) P = Unit {0}
 IfUndecided (Rejected witness) P = Unit {0}

@@ -14,7 +14,7 @@ pub record AreEnds (puts : List Put) (ends : List ℕ) : Type 0 where
   pub sorted : IsNonDecreasingBy itself ends
   pub all : (index : ℕ) (put : Put) → slice_get puts index ≡ Some put → Contains ends (last_rank put)
 
--- so many of the ranks are below one
+-- this many of the ranks are below one
 pub record IsBelow (ends : List ℕ) (rank index : ℕ) : Type 0 where
   pub bound : index ≤ length ends
   pub low : (k end : ℕ) → k < index → slice_get ends k ≡ Some end → end < rank

@@ -3,10 +3,10 @@ use Rattle.std.specs.Prelude.{◌≡◌, ◌≢◌, ℕ, ◌+◌, ◌*◌, ◌^�
 use Rattle.std.specs.Option.{option_map_or}
 use Rattle.std.specs.List.Sorted.{IsNonDecreasingBy, IsPermutation}
 use Rattle.trace_file.specs.declared.call.Call.{Call}
-use Rattle.certificate_finder.specs.declared.kind.Kind.{Kind}
-use Rattle.certificate_finder.specs.declared.kind.Kind.TheVariants as kinds
+use Rattle.certificate_finder.specs.declared.call_kind.CallKind.{CallKind}
+use Rattle.certificate_finder.specs.declared.call_kind.CallKind.TheVariants as kinds
 use Rattle.certificate_finder.specs.declared.ranked.Ranked.{Ranked}
-use Rattle.certificate_finder.specs.declared.step.Step.{Step}
+use Rattle.certificate_finder.specs.declared.numbered_call.NumberedCall.{NumberedCall}
 use Rattle.certificate_finder.specs.declared.zone.Zone.{Zone}
 use Rattle.certificate_finder.specs.Points.{ArePoints, IsPoint}
 use Rattle.certificate_finder.specs.Spots.{AreOfOne}
@@ -18,8 +18,8 @@ pub record ArePlaces (count : ℕ) (zones : List Zone) (upto : ℕ) (places : Li
   pub len : length places ≡ count
   pub each : (k : ℕ) (zone : Zone) → k < upto → slice_get zones k ≡ Some zone → slice_get places zone.write ≡ Some k
 
--- the rank of a call: by its zone's place, the write first, then the hits by start; misses behind all zones
-abbrev pub turn_of : Kind → ℕ → ℕ → ℕ → ℕ
+-- the rank of a call: by its zone's place, the write first, then the hits by start; misses after all zones
+abbrev pub turn_of : CallKind → ℕ → ℕ → ℕ → ℕ
 turn_of kinds.Put start place zones = place * 2 ^ 65
 turn_of kinds.Remove start place zones = place * 2 ^ 65
 turn_of kinds.Hit start place zones = place * 2 ^ 65 + 2 ^ 64 + start
@@ -30,7 +30,7 @@ abbrev pub place_at : List ℕ → List ℕ → ℕ → ℕ
 place_at owners places position = slice_index places (slice_index owners position)
 
 -- the rank of the call at a position
-abbrev pub turn_at : List Step → List ℕ → List ℕ → ℕ → ℕ → ℕ
+abbrev pub turn_at : List NumberedCall → List ℕ → List ℕ → ℕ → ℕ → ℕ
 turn_at steps owners places zones position = option_map_or (λ step. turn_of step.kind step.start (place_at owners places position) zones) (slice_get steps position) 0
 
 -- the positions of ranked calls
@@ -38,7 +38,7 @@ abbrev pub positions_in : List Ranked → List ℕ
 positions_in ranked = map (λ (r : Ranked). r.position) ranked
 
 -- all calls, by their turns
-pub record IsLine (steps : List Step) (owners places : List ℕ) (zones : ℕ) (line : List Ranked) : Type 0 where
+pub record IsLine (steps : List NumberedCall) (owners places : List ℕ) (zones : ℕ) (line : List Ranked) : Type 0 where
   pub listed : List Ranked
   pub positions : ArePositions (length steps) (positions_in listed)
   pub moved : IsPermutation listed line
@@ -58,22 +58,22 @@ pub record AreSpots (history : List Call) (line spots : List Ranked) : Type 0 wh
   pub moved : IsPermutation listed spots
   pub sorted : IsNonDecreasingBy (λ (r : Ranked). r.rank) spots
 
--- a call stands in a line behind one of its key, if there is an earlier one of its key
-pub record InLine (history : List Call) (steps : List Step) (positions : List ℕ) : Type 0 where
-  pub neighbours : (k p q : ℕ) (s t : Step) → slice_get positions k ≡ Some p → slice_get positions (k + 1) ≡ Some q → slice_get steps p ≡ Some s → slice_get steps q ≡ Some t → t.kind ≢ kinds.Miss → s.key ≡ t.key → AreOfOne history p q
+-- a call stands in a line after one of its key, if there is an earlier one of its key
+pub record InLine (history : List Call) (steps : List NumberedCall) (positions : List ℕ) : Type 0 where
+  pub neighbours : (k p q : ℕ) (s t : NumberedCall) → slice_get positions k ≡ Some p → slice_get positions (k + 1) ≡ Some q → slice_get steps p ≡ Some s → slice_get steps q ≡ Some t → t.kind ≢ kinds.Miss → s.key ≡ t.key → AreOfOne history p q
   pub grouped : AreGrouped history positions
 
--- the point of a call behind another: the greater of its start and the other's point, where they are of one key, else its start
-abbrev pub IsNextPoint : Step → Step → ℕ → ℕ → Type 0
+-- the point of a call after another: the greater of its start and the other's point, if they are of one key, otherwise its start
+abbrev pub IsNextPoint : NumberedCall → NumberedCall → ℕ → ℕ → Type 0
 IsNextPoint step before point next =
     ((step.kind ≢ kinds.Miss) × (step.key ≡ before.key) × (next ≡ max step.start point))
     ⊎ (((step.kind ≡ kinds.Miss) ⊎ (step.key ≢ before.key)) × (next ≡ step.start))
 
--- the point of the call at a place of a line, behind the call before it
-pub record IsPointAt (steps : List Step) (line : List Ranked) (place point next : ℕ) : Type 0 where
+-- the point of the call at a place of a line, after the call before it
+pub record IsPointAt (steps : List NumberedCall) (line : List Ranked) (place point next : ℕ) : Type 0 where
   pub turn : Ranked
-  pub step : Step
-  pub before : Step
+  pub step : NumberedCall
+  pub before : NumberedCall
   pub at : slice_get line place ≡ Some turn
   pub step_at : slice_get steps turn.position ≡ Some step
   pub first : place ≡ 0 → before ≡ step
@@ -89,6 +89,6 @@ pub record HavePoints (history : List Call) (line spots : List Ranked) (upto poi
   pub none : upto ≡ 0 → point ≡ 0
 
 -- the calls below a position, in order, with their turns
-pub record AreTurned (steps : List Step) (owners places : List ℕ) (zones upto : ℕ) (line : List Ranked) : Type 0 where
+pub record AreTurned (steps : List NumberedCall) (owners places : List ℕ) (zones upto : ℕ) (line : List Ranked) : Type 0 where
   pub positions : ArePositions upto (positions_in line)
   pub ranks : All (λ (r : Ranked). r.rank ≡ turn_at steps owners places zones r.position) line

@@ -1,40 +1,40 @@
 -- With which write each call goes.
 use Rattle.std.specs.Prelude.{◌≡◌, ◌≢◌, ℕ, ◌<◌, ◌≤◌, ◌⊎◌, Bool, true, false, List, [], ◌∷◌, ◌++◌, All, AllPairs, Contains, length, slice_get, Some, IsTrue}
 use Rattle.record_pages.specs.Expiry.{is_live}
-use Rattle.certificate_finder.specs.declared.kind.Kind.TheVariants as kinds
+use Rattle.certificate_finder.specs.declared.call_kind.CallKind.TheVariants as kinds
 use Rattle.certificate_finder.specs.declared.owner.Owner.{Owner}
 use Rattle.certificate_finder.specs.declared.owner.Owner.TheVariants as owner
 use Rattle.certificate_finder.specs.declared.owning.Owning.{Owning}
 use Rattle.certificate_finder.specs.declared.owning.Owning.TheVariants.{Each, Refused}
-use Rattle.certificate_finder.specs.declared.step.Step.{Step}
+use Rattle.certificate_finder.specs.declared.numbered_call.NumberedCall.{NumberedCall}
 use Rattle.certificate_finder.specs.Putting.{IsOver}
 
 -- a hit may have read a put, expiry aside
-pub record MayRead (steps : List Step) (hit put : Step) : Type 0 where
+pub record MayRead (steps : List NumberedCall) (hit put : NumberedCall) : Type 0 where
   pub kind : put.kind ≡ kinds.Put
   pub key : put.key ≡ hit.key
   pub value : put.value ≡ hit.value
   pub begun : put.start ≤ hit.end
-  pub stands : (position : ℕ) (other : Step) → slice_get steps position ≡ Some other → IsOver put other → hit.start ≤ other.end
+  pub stands : (position : ℕ) (other : NumberedCall) → slice_get steps position ≡ Some other → IsOver put other → hit.start ≤ other.end
 
 -- a hit may have read a put
-pub record ReadsLive (steps : List Step) (hit put : Step) : Type 0 where
+pub record ReadsLive (steps : List NumberedCall) (hit put : NumberedCall) : Type 0 where
   pub may : MayRead steps hit put
   pub live : IsTrue (is_live put.time hit.time)
 
 -- a hit may have read the put at a position, and no other one
-pub record ReadsOnly (steps : List Step) (hit : Step) (position : ℕ) : Type 0 where
-  pub put : Step
+pub record ReadsOnly (steps : List NumberedCall) (hit : NumberedCall) (position : ℕ) : Type 0 where
+  pub put : NumberedCall
   pub at : slice_get steps position ≡ Some put
   pub reads : ReadsLive steps hit put
-  pub only : (other : ℕ) (step : Step) → slice_get steps other ≡ Some step → ReadsLive steps hit step → other ≡ position
+  pub only : (other : ℕ) (step : NumberedCall) → slice_get steps other ≡ Some step → ReadsLive steps hit step → other ≡ position
 
 -- a fact holds of two calls
-pub record HoldsOfTwo (steps : List Step) (P : Step → Type 0) : Type 0 where
+pub record HoldsOfTwo (steps : List NumberedCall) (P : NumberedCall → Type 0) : Type 0 where
   pub one : ℕ
   pub other : ℕ
-  pub first : Step
-  pub second : Step
+  pub first : NumberedCall
+  pub second : NumberedCall
   pub apart : one ≢ other
   pub one_at : slice_get steps one ≡ Some first
   pub other_at : slice_get steps other ≡ Some second
@@ -42,63 +42,63 @@ pub record HoldsOfTwo (steps : List Step) (P : Step → Type 0) : Type 0 where
   pub holds_other : P second
 
 -- a hit may have read several puts
-abbrev pub ReadsSeveral : List Step → Step → Type 0
+abbrev pub ReadsSeveral : List NumberedCall → NumberedCall → Type 0
 ReadsSeveral steps hit = HoldsOfTwo steps (ReadsLive steps hit)
 
 -- no put that a hit may have read is live at the hit's moment
-abbrev pub ReadsNoLive : List Step → Step → Type 0
-ReadsNoLive steps hit = (position : ℕ) (put : Step) → slice_get steps position ≡ Some put → MayRead steps hit put → ¬ IsTrue (is_live put.time hit.time)
+abbrev pub ReadsNoLive : List NumberedCall → NumberedCall → Type 0
+ReadsNoLive steps hit = (position : ℕ) (put : NumberedCall) → slice_get steps position ≡ Some put → MayRead steps hit put → ¬ IsTrue (is_live put.time hit.time)
 
 -- with which write a call goes
-abbrev pub IsOwner : List Step → Step → Owner → Type 0
+abbrev pub IsOwner : List NumberedCall → NumberedCall → Owner → Type 0
 IsOwner steps step owner.Itself = ¬ (step.kind ≡ kinds.Hit)
 IsOwner steps step (owner.Put position) = (step.kind ≡ kinds.Hit) × ReadsOnly steps step position
 IsOwner steps step owner.Unsure = (step.kind ≡ kinds.Hit) × ReadsSeveral steps step
 IsOwner steps step owner.Nothing = (step.kind ≡ kinds.Hit) × ReadsNoLive steps step
 
 -- a call goes by itself: it is no hit, or a hit that may have read several puts
-abbrev pub GoesAlone : List Step → Step → Type 0
+abbrev pub GoesAlone : List NumberedCall → NumberedCall → Type 0
 GoesAlone steps step = (step.kind ≡ kinds.Hit) → ReadsSeveral steps step
 
 -- a call at a position goes with a write: itself, or the put that it may have read alone
-abbrev pub IsOwned : List Step → ℕ → Step → ℕ → Type 0
+abbrev pub IsOwned : List NumberedCall → ℕ → NumberedCall → ℕ → Type 0
 IsOwned steps position step owner = ((owner ≡ position) × GoesAlone steps step) ⊎ ((step.kind ≡ kinds.Hit) × ReadsOnly steps step owner)
 
 -- a hit at a position may have read several puts
-pub record IsUnsure (steps : List Step) (position : ℕ) : Type 0 where
-  pub step : Step
+pub record IsUnsure (steps : List NumberedCall) (position : ℕ) : Type 0 where
+  pub step : NumberedCall
   pub at : slice_get steps position ≡ Some step
   pub kind : step.kind ≡ kinds.Hit
   pub several : ReadsSeveral steps step
 
 -- with which write each call below a position goes, and the hits that may have read several puts
-pub record AreOwners (steps : List Step) (upto : ℕ) (owners unsure : List ℕ) : Type 0 where
+pub record AreOwners (steps : List NumberedCall) (upto : ℕ) (owners unsure : List ℕ) : Type 0 where
   pub count : length owners ≡ upto
-  pub owned : (position : ℕ) (step : Step) (owner : ℕ) → slice_get steps position ≡ Some step → slice_get owners position ≡ Some owner → IsOwned steps position step owner
+  pub owned : (position : ℕ) (step : NumberedCall) (owner : ℕ) → slice_get steps position ≡ Some step → slice_get owners position ≡ Some owner → IsOwned steps position step owner
   pub are_unsure : All (IsUnsure steps) unsure
   pub all : (position : ℕ) → position < upto → IsUnsure steps position → Contains unsure position
   pub rise : AllPairs (λ earlier later. earlier < later) unsure
   pub below : All (λ position. position < upto) unsure
 
 -- with which write the call at a position goes
-pub record IsOwnerAt (steps : List Step) (position : ℕ) (owner : Owner) : Type 0 where
-  pub step : Step
+pub record IsOwnerAt (steps : List NumberedCall) (position : ℕ) (owner : Owner) : Type 0 where
+  pub step : NumberedCall
   pub at : slice_get steps position ≡ Some step
   pub is : IsOwner steps step owner
 
 -- the hit at a position can have read no put
-pub record IsRefused (steps : List Step) (position : ℕ) : Type 0 where
-  pub step : Step
+pub record IsRefused (steps : List NumberedCall) (position : ℕ) : Type 0 where
+  pub step : NumberedCall
   pub at : slice_get steps position ≡ Some step
   pub kind : step.kind ≡ kinds.Hit
   pub none : ReadsNoLive steps step
 
 -- with which write each call goes, or a hit that can have read no put
-abbrev pub IsOwning : List Step → Owning → Type 0
+abbrev pub IsOwning : List NumberedCall → Owning → Type 0
 IsOwning steps (Each owners) = AreOwners steps (length steps) owners.owners.items owners.unsure.items
 IsOwning steps (Refused position) = IsRefused steps position
 
--- an owner is noted: the call's owner, and the call itself where it is unsure; where it can have read no put, it is not
+-- an owner is noted: the call's owner, and the call itself if it is unsure; if it can have read no put, it is not
 abbrev pub IsNoted : ℕ → Owner → List ℕ → List ℕ → List ℕ → List ℕ → Bool → Type 0
 IsNoted position owner.Itself old new old_unsure new_unsure noted = (noted ≡ true) × (new ≡ old ++ position ∷ []) × (new_unsure ≡ old_unsure)
 IsNoted position (owner.Put put) old new old_unsure new_unsure noted = (noted ≡ true) × (new ≡ old ++ put ∷ []) × (new_unsure ≡ old_unsure)

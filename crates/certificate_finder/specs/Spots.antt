@@ -18,11 +18,11 @@ pub record Spotted : Type 0 where
 abbrev pub positions_of : List Spotted → List ℕ
 positions_of spots = map (λ spot. spot.position) spots
 
--- the call at a position starts at a point or before, and ends at it or behind
+-- the call at a position starts at a point or before, and ends at it or after
 abbrev pub HappensAt : List Call → ℕ → ℕ → Type 0
 HappensAt history position point = IsSomeAnd (slice_get history position) (λ call. (call.start ≤ point) × (point ≤ call.end))
 
--- the call of a spot starts at its point or before, and ends at it or behind
+-- the call of a spot starts at its point or before, and ends at it or after
 abbrev pub IsWithin : List Call → Spotted → Type 0
 IsWithin history spot = HappensAt history spot.position spot.point
 

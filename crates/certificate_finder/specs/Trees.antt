@@ -4,32 +4,32 @@ use Rattle.certificate_finder.specs.declared.best.Best.{Best}
 use Rattle.certificate_finder.specs.declared.put.Put.{Put}
 use Rattle.certificate_finder.specs.declared.reads.Reading.{Reading}
 use Rattle.certificate_finder.specs.declared.reads.Reading.TheVariants.{Nothing}
-use Rattle.certificate_finder.specs.declared.shape.Shape.{Shape}
+use Rattle.certificate_finder.specs.declared.tree_shape.TreeShape.{TreeShape}
 use Rattle.certificate_finder.specs.Bests.{IsBestOf, IsLiveAt, SaysLive}
 
 -- the least tree with more leaves than a count
-pub record IsShape (count : ℕ) (shape : Shape) : Type 0 where
+pub record IsShape (count : ℕ) (shape : TreeShape) : Type 0 where
   pub power : shape.width ≡ 2 ^ shape.depth
   pub more : count < shape.width
   pub least : shape.width ≤ 2 * count + 1
   pub deep : shape.depth < shape.width
 
--- each of so many puts has a leaf
+-- each of this many puts has a leaf
 pub record AreLeaves (puts width : ℕ) (leaves : List ℕ) : Type 0 where
   pub count : length leaves ≡ puts
   pub within : All (λ leaf. leaf < width) leaves
 
--- the node so many rows over a node, where the node over two is their half
+-- the node this many rows over a node, if the node over two is their half
 abbrev pub node_over : ℕ → ℕ → ℕ
 node_over zero node = node
 node_over (suc rows) node = node_over rows node / 2
 
--- the nodes so many rows below the root
+-- the nodes this many rows below the root
 pub record IsInRow (row node : ℕ) : Type 0 where
   pub low : 2 ^ row ≤ node
   pub high : node < 2 ^ row * 2
 
--- a put's leaf lies under a node that is so many rows over the leaves
+-- a put's leaf lies under a node that is this many rows over the leaves
 abbrev pub IsUnder : List ℕ → ℕ → ℕ → ℕ → ℕ → Type 0
 IsUnder leaves width rows node index = node_over rows (width + slice_index leaves index) ≡ node
 
@@ -38,11 +38,11 @@ abbrev pub IsCounted : List ℕ → ℕ → (ℕ → ℕ → Type 0) → ℕ →
 IsCounted leaves width counted rows node index = counted rows index × IsUnder leaves width rows node index
 
 -- each node has the best of the puts under it that are counted in its row
-pub record AreRows (puts : List Put) (leaves : List ℕ) (shape : Shape) (counted : ℕ → ℕ → Type 0) (nodes : List Best) : Type 0 where
+pub record AreRows (puts : List Put) (leaves : List ℕ) (shape : TreeShape) (counted : ℕ → ℕ → Type 0) (nodes : List Best) : Type 0 where
   pub each : (rows node : ℕ) (best : Best) → rows ≤ shape.depth → IsInRow (shape.depth - rows) node → slice_get nodes node ≡ Some best → IsBestOf puts (IsCounted leaves shape.width counted rows node) best
 
 -- each node has the best of the puts under it, of those below an index
-abbrev pub IsTree : List Put → List ℕ → Shape → ℕ → List Best → Type 0
+abbrev pub IsTree : List Put → List ℕ → TreeShape → ℕ → List Best → Type 0
 IsTree puts leaves shape taken nodes = AreRows puts leaves shape (λ rows index. index < taken) nodes
 
 -- the put at an index has entered the lowest rows

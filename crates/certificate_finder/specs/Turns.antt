@@ -1,4 +1,4 @@
--- Calls in turn: each hit behind the put that it reads, before any other write of its key.
+-- Calls in turn: each hit after the put that it reads, before any other write of its key.
 use Rattle.std.specs.Prelude.{◌≡◌, ℕ, ◌<◌, ◌≤◌, List, slice_get, Some, IsTrue}
 use Rattle.std.specs.Option.{option_map_or}
 use Rattle.record_pages.specs.Expiry.{is_live}
@@ -29,7 +29,7 @@ pub record WritesAt (history : List Call) (position : ℕ) (key : List ℕ) : Ty
   pub at : slice_get history position ≡ Some call
   pub writes : Writes (deed_of call) key
 
--- the calls of a history have ranks by which each hit comes behind its owner, a put that gives it its value, and no other write of the key comes between
+-- the calls of a history have ranks by which each hit comes after its owner, a put that gives it its value, and no other write of the key comes between
 pub record AreTurns (history : List Call) (owner rank : ℕ → ℕ) : Type 0 where
   pub given : (hit : ℕ) (key value : List ℕ) (moment : ℕ) → IsHit history hit key value moment → Gives history (owner hit) key value moment
   pub behind : (hit : ℕ) (key value : List ℕ) (moment : ℕ) → IsHit history hit key value moment → rank (owner hit) < rank hit

@@ -1,20 +1,20 @@
--- The writes of a history, and which of them ends first behind a call.
+-- The writes of a history, and which of them ends first after a call.
 use Rattle.std.specs.Prelude.{◌≡◌, ℕ, ◌+◌, ◌*◌, ◌^◌, ◌<◌, ◌≤◌, List, All, Contains, length, slice_get, Some, Option, MatchOption}
 use Rattle.std.specs.List.Sorted.{IsNonDecreasingBy}
-use Rattle.certificate_finder.specs.declared.step.Step.{Step}
+use Rattle.certificate_finder.specs.declared.numbered_call.NumberedCall.{NumberedCall}
 use Rattle.certificate_finder.specs.declared.write.Write.{Write}
 use Rattle.certificate_finder.specs.Lists.{Lists}
 use Rattle.certificate_finder.specs.Steps.{IsWriting}
 
 -- a write is what its call is
-pub record TellsWrite (position : ℕ) (step : Step) (write : Write) : Type 0 where
+pub record TellsWrite (position : ℕ) (step : NumberedCall) (write : Write) : Type 0 where
   pub is_at : write.position ≡ position
   pub key : write.key ≡ step.key
   pub start : write.start ≡ step.start
   pub end : write.end ≡ step.end
 
 -- the call writes
-abbrev pub Writing : Step → Type 0
+abbrev pub Writing : NumberedCall → Type 0
 Writing step = IsWriting step.kind
 
 -- the rank of a stamp among those of all keys: by keys, then by stamps
@@ -25,7 +25,7 @@ abbrev pub write_rank : Write → ℕ
 write_rank write = key_rank write.key write.start
 
 -- the writes, by keys and starts
-pub record AreWrites (steps : List Step) (writes : List Write) : Type 0 where
+pub record AreWrites (steps : List NumberedCall) (writes : List Write) : Type 0 where
   pub lists : Lists steps Writing TellsWrite (length steps) writes
   pub sorted : IsNonDecreasingBy write_rank writes
   pub fit : All (λ write. write.start < 2 ^ 64) writes
@@ -45,14 +45,14 @@ pub record AreSoonest (writes : List Write) (from : ℕ) (soonest : List ℕ) : 
   pub count : length soonest ≡ length writes
   pub each : (k best : ℕ) → from ≤ k → slice_get soonest k ≡ Some best → EndsFirst writes k best
 
--- of the writes of a key that start behind a stamp, this one ends first
+-- of the writes of a key that start after a stamp, this one ends first
 pub record IsSoonest (writes : List Write) (key end : ℕ) (first : Write) : Type 0 where
   pub listed : Contains writes first
   pub of_key : first.key ≡ key
   pub behind : end < first.start
   pub least : All (λ write. write.key ≡ key → end < write.start → first.end ≤ write.end) writes
 
--- of the writes of a key that start behind a stamp the one that ends first, if there are such
+-- of the writes of a key that start after a stamp the one that ends first, if there are such
 abbrev pub IsFirstOver : List Write → ℕ → ℕ → Option Write → Type 0
 IsFirstOver writes key end first = MatchOption first (All (λ write. write.key ≡ key → ¬ (end < write.start)) writes) (IsSoonest writes key end)
 

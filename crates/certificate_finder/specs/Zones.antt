@@ -2,7 +2,7 @@
 use Rattle.std.specs.Prelude.{◌≡◌, ◌≢◌, ℕ, ◌+◌, ◌*◌, ◌^◌, ◌<◌, ◌≤◌, ◌⊎◌, List, All, AllPairs, Contains, length, slice_get, Some, Option, MatchOption}
 use Rattle.std.specs.List.Sorted.{IsNonDecreasingBy}
 use Rattle.certificate_finder.specs.declared.crossing.Crossing.{Crossing}
-use Rattle.certificate_finder.specs.declared.step.Step.{Step}
+use Rattle.certificate_finder.specs.declared.numbered_call.NumberedCall.{NumberedCall}
 use Rattle.certificate_finder.specs.declared.witness.Side.{Side}
 use Rattle.certificate_finder.specs.declared.witness.Witness.{Witness}
 use Rattle.certificate_finder.specs.declared.witness.Witness.TheVariants.{Crossed}
@@ -15,33 +15,33 @@ abbrev pub Goes : List ℕ → ℕ → ℕ → Type 0
 Goes owners write position = (position ≡ write) ⊎ (slice_get owners position ≡ Some write)
 
 -- this call ends first, of those that go with a write
-pub record IsEarliest (steps : List Step) (owners : List ℕ) (write position : ℕ) (step : Step) : Type 0 where
+pub record IsEarliest (steps : List NumberedCall) (owners : List ℕ) (write position : ℕ) (step : NumberedCall) : Type 0 where
   pub at : slice_get steps position ≡ Some step
   pub goes : Goes owners write position
-  pub least : (other : ℕ) (call : Step) → slice_get steps other ≡ Some call → Goes owners write other → step.end ≤ call.end
+  pub least : (other : ℕ) (call : NumberedCall) → slice_get steps other ≡ Some call → Goes owners write other → step.end ≤ call.end
 
 -- this call starts last, of those that go with a write
-pub record IsLatest (steps : List Step) (owners : List ℕ) (write position : ℕ) (step : Step) : Type 0 where
+pub record IsLatest (steps : List NumberedCall) (owners : List ℕ) (write position : ℕ) (step : NumberedCall) : Type 0 where
   pub at : slice_get steps position ≡ Some step
   pub goes : Goes owners write position
-  pub greatest : (other : ℕ) (call : Step) → slice_get steps other ≡ Some call → Goes owners write other → call.start ≤ step.start
+  pub greatest : (other : ℕ) (call : NumberedCall) → slice_get steps other ≡ Some call → Goes owners write other → call.start ≤ step.start
 
 -- for each position the call that ends first
-pub record AreEarliest (steps : List Step) (owners earliest : List ℕ) : Type 0 where
+pub record AreEarliest (steps : List NumberedCall) (owners earliest : List ℕ) : Type 0 where
   pub count : length earliest ≡ length steps
-  pub each : (write position : ℕ) → slice_get earliest write ≡ Some position → (step : Step) × IsEarliest steps owners write position step
+  pub each : (write position : ℕ) → slice_get earliest write ≡ Some position → (step : NumberedCall) × IsEarliest steps owners write position step
 
 -- for each position the call that starts last
-pub record AreLatest (steps : List Step) (owners latest : List ℕ) : Type 0 where
+pub record AreLatest (steps : List NumberedCall) (owners latest : List ℕ) : Type 0 where
   pub count : length latest ≡ length steps
-  pub each : (write position : ℕ) → slice_get latest write ≡ Some position → (step : Step) × IsLatest steps owners write position step
+  pub each : (write position : ℕ) → slice_get latest write ≡ Some position → (step : NumberedCall) × IsLatest steps owners write position step
 
 -- a zone is what its write and the hits that go with it make it
-pub record TellsZone (steps : List Step) (owners : List ℕ) (position : ℕ) (step : Step) (zone : Zone) : Type 0 where
+pub record TellsZone (steps : List NumberedCall) (owners : List ℕ) (position : ℕ) (step : NumberedCall) (zone : Zone) : Type 0 where
   pub write : zone.write ≡ position
   pub key : zone.key ≡ step.key
-  pub first : Step
-  pub last : Step
+  pub first : NumberedCall
+  pub last : NumberedCall
   pub earliest : IsEarliest steps owners position zone.early first
   pub latest : IsLatest steps owners position zone.late last
   pub end : zone.end ≡ first.end
@@ -61,7 +61,7 @@ abbrev pub AreDistinct : List Zone → Type 0
 AreDistinct zones = AllPairs (λ one other. one.write ≢ other.write) zones
 
 -- the zones of all writes
-pub record AreZones (steps : List Step) (owners : List ℕ) (zones : List Zone) : Type 0 where
+pub record AreZones (steps : List NumberedCall) (owners : List ℕ) (zones : List Zone) : Type 0 where
   pub lists : Lists steps Writing (TellsZone steps owners) (length steps) zones
   pub sorted : IsNonDecreasingBy zone_rank zones
   pub distinct : AreDistinct zones
@@ -80,7 +80,7 @@ pub record AreCrossing (zones : List Zone) (crossing : Crossing) : Type 0 where
 abbrev pub FollowOn : Zone → Zone → Type 0
 FollowOn earlier later = earlier.key ≡ later.key → earlier.start ≤ later.end
 
--- two zones that are crossed, or else each follows on the earlier ones of its key
+-- two zones that are crossed, or each follows on the earlier ones of its key
 abbrev pub IsCrossingOrNone : List Zone → Option Crossing → Type 0
 IsCrossingOrNone zones crossing = MatchOption crossing (AllPairs FollowOn zones) (AreCrossing zones)
 

@@ -3,13 +3,13 @@ ghost use Rattle.std.specs.Prelude.{◌^◌, ◌<◌, IfOk, OnOk, length};
 ghost use Rattle.certificate_finder.specs.Asking.{AreAsked, Asking, TellsHit};
 ghost use Rattle.certificate_finder.specs.Lists.{GrowsBy, Lists};
 
+use crate::numbered_call::{NumberedCall, step_at};
 use crate::put::value_rank;
 use crate::ranked::Ranked;
-use crate::step::{Step, step_at};
 use std::alloc::{AllocError, Global};
 
 /// The hits, by keys, values and ends.
-pub(crate) fn asked_of(alloc: Global, steps: &[Step]) -> Result<Vec<Ranked>, AllocError>
+pub(crate) fn asked_of(alloc: Global, steps: &[NumberedCall]) -> Result<Vec<Ranked>, AllocError>
     requires { length steps.now < 2 ^ 31 }
     ensures { IfOk result (λ asked. AreAsked steps.now asked.items) }
 {
@@ -19,7 +19,7 @@ pub(crate) fn asked_of(alloc: Global, steps: &[Step]) -> Result<Vec<Ranked>, All
 }
 
 /// The hits, in the order of the history.
-fn listed_hits(alloc: Global, steps: &[Step]) -> Result<Vec<Ranked>, AllocError>
+fn listed_hits(alloc: Global, steps: &[NumberedCall]) -> Result<Vec<Ranked>, AllocError>
     requires { length steps.now < 2 ^ 31 }
     ensures { IfOk result (λ hits. Lists steps.now Asking TellsHit (length steps.now) hits.items) }
 {
@@ -32,7 +32,7 @@ fn listed_hits(alloc: Global, steps: &[Step]) -> Result<Vec<Ranked>, AllocError>
 }
 
 /// Lists a call, if it is a hit.
-fn list_hit(hits: &mut Vec<Ranked>, position: u32, step: &Step) -> Result<(), AllocError>
+fn list_hit(hits: &mut Vec<Ranked>, position: u32, step: &NumberedCall) -> Result<(), AllocError>
     ensures { OnOk result (GrowsBy Asking TellsHit position step.now hits.old.items hits.new.items) }
 {
     if !step.kind.is_hit() {

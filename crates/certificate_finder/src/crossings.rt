@@ -37,7 +37,7 @@ fn are_crossed(high: Zone, zone: Zone) -> bool
     zone.key == high.key && zone.end < high.start
 }
 
-/// Of two zones the later one, where it is of another key or starts later for some call, else the earlier one.
+/// Of two zones the later one, if it is of another key or starts later for some call, otherwise the earlier one.
 fn higher(high: Zone, zone: Zone) -> Zone
     ensures chosen { (result ≡ zone)
         ⊎ ((result ≡ high) × (zone.key ≡ high.key) × (zone.start ≤ high.start)) }

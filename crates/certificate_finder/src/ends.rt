@@ -2,8 +2,8 @@
 ghost use Rattle.std.specs.Prelude.{◌≡◌, ◌<◌, ◌^◌, All, IfOk, length};
 ghost use Rattle.certificate_finder.specs.Zones.{AreEarliest, AreLatest, ArePositions};
 
+use crate::numbered_call::{NumberedCall, step_at};
 use crate::numbers::number_at;
-use crate::step::{Step, step_at};
 use std::alloc::{AllocError, Global};
 
 /// The positions up to a count.
@@ -21,7 +21,7 @@ fn positions(alloc: Global, count: usize) -> Result<Vec<u32>, AllocError>
 /// For each position the call that ends first, of those that go with it.
 pub(crate) fn earliest_of(
     alloc: Global,
-    steps: &[Step],
+    steps: &[NumberedCall],
     owners: &[u32],
 ) -> Result<Vec<u32>, AllocError>
     requires few { length steps.now < 2 ^ 31 }
@@ -45,7 +45,7 @@ pub(crate) fn earliest_of(
 /// For each position the call that starts last, of those that go with it.
 pub(crate) fn latest_of(
     alloc: Global,
-    steps: &[Step],
+    steps: &[NumberedCall],
     owners: &[u32],
 ) -> Result<Vec<u32>, AllocError>
     requires few { length steps.now < 2 ^ 31 }

@@ -7,7 +7,7 @@ pub enum Excuse {
     Later,
     /// The put's value had expired at the hit's moment.
     Expired,
-    /// The write of the key at this position started behind the put's end, and ended before the hit's start.
+    /// The write of the key at this position started after the put's end, and ended before the hit's start.
     Replaced(u32),
 }
 

@@ -6,14 +6,14 @@ ghost use Rattle.certificate_finder.specs.Putting.{ArePuts};
 ghost use Rattle.certificate_finder.specs.Steps.{IsFit};
 
 use crate::excluded::{Excluded, Excuse};
+use crate::numbered_call::{NumberedCall, step_at};
 use crate::put::{Put, put_at};
-use crate::step::{Step, step_at};
 use std::alloc::{AllocError, Global};
 
 /// All puts of a hit's key and value, each with what excludes it.
 pub(crate) fn excluded_of(
     alloc: Global,
-    steps: &[Step],
+    steps: &[NumberedCall],
     puts: &[Put],
     position: u32,
 ) -> Result<Vec<Excluded>, AllocError>
@@ -32,7 +32,11 @@ pub(crate) fn excluded_of(
 }
 
 /// Lists a put with what excludes it, if it is of a hit's key and value.
-fn list_excluded(excluded: &mut Vec<Excluded>, put: &Put, hit: &Step) -> Result<(), AllocError>
+fn list_excluded(
+    excluded: &mut Vec<Excluded>,
+    put: &Put,
+    hit: &NumberedCall,
+) -> Result<(), AllocError>
     ensures { OnOk result (GrowsByExcluded put.now hit.now excluded.old.items excluded.new.items) }
 {
     if !put.is_like(hit.key, hit.value) {
@@ -47,7 +51,7 @@ fn list_excluded(excluded: &mut Vec<Excluded>, put: &Put, hit: &Step) -> Result<
 }
 
 /// What excludes a put of a hit's key and value.
-fn excuse_of(put: &Put, hit: &Step) -> Excuse
+fn excuse_of(put: &Put, hit: &NumberedCall) -> Excuse
     ensures { IsExcuse put.now hit.now result }
 {
     if hit.end < put.start {

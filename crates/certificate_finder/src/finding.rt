@@ -11,10 +11,10 @@ use crate::crossings::crossing_of;
 use crate::found::Found;
 use crate::hits::read_result_of;
 use crate::line::certificate_by_zones;
+use crate::numbered_call::NumberedCall;
 use crate::numbering::steps_of;
 use crate::owning::Owners;
 use crate::read_result::ReadResult;
-use crate::step::Step;
 use crate::witness::Witness;
 use crate::zoning::zones_of;
 use std::alloc::{AllocError, Global};
@@ -26,12 +26,12 @@ pub const MAX_CALLS: usize = 2147483647;
 
 /// Finds a certificate for a history, or a reason why there can be none, or the hits for which nothing was decided.
 ///
-/// A hit can have read a put of its key and value that began before the hit ended and had not expired at its moment, and behind
-/// which no write of the key lies that ended before the hit began. Where each hit can have read at most one, it is decided.
+/// A hit can have read a put of its key and value that began before the hit ended and had not expired at its moment, and after
+/// which no write of the key lies that ended before the hit began. If each hit can have read at most one, it is decided.
 ///
-/// Its time is `n log n` for `n` calls where the keys and values were not picked to be slow: the map that it numbers them by
+/// Its time is `n log n` for `n` calls if the keys and values were not picked to be slow: the map that it numbers them by
 /// hashes them by a seed that anyone can read. Whoever judges a stranger's history calls `find_with_hasher`. It takes about
-/// 250 bytes a call, and copies no key and no value. `AllocError` comes where memory was refused, and where there are more than
+/// 250 bytes a call, and copies no key and no value. `AllocError` comes if memory was refused, and if there are more than
 /// `MAX_CALLS` calls.
 pub fn find(alloc: Global, history: &History) -> Result<Found, AllocError>
     ensures accepted { IfOk result (λ found. IfAccepted found (IsAccepted history.now)) }
@@ -45,7 +45,7 @@ pub fn find(alloc: Global, history: &History) -> Result<Found, AllocError>
     }
 }
 
-/// The same by a map that hashes keys and values as it is told, as by a `RandomState` of the runtime, whose seed was unknown
+/// The same with keys and values hashed by `hash_builder`, such as a `RandomState` of the runtime, whose seed was unknown
 /// to whoever wrote the history.
 pub fn find_with_hasher<S: BuildHasher + Drop>(
     alloc: Global,
@@ -84,7 +84,7 @@ fn bad_interval(history: &History) -> Option<u32>
 }
 
 /// What is found for a history whose calls are in numbers.
-fn found_of(alloc: Global, steps: &[Step]) -> Result<Found, AllocError>
+fn found_of(alloc: Global, steps: &[NumberedCall]) -> Result<Found, AllocError>
     requires few { length steps.now < 2 ^ 31 }
     requires fit { All IsFit steps.now }
     ensures { IfOk result (λ found. (history : List Call) → AreSteps history steps.now
@@ -102,8 +102,8 @@ fn found_of(alloc: Global, steps: &[Step]) -> Result<Found, AllocError>
     }
 }
 
-/// What is found where each call has its owner.
-fn arranged(alloc: Global, steps: &[Step], owners: Owners) -> Result<Found, AllocError>
+/// What is found if each call has its owner.
+fn arranged(alloc: Global, steps: &[NumberedCall], owners: Owners) -> Result<Found, AllocError>
     requires few { length steps.now < 2 ^ 31 }
     requires fit { All IsFit steps.now }
     requires owners { AreOwners steps.now (length steps.now) owners.owners.items owners.unsure.items }

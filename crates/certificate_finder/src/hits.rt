@@ -5,6 +5,7 @@ ghost use Rattle.certificate_finder.specs.Putting.{ArePuts};
 ghost use Rattle.certificate_finder.specs.Steps.{IsFit};
 
 use crate::excuses::excluded_of;
+use crate::numbered_call::NumberedCall;
 use crate::owners::owners_of;
 use crate::owning::Owning;
 use crate::put::Put;
@@ -12,12 +13,14 @@ use crate::puts::puts_of;
 use crate::read_result::ReadResult;
 use crate::readings::readings_of;
 use crate::refusal::Refusal;
-use crate::step::Step;
 use crate::writes::{soonest_of, writes_of};
 use std::alloc::{AllocError, Global};
 
 /// With which write each call goes, or a hit that can have read no put.
-pub(crate) fn read_result_of(alloc: Global, steps: &[Step]) -> Result<ReadResult, AllocError>
+pub(crate) fn read_result_of(
+    alloc: Global,
+    steps: &[NumberedCall],
+) -> Result<ReadResult, AllocError>
     requires few { length steps.now < 2 ^ 31 }
     requires fit { All IsFit steps.now }
     ensures { IfOk result (IsReadResult steps.now) }
@@ -35,7 +38,7 @@ pub(crate) fn read_result_of(alloc: Global, steps: &[Step]) -> Result<ReadResult
 }
 
 /// The puts, with the writes that are over them.
-fn all_puts_of(alloc: Global, steps: &[Step]) -> Result<Vec<Put>, AllocError>
+fn all_puts_of(alloc: Global, steps: &[NumberedCall]) -> Result<Vec<Put>, AllocError>
     requires few { length steps.now < 2 ^ 31 }
     requires fit { All IsFit steps.now }
     ensures { IfOk result (λ puts. ArePuts steps.now puts.items) }

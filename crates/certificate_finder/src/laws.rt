@@ -11,7 +11,7 @@ pub fn lawful_by_keys()
     ensures { LawfulByKeys }
 {}
 
-/// Lawful spots are accepted in the order of their points, where those of each key keep their order.
+/// Lawful spots are accepted in the order of their points, if those of each key keep their order.
 pub fn sorted_spots_are_accepted()
     ensures { SortedSpotsAreAccepted }
 {}

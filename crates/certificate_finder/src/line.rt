@@ -7,18 +7,18 @@ ghost use Rattle.certificate_finder.specs.Owning.{AreOwners};
 ghost use Rattle.certificate_finder.specs.Steps.{AreSteps};
 ghost use Rattle.certificate_finder.specs.Zones.{AreDistinct, AreZones, FollowOn};
 
-use crate::kind::Kind;
+use crate::call_kind::CallKind;
+use crate::numbered_call::{NumberedCall, step_at};
 use crate::numbers::number_at;
 use crate::ranked::{Ranked, ranked_at};
-use crate::step::{Step, step_at};
 use crate::zone::{Zone, zone_at};
 use std::alloc::{AllocError, Global};
 use trace_file::Certificate;
 
-/// The calls of a history by points of time, where each hit goes with a write and the zones follow on.
+/// The calls of a history by points of time, if each hit goes with a write and the zones follow on.
 pub(crate) fn certificate_by_zones(
     alloc: Global,
-    steps: &[Step],
+    steps: &[NumberedCall],
     owners: &[u32],
     zones: &[Zone],
 ) -> Result<Certificate, AllocError>
@@ -58,25 +58,25 @@ fn places_of(alloc: Global, count: usize, zones: &[Zone]) -> Result<Vec<u32>, Al
     Ok(places)
 }
 
-/// The rank of a call: by the zone that it goes with, its write first, then its hits by start; misses behind.
-fn turn_rank(step: &Step, place: u32, zones: usize) -> u128
+/// The rank of a call: by the zone that it goes with, its write first, then its hits by start; misses after.
+fn turn_rank(step: &NumberedCall, place: u32, zones: usize) -> u128
     requires { zones < 2 ^ 31 }
     ensures { result ≡ turn_of step.now.kind step.now.start place zones }
 {
     match step.kind {
-        Kind::Put => place as u128 * 36893488147419103232,
-        Kind::Remove => place as u128 * 36893488147419103232,
-        Kind::Hit => {
+        CallKind::Put => place as u128 * 36893488147419103232,
+        CallKind::Remove => place as u128 * 36893488147419103232,
+        CallKind::Hit => {
             place as u128 * 36893488147419103232 + 18446744073709551616 + step.start as u128
         }
-        Kind::Miss => zones as u128 * 36893488147419103232 + step.start as u128,
+        CallKind::Miss => zones as u128 * 36893488147419103232 + step.start as u128,
     }
 }
 
-/// The calls, zone after zone, with the misses behind them.
+/// The calls, zone after zone, with the misses after them.
 fn line_of(
     alloc: Global,
-    steps: &[Step],
+    steps: &[NumberedCall],
     owners: &[u32],
     places: &[u32],
     zones: usize,
@@ -96,7 +96,7 @@ fn line_of(
 /// The turns of all calls, in the order of the history.
 fn listed_turns(
     alloc: Global,
-    steps: &[Step],
+    steps: &[NumberedCall],
     owners: &[u32],
     places: &[u32],
     zones: usize,
@@ -124,8 +124,8 @@ fn listed_turns(
     Ok(line)
 }
 
-/// The point of a call behind another, which has a point: the greatest start so far of its key. A miss has its own start.
-fn next_point(step: &Step, before: &Step, point: u64) -> u64
+/// The point of a call after another, which has a point: the greatest start so far of its key. A miss has its own start.
+fn next_point(step: &NumberedCall, before: &NumberedCall, point: u64) -> u64
     ensures { IsNextPoint step.now before.now point result }
 {
     if step.kind.is_miss() {
@@ -138,8 +138,8 @@ fn next_point(step: &Step, before: &Step, point: u64) -> u64
     }
 }
 
-/// The point of the call at a place of a line, where the call before it has this point.
-fn point_at(steps: &[Step], line: &[Ranked], place: usize, point: u64) -> u64
+/// The point of the call at a place of a line, if the call before it has this point.
+fn point_at(steps: &[NumberedCall], line: &[Ranked], place: usize, point: u64) -> u64
     requires within { place < length line.now }
     requires positions { All (λ turn. turn.position < length steps.now) line.now }
     ensures { IsPointAt steps.now line.now place point result }
@@ -155,7 +155,11 @@ fn point_at(steps: &[Step], line: &[Ranked], place: usize, point: u64) -> u64
 }
 
 /// The calls of a line by their points, and at one point by their places in the line.
-fn spots_of(alloc: Global, steps: &[Step], line: &[Ranked]) -> Result<Vec<Ranked>, AllocError>
+fn spots_of(
+    alloc: Global,
+    steps: &[NumberedCall],
+    line: &[Ranked],
+) -> Result<Vec<Ranked>, AllocError>
     requires few { length line.now < 2 ^ 31 }
     requires positions { All (λ turn. turn.position < length steps.now) line.now }
     ensures { IfOk result (λ spots. (history : List Call) → AreSteps history steps.now
@@ -167,7 +171,11 @@ fn spots_of(alloc: Global, steps: &[Step], line: &[Ranked]) -> Result<Vec<Ranked
 }
 
 /// The calls of a line with their points, in the line's order.
-fn listed_spots(alloc: Global, steps: &[Step], line: &[Ranked]) -> Result<Vec<Ranked>, AllocError>
+fn listed_spots(
+    alloc: Global,
+    steps: &[NumberedCall],
+    line: &[Ranked],
+) -> Result<Vec<Ranked>, AllocError>
     requires few { length line.now < 2 ^ 31 }
     requires positions { All (λ turn. turn.position < length steps.now) line.now }
     ensures { IfOk result (λ spots. (history : List Call) → AreSteps history steps.now

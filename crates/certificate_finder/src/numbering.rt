@@ -4,13 +4,13 @@ ghost use Rattle.certificate_finder.specs.Numbers.{number_at, AreNumbers, KeepsN
 ghost use Rattle.certificate_finder.specs.Steps.{AreSteps};
 
 use crate::lent_word::LentWord;
-use crate::step::Step;
+use crate::numbered_call::NumberedCall;
 use std::alloc::{AllocError, Global};
 use std::collections::HashMap;
 use std::hash::BuildHasher;
 use trace_file::History;
 
-/// The number of a word: that which it has, or else a new one, which it has from now on.
+/// The number of a word: that which it has, otherwise a new one, which it has from now on.
 fn number<'a, S: BuildHasher>(
     numbers: &mut HashMap<LentWord<'a>, u32, S>,
     new: u32,
@@ -34,7 +34,7 @@ pub(crate) fn steps_of<S: BuildHasher + Drop>(
     alloc: Global,
     hash_builder: S,
     history: &History,
-) -> Result<Vec<Step>, AllocError>
+) -> Result<Vec<NumberedCall>, AllocError>
     requires { length history.now < 2 ^ 31 }
     ensures { IfOk result (λ steps. AreSteps history.now steps.items) }
 {
@@ -45,7 +45,7 @@ pub(crate) fn steps_of<S: BuildHasher + Drop>(
         let call = history.at(position);
         let key = number(&mut numbers, new, call.key)?;
         let value = number(&mut numbers, new + 1, call.act.value())?;
-        steps.push(Step::of(&call, key, value))?;
+        steps.push(NumberedCall::of(&call, key, value))?;
     }
     Ok(steps)
 }

@@ -5,17 +5,17 @@ ghost use Rattle.certificate_finder.specs.Owning.{IsNoted, IsOwnerAt, IsOwning};
 ghost use Rattle.certificate_finder.specs.Putting.{ArePuts};
 ghost use Rattle.certificate_finder.specs.Steps.{IsFit};
 
+use crate::numbered_call::{NumberedCall, step_at};
 use crate::owner::Owner;
 use crate::owning::{Owners, Owning};
 use crate::put::{Put, put_at};
 use crate::reads::Reading;
-use crate::step::{Step, step_at};
 use std::alloc::{AllocError, Global};
 
 /// With which write each call goes.
 pub(crate) fn owners_of(
     alloc: Global,
-    steps: &[Step],
+    steps: &[NumberedCall],
     puts: &[Put],
     readings: &[Reading],
 ) -> Result<Owning, AllocError>
@@ -67,7 +67,7 @@ fn note(
 }
 
 /// With which write the call at a position goes.
-fn owner_at(steps: &[Step], puts: &[Put], readings: &[Reading], position: usize) -> Owner
+fn owner_at(steps: &[NumberedCall], puts: &[Put], readings: &[Reading], position: usize) -> Owner
     requires fit { All IsFit steps.now }
     requires puts { ArePuts steps.now puts.now }
     requires readings { AreReadings steps.now puts.now readings.now }

@@ -3,7 +3,7 @@
 /// With which write each call goes.
 #[derive(Drop)]
 pub(crate) struct Owners {
-    /// For each position that of the put that its hit has read, or else the position itself.
+    /// For each position that of the put that its hit has read, otherwise the position itself.
     pub(crate) owners: Vec<u32>,
     /// The positions of the hits that can have read several puts.
     pub(crate) unsure: Vec<u32>,

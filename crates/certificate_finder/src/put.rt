@@ -2,7 +2,7 @@
 ghost use Rattle.std.specs.Prelude.{◌≡◌, ◌<◌, ◌↔◌, IsTrue, Some, length, slice_get};
 ghost use Rattle.certificate_finder.specs.Putting.{expiry_at, value_rank as rank_of_value};
 
-use crate::step::Step;
+use crate::numbered_call::NumberedCall;
 use crate::write::Write;
 
 /// A put, and until when it can be read.
@@ -18,7 +18,7 @@ pub(crate) struct Put {
     pub(crate) start: u64,
     /// When its value expires.
     pub(crate) expires: u64,
-    /// The stamp behind which no hit that starts can have read it.
+    /// The stamp after which no hit that starts can have read it.
     pub(crate) dead: u64,
     /// The position of the write that ended then, if there is one.
     pub(crate) over: Option<u32>,
@@ -27,8 +27,8 @@ pub(crate) struct Put {
 impl Put {
     ghost use Rattle.certificate_finder.specs.Putting.{IsPut, last_rank, put_rank};
 
-    /// The put at this position, with the write that ends first of those behind it.
-    pub(crate) fn of(position: u32, step: &Step, over: Option<Write>) -> Put
+    /// The put at this position, with the write that ends first of those after it.
+    pub(crate) fn of(position: u32, step: &NumberedCall, over: Option<Write>) -> Put
         ensures { IsPut position step.now over result }
     {
         match over {

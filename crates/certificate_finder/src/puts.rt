@@ -6,8 +6,8 @@ ghost use Rattle.certificate_finder.specs.Putting.{ArePuts, IsPut, Putting, Tell
 ghost use Rattle.certificate_finder.specs.Steps.{IsFit};
 ghost use Rattle.certificate_finder.specs.Writing.{AreSoonest, AreWrites, IsSplit};
 
+use crate::numbered_call::{NumberedCall, step_at};
 use crate::put::Put;
-use crate::step::{Step, step_at};
 use crate::write::Write;
 use crate::writes::over_of;
 use std::alloc::{AllocError, Global};
@@ -15,7 +15,7 @@ use std::alloc::{AllocError, Global};
 /// The puts, by keys, values and starts.
 pub(crate) fn puts_of(
     alloc: Global,
-    steps: &[Step],
+    steps: &[NumberedCall],
     writes: &[Write],
     soonest: &[u32],
 ) -> Result<Vec<Put>, AllocError>
@@ -33,7 +33,7 @@ pub(crate) fn puts_of(
 /// The puts, in the order of the history.
 fn listed_puts(
     alloc: Global,
-    steps: &[Step],
+    steps: &[NumberedCall],
     writes: &[Write],
     soonest: &[u32],
 ) -> Result<Vec<Put>, AllocError>
@@ -58,7 +58,7 @@ fn listed_puts(
 fn list_put(
     puts: &mut Vec<Put>,
     position: u32,
-    step: &Step,
+    step: &NumberedCall,
     over: Option<Write>,
 ) -> Result<(), AllocError>
     ensures { OnOk result (GrowsBy Putting (λ p s put. IsPut p s over put) position step.now puts.old.items puts.new.items) }

@@ -12,13 +12,13 @@ ghost use Rattle.certificate_finder.specs.Writing.{IsSplit};
 use crate::asked::asked_of;
 use crate::best::Best;
 use crate::leaves::{ends_below, ends_of, leaves_of};
+use crate::numbered_call::{NumberedCall, step_at};
 use crate::put::{Put, value_rank};
 use crate::puts::puts_upto;
 use crate::ranked::{Ranked, ranked_at};
 use crate::reads::Reading;
-use crate::shape::Shape;
-use crate::step::{Step, step_at};
 use crate::tree::{add_all, live_from};
+use crate::tree_shape::TreeShape;
 use std::alloc::{AllocError, Global};
 
 /// For each hit which puts it can have read.
@@ -27,7 +27,7 @@ use std::alloc::{AllocError, Global};
 /// does not precede, and of the leaves from its own start on.
 pub(crate) fn readings_of(
     alloc: Global,
-    steps: &[Step],
+    steps: &[NumberedCall],
     puts: &[Put],
 ) -> Result<Vec<Reading>, AllocError>
     requires few { length steps.now < 2 ^ 31 }
@@ -55,7 +55,7 @@ pub(crate) fn readings_of(
 /// For each hit which puts it can have read, by the leaves of the puts and by the hits in the order of their ends.
 fn readings_by(
     alloc: Global,
-    steps: &[Step],
+    steps: &[NumberedCall],
     puts: &[Put],
     ends: &[u128],
     leaves: &[u32],
@@ -69,7 +69,7 @@ fn readings_by(
     requires asked { AreAsked steps.now asked.now }
     ensures { IfOk result (λ readings. AreReadings steps.now puts.now readings.items) }
 {
-    let shape = Shape::over(puts.len());
+    let shape = TreeShape::over(puts.len());
     let mut tree = vec![in alloc; Best::Empty; 2 * shape.width]?;
     let nodes = tree.as_mut_slice();
     let mut readings = vec![in alloc; Reading::Nothing; steps.len()]?;
@@ -85,17 +85,17 @@ fn readings_by(
     Ok(readings)
 }
 
-/// Which puts a hit can have read, where the puts below an index are those that it does not precede. They enter the tree, in
+/// Which puts a hit can have read, if the puts below an index are those that it does not precede. They enter the tree, in
 /// which those below another index are.
 fn reading_of(
     nodes: &mut [Best],
-    shape: Shape,
+    shape: TreeShape,
     puts: &[Put],
     ends: &[u128],
     leaves: &[u32],
     taken: usize,
     upto: usize,
-    hit: &Step,
+    hit: &NumberedCall,
 ) -> Reading
     requires few { length puts.now < 2 ^ 31 }
     requires fit { IsFit hit.now }

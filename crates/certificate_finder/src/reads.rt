@@ -1,7 +1,7 @@
 // Which puts a hit can have read.
 ghost use Rattle.std.specs.Prelude.{◌≡◌};
 
-/// Which of some puts are so, by their indexes.
+/// Which puts a hit can have read.
 #[derive(Clone, Copy)]
 pub(crate) enum Reading {
     /// No put.
@@ -15,7 +15,7 @@ pub(crate) enum Reading {
 impl Reading {
     ghost use Rattle.certificate_finder.specs.Readings.{IsJoined};
 
-    /// Which puts of two kinds are so, by those of each.
+    /// Which puts of two groups a hit can have read, by those of each group.
     pub(crate) fn join(self, other: Reading) -> Reading
         ensures { IsJoined self other result }
     {

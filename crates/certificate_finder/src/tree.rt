@@ -9,7 +9,7 @@ use crate::best::Best;
 use crate::numbers::number_at;
 use crate::put::Put;
 use crate::reads::Reading;
-use crate::shape::Shape;
+use crate::tree_shape::TreeShape;
 
 /// The node at an index.
 fn node_at(nodes: &[Best], index: usize) -> Best
@@ -20,7 +20,7 @@ fn node_at(nodes: &[Best], index: usize) -> Best
 }
 
 /// Adds a put to all nodes over its leaf.
-fn add(nodes: &mut [Best], shape: Shape, puts: &[Put], leaves: &[u32], index: usize)
+fn add(nodes: &mut [Best], shape: TreeShape, puts: &[Put], leaves: &[u32], index: usize)
     requires few { length puts.now < 2 ^ 31 }
     requires shape { IsShape (length puts.now) shape }
     requires count { length nodes.old ≡ 2 * shape.width }
@@ -44,7 +44,7 @@ fn add(nodes: &mut [Best], shape: Shape, puts: &[Put], leaves: &[u32], index: us
 /// Adds the puts from one index on up to another.
 pub(crate) fn add_all(
     nodes: &mut [Best],
-    shape: Shape,
+    shape: TreeShape,
     puts: &[Put],
     leaves: &[u32],
     from: usize,
@@ -66,7 +66,7 @@ pub(crate) fn add_all(
     }
 }
 
-/// Which puts of the node right of a left one are live at a moment; none where it is a right one itself.
+/// Which puts of the node right of a left one are live at a moment; none if it is a right one itself.
 fn live_beside(nodes: &[Best], puts: &[Put], at: usize, moment: u64) -> Reading
     requires even { length nodes.now % 2 ≡ 0 }
     requires within { at < length nodes.now }
@@ -83,7 +83,7 @@ fn live_beside(nodes: &[Best], puts: &[Put], at: usize, moment: u64) -> Reading
 /// Which puts of the leaves from one on are live at a moment.
 pub(crate) fn live_from(
     nodes: &[Best],
-    shape: Shape,
+    shape: TreeShape,
     puts: &[Put],
     leaf: usize,
     moment: u64,

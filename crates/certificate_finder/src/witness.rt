@@ -8,7 +8,7 @@ pub struct Side {
     pub write: u32,
     /// The position of the call that ended before the other side's late one started.
     pub early: u32,
-    /// The position of the call that started behind the end of the other side's early one.
+    /// The position of the call that started after the end of the other side's early one.
     pub late: u32,
 }
 

@@ -2,7 +2,7 @@
 ghost use Rattle.std.specs.Prelude.{◌≡◌, ◌<◌, Some, length, slice_get};
 ghost use Rattle.certificate_finder.specs.Writing.{key_rank as rank_of_key};
 
-use crate::step::Step;
+use crate::numbered_call::NumberedCall;
 
 /// A put or a removal.
 #[derive(Clone, Copy)]
@@ -21,7 +21,7 @@ impl Write {
     ghost use Rattle.certificate_finder.specs.Writing.{TellsWrite, write_rank};
 
     /// The write at this position.
-    pub(crate) fn of(position: u32, step: &Step) -> Write
+    pub(crate) fn of(position: u32, step: &NumberedCall) -> Write
         ensures { TellsWrite position step.now result }
     {
         Write {

@@ -1,17 +1,17 @@
-// The writes of a history, and which of them ends first behind a call.
+// The writes of a history, and which of them ends first after a call.
 ghost use Rattle.std.specs.Prelude.{◌≡◌, ◌+◌, ◌^◌, ◌<◌, ◌≤◌, All, IfOk, OnOk, Some, length, slice_get};
 ghost use Rattle.std.specs.List.Sorted.{IsNonDecreasingBy};
 ghost use Rattle.certificate_finder.specs.Lists.{GrowsBy, Lists};
 ghost use Rattle.certificate_finder.specs.Steps.{IsFit};
 ghost use Rattle.certificate_finder.specs.Writing.{AreWrites, AreSoonest, EndsFirst, IsFirstOver, IsSplit, TellsWrite, Writing, write_rank};
 
+use crate::numbered_call::{NumberedCall, step_at};
 use crate::numbers::number_at;
-use crate::step::{Step, step_at};
 use crate::write::{Write, key_rank, write_at};
 use std::alloc::{AllocError, Global};
 
 /// The writes, by keys and starts.
-pub(crate) fn writes_of(alloc: Global, steps: &[Step]) -> Result<Vec<Write>, AllocError>
+pub(crate) fn writes_of(alloc: Global, steps: &[NumberedCall]) -> Result<Vec<Write>, AllocError>
     requires few { length steps.now < 2 ^ 31 }
     requires fit { All IsFit steps.now }
     ensures { IfOk result (λ writes. AreWrites steps.now writes.items) }
@@ -22,7 +22,7 @@ pub(crate) fn writes_of(alloc: Global, steps: &[Step]) -> Result<Vec<Write>, All
 }
 
 /// The writes, in the order of the history.
-fn listed_writes(alloc: Global, steps: &[Step]) -> Result<Vec<Write>, AllocError>
+fn listed_writes(alloc: Global, steps: &[NumberedCall]) -> Result<Vec<Write>, AllocError>
     requires { length steps.now < 2 ^ 31 }
     ensures { IfOk result (λ writes.
         Lists steps.now Writing TellsWrite (length steps.now) writes.items) }
@@ -36,7 +36,7 @@ fn listed_writes(alloc: Global, steps: &[Step]) -> Result<Vec<Write>, AllocError
 }
 
 /// Lists a call, if it is a write.
-fn list_write(writes: &mut Vec<Write>, position: u32, step: &Step) -> Result<(), AllocError>
+fn list_write(writes: &mut Vec<Write>, position: u32, step: &NumberedCall) -> Result<(), AllocError>
     ensures { OnOk result (GrowsBy Writing TellsWrite position step.now writes.old.items writes.new.items) }
 {
     if !step.kind.is_write() {
@@ -89,8 +89,8 @@ fn sooner(writes: &[Write], soonest: &[u32], index: usize) -> u32
     }
 }
 
-/// Of the writes of a call's key that start behind the call's end, the one that ends first.
-pub(crate) fn over_of(writes: &[Write], soonest: &[u32], step: &Step) -> Option<Write>
+/// Of the writes of a call's key that start after the call's end, the one that ends first.
+pub(crate) fn over_of(writes: &[Write], soonest: &[u32], step: &NumberedCall) -> Option<Write>
     requires sorted { IsNonDecreasingBy write_rank writes.now }
     requires fit { All (λ write. write.start < 2 ^ 64) writes.now }
     requires soonest { AreSoonest writes.now 0 soonest.now }

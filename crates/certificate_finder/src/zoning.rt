@@ -6,15 +6,15 @@ ghost use Rattle.certificate_finder.specs.Writing.{Writing};
 ghost use Rattle.certificate_finder.specs.Zones.{AreEarliest, AreDistinct, AreLatest, AreZones, TellsZone};
 
 use crate::ends::{earliest_of, latest_of};
+use crate::numbered_call::{NumberedCall, step_at};
 use crate::numbers::number_at;
-use crate::step::{Step, step_at};
 use crate::zone::Zone;
 use std::alloc::{AllocError, Global};
 
 /// The zones of all writes, by keys and middles.
 pub(crate) fn zones_of(
     alloc: Global,
-    steps: &[Step],
+    steps: &[NumberedCall],
     owners: &[u32],
 ) -> Result<Vec<Zone>, AllocError>
     requires few { length steps.now < 2 ^ 31 }
@@ -33,7 +33,7 @@ pub(crate) fn zones_of(
 /// The zones of all writes, in the order of the history.
 fn listed_zones(
     alloc: Global,
-    steps: &[Step],
+    steps: &[NumberedCall],
     owners: &[u32],
     earliest: &[u32],
     latest: &[u32],
@@ -56,7 +56,7 @@ fn listed_zones(
 }
 
 /// Lists a call's zone, if it is a write.
-fn list_zone(zones: &mut Vec<Zone>, step: &Step, zone: Zone) -> Result<(), AllocError>
+fn list_zone(zones: &mut Vec<Zone>, step: &NumberedCall, zone: Zone) -> Result<(), AllocError>
     ensures { OnOk result (GrowsBy Writing (λ _ _ z. z ≡ zone) 0 step.now zones.old.items zones.new.items) }
 {
     if !step.kind.is_write() {
@@ -68,7 +68,7 @@ fn list_zone(zones: &mut Vec<Zone>, step: &Step, zone: Zone) -> Result<(), Alloc
 
 /// The zone of the call at a position.
 fn zone_of(
-    steps: &[Step],
+    steps: &[NumberedCall],
     owners: &[u32],
     earliest: &[u32],
     latest: &[u32],

@@ -112,7 +112,7 @@ lacks settings rows place less none = elim (cases_Bool (has_numbers settings row
   | inr other ↦ other
 ]
 
--- no load is asked for where a number or the file of the trace is missing
+-- no load is asked for if a number or the file of the trace is missing
 pub no_numbers : (rows : List Row) → has_numbers settings rows ≡ false → load_wanted rows ≡ None
 no_numbers rows h = rw h refl
 
@@ -122,7 +122,7 @@ no_trace rows none = elim (cases_Bool (has_numbers settings rows)) [
   | inr other ↦ rw other refl
 ]
 
--- and none of a cache that serves where a number is missing, or that of a size that is given
+-- and none of a cache that serves if a number is missing, or that of a size that is given
 pub no_served_numbers : (rows : List Row) → has_numbers served_settings rows ≡ false → served_wanted rows ≡ None
 no_served_numbers rows h = rw h refl
 
@@ -144,7 +144,7 @@ no_more : (b : Bool) → (b && false) ≡ false
 no_more true = refl
 no_more false = refl
 
--- where one of the sizes has no number, not all have
+-- if one of the sizes has no number, not all have
 pub lacks_first : (rows : List Row) → bytes_found rows Size ≡ None → has_sizes rows ≡ false
 lacks_first rows none = rw none refl
 

@@ -24,7 +24,7 @@ use Rattle.command_line.specs.declared.line_fault.LineFault.TheVariants.{Usage, 
 abbrev pub file_rule : Rule
 file_rule = record (new_rule (codes "FILE")) { required = true }
 
--- the option of a setting: its name, one value, and the word where none is given
+-- the option of a setting: its name, one value, and the word if none is given
 abbrev pub option_rule : Setting → Rule
 option_rule setting = record (new_rule (row_of setting).name) { long = Some (row_of setting).name; value_names = 1; defaults = (row_of setting).default ∷ [] }
 
@@ -40,7 +40,7 @@ size_rule size = record (new_rule (name_of size)) { long = Some (name_of size); 
 abbrev pub trace_rule : Rule
 trace_rule = record (new_rule (codes "trace")) { long = Some (codes "trace"); value_names = 1; required = true }
 
--- script, with nothing behind it
+-- script, with nothing after it
 abbrev pub script_command : App
 script_command = new_app (codes "script")
 
@@ -48,7 +48,7 @@ script_command = new_app (codes "script")
 abbrev pub explain_rule : Rule
 explain_rule = record (new_rule (codes "explain")) { long = Some (codes "explain"); action = Some SetTrue }
 
--- whether what is told is a JSON object and not lines
+-- whether what is reported is a JSON object and not lines
 abbrev pub json_rule : Rule
 json_rule = record (new_rule (codes "json")) { long = Some (codes "json"); action = Some SetTrue }
 
@@ -157,7 +157,7 @@ judge_wanted rows =
 abbrev pub show_wanted : List Row → Option Wanted
 show_wanted rows = option_map (λ file. Shown file (first_of (codes "key") rows)) (first_of (codes "FILE") rows)
 
--- the number of a setting, by what was found for its option: none where that is no number in its range
+-- the number of a setting, by what was found for its option: none if that is no number in its range
 abbrev pub number_found : List Row → Setting → Option ℕ
 number_found rows setting = option_and_then (number_in setting) (first_of (row_of setting).name rows)
 
@@ -169,7 +169,7 @@ has_numbers settings rows = list_all (λ setting. is_some (number_found rows set
 abbrev pub numbers_found : List Setting → List Row → List ℕ
 numbers_found settings rows = map (λ setting. unwrap_or (number_found rows setting) 0) settings
 
--- the bytes of a size, by what was found for its option: the size is not given where nothing was found, and there is nothing where
+-- the bytes of a size, by what was found for its option: the size is not given if nothing was found, and there is nothing if
 -- that is no number in its range
 abbrev pub bytes_given : Option Text → Option (Option ℕ)
 bytes_given None = Some None
@@ -182,14 +182,14 @@ bytes_found rows size = bytes_given (first_of (name_of size) rows)
 abbrev pub has_sizes : List Row → Bool
 has_sizes rows = is_some (bytes_found rows Size) && is_some (bytes_found rows MemoryBytes)
 
--- the load that was found, where each setting has a number
+-- the load that was found, if each setting has a number
 abbrev pub load_wanted : List Row → Option Wanted
 load_wanted rows =
     if has_numbers settings rows
     then option_map (Loaded (numbers_found settings rows) (is_on (codes "json") rows) (first_of (codes "device") rows)) (first_of (codes "trace") rows)
     else None
 
--- the load of a cache that serves that was found, where each setting and each size that is given has a number
+-- the load of a cache that serves that was found, if each setting and each size that is given has a number
 abbrev pub served_wanted : List Row → Option Wanted
 served_wanted rows =
     if has_numbers served_settings rows && has_sizes rows
@@ -206,13 +206,13 @@ wanted_by (name, rows) =
     else (if bytes_eq name (codes "serve-load") then served_wanted rows
     else Some Replies))))
 
--- what the program's words ask for, where they ask for something
+-- what the program's words ask for, if they ask for something
 abbrev pub wanted_by_words : List Text → Option Wanted
 wanted_by_words words = option_and_then wanted_by (subcommand_of program words)
 
--- ---- what is told of words that ask for nothing
+-- ---- what is reported of words that ask for nothing
 
--- help or the version is told where the words ask for it, and a usage where they do not
+-- help or the version is told if the words ask for it, and a usage if they do not
 abbrev pub IsToldOf : ErrorKind → LineFault → Type 0
 IsToldOf kind (Usage text) = (kind ≢ DisplayHelp) × (kind ≢ DisplayVersion)
 IsToldOf kind (Help text) = (kind ≡ DisplayHelp) ⊎ (kind ≡ DisplayVersion)
@@ -224,7 +224,7 @@ IsUsage (Usage text) = Unit {0}
 IsUsage (Help text) = ⊥
 IsUsage OutOfMemory = Unit {0}
 
--- one of the faults that the words have is told; where they have none, a usage: a number was none or out of its range
+-- one of the faults that the words have is told; if they have none, a usage: a number was none or out of its range
 abbrev pub IsRefusal : Kinds → LineFault → Type 0
 IsRefusal [] fault = IsUsage fault
 IsRefusal (kind ∷ kinds) fault = (fault ≡ OutOfMemory) ⊎ ((told : ErrorKind) × IsAmong told (kind ∷ kinds) × IsToldOf told fault)

@@ -1,4 +1,4 @@
--- What was done where the program ends so.
+-- What was done if the program ends so.
 use Rattle.std.specs.Prelude.{◌≡◌, ℕ, List, Option, Ok}
 use Rattle.std.specs.Io.KnownBytes.{Appends}
 use Rattle.std.specs.List.{concat}
@@ -12,9 +12,9 @@ pub record IsAllWritten (old new : Option (List ℕ)) (ending : Ending) (whole :
   pub ended : ending ≡ ending_of_script (Ok whole.ending)
   pub wrote : Appends old new (concat whole.replies)
 
--- what a script of these bytes, over pages of this many bytes, wrote where the program ends so, and what of them is unread:
+-- what a script of these bytes, over pages of this many bytes, wrote if the program ends so, and what of them is unread:
 -- all of it; at a failed read just the replies of the lines that were whole in what was read; at want of memory those of the
--- lines before the one that met it; where a write failed nothing is said; and no script ends as bad words do
+-- lines before the one that met it; if a write failed nothing is said; and no script ends as bad words do
 abbrev pub IsAnswered : ℕ → List ℕ → Option (List ℕ) → Option (List ℕ) → Option (List ℕ) → Ending → Type 0
 IsAnswered page bytes unread old new OutOfMemory = WroteLinesBefore page bytes unread old new
 IsAnswered page bytes unread old new ReadFault = WroteWholeLines page bytes unread old new

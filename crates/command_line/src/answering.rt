@@ -2,7 +2,7 @@
 ghost use Rattle.std.specs.Prelude.{◌≡◌, ◌≢◌, IfSome};
 ghost use Rattle.std.specs.Io.Buffered.{writer_contents, writer_inner};
 ghost use Rattle.std.specs.Io.KnownBytes.{Appends};
-ghost use Rattle.record_pages.specs.Sizes.{IsPageSize};
+ghost use Rattle.record_pages.specs.AskedSizes.{IsPageSize};
 ghost use Rattle.command_line.specs.Outcomes.{IsAnswered};
 
 use crate::ending::Ending;
@@ -12,7 +12,7 @@ use std::hash::BuildHasher;
 use std::io::{BufWriter, Read, Write};
 
 /// Answers the script of a reader, and says how the program ends. What the writer holds then is written
-/// out before this returns, also after a fault of the input or of memory: where that fails, the program
+/// out before this returns, also after a fault of the input or of memory: if that fails, the program
 /// ends as after a write that failed. The tables of its verdicts hash keys by `hash_builder`, which whoever
 /// wrote the script should not know.
 pub fn answer_script<const PAGE: usize, S: BuildHasher + Copy, R: Read, W: Write + Drop>(

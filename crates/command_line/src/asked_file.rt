@@ -11,7 +11,7 @@ use judge_run::{CheckRequest, JudgeRequest, ShowRequest};
 use std::alloc::{AllocError, Global};
 use trace_file::FileName;
 
-/// The file that was found for an option; none where none is given.
+/// The file that was found for an option; none if none is given.
 pub(crate) fn file_found<'a>(
     alloc: Global,
     found: &ArgMatches<'a>,
@@ -38,7 +38,7 @@ pub(crate) fn is_on<'a>(found: &ArgMatches<'a>, flag: &str) -> bool
     }
 }
 
-/// The word that was found for an option; none where none is given.
+/// The word that was found for an option; none if none is given.
 fn word_found<'a>(
     alloc: Global,
     found: &ArgMatches<'a>,

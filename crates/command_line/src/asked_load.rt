@@ -12,7 +12,7 @@ use load::{SERVED_SETTINGS, SETTINGS, Setting, SizeSetting, load_with, served_wi
 use std::alloc::Global;
 use trace_file::FileName;
 
-/// The number of a setting; none where what was found for it is no number in its range.
+/// The number of a setting; none if what was found for it is no number in its range.
 fn number_of<'a>(found: &ArgMatches<'a>, setting: Setting) -> Option<u32>
     ensures { result ≡ number_found (rows_of (found_of found.now)) setting }
 {
@@ -44,7 +44,7 @@ fn numbers_of<'a, const N: usize>(
     Ok(numbers)
 }
 
-/// The bytes of a size, where they are given; an error where what was found for it is no number in its range.
+/// The bytes of a size, if they are given; an error if what was found for it is no number in its range.
 fn bytes_of<'a>(found: &ArgMatches<'a>, size: SizeSetting) -> Result<Option<u64>, SizeSetting>
     ensures given { IfOk result (λ bytes. bytes_found (rows_of (found_of found.now)) size ≡ Some bytes) }
     ensures none { OnErr result (bytes_found (rows_of (found_of found.now)) size ≡ None) }
@@ -92,13 +92,13 @@ pub fn run_line<'a>(alloc: Global, found: &ArgMatches<'a>) -> Result<Line, LineF
 
 /// The sizes that were found.
 #[derive(Clone, Copy)]
-struct Sizes {
+struct AskedSizes {
     size: Option<u64>,
     memory_bytes: Option<u64>,
 }
 
 /// The sizes that were found, or the first of them that has no number in its range.
-fn sizes_of<'a>(found: &ArgMatches<'a>) -> Result<Sizes, SizeSetting>
+fn sizes_of<'a>(found: &ArgMatches<'a>) -> Result<AskedSizes, SizeSetting>
     ensures size { IfOk result (λ sizes.
         bytes_found (rows_of (found_of found.now)) SizeSetting.Size ≡ Some sizes.size) }
     ensures memory { IfOk result (λ sizes.
@@ -107,7 +107,7 @@ fn sizes_of<'a>(found: &ArgMatches<'a>) -> Result<Sizes, SizeSetting>
 {
     let size = bytes_of(found, SizeSetting::Size)?;
     let memory_bytes = bytes_of(found, SizeSetting::MemoryBytes)?;
-    Ok(Sizes { size, memory_bytes })
+    Ok(AskedSizes { size, memory_bytes })
 }
 
 /// What `serve-load` asks for.

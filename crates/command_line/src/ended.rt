@@ -16,7 +16,7 @@ const LINES: &str =
 const CONFIG: &str =
     "config takes: LANES 1, SETS 1 to 65536, MEMORY 1 to 1048576, SEGMENTS 2 to 256, SEGMENT-PAGES 1 to 64, ENTRIES 1 to 1048576, THRESHOLD 1 to 32, ADMIT 0 to 65536\n";
 
-/// How the program ended, and why the system gave no random numbers, where that is the cause.
+/// How the program ended, and why the system gave no random numbers, if that is the cause.
 #[derive(Debug, Drop)]
 pub struct Ended {
     pub ending: Ending,

@@ -59,7 +59,7 @@ impl Ending {
         ExitCode::from(self.status())
     }
 
-    /// The line that it writes to standard error, where it writes one.
+    /// The line that it writes to standard error, if it writes one.
     pub fn message(self) -> Option<&'static str>
         ensures { option_map (λ m. m.now) result ≡ message_of self }
     {

@@ -73,7 +73,7 @@ fn line_met<'a>(alloc: Global, matches: &ArgMatches<'a>) -> Result<Line, LineFau
 
 /// What the program's words ask for. The first word is the program's own name.
 ///
-/// `Usage` carries the text that tells the user so, `Help` the help or the version that is asked for; `OutOfMemory` comes where memory was refused.
+/// `Usage` carries the text that tells the user so, `Help` the help or the version that is asked for; `OutOfMemory` comes if memory was refused.
 pub fn parse_line<'a, S: AsStr>(alloc: Global, words: &'a [S]) -> Result<Line, LineFault>
     ensures named { IfOk result (λ line.
         wanted_by_words (map S.text words.now) ≡ Some (wanted_of line)) }
@@ -96,7 +96,7 @@ pub fn parse_line<'a, S: AsStr>(alloc: Global, words: &'a [S]) -> Result<Line, L
     }
 }
 
-/// What is told where a word of the command line is not text, whatever the others are.
+/// What is reported if a word of the command line is not text, whatever the others are.
 pub fn no_text(alloc: Global) -> LineFault
     ensures { IsToldOf ErrorKind.InvalidValue result }
 {

@@ -135,7 +135,7 @@ fn explain<'a>(alloc: Global) -> Arg<'a>
         .help("Explain why the history is rejected, and show the calls around the place")
 }
 
-/// Whether what is told is a JSON object and not lines.
+/// Whether what is reported is a JSON object and not lines.
 fn json<'a>(alloc: Global) -> Arg<'a>
     ensures rule { rule_of result ≡ json_rule }
     ensures local { result.global ≡ false }

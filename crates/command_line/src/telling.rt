@@ -1,4 +1,4 @@
-// What is told of words that ask for nothing to be done.
+// What is reported of words that ask for nothing to be done.
 ghost use Rattle.std.specs.Prelude.{◌≡◌, IfOk};
 ghost use Rattle.clap.specs.Words.{kind_of};
 ghost use Rattle.command_line.specs.CommandLine.{IsToldOf, IsUsage};
@@ -70,7 +70,7 @@ struct Range {
     greatest: u64,
 }
 
-/// What is told if the text that was given for a setting is no number, or one out of its range.
+/// What is reported if the text that was given for a setting is no number, or one out of its range.
 pub fn no_number(alloc: Global, loading: Loading, setting: Setting, given: &str) -> LineFault
     ensures { IsUsage result }
 {
@@ -82,7 +82,7 @@ pub fn no_number(alloc: Global, loading: Loading, setting: Setting, given: &str)
     no_range(alloc, loading, &range, given)
 }
 
-/// What is told if the text that was given for a size is no number, or one out of its range.
+/// What is reported if the text that was given for a size is no number, or one out of its range.
 pub fn no_bytes(alloc: Global, size: SizeSetting, given: &str) -> LineFault
     ensures { IsUsage result }
 {
@@ -94,7 +94,7 @@ pub fn no_bytes(alloc: Global, size: SizeSetting, given: &str) -> LineFault
     no_range(alloc, Loading::Serve, &range, given)
 }
 
-/// What is told if the text that was given for an option is no number of its range.
+/// What is reported if the text that was given for an option is no number of its range.
 fn no_range(alloc: Global, loading: Loading, range: &Range, given: &str) -> LineFault
     ensures { IsUsage result }
 {

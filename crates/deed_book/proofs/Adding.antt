@@ -79,7 +79,7 @@ module _ (lanes : ℕ) (lane_of : List ℕ → ℕ) where
           rw is tt,
         )
 
-  -- whatever the book is, the exchange enters the write behind all that had been seen; or the lane has another number of writes
+  -- whatever the book is, the exchange enters the write after all that had been seen; or the lane has another number of writes
   pub enters_moves : (v : List Deed) (e : Deed) (n old : ℕ) → n < lanes → lane_of e.key ≡ n → Moves (IsKept lanes lane_of) shown moved n (v, (no_nib, None)) (λ k. either (k == old) (old + 1) k) (Enters lane_of (step n old (old + 1) e) (v, (no_nib, None)))
   enters_moves v e n old within ours cs log kept pre away = (
     subst (λ (k : ℕ). n < k) (sym kept.words) within,

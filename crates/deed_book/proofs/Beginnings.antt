@@ -12,7 +12,7 @@ pub none_left : {A : Type 0} (n : ℕ) (rest : List A) → n + length rest ≡ n
 none_left n [] same = refl
 none_left n (x ∷ rest) same = absurd (omega (arith, same))
 
--- where no more pass a test in the whole than in a beginning, the same do
+-- if no more pass a test in the whole than in a beginning, the same do
 pub same_passed : {A : Type 0} (p : A → Bool) (xs ys : List A) → IsPrefix xs ys → length (filter p ys) ≡ length (filter p xs) → filter p ys ≡ filter p xs
 same_passed p xs ys pre same =
     let parts : filter p ys ≡ filter p xs ++ filter p pre.0 = ap (filter p) (sym pre.1) ∙ filter-append p xs pre.0 in

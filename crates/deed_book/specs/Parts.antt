@@ -2,7 +2,7 @@
 use Rattle.std.specs.Prelude.{ℕ, ◌==◌, Bool, List, filter}
 use Rattle.certificate_checker.specs.Deeds.{Deed}
 
--- whether a deed is of this lane, where keys have these
+-- whether a deed is of this lane, if keys have these
 abbrev pub is_in_lane : (List ℕ → ℕ) → ℕ → Deed → Bool
 is_in_lane lane_of number deed = lane_of deed.key == number
 

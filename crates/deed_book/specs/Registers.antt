@@ -19,7 +19,7 @@ pub record IsRegister (lanes : ℕ) (lane_of : List ℕ → ℕ) (book : Book) (
   pub alone : names ≡ []
   pub counts : length (part_of lane_of number log) ≡ entered
 
--- the book has no write, and so many registers are handed out
+-- the book has no write, and this many registers are handed out
 pub record HandsOut (lanes : ℕ) (book : Book) (given : ℕ) (seen_book : Book) (names : List ℕ) (log : List Deed) (pens_book : Book) (next left : ℕ) : Type 0 where
   pub same_book : seen_book ≡ book
   pub alone : names ≡ []

@@ -18,13 +18,13 @@ head_of book number = record { tracked = true; key = number; book = book }
 abbrev pub Looks : (List ℕ → ℕ) → Step Deed → View Deed ℕ → ℕ → View Deed ℕ → Type 0
 Looks lane_of s v found w = length (part_of lane_of s.key w.0) ≡ found
 
--- a write was added to a list that begins with what had been seen, and in which the lane had so many writes
+-- a write was added to a list that begins with what had been seen, and in which the lane had this many writes
 pub record IsAdded (lane_of : List ℕ → ℕ) (number count : ℕ) (write : Deed) (seen after : List Deed) : Type 0 where
   pub before : List Deed
   pub known : IsPrefix seen before
   pub counts : length (part_of lane_of number before) ≡ count
   pub behind : after ≡ before ++ write ∷ []
 
--- the write was added, where the lane had as many writes as was thought; else nothing is said
+-- the write was added, if the lane had as many writes as was thought; otherwise nothing is said
 abbrev pub Enters : (List ℕ → ℕ) → Step Deed → View Deed ℕ → ℕ → View Deed ℕ → Type 0
 Enters lane_of s v found w = MatchBool (found == s.old) (IsAdded lane_of s.key s.old s.ask v.0 w.0) (Unit {0})

@@ -31,7 +31,7 @@ impl<L: KeyLanes> Model for NewBook<L> {
 }
 
 impl<L: KeyLanes> NewBook<L> {
-    /// A book for so many lanes.
+    /// A book for this many lanes.
     pub fn open(lanes: usize) -> NewBook<L>
         requires { lanes ≡ L.lanes }
     {

@@ -3,16 +3,16 @@
 #![tactic(auto)]
 
 mod book;
-mod entry;
 mod lanes;
+mod offered_write;
 mod register;
 mod rule;
 mod seat;
 mod written;
 
 pub use book::{NamedBook, NewBook};
-pub use entry::Entry;
 pub use lanes::{KeyLanes, Naming, OneLane};
+pub use offered_write::OfferedWrite;
 pub use register::{EntryFault, MAX_WRITES, Register};
 pub use seat::Seat;
 pub use written::Written;

@@ -7,8 +7,8 @@ ghost use Rattle.deed_book.specs.Parts.{part_of};
 ghost use Rattle.deed_book.specs.Registers.{Catches, EntersIn};
 ghost use Rattle.deed_book.specs.declared.register.EntryFault.{EntryFault};
 
-use crate::entry::{Asks, Entry, Putting, Removing};
 use crate::lanes::{KeyLanes, Naming};
+use crate::offered_write::{Asks, OfferedWrite, Putting, Removing};
 use crate::rule::{Enter, Law, Look, Nothing};
 use crate::seat::Seat;
 use crate::written::Written;
@@ -94,10 +94,10 @@ impl<L: KeyLanes, J: Naming> Register<L, J> {
     }
 
     /// A put that is to be entered.
-    pub fn put(&self, key: &Key, value: &Value, expires: u64) -> Entry<L>
+    pub fn put(&self, key: &Key, value: &Value, expires: u64) -> OfferedWrite<L>
         ensures { result ≡ record { key = key.now; act = Act.Put value.now expires } }
     {
-        Entry {
+        OfferedWrite {
             offer: self.seen.plain::<Nothing, Putting, Asks>(&Putting {
                 key,
                 value,
@@ -107,10 +107,10 @@ impl<L: KeyLanes, J: Naming> Register<L, J> {
     }
 
     /// A removal that is to be entered.
-    pub fn removal(&self, key: &[u8]) -> Entry<L>
+    pub fn removal(&self, key: &[u8]) -> OfferedWrite<L>
         ensures { result ≡ record { key = key.now; act = Act.Remove } }
     {
-        Entry {
+        OfferedWrite {
             offer: self
                 .seen
                 .plain::<Nothing, Removing, Asks>(&Removing { key }),
@@ -137,7 +137,11 @@ impl<L: KeyLanes, J: Naming> Register<L, J> {
 
     /// Enters a write of a key of its lane after all that it and the seat have seen, and both have seen it then. It is `Full`
     /// exactly if the lane has entered `MAX_WRITES`.
-    pub fn enter(&mut self, seat: &mut Seat<L, J>, mut entry: Entry<L>) -> Result<(), EntryFault>
+    pub fn enter(
+        &mut self,
+        seat: &mut Seat<L, J>,
+        mut entry: OfferedWrite<L>,
+    ) -> Result<(), EntryFault>
         requires { L.lane_of entry.key ≡ self.old.number }
         ensures entered { OnOk result (EntersIn L.lane_of self.old seat.old entry self.new seat.new) }
         ensures full { (result ≡ Err EntryFault.Full)

@@ -53,7 +53,7 @@ module _ {D : Type 0} (size : ℕ) (old : StoreState D) where
   abbrev Stays : StoreState D → Type 0
   Stays new = new.memory ≡ old.memory
 
-  -- where only other parts are changed it is
+  -- if only other parts are changed it is
   same : (new : StoreState D) (as_told : StoreState D) → new ≡ as_told → as_told.memory ≡ old.memory → Stays new
   same new as_told is stays = ap (λ (s : StoreState D). s.memory) is ∙ stays
 
@@ -135,7 +135,7 @@ module _ {D : Type 0} (size : ℕ) (old : StoreState D) where
   abbrev pub IsFewer : StoreState D → Type 0
   IsFewer new = (p : Pair) → Contains new.memory.pairs p → Contains old.memory.pairs p
 
-  -- where memory is the same
+  -- if memory is the same
   pub fewer_same : (new : StoreState D) → Stays new → IsFewer new
   fewer_same new stays p = subst (λ (m : MemoryList). Contains m.pairs p) stays
 
@@ -153,7 +153,7 @@ module _ {D : Type 0} (size : ℕ) (old : StoreState D) where
 
 -- ---- a put leaves memory as its list says
 
--- where a pair that was pushed out enters the log, memory stays
+-- if a pair that was pushed out enters the log, memory stays
 append_stays : (size : ℕ) (r : Rec) (lane : LaneState) → (append_step size r lane).lane.memory ≡ lane.memory
 append_stays size r lane = step (nat_lt (length lane.log.entries) lane.log.shape.limit) (is_full size lane.log r)
   where

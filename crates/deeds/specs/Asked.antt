@@ -23,7 +23,7 @@ pub record Asked (D : Type 0) : Type 0 where
 abbrev pub AreCurrent : List Deed → List Pair → Type 0
 AreCurrent deeds pairs = (p : Pair) → Contains pairs p → current deeds p.key ≡ Some p.value
 
--- What is true of every such store. On any device each pair in memory is what its key has. Where the device is honest each pair
+-- What is true of every such store. On any device each pair in memory is what its key has. If the device is honest each pair
 -- that may be shown is, and each hit was its key's latest value not since removed, live at its moment.
 pub record IsServed {D : Type 0} (honest : D → Bool) (held : D → ℕ → Option (List ℕ)) (s : Asked D) : Type 0 where
   pub memory : AreCurrent s.deeds s.store.memory.pairs
@@ -36,7 +36,7 @@ abbrev pub IsMiss : Seen → Type 0
 IsMiss (seen.Hit tier) = ⊥
 IsMiss (seen.Miss cause) = Unit {0}
 
--- A hit is its key's latest value not since removed, live at the moment: in memory whatever the device, on flash where it is honest.
+-- A hit is its key's latest value not since removed, live at the moment: in memory whatever the device, on flash if it is honest.
 abbrev pub IsLiveHit : Type 0 → List Deed → List ℕ → ℕ → Answer → Type 0
 IsLiveHit honest deeds key moment (Hit value Memory) = IsLive deeds key value moment
 IsLiveHit honest deeds key moment (Hit value Log) = honest → IsLive deeds key value moment

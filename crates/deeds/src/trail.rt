@@ -3,7 +3,7 @@ ghost use Rattle.std.specs.Prelude.{◌≡◌, ◌++◌, ◌∷◌, [], List};
 ghost use Rattle.trace_file.specs.Lent.{act_shown};
 ghost use Rattle.certificate_checker.specs.Deeds.{Deed};
 
-use crate::next::Next;
+use crate::trail_step::TrailStep;
 use std::marker::{Model, PhantomData};
 use std::snapshot::Snapshot;
 use trace_file::ActRef;
@@ -29,7 +29,7 @@ impl Trail {
     pub(crate) fn new() -> Trail
         ensures { result.deeds ≡ [] }
     {
-        Trail::after(&Next::Opened)
+        Trail::after(&TrailStep::Opened)
     }
 
     /// The trail with one deed more: the key of these bytes was acted on so.
@@ -37,11 +37,11 @@ impl Trail {
         ensures { result.deeds ≡ self.now.deeds
             ++ record { key = key.now; act = act_shown act.entry } ∷ [] }
     {
-        Trail::after(&Next::Acted(Snapshot::of(self), Snapshot::of(&key), Snapshot::of(&act)))
+        Trail::after(&TrailStep::Acted(Snapshot::of(self), Snapshot::of(&key), Snapshot::of(&act)))
     }
 
     // The trail that a step leaves.
-    fn after(next: &Next<'_>) -> Trail
+    fn after(next: &TrailStep<'_>) -> Trail
         ensures { result.deeds ≡ deeds_after next.now }
     {
         let _ = next;

@@ -7,7 +7,7 @@ pub path-turn : (f g : ℕ → ℕ) (p q : ℕ) (xs : List ℕ) → IsPath f p x
 path-turn f g p q [] h e same = e ∙ h
 path-turn f g p q (x ∷ xs) h e same = (e ∙ h.0, path-turn f g x x xs h.1 (same x (inl refl)) (λ y i. same y (inr i)))
 
--- one more in front
+-- one more at the front
 pub path-push : (f g : ℕ → ℕ) (p x : ℕ) (xs : List ℕ) → IsPath f p xs → g p ≡ x → g x ≡ f p → ((y : ℕ) → IsIn y xs → g y ≡ f y) → IsPath g p (x ∷ xs)
 path-push f g p x xs h first behind same = (first, path-turn f g p x xs h behind same)
 

@@ -1,4 +1,4 @@
--- Rows behind a mark, the oldest row, and rows with another prediction.
+-- Rows after a mark, the oldest row, and rows with another prediction.
 use Rattle.std.proofs.Common.{◌≡◌, ℕ, Bool, cond, eqb, Some, None, List, [], ◌∷◌, length, filter, inl, inr, refl, sym, ap, subst, ◌∙◌, arith}
 use Rattle.std.specs.List.{last_or}
 use Rattle.std.proofs.lemmas.Bool.{eq-eqb, ne_eqb, cases_Bool, cases_eq}
@@ -63,13 +63,13 @@ next-here f xs (z ∷ zs) q path apart i e n =
     let is : f q ≡ z = from_q.0 in
     (e ∙ ap (λ (vs : List ℕ). z ∷ vs) (sym next) ∙ ap (λ (k : ℕ). k ∷ after_of k none xs) (sym is), in-same z (f q) xs (sym is) inside)
 
--- nothing comes behind a mark that leads nowhere
+-- nothing comes after a mark that leads nowhere
 pub next-none : (f : ℕ → ℕ) (item : ℕ → PoolItem) (xs : List ℕ) (rows : List Row) (q y : ℕ) → IsPath f none xs → IsDistinct (none ∷ xs) → rows_of item xs ≡ rows → IsMark q rows → y ≡ f q → y ≡ none → rows_after q none rows ≡ []
 next-none f item xs rows q y path apart is mark at e =
     let none_left : after_of q none xs ≡ [] = end-here f xs (after_of q none xs) q path apart (mark-in item xs rows q is mark) refl (sym at ∙ e) in
     ap (λ (rs : List Row). rows_after q none rs) (sym is) ∙ rows-after q none item xs ∙ ap (λ (zs : List ℕ). rows_of item zs) none_left
 
--- what a mark leads to comes behind it
+-- what a mark leads to comes after it
 pub next-some : (f : ℕ → ℕ) (item : ℕ → PoolItem) (xs : List ℕ) (rows : List Row) (q y : ℕ) (it : PoolItem) → IsPath f none xs → IsDistinct (none ∷ xs) → rows_of item xs ≡ rows → IsMark q rows → y ≡ f q → (y ≡ none → ⊥) → it ≡ item y →
     (rows_after q none rows ≡ record { at = y; item = it } ∷ rows_after y none rows) × IsMark y rows
 next-some f item xs rows q y it path apart is mark at n noted =
@@ -83,7 +83,7 @@ next-some f item xs rows q y it path apart is mark at n noted =
       inr (subst (λ (zs : List ℕ). IsIn y zs) (sym (ap (λ (rs : List Row). numbers rs) (sym is) ∙ numbers-rows item xs)) (in-same (f q) y xs (sym at) step.1)),
     )
 
--- the row that comes next behind a mark, as a node of the chain
+-- the row that comes next after a mark, as a node of the chain
 pub record NextNode (item : ℕ → PoolItem) (xs : List ℕ) (q : ℕ) (r : Row) : Type 0 where
   pub inside : IsIn r.at xs
   pub set : (item r.at).set ≡ r.item.set
@@ -181,7 +181,7 @@ module _ (l d : Links) (at n : ℕ) (sound : IsSound l) (is : chains_of d ≡ re
       ∙ repredicted-rows at n (chains_of l).item (ages_of l) in
       λ i. record { sets = heads i; limit = nodes i; rows = all i }
 
--- behind the place before the first lie all rows
+-- after the place before the first lie all rows
 pub all-after : (rows : List Row) → rows_after none none rows ≡ rows
 all-after [] = refl
 all-after (r ∷ rs) = refl

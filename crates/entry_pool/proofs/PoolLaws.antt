@@ -90,7 +90,7 @@ length-walk (suc n) f p = ap suc (length-walk n f (f p))
 pub same-path : (f : ℕ → ℕ) (p : ℕ) (xs ys : List ℕ) → length xs ≡ length ys → IsPath f p xs → IsPath f p ys → xs ≡ ys
 same-path f p xs ys e h k = sym (walk-path f p xs h) ∙ ap (λ (n : ℕ). walk n f p) e ∙ walk-path f p ys k
 
--- what is behind q was in the chain
+-- what is after q was in the chain
 pub after-in : (q p : ℕ) (xs : List ℕ) (w : ℕ) → IsIn w (after_of q p xs) → IsIn w xs
 after-in q p [] w h = h
 after-in q p (x ∷ xs) w h = elim (cases_Bool (eqb q p)) [
@@ -105,7 +105,7 @@ after-here p (x ∷ xs) = ap (λ (b : Bool). cond b (x ∷ xs) (after_of p x xs)
 pub after-later : (q p x : ℕ) (xs : List ℕ) → (q ≡ p → ⊥) → after_of q p (x ∷ xs) ≡ after_of q x xs
 after-later q p x xs n = ap (λ (b : Bool). cond b (x ∷ xs) (after_of q x xs)) (ne_eqb q p n)
 
--- from a node of a path on, the links lead through what is behind it
+-- from a node of a path on, the links lead through what is after it
 pub path-from : (f : ℕ → ℕ) (p q : ℕ) (xs : List ℕ) → IsPath f p xs → IsIn q (p ∷ xs) → IsPath f q (after_of q p xs)
 path-from f p q [] h (inl e) = ap f e ∙ h
 path-from f p q [] h (inr i) = absurd i
@@ -121,7 +121,7 @@ path-from f p q (x ∷ xs) h i = elim (cases_eq q p) [
       subst (λ (ys : List ℕ). IsPath f q ys) (sym (after-later q p x xs n)) (path-from f x q xs h.1 later)
 ]
 
--- behind the next node lies the rest
+-- after the next node lies the rest
 pub after-next : (q p y : ℕ) (xs ys : List ℕ) → IsDistinct (p ∷ xs) → after_of q p xs ≡ y ∷ ys → after_of y p xs ≡ ys
 after-next q p y [] ys apart e = cc
 after-next q p y (x ∷ xs) ys apart e = elim (cases_eq q p) [
@@ -136,7 +136,7 @@ after-next q p y (x ∷ xs) ys apart e = elim (cases_eq q p) [
       after-later y p x xs (λ w. apart.0 (inr (in-same y p xs w inside))) ∙ after-next q x y xs ys apart.1 e'
 ]
 
--- where a node is what is next behind q, q is the end of what is before it
+-- if a node is what is next after q, q is the end of what is before it
 pub end-found : (q p : ℕ) (bs : List ℕ) (x : ℕ) (as' ys : List ℕ) → IsDistinct (p ∷ bs ++ x ∷ as') → after_of q p (bs ++ x ∷ as') ≡ x ∷ ys → q ≡ end_of p bs
 end-found q p [] x as' ys apart e = elim (cases_eq q p) [
   | inl s ↦ s

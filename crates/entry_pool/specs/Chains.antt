@@ -48,7 +48,7 @@ pub record Chains : Type 0 where
 abbrev pub is_in_set : (ℕ → PoolItem) → ℕ → ℕ → Bool
 is_in_set item set i = (item i).set == set
 
--- the chains spell these nodes, newest first, and those that are free, of so many in all
+-- the chains spell these nodes, newest first, and those that are free, of this many in all
 pub record IsPool (c : Chains) (total : ℕ) (ages frees : List ℕ) : Type 0 where
   pub older : IsPath c.older none ages
   pub newer : IsBack c.newer none ages
@@ -59,12 +59,12 @@ pub record IsPool (c : Chains) (total : ℕ) (ages frees : List ℕ) : Type 0 wh
   pub all : length ages + length frees ≡ total
   pub few : total < none
 
--- of a chain from p through these, what is behind q
+-- of a chain from p through these, what is after q
 abbrev pub after_of : ℕ → ℕ → List ℕ → List ℕ
 after_of q p [] = []
 after_of q p (x ∷ xs) = cond (q == p) (x ∷ xs) (after_of q x xs)
 
--- the nodes that so many links from p lead to
+-- the nodes that this many links from p lead to
 abbrev pub walk : ℕ → (ℕ → ℕ) → ℕ → List ℕ
 walk zero f p = []
 walk (suc n) f p = f p ∷ walk n f (f p)

@@ -9,7 +9,7 @@ abbrev pub number_before : ℕ → ℕ
 number_before zero = none
 number_before (suc n) = n
 
--- so many nodes, each of which leads to the one before it
+-- this many nodes, each of which leads to the one before it
 pub record AreFree (count : ℕ) (nodes : List Node) : Type 0 where
   pub count_is : length nodes ≡ count
   pub next : (i : ℕ) → i < count → (node_at nodes i).next ≡ number_before i

@@ -38,7 +38,7 @@ chains nodes heads newest oldest free =
 unfoldable pub chains_of : Links → Chains
 chains_of links = chains links.nodes.items links.heads.items links.newest links.oldest links.free
 
--- the head, or one of so many nodes
+-- the head, or one of this many nodes
 abbrev pub IsLink : ℕ → ℕ → Type 0
 IsLink at total = (at ≡ none) ⊎ (at < total)
 
@@ -50,15 +50,15 @@ put at to f j = if j == at then to else f j
 abbrev pub put_next : ℕ → ℕ → ℕ → (ℕ → ℕ → ℕ) → ℕ → ℕ → ℕ
 put_next set at to f s j = if j == at && (s == set || not (j == none)) then to else f s j
 
--- the free nodes' links where a node's leads elsewhere
+-- the free nodes' links if a node's leads elsewhere
 abbrev pub put_free : ℕ → ℕ → (ℕ → ℕ) → ℕ → ℕ
 put_free at to f j = if j == at && not (j == none) then to else f j
 
--- what nodes note, where one notes something else
+-- what nodes note, if one notes something else
 abbrev pub put_item : ℕ → PoolItem → (ℕ → PoolItem) → ℕ → PoolItem
 put_item at item f j = if j == at then item else f j
 
--- the chains where a node is another one
+-- the chains if a node is another one
 abbrev pub with_node : ℕ → Node → Chains → Chains
 with_node at node c =
     record {

@@ -27,7 +27,7 @@ in_set set rows = filter (λ r. r.item.set == set) rows
 abbrev pub without_at : ℕ → List Row → List Row
 without_at at rows = filter (λ r. not (r.at == at)) rows
 
--- of rows behind the one numbered p, those that are behind the one numbered q
+-- of rows after the one numbered p, those that are after the one numbered q
 abbrev pub rows_after : ℕ → ℕ → List Row → List Row
 rows_after q p [] = []
 rows_after q p (r ∷ rs) = cond (q == p) (r ∷ rs) (rows_after q r.at rs)
@@ -48,11 +48,11 @@ rows_of item ages = map (λ i. record { at = i; item = item i }) ages
 abbrev pub repredicted : ℕ → Row → Row
 repredicted prediction r = record r { item = with_prediction prediction r.item }
 
--- the rows where the one of this number has another prediction
+-- the rows if the one of this number has another prediction
 abbrev pub with_prediction_at : ℕ → ℕ → List Row → List Row
 with_prediction_at at prediction rows = map (λ r. if r.at == at then repredicted prediction r else r) rows
 
--- what comes next behind a mark, or that nothing does
+-- what comes next after a mark, or that nothing does
 abbrev pub IsNext : ℕ → List Row → Option Row → Type 0
 IsNext at rows found =
     MatchOption found (rows_after at none rows ≡ []) (λ r. (rows_after at none rows ≡ r ∷ rows_after r.at none rows) × IsMark r.at rows)

@@ -36,7 +36,7 @@ impl Model for EntryPool {
 }
 
 impl EntryPool {
-    /// A pool with no row, of so many sets, for so many rows. All memory is taken here.
+    /// A pool with no row, of this many sets, for this many rows. All memory is taken here.
     pub fn open(alloc: Global, sets: u32, limit: u32) -> Result<EntryPool, AllocError>
         requires sets { sets ≤ 65536 }
         requires limit { limit ≤ 1048576 }
@@ -95,7 +95,7 @@ impl EntryPool {
         self.links.take(at, before);
     }
 
-    /// Drops the row that comes next behind a mark among those of its set: a row's number, or `NONE` for the place
+    /// Drops the row that comes next after a mark among those of its set: a row's number, or `NONE` for the place
     /// before the first.
     pub fn remove_next(&mut self, mark: u32, row: &Row)
         requires mark { IsMark mark (in_set row.now.item.set self.old.rows) }
@@ -113,7 +113,7 @@ impl EntryPool {
         self.links.set_prediction(at, prediction);
     }
 
-    /// Of the rows of a set, the next older one behind a mark: a row's number, or `NONE` for the place before the first.
+    /// Of the rows of a set, the next older one after a mark: a row's number, or `NONE` for the place before the first.
     pub fn next_in(&self, set: u32, mark: u32) -> Option<Row>
         requires { IsMark mark (in_set set self.now.rows) }
         ensures { IsNext mark (in_set set self.now.rows) result }
@@ -128,7 +128,7 @@ impl EntryPool {
         })
     }
 
-    /// The next older row behind a mark: a row's number, or `NONE` for the place before the first.
+    /// The next older row after a mark: a row's number, or `NONE` for the place before the first.
     pub fn next_older(&self, mark: u32) -> Option<Row>
         requires { IsMark mark self.now.rows }
         ensures { IsNext mark self.now.rows result }
@@ -143,7 +143,7 @@ impl EntryPool {
         })
     }
 
-    // The next newer row behind a mark: a row's number, or `NONE` for the place before the oldest.
+    // The next newer row after a mark: a row's number, or `NONE` for the place before the oldest.
     pub(crate) fn next_newer(&self, mark: u32) -> Option<Row>
         requires { IsMark mark (reverse self.now.rows) }
         ensures { IsNext mark (reverse self.now.rows) result }
@@ -230,7 +230,7 @@ fn free_node(next: u32) -> PackedNode
     })
 }
 
-// The last of so many nodes.
+// The last of this many nodes.
 fn last_of(limit: u32) -> u32
     ensures { result ≡ number_before limit }
 {

@@ -60,21 +60,21 @@ json_text (thousandths n) = thousandths_text n
 json_text (word text) = compact_text (string text)
 json_text (numbers ns) = codes "[" ++ (parted (codes ",") ns ++ codes "]")
 
--- what stands before a member of an object of which this was told
+-- what stands before a member of an object of which this was written
 abbrev pub mark_after : List ℕ → List ℕ
 mark_after [] = codes "{\""
 mark_after (c ∷ cs) = codes ",\""
 
--- what was told, and one row more
+-- what was written, and one row more
 abbrev pub with_row : Form → List ℕ → Row → List ℕ
 with_row Lines text r = text ++ (r.name ++ (codes " " ++ (plain_text r.figure ++ codes "\n")))
 with_row Json text r = text ++ (mark_after text ++ (r.name ++ (codes "\":" ++ json_text r.figure)))
 
--- what was told, and some rows more, in their order
+-- what was written, and some rows more, in their order
 abbrev pub with_rows : Form → List ℕ → List Row → List ℕ
 with_rows form text rows = fold (with_row form) text rows
 
--- what was told, ended
+-- what was written, ended
 abbrev pub ended : Form → List ℕ → List ℕ
 ended Lines text = text
 ended Json text = text ++ codes "}\n"

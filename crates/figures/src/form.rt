@@ -1,4 +1,4 @@
-// In which form figures are told.
+// In which form figures are written.
 ghost use Rattle.std.specs.Prelude.{◌≡◌, ◌++◌, OnOk, string_bytes};
 ghost use Rattle.figures.specs.Figures.{ended, figure_of, form_of, row, with_row};
 
@@ -6,7 +6,7 @@ use crate::figure::Figure;
 use crate::telling::{push_json, push_plain};
 use std::alloc::{AllocError, Global};
 
-/// In which form figures are told.
+/// In which form figures are written.
 #[derive(Clone, Copy, Debug, PartialEq, Eq)]
 pub enum Form {
     /// A line for each: its name, a space, and the figure.
@@ -16,15 +16,15 @@ pub enum Form {
 }
 
 impl Form {
-    /// JSON where that is wanted, and else lines.
+    /// JSON if that is wanted, otherwise lines.
     pub fn of(json: bool) -> Form
         ensures { result ≡ form_of json }
     {
         if json { Form::Json } else { Form::Lines }
     }
 
-    /// Tells one figure more, after those that the text has. The first is told into an empty text. A name has small letters, digits
-    /// and dashes alone. Where memory is refused the text is a front of what was to be told.
+    /// Writes one figure more, after those that the text has. The first is written into an empty text. A name has small letters, digits
+    /// and dashes alone. If memory is refused the text is a front of the whole.
     pub fn tell(
         self,
         alloc: Global,
@@ -52,7 +52,7 @@ impl Form {
         }
     }
 
-    /// Ends what was told.
+    /// Ends what was written.
     pub fn end(self, text: &mut String) -> Result<(), AllocError>
         ensures { OnOk result (string_bytes text.new ≡ ended self (string_bytes text.old)) }
     {

@@ -1,4 +1,4 @@
-//! Names with figures, told one after another: as lines for a reader, or as one JSON object for a machine.
+//! Names with figures, written one after another: as lines for a reader, or as one JSON object for a machine.
 #![tactic(auto)]
 
 mod figure;

@@ -7,7 +7,7 @@ pub record FilePages : Type 0 where
   pub pages : ℕ
   pub failures : ℕ
 
--- a device of so many pages that has met no call
+-- a device of this many pages that has met no call
 abbrev pub new_device : ℕ → FilePages
 new_device pages = record { pages = pages; failures = 0 }
 

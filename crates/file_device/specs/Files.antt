@@ -6,7 +6,7 @@ use Rattle.std.specs.Fmt.{decimal}
 abbrev pub name_of : ℕ → List ℕ
 name_of lane = codes "lane-" ++ (decimal lane ++ codes ".dev")
 
--- the same with its folder, where the folder has a name; without one it is the current folder
+-- the same with its folder, if the folder has a name; without one it is the current folder
 abbrev pub path_of : List ℕ → ℕ → List ℕ
 path_of [] lane = name_of lane
 path_of (byte ∷ bytes) lane = (byte ∷ bytes) ++ (codes "/" ++ name_of lane)

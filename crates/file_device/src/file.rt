@@ -14,12 +14,12 @@ use std::rt::Files;
 
 /// Pages in a regular file of the system, of at most 4096 bytes each: page `p` lies in the file from byte `p * PAGE` on.
 ///
-/// A read or a write is one call of the system. Where that fails, is interrupted or moves less than a page, the answer is
+/// A read or a write is one call of the system. If that fails, is interrupted or moves less than a page, the answer is
 /// `DeviceFault`, and it is not tried again: of a page that was to be written any part may be in the file.
 ///
 /// It is not honest: nothing is promised of what a read gives. No other device has the file while this one lives, but a
-/// program that does not ask for the lock may write it. Nothing is synced: what was written last may be lost where the
-/// machine stops. Room on the disk is not reserved: where it is full, writes fail. What was written stays in the file, and
+/// program that does not ask for the lock may write it. Nothing is synced: what was written last may be lost if the
+/// machine stops. Room on the disk is not reserved: if it is full, writes fail. What was written stays in the file, and
 /// can be read there when the device is gone.
 #[derive(Drop)]
 pub struct FileDevice<const PAGE: usize> {
@@ -38,11 +38,11 @@ impl<const PAGE: usize> Model for FileDevice<PAGE> {
 }
 
 impl<const PAGE: usize> FileDevice<PAGE> {
-    /// Opens a file as a device of so many pages, makes it with mode 0600 where it is absent, and sets its length to theirs.
+    /// Opens a file as a device of this many pages, makes it with mode 0600 if absent, and sets its length to theirs.
     ///
     /// The pages that the file has keep their bytes, new ones hold zeros, and what lies past the last page is cut off. The
     /// file is locked before that, without waiting, and until the device is dropped: one that another device has is refused
-    /// with nothing changed. A link is followed. Where the system bounds the length of files for this process, and these
+    /// with nothing changed. A link is followed. If the system bounds the length of files for this process, and these
     /// pages exceed that, the system may end the process.
     pub fn open<R: Files<File = File>>(
         rt: &R,
@@ -75,7 +75,7 @@ impl<const PAGE: usize> FileDevice<PAGE> {
         page as u64 * PAGE as u64
     }
 
-    /// Counts a call of the system that moved so many bytes, or failed.
+    /// Counts a call of the system that moved this many bytes, or failed.
     fn ended(&mut self, moved: io::Result<usize>) -> Result<(), DeviceFault>
         ensures whole { IsOk result ↔ (moved ≡ Ok PAGE) }
         ensures counted { self.new ≡ after_call self.old result }

@@ -5,7 +5,7 @@ use std::io;
 use std::io::ErrorKind;
 use thiserror::Error;
 
-/// Why no file was opened as a device. Where the system said why, its error is kept.
+/// Why no file was opened as a device. If the system said why, its error is kept.
 ///
 /// The length is set last. So each refusal but `Sizing` and `OutOfMemory` leaves a file that was there as it was. A file
 /// that was made before the refusal stays, empty.
@@ -29,12 +29,12 @@ pub enum FileOpenFault {
     /// The file could not be given its length. Nothing is said of what length it has.
     #[error("the length of the file can't be set: {0}")]
     Sizing(io::Error),
-    /// The system had no memory for one of these calls. Where it was the last, nothing is said of the file's length.
+    /// The system had no memory for one of these calls. If it was the last, nothing is said of the file's length.
     #[error("out of memory")]
     OutOfMemory,
 }
 
-/// How an error is told: as want of memory where it says that, and else as the fault that keeps it.
+/// How an error is reported: as want of memory if it says that, and otherwise as the fault that keeps it.
 pub(crate) fn told_as(error: io::Error, keeping: FileOpenFault) -> FileOpenFault
     ensures { IsToldAs error keeping result }
 {

@@ -1,17 +1,18 @@
 // The lanes' files.
 ghost use Rattle.std.specs.Prelude.{◌≡◌, All, IfOk, length};
 
+use crate::file::FileDevice;
+use crate::file_open_fault::FileOpenFault;
 use crate::lane_file_fault::LaneFileFault;
 use crate::lane_path::lane_path;
-use file_device::{FileDevice, FileOpenFault};
 use std::alloc::Global;
 use std::fs::File;
 use std::rt::Files;
 
-/// A device of so many pages for each of so many lanes, in a file of this folder, `lane-0.dev` and so on. A file is made where it
-/// is absent, and none of those that are opened is taken back where a later one is refused.
+/// A device of this many pages for each of this many lanes, in a file of this folder, `lane-0.dev` and so on. A file
+/// is made if it is absent, and none of those that are opened is taken back if a later one is refused.
 ///
-/// The first file that is not opened is the fault: `OutOfMemory` where memory was refused, and else `Unopened`.
+/// The first file that is not opened is the fault: `OutOfMemory` if memory was refused, and otherwise `Unopened`.
 pub fn lanes_in_files<const PAGE: usize, R: Files<File = File>>(
     rt: &R,
     alloc: Global,

@@ -4,7 +4,7 @@ ghost use Rattle.std.specs.Prelude.{◌≡◌, All, IfOk, length};
 use page_device::MemoryDevice;
 use std::alloc::{AllocError, Global};
 
-/// A device of so many pages for each of so many lanes, in memory.
+/// A device of this many pages for each of this many lanes, in memory.
 pub fn lanes_in_memory<const PAGE: usize>(
     alloc: Global,
     lanes: u32,

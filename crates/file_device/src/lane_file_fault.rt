@@ -1,5 +1,5 @@
 // Why the files of lanes were not opened.
-use file_device::FileOpenFault;
+use crate::file_open_fault::FileOpenFault;
 use std::alloc::AllocError;
 
 /// Why the files of lanes were not opened.

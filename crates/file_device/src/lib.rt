@@ -1,4 +1,4 @@
-//! A device of pages in a file.
+//! A device of pages in a file, and the devices of a number of lanes, in files of a folder or in memory.
 #![tactic(auto)]
 
 mod file;

@@ -9,7 +9,7 @@ use std::fs::{File, Metadata, OpenOptions, TryLockError};
 use std::os::unix::fs::OpenOptionsExt;
 use std::rt::Files;
 
-/// Opens a regular file and locks it, or makes it where it is absent. Its bytes stay as they are.
+/// Opens a regular file and locks it, or makes it if it is absent. Its bytes stay as they are.
 pub fn open_locked<R: Files<File = File>>(rt: &R, path: &str) -> Result<File, FileOpenFault>
     ensures page { IfErr result (λ fault. fault ≢ FileOpenFault.PageTooLarge) }
     ensures memory { IfErr result TellsMemoryApart }

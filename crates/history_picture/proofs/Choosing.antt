@@ -169,7 +169,7 @@ none_is_some one e = cc
 none_some : (one : ℕ) {m : Option ℕ} → m ≡ None → m ≡ Some one → ⊥
 none_some one none is = none_is_some one (sym none ∙ is)
 
--- what was taken up is shown, where nothing matters
+-- what was taken up is shown, if nothing matters
 pub shown_alone : (history : List Call) (marks old : List ℕ) (most : ℕ) → length marks ≤ most → slice_get marks 0 ≡ None → AreChosen history marks old → AreTaken history marks most old
 shown_alone history marks old most room none c = record {
   few = omega (arith, c.few, room);

@@ -21,7 +21,7 @@ some_within [] position P h = absurd h
 some_within (call ∷ history) zero P h = omega arith
 some_within (call ∷ history) (suc position) P h = omega (arith, some_within history position P h)
 
--- behind the front nothing is nearer than what is in it
+-- after the front nothing is nearer than what is in it
 not_before : (k most : ℕ) → ¬ (k < most) → most ≤ k
 not_before k most never = grind (arith, never)
 

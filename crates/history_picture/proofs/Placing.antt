@@ -15,7 +15,7 @@ at_or_below zero (suc b) le = inr (omega arith)
 at_or_below (suc a) zero le = absurd (omega arith)
 at_or_below (suc a) (suc b) le = elim (at_or_below a b (omega arith)) [ inl e ↦ inl (ap suc e) | inr h ↦ inr (omega (arith, h)) ]
 
--- no place stands behind the last one
+-- no place stands after the last one
 pub none_behind : (history : List Call) (certificate : List ℕ) (from below hit : ℕ) → (below ≤ from) ⊎ (length certificate ≤ from) → NoneWrites history certificate from below hit
 none_behind history certificate from below hit (inl over) = λ place position low high at writes. absurd (omega arith)
 none_behind history certificate from below hit (inr over) = λ place position low high at writes. let within = slice_get_within certificate place position at in absurd (omega (arith, within))
@@ -38,7 +38,7 @@ none_preceded_more history certificate below call position at none rest = λ pla
   | inr more ↦ rest place other (omega (arith, more)) found precedes
 ]
 
--- none up to the last place, and none stands behind it
+-- none up to the last place, and none stands after it
 pub none_preceded : (history : List Call) (certificate : List ℕ) (upto below call : ℕ) → (below ≤ upto) ⊎ (length certificate ≤ upto) → NonePreceded history certificate upto call → NonePreceded history certificate below call
 none_preceded history certificate upto below call (inl over) none = λ place position less at precedes. none place position (omega arith) at precedes
 none_preceded history certificate upto below call (inr over) none = λ place position less at precedes. let within : place < length certificate = slice_get_within certificate place position at in none place position (omega (arith, within)) at precedes

@@ -27,7 +27,7 @@ tested text h = h.each
 pub plain_nil : IsPlain []
 plain_nil = plain_lit [] refl
 
--- a plain text behind another
+-- a plain text after another
 pub plain_append : (a b : List ℕ) → IsPlain a → IsPlain b → IsPlain (a ++ b)
 plain_append a b p q = plain_lit (a ++ b) (list_all-append is_plain a b ∙ of_both (list_all is_plain a) (list_all is_plain b) (tested a p) (tested b q))
 

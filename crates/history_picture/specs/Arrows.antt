@@ -1,4 +1,4 @@
--- Which call precedes which, where that matters for a reason.
+-- Which call precedes which, if that matters for a reason.
 use Rattle.std.specs.Prelude.{ℕ, List, [], ◌∷◌, take}
 use Rattle.std.specs.List.{flat_map}
 use Rattle.certificate_finder.specs.declared.excluded.Excluded.{Excluded}
@@ -27,7 +27,7 @@ excluded_arrows hit excluded = excuse_arrows hit excluded.put excluded.why
 abbrev pub crossed_arrows : Side → Side → List Arrow
 crossed_arrows one other = arrow one.early other.late ∷ arrow other.early one.late ∷ []
 
--- what precedes what, where that is the reason
+-- what precedes what, if that is the reason
 abbrev pub arrows_of : Reason → List Arrow
 arrows_of (reasons.Interval position) = []
 arrows_of (reasons.Hit hit puts) = flat_map (excluded_arrows hit) (take 8 puts.items)

@@ -25,7 +25,7 @@ abbrev pub HaveOneKey : List Call → ℕ → ℕ → Type 0
 HaveOneKey history one other =
     IsSomeAnd (slice_get history other) (λ next. IsSomeAnd (slice_get history one) (λ call. call.key ≡ next.key))
 
--- how many stamps lie between two calls, if they are there: 0 where they overlap
+-- how many stamps lie between two calls, if they are there: 0 if they overlap
 abbrev pub gap_of : Option Call → Option Call → ℕ
 gap_of None other = 0
 gap_of (Some call) other = gap_from call other
@@ -34,7 +34,7 @@ gap_of (Some call) other = gap_from call other
 abbrev pub distance : List Call → ℕ → ℕ → ℕ
 distance history first position = gap_of (slice_get history first) (slice_get history position)
 
--- calls of the first one's key were added, each once and none that was there, up to so many: the nearest to it
+-- calls of the first one's key were added, each once and none that was there, up to this many: the nearest to it
 pub record AreAdded (history : List Call) (first most : ℕ) (old new : List ℕ) : Type 0 where
   pub added : List ℕ
   pub is : new ≡ old ++ added

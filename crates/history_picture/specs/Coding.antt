@@ -21,7 +21,7 @@ unfoldable pub word_of : List ℕ → List ℕ
 word_of bytes =
     if length bytes == 0 then codes "-" else (if bytes_eq bytes (codes "-") then codes "%2D" else flat_map code_of bytes)
 
--- a word of more than 24 characters is cut to 22, with two points behind it
+-- a word of more than 24 characters is cut to 22, with two points after it
 unfoldable pub cut_word : List ℕ → List ℕ
 cut_word word = if nat_le (length word) 24 then word else take 22 word ++ codes ".."
 

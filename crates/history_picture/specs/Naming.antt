@@ -7,7 +7,7 @@ use Rattle.trace_file.specs.declared.act.Act.TheVariants.{Put, Remove, Hit, Miss
 use Rattle.trace_file.specs.declared.call.Call.{Call}
 use Rattle.history_picture.specs.Coding.{shown_word}
 
--- where a call was recorded: its line where it has one, else its position
+-- where a call was recorded: its line if it has one, otherwise its position
 abbrev pub label_words : Option ℕ → ℕ → List ℕ
 label_words (Some line) position = codes "line " ++ decimal line
 label_words None position = codes "position " ++ decimal position

@@ -2,7 +2,7 @@
 use Rattle.std.specs.Prelude.{◌≡◌, ◌≢◌, ℕ, ◌-◌, ◌^◌, ◌<◌, ◌≤◌, ◌⊎◌, max, List, [], ◌∷◌, ◌++◌, All, AllPairs, Contains, length, Option, Some, None, IsSomeAnd, slice_get}
 use Rattle.trace_file.specs.declared.call.Call.{Call}
 
--- how many stamps lie between a call and another, if there is one: 0 where they overlap
+-- how many stamps lie between a call and another, if there is one: 0 if they overlap
 abbrev pub gap_from : Call → Option Call → ℕ
 gap_from call None = 0
 gap_from call (Some other) = max (call.start - other.end) (other.start - call.end)
@@ -11,7 +11,7 @@ gap_from call (Some other) = max (call.start - other.end) (other.start - call.en
 abbrev pub IsOther : List Call → List ℕ → List ℕ → ℕ → Type 0
 IsOther history key without position = IsSomeAnd (slice_get history position) (λ call. call.key ≡ key) × ¬ Contains without position
 
--- a position was put behind others, if it is one
+-- a position was put after others, if it is one
 abbrev pub IsTakenOther : List Call → List ℕ → List ℕ → ℕ → List ℕ → List ℕ → Type 0
 IsTakenOther history key without position old new =
     ((¬ IsOther history key without position) × (new ≡ old)) ⊎ (IsOther history key without position × (new ≡ old ++ position ∷ []))
@@ -23,7 +23,7 @@ pub record AreOthers (history : List Call) (key without : List ℕ) (below : ℕ
   pub once : AllPairs (λ one other. one ≢ other) others
   pub all : (position : ℕ) → position < below → IsOther history key without position → Contains others position
 
--- of the calls of a call's key, without these, so many that are nearest to it, each once: whatever is left out is no nearer, and there is no room for it
+-- of the calls of a call's key, without these, up to this many that are nearest to it, each once: whatever is left out is no nearer, and there is no room for it
 pub record AreNearest (history : List Call) (call : Call) (without : List ℕ) (most : ℕ) (near : List ℕ) : Type 0 where
   pub few : length near ≤ most
   pub each : All (IsOther history call.key without) near

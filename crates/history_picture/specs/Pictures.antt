@@ -15,7 +15,7 @@ use Rattle.history_picture.specs.declared.drawing.Drawing.{Drawing}
 abbrev pub escaped : List ℕ → List ℕ
 escaped text = flat_map escape_of text
 
--- where a column lies: 24 for each, behind the callers' names
+-- where a column lies: 24 for each, after the callers' names
 abbrev pub across : Drawing → ℕ → ℕ
 across drawing column = 24 * column + 8 * drawing.sheet.callers + 32
 
@@ -58,12 +58,12 @@ unfoldable pub caller_row : List (List ℕ) → Drawing → ℕ → List ℕ
 caller_row callers drawing caller =
     line_text (y_of drawing caller + 8) (width_of drawing) ++ name_text (y_of drawing caller + 12) (escaped (caller_words (slice_get callers caller) caller))
 
--- where the next call of a caller starts, behind a stamp, if this is one
+-- where the next call of a caller starts, after a stamp, if this is one
 abbrev pub next_at : Drawing → ℕ → ℕ → Option Call → ℕ
 next_at drawing caller start None = right_end drawing
 next_at drawing caller start (Some other) = if other.caller == caller && nat_lt start other.start then x_of drawing other.start else right_end drawing
 
--- where the next of these calls of a caller starts, behind a stamp, or the columns end
+-- where the next of these calls of a caller starts, after a stamp, or the columns end
 abbrev pub next_of : Drawing → List Call → ℕ → ℕ → List ℕ → ℕ
 next_of drawing history caller start [] = right_end drawing
 next_of drawing history caller start (position ∷ shown) =
@@ -75,12 +75,12 @@ word_text drawing room call =
     codes "<svg " ++ (place_text (x_of drawing call.start) (y_of drawing call.caller - 16) room 16 ++ (codes "><text y=\"12\">" ++ (act_name call.act
     ++ (codes " " ++ (escaped (value_words call.act) ++ codes "</text></svg>\n")))))
 
--- all that is told of a call
+-- all that is said of a call
 unfoldable pub title_text : List ℕ → ℕ → Call → List ℕ
 title_text lines position call =
     label_of lines position ++ (codes ": " ++ (escaped (act_words call.act) ++ (codes ", from " ++ (decimal call.start ++ (codes " to " ++ end_words call.end)))))
 
--- the colour of a bar: of a call that matters blue for a write and red for a read, else grey
+-- the colour of a bar: of a call that matters blue for a write and red for a read, otherwise grey
 abbrev pub act_colour : Act → List ℕ
 act_colour (Put value expires) = codes "#7fb2e5"
 act_colour Remove = codes "#7fb2e5"
@@ -129,7 +129,7 @@ curve_text first top last bottom =
     codes "<path d=\"" ++ (leaving_text first top ++ (codes " " ++ (reaching_text last bottom
     ++ codes "\" fill=\"none\" stroke=\"#b3261e\" stroke-width=\"2\" marker-end=\"url(#point)\"/>\n")))
 
--- an arrow from the end of a call to the start of another, where the one precedes the other
+-- an arrow from the end of a call to the start of another, if the one precedes the other
 abbrev pub arrow_between : Drawing → Option Call → Option Call → List ℕ
 arrow_between drawing (Some from) (Some to) =
     if nat_lt from.end to.start

@@ -72,7 +72,7 @@ abbrev pub IsEarlier : List Call → List ℕ → ℕ → ℕ → Option ℕ →
 IsEarlier history certificate below call None = NonePreceded history certificate below call
 IsEarlier history certificate below call (Some earlier) = IsPreceded history certificate below call earlier
 
--- the call at a place is out of order, with the first of those before it that it precedes, or itself where there is none
+-- the call at a place is out of order, with the first of those before it that it precedes, or itself if there is none
 pub record IsOutOfOrder (history : List Call) (certificate : List ℕ) (place position : ℕ) (reason : Reason) : Type 0 where
   pub earlier : Option ℕ
   pub is_earlier : IsEarlier history certificate place position earlier

@@ -8,7 +8,7 @@ use Rattle.trace_file.specs.declared.call.Call.{Call}
 use Rattle.history_picture.specs.Coding.{shown_word}
 use Rattle.history_picture.specs.declared.sheet.Sheet.{Sheet}
 
--- a word with spaces behind it, up to a width
+-- a word with spaces after it, up to a width
 unfoldable pub left : ℕ → List ℕ → List ℕ
 left width word = word ++ replicate (width - length word) 32
 
@@ -24,30 +24,30 @@ never_ended = 18446744073709551615
 unfoldable pub column : List ℕ → ℕ → ℕ
 column stamps stamp = count_by (λ other. nat_lt other stamp) stamps
 
--- the bar of a call that starts in a column and ends in another: a bar from the one to the other, where it ends before it starts a bar with its ends turned
+-- the bar of a call that starts in a column and ends in another: a bar from the one to the other, if it ends before it starts a bar with its ends turned
 abbrev pub bar_between : ℕ → ℕ → List ℕ
 bar_between first last =
     if nat_lt first last then replicate first 32 ++ (codes "[" ++ (replicate (last - first - 1) 61 ++ codes "]"))
     else (if nat_lt last first then replicate last 32 ++ (codes "]" ++ (replicate (first - last - 1) 61 ++ codes "["))
     else replicate first 32 ++ codes "|")
 
--- the bar of a call, on and on where it never returned
+-- the bar of a call, on and on if it never returned
 unfoldable pub bar_text : List ℕ → ℕ → ℕ → List ℕ
 bar_text stamps start end =
     if end == never_ended
     then replicate (column stamps start) 32 ++ (codes "[" ++ (replicate (length stamps - column stamps start) 61 ++ codes ">"))
     else bar_between (column stamps start) (column stamps end)
 
--- the number that tells where a call was recorded: its line where it has one, else its position
+-- the number that tells where a call was recorded: its line if it has one, otherwise its position
 abbrev pub label_number : Option ℕ → ℕ → ℕ
 label_number (Some line) position = line
 label_number None position = position
 
--- the end of a call, a hyphen where it never returned
+-- the end of a call, a hyphen if it never returned
 abbrev pub end_words : ℕ → List ℕ
 end_words end = if end == never_ended then codes "-" else decimal end
 
--- a caller by its name where it has one, else by its number
+-- a caller by its name if it has one, otherwise by its number
 abbrev pub caller_words : Option (List ℕ) → ℕ → List ℕ
 caller_words (Some name) number = shown_word name
 caller_words None number = decimal number
@@ -66,7 +66,7 @@ value_words Remove = []
 value_words (Hit value moment) = shown_word value
 value_words Miss = []
 
--- an asterisk where the call matters
+-- an asterisk if the call matters
 abbrev pub mark_words : List ℕ → ℕ → List ℕ
 mark_words marks position = if list_any (λ mark. mark == position) marks then codes "* " else codes "  "
 

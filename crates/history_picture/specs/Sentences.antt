@@ -73,7 +73,7 @@ interval_words history lines position =
     name_of history lines position ++ (codes " ends at " ++ (decimal (end_of (slice_get history position)) ++ (codes ", before it starts at "
     ++ decimal (start_of (slice_get history position)))))
 
--- a call at a place of a certificate, behind one that it precedes
+-- a call at a place of a certificate, after one that it precedes
 unfoldable pub out_of_order_words : List Call → List ℕ → ℕ → ℕ → ℕ → List ℕ
 out_of_order_words history lines place call earlier =
     codes "place " ++ (decimal place ++ (codes " of the certificate is out of order: " ++ (order_words history lines call earlier

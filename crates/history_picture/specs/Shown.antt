@@ -13,7 +13,7 @@ use Rattle.history_picture.specs.Sentences.{sentence_of}
 use Rattle.history_picture.specs.declared.reason.Reason.{Reason}
 use Rattle.history_picture.specs.declared.sheet.Sheet.{Sheet}
 
--- a call may be shown where these matter: it is one of them, or a call of the key of the first of them
+-- a call may be shown if these matter: it is one of them, or a call of the key of the first of them
 abbrev pub MayBeShown : List Call → List ℕ → ℕ → Type 0
 MayBeShown history marks position =
     Contains marks position ⊎ IsSomeAnd (slice_get marks 0) (λ first. HaveOneKey history position first)
@@ -22,12 +22,12 @@ MayBeShown history marks position =
 abbrev pub started : List Call → ℕ → ℕ
 started history position = start_of (slice_get history position)
 
--- a call of the first one's key is left out only where there is no room, and what is shown though it does not matter is no farther from the first
+-- a call of the first one's key is left out only if there is no room, and what is shown though it does not matter is no farther from the first
 abbrev pub IsLeftOut : List Call → List ℕ → ℕ → List ℕ → ℕ → ℕ → Type 0
 IsLeftOut history marks most shown first other =
     (length shown ≡ most) × ((one : ℕ) → Contains shown one → ¬ Contains marks one → distance history first one ≤ distance history first other)
 
--- these calls are shown, where those matter, in any order: each once, and not too many; each that matters, if the history has it; and of the others the calls of the first one's key that are nearest to it
+-- these calls are shown, if those matter, in any order: each once, and not too many; each that matters, if the history has it; and of the others the calls of the first one's key that are nearest to it
 pub record AreTaken (history : List Call) (marks : List ℕ) (most : ℕ) (shown : List ℕ) : Type 0 where
   pub few : length shown ≤ most
   pub there : All (λ position. position < length history) shown

@@ -1,4 +1,4 @@
-// Which call precedes which, where that matters.
+// Which call precedes which, if that matters.
 ghost use Rattle.std.specs.Prelude.{◌≡◌, ◌++◌, IfOk, OnOk, take};
 ghost use Rattle.std.specs.List.{flat_map};
 ghost use Rattle.history_picture.specs.Arrows.{arrows_of, crossed_arrows, excluded_arrows};
@@ -13,11 +13,11 @@ use std::alloc::{AllocError, Global};
 pub(crate) struct Arrow {
     /// The call that ended.
     pub from: u32,
-    /// The call that started behind its end.
+    /// The call that started after its end.
     pub to: u32,
 }
 
-/// What precedes what, where that matters for a reason.
+/// What precedes what, if that matters for a reason.
 pub(crate) fn arrows(alloc: Global, reason: &Reason) -> Result<Vec<Arrow>, AllocError>
     ensures { IfOk result (λ arrows. arrows.items ≡ arrows_of reason.now) }
 {
@@ -50,7 +50,7 @@ fn hit_arrows(alloc: Global, hit: u32, puts: &[Excluded]) -> Result<Vec<Arrow>, 
     Ok(arrows)
 }
 
-/// Puts what precedes what, for a put that a hit can't have read, behind others.
+/// Appends what precedes what, for a put that a hit can't have read.
 fn push_excluded(arrows: &mut Vec<Arrow>, hit: u32, excluded: &Excluded) -> Result<(), AllocError>
     ensures { OnOk result (
         arrows.new.items ≡ arrows.old.items ++ excluded_arrows hit excluded.now) }

@@ -6,12 +6,12 @@ ghost use Rattle.history_picture.specs.Pictures.{arrow_text, bar_at, bar_drawn, 
 
 use crate::arrows::Arrow;
 use crate::call_at::call_at;
+use crate::call_words::{act_text, label};
 use crate::drawing::{Drawing, place};
 use crate::escaped::escaped;
 use crate::near::is_among;
 use crate::rows::{act_word, end_text, value_text};
 use crate::scene::Scene;
-use crate::told::{act_text, label};
 use std::alloc::{AllocError, Global};
 use trace_file::{ActRef, CallRef, History};
 
@@ -35,7 +35,7 @@ impl Drawing {
         Ok(text)
     }
 
-    /// The bar of the call at a position, of none nothing.
+    /// The bar of the call at a position, or nothing if there is no call.
     #[tactic(auto, unfolding(crate::specs::Pictures::bar_at))]
     fn bar_at(
         &self,
@@ -60,7 +60,7 @@ impl Drawing {
         }
     }
 
-    /// The bar of a call, with what it did above it where there is room, and all of it as a title.
+    /// The bar of a call, with what it did above it if there is room, and all of it as a title.
     #[tactic(auto, unfolding(crate::specs::Pictures::bar_drawn))]
     fn bar(
         &self,
@@ -86,7 +86,7 @@ impl Drawing {
         format!(in alloc; "{word}{box_text}")
     }
 
-    /// What a call did, over its bar, cut where there is no more room.
+    /// What a call did, over its bar, cut if there is no more room.
     #[tactic(auto, unfolding(crate::specs::Pictures::word_text))]
     fn word(&self, alloc: Global, room: u128, call: &CallRef<'_>) -> Result<String, AllocError>
         ensures { IfOk result (λ text. string_bytes text
@@ -133,7 +133,7 @@ impl Drawing {
         Ok(text)
     }
 
-    /// An arrow from the end of a call to the start of another, where the one precedes the other.
+    /// An arrow from the end of a call to the start of another, if the one precedes the other.
     #[tactic(auto, unfolding(crate::specs::Pictures::arrow_text))]
     fn arrow_line(
         &self,
@@ -199,7 +199,7 @@ fn reaching(alloc: Global, last: u128, bottom: u128) -> Result<String, AllocErro
     format!(in alloc; "{before} {bottom} {last} {bottom}")
 }
 
-/// All that is told of a call.
+/// All that is said of a call.
 #[tactic(auto, unfolding(crate::specs::Pictures::title_text))]
 fn title(
     alloc: Global,
@@ -229,7 +229,7 @@ fn box_of(alloc: Global, place: &str, colour: &str, title: &str) -> Result<Strin
     )
 }
 
-/// The colour of a bar: of a call that matters red for a hit and blue for a write, else grey.
+/// The colour of a bar: of a call that matters red for a hit and blue for a write, otherwise grey.
 fn colour_of(act: &ActRef<'_>, marked: bool) -> &'static str
     ensures { result.now ≡ colour_for marked (act_shown act.now) }
 {

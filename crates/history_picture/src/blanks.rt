@@ -5,7 +5,7 @@ ghost use Rattle.history_picture.specs.Rows.{left, right};
 use std::alloc::{AllocError, Global};
 use std::fmt;
 
-/// So many spaces.
+/// This many spaces.
 #[derive(Clone, Copy)]
 pub(crate) struct Blanks(pub(crate) usize);
 
@@ -22,7 +22,7 @@ impl fmt::Display for Blanks {
     }
 }
 
-/// So many equals signs.
+/// This many equals signs.
 #[derive(Clone, Copy)]
 pub(crate) struct Dashes(pub(crate) usize);
 
@@ -39,7 +39,7 @@ impl fmt::Display for Dashes {
     }
 }
 
-/// A word with spaces behind it, up to a width.
+/// A word with spaces after it, up to a width.
 #[tactic(auto, unfolding(crate::specs::Rows::left))]
 pub(crate) fn padded_left(alloc: Global, word: &str, width: usize) -> Result<String, AllocError>
     ensures { IfOk result (λ text. string_bytes text ≡ left width word.now) }

@@ -64,7 +64,7 @@ fn codes(alloc: Global, bytes: &[u8]) -> Result<String, AllocError>
     Ok(word)
 }
 
-/// Puts a byte behind a word, spelled.
+/// Puts a byte after a word, spelled.
 fn push_code(word: &mut String, byte: u8) -> Result<(), AllocError>
     ensures { OnOk result (string_bytes word.new ≡ string_bytes word.old ++ code_of byte) }
 {
@@ -91,7 +91,7 @@ fn hex_digit(number: u8) -> u8
     }
 }
 
-/// Puts an ASCII character behind a text.
+/// Puts an ASCII character after a text.
 pub(crate) fn push_ascii(text: &mut String, byte: u8) -> Result<(), AllocError>
     requires { byte < 128 }
     ensures { OnOk result (string_bytes text.new ≡ string_bytes text.old ++ byte ∷ []) }

@@ -38,7 +38,7 @@ fn all_stamps(alloc: Global, history: &History, shown: &[u32]) -> Result<Vec<u64
     Ok(stamps)
 }
 
-/// Puts the start and the end of the call at a position behind others.
+/// Appends the start and the end of the call at a position.
 fn push_stamps(stamps: &mut Vec<u64>, history: &History, position: u32) -> Result<(), AllocError>
     ensures { OnOk result (
         stamps.new.items ≡ stamps.old.items ++ stamps_at history.now position) }
@@ -62,7 +62,7 @@ pub(crate) fn column_of(stamps: &[u64], stamp: u64) -> usize
     stamps.iter().filter(|other| **other < stamp).count()
 }
 
-/// The bar of a call: from the column of its start to that of its end, or on and on where it never returned.
+/// The bar of a call: from the column of its start to that of its end, or on and on if it never returned.
 #[tactic(auto, unfolding(crate::specs::Rows::bar_text))]
 pub(crate) fn bar(alloc: Global, stamps: &[u64], start: u64, end: u64) -> Result<String, AllocError>
     ensures { IfOk result (λ text. string_bytes text ≡ bar_text stamps.now start end) }

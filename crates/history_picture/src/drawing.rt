@@ -35,7 +35,7 @@ pub struct Drawing {
 }
 
 impl Drawing {
-    /// The places for the calls at these positions, under a sentence of so many letters.
+    /// The places for the calls at these positions, under a sentence of this many letters.
     pub(crate) fn of(
         alloc: Global,
         scene: &Scene<'_>,
@@ -106,7 +106,7 @@ impl Drawing {
         ROW * before as u128 + self.top as u128 + 20
     }
 
-    /// Where the next of these calls of a caller starts behind a stamp, or the columns end.
+    /// Where the next of these calls of a caller starts after a stamp, or the columns end.
     pub(crate) fn next(&self, history: &History, caller: u16, start: u64, shown: &[u32]) -> u128
         ensures { result ≡ next_of self.now history.now caller start shown.now }
     {
@@ -117,7 +117,7 @@ impl Drawing {
         next
     }
 
-    /// Where the call at a position starts, if it is a caller's and behind a stamp, or else the columns end.
+    /// Where the call at a position starts, if it is a caller's and after a stamp, otherwise the columns end.
     fn next_at(&self, history: &History, caller: u16, start: u64, position: u32) -> u128
         ensures { result
             ≡ next_at self.now caller start (slice_get history.now position) }
@@ -132,7 +132,7 @@ impl Drawing {
     }
 }
 
-/// The height of a sentence of so many letters in a picture of this width.
+/// The height of a sentence of this many letters in a picture of this width.
 fn height_for(letters: usize, width: u128) -> usize {
     let room = width.saturating_sub(32).max(1);
     let lines = (LETTER * letters as u128 / room).min(MOST_LINES) as usize;
@@ -175,7 +175,7 @@ fn all_callers(alloc: Global, history: &History, shown: &[u32]) -> Result<Vec<u1
     Ok(callers)
 }
 
-/// Puts the caller of the call at a position behind others.
+/// Appends the caller of the call at a position.
 fn push_caller(callers: &mut Vec<u16>, history: &History, position: u32) -> Result<(), AllocError>
     ensures { OnOk result (
         callers.new.items ≡ callers.old.items ++ callers_at history.now position) }

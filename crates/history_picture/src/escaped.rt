@@ -17,7 +17,7 @@ pub(crate) fn escaped(alloc: Global, text: &str) -> Result<String, AllocError>
     Ok(escaped)
 }
 
-/// Puts a byte behind a text, escaped.
+/// Puts a byte after a text, escaped.
 fn push_escaped(text: &mut String, byte: u8) -> Result<(), AllocError>
     ensures { OnOk result (string_bytes text.new ≡ string_bytes text.old ++ escape_of byte) }
 {

@@ -10,7 +10,7 @@ use trace_file::{Certificate, History};
 
 impl Reason {
     /// The reason that a fault of a history with its certificate is, with the calls that show it. A place that the
-    /// certificate has not is told as one of a call that is not there.
+    /// certificate has not is treated as one of a call that is not there.
     pub fn of_fault(history: &History, certificate: &Certificate, fault: Fault) -> Reason
         ensures { IsReasonOf history.now certificate.now fault result }
     {
@@ -27,7 +27,7 @@ impl Reason {
     }
 }
 
-/// The position at a place, 2^32 - 1 where the certificate has not the place.
+/// The position at a place, 2^32 - 1 if the certificate has not the place.
 fn position_at(certificate: &Certificate, place: usize) -> u32
     ensures { (position : ℕ) → slice_get certificate.now place ≡ Some position
         → result ≡ position }
@@ -39,7 +39,7 @@ fn position_at(certificate: &Certificate, place: usize) -> u32
     }
 }
 
-/// The reason where the call at a place is out of order.
+/// The reason for a call at a place that is out of order.
 fn out_of_order(history: &History, certificate: &Certificate, place: usize) -> Reason
     ensures { (position : ℕ) → slice_get certificate.now place ≡ Some position
         → IsOutOfOrder history.now certificate.now place position result }
@@ -49,7 +49,7 @@ fn out_of_order(history: &History, certificate: &Certificate, place: usize) -> R
     Reason::OutOfOrder(place, position, earlier)
 }
 
-/// The reason where the hit at a place is wrong.
+/// The reason for a hit at a place that is wrong.
 fn wrong_hit(history: &History, certificate: &Certificate, place: usize) -> Reason
     ensures { (position : ℕ) → slice_get certificate.now place ≡ Some position
         → IsWrongHit history.now certificate.now place position result }

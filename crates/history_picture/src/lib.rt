@@ -5,6 +5,7 @@ mod arrows;
 mod bars;
 mod blanks;
 mod call_at;
+mod call_words;
 mod callers;
 mod coded;
 mod columns;
@@ -24,7 +25,6 @@ mod scene;
 mod sentence;
 mod sheet;
 mod shown;
-mod told;
 
 pub use explain_fault::ExplainFault;
 pub use explaining::{explain, explanation};

@@ -8,10 +8,10 @@ use crate::reason::Reason;
 use certificate_finder::{Excluded, Excuse, Side};
 use std::alloc::{AllocError, Global};
 
-/// How many puts of a hit are told of.
+/// How many puts of a hit are named.
 const MOST_PUTS: usize = 8;
 
-/// The first eight puts of a hit, which are told of.
+/// The first eight puts of a hit, which are named.
 #[tactic(auto, using(std::proofs::lemmas::List::take_all))]
 pub(crate) fn first_eight(puts: &[Excluded]) -> &[Excluded]
     ensures { result.now ≡ take 8 puts.now }
@@ -50,7 +50,7 @@ fn hit_marks(alloc: Global, hit: u32, puts: &[Excluded]) -> Result<Vec<u32>, All
     Ok(marks)
 }
 
-/// Puts a put that was not read behind the marks, and what replaced it.
+/// Appends to the marks a put that was not read, and what replaced it.
 fn push_excluded(marks: &mut Vec<u32>, excluded: &Excluded) -> Result<(), AllocError>
     ensures { OnOk result (marks.new.items ≡ marks.old.items ++ excluded_marks excluded.now) }
 {

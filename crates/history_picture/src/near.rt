@@ -11,7 +11,7 @@ use trace_file::{CallRef, History};
 /// How many positions there can be.
 const MOST_POSITIONS: usize = 4294967296;
 
-/// The positions of the calls of a call's key that are nearest to it in time, at most so many, and none of these.
+/// The positions of the calls of a call's key that are nearest to it in time, at most this many, and none of these.
 pub(crate) fn nearest(
     alloc: Global,
     history: &History,
@@ -45,7 +45,7 @@ fn others(
     Ok(others)
 }
 
-/// Puts a position behind others, if its call is of a key and it is none of these.
+/// Appends a position, if its call is of a key and it is none of these.
 fn take_other(
     history: &History,
     key: &[u8],
@@ -82,7 +82,7 @@ pub(crate) fn is_among(positions: &[u32], position: u32) -> bool
     positions.iter().any(|one| *one == position)
 }
 
-/// How many stamps lie between a call and the one at a position, 0 where they overlap.
+/// How many stamps lie between a call and the one at a position, 0 if they overlap.
 fn gap_between(history: &History, call: &CallRef<'_>, position: u32) -> u64
     ensures { result ≡ gap_from (call_shown call.now) (slice_get history.now position) }
 {

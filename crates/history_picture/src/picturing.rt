@@ -21,7 +21,7 @@ use trace_file::{Unwritten, write_whole};
 const MOST_CALLS: usize = 50;
 
 /// A picture of a reason, as the text of an SVG file: the sentence, a row for each caller, and in it a bar for each of its
-/// calls, of at most 50. The calls that matter are in colour, with an arrow from a call to one that it precedes where that
+/// calls, of at most 50. The calls that matter are in colour, with an arrow from a call to one that it precedes if that
 /// matters.
 ///
 /// There is a column for each stamp that is shown, in their order: what lies left of something was earlier.

@@ -1,6 +1,6 @@
 // What is spoken of and drawn.
 use crate::call_at::call_at;
-use crate::told::{Told, act_text, label};
+use crate::call_words::{CallWords, act_text, label};
 use std::alloc::{AllocError, Global};
 use trace_file::History;
 
@@ -9,9 +9,9 @@ use trace_file::History;
 pub struct Scene<'a> {
     /// The calls.
     pub history: &'a History,
-    /// The line of each call, by its position. A call that has none here is told by its position.
+    /// The line of each call, by its position. A call that has none here is named by its position.
     pub lines: &'a [u32],
-    /// The callers' names, by their numbers. A caller that has none here is told by its number.
+    /// The callers' names, by their numbers. A caller that has none here is named by its number.
     pub callers: &'a [Vec<u8>],
 }
 
@@ -33,8 +33,8 @@ impl Scene<'_> {
         format!(in alloc; "{act} ({label})")
     }
 
-    /// What is told of the call at a position.
-    pub(crate) fn told(&self, alloc: Global, position: u32) -> Result<Told, AllocError>
+    /// What a sentence says of the call at a position.
+    pub(crate) fn told(&self, alloc: Global, position: u32) -> Result<CallWords, AllocError>
         ensures name { IfOk result (λ told. string_bytes told.name
             ≡ name_of self.now.history.now self.now.lines.now position) }
         ensures start { IfOk result (λ told.
@@ -46,14 +46,14 @@ impl Scene<'_> {
     {
         let name = self.name(alloc, position)?;
         let Some(call) = call_at(self.history, position) else {
-            return Ok(Told {
+            return Ok(CallWords {
                 name,
                 start: 0,
                 end: 0,
                 time: 0,
             });
         };
-        Ok(Told {
+        Ok(CallWords {
             name,
             start: call.start,
             end: call.end,

@@ -172,7 +172,7 @@ impl Scene<'_> {
         )
     }
 
-    /// A call at a place of a certificate behind one that it precedes.
+    /// A call at a place of a certificate after one that it precedes.
     #[tactic(auto, unfolding(crate::specs::Sentences::out_of_order_words))]
     fn out_of_order(
         &self,

@@ -8,8 +8,8 @@ use crate::near::{is_among, nearest};
 use std::alloc::{AllocError, Global};
 use trace_file::History;
 
-/// The positions of the calls that are shown where these matter, by their starts: these, and the calls of the first one's
-/// key that are nearest to it in time, so many in all.
+/// The positions of the calls that are shown if these matter, by their starts: these, and the calls of the first one's
+/// key that are nearest to it in time, at most `most` in all.
 pub(crate) fn shown(
     alloc: Global,
     history: &History,
@@ -76,7 +76,7 @@ fn take_new(shown: &mut Vec<u32>, mark: u32) -> Result<(), AllocError>
     Ok(())
 }
 
-/// Puts the calls that are nearest to a call, of its key, behind those that are shown.
+/// Puts the calls that are nearest to a call, of its key, after those that are shown.
 fn push_nearest(
     alloc: Global,
     history: &History,
@@ -96,7 +96,7 @@ fn push_nearest(
     Ok(())
 }
 
-/// The start of the call at a position, 0 of none.
+/// The start of the call at a position, 0 if there is none.
 fn start_of(history: &History, position: u32) -> u64
     ensures { result ≡ started history.now position }
 {

@@ -5,8 +5,8 @@ use Rattle.std.proofs.lemmas.Bool.{cases_eq}
 use Rattle.std.proofs.lemmas.Option.{none-some, same_Some, slice_get_within, slice_get_read, slice_get-get_or}
 use Rattle.certificate_checker.specs.declared.done.Done.{Done}
 use Rattle.certificate_checker.specs.Lanes.{Stamped, stamp, ComesFirst}
-use Rattle.history_recorder.specs.declared.head.Head.{Head}
-use Rattle.history_recorder.specs.declared.next.Next.{Next}
+use Rattle.history_recorder.specs.declared.lane_head.LaneHead.{LaneHead}
+use Rattle.history_recorder.specs.declared.next_call.NextCall.{NextCall}
 use Rattle.history_recorder.specs.Merging.{IsNext, IsFirst, IsFirstBelow}
 
 -- ---- by point and lane
@@ -31,7 +31,7 @@ pointed None point is = absurd (none-some point is)
 pointed (Some done) point is = (done, refl, same_Some done.point point is)
 
 -- the next call of a lane, by its point as the code reads it
-pub next_read : (lanes : List (List Done)) (heads : List Head) (number : ℕ) (lane : List Done) (head : Head) (point : ℕ) → number < length lanes → number < length heads → lane ≡ get_or lanes number lane → option_map (λ (d : Done). d.point) (slice_get lane (get_or heads number head).listed) ≡ Some point → (done : Done) × IsNext lanes heads number done × (done.point ≡ point)
+pub next_read : (lanes : List (List Done)) (heads : List LaneHead) (number : ℕ) (lane : List Done) (head : LaneHead) (point : ℕ) → number < length lanes → number < length heads → lane ≡ get_or lanes number lane → option_map (λ (d : Done). d.point) (slice_get lane (get_or heads number head).listed) ≡ Some point → (done : Done) × IsNext lanes heads number done × (done.point ≡ point)
 next_read lanes heads number lane head point in_lanes in_heads is next =
     let read = pointed (slice_get lane (get_or heads number head).listed) point next in (
       read.0,
@@ -46,26 +46,26 @@ next_read lanes heads number lane head point in_lanes in_heads is next =
     )
 
 -- the first next call, as the code reads it of a copy of the heads
-pub first_read : (lanes : List (List Done)) (copy heads : List Head) (found first : Option Next) → copy ≡ heads → found ≡ first → IsFirstBelow lanes copy (length lanes) found → IsFirstBelow lanes heads (length lanes) first
+pub first_read : (lanes : List (List Done)) (copy heads : List LaneHead) (found first : Option NextCall) → copy ≡ heads → found ≡ first → IsFirstBelow lanes copy (length lanes) found → IsFirstBelow lanes heads (length lanes) first
 first_read lanes copy heads found first same is of_copy =
-    subst (λ r. IsFirstBelow lanes heads (length lanes) r) is (subst (λ (hs : List Head). IsFirstBelow lanes hs (length lanes) found) same of_copy)
+    subst (λ r. IsFirstBelow lanes heads (length lanes) r) is (subst (λ (hs : List LaneHead). IsFirstBelow lanes hs (length lanes) found) same of_copy)
 
 -- a lane has one next call
-pub same_next : (lanes : List (List Done)) (heads : List Head) (number : ℕ) (a b : Done) → IsNext lanes heads number a → IsNext lanes heads number b → a ≡ b
+pub same_next : (lanes : List (List Done)) (heads : List LaneHead) (number : ℕ) (a b : Done) → IsNext lanes heads number a → IsNext lanes heads number b → a ≡ b
 same_next lanes heads number a b one other =
     let l : one.lane ≡ other.lane = (let both : Some one.lane ≡ Some other.lane = sym one.in_lanes ∙ other.in_lanes in cc) in
     let h : one.head ≡ other.head = (let both : Some one.head ≡ Some other.head = sym one.in_heads ∙ other.in_heads in cc) in
     let both : Some a ≡ Some b = sym one.is ∙ (λ i. slice_get (l i) (h i).listed) ∙ other.is in
     cc
 
-module _ (lanes : List (List Done)) (heads : List Head) (number : ℕ) where
+module _ (lanes : List (List Done)) (heads : List LaneHead) (number : ℕ) where
   -- a lane with no call left has none
-  none_left : (lane : List Done) (head : Head) → slice_get lanes number ≡ Some lane → slice_get heads number ≡ Some head → length lane ≤ head.listed → (done : Done) → ¬ IsNext lanes heads number done
+  none_left : (lane : List Done) (head : LaneHead) → slice_get lanes number ≡ Some lane → slice_get heads number ≡ Some head → length lane ≤ head.listed → (done : Done) → ¬ IsNext lanes heads number done
   none_left lane head in_lanes in_heads through done next =
       let l : next.lane ≡ lane = (let both : Some next.lane ≡ Some lane = sym next.in_lanes ∙ in_lanes in cc) in
       let h : next.head ≡ head = (let both : Some next.head ≡ Some head = sym next.in_heads ∙ in_heads in cc) in
       let len = ap length l in
-      let listed = ap (λ (x : Head). x.listed) h in
+      let listed = ap (λ (x : LaneHead). x.listed) h in
       let less = slice_get_within next.lane next.head.listed done next.is in
       omega (arith, len, listed, less, through)
 
@@ -76,7 +76,7 @@ module _ (lanes : List (List Done)) (heads : List Head) (number : ℕ) where
     | inr ne ↦ below other d (omega arith) next
   ]
 
-  pub still_first : (first : Option Next) (lane : List Done) (head : Head) → slice_get lanes number ≡ Some lane → slice_get heads number ≡ Some head → length lane ≤ head.listed → IsFirstBelow lanes heads number first → IsFirstBelow lanes heads (number + 1) first
+  pub still_first : (first : Option NextCall) (lane : List Done) (head : LaneHead) → slice_get lanes number ≡ Some lane → slice_get heads number ≡ Some head → length lane ≤ head.listed → IsFirstBelow lanes heads number first → IsFirstBelow lanes heads (number + 1) first
   still_first None lane head in_lanes in_heads through none =
       λ other d less next. one_more (λ n e. ⊥) (λ n e below is. none n e below is) (none_left lane head in_lanes in_heads through) other d less next
   still_first (Some next) lane head in_lanes in_heads through first = record {
@@ -104,7 +104,7 @@ module _ (lanes : List (List Done)) (heads : List Head) (number : ℕ) where
   }
 
   -- the call of this lane is before the first so far
-  pub new_first : (done : Done) (point : ℕ) (held : Next) → IsNext lanes heads number done → done.point ≡ point → point < held.point → IsFirst lanes heads number held → IsFirst lanes heads (number + 1) (record { lane = number; point = point })
+  pub new_first : (done : Done) (point : ℕ) (held : NextCall) → IsNext lanes heads number done → done.point ≡ point → point < held.point → IsFirst lanes heads number held → IsFirst lanes heads (number + 1) (record { lane = number; point = point })
   new_first done point held next is less first = record {
     done = done;
     is_next = next;
@@ -114,7 +114,7 @@ module _ (lanes : List (List Done)) (heads : List Head) (number : ℕ) where
   }
 
   -- the first so far is not after the call of this lane
-  pub same_first : (done : Done) (point : ℕ) (held : Next) → IsNext lanes heads number done → done.point ≡ point → held.point ≤ point → IsFirst lanes heads number held → IsFirst lanes heads (number + 1) held
+  pub same_first : (done : Done) (point : ℕ) (held : NextCall) → IsNext lanes heads number done → done.point ≡ point → held.point ≤ point → IsFirst lanes heads number held → IsFirst lanes heads (number + 1) held
   same_first done point held next is enough first =
       let at = first.point in
       let below = first.below in

@@ -84,7 +84,7 @@ module _ {L : Type 0} (layout_of : L → Layout) (lane_is : L → ℕ) (honest :
   pub still_linked : (i : ℕ) (l : L) (calls : List Noted) → slice_get lanes i ≡ Some l → calls ≡ calls_of l → map noted_of books.lanes ≡ set (map noted_of books.lanes) i calls
   still_linked i l calls at same = sym (set_nothing (map noted_of books.lanes) i calls (booked_of i l at ∙ ap Some (sym same)))
 
-  -- where the devices are honest every lane is sound
+  -- if the devices are honest every lane is sound
   pub sound_world : AreHonest honest lanes → IsSoundWorld (world_of state books lanes)
   sound_world honests = λ i calls s there holds.
       let had = map_has state lanes i s holds in

@@ -40,7 +40,7 @@ use Rattle.history_recorder.specs.Game.{IsWellKept, LaneActs, LaneSteps}
 
 -- ---- when an act is refused
 
--- the history is full exactly where there is no room for a call
+-- the history is full exactly if there is no room for a call
 has_room : {X : Type 0} (result : Result X RecordFault) (count : ℕ) → ((result ≡ Err faults.HistoryFull) ↔ (max_calls ≤ count)) → ((result ≡ Err faults.HistoryFull) → ⊥) → HasRoomFor count
 has_room result count full not = elim (cases_lt count max_calls) [ inl less ↦ less | inr past ↦ absurd (not (full.1 past)) ]
 
@@ -106,7 +106,7 @@ module _ {D : Type 0} (honest : D → Bool) (failures : D → ℕ) (held : D →
         step = gets.gives;
       }
 
-      -- what is given of a lane by an answer, or where memory was refused
+      -- what is given of a lane by an answer, or if memory was refused
       given_lane : (given : Result Answer AllocError) → StoreGets size honest failures held key moment old.store given new.store → IsTrue (honest old.store.device) → (lane_of held new.store ≡ lane_of held old.store) ⊎ ((answer : Answer) × GetGives key moment (lane_of held old.store) answer (lane_of held new.store))
       given_lane (Ok answer) gets h = inr (answer, gets.gives h)
       given_lane (Err e) gets h = inl (same_lane_held held old.store new.store gets.out_of_memory (gets.reads.same h))

@@ -13,8 +13,8 @@ use Rattle.certificate_checker.specs.Orders.{IsOrder}
 use Rattle.certificate_checker.specs.Lanes.{calls_of, PointsRise, Stamped, stamp, stamped, ComesFirst, IsLaidOut}
 use Rattle.certificate_checker.proofs.public_laws.Accepting.{found_at}
 use Rattle.certificate_checker.proofs.public_laws.Listing.{member_at, all_member, pairs_from, pairs_at}
-use Rattle.history_recorder.specs.declared.head.Head.{Head}
-use Rattle.history_recorder.specs.declared.next.Next.{Next}
+use Rattle.history_recorder.specs.declared.lane_head.LaneHead.{LaneHead}
+use Rattle.history_recorder.specs.declared.next_call.NextCall.{NextCall}
 use Rattle.history_recorder.specs.Merging.{first_of, stamped_at, ListsAll, AreHeads, AtTheFirst, IsNext, IsFirst, IsFirstBelow, ListsNext, IsListed, ListsSoFar}
 use Rattle.history_recorder.proofs.public_laws.Stamps.{set_here, set_there, as_many, mark_of, place_of}
 use Rattle.history_recorder.proofs.Firsts.{never_itself, first_through}
@@ -22,7 +22,7 @@ use Rattle.history_recorder.proofs.Firsts.{never_itself, first_through}
 -- ---- listed positions
 
 -- the stamped call at a listed position is of the head's lane
-listed_mark : (lanes : List (List Done)) (heads : List Head) → AreHeads lanes heads → (p : ℕ) (l : IsListed heads p) → (d : Done) × (slice_get (stamped lanes) p ≡ Some (stamp l.number d))
+listed_mark : (lanes : List (List Done)) (heads : List LaneHead) → AreHeads lanes heads → (p : ℕ) (l : IsListed heads p) → (d : Done) × (slice_get (stamped lanes) p ≡ Some (stamp l.number d))
 listed_mark lanes heads are p l =
     let counted = slice_get_within heads l.number l.head l.found in
     let count = are.count in
@@ -36,7 +36,7 @@ listed_mark lanes heads are p l =
       mark_of lanes l.number (p - l.head.first) p lane.0 call.0 lane.1 call.1 (omega (arith, first, from)),
     )
 
-pub listed_within : (lanes : List (List Done)) (heads : List Head) → AreHeads lanes heads → (p : ℕ) → IsListed heads p → p < length (flat_map calls_of lanes)
+pub listed_within : (lanes : List (List Done)) (heads : List LaneHead) → AreHeads lanes heads → (p : ℕ) → IsListed heads p → p < length (flat_map calls_of lanes)
 listed_within lanes heads are p l =
     let mark = listed_mark lanes heads are p l in
     let within = slice_get_within (stamped lanes) p (stamp l.number mark.0) mark.1 in
@@ -44,19 +44,19 @@ listed_within lanes heads are p l =
     omega (arith, within, many)
 
 -- the position of a next call
-pub next_mark : (lanes : List (List Done)) (heads : List Head) → AreHeads lanes heads → (number : ℕ) (done : Done) (next : IsNext lanes heads number done) → slice_get (stamped lanes) (next.head.first + next.head.listed) ≡ Some (stamp number done)
+pub next_mark : (lanes : List (List Done)) (heads : List LaneHead) → AreHeads lanes heads → (number : ℕ) (done : Done) (next : IsNext lanes heads number done) → slice_get (stamped lanes) (next.head.first + next.head.listed) ≡ Some (stamp number done)
 next_mark lanes heads are number done next =
     let first = are.first number next.head next.in_heads in
     mark_of lanes number next.head.listed (next.head.first + next.head.listed) next.lane done next.in_lanes next.is (ap (λ n. n + next.head.listed) first)
 
-pub next_within : (lanes : List (List Done)) (heads : List Head) → AreHeads lanes heads → (number : ℕ) (done : Done) (next : IsNext lanes heads number done) → next.head.first + next.head.listed < length (flat_map calls_of lanes)
+pub next_within : (lanes : List (List Done)) (heads : List LaneHead) → AreHeads lanes heads → (number : ℕ) (done : Done) (next : IsNext lanes heads number done) → next.head.first + next.head.listed < length (flat_map calls_of lanes)
 next_within lanes heads are number done next =
     let within = slice_get_within (stamped lanes) (next.head.first + next.head.listed) (stamp number done) (next_mark lanes heads are number done next) in
     let many = as_many 0 lanes in
     omega (arith, within, many)
 
--- a position fits its type where there are few calls
-pub position_fits : (lanes : List (List Done)) (heads : List Head) (certificate : List ℕ) (next : Next) → ListsSoFar lanes heads certificate → IsFirst lanes heads (length lanes) next → length (flat_map calls_of lanes) ≤ 2 ^ 28 → IsSomeAnd (slice_get heads next.lane) (λ head. head.first + head.listed < 2 ^ 32)
+-- a position fits its type if there are few calls
+pub position_fits : (lanes : List (List Done)) (heads : List LaneHead) (certificate : List ℕ) (next : NextCall) → ListsSoFar lanes heads certificate → IsFirst lanes heads (length lanes) next → length (flat_map calls_of lanes) ≤ 2 ^ 28 → IsSomeAnd (slice_get heads next.lane) (λ head. head.first + head.listed < 2 ^ 32)
 position_fits lanes heads certificate next so_far first few =
     let within = next_within lanes heads so_far.are_heads next.lane first.done first.is_next in
     let found = first.is_next.in_heads in
@@ -65,19 +65,19 @@ position_fits lanes heads certificate next so_far first few =
 -- ---- the calls that are left
 
 -- how many calls of the lanes are not listed
-abbrev pub left : List (List Done) → List Head → ℕ
+abbrev pub left : List (List Done) → List LaneHead → ℕ
 left [] heads = 0
 left (lane ∷ lanes) [] = 0
 left (lane ∷ lanes) (head ∷ heads) = (length lane - head.listed) + left lanes heads
 
-pub left_less : (lanes : List (List Done)) (heads : List Head) (number : ℕ) (lane : List Done) (head : Head) → slice_get lanes number ≡ Some lane → slice_get heads number ≡ Some head → head.listed < length lane → left lanes (set heads number (record { first = head.first; listed = head.listed + 1 })) < left lanes heads
+pub left_less : (lanes : List (List Done)) (heads : List LaneHead) (number : ℕ) (lane : List Done) (head : LaneHead) → slice_get lanes number ≡ Some lane → slice_get heads number ≡ Some head → head.listed < length lane → left lanes (set heads number (record { first = head.first; listed = head.listed + 1 })) < left lanes heads
 left_less [] heads number lane head in_lanes in_heads less = cc
 left_less (one ∷ lanes) [] number lane head in_lanes in_heads less = cc
 left_less (one ∷ lanes) (other ∷ heads) zero lane head in_lanes in_heads less =
     let l : one ≡ lane = cc in
     let h : other ≡ head = cc in
     let len = ap length l in
-    let listed = ap (λ (x : Head). x.listed) h in
+    let listed = ap (λ (x : LaneHead). x.listed) h in
     omega (arith, len, listed, less)
 left_less (one ∷ lanes) (other ∷ heads) (suc number) lane head in_lanes in_heads less =
     let rest = left_less lanes heads number lane head in_lanes in_heads less in
@@ -85,7 +85,7 @@ left_less (one ∷ lanes) (other ∷ heads) (suc number) lane head in_lanes in_h
 
 -- ---- one call more
 
-module _ (lanes : List (List Done)) (old new : List Head) (certificate : List ℕ) (next : Next) (position : ℕ) (rise : All PointsRise lanes) (so_far : ListsSoFar lanes old certificate) (first : IsFirst lanes old (length lanes) next) (moved : ListsNext old new next.lane position) where
+module _ (lanes : List (List Done)) (old new : List LaneHead) (certificate : List ℕ) (next : NextCall) (position : ℕ) (rise : All PointsRise lanes) (so_far : ListsSoFar lanes old certificate) (first : IsFirst lanes old (length lanes) next) (moved : ListsNext old new next.lane position) where
   same_head : moved.head ≡ first.is_next.head
   same_head = let both : Some moved.head ≡ Some first.is_next.head = sym moved.found ∙ first.is_next.in_heads in cc
 
@@ -107,11 +107,11 @@ module _ (lanes : List (List Done)) (old new : List Head) (certificate : List �
       ap (λ heads. slice_get heads number) moved.moved
       ∙ set_there old next.lane number (record { first = moved.head.first; listed = moved.head.listed + 1 }) ne
 
-  here_is : (head : Head) → slice_get new next.lane ≡ Some head → (head.first ≡ first.is_next.head.first) × (head.listed ≡ first.is_next.head.listed + 1)
+  here_is : (head : LaneHead) → slice_get new next.lane ≡ Some head → (head.first ≡ first.is_next.head.first) × (head.listed ≡ first.is_next.head.listed + 1)
   here_is head is =
       let same : head ≡ record { first = moved.head.first; listed = moved.head.listed + 1 } = (let both : Some head ≡ Some (record { first = moved.head.first; listed = moved.head.listed + 1 }) = sym is ∙ here in cc) in (
-        ap (λ (h : Head). h.first) same ∙ ap (λ (h : Head). h.first) same_head,
-        ap (λ (h : Head). h.listed) same ∙ ap (λ (h : Head). h.listed + 1) same_head,
+        ap (λ (h : LaneHead). h.first) same ∙ ap (λ (h : LaneHead). h.first) same_head,
+        ap (λ (h : LaneHead). h.listed) same ∙ ap (λ (h : LaneHead). h.listed + 1) same_head,
       )
 
   are_heads : AreHeads lanes new
@@ -172,8 +172,8 @@ module _ (lanes : List (List Done)) (old new : List Head) (certificate : List �
   still_listed p l = elim (cases_eq l.number next.lane) [
     | inl same ↦
         let h : l.head ≡ moved.head = (let both : Some l.head ≡ Some moved.head = sym l.found ∙ ap (slice_get old) same ∙ moved.found in cc) in
-        let begins = ap (λ (x : Head). x.first) h in
-        let listed = ap (λ (x : Head). x.listed) h in
+        let begins = ap (λ (x : LaneHead). x.first) h in
+        let listed = ap (λ (x : LaneHead). x.listed) h in
         let from = l.from_first in
         let before = l.before_next in
         record {
@@ -208,8 +208,8 @@ module _ (lanes : List (List Done)) (old new : List Head) (certificate : List �
       let other = listed_mark lanes old so_far.are_heads position l in
       let same : l.number ≡ next.lane = (let both : Some (stamp l.number other.0) ≡ Some (stamp next.lane first.done) = sym other.1 ∙ mark in let stamps : stamp l.number other.0 ≡ stamp next.lane first.done = cc in ap (λ (s : Stamped). s.lane) stamps) in
       let h : l.head ≡ first.is_next.head = (let both : Some l.head ≡ Some first.is_next.head = sym l.found ∙ ap (slice_get old) same ∙ first.is_next.in_heads in cc) in
-      let begins = ap (λ (x : Head). x.first) h in
-      let listed = ap (λ (x : Head). x.listed) h in
+      let begins = ap (λ (x : LaneHead). x.first) h in
+      let listed = ap (λ (x : LaneHead). x.listed) h in
       let before = l.before_next in
       let place = at in
       omega (arith, begins, listed, before, place)
@@ -274,16 +274,16 @@ module _ (lanes : List (List Done)) (old new : List Head) (certificate : List �
   pub fewer_left : left lanes new < left lanes old
   fewer_left =
       let less = slice_get_within first.is_next.lane first.is_next.head.listed first.done first.is_next.is in
-      let listed = ap (λ (x : Head). x.listed) same_head in
+      let listed = ap (λ (x : LaneHead). x.listed) same_head in
       subst (λ heads. left lanes heads < left lanes old) (sym moved.moved) (left_less lanes old next.lane first.is_next.lane moved.head first.is_next.in_lanes moved.found (omega (arith, less, listed)))
 
-pub moved_len : (old new : List Head) (number position : ℕ) → ListsNext old new number position → length new ≡ length old
+pub moved_len : (old new : List LaneHead) (number position : ℕ) → ListsNext old new number position → length new ≡ length old
 moved_len old new number position moved =
     ap length moved.moved
     ∙ length-set old number (record { first = moved.head.first; listed = moved.head.listed + 1 })
 
 -- what is written over a whole list is all of it
-pub all_written : (old new : List Head) (len : ℕ) → len ≡ length old → length new ≡ length old → take len (new ++ drop (length new) old) ≡ new
+pub all_written : (old new : List LaneHead) (len : ℕ) → len ≡ length old → length new ≡ length old → take len (new ++ drop (length new) old) ≡ new
 all_written old new len counted same =
     let none : drop (length new) old ≡ [] = drop_all (length new) old (omega (arith, same)) in
     let all : new ++ drop (length new) old ≡ new = ap (λ rest. new ++ rest) none ∙ append-nil new in
@@ -291,12 +291,12 @@ all_written old new len counted same =
 
 -- ---- the beginning and the end
 
-pub lists_none : (lanes : List (List Done)) (heads : List Head) → AtTheFirst lanes heads → ListsSoFar lanes heads []
+pub lists_none : (lanes : List (List Done)) (heads : List LaneHead) → AtTheFirst lanes heads → ListsSoFar lanes heads []
 lists_none lanes heads start = record {
   are_heads = start.are_heads;
   only = All-nil (IsListed heads);
   each = λ p l.
-      let none = all_member (λ (h : Head). h.listed ≡ 0) heads l.head start.none_listed (member_at heads l.number l.head l.found) in
+      let none = all_member (λ (h : LaneHead). h.listed ≡ 0) heads l.head start.none_listed (member_at heads l.number l.head l.found) in
       let from = l.from_first in
       let before = l.before_next in
       absurd (omega (arith, none, from, before));
@@ -305,7 +305,7 @@ lists_none lanes heads start = record {
   before_next = All-nil (λ (s : Stamped). (number : ℕ) (d : Done) → IsNext lanes heads number d → ¬ ComesFirst (stamp number d) s);
 }
 
-pub lists_all : (lanes : List (List Done)) (heads : List Head) (certificate : List ℕ) → ListsSoFar lanes heads certificate → IsFirstBelow lanes heads (length lanes) None → ListsAll lanes certificate
+pub lists_all : (lanes : List (List Done)) (heads : List LaneHead) (certificate : List ℕ) → ListsSoFar lanes heads certificate → IsFirstBelow lanes heads (length lanes) None → ListsAll lanes certificate
 lists_all lanes heads certificate so_far none = record {
   spelled = record {
     positions = λ k d less. listed_within lanes heads so_far.are_heads (get_or certificate k d) (so_far.only k d less);

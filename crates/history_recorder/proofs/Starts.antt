@@ -5,20 +5,20 @@ use Rattle.std.specs.List.{flat_map}
 use Rattle.std.proofs.lemmas.Option.{slice_get-get_or}
 use Rattle.certificate_checker.specs.declared.done.Done.{Done}
 use Rattle.certificate_checker.specs.Lanes.{calls_of}
-use Rattle.history_recorder.specs.declared.head.Head.{Head}
+use Rattle.history_recorder.specs.declared.lane_head.LaneHead.{LaneHead}
 use Rattle.history_recorder.specs.Merging.{first_of, AtTheFirst}
 use Rattle.history_recorder.proofs.public_laws.Stamps.{found_before, first_none, first_after, first_within}
 
 -- the heads of the first lanes, and where the next one begins
-pub record StartsBelow (lanes : List (List Done)) (heads : List Head) (limit first : ℕ) : Type 0 where
+pub record StartsBelow (lanes : List (List Done)) (heads : List LaneHead) (limit first : ℕ) : Type 0 where
   pub count : length heads ≡ limit
   pub begins : first ≡ first_of lanes limit
-  pub each : (number : ℕ) (head : Head) → slice_get heads number ≡ Some head → (head.first ≡ first_of lanes number) × (head.listed ≡ 0)
+  pub each : (number : ℕ) (head : LaneHead) → slice_get heads number ≡ Some head → (head.first ≡ first_of lanes number) × (head.listed ≡ 0)
 
 pub no_heads : (lanes : List (List Done)) → StartsBelow lanes [] 0 0
 no_heads lanes = record { count = refl; begins = sym (first_none lanes); each = λ number head is. absurd (cc) }
 
-module _ (lanes : List (List Done)) (heads : List Head) (limit first : ℕ) (lane : List Done) (starts : StartsBelow lanes heads limit first) (found : slice_get lanes limit ≡ Some lane) where
+module _ (lanes : List (List Done)) (heads : List LaneHead) (limit first : ℕ) (lane : List Done) (starts : StartsBelow lanes heads limit first) (found : slice_get lanes limit ≡ Some lane) where
   -- the head of one lane more
   pub head_more : StartsBelow lanes (heads ++ record { first = first; listed = 0 } ∷ []) (limit + 1) (first + length lane)
   head_more = record {
@@ -32,8 +32,8 @@ module _ (lanes : List (List Done)) (heads : List Head) (limit first : ℕ) (lan
     each = λ number head is. elim (found_before heads (record { first = first; listed = 0 }) head number is) [
       | inl old ↦ starts.each number head old
       | inr last ↦ (
-        sym (ap (λ (h : Head). h.first) last.1) ∙ starts.begins ∙ ap (first_of lanes) (sym (last.0 ∙ starts.count)),
-        sym (ap (λ (h : Head). h.listed) last.1),
+        sym (ap (λ (h : LaneHead). h.first) last.1) ∙ starts.begins ∙ ap (first_of lanes) (sym (last.0 ∙ starts.count)),
+        sym (ap (λ (h : LaneHead). h.listed) last.1),
       )
     ];
   }
@@ -46,7 +46,7 @@ module _ (lanes : List (List Done)) (heads : List Head) (limit first : ℕ) (lan
       let within = first_within lanes (suc limit) in
       omega (arith, begins, after, within)
 
-pub all_start : (lanes : List (List Done)) (heads : List Head) (first : ℕ) → StartsBelow lanes heads (length lanes) first → AtTheFirst lanes heads
+pub all_start : (lanes : List (List Done)) (heads : List LaneHead) (first : ℕ) → StartsBelow lanes heads (length lanes) first → AtTheFirst lanes heads
 all_start lanes heads first starts = record {
   are_heads = record {
     count = starts.count;

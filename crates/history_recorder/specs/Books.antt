@@ -155,7 +155,7 @@ CanReply size layout books (events.Act caller) reply =
 CanReply size layout books (events.End caller) (replies.Ended end) = end ≡ books.number + 1
 CanReply size layout books event reply = IsReplyTo event reply
 
--- an event is replied so: it is ignored exactly where it does not apply
+-- an event is replied so: it is ignored exactly if it does not apply
 abbrev pub IsReplied : ℕ → Layout → Books → Event → Reply → Type 0
 IsReplied size layout books event replies.Ignored = ¬ Applies books event
 IsReplied size layout books event reply = Applies books event × CanReply size layout books event reply
@@ -171,7 +171,7 @@ AreReplied size layout books events replies = ⊥
 abbrev pub CanDraw : Books → Type 0
 CanDraw books = books.number < 2 ^ 63
 
--- a call was taken from a caller that began one; where none was, nothing changed
+-- a call was taken from a caller that began one; if none was, nothing changed
 abbrev pub TakesCall : Books → ℕ → Option Called → Books → Type 0
 TakesCall old caller (Some call) new =
     IsDoing old caller (phases.Began call.start call.operation) × (new ≡ record old { callers = slice_set old.callers caller phases.Idle })

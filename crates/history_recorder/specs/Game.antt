@@ -7,7 +7,7 @@ use Rattle.certificate_checker.specs.Latest.{IsLawful}
 use Rattle.mover.specs.Lane.{LaneState, lane_of as store_lane}
 use Rattle.recorded_lane.specs.declared.noted.Noted.{Noted}
 use Rattle.recorded_lane.specs.Lane.{Lane, deeds_of, max_calls, IsSound, IsOfLane}
-use Rattle.history_recorder.specs.declared.acted.Acted.{Acted}
+use Rattle.history_recorder.specs.declared.act_reply.ActReply.{ActReply}
 use Rattle.history_recorder.specs.declared.operation.Operation.{Operation}
 use Rattle.history_recorder.specs.Operations.{AnswersAt, noted_by, calls_with}
 use Rattle.history_recorder.specs.Commands.{IsOperation, IsBackground}
@@ -18,7 +18,7 @@ use Rattle.history_recorder.specs.Books.{Books, AreKept, IsReplyOf, IsReplyTo, I
 use Rattle.history_recorder.specs.World.{World, LanesStep, IsRun, IsSoundWorld}
 
 -- What is true of a lane, by the calls that it recorded and what it holds. Each call starts before its point, points rise,
--- there are no more than a lane records, and each is of a key of this lane; and where its device is honest each recorded
+-- there are no more than a lane records, and each is of a key of this lane; and if its device is honest each recorded
 -- hit had its key's latest value, and the lane is sound.
 pub record IsWellKept (layout : Layout) (lane : ℕ) (honest : Bool) (calls : List Noted) (state : LaneState) : Type 0 where
   pub starts : All (λ n. n.start < n.point) calls
@@ -29,8 +29,8 @@ pub record IsWellKept (layout : Layout) (lane : ℕ) (honest : Bool) (calls : Li
   pub sound : IsTrue honest → IsSound state (deeds_of calls)
 
 -- What an act of a lane gives and leaves. On any device it is replied in kind, refused exactly when it must be, and recorded
--- unless it was refused; and where the device is honest it is the operation's step.
-pub record ActsSo {L : Type 0} (layout_of : L → Layout) (lane_is : L → ℕ) (honest : L → Bool) (calls_of : L → List Noted) (state : L → LaneState) (size caller start point : ℕ) (operation : Operation) (old : L) (acted : Acted) (new : L) : Type 0 where
+-- unless it was refused; and if the device is honest it is the operation's step.
+pub record ActsSo {L : Type 0} (layout_of : L → Layout) (lane_is : L → ℕ) (honest : L → Bool) (calls_of : L → List Noted) (state : L → LaneState) (size caller start point : ℕ) (operation : Operation) (old : L) (acted : ActReply) (new : L) : Type 0 where
   pub layout : layout_of new ≡ layout_of old
   pub lane : lane_is new ≡ lane_is old
   pub honesty : honest new ≡ honest old
@@ -41,7 +41,7 @@ pub record ActsSo {L : Type 0} (layout_of : L → Layout) (lane_is : L → ℕ) 
   pub kept : IsWellKept (layout_of new) (lane_is new) (honest new) (calls_of new) (state new)
   pub step : IsTrue (honest old) → IsOperation size (layout_of old) operation (state old) acted.reply (state new)
 
--- What a background step of a lane gives and leaves. On any device it is replied in kind, and records nothing; and where the
+-- What a background step of a lane gives and leaves. On any device it is replied in kind, and records nothing; and if the
 -- device is honest it is the step that was asked.
 pub record StepsSo {L : Type 0} (layout_of : L → Layout) (lane_is : L → ℕ) (honest : L → Bool) (calls_of : L → List Noted) (state : L → LaneState) (size : ℕ) (event : Event) (old : L) (reply : Reply) (new : L) : Type 0 where
   pub layout : layout_of new ≡ layout_of old
@@ -62,7 +62,7 @@ honest_in honest lane = honest lane.store.device
 abbrev pub state_in : {D : Type 0} → (D → ℕ → Option (List ℕ)) → Lane D → LaneState
 state_in held lane = store_lane held lane.store
 
-abbrev pub LaneActs : {D : Type 0} → (D → Bool) → (D → ℕ → Option (List ℕ)) → ℕ → ℕ → ℕ → ℕ → Operation → Lane D → Acted → Lane D → Type 0
+abbrev pub LaneActs : {D : Type 0} → (D → Bool) → (D → ℕ → Option (List ℕ)) → ℕ → ℕ → ℕ → ℕ → Operation → Lane D → ActReply → Lane D → Type 0
 LaneActs honest held size caller start point operation old acted new =
     ActsSo layout_in (λ lane. lane.lane) (honest_in honest) (λ lane. lane.calls) (state_in held) size caller start point operation old acted new
 
@@ -99,7 +99,7 @@ background_lane event = 0
 abbrev pub world_of : {L : Type 0} → (L → LaneState) → Books → List L → World
 world_of state books lanes = record { books = books; states = map state lanes }
 
--- An event was played: it is replied as it may be, and the books follow from it and the reply, on any devices; and where
+-- An event was played: it is replied as it may be, and the books follow from it and the reply, on any devices; and if
 -- they are honest its lane took the step.
 pub record Plays {L : Type 0} (layout_of : L → Layout) (lane_is : L → ℕ) (honest : L → Bool) (calls_of : L → List Noted) (state : L → LaneState) (size : ℕ) (layout : Layout) (books : Books) (lanes : List L) (event : Event) (reply : Reply) (after : Layout) (new : Books) (stepped : List L) : Type 0 where
   pub layout_stays : after ≡ layout
@@ -122,7 +122,7 @@ pub record SoundRunTo (size : ℕ) (layout : Layout) (old : World) (events : Lis
   pub last : last_world old worlds ≡ new
 
 -- Events were played, one after the other: on any devices each is replied as it may be and the books follow from the events
--- and the replies; and where the devices are honest events and replies are a run of sound worlds.
+-- and the replies; and if the devices are honest events and replies are a run of sound worlds.
 pub record HasPlayed {L : Type 0} (layout_of : L → Layout) (lane_is : L → ℕ) (honest : L → Bool) (calls_of : L → List Noted) (state : L → LaneState) (size : ℕ) (layout : Layout) (books : Books) (lanes : List L) (events : List Event) (replies : List Reply) (after : Layout) (new : Books) (stepped : List L) : Type 0 where
   pub layout_stays : after ≡ layout
   pub kept : IsGame layout_of lane_is honest calls_of state layout new stepped
@@ -132,6 +132,6 @@ pub record HasPlayed {L : Type 0} (layout_of : L → Layout) (lane_is : L → �
   pub honesty : AreHonest honest lanes → AreHonest honest stepped
   pub run : AreHonest honest lanes → SoundRunTo size layout (world_of state books lanes) events replies (world_of state new stepped)
 
--- numbers are left for so many events
+-- numbers are left for this many events
 abbrev pub CanPlay : Books → List Event → Type 0
 CanPlay books events = books.number + length events ≤ 2 ^ 63

@@ -50,7 +50,7 @@ pub record AreOpened {D : Type 0} (honest : D → Bool) (held : D → ℕ → Op
   pub each : (number : ℕ) (lane : Lane D) → slice_get lanes number ≡ Some lane → lane ≡ opening_lane layout number lane.store.device
   pub recorded : All (IsRecorded honest held) lanes
 
--- so many of the lanes of a layout were opened, over these devices
+-- this many of the lanes of a layout were opened, over these devices
 pub record AreOpenedOver {D : Type 0} (honest : D → Bool) (held : D → ℕ → Option (List ℕ)) (layout : Layout) (number : ℕ) (devices : List D) (boxes : List (Box (Lane D))) : Type 0 where
   pub over : devices_of boxes ≡ devices
   pub many : number ≡ length boxes

@@ -42,7 +42,7 @@ abbrev pub noted_by : ℕ → ℕ → ℕ → Operation → Reply → Option Not
 noted_by caller start point operation reply =
     option_map (λ act. record { caller = caller; start = start; point = point; key = key_of operation; act = act }) (act_done operation reply)
 
--- recorded calls, and one more where there is one
+-- recorded calls, and one more if there is one
 abbrev pub calls_with : List Noted → Option Noted → List Noted
 calls_with calls None = calls
 calls_with calls (Some noted) = calls ++ noted ∷ []
@@ -51,12 +51,12 @@ calls_with calls (Some noted) = calls ++ noted ∷ []
 abbrev pub FitsAlone : ℕ → List ℕ → List ℕ → Type 0
 FitsAlone size key value = object_size key value ≤ room size
 
--- a lane that has recorded so many calls has room for one more
+-- a lane that has recorded this many calls has room for one more
 abbrev pub HasRoomFor : ℕ → Type 0
 HasRoomFor count = count < max_calls
 
--- When a lane of so many calls, with pages of this size, answers so: a put is refused as too large exactly where its object
--- does not fit on a page, and then an operation finds the history full exactly where the lane records no more calls.
+-- When a lane of this many calls, with pages of this size, answers so: a put is refused as too large exactly if its object
+-- does not fit on a page, and then an operation finds the history full exactly if the lane records no more calls.
 abbrev pub AnswersAt : ℕ → ℕ → Operation → Reply → Type 0
 AnswersAt size count (operations.Get key moment) (replies.Got (Ok answer)) = HasRoomFor count
 AnswersAt size count (operations.Get key moment) (replies.Got (Err faults.HistoryFull)) = ¬ HasRoomFor count

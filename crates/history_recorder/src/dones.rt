@@ -64,7 +64,7 @@ impl Dones {
         self.len() == 0
     }
 
-    /// Puts a call behind the others, or drops it and leaves the list as it was where memory is refused.
+    /// Puts a call after the others, or drops it and leaves the list as it was if memory is refused.
     pub fn push(&mut self, done: Done) -> Result<(), AllocError>
         ensures ok { OnOk result (self.new ≡ self.old ++ done ∷ []) }
         ensures err { OnErr result (self.new ≡ self.old) }
@@ -93,7 +93,7 @@ impl Dones {
         )
     }
 
-    /// Puts the calls behind those of a history, or leaves the history as it was where memory is refused. Behind none no
+    /// Puts the calls after those of a history, or leaves the history as it was if memory is refused. After none no
     /// byte is copied, and no memory taken.
     pub(crate) fn put_behind(self, history: &mut History) -> Result<(), AllocError>
         ensures { OnOk result (history.new ≡ history.old ++ calls_of self) }

@@ -109,7 +109,7 @@ impl<L: PlayedLane<PAGE>, const PAGE: usize> Game<L, PAGE> {
         self.background(lane, event)
     }
 
-    /// An event happens, and is replied. Where memory is refused nothing is said of the game.
+    /// An event happens, and is replied. If memory is refused nothing is said of the game.
     fn step(&mut self, event: &Event) -> Result<Reply, AllocError>
         requires room { CanDraw self.old.ledger }
         requires kept { IsGame L.layout L.lane L.honest L.calls L.state self.old.layout
@@ -135,7 +135,7 @@ impl<L: PlayedLane<PAGE>, const PAGE: usize> Game<L, PAGE> {
         }
     }
 
-    /// Events happen one after the other, and each is replied. Where memory is refused nothing is said of the game.
+    /// Events happen one after the other, and each is replied. If memory is refused nothing is said of the game.
     pub(crate) fn run(&mut self, alloc: Global, events: &[Event]) -> Result<Replies, AllocError>
         requires room { CanPlay self.old.ledger events.now }
         requires kept { IsGame L.layout L.lane L.honest L.calls L.state self.old.layout

@@ -5,7 +5,7 @@ ghost use Rattle.history_recorder.specs.Operations.{lane_of};
 ghost use Rattle.history_recorder.specs.Books.{IsBackgroundEvent};
 ghost use Rattle.history_recorder.specs.Game.{LaneActs, LaneSteps, layout_in, honest_in, state_in};
 
-use crate::acted::Acted;
+use crate::act_reply::ActReply;
 use crate::event::Event;
 use crate::operation::Operation;
 use crate::played_lane::PlayedLane;
@@ -34,7 +34,7 @@ impl<D: PageDevice<PAGE>, const PAGE: usize> PlayedLane<PAGE> for RecordedLane<D
         start: u64,
         point: u64,
         operation: Operation,
-    ) -> Result<Acted, AllocError>
+    ) -> Result<ActReply, AllocError>
         requires start { start < point }
         requires rises { All (λ n. n.point < point) self.old.calls }
         requires its { lane_of self.old.store.layout operation ≡ self.old.lane }
@@ -87,7 +87,7 @@ fn act_get<D: PageDevice<PAGE>, const PAGE: usize>(
     point: u64,
     key: Key,
     moment: u64,
-) -> Result<Acted, AllocError>
+) -> Result<ActReply, AllocError>
     requires start { start < point }
     requires rises { All (λ n. n.point < point) recorded.old.calls }
     requires own { IsOfLane recorded.old.store.layout recorded.old.lane key }
@@ -104,14 +104,14 @@ fn act_get<D: PageDevice<PAGE>, const PAGE: usize>(
                 key,
                 act: act_from(&answer, moment)?,
             };
-            Ok(Acted {
+            Ok(ActReply {
                 reply: Reply::Got(Ok(answer)),
                 noted: Some(noted),
             })
         }
         Err(fault) => {
             recall(recorded);
-            Ok(Acted {
+            Ok(ActReply {
                 reply: Reply::Got(Err(fault)),
                 noted: None,
             })
@@ -129,7 +129,7 @@ fn act_put<D: PageDevice<PAGE>, const PAGE: usize>(
     value: Value,
     word: u32,
     expires: u64,
-) -> Result<Acted, AllocError>
+) -> Result<ActReply, AllocError>
     requires start { start < point }
     requires rises { All (λ n. n.point < point) recorded.old.calls }
     requires own { IsOfLane recorded.old.store.layout recorded.old.lane key }
@@ -146,14 +146,14 @@ fn act_put<D: PageDevice<PAGE>, const PAGE: usize>(
     match recorded.put(caller, start, point, key, value, word, expires) {
         Ok(pushed) => {
             recall(recorded);
-            Ok(Acted {
+            Ok(ActReply {
                 reply: Reply::Stored(Ok(pushed)),
                 noted: Some(noted),
             })
         }
         Err(fault) => {
             recall(recorded);
-            Ok(Acted {
+            Ok(ActReply {
                 reply: Reply::Stored(Err(fault)),
                 noted: None,
             })
@@ -168,7 +168,7 @@ fn act_remove<D: PageDevice<PAGE>, const PAGE: usize>(
     start: u64,
     point: u64,
     key: Key,
-) -> Acted
+) -> ActReply
     requires start { start < point }
     requires rises { All (λ n. n.point < point) recorded.old.calls }
     requires own { IsOfLane recorded.old.store.layout recorded.old.lane key }
@@ -185,14 +185,14 @@ fn act_remove<D: PageDevice<PAGE>, const PAGE: usize>(
                 key,
                 act: Act::Remove,
             };
-            Acted {
+            ActReply {
                 reply: Reply::Removed(Ok(())),
                 noted: Some(noted),
             }
         }
         Err(fault) => {
             recall(recorded);
-            Acted {
+            ActReply {
                 reply: Reply::Removed(Err(fault)),
                 noted: None,
             }

@@ -12,9 +12,9 @@ use trace_file::{Certificate, History};
 /// The history of some lanes, one lane after the other, with the certificate that lists its calls by point, at equal
 /// points those of the lesser lane first.
 ///
-/// The certificate spells an order that the checker accepts where each lane is well recorded and no two have a key in
+/// The certificate spells an order that the checker accepts if each lane is well recorded and no two have a key in
 /// common. The time is linear in the calls times the lanes, since the lists are merged as they are; no call is copied
-/// but into the history, the bytes of a lane at once, and those of the first lane not at all. `AllocError` comes where
+/// but into the history, the bytes of a lane at once, and those of the first lane not at all. `AllocError` comes if
 /// memory was refused.
 pub fn lay_out(alloc: Global, lanes: Vec<Dones>) -> Result<(History, Certificate), AllocError>
     requires rise { All PointsRise lanes.items }

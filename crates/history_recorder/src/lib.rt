@@ -1,20 +1,20 @@
 //! Worlds of recorded lanes: events that are played in them, and the calls of lanes laid out as one history.
 #![tactic(auto)]
 
-mod acted;
+mod act_reply;
 mod booked;
 mod called;
 mod dones;
 mod event;
 mod game;
-mod head;
 mod lane_calls;
+mod lane_head;
 mod lane_played;
 mod laws;
 mod layout;
 mod ledger;
 mod merging;
-mod next;
+mod next_call;
 mod open_world_fault;
 mod operation;
 mod phase;

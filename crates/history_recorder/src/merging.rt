@@ -5,8 +5,8 @@ ghost use Rattle.certificate_checker.specs.Lanes.{calls_of, PointsRise};
 ghost use Rattle.history_recorder.specs.Merging.{AtTheFirst, IsFirstBelow, ListsNext, ListsAll};
 
 use crate::dones::Dones;
-use crate::head::Head;
-use crate::next::Next;
+use crate::lane_head::LaneHead;
+use crate::next_call::NextCall;
 use std::alloc::{AllocError, Global};
 use trace_file::Certificate;
 
@@ -27,21 +27,21 @@ pub(crate) fn certificate_of(alloc: Global, lanes: &[Dones]) -> Result<Certifica
 }
 
 /// The heads of lanes of which no call is listed.
-fn heads_of(alloc: Global, lanes: &[Dones]) -> Result<Vec<Head>, AllocError>
+fn heads_of(alloc: Global, lanes: &[Dones]) -> Result<Vec<LaneHead>, AllocError>
     requires { length (flat_map calls_of lanes.now) ≤ 2 ^ 28 }
     ensures { IfOk result (λ heads. AtTheFirst lanes.now heads.items) }
 {
     let mut heads = Vec::new(alloc);
     let mut first = 0;
     for lane in lanes {
-        heads.push(Head { first, listed: 0 })?;
+        heads.push(LaneHead { first, listed: 0 })?;
         first += lane.len() as u32;
     }
     Ok(heads)
 }
 
-/// The first, by point and lane, of the lanes' next calls, or none where all calls are listed.
-fn first_next(lanes: &[Dones], heads: &[Head]) -> Option<Next>
+/// The first, by point and lane, of the lanes' next calls, or none if all calls are listed.
+fn first_next(lanes: &[Dones], heads: &[LaneHead]) -> Option<NextCall>
     requires { length heads.now ≡ length lanes.now }
     ensures { IsFirstBelow lanes.now heads.now (length lanes.now) result }
 {
@@ -53,7 +53,12 @@ fn first_next(lanes: &[Dones], heads: &[Head]) -> Option<Next>
 }
 
 /// The first of the next calls of the lanes up to this one, by the first of those before it.
-fn first_with(lanes: &[Dones], heads: &[Head], number: usize, first: Option<Next>) -> Option<Next>
+fn first_with(
+    lanes: &[Dones],
+    heads: &[LaneHead],
+    number: usize,
+    first: Option<NextCall>,
+) -> Option<NextCall>
     requires in_heads { number < length heads.now }
     requires in_lanes { number < length lanes.now }
     requires first { IsFirstBelow lanes.now heads.now number first }
@@ -64,7 +69,7 @@ fn first_with(lanes: &[Dones], heads: &[Head], number: usize, first: Option<Next
     if listed >= lane.len() {
         return first;
     }
-    let next = Next {
+    let next = NextCall {
         lane: number,
         point: lane.point(listed),
     };
@@ -81,7 +86,7 @@ fn first_with(lanes: &[Dones], heads: &[Head], number: usize, first: Option<Next
 }
 
 /// Counts the next call of a lane as listed, and gives its position.
-fn list_next(heads: &mut [Head], number: usize) -> u32
+fn list_next(heads: &mut [LaneHead], number: usize) -> u32
     requires { IsSomeAnd (slice_get heads.old number) (λ head. head.first + head.listed < 2 ^ 32) }
     ensures { ListsNext heads.old heads.new number result }
 {

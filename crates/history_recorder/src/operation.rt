@@ -8,17 +8,17 @@ use std::alloc::AllocError;
 /// What a caller asks of the lane of a key.
 #[derive(Debug, Drop)]
 pub enum Operation {
-    /// The value of a key, where it is live at this moment.
+    /// The value of a key, if it is live at this moment.
     Get(Key, u64),
-    /// To keep a value of a key until a moment, or for ever where that is `NEVER`. A pair that memory pushes out for it
-    /// is admitted to flash where the low 16 bits of the word are below the configuration's `admit`.
+    /// To keep a value of a key until a moment, or for ever if that is `NEVER`. A pair that memory pushes out for it
+    /// is admitted to flash if the low 16 bits of the word are below the configuration's `admit`.
     Put(Key, Value, u32, u64),
     /// To keep no value of a key.
     Remove(Key),
 }
 
 impl Operation {
-    /// A copy of the operation, or `AllocError` where memory was refused.
+    /// A copy of the operation, or `AllocError` if memory was refused.
     pub fn try_clone(&self) -> Result<Operation, AllocError>
         ensures { IfOk result (λ copy. copy ≡ self.now) }
     {

@@ -7,13 +7,13 @@ ghost use Rattle.history_recorder.specs.Operations.{lane_of};
 ghost use Rattle.history_recorder.specs.Books.{IsBackgroundEvent};
 ghost use Rattle.history_recorder.specs.Game.{ActsSo, StepsSo};
 
-use crate::acted::Acted;
+use crate::act_reply::ActReply;
 use crate::event::Event;
 use crate::operation::Operation;
 use crate::reply::Reply;
 use std::alloc::AllocError;
 
-/// A lane of a world, as it does what events ask. What it holds is said only where its device is honest.
+/// A lane of a world, as it does what events ask. What it holds is said only if its device is honest.
 pub(crate) trait PlayedLane<const PAGE: usize>: Drop {
     /// The layout that it was opened with.
     ghost layout: { Self → Layout };
@@ -30,7 +30,7 @@ pub(crate) trait PlayedLane<const PAGE: usize>: Drop {
     /// The calls that it recorded.
     ghost calls: { Self → List Noted };
 
-    /// Does what a call asks, and records it. Where memory is refused for the copy of a recorded call nothing is said of
+    /// Does what a call asks, and records it. If memory is refused for the copy of a recorded call nothing is said of
     /// the lane.
     fn act(
         &mut self,
@@ -38,7 +38,7 @@ pub(crate) trait PlayedLane<const PAGE: usize>: Drop {
         start: u64,
         point: u64,
         operation: Operation,
-    ) -> Result<Acted, AllocError>
+    ) -> Result<ActReply, AllocError>
         requires start { start < point }
         requires rises { All (λ n. n.point < point) (calls self.old) }
         requires its { lane_of (layout self.old) operation ≡ lane self.old }

@@ -20,9 +20,9 @@ use std::alloc::{AllocError, Global};
 /// ended ends at the last number plus one.
 ///
 /// On any devices the replies are such as the events may have, and history and certificate are those of the events and
-/// the replies. Where all devices are honest, events and replies are a run, in which each lane takes the exact step of
+/// the replies. If all devices are honest, events and replies are a run, in which each lane takes the exact step of
 /// its store; after each event each lane is sound, so that all that it shows is what its keys have by its recorded
-/// calls; and the history and certificate are accepted. `AllocError` comes where memory was refused.
+/// calls; and the history and certificate are accepted. `AllocError` comes if memory was refused.
 pub fn play<D: PageDevice<PAGE>, const PAGE: usize>(
     alloc: Global,
     world: World<D, PAGE>,
@@ -35,7 +35,7 @@ pub fn play<D: PageDevice<PAGE>, const PAGE: usize>(
         (dones (books_after world.layout (books_of world) events.now played.replies))
         played.history played.certificate) }
 
-    // Where they are honest.
+    // If they are honest.
     ensures run { All (λ device. IsTrue (D.honest device)) world.devices → IfOk result (λ played.
         IsSoundRun PAGE world.layout (opening_world D.held world) events.now played.replies) }
     ensures accepted { All (λ device. IsTrue (D.honest device)) world.devices →

@@ -44,7 +44,7 @@ impl Replies {
         self.replies.is_empty()
     }
 
-    /// Puts a reply behind the others, or drops it and leaves the list as it was where memory is refused.
+    /// Puts a reply after the others, or drops it and leaves the list as it was if memory is refused.
     pub fn push(&mut self, reply: Reply) -> Result<(), AllocError>
         ensures ok { OnOk result (self.new ≡ self.old ++ reply ∷ []) }
         ensures err { OnErr result (self.new ≡ self.old) }

@@ -1,4 +1,4 @@
-//! Each call of a lane's device refused, alone and with all behind it, over memory and over a file: what is answered then, and
+//! Each call of a lane's device refused, alone and with all after it, over memory and over a file: what is answered then, and
 //! that the history and its certificate are accepted all the same.
 use super::worlds::{
     Begins, Happens, OVER_A_NAME, REMOVED_IN_FLIGHT, Row, TWO_OF_A_LANE, are_replied, config,
@@ -37,7 +37,7 @@ const ONE_MOVE: Row = Row {
     certificate: &[],
 };
 
-// What is replied where the call of this number, from 1, is refused.
+// What is replied if the call of this number, from 1, is refused.
 const REPLIES: [&[u8]; 5] = [
     b"bpebpeslfSbme",
     b"bpebpeswLSbme",
@@ -166,7 +166,7 @@ fn each_refused_call_is_told_and_accepted(rt: HostRuntime) -> Result<(), Fail> {
 // More than any of the rows makes of calls of the device.
 const BEHIND_THE_LAST: u32 = 12;
 
-// Whether a row is accepted with these calls refused, over memory and over a file; and where none of its calls is, whether the
+// Whether a row is accepted with these calls refused, over memory and over a file; and if none of its calls is, whether the
 // replies are as it says.
 fn is_accepted_refusing<R: Files<File = File>>(
     rt: &R,

@@ -69,7 +69,7 @@ fn lanes_of(alloc: Global, rows: &[&[Put]]) -> Result<Vec<Dones>, Fail>
     Ok(lanes)
 }
 
-/// Whether the lanes of a row are laid out as it says, once more where memory was refused, and the checker accepts that.
+/// Whether the lanes of a row are laid out as it says, once more if memory was refused, and the checker accepts that.
 fn is_laid_out(alloc: Global, row: &Row) -> Result<bool, Fail> {
     let (history, certificate) = match lay_out(alloc, lanes_of(alloc, row.lanes)?) {
         Ok(laid) => laid,

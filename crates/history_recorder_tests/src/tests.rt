@@ -62,7 +62,7 @@ fn device(alloc: Global, row: &Row) -> Result<Fused, AllocError> {
     Ok(FuseDevice::one(MemoryDevice::new(alloc, PAGES)?, row.refused))
 }
 
-// The lane of a row, opened once more where memory was refused.
+// The lane of a row, opened once more if memory was refused.
 fn lane(alloc: Global, row: &Row) -> Result<RecordedLane<Fused, 256>, Fail> {
     if row.number >= row.config.lanes {
         return Err("a lane that is not there".into());
@@ -185,7 +185,7 @@ fn each_call_gives_what_it_must_and_is_recorded(rt: HostRuntime) -> Result<(), F
     Ok(())
 }
 
-/// An opening of a lane over so many pages, of 128 bytes or of 256, and why it is refused.
+/// An opening of a lane over this many pages, of 128 bytes or of 256, and why it is refused.
 #[derive(Clone, Copy)]
 struct Opening {
     config: Config,
@@ -194,7 +194,7 @@ struct Opening {
     fault: Option<OpenFault>,
 }
 
-// Each refusal comes where all behind it apply too; the last opening is not refused.
+// Each refusal comes when all after it apply too; the last opening is not refused.
 const OPENINGS: [Opening; 4] = [
     Opening {
         config: Config { sets: 0, ..ONE_SET },

@@ -3,7 +3,7 @@ use super::worlds::{Begins, Called, Happens, Row, plays};
 use std::test::Fail;
 
 // Ten keys of ten different ones of sixteen sets are put; the last is in memory then, and the others are written to the log. As many
-// moves begin as may, and one more is tried. Behind that each key is got, and some are replaced or removed and got again.
+// moves begin as may, and one more is tried. After that each key is got, and some are replaced or removed and got again.
 const UNFINISHED: Row = Row {
     lanes: 1,
     sets: 16,

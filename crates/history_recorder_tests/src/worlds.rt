@@ -236,7 +236,7 @@ fn is_played(played: &Played, row: &Row) -> bool {
         && lists(&played.certificate, row.certificate)
 }
 
-// Whether a row is played as it says, and accepted. Where memory was refused to one of its acts or moves, what was answered
+// Whether a row is played as it says, and accepted. If memory was refused to one of its acts or moves, what was answered
 // is accepted too, and it is played once more.
 pub(crate) fn plays(alloc: Global, row: &Row) -> Result<bool, Fail> {
     let first = played(alloc, row)?;
@@ -250,7 +250,7 @@ fn plays_again(alloc: Global, row: &Row) -> Result<bool, Fail> {
     Ok(accepted && is_played(&again, row))
 }
 
-// What is played of a row, once more where memory was refused to `play` itself.
+// What is played of a row, once more if memory was refused to `play` itself.
 fn played(alloc: Global, row: &Row) -> Result<Played, Fail> {
     let events = events(alloc, row)?;
     match play(alloc, world(alloc, row)?, events.as_slice()) {
@@ -277,7 +277,7 @@ fn is_refused(played: &Played) -> bool {
     false
 }
 
-// A get that is done behind the put that began before it.
+// A get that is done after the put that began before it.
 const ACT_OF_A_PUT_FIRST: Row = Row {
     lanes: 1,
     sets: 1,
@@ -599,7 +599,7 @@ const OPENS: Opening = Opening {
     fault: None,
 };
 
-// Each refusal comes where all behind it apply too; the last opening is not refused.
+// Each refusal comes when all after it apply too; the last opening is not refused.
 const OPENINGS: [Opening; 6] = [
     Opening {
         config: Config {

@@ -31,7 +31,7 @@ still_ahead old new left read line ahead takes = λ over. ahead (sym (same_over 
 pub ahead_same : (mid new : Ahead) (left : Option (List ℕ)) → new ≡ mid → IsAhead mid left → IsAhead new left
 ahead_same mid new left same ahead = subst (λ (a : Ahead). IsAhead a left) (sym same) ahead
 
--- where nothing is left and a line can be taken, the reader told its end
+-- if nothing is left and a line can be taken, the reader told its end
 over_last : (mid : Ahead) → mid.bytes ≡ [] → is_ready_within 8192 mid ≡ true → mid.over ≡ true
 over_last mid none ready = elim (cases_Bool mid.over) [
   | inl over ↦ over

@@ -20,8 +20,8 @@ use Rattle.trace_file.specs.declared.act.Act.{Act}
 use Rattle.trace_file.specs.declared.act.Act.TheVariants.{Put, Remove, Hit, Miss}
 use Rattle.trace_file.specs.declared.call.Call.{Call}
 use Rattle.trace_file.specs.Calls.{value_of as act_value, time_of}
-use Rattle.history_text.specs.declared.kind.Kind.{Kind}
-use Rattle.history_text.specs.declared.kind.Kind.TheVariants as kinds
+use Rattle.history_text.specs.declared.line_kind.LineKind.{LineKind}
+use Rattle.history_text.specs.declared.line_kind.LineKind.TheVariants as kinds
 use Rattle.history_text.specs.Coding.{word_of}
 use Rattle.history_text.specs.ReadingBack.{IsTold, name_of}
 use Rattle.history_text.specs.Spelling.{Spelled, act_of, has_words, head_of, key_of, kind_of, returns, spelled_of, spelled_of_words, time_at, value_of}
@@ -31,7 +31,7 @@ use Rattle.history_text.proofs.WordTexts.{first_holds, plain, stamp_reads, end_r
 
 -- ---- words that are parted by spaces
 
--- a word and others behind it, each behind a space
+-- a word and others after it, each after a space
 abbrev pub joined : List ℕ → List (List ℕ) → List ℕ
 joined word [] = word
 joined word (next ∷ words) = word ++ 32 ∷ joined next words
@@ -76,7 +76,7 @@ joined_within word (next ∷ words) all =
     let others = joined_within next words (second_so (is_word word) (list_all is_word (next ∷ words)) all) in
     list_all-append within word (32 ∷ joined next words) ∙ and_from (list_all within word) (list_all within (joined next words)) first others
 
--- the bytes of words, with one behind each
+-- the bytes of words, with one after each
 abbrev pub total : List (List ℕ) → ℕ
 total [] = 0
 total (word ∷ words) = length word + (1 + total words)
@@ -110,7 +110,7 @@ act_words key Remove = codes "remove" ∷ key ∷ []
 act_words key (Hit value moment) = codes "hit" ∷ key ∷ word_of value ∷ time_words 0 moment
 act_words key Miss = codes "miss" ∷ key ∷ []
 
--- the words behind the caller
+-- the words after the caller
 abbrev pub call_words : Call → List (List ℕ)
 call_words call = decimal call.start ∷ end_text call.end ∷ act_words (word_of call.key) call.act
 
@@ -192,13 +192,13 @@ act_removes : (words : List (List ℕ)) → act_of kinds.Remove words ≡ Ok Rem
 unfolding act_of
 act_removes words = refl
 
-head_reads : (name key : List ℕ) (rest : List (List ℕ)) (start end : ℕ) (text : List ℕ) (kind : Kind) → has_number start ≡ true → (has_number end || (end == never)) ≡ true → kind_of text ≡ Ok kind → has_words kind (length (name ∷ decimal start ∷ end_text end ∷ text ∷ key ∷ rest)) ≡ true → (returns kind && (end == never)) ≡ false → head_of (name ∷ decimal start ∷ end_text end ∷ text ∷ key ∷ rest) ≡ Ok (record { start = start; end = end; kind = kind })
+head_reads : (name key : List ℕ) (rest : List (List ℕ)) (start end : ℕ) (text : List ℕ) (kind : LineKind) → has_number start ≡ true → (has_number end || (end == never)) ≡ true → kind_of text ≡ Ok kind → has_words kind (length (name ∷ decimal start ∷ end_text end ∷ text ∷ key ∷ rest)) ≡ true → (returns kind && (end == never)) ≡ false → head_of (name ∷ decimal start ∷ end_text end ∷ text ∷ key ∷ rest) ≡ Ok (record { start = start; end = end; kind = kind })
 unfolding head_of
 head_reads name key rest start end text kind starts ends is counted done =
     rw (stamp_reads start starts, end_reads end ends, is, counted, done) refl
 
--- words spell a call where each does
-words_spell : (name key : List ℕ) (rest : List (List ℕ)) (start end : ℕ) (text : List ℕ) (kind : Kind) (act : Act) → head_of (name ∷ decimal start ∷ end_text end ∷ text ∷ word_of key ∷ rest) ≡ Ok (record { start = start; end = end; kind = kind }) → key_of (word_of key) ≡ Ok key → act_of kind (name ∷ decimal start ∷ end_text end ∷ text ∷ word_of key ∷ rest) ≡ Ok act → spelled_of_words (name ∷ decimal start ∷ end_text end ∷ text ∷ word_of key ∷ rest) ≡ Ok (record { caller = name; start = start; end = end; key = key; act = act })
+-- words spell a call if each does
+words_spell : (name key : List ℕ) (rest : List (List ℕ)) (start end : ℕ) (text : List ℕ) (kind : LineKind) (act : Act) → head_of (name ∷ decimal start ∷ end_text end ∷ text ∷ word_of key ∷ rest) ≡ Ok (record { start = start; end = end; kind = kind }) → key_of (word_of key) ≡ Ok key → act_of kind (name ∷ decimal start ∷ end_text end ∷ text ∷ word_of key ∷ rest) ≡ Ok act → spelled_of_words (name ∷ decimal start ∷ end_text end ∷ text ∷ word_of key ∷ rest) ≡ Ok (record { caller = name; start = start; end = end; key = key; act = act })
 unfolding spelled_of_words
 words_spell name key rest start end text kind act head keyed acted = rw (head, keyed, acted) refl
 

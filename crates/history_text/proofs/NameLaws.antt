@@ -50,7 +50,7 @@ within p (x ∷ xs) = elim (cases_Bool (p x)) [
   | inr other ↦ let rest = within p xs in rw other (omega (arith, rest))
 ]
 
--- a name that is new goes behind the others
+-- a name that is new goes after the others
 pub grown : {A : Type 0} (name : List ℕ) (keys new : List (Vec ℕ A)) (value : Vec ℕ A) → value.items ≡ name → list_any (is name) keys ≡ false → new ≡ cond (list_any (is value.items) keys) keys (keys ++ value ∷ []) → names_of new ≡ noted (names_of keys) name
 grown name keys new value same absent made =
     let no : list_any (is value.items) keys ≡ false = ap (λ n. list_any (is n) keys) same ∙ absent in

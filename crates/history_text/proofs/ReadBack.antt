@@ -181,7 +181,7 @@ last_number callers ns c = stays callers c ∙ kept_all (met callers c) ns c (is
 abbrev caller_of : Call → ℕ
 caller_of call = call.caller
 
--- so many calls were read
+-- some calls were read, with these lines and callers
 abbrev state : List Call → List ℕ → List ℕ → Text
 state calls lines callers = record { calls = calls; lines = lines; callers = map name_of callers }
 
@@ -207,7 +207,7 @@ lines_next call calls is =
     let whole : text_line call ++ rest ≡ line call ++ 10 ∷ rest = ap (λ bytes. bytes ++ rest) (line_is call) ∙ append_assoc (line call) (10 ∷ []) rest in
     ap lines_of whole ∙ line_first (line call) rest is.within
 
--- what is read of the calls that are left, behind those that were read
+-- what is read of the calls that are left, after those that were read
 goes : (after calls : List Call) (lines callers : List ℕ) (number : ℕ) → Met callers → All IsTold after → length calls + length after ≤ 268435456 → number ≡ length calls + 1 → text_from (state calls lines callers) number (lines_of (written None after)) ≡ Ok (state (calls ++ map (numbered (fold met callers (map caller_of after))) after) (lines ++ range_with_len number (length after)) (fold met callers (map caller_of after)))
 goes [] calls lines callers number is told room at =
     ap₂ (λ (cs : List Call) (ls : List ℕ). Ok (state cs ls callers)) (sym (append-nil calls)) (sym (append-nil lines))

@@ -8,11 +8,11 @@ use Rattle.script_words.specs.declared.read_line_fault.ReadLineFault.TheVariants
 use Rattle.script_words.specs.Lines.{Ahead, feeds, lines_of, first_line, after_line as behind_line}
 use Rattle.script_words.proofs.public_laws.NextLine.{feeds-append, next_lines}
 use Rattle.trace_file.specs.declared.call.Call.{Call}
-use Rattle.history_text.specs.declared.cause.Cause.{Cause}
-use Rattle.history_text.specs.declared.cause.Cause.TheVariants as causes
+use Rattle.history_text.specs.declared.line_cause.LineCause.{LineCause}
+use Rattle.history_text.specs.declared.line_cause.LineCause.TheVariants as causes
 use Rattle.history_text.specs.declared.bad_line.BadLine.{BadLine}
-use Rattle.history_text.specs.declared.line_fault.LineFault.{LineFault}
-use Rattle.history_text.specs.declared.line_fault.LineFault.TheVariants as taking
+use Rattle.history_text.specs.declared.text_fault.TextFault.{TextFault}
+use Rattle.history_text.specs.declared.text_fault.TextFault.TheVariants as taking
 use Rattle.history_text.specs.declared.read_text_fault.ReadTextFault.{ReadTextFault}
 use Rattle.history_text.specs.declared.read_text_fault.ReadTextFault.TheVariants.{ReadFault}
 use Rattle.history_text.specs.Outcome.{IsFaultOf, Left, fault_at, of_read_line}
@@ -25,7 +25,7 @@ abbrev pub Spells : Option (List ℕ) → Option (List ℕ) → Text → ℕ →
 Spells all left text number =
     IfSome all (λ bytes. IsSomeAnd left (λ rest. text_of bytes ≡ text_from text number (lines_of rest)))
 
-abbrev pub bad : ℕ → Cause → BadLine
+abbrev pub bad : ℕ → LineCause → BadLine
 bad number cause = record { number = number; cause = cause }
 
 pub starts : (all : Option (List ℕ)) → Spells all (prepend_known [] all) no_text 1
@@ -33,10 +33,10 @@ starts None = tt
 starts (Some bytes) = refl
 
 -- what the rest spells is what its first line and then the others spell
-next : (text : Text) (number : ℕ) (rest line : List ℕ) (said : Result Text Cause) → rest ≢ [] → line ≡ first_line rest → after_line text number line ≡ said → text_from text number (lines_of rest) ≡ by_line number said (λ t. text_from t (suc number) (lines_of (behind_line rest)))
+next : (text : Text) (number : ℕ) (rest line : List ℕ) (said : Result Text LineCause) → rest ≢ [] → line ≡ first_line rest → after_line text number line ≡ said → text_from text number (lines_of rest) ≡ by_line number said (λ t. text_from t (suc number) (lines_of (behind_line rest)))
 next text number rest line said some is gives =
     ap (text_from text number) (next_lines rest some)
-    ∙ ap (λ (r : Result Text Cause). by_line number r (λ t. text_from t (suc number) (lines_of (behind_line rest)))) (ap (after_line text number) (sym is) ∙ gives)
+    ∙ ap (λ (r : Result Text LineCause). by_line number r (λ t. text_from t (suc number) (lines_of (behind_line rest)))) (ap (after_line text number) (sym is) ∙ gives)
 
 pub goes_on : (all left new : Option (List ℕ)) (text other : Text) (number : ℕ) (line : List ℕ) → Spells all left text number → GivesLine left Line line new → after_line text number line ≡ Ok other → Spells all new other (number + 1)
 goes_on None left new text other number line spells given gives = tt
@@ -49,13 +49,13 @@ goes_on (Some bytes) (Some rest) (Some more) text other number line spells given
     let on : text_of bytes ≡ text_from other (number + 1) (lines_of (behind_line rest)) = rw add-one whole in
     on ∙ ap (λ xs. text_from other (number + 1) (lines_of xs)) (sym same)
 
-pub stops : (all left new : Option (List ℕ)) (text : Text) (number : ℕ) (line : List ℕ) (cause : Cause) → Spells all left text number → GivesLine left Line line new → after_line text number line ≡ Err cause → IfSome all (λ bytes. text_of bytes ≡ Err (bad number cause))
+pub stops : (all left new : Option (List ℕ)) (text : Text) (number : ℕ) (line : List ℕ) (cause : LineCause) → Spells all left text number → GivesLine left Line line new → after_line text number line ≡ Err cause → IfSome all (λ bytes. text_of bytes ≡ Err (bad number cause))
 stops None left new text number line cause spells given gives = tt
 stops (Some bytes) None new text number line cause spells given gives = absurd spells
 stops (Some bytes) (Some rest) new text number line cause spells given gives =
     spells ∙ next text number rest line (Err cause) given.0 given.1 gives
 
-pub stops_at : (all left new : Option (List ℕ)) (text : Text) (number : ℕ) (line : List ℕ) (fault : LineFault) → Spells all left text number → GivesLine left Line line new → IsSaid (after_line text number line) fault → IfSome all (λ bytes. IsFaultOf bytes (fault_at number fault))
+pub stops_at : (all left new : Option (List ℕ)) (text : Text) (number : ℕ) (line : List ℕ) (fault : TextFault) → Spells all left text number → GivesLine left Line line new → IsSaid (after_line text number line) fault → IfSome all (λ bytes. IsFaultOf bytes (fault_at number fault))
 stops_at all left new text number line (taking.Bad cause) spells given said = stops all left new text number line cause spells given said
 stops_at None left new text number line taking.OutOfMemory spells given said = tt
 stops_at (Some bytes) left new text number line taking.OutOfMemory spells given said = tt
@@ -136,7 +136,7 @@ off_more all left unread ahead number off takes =
     }
 
 -- a bad line is not before the first one
-by_line_least : (number : ℕ) (said : Result Text Cause) (rest : Text → Result Text BadLine) (first : BadLine) → ((t : Text) → rest t ≡ Err first → suc number ≤ first.number) → by_line number said rest ≡ Err first → number ≤ first.number
+by_line_least : (number : ℕ) (said : Result Text LineCause) (rest : Text → Result Text BadLine) (first : BadLine) → ((t : Text) → rest t ≡ Err first → suc number ≤ first.number) → by_line number said rest ≡ Err first → number ≤ first.number
 by_line_least number (Ok t) rest first later is = let more = later t is in omega (arith, more)
 by_line_least number (Err cause) rest first later is =
     let same : bad number cause ≡ first = cc in
@@ -157,7 +157,7 @@ good (Some bytes) None text number count spells low = absurd spells
 good (Some bytes) (Some rest) text number count spells low =
     passed count number (text_of bytes) low (λ first is. least text number (lines_of rest) first (sym spells ∙ is))
 
-pub not_read : (number : ℕ) (fault : LineFault) → fault_at number fault ≡ ReadFault → ⊥
+pub not_read : (number : ℕ) (fault : TextFault) → fault_at number fault ≡ ReadFault → ⊥
 not_read number (taking.Bad cause) is = cc
 not_read number taking.OutOfMemory is = cc
 

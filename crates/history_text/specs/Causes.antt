@@ -1,12 +1,12 @@
--- What is told of a bad line.
+-- What is reported of a bad line.
 use Rattle.std.specs.Prelude.{List, ◌++◌, ℕ, codes}
 use Rattle.std.specs.Fmt.{decimal}
 use Rattle.history_text.specs.declared.bad_line.BadLine.{BadLine}
-use Rattle.history_text.specs.declared.cause.Cause.{Cause}
-use Rattle.history_text.specs.declared.cause.Cause.TheVariants.{TooLong, TooManyLines, NotWords, BadStart, BadEnd, BadKind, WrongCount, NoReturn, BadKeyCode, BadKeyLen, BadValueCode, BadValueLen, BadExpiry, BadMoment, TooManyCalls, TooManyCallers}
+use Rattle.history_text.specs.declared.line_cause.LineCause.{LineCause}
+use Rattle.history_text.specs.declared.line_cause.LineCause.TheVariants.{TooLong, TooManyLines, NotWords, BadStart, BadEnd, BadKind, WrongCount, NoReturn, BadKeyCode, BadKeyLen, BadValueCode, BadValueLen, BadExpiry, BadMoment, TooManyCalls, TooManyCallers}
 
 -- the message of a cause: what is wrong, and what is wanted
-abbrev pub cause_text : Cause → List ℕ
+abbrev pub cause_text : LineCause → List ℕ
 cause_text TooLong = codes "the line is too long: a line has at most 8192 bytes"
 cause_text TooManyLines = codes "too many lines: a text has at most 4294967295"
 cause_text NotWords = codes "a line has five to seven words of printable ASCII, separated by single spaces: CALLER START END put|hit|miss|remove KEY [VALUE [TIME]]"

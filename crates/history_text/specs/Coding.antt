@@ -15,7 +15,7 @@ abbrev pub is_coded : List ℕ → Bool
 is_coded [] = true
 is_coded (b ∷ rest) = (not (b == 37) || starts_pair rest) && is_coded rest
 
--- the bytes that a word writes, none where a % of it stands before no two hexadecimal digits; - writes no bytes
+-- the bytes that a word writes, none if a % of it stands before no two hexadecimal digits; - writes no bytes
 unfoldable pub bytes_of : List ℕ → Option (List ℕ)
 bytes_of word = if bytes_eq word (codes "-") then Some [] else (if is_coded word then Some (percent_decode word) else None)
 

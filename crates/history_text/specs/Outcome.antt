@@ -4,9 +4,9 @@ use Rattle.std.specs.Io.KnownBytes.{Consumes}
 use Rattle.script_words.specs.declared.read_line_fault.ReadLineFault as line_faults
 use Rattle.script_words.specs.declared.read_line_fault.ReadLineFault.TheVariants as line
 use Rattle.script_words.specs.Lines.{feeds}
-use Rattle.history_text.specs.declared.cause.Cause.TheVariants.{TooManyCallers}
-use Rattle.history_text.specs.declared.line_fault.LineFault.{LineFault}
-use Rattle.history_text.specs.declared.line_fault.LineFault.TheVariants as taking
+use Rattle.history_text.specs.declared.line_cause.LineCause.TheVariants.{TooManyCallers}
+use Rattle.history_text.specs.declared.text_fault.TextFault.{TextFault}
+use Rattle.history_text.specs.declared.text_fault.TextFault.TheVariants as taking
 use Rattle.history_text.specs.declared.read_text_fault.ReadTextFault.{ReadTextFault}
 use Rattle.history_text.specs.declared.read_text_fault.ReadTextFault.TheVariants.{Bad, ReadFault, OutOfMemory}
 use Rattle.history_text.specs.Text.{text_of}
@@ -17,12 +17,12 @@ of_read_line line.OutOfMemory = OutOfMemory
 of_read_line line.ReadFault = ReadFault
 
 -- the fault of a text by that of the line with this number
-abbrev pub fault_at : ℕ → LineFault → ReadTextFault
+abbrev pub fault_at : ℕ → TextFault → ReadTextFault
 fault_at number (taking.Bad cause) = Bad (record { number = number; cause = cause })
 fault_at number taking.OutOfMemory = OutOfMemory
 
 -- a caller of this number is refused: there are too many, or memory is
-abbrev pub IsRefused : ℕ → LineFault → Type 0
+abbrev pub IsRefused : ℕ → TextFault → Type 0
 IsRefused number (taking.Bad cause) = (cause ≡ TooManyCallers) × (65536 ≤ number)
 IsRefused number taking.OutOfMemory = Unit {0}
 
@@ -32,7 +32,7 @@ IsFaultOf bytes (Bad bad) = text_of bytes ≡ Err bad
 IsFaultOf bytes ReadFault = Unit {0}
 IsFaultOf bytes OutOfMemory = Unit {0}
 
--- what was read of a text that has a fault: whole lines, none of them bad, and at most 12,288 bytes behind those. At a failed read no line of the latter is whole, so a bad line that was read is told first
+-- what was read of a text that has a fault: whole lines, none of them bad, and at most 12,288 bytes after those. At a failed read no line of the latter is whole, so a bad line that was read is reported first
 pub record Left (old new : Option (List ℕ)) (fault : ReadTextFault) : Type 0 where
   pub lines : List ℕ
   pub ahead : List ℕ

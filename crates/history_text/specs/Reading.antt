@@ -10,7 +10,7 @@ use Rattle.script_words.specs.Lines.{Ahead, GivesNext, feeds}
 abbrev pub IsAhead : Ahead → Option (List ℕ) → Type 0
 IsAhead ahead unread = ahead.over ≡ true → IsAtEnd unread
 
--- what was taken is the first line of the bytes that were left, where those are known
+-- what was taken is the first line of the bytes that were left, if those are known
 abbrev pub GivesLine : Option (List ℕ) → LineRead → List ℕ → Option (List ℕ) → Type 0
 GivesLine left read line rest = IfSome left (λ bytes. GivesNext 8192 bytes read line rest)
 
@@ -21,7 +21,7 @@ pub record TakesOff (left : Option (List ℕ)) (ahead : List ℕ) (unread : Opti
   pub few : length (front ++ ahead) ≤ 12288
   pub one : feeds front ≤ 1
 
--- nothing was taken of the bytes that were left, and where a read failed no line of what was read ahead is whole
+-- nothing was taken of the bytes that were left, and if a read failed no line of what was read ahead is whole
 pub record TakesNone (left : Option (List ℕ)) (ahead : List ℕ) (unread : Option (List ℕ)) (fault : ReadLineFault) : Type 0 where
   pub keeps : Keeps left (prepend_known ahead unread)
   pub few : length ahead ≤ 12288

@@ -14,7 +14,7 @@ pub record IsTold (call : Call) : Type 0 where
   pub value : All (λ b. b < 256) (value_of call.act)
   pub has : has_text call ≡ true
 
--- the callers, with this one behind them where it is new
+-- the callers, with this one after them if it is new
 abbrev pub met : List ℕ → ℕ → List ℕ
 met callers caller = if list_any (λ other. caller == other) callers then callers else callers ++ caller ∷ []
 

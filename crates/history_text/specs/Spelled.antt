@@ -2,16 +2,16 @@
 use Rattle.std.specs.Prelude.{◌≡◌, ℕ, List, Result, Err}
 use Rattle.trace_file.specs.declared.act.Act.{Act}
 use Rattle.trace_file.specs.declared.act.Act.TheVariants as acts
-use Rattle.history_text.specs.declared.cause.Cause.{Cause}
-use Rattle.history_text.specs.declared.kind.Kind.{Kind}
-use Rattle.history_text.specs.declared.kind.Kind.TheVariants.{Put, Hit, Miss, Remove}
-use Rattle.history_text.specs.declared.line_fault.LineFault.{LineFault}
-use Rattle.history_text.specs.declared.line_fault.LineFault.TheVariants.{Bad, OutOfMemory}
+use Rattle.history_text.specs.declared.line_cause.LineCause.{LineCause}
+use Rattle.history_text.specs.declared.line_kind.LineKind.{LineKind}
+use Rattle.history_text.specs.declared.line_kind.LineKind.TheVariants.{Put, Hit, Miss, Remove}
+use Rattle.history_text.specs.declared.text_fault.TextFault.{TextFault}
+use Rattle.history_text.specs.declared.text_fault.TextFault.TheVariants.{Bad, OutOfMemory}
 use Rattle.history_text.specs.declared.spelling.Spelling.{Spelling}
 use Rattle.history_text.specs.Spelling.{Spelled}
 
--- the act of a kind, with the value and the time where it has them
-abbrev pub act_by : Kind → List ℕ → ℕ → Act
+-- the act of a kind, with the value and the time if it has them
+abbrev pub act_by : LineKind → List ℕ → ℕ → Act
 act_by Put value time = acts.Put value time
 act_by Hit value time = acts.Hit value time
 act_by Miss value time = acts.Miss
@@ -28,6 +28,6 @@ spelled_by s key value = record {
 }
 
 -- the fault is the cause that the definitions give, want of memory aside
-abbrev pub IsSaid : {A : Type 0} → Result A Cause → LineFault → Type 0
+abbrev pub IsSaid : {A : Type 0} → Result A LineCause → TextFault → Type 0
 IsSaid said (Bad cause) = said ≡ Err cause
 IsSaid said OutOfMemory = Unit {0}

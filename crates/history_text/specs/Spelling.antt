@@ -5,20 +5,20 @@ use Rattle.record_pages.specs.Expiry.{never}
 use Rattle.script_words.specs.Words.{words_of, number_below}
 use Rattle.trace_file.specs.declared.act.Act.{Act}
 use Rattle.trace_file.specs.declared.act.Act.TheVariants as acts
-use Rattle.history_text.specs.declared.cause.Cause.{Cause}
-use Rattle.history_text.specs.declared.cause.Cause.TheVariants.{NotWords, BadStart, BadEnd, BadKind, WrongCount, NoReturn, BadKeyCode, BadKeyLen, BadValueCode, BadValueLen, BadExpiry, BadMoment}
-use Rattle.history_text.specs.declared.kind.Kind.{Kind}
-use Rattle.history_text.specs.declared.kind.Kind.TheVariants.{Put, Hit, Miss, Remove}
-use Rattle.history_text.specs.declared.head.Head.{Head}
+use Rattle.history_text.specs.declared.line_cause.LineCause.{LineCause}
+use Rattle.history_text.specs.declared.line_cause.LineCause.TheVariants.{NotWords, BadStart, BadEnd, BadKind, WrongCount, NoReturn, BadKeyCode, BadKeyLen, BadValueCode, BadValueLen, BadExpiry, BadMoment}
+use Rattle.history_text.specs.declared.line_kind.LineKind.{LineKind}
+use Rattle.history_text.specs.declared.line_kind.LineKind.TheVariants.{Put, Hit, Miss, Remove}
+use Rattle.history_text.specs.declared.line_head.LineHead.{LineHead}
 use Rattle.history_text.specs.Coding.{bytes_of}
 
 infixl 10 ◌>>=◌
-abbrev pub ◌>>=◌ : {A B : Type 0} → Result A Cause → (A → Result B Cause) → Result B Cause
+abbrev pub ◌>>=◌ : {A B : Type 0} → Result A LineCause → (A → Result B LineCause) → Result B LineCause
 (Ok x) >>= f = f x
 (Err e) >>= f = Err e
 
--- the value where the test holds, else the cause
-abbrev pub where_so : {A : Type 0} → Bool → A → Cause → Result A Cause
+-- the value if the test holds, otherwise the cause
+abbrev pub where_so : {A : Type 0} → Bool → A → LineCause → Result A LineCause
 where_so test x cause = if test then Ok x else Err cause
 
 -- the word of a line at an index
@@ -30,33 +30,33 @@ abbrev pub stamp_of : List ℕ → Option ℕ
 stamp_of text = number_below (2 ^ 63) text
 
 -- an end: - of what never returned, which precedes nothing
-unfoldable pub end_of : List ℕ → Result ℕ Cause
+unfoldable pub end_of : List ℕ → Result ℕ LineCause
 end_of text = if bytes_eq text (codes "-") then Ok never else ok_or (stamp_of text) BadEnd
 
 -- what a call did, without its value and time
-abbrev pub kind_of : List ℕ → Result Kind Cause
+abbrev pub kind_of : List ℕ → Result LineKind LineCause
 kind_of text =
     if bytes_eq text (codes "put") then Ok Put
     else (if bytes_eq text (codes "hit") then Ok Hit
     else (if bytes_eq text (codes "miss") then Ok Miss
     else (if bytes_eq text (codes "remove") then Ok Remove else Err BadKind)))
 
--- a line of a kind can have so many words: the last, a time, may be left out
-abbrev pub has_words : Kind → ℕ → Bool
+-- a line of a kind can have this many words: the last, a time, may be left out
+abbrev pub has_words : LineKind → ℕ → Bool
 has_words Put count = (count == 6) || (count == 7)
 has_words Hit count = (count == 6) || (count == 7)
 has_words Miss count = count == 5
 has_words Remove count = count == 5
 
 -- a call of this kind is known by what it returned
-abbrev pub returns : Kind → Bool
+abbrev pub returns : LineKind → Bool
 returns Put = false
 returns Hit = true
 returns Miss = true
 returns Remove = false
 
 -- start, end and kind
-unfoldable pub head_of : List (List ℕ) → Result Head Cause
+unfoldable pub head_of : List (List ℕ) → Result LineHead LineCause
 head_of words = do
   start ← ok_or (stamp_of (word words 1)) BadStart
   end ← end_of (word words 2)
@@ -65,23 +65,23 @@ head_of words = do
   where_so (not (returns kind && (end == never))) (record { start = start; end = end; kind = kind }) NoReturn
 
 -- a key of 1 to 255 bytes
-unfoldable pub key_of : List ℕ → Result (List ℕ) Cause
+unfoldable pub key_of : List ℕ → Result (List ℕ) LineCause
 key_of text = do
   bytes ← ok_or (bytes_of text) BadKeyCode
   where_so (nat_lt 0 (length bytes) && nat_le (length bytes) 255) bytes BadKeyLen
 
 -- a value of at most 2,048 bytes
-unfoldable pub value_of : List ℕ → Result (List ℕ) Cause
+unfoldable pub value_of : List ℕ → Result (List ℕ) LineCause
 value_of text = do
   bytes ← ok_or (bytes_of text) BadValueCode
   where_so (nat_le (length bytes) 2048) bytes BadValueLen
 
--- the time of the seventh word, or another where there is no such word
-unfoldable pub time_at : List (List ℕ) → ℕ → Cause → Result ℕ Cause
+-- the time of the seventh word, or another if there is no such word
+unfoldable pub time_at : List (List ℕ) → ℕ → LineCause → Result ℕ LineCause
 time_at words other cause = if nat_le (length words) 6 then Ok other else ok_or (stamp_of (word words 6)) cause
 
--- what the call did. Where no time is named, a put never expires, and a hit was at 0
-unfoldable pub act_of : Kind → List (List ℕ) → Result Act Cause
+-- what the call did. If no time is named, a put never expires, and a hit was at 0
+unfoldable pub act_of : LineKind → List (List ℕ) → Result Act LineCause
 act_of Put words = do
   value ← value_of (word words 5)
   expires ← time_at words never BadExpiry
@@ -102,7 +102,7 @@ pub record Spelled : Type 0 where
   pub act : Act
 
 -- CALLER START END, and put KEY VALUE [EXPIRES], hit KEY VALUE [MOMENT], miss KEY, or remove KEY
-unfoldable pub spelled_of_words : List (List ℕ) → Result Spelled Cause
+unfoldable pub spelled_of_words : List (List ℕ) → Result Spelled LineCause
 spelled_of_words words = do
   head ← head_of words
   key ← key_of (word words 4)
@@ -114,7 +114,7 @@ abbrev pub line_words : List ℕ → Option (List (List ℕ))
 line_words line = option_and_then (λ words. if nat_le 5 (length words) && nat_le (length words) 7 then Some words else None) (words_of line)
 
 -- the call that a line spells
-unfoldable pub spelled_of : List ℕ → Result Spelled Cause
+unfoldable pub spelled_of : List ℕ → Result Spelled LineCause
 spelled_of line = do
   words ← ok_or (line_words line) NotWords
   spelled_of_words words

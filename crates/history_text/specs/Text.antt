@@ -5,8 +5,8 @@ use Rattle.std.specs.Str.{bytes_eq}
 use Rattle.trace_file.specs.declared.call.Call.{Call}
 use Rattle.script_words.specs.Lines.{lines_of}
 use Rattle.history_text.specs.declared.bad_line.BadLine.{BadLine}
-use Rattle.history_text.specs.declared.cause.Cause.{Cause}
-use Rattle.history_text.specs.declared.cause.Cause.TheVariants.{TooLong, TooManyLines, TooManyCalls, TooManyCallers}
+use Rattle.history_text.specs.declared.line_cause.LineCause.{LineCause}
+use Rattle.history_text.specs.declared.line_cause.LineCause.TheVariants.{TooLong, TooManyLines, TooManyCalls, TooManyCallers}
 use Rattle.history_text.specs.Spelling.{Spelled, spelled_of, ◌>>=◌}
 
 -- a history, with the line of each call, and its callers' names in the order in which they first appear
@@ -23,11 +23,11 @@ text_by calls lines callers = record { calls = calls; lines = lines; callers = c
 abbrev pub no_text : Text
 no_text = record { calls = []; lines = []; callers = [] }
 
--- a caller's number: the index of the name, or how many there are where it is new
+-- a caller's number: the index of the name, or how many there are if it is new
 unfoldable pub number_of : List (List ℕ) → List ℕ → ℕ
 number_of callers name = position_or_len (bytes_eq name) callers
 
--- the names, with this one behind them where it is new
+-- the names, with this one after them if it is new
 unfoldable pub noted : List (List ℕ) → List ℕ → List (List ℕ)
 noted callers name = if list_any (bytes_eq name) callers then callers else callers ++ name ∷ []
 
@@ -35,8 +35,8 @@ noted callers name = if list_any (bytes_eq name) callers then callers else calle
 abbrev pub call_by : ℕ → Spelled → Call
 call_by caller s = record { caller = caller; start = s.start; end = s.end; key = s.key; act = s.act }
 
--- the text with one call more, which stands on this line, where there is room for it
-unfoldable pub recorded : Text → ℕ → Spelled → Result Text Cause
+-- the text with one call more, which stands on this line, if there is room for it
+unfoldable pub recorded : Text → ℕ → Spelled → Result Text LineCause
 recorded text number s =
     let caller = number_of text.callers s.caller in
     if nat_lt (length text.calls) 268435456
@@ -51,15 +51,15 @@ is_passed_over [] = true
 is_passed_over (b ∷ rest) = b == 35
 
 -- the text with one line more, of this number
-unfoldable pub after_line : Text → ℕ → List ℕ → Result Text Cause
+unfoldable pub after_line : Text → ℕ → List ℕ → Result Text LineCause
 after_line text number line =
     if nat_lt 8192 (length line) then Err TooLong
     else (if nat_lt 4294967295 number then Err TooManyLines
     else (if is_passed_over line then Ok text
     else (spelled_of line >>= recorded text number)))
 
--- what is spelled behind a line: its cause where it is bad, else what the rest is
-abbrev pub by_line : ℕ → Result Text Cause → (Text → Result Text BadLine) → Result Text BadLine
+-- what is spelled after a line: its cause if it is bad, otherwise what the rest is
+abbrev pub by_line : ℕ → Result Text LineCause → (Text → Result Text BadLine) → Result Text BadLine
 by_line number (Ok text) rest = rest text
 by_line number (Err cause) rest = Err (record { number = number; cause = cause })
 

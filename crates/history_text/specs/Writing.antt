@@ -18,7 +18,7 @@ use Rattle.history_text.specs.Coding.{word_of}
 abbrev pub has_number : ℕ → Bool
 has_number n = nat_lt n (2 ^ 63)
 
--- the end of a put or a removal has a text, also where it never returned
+-- the end of a put or a removal has a text, also if it never returned
 abbrev pub has_end : ℕ → Bool
 has_end n = has_number n || (n == never)
 
@@ -57,7 +57,7 @@ hit_text front key value moment =
 abbrev pub bare_text : List ℕ → List ℕ → List ℕ → List ℕ
 bare_text front kind key = front ++ codes " " ++ kind ++ codes " " ++ key ++ codes "\n"
 
--- the line of what a call did, behind what it begins with and its key's word
+-- the line of what a call did, after what it begins with and its key's word
 abbrev pub act_text : List ℕ → List ℕ → Act → List ℕ
 act_text front key (Put value expires) = put_text front key (word_of value) expires
 act_text front key Remove = bare_text front (codes "remove") key
@@ -68,7 +68,7 @@ act_text front key Miss = bare_text front (codes "miss") key
 abbrev pub text_line : Call → List ℕ
 text_line call = act_text (text_front call.caller call.start call.end) (word_of call.key) call.act
 
--- a key is one of those that are asked for: the one that is named, or each where none is
+-- a key is one of those that are asked for: the one that is named, or each if none is
 abbrev pub is_chosen : Option (List ℕ) → List ℕ → Bool
 is_chosen (Some only) key = bytes_eq only key
 is_chosen None key = true
@@ -77,7 +77,7 @@ is_chosen None key = true
 abbrev pub named : Option (Bor (List ℕ)) → Option (List ℕ)
 named only = option_map (λ key. key.now) only
 
--- the line of a call, where its key is asked for
+-- the line of a call, if its key is asked for
 unfoldable pub line_where : Option (List ℕ) → Call → List ℕ
 line_where only call = if is_chosen only call.key then text_line call else []
 
@@ -85,7 +85,7 @@ line_where only call = if is_chosen only call.key then text_line call else []
 abbrev pub written : Option (List ℕ) → List Call → List ℕ
 written only calls = flat_map (line_where only) calls
 
--- a call has a text, where its key is asked for
+-- a call has a text, if its key is asked for
 abbrev pub HasTextWhere : Option (List ℕ) → Call → Type 0
 HasTextWhere only call = is_chosen only call.key ≡ true → has_text call ≡ true
 

@@ -1,7 +1,7 @@
 // The first line of a text that spells no call of its history.
 ghost use Rattle.std.specs.Prelude.{◌≡◌, Some};
 
-use crate::cause::Cause;
+use crate::line_cause::LineCause;
 use std::fmt;
 
 /// The first bad line of a text, and why it is bad.
@@ -10,7 +10,7 @@ pub struct BadLine {
     /// The number of the line; the first line has the number 1.
     pub number: u64,
     /// Why it is bad.
-    pub cause: Cause,
+    pub cause: LineCause,
 }
 
 impl fmt::Display for BadLine {

@@ -4,8 +4,8 @@ ghost use Rattle.history_text.specs.Names.{names_of};
 ghost use Rattle.history_text.specs.Text.{number_of, noted};
 ghost use Rattle.history_text.specs.Outcome.{IsRefused};
 
-use crate::cause::Cause;
-use crate::line_fault::LineFault;
+use crate::line_cause::LineCause;
+use crate::text_fault::TextFault;
 use indexmap::IndexSet;
 use std::alloc::Global;
 use std::hash::BuildHasher;
@@ -67,8 +67,8 @@ impl<S: BuildHasher> Callers<S> {
         }
     }
 
-    /// The number of a caller by its name, which is noted where it is new.
-    pub(crate) fn number(&mut self, alloc: Global, name: &[u8]) -> Result<u16, LineFault>
+    /// The number of a caller by its name, which is noted if it is new.
+    pub(crate) fn number(&mut self, alloc: Global, name: &[u8]) -> Result<u16, TextFault>
         ensures number { IfOk result (λ number. number ≡ number_of self.old name.now) }
         ensures noted { IfOk result (λ number. self.new ≡ noted self.old name.now) }
         ensures few { IfOk result (λ number. number < 65536) }
@@ -79,13 +79,13 @@ impl<S: BuildHasher> Callers<S> {
         }
         let number = self.names.len();
         if number >= MAX_CALLERS {
-            return Err(LineFault::Bad(Cause::TooManyCallers));
+            return Err(TextFault::Bad(LineCause::TooManyCallers));
         }
         let Ok(name) = Vec::from_slice(alloc, name) else {
-            return Err(LineFault::OutOfMemory);
+            return Err(TextFault::OutOfMemory);
         };
         let Ok(_) = self.names.insert(name) else {
-            return Err(LineFault::OutOfMemory);
+            return Err(TextFault::OutOfMemory);
         };
         Ok(number as u16)
     }

@@ -32,7 +32,7 @@ fn is_coded(word: &[u8]) -> bool
     true
 }
 
-/// Puts the bytes that a word writes in place of those of `bytes`, and says whether it writes some: where a `%` stands before
+/// Puts the bytes that a word writes in place of those of `bytes`, and says whether it writes some: if a `%` stands before
 /// no two hexadecimal digits, it does not.
 #[tactic(auto, unfolding(crate::specs::Coding::bytes_of))]
 pub(crate) fn decode(word: &[u8], bytes: &mut Vec<u8>) -> Result<bool, AllocError>

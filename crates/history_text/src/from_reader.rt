@@ -5,11 +5,11 @@ ghost use Rattle.history_text.specs.Text.{text_by, text_of};
 ghost use Rattle.history_text.specs.Outcome.{IsFaultOf, Left, fault_at};
 
 use crate::bad_line::BadLine;
-use crate::cause::Cause;
-use crate::line_fault::LineFault;
+use crate::line_cause::LineCause;
 use crate::lines::{MAX_TEXT_LINE_LEN, next_line};
-use crate::parts::Parts;
+use crate::pair_bytes::PairBytes;
 use crate::read_text_fault::ReadTextFault;
+use crate::text_fault::TextFault;
 use crate::text_history::TextHistory;
 use script_words::{LineRead, ReadAhead};
 use std::alloc::Global;
@@ -36,14 +36,14 @@ pub fn read_text<S: BuildHasher + Drop, R: Read>(
     ensures end { OnOk result (IsAtEnd (R.remaining reader.new)) }
 {
     let mut text = TextHistory::new(alloc, hash_builder);
-    let mut parts = Parts::new(alloc);
+    let mut parts = PairBytes::new(alloc);
     let mut ahead: ReadAhead<MAX_TEXT_LINE_LEN> = ReadAhead::new(alloc);
     let mut line = Vec::new(alloc);
     for number in 1..u64::MAX {
         match next_line(reader, &mut ahead, &mut line) {
             Ok(LineRead::Line) => {}
             Ok(LineRead::TooLong) => {
-                let cause = Cause::TooLong;
+                let cause = LineCause::TooLong;
                 return Err(ReadTextFault::Bad(BadLine { number, cause }));
             }
             Ok(LineRead::End) => return Ok(text),
@@ -58,11 +58,11 @@ pub fn read_text<S: BuildHasher + Drop, R: Read>(
 }
 
 /// The fault of a text whose line with this number was not taken.
-fn fault_at(number: u64, fault: LineFault) -> ReadTextFault
+fn fault_at(number: u64, fault: TextFault) -> ReadTextFault
     ensures { result ≡ fault_at number fault }
 {
     match fault {
-        LineFault::Bad(cause) => ReadTextFault::Bad(BadLine { number, cause }),
-        LineFault::OutOfMemory => ReadTextFault::OutOfMemory,
+        TextFault::Bad(cause) => ReadTextFault::Bad(BadLine { number, cause }),
+        TextFault::OutOfMemory => ReadTextFault::OutOfMemory,
     }
 }

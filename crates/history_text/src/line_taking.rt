@@ -5,12 +5,12 @@ ghost use Rattle.history_text.specs.Spelling.{stamp_of, end_of, has_words, head_
 ghost use Rattle.history_text.specs.Spelled.{IsSaid, act_by, spelled_by};
 ghost use Rattle.history_text.specs.Text.{is_passed_over};
 
-use crate::cause::Cause;
 use crate::coding::decode;
-use crate::head::Head;
-use crate::kind::Kind;
-use crate::line_fault::LineFault;
+use crate::line_cause::LineCause;
+use crate::line_head::LineHead;
+use crate::line_kind::LineKind;
 use crate::spelling::Spelling;
+use crate::text_fault::TextFault;
 use arrayvec::ArrayVec;
 use record_pages::{Key, NEVER, Value};
 use script_words::{MAX_WORDS, time, words_in};
@@ -18,7 +18,7 @@ use script_words::{MAX_WORDS, time, words_in};
 /// The fewest words of a line: caller, start, end, kind and key.
 const FEWEST: usize = 5;
 
-/// The most words of a line: a value and a time stand behind them.
+/// The most words of a line: a value and a time stand after them.
 const MOST: usize = 7;
 
 /// The first stamp that no word writes.
@@ -63,7 +63,7 @@ fn stamp(word: &[u8]) -> Option<u64>
 }
 
 /// The stamp that a word writes, or why it writes none.
-fn stamp_or(word: &[u8], cause: Cause) -> Result<u64, Cause>
+fn stamp_or(word: &[u8], cause: LineCause) -> Result<u64, LineCause>
     ensures { result ≡ ok_or (stamp_of word.now) cause }
 {
     match stamp(word) {
@@ -74,69 +74,69 @@ fn stamp_or(word: &[u8], cause: Cause) -> Result<u64, Cause>
 
 /// The end that a word writes: of what never returned there is none before the last stamp.
 #[tactic(auto, unfolding(crate::specs::Spelling::end_of))]
-fn end(word: &[u8]) -> Result<u64, Cause>
+fn end(word: &[u8]) -> Result<u64, LineCause>
     ensures { result ≡ end_of word.now }
 {
     if word == b"-".as_slice() {
         return Ok(NEVER);
     }
-    stamp_or(word, Cause::BadEnd)
+    stamp_or(word, LineCause::BadEnd)
 }
 
-/// The first words of a line behind its caller, or the first of them that is bad.
+/// The first words of a line after its caller, or the first of them that is bad.
 #[tactic(auto, unfolding(crate::specs::Spelling::head_of))]
-fn head_of(words: &[&[u8]]) -> Result<Head, Cause>
+fn head_of(words: &[&[u8]]) -> Result<LineHead, LineCause>
     requires { 5 ≤ length words.now }
     ensures value { result ≡ head_of (map (λ w. w.now) words.now) }
     ensures counted { IfOk result (λ head. IsTrue (has_words head.kind (length words.now))) }
 {
-    let start = stamp_or(words[1], Cause::BadStart)?;
+    let start = stamp_or(words[1], LineCause::BadStart)?;
     let end = end(words[2])?;
-    let kind = Kind::of(words[3])?;
+    let kind = LineKind::of(words[3])?;
     if !kind.has_words(words.len()) {
-        return Err(Cause::WrongCount);
+        return Err(LineCause::WrongCount);
     }
     if kind.returns() && end == NEVER {
-        return Err(Cause::NoReturn);
+        return Err(LineCause::NoReturn);
     }
-    Ok(Head { start, end, kind })
+    Ok(LineHead { start, end, kind })
 }
 
 /// Puts the bytes of a key's word in place of those of `bytes`.
 #[tactic(auto, unfolding(crate::specs::Spelling::key_of))]
-pub(crate) fn take_key(word: &[u8], bytes: &mut Vec<u8>) -> Result<(), LineFault>
+pub(crate) fn take_key(word: &[u8], bytes: &mut Vec<u8>) -> Result<(), TextFault>
     ensures ok { OnOk result (key_of word.now ≡ Ok bytes.new.items) }
     ensures key { OnOk result (IsKey bytes.new.items) }
     ensures bad { IfErr result (IsSaid (key_of word.now)) }
 {
     if !decode(word, bytes)? {
-        return Err(LineFault::Bad(Cause::BadKeyCode));
+        return Err(TextFault::Bad(LineCause::BadKeyCode));
     }
     if bytes.is_empty() || bytes.len() > Key::MAX_LEN {
-        return Err(LineFault::Bad(Cause::BadKeyLen));
+        return Err(TextFault::Bad(LineCause::BadKeyLen));
     }
     Ok(())
 }
 
 /// Puts the bytes of a value's word in place of those of `bytes`.
 #[tactic(auto, unfolding(crate::specs::Spelling::value_of))]
-fn take_value(word: &[u8], bytes: &mut Vec<u8>) -> Result<(), LineFault>
+fn take_value(word: &[u8], bytes: &mut Vec<u8>) -> Result<(), TextFault>
     ensures ok { OnOk result (value_of word.now ≡ Ok bytes.new.items) }
     ensures value { OnOk result (IsValue bytes.new.items) }
     ensures bad { IfErr result (IsSaid (value_of word.now)) }
 {
     if !decode(word, bytes)? {
-        return Err(LineFault::Bad(Cause::BadValueCode));
+        return Err(TextFault::Bad(LineCause::BadValueCode));
     }
     if bytes.len() > Value::MAX_LEN {
-        return Err(LineFault::Bad(Cause::BadValueLen));
+        return Err(TextFault::Bad(LineCause::BadValueLen));
     }
     Ok(())
 }
 
-/// The time that the seventh word writes, or another one where there is no such word.
+/// The time that the seventh word writes, or another one if there is no such word.
 #[tactic(auto, unfolding(crate::specs::Spelling::time_at))]
-fn time_at(words: &[&[u8]], other: u64, cause: Cause) -> Result<u64, Cause>
+fn time_at(words: &[&[u8]], other: u64, cause: LineCause) -> Result<u64, LineCause>
     ensures { result ≡ time_at (map (λ w. w.now) words.now) other cause }
 {
     if words.len() <= 6 {
@@ -148,22 +148,22 @@ fn time_at(words: &[&[u8]], other: u64, cause: Cause) -> Result<u64, Cause>
 /// Puts the bytes of the value that a line of this kind names in place of those of `bytes`, and answers the time that it
 /// names. The value of a kind that has none is empty, and its time 0.
 #[tactic(auto, unfolding(crate::specs::Spelling::act_of), using(crate::proofs::Saying::said_on))]
-fn take_act(kind: Kind, words: &[&[u8]], bytes: &mut Vec<u8>) -> Result<u64, LineFault>
+fn take_act(kind: LineKind, words: &[&[u8]], bytes: &mut Vec<u8>) -> Result<u64, TextFault>
     requires { IsTrue (has_words kind (length words.now)) }
     ensures ok { IfOk result (λ time. act_of kind (map (λ w. w.now) words.now) ≡ Ok (act_by kind bytes.new.items time)) }
     ensures value { OnOk result (IsValue bytes.new.items) }
     ensures bad { IfErr result (IsSaid (act_of kind (map (λ w. w.now) words.now))) }
 {
     match kind {
-        Kind::Put => {
+        LineKind::Put => {
             take_value(words[5], bytes)?;
-            Ok(time_at(words, NEVER, Cause::BadExpiry)?)
+            Ok(time_at(words, NEVER, LineCause::BadExpiry)?)
         }
-        Kind::Hit => {
+        LineKind::Hit => {
             take_value(words[5], bytes)?;
-            Ok(time_at(words, 0, Cause::BadMoment)?)
+            Ok(time_at(words, 0, LineCause::BadMoment)?)
         }
-        Kind::Miss | Kind::Remove => {
+        LineKind::Miss | LineKind::Remove => {
             bytes.clear();
             Ok(0)
         }
@@ -176,14 +176,14 @@ pub(crate) fn take_line<'a>(
     line: &'a [u8],
     key: &mut Vec<u8>,
     value: &mut Vec<u8>,
-) -> Result<Spelling<'a>, LineFault>
+) -> Result<Spelling<'a>, TextFault>
     ensures ok { IfOk result (λ s. spelled_of line.now ≡ Ok (spelled_by s key.new.items value.new.items)) }
     ensures key { OnOk result (IsKey key.new.items) }
     ensures value { OnOk result (IsValue value.new.items) }
     ensures bad { IfErr result (IsSaid (spelled_of line.now)) }
 {
     let Some(words) = line_words(line) else {
-        return Err(LineFault::Bad(Cause::NotWords));
+        return Err(TextFault::Bad(LineCause::NotWords));
     };
     let head = head_of(&words)?;
     take_key(words[4], key)?;

@@ -2,11 +2,11 @@
 ghost use Rattle.std.specs.Prelude.{◌≡◌, ◌≢◌, ◌<◌, ◌≤◌, ◌^◌, Ok, length, IfOk, IfErr, OnOk};
 
 use crate::callers::Callers;
-use crate::cause::Cause;
-use crate::line_fault::LineFault;
+use crate::line_cause::LineCause;
 use crate::line_taking::{is_passed_over, take_line};
-use crate::parts::Parts;
+use crate::pair_bytes::PairBytes;
 use crate::spelling::Spelling;
+use crate::text_fault::TextFault;
 use std::alloc::Global;
 use std::hash::BuildHasher;
 use trace_file::{CallRef, History};
@@ -51,8 +51,8 @@ impl<S: BuildHasher> TextHistory<S> {
         alloc: Global,
         number: u64,
         line: &[u8],
-        parts: &mut Parts,
-    ) -> Result<(), LineFault>
+        parts: &mut PairBytes,
+    ) -> Result<(), TextFault>
         requires { length line.now ≤ 8192 }
         ensures ok { OnOk result (
             after_line (text_by self.old.history self.old.lines.items self.old.callers) number line.now
@@ -64,7 +64,7 @@ impl<S: BuildHasher> TextHistory<S> {
             → OnOk result (length self.new.lines.items ≡ length self.new.history) }
     {
         if number > MAX_LINES {
-            return Err(LineFault::Bad(Cause::TooManyLines));
+            return Err(TextFault::Bad(LineCause::TooManyLines));
         }
         if is_passed_over(line) {
             return Ok(());
@@ -86,8 +86,8 @@ impl<S: BuildHasher> TextHistory<S> {
         alloc: Global,
         number: u32,
         spelling: &Spelling<'_>,
-        parts: &Parts,
-    ) -> Result<(), LineFault>
+        parts: &PairBytes,
+    ) -> Result<(), TextFault>
         requires key { IsKey parts.now.key.items }
         requires value { IsValue parts.now.value.items }
         ensures ok { OnOk result (
@@ -101,7 +101,7 @@ impl<S: BuildHasher> TextHistory<S> {
             → OnOk result (length self.new.lines.items ≡ length self.new.history) }
     {
         if self.history.len() >= MAX_CALLS {
-            return Err(LineFault::Bad(Cause::TooManyCalls));
+            return Err(TextFault::Bad(LineCause::TooManyCalls));
         }
         let caller = self.callers.number(alloc, spelling.caller)?;
         let act = spelling.head.kind.act(&parts.value, spelling.time);
@@ -114,7 +114,7 @@ impl<S: BuildHasher> TextHistory<S> {
         );
         self.history.push_ref(&call)?;
         let Ok(()) = self.lines.push(number) else {
-            return Err(LineFault::OutOfMemory);
+            return Err(TextFault::OutOfMemory);
         };
         Ok(())
     }

@@ -94,7 +94,7 @@ fn bare_text(alloc: Global, front: &str, kind: &str, key: &str) -> Result<String
     format!(in alloc; "{front} {kind} {key}\n")
 }
 
-/// The line of what a call did, behind what it begins with.
+/// The line of what a call did, after what it begins with.
 fn act_text(alloc: Global, front: &str, key: &str, act: &ActRef<'_>) -> Result<String, AllocError>
     ensures { IfOk result (λ text. string_bytes text ≡ act_text front.now key.now (act_shown act.now)) }
 {
@@ -124,7 +124,7 @@ fn text_line(alloc: Global, call: &CallRef<'_>) -> Result<String, AllocError>
     }
 }
 
-/// Whether a key is one whose calls are written: each is, where none is named.
+/// Whether a key is one whose calls are written: each is, if none is named.
 fn is_chosen(only: Option<&[u8]>, key: &[u8]) -> bool
     ensures { result ≡ is_chosen (named only.entry) key.now }
 {
@@ -134,7 +134,7 @@ fn is_chosen(only: Option<&[u8]>, key: &[u8]) -> bool
     }
 }
 
-/// Writes the line of the call at a position, where its key is one of those that are written.
+/// Writes the line of the call at a position, if its key is one of those that are written.
 #[tactic(auto, unfolding(crate::specs::Writing::line_where))]
 fn write_call<W: Write>(
     alloc: Global,
@@ -162,7 +162,7 @@ fn write_call<W: Write>(
     }
 }
 
-/// Writes the calls of a history as text, each on a line, those of one key alone where one is named. Caller N is called `cN`.
+/// Writes the calls of a history as text, each on a line, those of one key alone if one is named. Caller N is called `cN`.
 ///
 /// A call with a stamp or a time of 2^63 or more has no text, but for an expiry of never and the end of a put or a removal that
 /// never returned. It writes once a line, so give it a writer with a buffer, and it flushes nothing.

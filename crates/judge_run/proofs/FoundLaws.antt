@@ -70,7 +70,7 @@ module _ (lines positions : List ℕ) (i : ℕ) (lt : i < length positions) wher
       ∙ ap ascending (filter_map-append (slice_get lines) (take i positions) (get_or positions i 0 ∷ []))
       ∙ fold-append put_in [] (lines_at lines (take i positions)) (lines_at lines (get_or positions i 0 ∷ []))
 
--- the line of one position, where there is one
+-- the line of one position, if there is one
 pub line_here : (lines told : List ℕ) (p : ℕ) → p < length lines → put_in told (get_or lines p 0) ≡ fold put_in told (lines_at lines (p ∷ []))
 line_here lines told p lt = let at = slice_get-get_or lines p 0 lt in rw at refl
 

@@ -1,4 +1,4 @@
--- What is told of a trace, by what is told of the pair that was read.
+-- The report on a trace, by that on the pair that was read.
 use Rattle.std.proofs.Common.{◌≡◌, ◌≢◌, ℕ, Bool, true, false, List, [], ◌∷◌, ◌++◌, ◌∙◌, length, codes, Option, refl, sym, ap, subst}
 use Rattle.std.proofs.lemmas.List.{append-nil}
 use Rattle.std.proofs.lemmas.List.Sums.{fold-append}
@@ -20,7 +20,7 @@ use Rattle.judge_run.specs.declared.outcome.Outcome.{Outcome}
 use Rattle.judge_run.specs.declared.outcome.Outcome.TheVariants.{Accepted, Rejected, Undecided, BadLine, BadTrace}
 use Rattle.judge_run.specs.declared.rejection.Rejection.{Rejection}
 use Rattle.judge_run.specs.Answers.{answered, begun, why_row}
-use Rattle.judge_run.specs.Told.{IsBehind}
+use Rattle.judge_run.specs.JudgeReport.{IsBehind}
 use Rattle.judge_run.specs.TraceRows.{bad_trace_rows, check_rows}
 use Rattle.judge_run.specs.TraceTold.{IsBegunBy, IsPairTold, IsTraceTold, bad_trace_answer}
 use Rattle.judge_run.proofs.RowLaws.{rows_on_fault, rows_on_trace}
@@ -30,7 +30,7 @@ alone : (form : Form) (line : List ℕ) (rows : List Row) (told : List ℕ) → 
 alone Lines line rows told is = ([], is ∙ sym (append-nil (line ++ codes "\n")))
 alone Json line rows told is = ([], is ∙ ap (text_of_rows Json) (sym (append-nil rows)))
 
--- what is told of a rejection begins so
+-- the report on a rejection begins so
 begins : (form : Form) (explain : Bool) (rejection : Rejection) (line : List ℕ) (rows : List Row) (told : List ℕ) → IsBehind form explain rejection (begun form (line ++ codes "\n") rows) told → IsBegunBy form line rows told
 begins Lines true rejection line rows told is = (is.why, is.text_is)
 begins Json true rejection line rows told is =

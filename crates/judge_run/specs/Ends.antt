@@ -23,7 +23,7 @@ end_of_shown showing.Whole = ends.Done
 end_of_shown (showing.BadTrace fault) = ends.BadInput
 end_of_shown (showing.TooLate position) = ends.BadInput
 
--- how it ends if not all was told
+-- how it ends if not all was reported
 abbrev pub end_of_fault : TellFault → JudgeEnd
 end_of_fault OutOfMemory = ends.OutOfMemory
 end_of_fault ReadFault = ends.FileFault

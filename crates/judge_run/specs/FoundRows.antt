@@ -25,7 +25,7 @@ rejected_rows calls lines witness =
     ∷ row (codes "lines") (numbers (ascending (lines_at lines (witness_positions witness))))
     ∷ []
 
--- that so many hits are undecided
+-- that this many hits are undecided
 abbrev pub undecided_rows : ℕ → List Row
 undecided_rows hits = verdict_row (codes "undecided") ∷ row (codes "hits") (number hits) ∷ []
 

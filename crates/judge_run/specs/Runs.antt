@@ -2,9 +2,9 @@
 use Rattle.std.specs.Prelude.{◌≡◌, ◌≢◌, ◌⊎◌, ℕ, Bool, List, Option, Some, None, Ok}
 use Rattle.std.specs.Io.KnownBytes.{Keeps}
 use Rattle.figures.specs.declared.form.Form.{Form}
-use Rattle.history_text.specs.declared.cause.Cause.{Cause}
-use Rattle.history_text.specs.declared.line_fault.LineFault.{LineFault}
-use Rattle.history_text.specs.declared.line_fault.LineFault.TheVariants.{Bad}
+use Rattle.history_text.specs.declared.line_cause.LineCause.{LineCause}
+use Rattle.history_text.specs.declared.text_fault.TextFault.{TextFault}
+use Rattle.history_text.specs.declared.text_fault.TextFault.TheVariants.{Bad}
 use Rattle.history_text.specs.Spelled.{IsSaid}
 use Rattle.history_text.specs.Spelling.{key_of}
 use Rattle.judge_run.specs.declared.outcome.Outcome.{Outcome}
@@ -14,7 +14,7 @@ use Rattle.judge_run.specs.Showing.{HasShown}
 use Rattle.judge_run.specs.TextTold.{ToldText}
 use Rattle.judge_run.specs.TraceTold.{ToldTrace}
 
--- what was told of a text of these bytes was written, and the status is that of what came of judging it
+-- the report on a text of these bytes was written, and the status is that of its outcome
 pub record JudgedOn (form : Form) (known : Option (List ℕ)) (explain : Bool) (old new : Option (List ℕ)) (status : ℕ) : Type 0 where
   pub outcome : Outcome
   pub status_is : status ≡ status_of (end_of_outcome outcome)
@@ -32,7 +32,7 @@ pub record JudgedWith (form : Form) (explain : Bool) (old new : Option (List ℕ
 abbrev pub IsJudgeRun : Form → Bool → Option (List ℕ) → Option (List ℕ) → ℕ → Type 0
 IsJudgeRun form explain old new status = status ≢ 3 → JudgedWith form explain old new status
 
--- what was told of a trace of these bytes, of which those are left, was written, and the status is that of what came of judging it
+-- the report on a trace of these bytes, of which those are left, was written, and the status is that of its outcome
 pub record CheckedOn (form : Form) (known left : Option (List ℕ)) (explain : Bool) (old new : Option (List ℕ)) (status : ℕ) : Type 0 where
   pub outcome : Outcome
   pub status_is : status ≡ status_of (end_of_outcome outcome)
@@ -57,7 +57,7 @@ IsAskedFor None only = only ≡ None
 IsAskedFor (Some word) only = (key : List ℕ) × (key_of word ≡ Ok key) × (only ≡ Some key)
 
 -- the word writes no key, for this cause, or memory was refused
-abbrev pub IsNotAskedFor : Option (List ℕ) → LineFault → Type 0
+abbrev pub IsNotAskedFor : Option (List ℕ) → TextFault → Type 0
 IsNotAskedFor None fault = ⊥
 IsNotAskedFor (Some word) fault = IsSaid (key_of word) fault
 
@@ -75,7 +75,7 @@ pub record ShownOn (known word old new : Option (List ℕ)) (status : ℕ) : Typ
 
 -- the word writes no key, for this cause, and nothing was written
 pub record ShownNothing (word old new : Option (List ℕ)) (status : ℕ) : Type 0 where
-  pub cause : Cause
+  pub cause : LineCause
   pub none : IsNotAskedFor word (Bad cause)
   pub status_is : status ≡ 2
   pub kept : Keeps old new

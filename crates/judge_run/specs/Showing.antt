@@ -19,20 +19,20 @@ use Rattle.judge_run.specs.declared.tell_fault.TellFault.TheVariants.{OutOfMemor
 abbrev pub bad_trace_text : TraceFault → List ℕ
 bad_trace_text fault = bad_trace_line fault ++ codes "\n"
 
--- the bytes, where they are known, are a trace whose calls of the keys that are asked for were all written
+-- the bytes, if they are known, are a trace whose calls of the keys that are asked for were all written
 pub record ShownWhole (known only old new : Option (List ℕ)) : Type 0 where
   pub trace : Trace
   pub read : IfSome known (λ bytes. IsTrace bytes trace.history trace.certificate)
   pub have : All (HasTextWhere only) trace.history
   pub wrote : Appends old new (written only trace.history)
 
--- the bytes, where they are known, are no trace for this reason, whose line was written
+-- the bytes, if they are known, are no trace for this reason, whose line was written
 pub record ShownBad (known : Option (List ℕ)) (fault : TraceFault) (old new : Option (List ℕ)) : Type 0 where
   pub other : fault ≢ faults.OutOfMemory
   pub read : IfSome known (λ bytes. IsFaultOf bytes fault)
   pub wrote : Appends old new (bad_trace_text fault)
 
--- the bytes, where they are known, are a trace of which the call at this position is the first that is asked for and has no text; those before it were written
+-- the bytes, if they are known, are a trace of which the call at this position is the first that is asked for and has no text; those before it were written
 pub record ShownBefore (known only old new : Option (List ℕ)) (position : ℕ) : Type 0 where
   pub trace : Trace
   pub read : IfSome known (λ bytes. IsTrace bytes trace.history trace.certificate)
@@ -63,18 +63,18 @@ pub record BeganShowing (known only old new : Option (List ℕ)) : Type 0 where
   pub is : ShowsTrace known only text ⊎ ShowsBad known text
   pub began : Begun old new text
 
--- memory was refused before the first line, or behind the lines of some of the trace's first calls
+-- memory was refused before the first line, or after the lines of some of the trace's first calls
 pub data StoppedShowing (known only old new : Option (List ℕ)) : Type 0 where
   Unread : Keeps old new → StoppedShowing known only old new
   Behind : (trace : Trace) → IfSome known (λ bytes. IsTrace bytes trace.history trace.certificate) → WroteBefore only trace.history old new writing.OutOfMemory → StoppedShowing known only old new
 
--- what was written where not all was shown; a failed read is told as a bad trace
+-- what was written if not all was shown; a failed read is reported as a bad trace
 abbrev pub IsUnshown : Option (List ℕ) → Option (List ℕ) → Option (List ℕ) → Option (List ℕ) → TellFault → Type 0
 IsUnshown known only old new OutOfMemory = StoppedShowing known only old new
 IsUnshown known only old new ReadFault = ⊥
 IsUnshown known only old new WriteFault = BeganShowing known only old new
 
--- what was written where the line of a bad trace was not told
+-- what was written if the line of a bad trace was not written
 abbrev pub IsBadTraceUntold : TraceFault → Option (List ℕ) → Option (List ℕ) → TellFault → Type 0
 IsBadTraceUntold fault old new OutOfMemory = Keeps old new
 IsBadTraceUntold fault old new ReadFault = ⊥

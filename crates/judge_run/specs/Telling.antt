@@ -22,7 +22,7 @@ put_in (t ∷ ts) n = if nat_lt n t then n ∷ t ∷ ts else (if n == t then t �
 abbrev pub ascending : List ℕ → List ℕ
 ascending numbers = fold put_in [] numbers
 
--- the write that replaced a put, where that is why it was not read
+-- the write that replaced a put, if that is why it was not read
 abbrev pub excuse_positions : Excuse → List ℕ
 excuse_positions Later = []
 excuse_positions Expired = []
@@ -62,11 +62,11 @@ first_position (Crossed one other) = one.write
 abbrev pub key_at : List Call → ℕ → List ℕ
 key_at calls position = unwrap_or (option_map (λ call. call.key) (slice_get calls position)) []
 
--- numbers, each behind a space
+-- numbers, each after a space
 abbrev pub spaced : List ℕ → List ℕ
 spaced numbers = flat_map (λ n. codes " " ++ decimal n) numbers
 
--- what is told of calls, which stand on these lines, with the line feed
+-- what is said of calls, which stand on these lines, with the line feed
 abbrev pub verdict_text : List Call → List ℕ → Found → List ℕ
 verdict_text calls lines (Accepted certificate) = codes "accepted " ++ decimal (length calls) ++ codes " calls\n"
 verdict_text calls lines (Rejected witness) =

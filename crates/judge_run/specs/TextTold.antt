@@ -1,4 +1,4 @@
--- What is told of a history that was written as text.
+-- The report on a history that was written as text.
 use Rattle.std.specs.Prelude.{◌≡◌, ℕ, Bool, List, [], ◌∷◌, ◌++◌, length, codes, Option, IfSome, Ok, Err}
 use Rattle.std.specs.Fmt.{decimal}
 use Rattle.std.specs.Io.KnownBytes.{Appends, Keeps}
@@ -26,13 +26,13 @@ use Rattle.judge_run.specs.declared.rejection.Rejection.{Rejection}
 use Rattle.judge_run.specs.declared.tell_fault.TellFault.{TellFault}
 use Rattle.judge_run.specs.declared.tell_fault.TellFault.TheVariants.{OutOfMemory, ReadFault, WriteFault}
 use Rattle.judge_run.specs.Answers.{answered, begun}
-use Rattle.judge_run.specs.Told.{IsBehind}
+use Rattle.judge_run.specs.JudgeReport.{IsBehind}
 
--- the line of a history of so many calls that is accepted
+-- the line of a history of this many calls that is accepted
 abbrev pub accepted_text : ℕ → List ℕ
 accepted_text calls = codes "accepted " ++ decimal calls ++ codes " calls\n"
 
--- the line of a history with so many hits of which it was not decided what they read
+-- the line of a history with this many undecided hits
 abbrev pub undecided_text : ℕ → List ℕ
 undecided_text hits = codes "undecided " ++ decimal hits ++ codes " hits\n"
 
@@ -44,7 +44,7 @@ bad_text bad = bad_line_text bad ++ codes "\n"
 abbrev pub bad_line_rows : bad_lines.BadLine → List Row
 bad_line_rows bad = verdict_row (codes "bad line") ∷ row (codes "line") (number bad.number) ∷ row (codes "cause") (word (cause_text bad.cause)) ∷ []
 
--- the answer to a history of so many calls that is accepted
+-- the answer to a history of this many calls that is accepted
 abbrev pub accepted_answer : Form → ℕ → List ℕ
 accepted_answer form calls = answered form (accepted_text calls) (calls_row calls ∷ verdict_row (codes "accepted") ∷ [])
 
@@ -56,7 +56,7 @@ found_begun form calls lines found = begun form (verdict_text calls lines found)
 abbrev pub rejected_begun : Form → Text → Witness → List ℕ
 rejected_begun form text witness = found_begun form text.calls text.lines (found.Rejected witness)
 
--- the answer to a history of so many calls with so many hits of which it was not decided what they read
+-- the answer to a history of this many calls with this many undecided hits
 abbrev pub undecided_answer : Form → ℕ → ℕ → List ℕ
 undecided_answer form calls hits = answered form (undecided_text hits) (calls_row calls ∷ undecided_rows hits)
 
@@ -64,13 +64,13 @@ undecided_answer form calls hits = answered form (undecided_text hits) (calls_ro
 abbrev pub bad_answer : Form → bad_lines.BadLine → List ℕ
 bad_answer form bad = answered form (bad_text bad) (bad_line_rows bad)
 
--- the history is accepted with this certificate, and that is told
+-- the history is accepted with this certificate, and that is reported
 pub record AcceptedTold (form : Form) (text : Text) (trace : Trace) (told : List ℕ) : Type 0 where
   pub history_is : trace.history ≡ text.calls
   pub accepted : IsAccepted text.calls trace.certificate
   pub told_is : told ≡ accepted_answer form (length text.calls)
 
--- no certificate is accepted, for this reason, and that is told, with what is wanted after it
+-- no certificate is accepted, for this reason, and that is reported, with what is wanted after it
 pub record RejectedTold (form : Form) (text : Text) (explain : Bool) (rejection : Rejection) (told : List ℕ) : Type 0 where
   pub text_is : text_by rejection.history rejection.lines.items (names_of rejection.callers.items) ≡ text
   pub witness : Witness
@@ -78,14 +78,14 @@ pub record RejectedTold (form : Form) (text : Text) (explain : Bool) (rejection 
   pub reason_is : rejection.reason ≡ reason_of witness
   pub behind : IsBehind form explain rejection (rejected_begun form text witness) told
 
--- of so many hits it was not decided what they read, and their number is told
+-- for some hits it was not decided what they read, and their number is reported
 pub record UndecidedTold (form : Form) (text : Text) (count : ℕ) (told : List ℕ) : Type 0 where
   pub hits : List ℕ
   pub are : AreUndecided text.calls hits
   pub count_is : count ≡ length hits
   pub told_is : told ≡ undecided_answer form (length text.calls) (length hits)
 
--- what is told of a history, by what came of judging it
+-- the report on a history, by the outcome of judging it
 abbrev pub IsHistoryTold : Form → Text → Bool → Outcome → List ℕ → Type 0
 IsHistoryTold form text explain (Accepted trace) told = AcceptedTold form text trace told
 IsHistoryTold form text explain (Rejected rejection) told = RejectedTold form text explain rejection told
@@ -93,18 +93,18 @@ IsHistoryTold form text explain (Undecided hits) told = UndecidedTold form text 
 IsHistoryTold form text explain (BadLine bad) told = ⊥
 IsHistoryTold form text explain (BadTrace fault) told = ⊥
 
--- the bytes, where they are known, spell a history of which this is told
+-- the bytes, if they are known, spell a history with this report
 pub record SpelledTold (form : Form) (known : Option (List ℕ)) (explain : Bool) (outcome : Outcome) (told : List ℕ) : Type 0 where
   pub text : Text
   pub read : IfSome known (λ bytes. text_of bytes ≡ Ok text)
   pub is : IsHistoryTold form text explain outcome told
 
--- the bytes, where they are known, have this first bad line, which is told
+-- the bytes, if they are known, have this first bad line, which is reported
 pub record BadTold (form : Form) (known : Option (List ℕ)) (bad : bad_lines.BadLine) (told : List ℕ) : Type 0 where
   pub read : IfSome known (λ bytes. text_of bytes ≡ Err bad)
   pub told_is : told ≡ bad_answer form bad
 
--- what is told of the bytes of a text, by what came of judging them
+-- the report on the bytes of a text, by the outcome of judging them
 abbrev pub IsTextTold : Form → Option (List ℕ) → Bool → Outcome → List ℕ → Type 0
 IsTextTold form known explain (Accepted trace) told = SpelledTold form known explain (Accepted trace) told
 IsTextTold form known explain (Rejected rejection) told = SpelledTold form known explain (Rejected rejection) told
@@ -112,20 +112,20 @@ IsTextTold form known explain (Undecided hits) told = SpelledTold form known exp
 IsTextTold form known explain (BadLine bad) told = BadTold form known bad told
 IsTextTold form known explain (BadTrace fault) told = ⊥
 
--- what is told of a text was written, and nothing else
+-- the report on a text alone was written
 pub record ToldText (form : Form) (known : Option (List ℕ)) (explain : Bool) (outcome : Outcome) (old new : Option (List ℕ)) : Type 0 where
   pub told : List ℕ
   pub is : IsTextTold form known explain outcome told
   pub wrote : Appends old new told
 
--- of what is told of a text a front was written, and not all of it
+-- of the report on a text a front was written, and not all of it
 pub record BeganText (form : Form) (known : Option (List ℕ)) (explain : Bool) (old new : Option (List ℕ)) : Type 0 where
   pub outcome : Outcome
   pub told : List ℕ
   pub is : IsTextTold form known explain outcome told
   pub began : Begun old new told
 
--- if nothing was told of a text, or not all, nothing was written, or a front
+-- if a text was not reported, or not whole, nothing was written, or a front
 abbrev pub IsTextUntold : Form → Option (List ℕ) → Bool → Option (List ℕ) → Option (List ℕ) → TellFault → Type 0
 IsTextUntold form known explain old new OutOfMemory = Keeps old new
 IsTextUntold form known explain old new ReadFault = Keeps old new

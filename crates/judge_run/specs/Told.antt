@@ -1,4 +1,4 @@
--- What is told after the verdict of a history that is rejected.
+-- What is reported after the verdict of a history that is rejected.
 use Rattle.std.specs.Prelude.{◌≡◌, ℕ, Bool, true, false, List}
 use Rattle.figures.specs.declared.form.Form.{Form}
 use Rattle.figures.specs.Figures.{ended}

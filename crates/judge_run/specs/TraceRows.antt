@@ -13,7 +13,7 @@ use Rattle.trace_file.specs.declared.trace_fault.TraceFault.{TraceFault}
 use Rattle.trace_file.specs.declared.trace_fault.TraceFault.TheVariants.{BadMagic, TooMany, BadKind, BadKey, BadValue, Truncated, TrailingBytes, ReadFault, OutOfMemory}
 use Rattle.trace_file.specs.Reading.{outcome_of, first_fault_of}
 
--- a verdict on so many calls
+-- a verdict on this many calls
 abbrev pub check_rows : ℕ → Verdict → List Row
 check_rows calls verdict = calls_row calls ∷ verdict_rows verdict
 
@@ -62,7 +62,7 @@ abbrev pub AreJudged : Result Trace TraceFault → Judged → List Row → Type 
 AreJudged (Ok trace) judged rows = AreVerdictRows trace judged rows
 AreJudged (Err fault) judged rows = (judged ≡ kinds.BadTrace) × (rows ≡ bad_trace_rows fault)
 
--- the rows of a read that failed after so many of these bytes, which have no fault by themselves and were taken from the reader
+-- the rows of a read that failed after some of these bytes, which have no fault by themselves and were taken from the reader
 pub record AreFailedReadRows (bytes : List ℕ) (left : Option (List ℕ)) (judged : Judged) (rows : List Row) : Type 0 where
   pub at : ℕ
   pub within : at ≤ length bytes
@@ -70,7 +70,7 @@ pub record AreFailedReadRows (bytes : List ℕ) (left : Option (List ℕ)) (judg
   pub taken : Consumes (Some bytes) left (take at bytes)
   pub are : AreJudged (Err (ReadFault at)) judged rows
 
--- the rows of the verdict on some bytes, which are the reader's where those are known; or those of a failed read in them
+-- the rows of the verdict on some bytes, which are the reader's if those are known; or those of a failed read in them
 pub record AreRowsOn (known left : Option (List ℕ)) (judged : Judged) (rows : List Row) : Type 0 where
   pub read : Result Trace TraceFault
   pub are : AreJudged read judged rows

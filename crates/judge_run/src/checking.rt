@@ -3,10 +3,10 @@ ghost use Rattle.std.specs.Prelude.{◌≡◌, ◌≢◌, IfOk, IfErr, string_by
 ghost use Rattle.judge_run.specs.TraceTold.{IsPairTold, IsRejectionOf, IsTraceTold, IsTraceUntold, ToldTrace, bad_trace_answer};
 
 use crate::answers::ended;
+use crate::judge_report::JudgeReport;
 use crate::outcome::Outcome;
 use crate::rejection::Rejection;
 use crate::tell_fault::TellFault;
-use crate::told::Told;
 use crate::trace_answers::{bad_trace_answer, verdict_begun};
 use certificate_checker::{Fault, Verdict, check_with_hasher};
 use figures::Form;
@@ -41,14 +41,14 @@ pub fn answer_check<S: BuildHasher + Drop, R: Read, W: Write>(
     }
 }
 
-/// What is told of what a reader gives.
+/// The report on a trace that a reader gives.
 fn told_trace<S: BuildHasher + Drop, R: Read>(
     alloc: Global,
     hash_builder: S,
     form: Form,
     explain: bool,
     reader: &mut R,
-) -> Result<Told, AllocError>
+) -> Result<JudgeReport, AllocError>
     ensures { IfOk result (λ told. IsTraceTold form (R.remaining reader.old)
         (R.remaining reader.new) explain told.outcome (string_bytes told.text)) }
 {
@@ -64,14 +64,14 @@ fn told_trace<S: BuildHasher + Drop, R: Read>(
     }
 }
 
-/// What is told of a trace.
+/// The report on a trace that was read.
 fn told_pair<S: BuildHasher + Drop>(
     alloc: Global,
     hash_builder: S,
     form: Form,
     trace: Trace,
     explain: bool,
-) -> Result<Told, AllocError>
+) -> Result<JudgeReport, AllocError>
     ensures { IfOk result (λ told.
         IsPairTold form trace explain told.outcome (string_bytes told.text)) }
 {
@@ -81,13 +81,13 @@ fn told_pair<S: BuildHasher + Drop>(
         Verdict::Accepted => {
             let text = ended(form, text)?;
             let outcome = Outcome::Accepted(trace);
-            Ok(Told { text, outcome })
+            Ok(JudgeReport { text, outcome })
         }
         Verdict::Rejected(fault) => {
             let rejection = rejection_of(alloc, trace, fault);
             let text = rejection.told_behind(alloc, form, text, explain)?;
             let outcome = Outcome::Rejected(rejection);
-            Ok(Told { text, outcome })
+            Ok(JudgeReport { text, outcome })
         }
     }
 }
@@ -105,12 +105,12 @@ fn rejection_of(alloc: Global, trace: Trace, fault: Fault) -> Rejection
     }
 }
 
-/// What is told of what is no trace. If memory was refused to a trace, nothing is told of it.
+/// The report on input that is no trace; `AllocError` if memory was refused while it was read.
 pub(crate) fn told_bad_trace(
     alloc: Global,
     form: Form,
     fault: TraceFault,
-) -> Result<Told, AllocError>
+) -> Result<JudgeReport, AllocError>
     ensures fault { IfOk result (λ _. fault ≢ TraceFault.OutOfMemory) }
     ensures bad { IfOk result (λ told. told.outcome ≡ Outcome.BadTrace fault) }
     ensures text { IfOk result (λ told. string_bytes told.text ≡ bad_trace_answer form fault) }
@@ -120,5 +120,5 @@ pub(crate) fn told_bad_trace(
     }
     let text = bad_trace_answer(alloc, form, fault)?;
     let outcome = Outcome::BadTrace(fault);
-    Ok(Told { text, outcome })
+    Ok(JudgeReport { text, outcome })
 }

@@ -23,7 +23,7 @@ pub enum JudgeEnd {
 }
 
 impl JudgeEnd {
-    /// How the program ends that told this.
+    /// How the program ends that reported this outcome.
     pub fn of_outcome(outcome: &Outcome) -> JudgeEnd
         ensures { result ≡ end_of_outcome outcome.now }
     {
@@ -35,7 +35,7 @@ impl JudgeEnd {
         }
     }
 
-    /// How the program ends that told nothing, or not all.
+    /// How the program ends that did not report an outcome, or not whole.
     pub fn of_fault(fault: TellFault) -> JudgeEnd
         ensures { result ≡ end_of_fault fault }
     {

@@ -6,6 +6,7 @@ ghost use Rattle.history_text.specs.Text.{text_by};
 ghost use Rattle.judge_run.specs.TextTold.{IsHistoryTold, IsTextTold, IsTextUntold, ToldText, bad_answer, rejected_begun};
 
 use crate::answers::ended;
+use crate::judge_report::JudgeReport;
 use crate::judged_text::JudgedText;
 use crate::judging_text::judge_text;
 use crate::names::copied;
@@ -13,7 +14,6 @@ use crate::outcome::Outcome;
 use crate::rejection::Rejection;
 use crate::tell_fault::TellFault;
 use crate::text_answers::{bad_answer, found_begun};
-use crate::told::Told;
 use certificate_finder::{Found, Witness};
 use figures::Form;
 use history_picture::Reason;
@@ -50,14 +50,14 @@ pub fn answer_judge<S: BuildHasher + Copy + Drop, R: Read, W: Write>(
     }
 }
 
-/// What is told of a text.
+/// The report on a text.
 fn told_text<S: BuildHasher + Copy + Drop, R: Read>(
     alloc: Global,
     hash_builder: S,
     form: Form,
     explain: bool,
     reader: &mut R,
-) -> Result<Told, TellFault>
+) -> Result<JudgeReport, TellFault>
     ensures ok { IfOk result (λ told.
         IsTextTold form (R.remaining reader.old) explain told.outcome (string_bytes told.text)) }
     ensures err { IfErr result (λ fault. fault ≢ TellFault.WriteFault) }
@@ -76,13 +76,13 @@ fn told_text<S: BuildHasher + Copy + Drop, R: Read>(
     }
 }
 
-/// What is told of a text that was judged.
+/// The report on a text that was judged.
 fn told_judged<S: BuildHasher + Drop>(
     alloc: Global,
     form: Form,
     judged: JudgedText<S>,
     explain: bool,
-) -> Result<Told, AllocError>
+) -> Result<JudgeReport, AllocError>
     requires { IsFound judged.text.history judged.found }
     ensures { IfOk result (λ told. IsHistoryTold form
         (text_by judged.text.history judged.text.lines.items judged.text.callers)
@@ -101,7 +101,7 @@ fn told_judged<S: BuildHasher + Drop>(
                 history,
                 certificate,
             });
-            Ok(Told { text, outcome })
+            Ok(JudgeReport { text, outcome })
         }
         Found::Rejected(witness) => match told_rejected(
             alloc, form, text, history, witness, explain,
@@ -112,12 +112,12 @@ fn told_judged<S: BuildHasher + Drop>(
         Found::Undecided(hits) => {
             let text = ended(form, text)?;
             let outcome = Outcome::Undecided(hits.len());
-            Ok(Told { text, outcome })
+            Ok(JudgeReport { text, outcome })
         }
     }
 }
 
-/// What is told of a history that is rejected, after the answer that was begun with its verdict.
+/// The report on a history that is rejected, after the answer that was begun with its verdict.
 fn told_rejected<S: BuildHasher + Drop>(
     alloc: Global,
     form: Form,
@@ -125,7 +125,7 @@ fn told_rejected<S: BuildHasher + Drop>(
     text: TextHistory<S>,
     witness: Witness,
     explain: bool,
-) -> Result<Told, AllocError>
+) -> Result<JudgeReport, AllocError>
     requires witness { IsWitness text.history witness }
     requires begun { string_bytes begun
         ≡ rejected_begun form (text_by text.history text.lines.items text.callers) witness }
@@ -146,15 +146,15 @@ fn told_rejected<S: BuildHasher + Drop>(
     };
     let text = rejection.told_behind(alloc, form, begun, explain)?;
     let outcome = Outcome::Rejected(rejection);
-    Ok(Told { text, outcome })
+    Ok(JudgeReport { text, outcome })
 }
 
-/// What is told of a text with a bad line.
-fn told_bad_line(alloc: Global, form: Form, bad: BadLine) -> Result<Told, AllocError>
+/// The report on a text with a bad line.
+fn told_bad_line(alloc: Global, form: Form, bad: BadLine) -> Result<JudgeReport, AllocError>
     ensures bad { IfOk result (λ told. told.outcome ≡ Outcome.BadLine bad) }
     ensures text { IfOk result (λ told. string_bytes told.text ≡ bad_answer form bad) }
 {
     let text = bad_answer(alloc, form, bad)?;
     let outcome = Outcome::BadLine(bad);
-    Ok(Told { text, outcome })
+    Ok(JudgeReport { text, outcome })
 }

@@ -5,6 +5,7 @@ mod answers;
 mod checking;
 mod inputs;
 mod judge_end;
+mod judge_report;
 mod judged_text;
 mod judging_text;
 mod judging_texts;
@@ -23,7 +24,6 @@ mod telling;
 mod telling_found;
 mod telling_rows;
 mod text_answers;
-mod told;
 mod told_lines;
 mod trace_answers;
 

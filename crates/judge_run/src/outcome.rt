@@ -1,16 +1,16 @@
-// What came of judging, besides what is told of it.
+// The outcome of judging, besides its report.
 use crate::rejection::Rejection;
 use history_text::BadLine;
 use trace_file::{Trace, TraceFault};
 
-/// What came of judging a history or a trace.
+/// The outcome of judging a history or a trace.
 #[derive(Drop)]
 pub enum Outcome {
     /// The history is accepted with this certificate.
     Accepted(Trace),
     /// The history is rejected, for this reason.
     Rejected(Rejection),
-    /// Nothing was found wrong, and so many hits can have read several puts.
+    /// Nothing was found wrong, and this many hits can have read several puts.
     Undecided(usize),
     /// The input was a text with this first bad line.
     BadLine(BadLine),

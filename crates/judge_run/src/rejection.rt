@@ -3,7 +3,7 @@ ghost use Rattle.std.specs.Prelude.{◌≡◌, IfOk, OnOk, string_bytes};
 ghost use Rattle.history_picture.specs.Names.{names_of};
 ghost use Rattle.history_picture.specs.Shown.{IsExplanation};
 ghost use Rattle.judge_run.specs.Answers.{with_why};
-ghost use Rattle.judge_run.specs.Told.{IsBehind};
+ghost use Rattle.judge_run.specs.JudgeReport.{IsBehind};
 
 use crate::answers::ended;
 use figures::{Figure, Form};
@@ -16,9 +16,9 @@ use trace_file::History;
 pub struct Rejection {
     /// The calls.
     pub history: History,
-    /// The line of each call, by its position; none where the history came as a trace.
+    /// The line of each call, by its position; none if the history came as a trace.
     pub lines: Vec<u32>,
-    /// The callers' names, by their numbers; none where the history came as a trace.
+    /// The callers' names, by their numbers; none if the history came as a trace.
     pub callers: Vec<Vec<u8>>,
     /// Why it is rejected.
     pub reason: Reason,

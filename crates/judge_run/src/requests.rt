@@ -1,4 +1,4 @@
-// What `judge`, `check` and `show` are asked.
+// What `judge`, `check` and `show` are asked to do: their three requests.
 use trace_file::FileName;
 
 /// The history that is to be judged, and what is wanted beside its verdict.

@@ -19,7 +19,7 @@ use crate::shown::Shown;
 use crate::tell_fault::TellFault;
 use crate::telling::{no_key, out_of_memory, too_late, unopened, untold, without_random};
 use figures::Form;
-use history_text::{LineFault, key_bytes};
+use history_text::{TextFault, key_bytes};
 use key_hash::RandomSeed;
 use std::alloc::Global;
 use std::fs;
@@ -31,7 +31,7 @@ use trace_file::FileName;
 /// Judges the history of a text in a file or of standard input, and answers the status that the program ends with. The tables
 /// have a seed of their own. The verdict is written to `out`, and after it why it is so, if that is wanted. Then an accepted
 /// history is written to the file of its trace, and the picture of a rejected one to its file, if they are wanted. What failed, and
-/// what to do about it, is told to `err`.
+/// what to do about it, is written to `err`.
 pub fn run_judge<R: AllocGlobal + Files + Input + RandomSource, O: Write, E: Write>(
     rt: &R,
     request: &JudgeRequest,
@@ -44,7 +44,7 @@ pub fn run_judge<R: AllocGlobal + Files + Input + RandomSource, O: Write, E: Wri
     judge_with(rt, &mut rt.reader(), request, out, err)
 }
 
-/// The same, where `stdin` is what the standard input gives. Nothing is read of it unless the request names it.
+/// The same, with `stdin` as the standard input. Nothing is read of it unless the request names it.
 pub fn judge_with<R: AllocGlobal + Files + RandomSource, I: Read, O: Write, E: Write>(
     rt: &R,
     stdin: &mut I,
@@ -94,7 +94,7 @@ fn judge_from<R: AllocGlobal + Files, I: Read, O: Write, E: Write>(
 
 /// Judges the trace in a file or of standard input, and answers the status that the program ends with. The table has a seed of its
 /// own. The verdict is written to `out`, and after it why it is so, if that is wanted. The picture of a rejected history is
-/// written to its file, if that is wanted. What failed, and what to do about it, is told to `err`.
+/// written to its file, if that is wanted. What failed, and what to do about it, is written to `err`.
 pub fn run_check<R: AllocGlobal + Files + Input + RandomSource, O: Write, E: Write>(
     rt: &R,
     request: &CheckRequest,
@@ -107,7 +107,7 @@ pub fn run_check<R: AllocGlobal + Files + Input + RandomSource, O: Write, E: Wri
     check_with(rt, &mut rt.reader(), request, out, err)
 }
 
-/// The same, where `stdin` is what the standard input gives. Nothing is read of it unless the request names it.
+/// The same, with `stdin` as the standard input. Nothing is read of it unless the request names it.
 pub fn check_with<R: AllocGlobal + Files + RandomSource, I: Read, O: Write, E: Write>(
     rt: &R,
     stdin: &mut I,
@@ -155,7 +155,7 @@ fn check_from<R: AllocGlobal + Files, I: Read, O: Write, E: Write>(
     end.status()
 }
 
-/// How the program ends after an answer to the input of a file: what is to be saved is saved, and what failed is told.
+/// How the program ends after an answer to the input of a file: what is to be saved is saved, and what failed is reported.
 fn settled<R: AllocGlobal + Files, E: Write>(
     rt: &R,
     file: &FileName,
@@ -176,7 +176,7 @@ fn settled<R: AllocGlobal + Files, E: Write>(
 }
 
 /// Writes the trace in a file or of standard input as text to `out`, and answers the status that the program ends with. If a key is
-/// asked for, only its calls are written. What failed, and what to do about it, is told to `err`.
+/// asked for, only its calls are written. What failed, and what to do about it, is written to `err`.
 pub fn run_show<R: AllocGlobal + Files + Input, O: Write + Drop, E: Write>(
     rt: &R,
     request: &ShowRequest,
@@ -189,7 +189,7 @@ pub fn run_show<R: AllocGlobal + Files + Input, O: Write + Drop, E: Write>(
     show_with(rt, &mut rt.reader(), request, &mut writer, err)
 }
 
-/// The same, where `stdin` is what the standard input gives. Nothing is read of it unless the request names it. It writes once a
+/// The same, with `stdin` as the standard input. Nothing is read of it unless the request names it. It writes once a
 /// call, so give it a writer with a buffer. It flushes it after the last call.
 pub fn show_with<R: AllocGlobal + Files, I: Read, W: Write, E: Write>(
     rt: &R,
@@ -207,8 +207,8 @@ pub fn show_with<R: AllocGlobal + Files, I: Read, W: Write, E: Write>(
 {
     let only = match asked_key(rt.alloc(), request) {
         Ok(only) => only,
-        Err(LineFault::Bad(cause)) => return no_key(err, cause).status(),
-        Err(LineFault::OutOfMemory) => return out_of_memory(err, "--key").status(),
+        Err(TextFault::Bad(cause)) => return no_key(err, cause).status(),
+        Err(TextFault::OutOfMemory) => return out_of_memory(err, "--key").status(),
     };
     let name = input_name(&request.file);
     if is_standard_input(&request.file) {
@@ -221,7 +221,7 @@ pub fn show_with<R: AllocGlobal + Files, I: Read, W: Write, E: Write>(
 }
 
 /// The key whose calls alone are asked for, if one is.
-fn asked_key(alloc: Global, request: &ShowRequest) -> Result<Option<Vec<u8>>, LineFault>
+fn asked_key(alloc: Global, request: &ShowRequest) -> Result<Option<Vec<u8>>, TextFault>
     ensures ok { IfOk result (λ only. IsAskedFor (option_map string_bytes request.now.key)
         (option_map (λ key. key.items) only)) }
     ensures err { IfErr result (IsNotAskedFor (option_map string_bytes request.now.key)) }
@@ -268,7 +268,7 @@ fn lent(key: &Option<Vec<u8>>) -> Option<&[u8]>
     }
 }
 
-/// How the program ends after what came of showing the input of this name. What there is to do about it is told.
+/// How the program ends after what came of showing the input of this name. What there is to do about it is reported.
 fn told_of<E: Write>(err: &mut E, name: &str, shown: Shown) -> JudgeEnd
     ensures { result ≡ end_of_shown shown }
 {

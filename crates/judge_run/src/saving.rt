@@ -40,7 +40,7 @@ pub(crate) fn save<R: AllocGlobal + Files, E: Write>(
     }
 }
 
-/// Writes a trace to a file, which is made if it is absent, and else emptied.
+/// Writes a trace to a file, which is made if it is absent, otherwise emptied.
 fn save_trace<R: AllocGlobal + Files, E: Write>(
     rt: &R,
     name: &FileName,
@@ -65,7 +65,7 @@ fn save_trace<R: AllocGlobal + Files, E: Write>(
     Ok(())
 }
 
-/// Draws a picture to a file, which is made if it is absent, and else emptied.
+/// Draws a picture to a file, which is made if it is absent, otherwise emptied.
 fn save_picture<R: AllocGlobal + Files, E: Write>(
     rt: &R,
     name: &FileName,

@@ -1,11 +1,11 @@
-// Why no verdict was told, or not all of it.
+// Why no verdict was reported, or not all of it.
 ghost use Rattle.std.specs.Prelude.{◌≡◌};
 ghost use Rattle.judge_run.specs.declared.tell_fault.TellFault.TheVariants.{OutOfMemory};
 
 use std::alloc::AllocError;
 use thiserror::Error;
 
-/// Why nothing was told, or not all of it.
+/// Why nothing was reported, or not all of it.
 #[derive(Clone, Copy, Debug, PartialEq, Eq, Error)]
 pub enum TellFault {
     /// Memory was refused.
@@ -14,7 +14,7 @@ pub enum TellFault {
     /// The reader failed. A failed read is not tried again.
     #[error("the input was not read whole")]
     ReadFault,
-    /// The writer failed, or took no more. It holds a front of what was to be told, and not all of it.
+    /// The writer failed, or took no more. It holds a front of the report, and not all of it.
     #[error("the output was not written whole")]
     WriteFault,
 }

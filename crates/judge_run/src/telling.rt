@@ -1,15 +1,15 @@
-// What is told on standard error of failures.
+// What is said on standard error of failures.
 ghost use Rattle.std.specs.Prelude.{◌≡◌};
 ghost use Rattle.judge_run.specs.Ends.{end_of_fault};
 
 use crate::judge_end::JudgeEnd;
 use crate::tell_fault::TellFault;
-use history_text::Cause;
+use history_text::LineCause;
 use std::io;
 use std::io::Write;
 use trace_file::FileName;
 
-/// Tells that a file was not opened, with the system's cause. What `err` refuses is not told, here and below.
+/// Tells that a file was not opened, with the system's cause. What `err` refuses is dropped, here and below.
 pub(crate) fn unopened<E: Write>(err: &mut E, name: &FileName, error: &io::Error) -> JudgeEnd
     ensures { result ≡ JudgeEnd.FileFault }
 {
@@ -59,7 +59,7 @@ pub(crate) fn out_of_memory<E: Write>(err: &mut E, name: &str) -> JudgeEnd
     JudgeEnd::OutOfMemory
 }
 
-/// Tells why no verdict on the input of this name was told, or not all of it.
+/// Tells why no verdict on the input of this name was reported, or not all of it.
 pub(crate) fn untold<E: Write>(err: &mut E, name: &str, fault: TellFault) -> JudgeEnd
     ensures { result ≡ end_of_fault fault }
 {
@@ -95,7 +95,7 @@ fn unsaid<E: Write>(err: &mut E) -> JudgeEnd
 }
 
 /// Tells why a word writes no key.
-pub(crate) fn no_key<E: Write>(err: &mut E, cause: Cause) -> JudgeEnd
+pub(crate) fn no_key<E: Write>(err: &mut E, cause: LineCause) -> JudgeEnd
     ensures { result ≡ JudgeEnd.BadInput }
 {
     let _ = write!(err, "--key: {cause}\n");

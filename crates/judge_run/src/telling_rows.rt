@@ -35,7 +35,7 @@ fn tell_rejected(
     form.tell(alloc, text, "lines", Figure::Numbers(&told))
 }
 
-/// Tells that so many hits are undecided.
+/// Tells that this many hits are undecided.
 fn tell_undecided(
     alloc: Global,
     form: Form,
@@ -77,7 +77,7 @@ fn tell_verdict<S: BuildHasher>(
 
 /// Tells what was found for the history of a text by rows: `calls`, the number of its calls, and `verdict`, which is `accepted`,
 /// `rejected` or `undecided`. After `rejected` come the `kind` of the reason, its `key` and the `lines` that it speaks of;
-/// after `undecided` comes the number of the `hits`. If memory is refused, the text is a front of what was to be told.
+/// after `undecided` comes the number of the `hits`. If memory is refused, the text is a front of the whole.
 pub fn tell_found<S: BuildHasher>(
     alloc: Global,
     form: Form,

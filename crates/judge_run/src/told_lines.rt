@@ -6,10 +6,10 @@ ghost use Rattle.judge_run.specs.Telling.{put_in, ascending, excluded_positions,
 use certificate_finder::{Excluded, Excuse, Side, Witness};
 use std::alloc::{AllocError, Global};
 
-/// The most puts of a hit that are told.
+/// The most puts of a hit that are named.
 const MOST_PUTS: usize = 8;
 
-/// Puts a position behind others.
+/// Appends a position.
 fn add(positions: &mut Vec<u32>, position: u32) -> Result<(), AllocError>
     ensures { OnOk result (positions.new.items ≡ positions.old.items ++ position ∷ []) }
 {
@@ -19,7 +19,7 @@ fn add(positions: &mut Vec<u32>, position: u32) -> Result<(), AllocError>
     }
 }
 
-/// Puts the positions of a put that was not read, and of what replaced it, behind others.
+/// Appends the positions of a put that was not read, and of what replaced it.
 fn add_excluded(positions: &mut Vec<u32>, excluded: &Excluded) -> Result<(), AllocError>
     ensures { OnOk result (positions.new.items
         ≡ positions.old.items ++ excluded_positions excluded.now) }
@@ -31,7 +31,7 @@ fn add_excluded(positions: &mut Vec<u32>, excluded: &Excluded) -> Result<(), All
     }
 }
 
-/// Puts the positions of the first few puts that were not read behind others.
+/// Appends the positions of the first few puts that were not read.
 fn add_puts(positions: &mut Vec<u32>, puts: &[Excluded]) -> Result<(), AllocError>
     ensures { OnOk result (positions.new.items
         ≡ positions.old.items ++ flat_map excluded_positions (take 8 puts.now)) }
@@ -46,7 +46,7 @@ fn add_puts(positions: &mut Vec<u32>, puts: &[Excluded]) -> Result<(), AllocErro
     Ok(())
 }
 
-/// Puts the positions of a side behind others.
+/// Appends the positions of a side.
 fn add_side(positions: &mut Vec<u32>, side: &Side) -> Result<(), AllocError>
     ensures { OnOk result (positions.new.items
         ≡ positions.old.items ++ side_positions side.now) }
@@ -93,7 +93,7 @@ fn put_in(lines: &mut Vec<u32>, line: u32) -> Result<(), AllocError>
     add(lines, line)
 }
 
-/// Puts the line of the call at a position at its place among others, where there is one.
+/// Puts the line of the call at a position at its place among others, if there is one.
 fn put_line(lines: &mut Vec<u32>, all: &[u32], position: u32) -> Result<(), AllocError>
     ensures { OnOk result (lines.new.items
         ≡ fold put_in lines.old.items (lines_at all.now (position ∷ []))) }
@@ -126,7 +126,7 @@ pub(crate) fn lines_of(
     Ok(told)
 }
 
-/// Numbers, each behind a space.
+/// Numbers, each after a space.
 pub(crate) fn spaced(alloc: Global, numbers: &[u32]) -> Result<String, AllocError>
     ensures { IfOk result (λ text. string_bytes text ≡ spaced numbers.now) }
 {

@@ -10,7 +10,7 @@ use figures::{Figure, Form, tell_verdict};
 use std::alloc::{AllocError, Global};
 use trace_file::TraceFault;
 
-/// The answer to a trace of so many calls with this verdict, begun.
+/// The answer to a trace of this many calls with this verdict, begun.
 pub(crate) fn verdict_begun(
     alloc: Global,
     form: Form,
@@ -25,7 +25,7 @@ pub(crate) fn verdict_begun(
     }
 }
 
-/// The line of a verdict on so many calls, with its line feed.
+/// The line of a verdict on this many calls, with its line feed.
 fn line_of(alloc: Global, verdict: Verdict, calls: usize) -> Result<String, AllocError>
     ensures { IfOk result (λ line. string_bytes line ≡ verdict_line verdict calls ++ codes "\n") }
 {
@@ -35,7 +35,7 @@ fn line_of(alloc: Global, verdict: Verdict, calls: usize) -> Result<String, Allo
     }
 }
 
-/// The members of a JSON object that tell a verdict on so many calls.
+/// The members of a JSON object that tell a verdict on this many calls.
 fn members_of(alloc: Global, verdict: Verdict, calls: usize) -> Result<String, AllocError>
     ensures { IfOk result (λ text. string_bytes text ≡ with_rows Form.Json [] (check_rows calls verdict)) }
 {
@@ -46,7 +46,7 @@ fn members_of(alloc: Global, verdict: Verdict, calls: usize) -> Result<String, A
     }
 }
 
-/// Tells a verdict on so many calls.
+/// Tells a verdict on this many calls.
 fn tell_check(
     alloc: Global,
     form: Form,

@@ -51,7 +51,7 @@ module _ (Y : RattleType) (L : Laws Y) where
   array n xs b o = part_at (Array (R E) n) full_share xs b o
 
 module _ (R' : RattleType) {M : Type 1} {𝓤 : Ura M} {𝓛 : Logic 𝓤} {K : Type 0} {Γ : List (Item 𝓤)} {G : Goal 𝓤 𝓛.H} where
-  -- a `Lent` is its two words and the array behind them
+  -- a `Lent` is its two words and the array after them
   pub lent_had : K → (d : (Lent.the_row R').Denot) (vs : List Val)
       → ((b o : ℕ) → vs ≡ lent_val (block_ptr b o) d.count ∷ [] → d.count < 2 ^ 32 → d.count * type_size R' < 2 ^ 63
       → Seq K 𝓛 (‵ (part_at (Array R' d.count) full_share d.values b o) ∷ Γ) G)
@@ -82,7 +82,7 @@ module _ (Y : RattleType) (L : Laws Y) {M : Type 1} {𝓤 : Ura M} (𝓛 : Logic
   abbrev from : ℕ
   from = o + n * sz (E Y L)
 
-  -- the array is a block with no room after it, or nothing where it has no elements
+  -- the array is a block with no room after it, or nothing if it has no elements
   as_block : (y : Bool) → ent 𝓤 (sem 𝓛 (array Y L n xs b o)) (sem 𝓛 (owns_if y (block_with_items (λ _ _. ftrue) (R (E Y L)) (block_ptr b o) n n xs)))
   as_block false = qed 𝓛 (‵ (array Y L n xs b o) ∷ []) ∵ drop ! $ nothing ! $ done !
   as_block true =

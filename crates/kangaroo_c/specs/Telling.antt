@@ -23,13 +23,13 @@ pub record IsFull (place : Option KeptLane) : Type 0 where
   pub kept : KeptLane
   pub is : place ≡ Some kept
 
--- the place has a lane before and behind, and this is so of the two
+-- the place has a lane before and after, and this is so of the two
 abbrev pub OnLanes : (PagesLane → PagesLane → Type 0) → Option KeptLane → Option KeptLane → Type 0
 OnLanes does (Some old) (Some new) = does old.lane new.lane
 OnLanes does (Some old) None = ⊥
 OnLanes does None new = ⊥
 
--- the number is that of a status, and with this status it is so of the place's lane before and behind
+-- the number is that of a status, and with this status it is so of the place's lane before and after
 pub record Tells (does : Status → PagesLane → PagesLane → Type 0) (number : ℤ) (old new : Option KeptLane) : Type 0 where
   pub status : Status
   pub number_is : number ≡ number_of status

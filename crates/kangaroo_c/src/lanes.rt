@@ -107,7 +107,7 @@ pub extern "C" fn kl_put(
     status.number()
 }
 
-/// Puts a value, or removes the key where the put is refused.
+/// Puts a value, or removes the key if the put is refused.
 #[unsafe(no_mangle)]
 pub extern "C" fn kl_put_or_remove(
     alloc: Global,

@@ -4,11 +4,11 @@ ghost use Rattle.c_lane.specs.Placing.{place_in};
 ghost use Rattle.c_lane.specs.Shapes.{SizesOf, with_slots};
 ghost use Rattle.kangaroo_c.specs.Sizing.{number_of_faulty, ShapeIsWritten};
 
-use c_lane::{LaneShape, Place, Seed, Sizes, WantedSizes, number_of_fault, place_of};
+use c_lane::{KeyPlace, LaneShape, Seed, Sizes, WantedSizes, number_of_fault, place_of};
 
-/// Where a key is, among so many lanes.
+/// Where a key is, among this many lanes.
 #[unsafe(no_mangle)]
-pub extern "C" fn kl_place_of(seed: &Seed, lanes: u32, key: &[u8], to: &mut Place)
+pub extern "C" fn kl_place_of(seed: &Seed, lanes: u32, key: &[u8], to: &mut KeyPlace)
     requires { 1 ≤ lanes }
     ensures { to.new ≡ place_in seed.now lanes key.now }
 {
@@ -26,7 +26,7 @@ pub extern "C" fn kl_shape_of(wanted: &WantedSizes, to: &mut LaneShape) -> u32
     }
 }
 
-/// Gives a shape slots for leases, where it has 0. The number of the first field that is out of its range then, or 0.
+/// Gives a shape slots for leases, if it has 0. The number of the first field that is out of its range then, or 0.
 #[unsafe(no_mangle)]
 pub extern "C" fn kl_complete_shape(shape: &mut LaneShape) -> u32
     ensures completed { shape.new ≡ with_slots shape.old }
@@ -39,7 +39,7 @@ pub extern "C" fn kl_complete_shape(shape: &mut LaneShape) -> u32
     }
 }
 
-/// What a cache of a shape takes and holds: all zeros where a field is out of its range.
+/// What a cache of a shape takes and holds: all zeros if a field is out of its range.
 #[unsafe(no_mangle)]
 pub extern "C" fn kl_sizes_of(shape: &LaneShape, object_bytes: u32, to: &mut Sizes)
     ensures { SizesOf shape.now object_bytes to.new }

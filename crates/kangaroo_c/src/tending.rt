@@ -33,7 +33,7 @@ pub extern "C" fn kl_count(alloc: Global, lane: &mut Handle, to: &mut Counters)
     filled(lane, kept);
 }
 
-/// 1 where something is due, else 0. The lane stays as it is.
+/// 1 if something is due, else 0. The lane stays as it is.
 #[unsafe(no_mangle)]
 pub extern "C" fn kl_is_due(alloc: Global, lane: &mut Handle) -> u32
     requires { IsFull lane.old.lane }

@@ -24,7 +24,7 @@ derived seed n = record { start = folded (bit_xor seed.start (2 * n)) seed.multi
 abbrev pub mixed : ℕ → List ℕ → ℕ → ℕ → ℕ → ℕ
 mixed multiplier bytes state i j = folded (bit_xor (word bytes i) state) (bit_xor (word bytes j) multiplier)
 
--- the state after so many blocks of 16 bytes
+-- the state after this many blocks of 16 bytes
 unfoldable pub mixed_blocks : ℕ → List ℕ → ℕ → ℕ → ℕ
 mixed_blocks multiplier bytes state zero = state
 mixed_blocks multiplier bytes state (suc n) = mixed multiplier bytes (mixed_blocks multiplier bytes state n) (16 * n) (16 * n + 8)

@@ -13,7 +13,7 @@ moved_up x by = (x * 2 ^ by) % 2 ^ 64
 unfoldable pub word : List ℕ → ℕ → ℕ
 word bytes i = bit_or (half bytes i) (moved_up (half bytes (i + 4)) 32)
 
--- up to eight bytes as a number: from four on their first four and their last four, else the first, the middle and the last
+-- up to eight bytes as a number: from four on their first four and their last four, otherwise the first, the middle and the last
 unfoldable pub short : List ℕ → ℕ
 short bytes =
     let n = length bytes in

@@ -1,4 +1,4 @@
--- Counts, look-ups and takings, told on the list of segments.
+-- Counts, look-ups and takings, stated on the list of segments.
 use Rattle.std.proofs.Common.{◌≡◌, ◌≢◌, ℕ, Bool, true, false, cond, eqb, List, [], ◌∷◌, ◌++◌, length, take, filter, map, reverse, Option, Some, None, refl, sym, ap, subst, ◌∙◌, inl, inr}
 use Rattle.std.specs.Prelude.{find}
 use Rattle.std.specs.Option.{option_map}
@@ -25,13 +25,13 @@ use Rattle.klog.proofs.Numbered.{aged-cons}
 use Rattle.klog.proofs.PlaceLaws.{filter-same}
 use Rattle.klog.proofs.ListedLaws.{tells_live}
 
--- ---- lists told from their last one on
+-- ---- lists read from their last one on
 
 aged-one : {X Y : Type 0} (f : X → Y) (x : X) (ys : List X) (b : Bool) → map f (reverse ys) ++ cond b (f x ∷ []) [] ≡ map f (reverse (cond b (x ∷ ys) ys))
 aged-one f x ys true = sym (aged-cons f x ys)
 aged-one f x ys false = append-nil (map f (reverse ys))
 
--- those that are kept are the same, told before or behind
+-- those that are kept are the same, counted before or after
 aged-kept : {X Y : Type 0} (f : X → Y) (p : Y → Bool) (xs : List X) → filter p (map f (reverse xs)) ≡ map f (reverse (filter (λ x. p (f x)) xs))
 aged-kept f p [] = refl
 aged-kept f p (x ∷ xs) =
@@ -86,7 +86,7 @@ taking_gives_last bytes held k set log spelled =
 
 -- ---- what a look-up finds
 
--- one more behind, with another key
+-- one more at the end, with another key
 last-more : (key : List ℕ) (records : List LogRecord) (y : LogRecord) → y.key ≢ key → (found : Option LogRecord) → TellsLastWith key records found → TellsLastWith key (records ++ y ∷ []) found
 last-more key records y away None none = All-push (λ x. x.key ≢ key) records y none away
 last-more key records y away (Some x) is = record {
@@ -97,7 +97,7 @@ last-more key records y away (Some x) is = record {
   last = All-push (λ x. x.key ≢ key) is.after y is.last away;
 }
 
--- the first with the key, told newest first, is the last one, told newest last
+-- the first with the key, listed newest first, is the last one, listed newest last
 last-found : (key : List ℕ) (xs : List (Entry × Rec)) → TellsLastWith key (map live_record (reverse xs)) (option_map live_record (find (λ x. has_key key x.1) xs))
 last-found key [] = All-nil (λ (x : LogRecord). x.key ≢ key)
 last-found key (x ∷ xs) = elim (cases_Bool (has_key key x.1)) [

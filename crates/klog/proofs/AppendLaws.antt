@@ -98,7 +98,7 @@ log_put bytes k r h listed set at number =
       flushing_free = h.flushing_free;
     }
 
--- what is live where a record entered a new segment, or did not
+-- what is live when a record entered a new segment, or did not
 pub live_anew : (bytes : ℕ) (held : ℕ → Option (List ℕ)) (old next new : LogState) (r : Rec) (entered : Bool) → can_add bytes (filling_buffer old) r ≡ false → next ≡ sealed old → live_on held next ≡ live_on held old
     → OnTrue entered (live_on held new ≡ (entry_for bytes next r, r) ∷ live_on held next) → OnFalse entered (new ≡ next) → live_on held new ≡ live_entered bytes old r entered (live_on held old)
 live_anew bytes held old next new r true cannot is same more left =

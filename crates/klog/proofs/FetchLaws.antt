@@ -22,7 +22,7 @@ use Rattle.klog.proofs.ShownLaws.{shown_filled, shown_flushed, shown_stored}
 pub page_within : (k : LogState) (e : Entry) → IsLog k → Contains k.entries e → e.place.page < k.shape.segment_pages
 page_within k e log listed = (All-contains (IsHeld k) k.entries e log.held listed).page
 
--- what is read of a page gives what the page is known to hold, where it is known
+-- what is read of a page gives what the page is known to hold, if it is known
 pub read_gives : (bytes : ℕ) (shape : Shape) (e : Entry) (segment page slot : ℕ) (known : Option (List ℕ)) (text : List ℕ) (f : Fetched) → IsKnown known text → IsSome known
     → FetchGives bytes shape e (record_on segment page slot (log_page_at text)) f → FetchGives bytes shape e (record_of_held segment page slot known) f
 unfolding record_on

@@ -30,7 +30,7 @@ Others k old new = (q : ℕ) → q ≢ ring_page k (flushed_number k) k.done →
 others_on : (bytes : ℕ) (held held' : ℕ → Option (List ℕ)) (k : LogState) (wrote : Bool) → WritesNext bytes k wrote held held' → Others k (pages_from k.shape.sets held) (pages_from k.shape.sets held')
 others_on bytes held held' k wrote w = λ q differs. w.others (k.shape.sets + q) (λ same. differs (omega (arith, same)))
 
--- behind the segment that is flushed comes the one that is filled
+-- after the segment that is flushed comes the one that is filled
 flushing_fills : (k : LogState) → k.is_flushing ≡ true → filled_number k ≡ flushed_number k + 1
 flushing_fills k is = ap (λ (t : Bool). cond t (flushed_number k + 1) (flushed_number k)) is
 
@@ -118,7 +118,7 @@ shown_finished bytes pages k e is last done live =
           ]
     ]
 
--- else they stay in the buffer
+-- otherwise they stay in the buffer
 shown_stepped : (pages : ℕ → Option (List ℕ)) (k : LogState) (e : Entry) → shown pages (stepped k) e ≡ shown pages k e
 unfolding shown
 shown_stepped pages k e = refl

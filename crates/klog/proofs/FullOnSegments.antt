@@ -1,4 +1,4 @@
--- Whether a record finds a place, told on the list of segments.
+-- Whether a record finds a place, stated on the list of segments.
 use Rattle.std.proofs.Common.{◌≡◌, ℕ, ◌+◌, ◌-◌, ◌<◌, ◌≤◌, ◌^◌, ◌⊎◌, Bool, true, false, cond, ltb, leb, ◌||◌, List, [], ◌∷◌, ◌++◌, length, Some, None, refl, sym, ap, ◌∙◌, inl, inr, arith}
 use Rattle.std.specs.Prelude.{IsSome, sum_by}
 use Rattle.std.proofs.lemmas.Bool.{and_parts, and_from, or_cases, or_left, or_right, ltb-true, leb-true, lt-ltb, le-leb, false≢true}
@@ -15,7 +15,7 @@ use Rattle.klog.specs.Steps.{on_page}
 use Rattle.klog.specs.AnswerLaws.{bytes_of, TakesOneMore, Takes, FullWhereNoneTakes}
 use Rattle.klog.proofs.Numbered.{numbered-get, length-numbered}
 
--- a sum over things that are seen by number, where what is summed does not tell the number
+-- a sum over things that are seen by number, if what is summed does not tell the number
 sum-numbered : {X Y : Type 0} (f : ℕ → X → Y) (h : Y → ℕ) (g : X → ℕ) → ((j : ℕ) (x : X) → h (f j x) ≡ g x) → (n : ℕ) (xs : List X) → sum_by h (numbered f n xs) ≡ sum_by g xs
 sum-numbered f h g same n [] = refl
 sum-numbered f h g same n (x ∷ xs) =
@@ -26,7 +26,7 @@ sum-numbered f h g same n (x ∷ xs) =
 
 -- ---- a page
 
--- records fit with one more where the page takes it
+-- records fit with one more if the page takes it
 page_takes : (bytes : ℕ) (r : Rec) (rs : List Rec) (xs : List LogRecord) → sum_by bytes_of xs ≡ sizes rs → length xs ≡ length rs → fit_log bytes (rs ++ r ∷ []) ≡ true → TakesOneMore bytes r xs
 page_takes bytes r rs xs sums count fits =
     let both = and_parts (leb (sizes (rs ++ r ∷ [])) (room bytes)) (leb (length (rs ++ r ∷ [])) max_log_records) fits in
@@ -69,7 +69,7 @@ last_records k n pages = ap length (last_same k n pages) ∙ records_same k.entr
 last_bytes : (k : LogState) (n : ℕ) (pages : List (List Rec)) → sum_by bytes_of (last_page (buffered_segment k n pages)) ≡ sizes (page_of pages (length pages - 1))
 last_bytes k n pages = ap (sum_by bytes_of) (last_same k n pages) ∙ bytes_same k.entries (name_of k n) (length pages - 1) (page_of pages (length pages - 1))
 
--- the record can be added to it where it takes it
+-- the record can be added to it if it takes it
 takes_where : (bytes count : ℕ) (k : LogState) (r : Rec) (n : ℕ) (pages : List (List Rec)) → (fits_here bytes pages r || ltb (length pages) count) ≡ true → Takes bytes count r (buffered_segment k n pages)
 takes_where bytes count k r n pages can =
     let same = pages_same k n pages in

@@ -42,7 +42,7 @@ module _ (bytes : ℕ) (k : LogState) (set tag : ℕ) (key : List ℕ) (moment :
       shown_other : has_key key r ≡ false
       shown_other = (subst (λ (o : Option Rec). IsSomeAnd o (λ x. CanStandFor bytes k.shape e x × (has_key key x ≡ false))) here.shows (other here_had)).1
 
-  -- so the search does not come to an entry behind it
+  -- so the search does not come to an entry after it
   not_past : (x : Entry) (h : IsReached bytes no_pages k set tag key x) → behind < h.behind → ⊥
   not_past x h lt =
       not_other (All-contains (ShowsOther bytes no_pages k key) (take h.behind es) e h.newer (got (take h.behind es) behind e (got_early es h.behind behind e lt here.reached.at)))

@@ -1,4 +1,4 @@
--- Where the record of an entry is known.
+-- When the record of an entry is known.
 use Rattle.std.proofs.Common.{◌≡◌, ℕ, Bool, true, false, eqb, ◌&&◌, ◌||◌, List, Option, Some, None, refl, sym, ap, subst, ◌∙◌}
 use Rattle.std.specs.Prelude.{IsSome, IsSomeAnd, IfSome, IsTrue}
 use Rattle.std.proofs.lemmas.Bool.{OnFalse_at, OnFalse_from, eq-eqb, ne_eqb, false≢true}
@@ -20,7 +20,7 @@ stored_apart : (k : LogState) (e : Entry) → IsStored k e → is_buffered k e �
 stored_apart k e h =
     ap (λ (b : Bool). b || (k.is_flushing && eqb (segment_of k e) (flushed_number k))) (ne_eqb (segment_of k e) (filled_number k) h.not_filled) ∙ h.not_flushed
 
--- and is stored there where it is in none
+-- and is stored there if it is in none
 apart_stored : (k : LogState) (e : Entry) → is_buffered k e ≡ false → IsStored k e
 apart_stored k e apart =
     let both = neither (eqb (segment_of k e) (filled_number k)) (k.is_flushing && eqb (segment_of k e) (flushed_number k)) apart in
@@ -30,7 +30,7 @@ apart_stored k e apart =
     neither true b is = absurd cc
     neither false b is = (refl, is)
 
--- its page is known where what lies there is
+-- its page is known if what lies there is
 pub page_known : (held : ℕ → Option (List ℕ)) (k : LogState) (e : Entry) → IsStored k e → IsHad held k e → IsPageKnown held k e
 page_known held k e stored had = OnFalse_at (stored_apart k e stored) had
 
@@ -57,14 +57,14 @@ live_had bytes held k e live =
     (λ stored. known_of_record (segment_of k e) e.place.page e.place.slot _ (CanStandFor bytes k.shape e)
     (subst (λ (o : Option Rec). IsSomeAnd o (CanStandFor bytes k.shape e)) (stored_shows held k e stored) live))
 
--- where no record is given of a live entry the device failed
+-- if no record is given of a live entry the device failed
 pub none_failed : (bytes : ℕ) (held : ℕ → Option (List ℕ)) (k : LogState) (e : Entry) (f : Fetched) (before after : ℕ) → ((r : RecordRef) → f ≡ fetched.Record r → ⊥) → after ≡ faults_after before (is_fetch_fault f)
     → (IsHad held k e → FetchGives bytes k.shape e (shown_on held k e) f) → IsLiveOn bytes held k e → after ≡ faults_after before true
 none_failed bytes held k e (fetched.Record r) before after none fails gives live = absurd (none r refl)
 none_failed bytes held k e fetched.Fault before after none fails gives live = fails
 none_failed bytes held k e fetched.Damaged before after none fails gives live = absurd (gives (live_had bytes held k e live) live)
 
--- what is said of what an entry shows where that is known holds of a live entry's record
+-- what is said of what an entry shows if that is known holds of a live entry's record
 pub shows_live : (bytes : ℕ) (held : ℕ → Option (List ℕ)) (k : LogState) (e : Entry) (P : Rec → Type 0) → IsLiveOn bytes held k e → ShowsIfHad bytes held k e P → IsSomeAnd (shown_on held k e) P
 shows_live bytes held k e P live shows = weaker (shown_on held k e) (shows (live_had bytes held k e live))
   where
@@ -91,7 +91,7 @@ module _ {D : Type 0} (honest : D → Bool) (held : D → ℕ → Option (List �
       by_page None at = tt
       by_page (Some text) at = (is, at)
 
-  -- what was known is known where it holds the same
+  -- what was known is known if it holds the same
   pub held_still : (d next : D) (known : ℕ → Option (List ℕ)) → honest next ≡ honest d → (IsTrue (honest d) → held next ≡ held d) → AreHeldBy honest held d known → AreHeldBy honest held next known
   held_still d next known honesty same knows page = by_page (known page) (knows page)
     where

@@ -122,7 +122,7 @@ slots held k n pages page log from to lie m (r ∷ rs) there =
     ∙ ap (λ (ys : List LogRecord). ys ++ filter is_live (numbered F (m + 1) rs)) (one_slot held k n pages page m r log from to lie here)
     ∙ ap (λ (ys : List LogRecord). group live_record (λ x. x.0.place.slot) (on_page_by held k n page) m ++ ys) rest
 
--- what lies behind on the same page has the greater slot
+-- what comes later on the same page has the greater slot
 slot_falls : (k : LogState) (a b : Place) → IsBehind k a b → a.segment ≡ b.segment → a.page ≡ b.page → b.slot ≤ a.slot
 slot_falls k a b h same page = elim h [
   | inl less ↦ let e : number_of k a.segment ≡ number_of k b.segment = ap (number_of k) same in absurd (omega (arith, less, e))
@@ -194,7 +194,7 @@ flat-map : {X Y Z : Type 0} (f : X → Y) (g : Y → List Z) (xs : List X) → f
 flat-map f g [] = refl
 flat-map f g (x ∷ xs) = ap (λ (ys : List _). g (f x) ++ ys) (flat-map f g xs)
 
--- so many pages, one behind the other, where none of its live records lies on a later one
+-- this many pages, one after the other, if none of its live records lies on a later one
 pages_tell : (held : ℕ → Option (List ℕ)) (k : LogState) (n count : ℕ) → IsLog k → k.first ≤ n → n < k.first + names k → All (λ x. segment_of k x.0 ≡ n → x.0.place.page < count) (live_on held k)
     → flat_map (live_page (live_on held k) (name_of k n)) (range_with_len 0 count) ≡ of_segment held k n
 pages_tell held k n count log from to below =

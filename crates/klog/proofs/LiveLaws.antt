@@ -74,7 +74,7 @@ length-kept p [] = omega arith
 length-kept p (e ∷ es) =
     cond_both (p e) (e ∷ filter p es) (filter p es) (λ ys. length ys ≤ length (e ∷ es)) (λ _. omega (arith, length-kept p es)) (λ _. omega (arith, length-kept p es))
 
--- what holds of all entries, and of each of them lowered, holds of all where some are lowered
+-- what holds of all entries, and of each of them lowered, holds of all if some are lowered
 pub All-lowered : (p : Entry → Bool) (P : Entry → Type 0) → ((e : Entry) → P e → P (lowered e)) → (es : List Entry) → All P es → All P (with_lowered p es)
 All-lowered p P keeps [] h = All-nil P
 All-lowered p P keeps (e ∷ es) h =
@@ -128,7 +128,7 @@ log_lowered k p h =
     (ordered_lowered k p k.entries h.ordered)
     (omega (arith, length-with_lowered p k.entries, h.few_entries))
 
--- what may stand for an entry may stand for it where it is lowered
+-- what may stand for an entry may stand for it if it is lowered
 can_stand_for_some : (bytes : ℕ) (shape : Shape) (e : Entry) (o : Option Rec) → IsSomeAnd o (CanStandFor bytes shape e) → IsSomeAnd o (CanStandFor bytes shape (lowered e))
 can_stand_for_some bytes shape e (Some r) h = record { set_is = h.set_is; tag_is = h.tag_is; small = h.small; lawful = h.lawful }
 can_stand_for_some bytes shape e None h = h
@@ -153,7 +153,7 @@ spelled_lowered bytes held k p h = record {
   flushed = All-lowered p (IsFlushed bytes (pages_from k.shape.sets held) k) (λ e q. q) k.entries h.flushed;
 }
 
--- entries are live alike where each shows the same
+-- entries are live alike if each shows the same
 pub live_by-same : (shows shows' : Entry → Option Rec) (es : List Entry) → All (λ e. shows' e ≡ shows e) es → live_by shows' es ≡ live_by shows es
 live_by-same shows shows' [] same = refl
 live_by-same shows shows' (e ∷ es) same =

@@ -56,7 +56,7 @@ module _ (bytes : ℕ) (held : ℕ → Option (List ℕ)) (k : LogState) (key : 
   looks_by located.Fault its at = at
   looks_by located.Damaged its at = at
 
-  -- and where all live records are known the entry is that of the newest
+  -- and if all live records are known the entry is that of the newest
   names_newest : placed ≡ place_in k.shape key → IsSpelledOn bytes held k → (f : LocatedInLog) → FindsAt bytes held k placed.set placed.tag key moment buffer nc f → NamesNewest (live_on held k) key moment buffer f
   names_newest is spelled (located.Hit e) at = hit_newest bytes held k key moment placed e (Some buffer) is spelled at.0 at.1
   names_newest is spelled located.Expired at = tt
@@ -168,7 +168,7 @@ module _ {D : Type 0} {size : ℕ} {pages : D → ℕ} {honest : D → Bool} {fa
       (subst (λ (q : List ℕ). LogLooks size pages honest failures held placed q moment k device (Ok (looked_of f buffer)) (log_after f k) device') same_key (answers h)))
 
 module _ {D : Type 0} {size : ℕ} {pages : D → ℕ} {honest : D → Bool} {failures : D → ℕ} {held : D → ℕ → Option (List ℕ)} {placed : Placed} {key : List ℕ} {moment : ℕ} {k : LogState} {device : D} {was : List ℕ} {e : Entry} {device' : D} {buffer : List ℕ} where
-  -- where memory for the value of a hit is refused the log stays
+  -- if memory for the value of a hit is refused the log stays
   pub wants : (key' : List ℕ) (err : AllocError) → key ≡ key'
       → LogLocates size pages honest failures held placed key moment k device was (located.Hit e) device' buffer
       → LogLooks size pages honest failures held placed key' moment k device (Err err) k device'

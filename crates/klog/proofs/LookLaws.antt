@@ -45,7 +45,7 @@ placed_live bytes held k h =
     let can : CanStandFor bytes k.shape (get_or k.entries i d) r = subst (λ (o : Option Rec). IsSomeAnd o (CanStandFor bytes k.shape (get_or k.entries i d))) at (h.live i d lt) in
     (can.set_is, can.tag_is))
 
--- the first that passes a test is the first of those that pass another one, where none passes the first alone
+-- the first that passes a test is the first of those that pass another one, if none passes the first alone
 find-kept : (p q : Entry × Rec → Bool) (xs : List (Entry × Rec)) → All (λ x. p x ≡ true → q x ≡ true) xs → find p (filter q xs) ≡ find p xs
 find-kept p q [] h = refl
 find-kept p q (x ∷ xs) h =
@@ -75,7 +75,7 @@ newest_of_tag bytes held k key h =
     ap (λ (xs : List (Entry × Rec)). find (λ x. has_key key x.1) xs) (live_by-kept kind (shown_on held k) k.entries)
     ∙ find-kept (λ x. has_key key x.1) (λ x. kind x.0) (live_on held k) (All-live (λ x. has_key key x.1 ≡ true → kind x.0 ≡ true) (shown_on held k) k.entries each)
 
--- where the entries before one show other keys, and it shows the key, its record is the newest with the key
+-- if the entries before one show other keys, and it shows the key, its record is the newest with the key
 newest_at : (shows : Entry → Option Rec) (key : List ℕ) (front : List Entry) (e : Entry) (r : Rec) (back : List Entry) → All (OtherBy shows key) front → shows e ≡ Some r → has_key key r ≡ true
     → newest_with (live_by shows (front ++ e ∷ back)) key ≡ Some (e, r)
 newest_at shows key [] e r back none at has = simp (at, has) refl
@@ -87,7 +87,7 @@ newest_at shows key (x ∷ front) e r back none at has =
     step (Some y) is here rest = let other : has_key key y ≡ false = subst (λ (o : Option Rec). IsSomeAnd o (λ r. has_key key r ≡ false)) is here in simp (is, other) rest
     step None is here rest = simp is rest
 
--- where all entries show other keys, none is the newest with the key
+-- if all entries show other keys, none is the newest with the key
 newest_none : (shows : Entry → Option Rec) (key : List ℕ) (es : List Entry) → All (OtherBy shows key) es → newest_with (live_by shows es) key ≡ None
 newest_none shows key [] none = refl
 newest_none shows key (x ∷ es) none =
@@ -97,18 +97,18 @@ newest_none shows key (x ∷ es) none =
     step (Some y) is here rest = let other : has_key key y ≡ false = subst (λ (o : Option Rec). IsSomeAnd o (λ r. has_key key r ≡ false)) is here in simp (is, other) rest
     step None is here rest = simp is rest
 
--- ---- a turn of the search: the entry that stands so far behind the newest with its set and tag
+-- ---- a turn of the search: the entry that stands so far after the newest with its set and tag
 abbrev pub AtTurn : LogState → ℕ → ℕ → ℕ → Entry → Type 0
 AtTurn k set tag behind e = slice_get (of_tag set tag k.entries) behind ≡ Some e
 
--- where a list is left from a place on, its first one stands at that place, and the others from the next one on
+-- if a list is left from a place on, its first one stands at that place, and the others from the next one on
 pub dropped_at : {X : Type 0} (xs : List X) (n : ℕ) (x : X) (rest : List X) → drop n xs ≡ x ∷ rest → (slice_get xs n ≡ Some x) × (drop (suc n) xs ≡ rest)
 dropped_at [] zero x rest is = absurd cc
 dropped_at [] (suc n) x rest is = absurd cc
 dropped_at (y ∷ xs) zero x rest is = (cc, cc)
 dropped_at (y ∷ xs) (suc n) x rest is = let h = dropped_at xs n x rest is in (h.0, h.1)
 
--- where none is left the list ends before that place
+-- if none is left the list ends before that place
 pub dropped_past : {X : Type 0} (xs : List X) (n : ℕ) → drop n xs ≡ [] → length xs ≤ n
 dropped_past [] n is = omega arith
 dropped_past (y ∷ xs) zero is = absurd cc
@@ -118,7 +118,7 @@ dropped_past (y ∷ xs) (suc n) is = omega (arith, dropped_past xs n is)
 pub turn_at : (k : LogState) (set tag behind : ℕ) (e : Entry) (now rest : List Entry) → now ≡ drop behind (of_tag set tag k.entries) → now ≡ e ∷ rest → AtTurn k set tag behind e
 turn_at k set tag behind e now rest left is = (dropped_at (of_tag set tag k.entries) behind e rest (sym left ∙ is)).0
 
--- and the others stand behind it
+-- and the others stand after it
 pub turn_rest : (k : LogState) (set tag behind : ℕ) (e : Entry) (now rest : List Entry) → now ≡ drop behind (of_tag set tag k.entries) → now ≡ e ∷ rest → rest ≡ drop (behind + 1) (of_tag set tag k.entries)
 turn_rest k set tag behind e now rest left is =
     let next : suc behind ≡ behind + 1 = omega arith in
@@ -163,7 +163,7 @@ turn_its k key placed behind e is at =
 pub turn_buffered : (k : LogState) (set tag behind : ℕ) (e : Entry) → AtTurn k set tag behind e → AreBuffered k (of_tag set tag k.entries) → IsTrue (is_buffered k e)
 turn_buffered k set tag behind e at all = All-contains (λ e. IsTrue (is_buffered k e)) (of_tag set tag k.entries) e all (got (of_tag set tag k.entries) behind e at)
 
--- the entries before it lie in buffers where all do
+-- the entries before it lie in buffers if all do
 pub turn_before : (k : LogState) (set tag behind : ℕ) → AreBuffered k (of_tag set tag k.entries) → AreBuffered k (take behind (of_tag set tag k.entries))
 turn_before k set tag behind all = All-take (λ e. IsTrue (is_buffered k e)) behind (of_tag set tag k.entries) all
 
@@ -206,22 +206,22 @@ turn_other bytes held k set tag key behind e at newer other =
     All-more (ShowsOther bytes held k key) (of_tag set tag k.entries) behind e (slice_get_within (of_tag set tag k.entries) behind e at) newer
     (subst (ShowsOther bytes held k key) (sym (get_or_from_slice_get (of_tag set tag k.entries) behind e e at)) other)
 
--- where none stands further behind, all entries of the set and tag show other keys
+-- if none stands further on, all entries of the set and tag show other keys
 pub turns_over : (bytes : ℕ) (held : ℕ → Option (List ℕ)) (k : LogState) (set tag : ℕ) (key : List ℕ) (n : ℕ) → length (of_tag set tag k.entries) ≤ n
     → All (ShowsOther bytes held k key) (take n (of_tag set tag k.entries)) → All (ShowsOther bytes held k key) (of_tag set tag k.entries)
 turns_over bytes held k set tag key n le newer = subst (All (ShowsOther bytes held k key)) (take_all n (of_tag set tag k.entries) le) newer
 
--- ---- what is found among the live records, where all of them are known
+-- ---- what is found among the live records, if all of them are known
 
 -- an entry of a log that is spelled is live
 pub spelled_live : (bytes : ℕ) (held : ℕ → Option (List ℕ)) (k : LogState) (set tag : ℕ) → IsSpelledOn bytes held k → All (IsLiveOn bytes held k) (of_tag set tag k.entries)
 spelled_live bytes held k set tag spelled = All-filter (has_tag set tag) (IsLiveOn bytes held k) k.entries spelled.live
 
--- and shows another key where that is so of what is known
+-- and shows another key if that is so of what is known
 spelled_other : (bytes : ℕ) (held : ℕ → Option (List ℕ)) (k : LogState) (key : List ℕ) (es : List Entry) → All (IsLiveOn bytes held k) es → All (ShowsOther bytes held k key) es → All (OtherBy (shown_on held k) key) es
 spelled_other bytes held k key es live others = λ i d lt. shows_live bytes held k (get_or es i d) (λ r. has_key key r ≡ false) (live i d lt) (others i d lt)
 
--- the entry at a place of a list, with what stands before and behind it
+-- the entry at a place of a list, with what stands before and after it
 split_at : (es : List Entry) (n : ℕ) (e : Entry) → slice_get es n ≡ Some e → es ≡ take n es ++ e ∷ drop (n + 1) es
 split_at es n e at =
     let next : suc n ≡ n + 1 = omega arith in
@@ -233,7 +233,7 @@ newest_in : (bytes : ℕ) (held : ℕ → Option (List ℕ)) (k : LogState) (key
 newest_in bytes held k key placed is spelled =
     ap (λ (p : Placed). newest_with (live_by (shown_on held k) (of_tag p.set p.tag k.entries)) key) is ∙ newest_of_tag bytes held k key spelled
 
--- where the search came to an entry that shows the key, its record is the newest live one of the key
+-- if the search came to an entry that shows the key, its record is the newest live one of the key
 pub hit_newest : (bytes : ℕ) (held : ℕ → Option (List ℕ)) (k : LogState) (key : List ℕ) (moment : ℕ) (placed : Placed) (e : Entry) (gives : Option (List ℕ)) → placed ≡ place_in k.shape key → IsSpelledOn bytes held k
     → IsReached bytes held k placed.set placed.tag key e → ShowsIfHad bytes held k e (λ r. (has_key key r ≡ true) × (value_at moment r.value ≡ gives)) → (r : Rec) × (newest_with (live_on held k) key ≡ Some (e, r)) × (value_at moment r.value ≡ gives)
 hit_newest bytes held k key moment placed e gives is spelled reached shows =
@@ -255,7 +255,7 @@ hit_newest bytes held k key moment placed e gives is spelled reached shows =
     known (Some r) at h = (r, at, h.0, h.1)
     known None at h = absurd h
 
--- where all entries with the set and tag show other keys, no live record has the key
+-- if all entries with the set and tag show other keys, no live record has the key
 pub absent_none : (bytes : ℕ) (held : ℕ → Option (List ℕ)) (k : LogState) (key : List ℕ) (placed : Placed) → placed ≡ place_in k.shape key → IsSpelledOn bytes held k
     → All (ShowsOther bytes held k key) (of_tag placed.set placed.tag k.entries) → newest_with (live_on held k) key ≡ None
 absent_none bytes held k key placed is spelled others =
@@ -263,7 +263,7 @@ absent_none bytes held k key placed is spelled others =
     sym (newest_in bytes held k key placed is spelled)
     ∙ newest_none (shown_on held k) key es (spelled_other bytes held k key es (spelled_live bytes held k placed.set placed.tag spelled) others)
 
--- the records that entries show, before one that shows a record, that one's, and those behind
+-- the records that entries show, before one that shows a record, that one's, and those after
 live_split : (shows : Entry → Option Rec) (front : List Entry) (e : Entry) (r : Rec) (back : List Entry) → shows e ≡ Some r
     → live_by shows (front ++ e ∷ back) ≡ live_by shows front ++ (e, r) ∷ live_by shows back
 live_split shows [] e r back at = simp at refl
@@ -274,7 +274,7 @@ live_split shows (x ∷ front) e r back at = step (shows x) refl (live_split sho
     step (Some y) is rest = simp is (ap (λ (xs : List (Entry × Rec)). (x, y) ∷ xs) rest)
     step None is rest = simp is rest
 
--- where the search comes to an entry that lies in no buffer, it comes to a page
+-- if the search comes to an entry that lies in no buffer, it comes to a page
 pub comes_to_page : (bytes : ℕ) (held : ℕ → Option (List ℕ)) (k : LogState) (key : List ℕ) (placed : Placed) (e : Entry) → placed ≡ place_in k.shape key → IsSpelledOn bytes held k
     → IsReached bytes held k placed.set placed.tag key e → is_buffered k e ≡ false → ComesToPage k key (live_on held k)
 comes_to_page bytes held k key placed e is spelled reached stored =
@@ -300,7 +300,7 @@ comes_to_page bytes held k key placed e is spelled reached stored =
     known (Some r) at h = (r, at)
     known None at h = absurd h
 
--- where none is left, none stands further behind
+-- if none is left, none stands further on
 pub got_none : (k : LogState) (set tag behind : ℕ) (now : List Entry) → now ≡ drop behind (of_tag set tag k.entries) → now ≡ [] → length (of_tag set tag k.entries) ≤ behind
 got_none k set tag behind now left none = dropped_past (of_tag set tag k.entries) behind (sym left ∙ none)
 
@@ -313,6 +313,6 @@ set_of_tag : (set tag : ℕ) (es : List Entry) (e : Entry) → Contains (of_tag 
 set_of_tag set tag es e h =
     eqb-true e.set set (and_parts (eqb e.set set) (eqb e.tag tag) (All-contains (λ e. has_tag set tag e ≡ true) (of_tag set tag es) e (filter_passes (has_tag set tag) es) h)).0
 
--- so where it is lowered it is lowered in the set
+-- so if it is lowered it is lowered in the set
 pub lowered_there : (k k' : LogState) (set tag : ℕ) (e : Entry) → Contains (of_tag set tag k.entries) e → k' ≡ lowered_in k e.set e.place → k' ≡ lowered_in k set e.place
 lowered_there k k' set tag e listed is = is ∙ ap (λ (n : ℕ). lowered_in k n e.place) (set_of_tag set tag k.entries e listed)

@@ -67,7 +67,7 @@ shown_freed pages k e some same =
     ∙ ap (λ (n : ℕ). shown_at pages k e (segment_of k e) n (flushed_number (freed k))) (filled_freed k some)
     ∙ ap (λ (n : ℕ). shown_at pages k e (segment_of k e) (filled_number k) n) (flushed_freed k some)
 
--- all entries keep their numbers where none is of the oldest segment
+-- all entries keep their numbers if none is of the oldest segment
 segments_freed : (k : LogState) → IsLog k → NoneOfSegment (name_of k k.first) k.entries → All (λ e. segment_of (freed k) e ≡ segment_of k e) k.entries
 segments_freed k log none = λ i d lt. segment_freed k (get_or k.entries i d) log (log.held i d lt) (none i d lt)
 
@@ -127,7 +127,7 @@ spelled_freed bytes held k tells log h = record {
 
 -- ---- an entry is dropped
 
--- where one that is there does not pass, fewer are kept
+-- if one that is there does not pass, fewer are kept
 fewer_kept : (p : Entry → Bool) (es : List Entry) (e : Entry) → Contains es e → p e ≡ false → length (filter p es) < length es
 fewer_kept p [] e h out = absurd (omega (arith, h.1))
 fewer_kept p (x ∷ es) e h out = by_place h.0 h.1 h.2 (p x) refl (length-kept p es) (λ rest. fewer_kept p es e rest out)
@@ -161,7 +161,7 @@ oldest_stored k e h =
     ] in
     record { not_filled = not_filled; not_flushed = and_right k.is_flushing _ (ne_eqb (segment_of k e) (flushed_number k) not_flushed) }
 
--- it is live where the log is spelled
+-- it is live if the log is spelled
 pub oldest_live : (bytes : ℕ) (held : ℕ → Option (List ℕ)) (k : LogState) (e : Entry) → IsOfOldest k e → IsSpelledOn bytes held k → IsLiveOn bytes held k e
 oldest_live bytes held k e h spelled = All-contains (IsLiveOn bytes held k) k.entries e spelled.live h.listed
 
@@ -173,18 +173,18 @@ oldest_record bytes held k e h spelled = by_case (shown_on held k e) refl (oldes
     by_case (Some r) at can = (r, at, live_contained (shown_on held k) k.entries e r h.listed at)
     by_case None at can = absurd can
 
--- where the record is damaged the entry is not live
+-- if the record is damaged the entry is not live
 pub oldest_damaged : (bytes : ℕ) (held : ℕ → Option (List ℕ)) (k : LogState) (e : Entry) → IsOfOldest k e → (IsPageKnown held k e → FetchGives bytes k.shape e (stored_on held k e) fetched.Damaged) → IsLiveOn bytes held k e → ⊥
 oldest_damaged bytes held k e h gives live =
     let stored = oldest_stored k e h in
     gives (page_known held k e stored (live_had bytes held k e live)) (subst (λ (o : Option Rec). IsSomeAnd o (CanStandFor bytes k.shape e)) (stored_shows held k e stored) live)
 
--- the record that is given is the one that the entry shows, where that is known
+-- the record that is given is the one that the entry shows, if that is known
 oldest_shows : (bytes : ℕ) (held : ℕ → Option (List ℕ)) (k : LogState) (e : Entry) (found : RecordRef) → IsOfOldest k e → (IsPageKnown held k e → FetchGives bytes k.shape e (stored_on held k e) (fetched.Record found))
     → IsHad held k e → shown_on held k e ≡ Some (record_shown found)
 oldest_shows bytes held k e found h gives had = let stored = oldest_stored k e h in stored_shows held k e stored ∙ gives (page_known held k e stored had)
 
--- as it is where all live records are
+-- as it is if all live records are
 pub oldest_given : (bytes : ℕ) (held : ℕ → Option (List ℕ)) (k : LogState) (e : Entry) (found : RecordRef) (r : Rec) → IsOfOldest k e → IsSpelledOn bytes held k
     → (IsPageKnown held k e → FetchGives bytes k.shape e (stored_on held k e) (fetched.Record found)) → shown_on held k e ≡ Some r → record_shown found ≡ r
 oldest_given bytes held k e found r h spelled gives shows =
@@ -198,7 +198,7 @@ leaves_anew bytes k e r answers.Dropped k' can is = record { its = r; can = can;
 leaves_anew bytes k e r answers.Fault k' can is = absurd is
 leaves_anew bytes k e r answers.Damaged k' can is = absurd is
 
--- what became of it, where all live records are known
+-- what became of it, if all live records are known
 pub moves_to : (bytes : ℕ) (k : LogState) (e : Entry) (r : Rec) (a : Readmitted) (k' : LogState) → EntersAnew bytes k e r a k' → MovesTo bytes k e r a k'
 moves_to bytes k e r answers.Readmitted k' is = is
 moves_to bytes k e r answers.Dropped k' is = is

@@ -111,7 +111,7 @@ groups-cons f key x xs a (suc n) from to less = elim (cases_eq (key x) a) [
     up_at zero d lt at = omega (arith, at)
     up_at (suc i) d lt at = omega (arith, less i d (omega (arith, lt)), at)
 
--- the groups one behind the other are the whole
+-- the groups one after the other are the whole
 pub grouped : {X Y : Type 0} (f : X → Y) (key : X → ℕ) (xs : List X) (a n : ℕ) → All (λ y. a ≤ key y) xs → All (λ y. key y < a + n) xs → AllPairs (λ x y. key y ≤ key x) xs
     → groups f key xs a n ≡ map f (reverse xs)
 grouped f key [] a n from to falls = none a n

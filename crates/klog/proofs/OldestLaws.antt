@@ -30,7 +30,7 @@ lasts (x ∷ es) e is d =
     let there : Some (get_or (x ∷ es) (length es) d) ≡ Some e = last_there x es d ∙ is in
     (omega arith, ap (λ (n : ℕ). get_or (x ∷ es) n d) at ∙ cc)
 
--- each entry is the last one, or lies behind it
+-- each entry is the last one, or lies after it
 each_behind : (k : LogState) (e : Entry) → IsLog k → last_or None k.entries ≡ Some e → (i : ℕ) (d : Entry) → i < length k.entries →
     (get_or k.entries i d ≡ e) ⊎ IsBehind k (get_or k.entries i d).place e.place
 each_behind k e log last i d lt =
@@ -60,7 +60,7 @@ none_last v k o segment same told none = λ i d lt. absurd (no_entry k.entries (
 first_again : (k : LogState) → number_of k (name_of k k.first) ≡ k.first
 first_again k = number_again k k.first (omega arith) (omega arith)
 
--- of none in the oldest segment where the last one is of another
+-- of none in the oldest segment if the last one is of another
 pub other_last : (v k : LogState) (o : Option Entry) (e : Entry) → v ≡ k → o ≡ last_or None v.entries → o ≡ Some e → IsLog k → segment_of k e ≢ k.first → NoneOfSegment (name_of k k.first) k.entries
 other_last v k o e same told some log away = λ i d lt named.
     let last : last_or None k.entries ≡ Some e = ap (λ (q : LogState). last_or None q.entries) (sym same) ∙ sym told ∙ some in
@@ -81,7 +81,7 @@ not_before p q before after = elim before [
 not_itself : (p : Entry) → ¬ IsBefore p.place p.place
 not_itself p before = not_before p p before before
 
--- some is of the oldest segment where the last one is
+-- some is of the oldest segment if the last one is
 pub some_last : (v k : LogState) (o : Option Entry) (e : Entry) → v ≡ k → o ≡ last_or None v.entries → o ≡ Some e → IsLog k → segment_of k e ≡ k.first → (e.place.segment ≡ name_of k k.first) × SomeOfSegment (name_of k k.first) k.entries
 some_last v k o e same told some log at =
     let last : last_or None k.entries ≡ Some e = ap (λ (q : LogState). last_or None q.entries) (sym same) ∙ sym told ∙ some in
@@ -111,7 +111,7 @@ older_first R (x ∷ xs) pairs =
     subst (AllPairs (λ a b. R b a)) (sym (reverse_onto xs x []))
     (all_pairs_push (λ a b. R b a) (reverse xs) x (older_first R xs (λ i j d less lt. pairs (suc i) (suc j) d (omega (arith, less)) (omega (arith, lt)))) (λ i d lt. all_back (R x) xs behind i d lt))
 
--- one of a list is the first, or one behind it
+-- one of a list is the first, or one after it
 first_or : {X : Type 0} (x y : X) (ys : List X) → Contains (y ∷ ys) x → (y ≡ x) ⊎ Contains ys x
 first_or {X} x y ys there = step there.0 there.1 there.2
   where
@@ -150,7 +150,7 @@ module _ (k : LogState) (passed : List ℕ) where
   Tells es (Some e) = IsNext es e
   Tells es None = (y : Entry) → Contains es y → y.place.segment ≡ name_of k k.first → is_of_any passed y ≡ true
 
-  -- one of the same segment that lies behind another is not before it
+  -- one of the same segment that lies after another is not before it
   not_behind : (x y : Entry) → IsBehind k y.place x.place → x.place.segment ≡ y.place.segment → ¬ IsBefore y.place x.place
   not_behind x y behind same =
       let numbers : number_of k x.place.segment ≡ number_of k y.place.segment = ap (number_of k) same in
@@ -184,7 +184,7 @@ module _ (k : LogState) (passed : List ℕ) where
       behind : (y : Entry) → Contains es y → IsBehind k y.place x.place
       behind y there = All-contains (λ (z : Entry). IsBehind k z.place x.place) es y (λ i d lt. pairs 0 (suc i) d (omega arith) (omega (arith, lt))) there
 
-      -- of another segment, and so are all behind it
+      -- of another segment, and so are all after it
       away : is_of_segment name x ≡ false → (y : Entry) → Contains (x ∷ es) y → y.place.segment ≡ name → ⊥
       away other y there at = elim (first_or y x es there) [
         | inl is ↦ false≢true (sym other ∙ eq-eqb x.place.segment name (ap (λ (z : Entry). z.place.segment) is ∙ at))
@@ -251,7 +251,7 @@ module _ (k : LogState) (passed : List ℕ) where
         not_passed = next.free;
       }
 
-  -- where none is found no other is of the oldest segment
+  -- if none is found no other is of the oldest segment
   pub none_other : IsLog k → oldest_but (name_of k k.first) passed k.entries ≡ None → NoneOfSegment (name_of k k.first) (without (is_of_any passed) k.entries)
   none_other log is = λ i d lt at.
       let all = subst (Tells (reverse k.entries)) is (oldest_tells log) in

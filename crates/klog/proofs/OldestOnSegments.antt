@@ -1,4 +1,4 @@
--- What is told of the oldest segment, on the list of segments.
+-- What is said of the oldest segment, on the list of segments.
 use Rattle.std.proofs.Common.{◌≡◌, ◌≢◌, ℕ, zero, suc, ◌+◌, ◌<◌, Bool, true, false, cond, eqb, List, [], ◌∷◌, ◌++◌, length, get_or, filter, map, reverse, Option, Some, None, All, Contains, slice_get, refl, sym, ap, subst, ◌∙◌, inl, inr, arith}
 use Rattle.std.specs.Prelude.{AllPairs, IsSomeAnd}
 use Rattle.std.specs.List.{flat_map, range_with_len}
@@ -31,7 +31,7 @@ kept-none p (x ∷ xs) none =
     ap (λ (b : Bool). cond b (x ∷ filter p xs) (filter p xs)) (All-head (λ x. p x ≡ false) x xs none)
     ∙ kept-none p xs (All-tail (λ x. p x ≡ false) x xs none)
 
--- one that is kept comes last of those that are kept, where none of them follows it
+-- one that is kept comes last of those that are kept, if none of them follows it
 kept-last : {X : Type 0} (R : X → X → Type 0) (p : X → Bool) (x : X) (xs : List X) → AllPairs R xs → All (λ y. p y ≡ true → R x y → ⊥) xs → p x ≡ true → Contains xs x
     → (front : List X) × (filter p xs ≡ front ++ x ∷ [])
 kept-last R p x [] pairs least is there = absurd (omega (arith, there.1))
@@ -139,7 +139,7 @@ of_first k e its = ap (number_of k) its.of_segment ∙ number_again k k.first (o
 first_there : (held : ℕ → Option (List ℕ)) (k : LogState) → 0 < k.stored → slice_get (segments_of held k).stored 0 ≡ Some (stored_segment held k k.first)
 first_there held k some = first-stored (stored_segment held k) k.first k.stored some
 
--- where no set is passed over, no entry is
+-- if no set is passed over, no entry is
 none_passed : (es : List Entry) → without (is_of_any []) es ≡ es
 none_passed [] = refl
 none_passed (e ∷ es) = ap (λ (xs : List Entry). e ∷ xs) (none_passed es)

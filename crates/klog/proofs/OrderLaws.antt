@@ -45,7 +45,7 @@ before_next size pages r page slot x e = by_cases (fits_here size pages r) refl
         let next : page_for size pages r ≡ length pages = ap (λ (t : Bool). cond t at (length pages)) not_here in
         inl (omega (arith, next, lt))
 
--- what enters lies behind what is held
+-- what enters lies after what is held
 enters_last : (bytes : ℕ) (k : LogState) (r : Rec) (e : Entry) → IsLog k → IsHeld k e → IsBehind k (entry_for bytes k r).place e.place
 enters_last bytes k r e is held =
     let own = entry_number bytes k r is in
@@ -90,7 +90,7 @@ buffered_on k e x is from to =
     second true b off on = absurd cc
     second false b off on = on
 
--- a place that lies behind another is of a segment with no smaller number
+-- a place that lies after another is of a segment with no smaller number
 behind_from : (k : LogState) (x e : Entry) → IsBehind k x.place e.place → segment_of k e ≤ segment_of k x
 behind_from k x e h = elim h [ inl less ↦ omega (arith, less) | inr on ↦ omega (arith, on.0) ]
 

@@ -32,7 +32,7 @@ find-here q e es is = ap (λ (b : Bool). cond b (Some e) (find q es)) is
 pub find-later : (q : Entry → Bool) (e : Entry) (es : List Entry) → q e ≡ false → find q (e ∷ es) ≡ find q es
 find-later q e es is = ap (λ (b : Bool). cond b (Some e) (find q es)) is
 
--- none is found where none is of the kind, and where none is found none is
+-- none is found if none is of the kind, and if none is found none is
 pub find-none : (q : Entry → Bool) (es : List Entry) → All (λ e. q e ≡ false) es → find q es ≡ None
 find-none q [] none = refl
 find-none q (e ∷ es) none =
@@ -72,7 +72,7 @@ kept-none q keep (e ∷ es) none = elim (cases_Bool (q e)) [
       ]
 ]
 
--- the one that is found is found still where it is kept, and none where it is not
+-- the one that is found is found still if it is kept, and none if it is not
 pub kept-some : (q keep : Entry → Bool) (es : List Entry) (e : Entry) → IsOne q es → find q es ≡ Some e → find q (filter keep es) ≡ cond (keep e) (Some e) None
 kept-some q keep [] e one found = absurd cc
 kept-some q keep (x ∷ es) e one found = elim (cases_Bool (q x)) [
@@ -157,7 +157,7 @@ filter-same p q (x ∷ xs) same =
     ap (λ (b : Bool). cond b (x ∷ filter p xs) (filter p xs)) (All-head (λ x. p x ≡ q x) x xs same)
     ∙ ap (λ (ys : List _). cond (q x) (x ∷ ys) ys) (filter-same p q xs (All-tail (λ x. p x ≡ q x) x xs same))
 
--- those of a kind that stay, told as entries or as records
+-- those of a kind that stay, taken as entries or as records
 pub page_kept : (on keep : Entry × Rec → Bool) (stays : LogRecord → Bool) (xs : List (Entry × Rec)) → All (λ x. on x ≡ true → keep x ≡ stays (live_record x)) xs
     → map live_record (reverse (filter on (filter keep xs))) ≡ filter stays (map live_record (reverse (filter on xs)))
 page_kept on keep stays [] same = refl

@@ -29,7 +29,7 @@ row_is w a b p q lp lq e =
 rest_of : (n q d x : ℕ) → d < n → x ≡ n * q + d → x % n ≡ d
 rest_of n q d x lt e = ap (λ (m : ℕ). m % n) e ∙ mul-add-mod_self_left n q d ∙ mod-eq_of_lt lt
 
--- how far a number is behind the first one, by their remainders
+-- how far a number is after the first one, by their remainders
 behind_by : (n first d : ℕ) → d < n → ((first + d) % n + (n - first % n)) % n ≡ d
 behind_by n first d lt =
     elim (cases_lt (first % n + d) n) [

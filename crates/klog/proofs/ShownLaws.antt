@@ -1,4 +1,4 @@
--- What record an entry stands for, in each of the three places where it may lie, and that it stays where a segment is
+-- What record an entry stands for, in each of the three places where it may lie, and that it stays if a segment is
 -- sealed or a record is added.
 use Rattle.std.proofs.Common.{◌≡◌, ◌≢◌, ℕ, ◌+◌, ◌≤◌, Bool, true, false, ◌&&◌, eqb, cond, List, [], ◌∷◌, get_or, Option, Some, None, inl, inr, refl, sym, ap, subst, ◌∙◌, arith}
 use Rattle.std.specs.Prelude.{IsSome, IsSomeAnd}

@@ -21,7 +21,7 @@ use Rattle.klog.proofs.LiveLaws.{live_by, live_by-kept}
 use Rattle.klog.proofs.KnownLaws.{shows_live, shows_weaker}
 use Rattle.klog.proofs.LookLaws.{got, got_early, kept_of, dropped_at, dropped_past}
 
--- ---- a turn: the entry that stands so far behind the newest of the set
+-- ---- a turn: the entry that stands so far after the newest of the set
 abbrev pub AtTurn : LogState → ℕ → ℕ → Entry → Type 0
 AtTurn k set behind e = slice_get (of_set set k.entries) behind ≡ Some e
 
@@ -29,7 +29,7 @@ AtTurn k set behind e = slice_get (of_set set k.entries) behind ≡ Some e
 pub turn_at : (k : LogState) (set behind : ℕ) (e : Entry) (now rest : List Entry) → now ≡ drop behind (of_set set k.entries) → now ≡ e ∷ rest → AtTurn k set behind e
 turn_at k set behind e now rest left is = (dropped_at (of_set set k.entries) behind e rest (sym left ∙ is)).0
 
--- and the others stand behind it
+-- and the others stand after it
 pub turn_rest : (k : LogState) (set behind : ℕ) (e : Entry) (now rest : List Entry) → now ≡ drop behind (of_set set k.entries) → now ≡ e ∷ rest → rest ≡ drop (behind + 1) (of_set set k.entries)
 turn_rest k set behind e now rest left is =
     let next : suc behind ≡ behind + 1 = omega arith in
@@ -56,7 +56,7 @@ slice_get_push [] y x (suc i) at = absurd cc
 slice_get_push (z ∷ xs) y x zero at = inl at
 slice_get_push (z ∷ xs) y x (suc i) at = elim (slice_get_push xs y x i at) [ inl before ↦ inl before | inr last ↦ inr (omega (arith, last.0), last.1) ]
 
--- what stood at a place stands there still, and behind all of it stands what is added
+-- what stood at a place stands there still, and after all of it stands what is added
 slice_get_still : {X : Type 0} (xs : List X) (y x : X) (i : ℕ) → slice_get xs i ≡ Some x → slice_get (xs ++ y ∷ []) i ≡ Some x
 slice_get_still [] y x i at = absurd cc
 slice_get_still (z ∷ xs) y x zero at = at
@@ -89,7 +89,7 @@ turn_more bytes held k set behind e t rs at before copies =
     take_more es behind e (slice_get_within es behind e at) ∙ ap (λ (x : Entry). take behind es ++ x ∷ []) (get_or_from_slice_get es behind e e at) in
     subst (λ (xs : List Entry). AreCopies bytes held k xs (rs ++ t ∷ [])) (sym more) (copies_push bytes held k (take behind es) rs e t before copies)
 
--- ---- what is taken of the live records, where all of them are known
+-- ---- what is taken of the live records, if all of them are known
 
 -- copies of live entries are their records
 live_copies : (bytes : ℕ) (held : ℕ → Option (List ℕ)) (k : LogState) (es : List Entry) (rs : List TakenRecord) → All (IsLiveOn bytes held k) es → AreCopies bytes held k es rs → rs ≡ map (taken_as k) (live_by (shown_on held k) es)
@@ -105,7 +105,7 @@ live_copies bytes held k (e ∷ es) (t ∷ rs) live h =
     step (Some r) is first rest = simp is (ap (λ (x : TakenRecord). x ∷ rs) (same_Some t (taken_as k (e, r)) first) ∙ ap (λ (ts : List TakenRecord). taken_as k (e, r) ∷ ts) rest)
     step None is first rest = absurd first
 
--- where each entry shows a record, the first of them are as many live records
+-- if each entry shows a record, the first of them are as many live records
 take_live : (shows : Entry → Option Rec) (n : ℕ) (es : List Entry) → All (λ e. IsSome (shows e)) es → take n (live_by shows es) ≡ live_by shows (take n es)
 take_live shows zero es all = refl
 take_live shows (suc n) [] all = refl
@@ -129,7 +129,7 @@ taken_first bytes held k set spelled =
     ap (map (taken_as k)) (sym (take_live (shown_on held k) most_taken (of_set set k.entries) (All-filter (is_of set) (λ e. IsSome (shown_on held k e)) k.entries all)))
     ∙ ap (λ (xs : List (Entry × Rec)). map (taken_as k) (take most_taken xs)) (live_by-kept (is_of set) (shown_on held k) k.entries)
 
--- where none stands further behind, those so far are all that are taken
+-- if none stands further on, those so far are all that are taken
 pub taken_all : (k : LogState) (set behind : ℕ) (now : List Entry) → now ≡ drop behind (of_set set k.entries) → now ≡ [] → behind ≤ most_taken → take behind (of_set set k.entries) ≡ taken_entries k set
 taken_all k set behind now left none le =
     let es = of_set set k.entries in
@@ -146,7 +146,7 @@ taken_of_copies bytes held k set rs copies spelled =
 pub turn_copies : (bytes : ℕ) (held held' : ℕ → Option (List ℕ)) (k : LogState) (e : Entry) (o o' : Result (Option TakenRecord) AllocError) → held' ≡ held → o ≡ o' → Copies bytes held' k e o → Copies bytes held k e o'
 turn_copies bytes held held' k e o o' same is h = subst (Copies bytes held k e) is (subst (λ (x : ℕ → Option (List ℕ)). Copies bytes x k e o) same h)
 
--- where an entry is live a page of it that is lost was a failure
+-- if an entry is live a page of it that is lost was a failure
 pub turn_fails : (bytes : ℕ) (held held' : ℕ → Option (List ℕ)) (k : LogState) (e : Entry) (o : Option TakenRecord) (start before now : ℕ) → held' ≡ held → o ≡ None → before ≡ start
     → (IsLiveOn bytes held' k e → now ≡ faults_after before (is_missing (Ok o))) → IsLiveOn bytes held k e → now ≡ faults_after start true
 turn_fails bytes held held' k e o start before now same is began h live =

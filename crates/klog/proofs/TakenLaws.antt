@@ -39,7 +39,7 @@ fresh bytes k r e is held same =
     let at : segment_of k e ≡ filled_number k = ap (λ (p : Place). number_of k p.segment) (sym same) ∙ entry_number bytes k r is in
     some_none _ (held.filled at) (ap (λ (p : Place). record_in k.filling p.page p.slot) (sym same) ∙ free_at bytes k.filling r)
 
--- an entry stays held where a record is added
+-- an entry stays held when a record is added
 stays_put : (bytes : ℕ) (k : LogState) (r : Rec) (e : Entry) → IsHeld k e → IsHeld (put_on bytes k r) e
 stays_put bytes k r e h = record {
   set = h.set;
@@ -51,7 +51,7 @@ stays_put bytes k r e h = record {
       some_is (record_in (pages_with bytes k.filling r) e.place.page e.place.slot) was.0 (still_in bytes k.filling r e.place.page e.place.slot was.0 was.1);
 }
 
--- where the filled segment is sealed
+-- when the filled segment is sealed
 pub stays_sealed : (k : LogState) (e : Entry) → k.is_flushing ≡ false → IsHeld k e → IsHeld (sealed k) e
 stays_sealed k e idle h =
     let was : filled_number k ≡ flushed_number k = ap (λ (t : Bool). cond t (flushed_number k + 1) (flushed_number k)) idle in
@@ -63,7 +63,7 @@ stays_sealed k e idle h =
       filled = λ at. absurd (omega (arith, h.segment, was, at));
     }
 
--- where a page is done
+-- when a page is done
 stays_moved : (k : LogState) (e : Entry) → k.is_flushing ≡ true → IsHeld k e → IsHeld (moved_on k) e
 stays_moved k e on h =
     let was : filled_number k ≡ flushed_number k + 1 = ap (λ (t : Bool). cond t (flushed_number k + 1) (flushed_number k)) on in
@@ -71,7 +71,7 @@ stays_moved k e on h =
     (λ _. record { set = h.set; name = h.name; page = h.page; segment = omega (arith, h.segment, was); filled = λ at. h.filled (omega (arith, at, was)) })
     (λ _. record { set = h.set; name = h.name; page = h.page; segment = h.segment; filled = h.filled })
 
--- where entries are dropped or lowered
+-- when entries are dropped or lowered
 stays_list : (k : LogState) (es : List Entry) (e : Entry) → IsHeld k e → IsHeld (with_list k es) e
 stays_list k es e h = record { set = h.set; name = h.name; page = h.page; segment = h.segment; filled = h.filled }
 
@@ -108,7 +108,7 @@ stays_append bytes k r e is h room = by_case (can_add bytes (filling_buffer k) r
 pub append_keeps : AppendKeepsPlaces
 append_keeps bytes k r e is h room = let stays = stays_append bytes k r e is h room in ((stays.held, stays.number), stays.elsewhere)
 
--- where entries are dropped or lowered
+-- when entries are dropped or lowered
 pub list_keeps : ListKeepsPlaces
 list_keeps k es e h = (stays_list k es e h, refl)
 
@@ -127,7 +127,7 @@ flush_keeps k k' flushed.LogFull e h g = subst (λ q. KeepsPlace k q e) (sym g.s
 flush_keeps k k' flushed.Wrote e h g = subst (λ q. KeepsPlace k q e) (sym g.1) (stays_moved k e g.0.0 h, moved_number k e)
 flush_keeps k k' flushed.PageLost e h g = subst (λ q. KeepsPlace k q e) (sym g.1) (stays_moved (without_next k) e g.0.0 (stays_list k _ e h), moved_number (without_next k) e)
 
--- where the oldest segment is freed, and the entry is of another one
+-- when the oldest segment is freed, and the entry is of another one
 pub freeing_keeps : FreeingKeepsPlaces
 freeing_keeps k e log h some other =
     let named : e.place.segment ≢ name_of k k.first = λ same. other (ap (number_of k) same ∙ number_again k k.first (omega arith) (omega arith)) in

@@ -1,4 +1,4 @@
--- Laws of what the log answers, told on its list of segments.
+-- Laws of what the log answers, stated on its list of segments.
 use Rattle.std.specs.Prelude.{◌≡◌, ◌≢◌, ◌⊎◌, ◌↔◌, ℕ, ◌+◌, ◌-◌, ◌<◌, ◌≤◌, ◌^◌, List, [], ◌∷◌, ◌++◌, length, map, take, reverse, filter, count_by, sum_by, slice_get, All, Option, Some, IsSome, MatchOption, true}
 use Rattle.std.specs.Option.{option_map}
 use Rattle.record_pages.specs.Recs.{Rec, size}
@@ -29,7 +29,7 @@ CountTellsLive =
 
 -- ---- what a look-up finds
 
--- of these records, this one is the last with the key: it has the key, and none behind it has
+-- of these records, this one is the last with the key: it has the key, and none after it has
 pub record IsLastWith (key : List ℕ) (records : List LogRecord) (x : LogRecord) : Type 0 where
   pub before : List LogRecord
   pub after : List LogRecord
@@ -37,11 +37,11 @@ pub record IsLastWith (key : List ℕ) (records : List LogRecord) (x : LogRecord
   pub has : x.key ≡ key
   pub last : All (λ y. y.key ≢ key) after
 
--- this is the last of the records with the key; or where there is none, no record has the key
+-- this is the last of the records with the key; or if there is none, no record has the key
 abbrev pub TellsLastWith : List ℕ → List LogRecord → Option LogRecord → Type 0
 TellsLastWith key records found = MatchOption found (All (λ y. y.key ≢ key) records) (IsLastWith key records)
 
--- what a look-up for a key finds is the last live record of the list with that key, where it has one
+-- what a look-up for a key finds is the last live record of the list with that key, if it has one
 abbrev pub LookFindsNewest : Type 0
 LookFindsNewest =
     (held : ℕ → Option (List ℕ)) (k : LogState) (key : List ℕ)
@@ -62,7 +62,7 @@ TakingGivesLast =
     → IsSpelledOn bytes held k
     → map as_listed (taken_of k set (live_on held k)) ≡ take most_taken (reverse (filter (is_of_set k.shape set) (live_records (segments_of held k))))
 
--- ---- what is told of the oldest segment
+-- ---- what is said of the oldest segment
 
 -- this record, on this page, is the first live one of a segment: on no earlier page is one live, and on its page none before it
 pub record IsFirstIn (s : Segment) (page : ℕ) (x : LogRecord) : Type 0 where
@@ -80,7 +80,7 @@ TellsFirst held k stored (oldest.First e) =
     (s : Segment) × (r : Rec) × (slice_get stored 0 ≡ Some s) × (segment_of k e ≡ s.number) × (shown_on held k e ≡ Some r)
     × IsFirstIn s e.place.page (live_record (e, r))
 
--- what is told of the oldest segment, where no set is passed over, is so of the first segment on the device
+-- what is said of the oldest segment, if no set is passed over, is so of the first segment on the device
 abbrev pub OldestTellsFirst : Type 0
 OldestTellsFirst =
     (bytes : ℕ) (held : ℕ → Option (List ℕ)) (k : LogState) (answer : Oldest)
@@ -95,12 +95,12 @@ OldestTellsFirst =
 abbrev pub bytes_of : LogRecord → ℕ
 bytes_of x = object_size x.key x.value.value
 
--- a page of so many bytes, with these records, live or dead, takes this one too: its bytes fit, and there are not too many
+-- a page of this many bytes, with these records, live or dead, takes this one too: its bytes fit, and there are not too many
 pub record TakesOneMore (bytes : ℕ) (r : Rec) (records : List LogRecord) : Type 0 where
   pub fits : sum_by bytes_of records + size r ≤ room bytes
   pub few : length records < max_log_records
 
--- a segment that may have so many pages takes the record: on its last page, or on one page more
+-- a segment that may have this many pages takes the record: on its last page, or on one page more
 abbrev pub Takes : ℕ → ℕ → Rec → Segment → Type 0
 Takes bytes count r s = ((0 < length s.pages) × TakesOneMore bytes r (on_page s.pages (length s.pages - 1))) ⊎ (length s.pages < count)
 
@@ -110,7 +110,7 @@ abbrev pub NoneTakes : ℕ → ℕ → Rec → Segments → Type 0
 NoneTakes bytes count r l =
     ((¬ Takes bytes count r l.filling) × (IsSome l.flushing ⊎ (2 ^ 62 < l.filling.number + 1))) ⊎ (2 ^ 62 < l.filling.number)
 
--- the log is full for a record exactly where none of the list's segments takes it
+-- the log is full for a record exactly when none of the list's segments takes it
 abbrev pub FullWhereNoneTakes : Type 0
 FullWhereNoneTakes =
     (bytes : ℕ) (held : ℕ → Option (List ℕ)) (k : LogState) (r : Rec)

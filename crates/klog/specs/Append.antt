@@ -32,7 +32,7 @@ entry_for bytes k r = record {
 abbrev pub put_on : ℕ → LogState → Rec → LogState
 put_on bytes k r = record k { entries = entry_for bytes k r ∷ k.entries; filling = pages_with bytes k.filling r }
 
--- the log that takes the record: as it is where the filled segment has room, else with a new segment
+-- the log that takes the record: as it is if the filled segment has room, otherwise with a new segment
 abbrev pub taker : ℕ → LogState → Rec → LogState
 taker bytes k r = if can_add bytes (filling_buffer k) r then k else sealed k
 
@@ -58,7 +58,7 @@ pub record Appends (bytes : ℕ) (old : LogState) (r : Rec) (new : LogState) : T
   pub room : is_full bytes old r ≡ false
   pub added : new ≡ appended bytes old r
 
--- refused where the index is full, or else where no place is left; added otherwise
+-- refused if the index is full, or else if no place is left; added otherwise
 abbrev pub AppendGives : ℕ → LogState → Rec → Appended → LogState → Type 0
 AppendGives bytes old r answers.IndexFull new = (length old.entries ≡ old.shape.limit) × (new ≡ old)
 AppendGives bytes old r answers.Full new = LacksPlace bytes old r new

@@ -23,7 +23,7 @@ record_in pages page slot = slice_get (page_of pages page) slot
 abbrev pub fits_here : ℕ → List (List Rec) → Rec → Bool
 fits_here size pages r = nat_lt 0 (length pages) && fit_log size (page_of pages (length pages - 1) ++ r ∷ [])
 
--- the record goes on the current page where it fits there, else on the next one, where there may be one
+-- the record goes on the current page if it fits there, otherwise on the next one, if there may be one
 abbrev pub can_add : ℕ → Buffer → Rec → Bool
 can_add size b r = fits_here size b.pages r || nat_lt (length b.pages) b.room
 

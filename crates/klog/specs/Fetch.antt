@@ -28,7 +28,7 @@ IsItsOwn bytes shape e fetched.Damaged = Unit {0}
 abbrev pub stored_on : (ℕ → Option (List ℕ)) → LogState → Entry → Option Rec
 stored_on held k e = record_of_held (segment_of k e) e.place.page e.place.slot (held (device_page k (segment_of k e) e.place.page))
 
--- a record that is given is the one that lies there; where one is damaged, what lies there cannot stand for the entry
+-- a record that is given is the one that lies there; if one is damaged, what lies there cannot stand for the entry
 abbrev pub FetchGives : ℕ → Shape → Entry → Option Rec → Fetched → Type 0
 FetchGives bytes shape e there (fetched.Record r) = there ≡ Some (record_shown r)
 FetchGives bytes shape e there fetched.Fault = Unit {0}

@@ -19,12 +19,12 @@ abbrev pub is_told_fault : RecordAnswer → Bool
 is_told_fault told.Fault = true
 is_told_fault _ = false
 
--- a live value is told
+-- a live value is reported
 abbrev pub is_told_hit : RecordAnswer → Bool
 is_told_hit told.Hit = true
 is_told_hit _ = false
 
--- What is told of what an entry shows at a moment, if that is known: it has the key, and the value in the buffer, or has
+-- What is said of what an entry shows at a moment, if that is known: it has the key, and the value in the buffer, or has
 -- expired; or it has another key. If it is damaged no record lies there that may stand for the entry.
 abbrev pub TellsKey : ℕ → (ℕ → Option (List ℕ)) → LogState → Entry → List ℕ → ℕ → List ℕ → RecordAnswer → Type 0
 TellsKey bytes held k e key moment buffer told.Hit = ShowsIfHad bytes held k e (λ r. (has_key key r ≡ true) × (value_at moment r.value ≡ Some buffer))

@@ -71,7 +71,7 @@ abbrev pub live_flushed : LogState → Flushed → List (Entry × Rec) → List 
 live_flushed old flushed live =
     if is_page_lost flushed then filter (λ x. not (is_on_page old (flushed_number old) old.done x.0)) live else live
 
--- A write of the page that is flushed next. Where the device takes it, the page is known to hold the records of the
+-- A write of the page that is flushed next. If the device takes it, the page is known to hold the records of the
 -- buffer; all other pages of the device stay.
 pub record WritesNext (bytes : ℕ) (k : LogState) (wrote : Bool) (old new : ℕ → Option (List ℕ)) : Type 0 where
   pub written : OnTrue wrote (HoldsPage bytes (flushed_number k) k.done (page_of k.flushing k.done) (new (device_page k (flushed_number k) k.done)))

@@ -15,12 +15,12 @@ pub record IsHeld (k : LogState) (e : Entry) : Type 0 where
   pub segment : segment_of k e ≤ filled_number k
   pub filled : segment_of k e ≡ filled_number k → IsSome (record_in k.filling e.place.page e.place.slot)
 
--- a place lies behind another in the log: its segment has the greater number, or it comes later in the same one, by page, then slot
+-- a place lies after another in the log: its segment has the greater number, or it comes later in the same one, by page, then slot
 abbrev pub IsBehind : LogState → Place → Place → Type 0
 IsBehind k p q =
     (number_of k q.segment < number_of k p.segment) ⊎ ((number_of k q.segment ≡ number_of k p.segment) × IsBefore q p)
 
--- entries stand newest first: each lies behind those that follow it
+-- entries stand newest first: each lies after those that follow it
 abbrev pub AreOrdered : LogState → List Entry → Type 0
 AreOrdered k es = AllPairs (λ a b. IsBehind k a.place b.place) es
 

@@ -22,7 +22,7 @@ abbrev pub AreBuffered : LogState → List Entry → Type 0
 AreBuffered k es = All (λ e. IsTrue (is_buffered k e)) es
 
 -- What is known of pages is so of a device: each one of which something is known is a page of an honest device, which holds
--- just that. So where a device is not honest nothing is known of any.
+-- just that. So if a device is not honest nothing is known of any.
 abbrev pub AreHeldBy : {D : Type 0} → (D → Bool) → (D → ℕ → Option (List ℕ)) → D → (ℕ → Option (List ℕ)) → Type 0
 AreHeldBy honest held device known = (page : ℕ) → IfSome (known page) (λ text. IsTrue (honest device) × (held device page ≡ Some text))
 
@@ -38,6 +38,6 @@ IsPageKnown held k e = IsSome (held (device_page k (segment_of k e) e.place.page
 abbrev pub IsHad : (ℕ → Option (List ℕ)) → LogState → Entry → Type 0
 IsHad held k e = OnFalse (is_buffered k e) (IsPageKnown held k e)
 
--- what lies there, where it is known, is a record that may stand for the entry, and of which this holds
+-- what lies there, if it is known, is a record that may stand for the entry, and of which this holds
 abbrev pub ShowsIfHad : ℕ → (ℕ → Option (List ℕ)) → LogState → Entry → (Rec → Type 0) → Type 0
 ShowsIfHad bytes held k e P = IsHad held k e → IsSomeAnd (shown_on held k e) (λ r. CanStandFor bytes k.shape e r × P r)

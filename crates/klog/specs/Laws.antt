@@ -29,11 +29,11 @@ AppendKeepsPlaces =
 abbrev pub FlushKeepsPlaces : Type 0
 FlushKeepsPlaces = (k new : LogState) (answer : Flushed) (e : Entry) → IsHeld k e → FlushGives k answer new → KeepsPlace k new e
 
--- it is held where entries are dropped or lowered
+-- it is held when entries are dropped or lowered
 abbrev pub ListKeepsPlaces : Type 0
 ListKeepsPlaces = (k : LogState) (es : List Entry) (e : Entry) → IsHeld k e → KeepsPlace k (with_list k es) e
 
--- it is held where the oldest segment is freed, if it is of another one
+-- it is held when the oldest segment is freed, if it is of another one
 abbrev pub FreeingKeepsPlaces : Type 0
 FreeingKeepsPlaces = (k : LogState) (e : Entry) → IsLog k → IsHeld k e → 0 < k.stored → segment_of k e ≢ k.first → KeepsPlace k (freed k) e
 
@@ -50,7 +50,7 @@ abbrev pub LiveAreAsMany : Type 0
 LiveAreAsMany =
     (bytes : ℕ) (held : ℕ → Option (List ℕ)) (k : LogState) → IsSpelledOn bytes held k → length (live_on held k) ≡ length k.entries
 
--- where the pages from the number of sets on are the same, the log is spelled still and the same records are live
+-- if the pages from the number of sets on are the same, the log is spelled still and the same records are live
 abbrev pub FramesKeepLog : Type 0
 FramesKeepLog =
     (bytes : ℕ) (was is : ℕ → Option (List ℕ)) (k : LogState)

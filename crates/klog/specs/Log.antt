@@ -18,7 +18,7 @@ abbrev pub shape_of : Layout → Shape
 shape_of l = record { lanes = l.lanes; sets = l.sets; segments = l.segments; segment_pages = l.segment_pages; limit = l.entries }
 
 -- What memory holds of a log. The entries stand newest first. The segments on the device have the numbers from first
--- on; then comes the one that is flushed, where there is one, with the number of its pages that were written or lost;
+-- on; then comes the one that is flushed, if there is one, with the number of its pages that were written or lost;
 -- and then the one that is filled.
 pub record LogState : Type 0 where
   pub shape : Shape

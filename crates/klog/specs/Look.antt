@@ -26,7 +26,7 @@ lowered_in k set place = with_list k (with_lowered (is_in set place) k.entries)
 abbrev pub live_lowered : ℕ → Place → List (Entry × Rec) → List (Entry × Rec)
 live_lowered set place live = map (λ x. (if is_in set place x.0 then lowered x.0 else x.0, x.1)) live
 
--- one of the entries with this set and tag is lowered, and where that one lies in a buffer the device was not called,
+-- one of the entries with this set and tag is lowered, and if that one lies in a buffer the device was not called,
 -- whatever older ones there are
 pub record LowersEntry (old : LogState) (set tag : ℕ) (new : LogState) (not_called : Type 0) : Type 0 where
   pub entry : Entry
@@ -34,7 +34,7 @@ pub record LowersEntry (old : LogState) (set tag : ℕ) (new : LogState) (not_ca
   pub lowered : new ≡ lowered_in old set entry.place
   pub uncalled : IsTrue (is_buffered old entry) → not_called
 
--- a hit lowers an entry; else nothing changes
+-- a hit lowers an entry; otherwise nothing changes
 abbrev pub LogLookLeaves : LogState → ℕ → ℕ → Result Looked AllocError → LogState → Type 0 → Type 0
 LogLookLeaves old set tag (Ok (looked.Hit value)) new not_called = LowersEntry old set tag new not_called
 LogLookLeaves old set tag (Ok looked.Expired) new not_called = new ≡ old
@@ -66,7 +66,7 @@ pub record StaysAlive (live : List (Entry × Rec)) (old new : LogState) (after :
 
 -- A hit is the newest live record of the key, which has not expired at the moment, and its entry is lowered; expired is a key
 -- whose newest live record has expired; absent is a key that no live record has; a fault
--- comes only where the search comes to a page; no page is damaged. Before and after the call these records are live.
+-- comes only if the search comes to a page; no page is damaged. Before and after the call these records are live.
 abbrev pub LogLookGives : List (Entry × Rec) → List ℕ → ℕ → LogState → Looked → LogState → List (Entry × Rec) → Type 0
 LogLookGives live key moment old (looked.Hit value) new after = IsSomeAnd (newest_with live key) (GivesRecord live moment value old new after)
 LogLookGives live key moment old looked.Expired new after =
@@ -75,7 +75,7 @@ LogLookGives live key moment old looked.Absent new after = (newest_with live key
 LogLookGives live key moment old looked.Fault new after = ComesToPage old key live × StaysAlive live old new after
 LogLookGives live key moment old looked.Damaged new after = ⊥
 
--- the entry shows another key, where what it shows is known
+-- the entry shows another key, if what it shows is known
 abbrev pub ShowsOther : ℕ → (ℕ → Option (List ℕ)) → LogState → List ℕ → Entry → Type 0
 ShowsOther bytes held k key e = ShowsIfHad bytes held k e (λ r. has_key key r ≡ false)
 
@@ -86,7 +86,7 @@ pub record IsReached (bytes : ℕ) (held : ℕ → Option (List ℕ)) (k : LogSt
   pub newer : All (ShowsOther bytes held k key) (take behind (of_tag set tag k.entries))
 
 -- a hit, whatever else is known: the search came to an entry, which shows the value, and is lowered; the device was not
--- called where it lies in a buffer
+-- called if it lies in a buffer
 pub record HitsAt (bytes : ℕ) (held : ℕ → Option (List ℕ)) (old : LogState) (set tag : ℕ) (key : List ℕ) (moment : ℕ) (value : List ℕ) (new : LogState) (not_called : Type 0) : Type 0 where
   pub entry : Entry
   pub reached : IsReached bytes held old set tag key entry
@@ -95,7 +95,7 @@ pub record HitsAt (bytes : ℕ) (held : ℕ → Option (List ℕ)) (old : LogSta
   pub uncalled : IsTrue (is_buffered old entry) → not_called
 
 -- an expired one, whatever else is known: the search came to an entry, which shows a record with the key that has expired; the
--- log stays, and the device was not called where it lies in a buffer
+-- log stays, and the device was not called if it lies in a buffer
 pub record ExpiredAt (bytes : ℕ) (held : ℕ → Option (List ℕ)) (old : LogState) (set tag : ℕ) (key : List ℕ) (moment : ℕ) (new : LogState) (not_called : Type 0) : Type 0 where
   pub entry : Entry
   pub reached : IsReached bytes held old set tag key entry

@@ -34,7 +34,7 @@ pub record IsPassed (passed : List ℕ) (k : LogState) : Type 0 where
   pub some : SomeOfSegment (name_of k k.first) k.entries
   pub no_other : NoneOfSegment (name_of k k.first) (without (is_of_any passed) k.entries)
 
--- What is said of the oldest segment on the device, where entries of these sets are passed over: there is none; it has no
+-- What is said of the oldest segment on the device, if entries of these sets are passed over: there is none; it has no
 -- live record; it has some, all of these sets; or which is the first of the others, by page, then slot.
 abbrev pub TellsOldest : List ℕ → LogState → Oldest → Type 0
 TellsOldest passed k oldest.NoSegment = k.stored ≡ 0
@@ -54,7 +54,7 @@ pub record IsNextToMove (passed : List ℕ) (k : LogState) (e : Entry) : Type 0 
   pub set : e.set < k.shape.sets
   pub not_passed : is_of_any passed e ≡ false
 
--- the entry that is told is a live one of that segment, of a set of the lane, and of none that is passed over
+-- the entry that is reported is a live one of that segment, of a set of the lane, and of none that is passed over
 abbrev pub IsFirstLive : List ℕ → LogState → Oldest → Type 0
 IsFirstLive passed k (oldest.First e) = IsNextToMove passed k e
 IsFirstLive passed k oldest.NoSegment = Unit {0}
@@ -112,7 +112,7 @@ pub record FindsNoPlace (bytes : ℕ) (old : LogState) (e : Entry) (new : LogSta
   pub full : is_full bytes (without_entry old e) (entering its.key its.value) ≡ true
   pub left : new ≡ without_entry old e
 
--- A record that may stand for the entry is appended anew, or is lost where no place is left; where its page is not to be
+-- A record that may stand for the entry is appended anew, or is lost if no place is left; if its page is not to be
 -- had all entries of that page are dropped.
 abbrev pub ReadmitLeaves : ℕ → LogState → Entry → Readmitted → LogState → Type 0
 ReadmitLeaves bytes old e answers.Readmitted new = AppendsAnew bytes old e new
@@ -156,7 +156,7 @@ pub record ReadmitGives (bytes : ℕ) (old : LogState) (e : Entry) (live : List 
   pub left : after ≡ live_anew bytes old e its a live
 
 -- what lies behind each answer of a readmission, whatever else is known: a record that may stand for the entry, and which
--- entered anew or found no place; or, where one is damaged, none
+-- entered anew or found no place; or, if one is damaged, none
 abbrev pub ReadsBack : ℕ → (ℕ → Option (List ℕ)) → LogState → Entry → Readmitted → LogState → Type 0
 ReadsBack bytes held old e answers.Readmitted new = ShowsIfHad bytes held old e (λ r. EntersAnew bytes old e r answers.Readmitted new)
 ReadsBack bytes held old e answers.Dropped new = ShowsIfHad bytes held old e (λ r. EntersAnew bytes old e r answers.Dropped new)
@@ -182,7 +182,7 @@ pub record LosesPageOf (old : LogState) (set : ℕ) (new : LogState) : Type 0 wh
   pub listed : Contains (taken_entries old set) entry
   pub left : new ≡ without_its_page old entry
 
--- where a page was lost, one with a record that was to be taken, all its entries are dropped; else nothing changes, and
+-- if a page was lost, one with a record that was to be taken, all its entries are dropped; otherwise nothing changes, and
 -- no more records are given than are taken at once
 abbrev pub TakeLeaves : LogState → ℕ → Result SetTaken AllocError → LogState → Type 0
 TakeLeaves old set (Ok taken.PageLost) new = LosesPageOf old set new
@@ -206,17 +206,17 @@ pub record LosesStoredPage (old : LogState) (set : ℕ) (live : List (Entry × R
   pub live_left : after ≡ live_without_page old entry live
 
 -- What is answered, of these live records, and the log and what is live after it: the records that are taken are still
--- live; where a page on the device was lost, one with a record that was to be taken, its entries and records are gone.
+-- live; if a page on the device was lost, one with a record that was to be taken, its entries and records are gone.
 abbrev pub TakeGives : LogState → ℕ → List (Entry × Rec) → SetTaken → LogState → List (Entry × Rec) → Type 0
 TakeGives old set live (taken.Records rs) new after = (rs ≡ taken_of old set live) × StaysAlive live old new after
 TakeGives old set live taken.PageLost new after = LosesStoredPage old set live new after
 
--- records are those of these entries, each as it is taken, where what the entry shows is known
+-- records are those of these entries, each as it is taken, if what the entry shows is known
 pub record AreCopies (bytes : ℕ) (held : ℕ → Option (List ℕ)) (k : LogState) (es : List Entry) (rs : List TakenRecord) : Type 0 where
   pub count : length rs ≡ length es
   pub each : (i : ℕ) (e : Entry) → slice_get es i ≡ Some e → ShowsIfHad bytes held k e (λ r. slice_get rs i ≡ Some (taken_as k (e, r)))
 
--- a page with a record that was to be taken is lost; where such a record is known, the device failed, and the record lies
+-- a page with a record that was to be taken is lost; if such a record is known, the device failed, and the record lies
 -- in no buffer
 pub record LosesPageAt (bytes : ℕ) (held : ℕ → Option (List ℕ)) (old : LogState) (set before : ℕ) (new : LogState) (after : ℕ) : Type 0 where
   pub entry : Entry
@@ -232,7 +232,7 @@ pub record WantsToTake (bytes : ℕ) (held : ℕ → Option (List ℕ)) (old : L
   pub shows : ShowsIfHad bytes held old entry (λ r. Unit {0})
 
 -- What lies behind each answer of a taking, whatever else is known, by the device's count of failures before and after:
--- each record is its entry's; a page is lost where an entry to be taken shows no record that may stand for it, or the
+-- each record is its entry's; a page is lost if an entry to be taken shows no record that may stand for it, or the
 -- device failed; and memory is wanted only for a record.
 abbrev pub TakesAt : ℕ → (ℕ → Option (List ℕ)) → LogState → ℕ → ℕ → Result SetTaken AllocError → LogState → ℕ → Type 0
 TakesAt bytes held old set before (Ok (taken.Records rs)) new after = AreCopies bytes held old (taken_entries old set) rs

@@ -19,7 +19,7 @@ number_of k name = k.first + (name + (names k - k.first % names k)) % names k
 abbrev pub segment_of : LogState → Entry → ℕ
 segment_of k e = number_of k e.place.segment
 
--- the number of the segment that is flushed, where there is one
+-- the number of the segment that is flushed, if there is one
 abbrev pub flushed_number : LogState → ℕ
 flushed_number k = k.first + k.stored
 
@@ -31,10 +31,10 @@ filled_number k = if k.is_flushing then flushed_number k + 1 else flushed_number
 abbrev pub ring_page : LogState → ℕ → ℕ → ℕ
 ring_page k segment page = segment % k.shape.segments * k.shape.segment_pages + page
 
--- the page of the device where it lies: the log's pages stand behind those of the sets
+-- the page of the device where it lies: the log's pages stand after those of the sets
 abbrev pub device_page : LogState → ℕ → ℕ → ℕ
 device_page k segment page = k.shape.sets + ring_page k segment page
 
--- a device with so many pages has the log's
+-- a device with this many pages has the log's
 abbrev pub HasRoom : ℕ → LogState → Type 0
 HasRoom count k = k.shape.sets + k.shape.segments * k.shape.segment_pages ≤ count

@@ -43,7 +43,7 @@ StrikesKill =
 abbrev pub place_of : LogState → ℕ → ℕ → LogRecord → Place
 place_of k number page x = record { segment = name_of k number; page = page; slot = x.slot }
 
--- where taken records are dropped, the records of that set die that lie at their places, in their segments
+-- when taken records are dropped, the records of that set die that lie at their places, in their segments
 abbrev pub of_taken : LogState → ℕ → List TakenRecord → Dying
 of_taken k set ts number page x = is_of_set k.shape set x && list_any (λ t. is_place (place_of k number page x) t.place && number == t.segment) ts
 
@@ -54,7 +54,7 @@ TakenDie =
     → IsSpelledOn bytes held k
     → segments_of held (dropped k set ts) ≡ killed (of_taken k set ts) (segments_of held k)
 
--- where an entry is dropped, the record of its set at its place dies
+-- when an entry is dropped, the record of its set at its place dies
 abbrev pub of_entry : LogState → Entry → Dying
 of_entry k e number page x = is_of_set k.shape e.set x && is_place (place_of k number page x) e.place
 
@@ -65,7 +65,7 @@ EntryDies =
     → IsSpelledOn bytes held k
     → segments_of held (without_entry k e) ≡ killed (of_entry k e) (segments_of held k)
 
--- where a page is lost, its records die
+-- when a page is lost, its records die
 abbrev pub of_page : ℕ → ℕ → Dying
 of_page segment lost number page x = number == segment && page == lost
 
@@ -77,7 +77,7 @@ LostPagesDie =
     → segment ≤ filled_number k
     → segments_of held (without_page k segment page) ≡ killed (of_page segment page) (segments_of held k)
 
--- where the filled segment is sealed it is flushed, and an empty one is filled
+-- when the filled segment is sealed it is flushed, and an empty one is filled
 abbrev pub SealingFlushes : Type 0
 SealingFlushes =
     (held : ℕ → Option (List ℕ)) (k : LogState) → IsLog k → k.is_flushing ≡ false → segments_of held (sealed k) ≡ now_flushing (segments_of held k)
@@ -86,7 +86,7 @@ SealingFlushes =
 abbrev pub entering_at : ℕ → Rec → LogRecord
 entering_at slot r = record { slot = slot; key = r.key; value = r.value; prediction = Some entering_prediction }
 
--- an append puts its record last, behind a sealing where the filled segment has no room
+-- an append puts its record last, after a sealing if the filled segment has no room
 abbrev pub AppendsPutLast : Type 0
 AppendsPutLast =
     (bytes : ℕ) (held : ℕ → Option (List ℕ)) (k : LogState) (r : Rec)

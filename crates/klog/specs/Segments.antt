@@ -49,14 +49,14 @@ live_record x = record { slot = x.0.place.slot; key = x.1.key; value = x.1.value
 abbrev pub live_page : List (Entry × Rec) → ℕ → ℕ → List LogRecord
 live_page live name page = map live_record (reverse (filter (λ x. is_on name page x.0) live))
 
--- a segment on the device: the live records of so many pages
+-- a segment on the device: the live records of this many pages
 abbrev pub stored_segment : (ℕ → Option (List ℕ)) → LogState → ℕ → Segment
 stored_segment held k number = record {
   number = number;
   pages = map (λ page. live_page (live_on held k) (name_of k number) page) (range_with_len 0 k.shape.segment_pages);
 }
 
--- a record in a buffer: live, with its entry's prediction, where an entry lies at its place, and dead else
+-- a record in a buffer: live, with its entry's prediction, if an entry lies at its place, and dead otherwise
 abbrev pub buffered_record : List Entry → Place → Rec → LogRecord
 buffered_record es place r = record {
   slot = place.slot;
@@ -82,7 +82,7 @@ segments_of held k = record {
   filling = buffered_segment k (filled_number k) k.filling;
 }
 
--- the segment that is flushed, where there is one
+-- the segment that is flushed, if there is one
 abbrev pub flushed_ones : Option FlushingSegment → List Segment
 flushed_ones None = []
 flushed_ones (Some f) = f.segment ∷ []

@@ -16,7 +16,7 @@ use Rattle.klog.specs.Buffer.{page_of, record_in}
 use Rattle.klog.specs.Log.{Shape, LogState}
 use Rattle.klog.specs.Names.{segment_of, flushed_number, filled_number, ring_page}
 
--- the record in a slot of a page that was read, where it is the expected page
+-- the record in a slot of a page that was read, if it is the expected page
 unfoldable pub record_on : ℕ → ℕ → ℕ → Option LogPageParts → Option Rec
 record_on segment page slot None = None
 record_on segment page slot (Some p) = if p.segment == segment && p.page == page then slice_get p.records slot else None

@@ -44,7 +44,7 @@ now_flushing l = record {
   filling = record { number = l.filling.number + 1; pages = [] };
 }
 
--- a segment as it lies on the device, where a segment has so many pages: its dead records are no longer listed
+-- a segment as it lies on the device, if a segment has this many pages: its dead records are no longer listed
 abbrev pub on_device : ℕ → Segment → Segment
 on_device count s = record s { pages = map (λ page. filter is_live (on_page s.pages page)) (range_with_len 0 count) }
 

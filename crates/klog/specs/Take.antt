@@ -17,7 +17,7 @@ abbrev pub is_missing : Result (Option TakenRecord) AllocError → Bool
 is_missing (Ok None) = true
 is_missing _ = false
 
--- a record that was had is the entry's, as it is taken, where what the entry shows is known; memory is wanted only for one
+-- a record that was had is the entry's, as it is taken, if what the entry shows is known; memory is wanted only for one
 abbrev pub Copies : ℕ → (ℕ → Option (List ℕ)) → LogState → Entry → Result (Option TakenRecord) AllocError → Type 0
 Copies bytes held k e (Ok (Some t)) = ShowsIfHad bytes held k e (λ r. t ≡ taken_as k (e, r))
 Copies bytes held k e (Ok None) = Unit {0}

@@ -16,12 +16,12 @@ pub fn taking_gives_last()
     ensures { TakingGivesLast }
 {}
 
-/// What is told of the oldest segment is so of the first segment of the list that is on the device.
+/// What is said of the oldest segment is so of the first segment of the list that is on the device.
 pub fn oldest_tells_first()
     ensures { OldestTellsFirst }
 {}
 
-/// A log is full for a record exactly where no segment of the list takes it.
+/// A log is full for a record exactly when no segment of the list takes it.
 pub fn full_where_none_takes()
     ensures { FullWhereNoneTakes }
 {}

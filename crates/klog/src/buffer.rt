@@ -45,7 +45,7 @@ pub(crate) struct Spot {
 }
 
 impl<const PAGE: usize> SegmentBuffer<PAGE> {
-    /// A segment of so many pages, with no record.
+    /// A segment of this many pages, with no record.
     pub(crate) fn new(alloc: Global, pages: usize) -> Result<Self, AllocError>
         requires page_size { IsPageSize PAGE }
         requires pages { pages ≤ 64 }
@@ -90,7 +90,7 @@ impl<const PAGE: usize> SegmentBuffer<PAGE> {
         self.used = 0;
     }
 
-    /// Adds a record on the current page, or else on the next one. Where neither has room nothing changes.
+    /// Adds a record on the current page, or else on the next one. If neither has room nothing changes.
     pub(crate) fn push(&mut self, added: RecordRef<'_>) -> Option<Spot>
         requires page_size { IsPageSize PAGE }
         requires lawful { IsRecord (record_shown added) }

@@ -11,12 +11,12 @@ pub fn flush_keeps_places()
     ensures { FlushKeepsPlaces }
 {}
 
-/// It stays held where records are struck, dropped or asked for.
+/// It stays held when records are struck, dropped or asked for.
 pub fn list_keeps_places()
     ensures { ListKeepsPlaces }
 {}
 
-/// It stays held where the oldest segment is freed, if it is of another one.
+/// It stays held when the oldest segment is freed, if it is of another one.
 pub fn freeing_keeps_places()
     ensures { FreeingKeepsPlaces }
 {}
@@ -31,7 +31,7 @@ pub fn live_are_as_many()
     ensures { LiveAreAsMany }
 {}
 
-/// The log is spelled and shows as before where the pages from the number of sets on are the same.
+/// The log is spelled and shows as before if the pages from the number of sets on are the same.
 pub fn frames_keep_log()
     ensures { FramesKeepLog }
 {}

@@ -23,7 +23,7 @@ use record_pages::Layout;
 use std::alloc::{AllocError, Global};
 use std::marker::Model;
 
-/// The log of a lane. Its segments are numbered from 0: the oldest lie on the device, behind the pages of the sets; then
+/// The log of a lane. Its segments are numbered from 0: the oldest lie on the device, after the pages of the sets; then
 /// comes at most one that is being flushed; and then the one that is being filled.
 ///
 /// The device is lent to each call that needs it. No page below the number of sets is written.
@@ -52,7 +52,7 @@ impl<const PAGE: usize> Model for KLog<PAGE> {
 }
 
 impl<const PAGE: usize> KLog<PAGE> {
-    /// The log of a lane of this layout, with no record, or `AllocError` where memory was refused. All memory that the
+    /// The log of a lane of this layout, with no record, or `AllocError` if memory was refused. All memory that the
     /// log needs is taken here.
     pub fn open(alloc: Global, layout: &Layout) -> Result<Self, AllocError>
         requires page_size { IsPageSize PAGE }
@@ -114,7 +114,7 @@ impl<const PAGE: usize> KLog<PAGE> {
         }
     }
 
-    // The number of the segment that is flushed, where there is one.
+    // The number of the segment that is flushed, if there is one.
     fn flushed_number(&self) -> u64
         ensures number { result ≡ flushed_number self.now }
         ensures within { flushed_number self.now ≤ 2 ^ 62 + 1 }

@@ -11,17 +11,17 @@ pub fn strikes_kill()
     ensures { StrikesKill }
 {}
 
-/// Where taken records are dropped, those that still lie at their places, in their segments, die.
+/// When taken records are dropped, those that still lie at their places, in their segments, die.
 pub fn taken_die()
     ensures { TakenDie }
 {}
 
-/// Where an entry is dropped its record dies.
+/// When an entry is dropped its record dies.
 pub fn entry_dies()
     ensures { EntryDies }
 {}
 
-/// Where a page is lost its records die.
+/// When a page is lost its records die.
 pub fn lost_pages_die()
     ensures { LostPagesDie }
 {}
@@ -31,7 +31,7 @@ pub fn sealing_flushes()
     ensures { SealingFlushes }
 {}
 
-/// An append puts its record last, behind a sealing where the filled segment has no room.
+/// An append puts its record last, after a sealing if the filled segment has no room.
 pub fn appends_put_last()
     ensures { AppendsPutLast }
 {}

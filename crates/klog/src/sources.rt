@@ -6,7 +6,7 @@ use crate::taken_records::TakenRecords;
 use klog_index::{Entry, EntryTest};
 use std::marker::Model;
 
-/// The entries that records were taken of, where the segments that are held have these numbers and so many names.
+/// The entries that records were taken of, if the segments that are held have these numbers and this many names.
 #[derive(Debug, Drop)]
 pub(crate) struct Sources<'a> {
     pub(crate) taken: &'a TakenRecords,

@@ -44,7 +44,7 @@ impl TakenRecords {
         self.records.is_empty()
     }
 
-    /// Puts a record behind the others, or drops it and leaves the list as it was where memory is refused.
+    /// Puts a record after the others, or drops it and leaves the list as it was if memory is refused.
     pub fn push(&mut self, added: TakenRecord) -> Result<(), AllocError>
         ensures ok { OnOk result (self.new ≡ self.old ++ added ∷ []) }
         ensures err { OnErr result (self.new ≡ self.old) }

@@ -10,7 +10,7 @@ use Rattle.klog_index.specs.Entries.{is_of}
 use Rattle.klog_index.specs.Rows.{entry_of, row_of}
 use Rattle.klog_index.proofs.public_laws.RowLaws.{IsRow, of_kind, filter-both, fewer}
 
--- ---- rows behind a mark
+-- ---- rows after a mark
 
 after-here : (q p : ℕ) (rows : List Row) → eqb q p ≡ true → rows_after q p rows ≡ rows
 after-here q p [] is = refl
@@ -19,7 +19,7 @@ after-here q p (x ∷ xs) is = ap (λ (b : Bool). cond b (x ∷ xs) (rows_after 
 after-later : (q p : ℕ) (x : Row) (xs : List Row) → eqb q p ≡ false → rows_after q p (x ∷ xs) ≡ rows_after q x.at xs
 after-later q p x xs is = ap (λ (b : Bool). cond b (x ∷ xs) (rows_after q x.at xs)) is
 
--- what is behind a mark is among the rows
+-- what is after a mark is among the rows
 pub after-in : (q p k : ℕ) (rows : List Row) → IsIn k (numbers (rows_after q p rows)) → IsIn k (numbers rows)
 after-in q p k [] h = h
 after-in q p k (x ∷ xs) h = elim (cases_Bool (eqb q p)) [
@@ -27,11 +27,11 @@ after-in q p k (x ∷ xs) h = elim (cases_Bool (eqb q p)) [
   | inr is ↦ inr (after-in q x.at k xs (subst (λ (rs : List Row). IsIn k (numbers rs)) (after-later q p x xs is) h))
 ]
 
--- the first behind a mark is among the rows
+-- the first after a mark is among the rows
 next-in : (q p : ℕ) (rows tail : List Row) (r : Row) → rows_after q p rows ≡ r ∷ tail → IsIn r.at (numbers rows)
 next-in q p rows tail r is = after-in q p r.at rows (subst (λ (rs : List Row). IsIn r.at (numbers rs)) (sym is) (inl refl))
 
--- without the next row, what is behind the mark is without it too
+-- without the next row, what is after the mark is without it too
 pub after-without : (q p : ℕ) (rows tail : List Row) (r : Row) → IsDistinct (numbers rows) → rows_after q p rows ≡ r ∷ tail → rows_after q p (without_at r.at rows) ≡ without_at r.at (rows_after q p rows)
 after-without q p [] tail r apart is = cc
 after-without q p (x ∷ xs) tail r apart is = elim (cases_Bool (eqb q p)) [

@@ -18,7 +18,7 @@ pub record IsFirstOf (segment : ℕ) (es : List Entry) (first : Entry) : Type 0 
   pub of_segment : first.place.segment ≡ segment
   pub least : All (λ e. e.place.segment ≡ segment → ¬ IsBefore e.place first.place) es
 
--- the first entry of the segment with this name, where it has one
+-- the first entry of the segment with this name, if it has one
 abbrev pub FindsFirst : ℕ → List Entry → Option Entry → Type 0
 FindsFirst segment es found = MatchOption found (NoneOfSegment segment es) (IsFirstOf segment es)
 

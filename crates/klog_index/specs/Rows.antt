@@ -28,6 +28,6 @@ index_of pool = record { sets = pool.sets; limit = pool.limit; entries = entries
 abbrev pub RowsApart : List Row → Type 0
 RowsApart rows = AllPairs (λ a b. (entry_of a.item).place ≢ (entry_of b.item).place) rows
 
--- the first row of a kind of entry, where there is one
+-- the first row of a kind of entry, if there is one
 abbrev pub row_of : (Entry → Bool) → List Row → Option Row
 row_of p rows = slice_get (filter (λ r. p (entry_of r.item)) rows) 0

@@ -35,7 +35,7 @@ ghost use Rattle.klog_index.specs.Entries.{Entries, with_entries, without, with_
 ghost use Rattle.klog_index.specs.First.{FindsFirst, oldest_but};
 
 impl LogIndex {
-    /// An index with no entry, of so many sets, for so many entries. All memory is taken here.
+    /// An index with no entry, of this many sets, for this many entries. All memory is taken here.
     pub fn open(alloc: Global, sets: u32, entries: u32) -> Result<Self, AllocError>
         requires sets { sets ≤ 65536 }
         requires entries { entries ≤ 1048576 }
@@ -69,7 +69,7 @@ impl LogIndex {
         self.pool.len() == self.pool.limit()
     }
 
-    /// Adds the entry of a new record before the others, or leaves all as it was where the index is full.
+    /// Adds the entry of a new record before the others, or leaves all as it was if the index is full.
     pub fn add(
         &mut self,
         set: u32,
@@ -107,14 +107,14 @@ impl LogIndex {
         Ok(())
     }
 
-    /// Of the entries of a set with a tag, the one that many behind the newest.
+    /// Of the entries of a set with a tag, the one this many places after the newest.
     pub fn find(&self, set: u32, tag: u16, skip: usize) -> Option<Entry>
         ensures { result ≡ slice_get (of_tag set tag self.now.entries) skip }
     {
         self.entries_of(set).filter(|e| e.tag == tag).nth(skip)
     }
 
-    /// Of the entries of a set, the one that many behind the newest.
+    /// Of the entries of a set, the one this many places after the newest.
     pub fn of_set(&self, set: u32, skip: usize) -> Option<Entry>
         ensures { result ≡ slice_get (of_set set self.now.entries) skip }
     {
@@ -147,7 +147,7 @@ impl LogIndex {
     }
 
     /// From the oldest entry on, as far as they are of the segment with this name, the first that is of none of these
-    /// sets. There is none where the oldest entry is of another segment, or all of this one are of these sets.
+    /// sets. There is none if the oldest entry is of another segment, or all of this one are of these sets.
     ///
     /// Walks along the entries of the segment that are passed over, and looks at one more.
     pub fn oldest_but(&self, segment: u16, sets: &[u32]) -> Option<Entry>

@@ -34,7 +34,7 @@ pub(crate) fn row_at(pool: &EntryPool, place: Place) -> Option<Row>
     pool.by_age().filter(|row| lies_at(row, place)).nth(0)
 }
 
-// The next older row behind a mark.
+// The next older row after a mark.
 pub(crate) fn row_behind(pool: &EntryPool, mark: u32) -> Option<Row>
     requires { IsMark mark pool.now.rows }
     ensures next { IsNext mark pool.now.rows result }
@@ -44,7 +44,7 @@ pub(crate) fn row_behind(pool: &EntryPool, mark: u32) -> Option<Row>
     pool.next_older(mark)
 }
 
-// Of the rows of a set, the next older one behind a mark.
+// Of the rows of a set, the next older one after a mark.
 pub(crate) fn row_behind_in(pool: &EntryPool, set: u32, mark: u32) -> Option<Row>
     requires { IsMark mark (in_set set pool.now.rows) }
     ensures next { IsNext mark (in_set set pool.now.rows) result }

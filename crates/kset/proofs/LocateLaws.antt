@@ -81,14 +81,14 @@ told_none key moment buffer Absent told = absurd told
 told_none key moment buffer Fault told = absurd told
 told_none key moment buffer Damaged told = refl
 
--- off a page that is known to be foreign nothing else is told
+-- off a page that is known to be foreign nothing else is said
 told_foreign : (set : ℕ) (known : Option (List ℕ)) (bytes key : List ℕ) (moment : ℕ) (buffer : List ℕ) (found : LocatedInSet) → IsForeign set known → IsKnown known bytes →
     SetPageTells key moment buffer (page_if_of set (set_page_at bytes)) found → found ≡ Damaged
 told_foreign set None bytes key moment buffer found foreign same told = absurd foreign
 told_foreign set (Some there) bytes key moment buffer found foreign same told =
     told_none key moment buffer found (subst (λ (o : Option SetPageParts). SetPageTells key moment buffer o found) (ap (λ (b : List ℕ). page_if_of set (set_page_at b)) same ∙ foreign) told)
 
--- a slot that a page can have is left to be touched, and else nothing
+-- a slot that a page can have is left to be touched, and otherwise nothing
 leaves : (set : ℕ) (k : SetsState) (buffer : List ℕ) (found : LocatedInSet) → IsSlot found → SetLookLeaves k set (Ok (looked_of found buffer)) (sets_after found set k)
 leaves set k buffer (Hit slot) within = record { slot = slot; within = within; noted = refl }
 leaves set k buffer Expired within = refl
@@ -128,7 +128,7 @@ module _ {D : Type 0} (size : ℕ) (pages : D → ℕ) (honest : D → Bool) (fa
         shown = λ _. refl;
       }
 
-  -- what is kept where pages were only read
+  -- what is kept when pages were only read
   keeps : (device' : D) → (IsTrue (honest device) → held device' ≡ held device) → KeepsSets size (honest device) (held device) k (held device') k
   keeps device' same = record { sizes = refl; spelled = λ is spelled. subst (λ (h : ℕ → Option (List ℕ)). AreSpelledOn size h k) (sym (same is)) spelled }
 

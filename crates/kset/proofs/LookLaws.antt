@@ -93,7 +93,7 @@ reads_page size count set held bytes within p known =
       seen_records = ap records_on p.holds ∙ ap (λ (o : Option SetPageParts). option_map_or (λ (read : SetPageParts). read.records) o []) at;
     }
 
--- what a page says of a key, told of the visible records
+-- what a page says of a key, stated of the visible records
 abbrev pub Says : List (ℕ × Rec) → List ℕ → ℕ → List ℕ → LocatedInSet → Type 0
 Says visible key moment buffer (Hit slot) = IsSomeAnd (first_visible visible key) (λ x. (x.0 ≡ slot) × (value_at moment x.1.value ≡ Some buffer))
 Says visible key moment buffer Expired = IsSomeAnd (first_visible visible key) (λ x. value_at moment x.1.value ≡ None)
@@ -131,7 +131,7 @@ told_of size count set held bytes key moment buffer hash notes told hashed shows
     let r = reads_page size count set held bytes within (paged has_bit) known in
     says size set (pages_before count held set) bytes key moment buffer notes told (sym (shows ∙ ap (lets_show notes) hashed)) r t
 
--- what is told of a live record, the first of a page with the key
+-- what is said of a live record, the first of a page with the key
 pub tells_hit : (key : List ℕ) (moment : ℕ) (buffer : List ℕ) (slot : ℕ) (p : SetPageParts) (r : Rec) (read : Option SetPageParts) → Some p ≡ read → length p.records ≤ max_set_records →
     first_with key p.records ≡ Some (slot, r) → value_at moment r.value ≡ Some buffer → SetPageTells key moment buffer read (Hit slot)
 tells_hit key moment buffer slot p r read is few found gives =
@@ -140,7 +140,7 @@ tells_hit key moment buffer slot p r read is few found gives =
     let told : SetPageTells key moment buffer (Some p) (Hit slot) = (within, subst P (sym found) (refl, gives)) in
     subst (λ (o : Option SetPageParts). SetPageTells key moment buffer o (Hit slot)) is told
 
--- what is told of one that has expired
+-- what is said of one that has expired
 pub tells_expired : (key : List ℕ) (moment : ℕ) (buffer : List ℕ) (slot : ℕ) (p : SetPageParts) (r : Rec) (read : Option SetPageParts) → Some p ≡ read →
     first_with key p.records ≡ Some (slot, r) → value_at moment r.value ≡ None → SetPageTells key moment buffer read Expired
 tells_expired key moment buffer slot p r read is found gone =
@@ -148,7 +148,7 @@ tells_expired key moment buffer slot p r read is found gone =
     let told : SetPageTells key moment buffer (Some p) Expired = subst P (sym found) gone in
     subst (λ (o : Option SetPageParts). SetPageTells key moment buffer o Expired) is told
 
--- no record is visible where the filter has no bit
+-- no record is visible if the filter has no bit
 pub visible_from-empty : (notes : Notes) → notes.filter ≡ empty → (slot : ℕ) (rs : List Rec) → visible_from notes slot rs ≡ []
 visible_from-empty notes none slot [] = refl
 visible_from-empty notes none slot (r ∷ rs) =

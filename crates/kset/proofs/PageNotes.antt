@@ -55,7 +55,7 @@ strikes-with_all : (notes : Notes) (rs : List Rec) → (with_all notes rs).strik
 strikes-with_all notes [] = refl
 strikes-with_all notes (r ∷ rs) = strikes-with_all (with_record notes r) rs
 
--- where nothing is struck each record that joined the filter shows
+-- if nothing is struck each record that joined the filter shows
 visible_from-with_all : (notes : Notes) (slot : ℕ) (rs : List Rec) → notes.strikes ≡ empty → visible_from (with_all notes rs) slot rs ≡ enumerate_from slot rs
 visible_from-with_all notes slot [] none = refl
 visible_from-with_all notes slot (r ∷ rs) none =

@@ -28,11 +28,11 @@ is_one_too_many notes hash =
 abbrev pub without_hash : ℕ → List (ℕ × Rec) → List (ℕ × Rec)
 without_hash hash visible = filter (λ x. not (fnv1a x.1.key == hash)) visible
 
--- what still shows of these records once a hash is struck: nothing where it is one too many, else all with other hashes
+-- what still shows of these records once a hash is struck: nothing if it is one too many, otherwise all with other hashes
 abbrev pub after_strike : Notes → ℕ → List (ℕ × Rec) → List (ℕ × Rec)
 after_strike notes hash visible = if is_one_too_many notes hash then [] else without_hash hash visible
 
--- what shows in each set once one of them was read: nothing in that one where its page was lost, else the same
+-- what shows in each set once one of them was read: nothing in that one if its page was lost, otherwise the same
 abbrev pub shown_after_reading : Result SetRead AllocError → ℕ → (ℕ → List (ℕ × Rec)) → ℕ → List (ℕ × Rec)
 shown_after_reading (Ok reads.PageLost) set visible = with_set visible set []
 shown_after_reading (Ok (reads.Records rs)) set visible = visible

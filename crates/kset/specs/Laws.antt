@@ -14,7 +14,7 @@ use Rattle.kset.specs.Shown.{visible_in}
 use Rattle.kset.specs.After.{with_set, after_strike, shown_after_reading, shown_after_rewriting}
 use Rattle.record_pages.specs.declared.timed_value.TimedValue.{TimedValue}
 
--- a key belongs into this set, of so many lanes of so many sets
+-- a key belongs into this set, of this many lanes of this many sets
 abbrev pub IsKeyOf : ℕ → ℕ → ℕ → List ℕ → Type 0
 IsKeyOf lanes sets set key = (placed_of lanes sets (fnv1a key)).set ≡ set
 
@@ -29,14 +29,14 @@ StrikesKeepSets =
     → AreOfTheirSets lanes sets visible
     → AreOfTheirSets lanes sets (with_set visible set (after_strike notes hash (visible set)))
 
--- where a set is read, whether or not its page is lost
+-- when a set is read, whether or not its page is lost
 abbrev pub ReadingsKeepSets : Type 0
 ReadingsKeepSets =
     (lanes sets set : ℕ) (result : Result SetRead AllocError) (visible : ℕ → List (ℕ × Rec))
     → AreOfTheirSets lanes sets visible
     → AreOfTheirSets lanes sets (shown_after_reading result set visible)
 
--- where a set is to be written anew with records of it, whether or not it is
+-- when a set is to be written anew with records of it, whether or not it is
 abbrev pub RewritingsKeepSets : Type 0
 RewritingsKeepSets =
     (lanes sets set : ℕ) (rs : List Rec) (result : Rewritten) (visible : ℕ → List (ℕ × Rec))
@@ -84,7 +84,7 @@ ForgottenShowNothing =
     → set < set_count k
     → visible_in held (forgotten k set) ≡ with_set (visible_in held k) set []
 
--- where the pages below the number of sets are the same, each set has its page still and shows what it showed
+-- if the pages below the number of sets are the same, each set has its page still and shows what it showed
 abbrev pub FramesKeepSets : Type 0
 FramesKeepSets =
     (size : ℕ) (was is : ℕ → Option (List ℕ)) (k : SetsState)

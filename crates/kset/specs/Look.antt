@@ -20,7 +20,7 @@ pub record NotesSlot (old : SetsState) (set : ℕ) (new : SetsState) : Type 0 wh
   pub within : slot < max_set_records
   pub noted : new ≡ hit_in old set slot
 
--- a hit notes a slot as hit; else nothing changes
+-- a hit notes a slot as hit; otherwise nothing changes
 abbrev pub SetLookLeaves : SetsState → ℕ → Result Looked AllocError → SetsState → Type 0
 SetLookLeaves old set (Ok (looked.Hit value)) new = NotesSlot old set new
 SetLookLeaves old set (Ok looked.Expired) new = new ≡ old

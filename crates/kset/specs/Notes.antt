@@ -28,7 +28,7 @@ no_notes = record { filter = empty; strikes = empty; hits = empty }
 abbrev pub lets_show : Notes → ℕ → Bool
 lets_show notes hash = admits notes.filter (probes_of hash) && not (contains notes.strikes hash)
 
--- A strike of a hash. Where the filter admits it, it joins the strikes; they are up to eight, and one more forgets the
+-- A strike of a hash. If the filter admits it, it joins the strikes; they are up to eight, and one more forgets the
 -- set.
 abbrev pub struck : Notes → ℕ → Notes
 struck notes hash =

@@ -13,7 +13,7 @@ abbrev pub is_set_lost : Result SetRead AllocError → Bool
 is_set_lost (Ok reads.PageLost) = true
 is_set_lost _ = false
 
--- where the page was lost the set is forgotten; else nothing changes, and no more records are read than a page holds
+-- if the page was lost the set is forgotten; otherwise nothing changes, and no more records are read than a page holds
 abbrev pub SetReadLeaves : SetsState → ℕ → Result SetRead AllocError → SetsState → Type 0
 SetReadLeaves old set (Ok reads.PageLost) new = new ≡ forgotten old set
 SetReadLeaves old set (Ok (reads.Records rs)) new = (new ≡ old) × (length rs ≤ max_set_records)

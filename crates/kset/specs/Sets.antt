@@ -29,7 +29,7 @@ notes_of k set = slice_index_or k.notes set no_notes
 abbrev pub with_notes : SetsState → ℕ → Notes → SetsState
 with_notes k set notes = record k { notes = slice_set k.notes set notes }
 
--- so many sets, with no filter bit, and no page written so far
+-- this many sets, with no filter bit, and no page written so far
 abbrev pub opening_sets : ℕ → SetsState
 opening_sets sets = record { writes = 0; notes = replicate sets no_notes }
 

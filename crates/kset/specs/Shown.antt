@@ -14,11 +14,11 @@ use Rattle.kset.specs.Pages.{page_records}
 abbrev pub is_visible : Notes → ℕ × Rec → Bool
 is_visible notes x = lets_show notes (fnv1a x.1.key)
 
--- the visible ones of these records, in order, each behind its slot, where the first of all has this slot
+-- the visible ones of these records, in order, each with its slot, if the first of all has this slot
 abbrev pub visible_from : Notes → ℕ → List Rec → List (ℕ × Rec)
 visible_from notes slot rs = filter (is_visible notes) (enumerate_from slot rs)
 
--- the visible records of a set, in page order, each behind its slot
+-- the visible records of a set, in page order, each with its slot
 abbrev pub visible_in : (ℕ → Option (List ℕ)) → SetsState → ℕ → List (ℕ × Rec)
 visible_in held k set = visible_from (notes_of k set) 0 (page_records held k set)
 

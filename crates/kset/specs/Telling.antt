@@ -7,11 +7,11 @@ use Rattle.record_pages.specs.Sizes.{max_set_records}
 use Rattle.kset.specs.declared.located_in_set.LocatedInSet.{LocatedInSet}
 use Rattle.kset.specs.declared.located_in_set.LocatedInSet.TheVariants as located
 
--- a page, where it is the page of this set
+-- a page, if it is the page of this set
 abbrev pub page_if_of : ℕ → Option SetPageParts → Option SetPageParts
 page_if_of set read = option_and_then (λ p. if p.set == set then Some p else None) read
 
--- what a page, where there is one, says of a key at a moment; the buffer has the value of a record that is live
+-- what a page, if there is one, says of a key at a moment; the buffer has the value of a record that is live
 abbrev pub SetPageTells : List ℕ → ℕ → List ℕ → Option SetPageParts → LocatedInSet → Type 0
 SetPageTells key moment buffer None located.Damaged = Unit {0}
 SetPageTells key moment buffer None _ = ⊥

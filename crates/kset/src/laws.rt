@@ -6,12 +6,12 @@ pub fn strikes_keep_sets()
     ensures { StrikesKeepSets }
 {}
 
-/// They stay of their sets where a set is read, whether or not its page is lost.
+/// They stay of their sets when a set is read, whether or not its page is lost.
 pub fn readings_keep_sets()
     ensures { ReadingsKeepSets }
 {}
 
-/// They stay of their sets where a set is to be written anew with records of it, whether or not it is.
+/// They stay of their sets when a set is to be written anew with records of it, whether or not it is.
 pub fn rewritings_keep_sets()
     ensures { RewritingsKeepSets }
 {}
@@ -21,12 +21,12 @@ pub fn strikes_keep_current()
     ensures { StrikesKeepCurrent }
 {}
 
-/// They stay current where a set is read.
+/// They stay current when a set is read.
 pub fn readings_keep_current()
     ensures { ReadingsKeepCurrent }
 {}
 
-/// They stay current where a set is to be written anew with current records of it.
+/// They stay current when a set is to be written anew with current records of it.
 pub fn rewritings_keep_current()
     ensures { RewritingsKeepCurrent }
 {}
@@ -36,7 +36,7 @@ pub fn forgotten_show_nothing()
     ensures { ForgottenShowNothing }
 {}
 
-/// The sets are spelled and show as before where the pages below their number are the same.
+/// The sets are spelled and show as before if the pages below their number are the same.
 pub fn frames_keep_sets()
     ensures { FramesKeepSets }
 {}

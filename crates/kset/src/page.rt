@@ -9,7 +9,7 @@ ghost use Rattle.kset.specs.Telling.{page_if_of, SetPageTells};
 use crate::located_in_set::LocatedInSet;
 use record_pages::{SetPage, ValueBuffer, is_live};
 
-/// The page that these bytes spell, where it is the page of this set.
+/// The page that these bytes spell, if it is the page of this set.
 pub(crate) fn page_of<const PAGE: usize>(bytes: &[u8; PAGE], set: u32) -> Option<SetPage<'_>>
     ensures page { result ≡ page_if_of set (set_page_at bytes.now) }
     ensures few { IfSome result (λ p. length p.records ≤ max_set_records) }

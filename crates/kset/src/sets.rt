@@ -45,7 +45,7 @@ impl<const PAGE: usize> Model for KSet<PAGE> {
 }
 
 impl<const PAGE: usize> KSet<PAGE> {
-    /// The sets of a lane of this layout, all empty, or `AllocError` where memory was refused. All memory that
+    /// The sets of a lane of this layout, all empty, or `AllocError` if memory was refused. All memory that
     /// strikes, hits and filters need is taken here.
     pub fn open(alloc: Global, layout: &Layout) -> Result<Self, AllocError>
         ensures opening { IfOk result (λ k. k ≡ opening_sets layout.now.sets) }
@@ -140,7 +140,7 @@ impl<const PAGE: usize> KSet<PAGE> {
         }
     }
 
-    /// Strikes a key: where the filter admits it, its hash joins the strikes of the set. A hash that is there adds
+    /// Strikes a key: if the filter admits it, its hash joins the strikes of the set. A hash that is there adds
     /// none, and a ninth distinct one forgets the set.
     pub fn strike(&mut self, placed: &Placed)
         requires { IsPlaceIn self.old placed.now }

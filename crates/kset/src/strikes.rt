@@ -62,7 +62,7 @@ impl Strikes {
         true
     }
 
-    // Puts a hash that is not there behind the others.
+    // Puts a hash that is not there after the others.
     fn push(&mut self, hash: u64)
         requires new { set.contains self.old hash ≡ false }
         requires room { set.len self.old < 8 }

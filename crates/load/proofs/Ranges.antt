@@ -64,7 +64,7 @@ unnumeral : (text : List ℕ) → is_decimal text ≡ true → IsNumeral 10 (wit
 unnumeral text h = let parts = both (nat_lt 0 (length (without_leading_plus text))) _ h in (ltb-true _ _ parts.0, undigits _ parts.1)
 
 module _ (test : ℕ → Bool) (most : ℕ) (text : List ℕ) where
-  -- a number that was read is given where it passes
+  -- a number that was read is given if it passes
   pub read : (n : ℕ) → (IsNumeral 10 (without_leading_plus text) × (digits_value 10 (without_leading_plus text) < most)) × (n ≡ value_of_text text) → test n ≡ true → Some n ≡ (if is_decimal text && test (value_of_text text) then Some (value_of_text text) else None)
   read n h passes =
       let decimal = numeral text h.0.0 in
@@ -72,7 +72,7 @@ module _ (test : ℕ → Bool) (most : ℕ) (text : List ℕ) where
       let passes' : test (value_of_text text) ≡ true = ap test (sym is) ∙ passes in
       rw (decimal, passes') (ap Some is)
 
-  -- and none where it does not
+  -- and none if it does not
   pub out : (n : ℕ) → (IsNumeral 10 (without_leading_plus text) × (digits_value 10 (without_leading_plus text) < most)) × (n ≡ value_of_text text) → test n ≡ false → None ≡ (if is_decimal text && test (value_of_text text) then Some (value_of_text text) else None)
   out n h fails =
       let decimal = numeral text h.0.0 in
@@ -86,7 +86,7 @@ module _ (test : ℕ → Bool) (most : ℕ) (text : List ℕ) where
   refused_by false true is_d is_a never = rw is_d refl
   refused_by false false is_d is_a never = rw is_d refl
 
-  -- a text that is not read gives none, where what passes could be read
+  -- a text that is not read gives none, if what passes could be read
   pub unread : ((n : ℕ) → test n ≡ true → n < most) → ¬ (IsNumeral 10 (without_leading_plus text) × (digits_value 10 (without_leading_plus text) < most)) → None ≡ (if is_decimal text && test (value_of_text text) then Some (value_of_text text) else None)
   unread small h = refused_by _ _ refl refl (λ d a. h (unnumeral text d, small (value_of_text text) a))
 
@@ -111,7 +111,7 @@ in_front front rest numbers h = λ place less.
     let all : place < length (front ++ rest) = omega (arith, length-append front rest, less) in
     subst (λ (s : Setting). is_admitted s (get_or numbers place 0) ≡ true) (get_or-append front rest Lanes place less) (h place all)
 
--- the numbers at so many places from one on
+-- the numbers at this many places from one on
 abbrev pub places : List ℕ → ℕ → ℕ → List ℕ
 places xs start zero = []
 places xs start (suc count) = get_or xs start 0 ∷ places xs (suc start) count

@@ -15,7 +15,7 @@ pub record IsLayoutOf (layout : Layout) (numbers : List ℕ) : Type 0 where
   pub threshold : layout.threshold ≡ slice_index numbers 6
   pub admit : layout.admit ≡ slice_index numbers 7
 
--- the numbers of a cache, with these behind them
+-- the numbers of a cache, with these after them
 abbrev pub with_layout : Layout → List ℕ → List ℕ
 with_layout layout numbers =
     layout.lanes ∷ layout.sets ∷ layout.memory ∷ layout.segments ∷ layout.segment_pages ∷ layout.entries ∷ layout.threshold ∷ layout.admit ∷ numbers

@@ -27,7 +27,7 @@ abbrev pub value_of : Load → ℕ → ℕ → List ℕ
 value_of load caller number =
     take load.value_bytes (repeat (load.value_bytes / 6 + 1) (to_be_bytes w16 caller ++ to_be_bytes w32 number))
 
--- the moment of a caller's get with this number: the number, where puts expire
+-- the moment of a caller's get with this number: the number, if puts expire
 abbrev pub moment_of : Load → ℕ → ℕ
 moment_of load number = if load.ttl == 0 then 0 else number
 

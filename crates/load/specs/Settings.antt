@@ -1,4 +1,4 @@
--- The numbers of a load: the name of each, the word for it where none is given, and its range.
+-- The numbers of a load: the name of each, the word for it if none is given, and its range.
 use Rattle.std.specs.Prelude.{◌≡◌, ℕ, Bool, true, ◌&&◌, List, [], ◌∷◌, length, Option, Some, None, codes, nat_le, nat_lt, ◌<◌, ◌^◌, slice_index, slice_index_or, if◌then◌else◌}
 use Rattle.std.specs.Char.{digit_value}
 use Rattle.std.specs.List.{list_all}
@@ -55,7 +55,7 @@ is_decimal text = nat_lt 0 (length (without_leading_plus text)) && list_all (λ 
 abbrev pub value_of_text : List ℕ → ℕ
 value_of_text text = digits_value 10 (without_leading_plus text)
 
--- the number that a text gives the setting, where it writes one in the setting's range
+-- the number that a text gives the setting, if it writes one in the setting's range
 abbrev pub number_in : Setting → List ℕ → Option ℕ
 number_in setting text = if is_decimal text && is_admitted setting (value_of_text text) then Some (value_of_text text) else None
 
@@ -79,6 +79,6 @@ AreAdmitted settings numbers = (place : ℕ) → place < length settings → is_
 abbrev pub most_bytes : ℕ
 most_bytes = 2 ^ 50
 
--- the bytes that a text gives a size, where it writes a number of them that a size may be
+-- the bytes that a text gives a size, if it writes a number of them that a size may be
 abbrev pub bytes_in : List ℕ → Option ℕ
 bytes_in text = if is_decimal text && nat_le (value_of_text text) most_bytes then Some (value_of_text text) else None

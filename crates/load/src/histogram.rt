@@ -5,8 +5,8 @@ ghost use Rattle.load.specs.Holding.{Holds, most_times};
 ghost use Rattle.load.specs.Quantile.{IsQuantile, greatest};
 
 use crate::cells::{LONGEST, add_counts, cell_of, cell_with, tops, zeros};
-use crate::next::Next;
 use crate::times::{Times, note_added, note_merged};
+use crate::times_step::TimesStep;
 use std::alloc::{AllocError, Global};
 use std::marker::Model;
 
@@ -55,7 +55,7 @@ impl Histogram {
             counts,
             len: 0,
             most: 0,
-            times: Times::after(&Next::Begun),
+            times: Times::after(&TimesStep::Begun),
         })
     }
 
@@ -105,7 +105,7 @@ impl Histogram {
         self.most
     }
 
-    /// The time in nanoseconds that so many thousandths of the times do not exceed, 0 of no times. It is the greatest
+    /// The time in nanoseconds that this many thousandths of the times do not exceed, 0 of no times. It is the greatest
     /// time of a cell, or the longest time that was added.
     pub fn quantile(&self, thousandths: u32) -> u64
         requires some { 0 < thousandths }

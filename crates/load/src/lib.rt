@@ -4,7 +4,6 @@
 mod cells;
 mod histogram;
 mod load;
-mod next;
 mod numbers;
 mod operations;
 mod served_load;
@@ -12,6 +11,7 @@ mod served_operation;
 mod setting;
 mod size_setting;
 mod times;
+mod times_step;
 mod watching;
 
 pub use cells::LONGEST;

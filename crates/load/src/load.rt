@@ -29,7 +29,7 @@ pub struct Load {
     pub seed: u32,
     /// Operations of its caller after which a put expires; 0 for never.
     pub ttl: u32,
-    /// Whether what is told is a JSON object and not lines.
+    /// Whether what is reported is a JSON object and not lines.
     pub json: bool,
     /// The folder of the lanes' files; none for devices in memory.
     pub device: Option<FileName>,

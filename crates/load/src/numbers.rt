@@ -30,7 +30,7 @@ fn layout_with(numbers: &[u32]) -> Layout
 ghost use Rattle.load.specs.Settings.{layout_settings};
 
 /// The load with these numbers, one for each of `SETTINGS` in their order, whose devices are files of this
-/// folder, or in memory where there is none, and which writes its trace to this file.
+/// folder, or in memory if there is none, and which writes its trace to this file.
 pub fn load_with(numbers: &[u32; 17], json: bool, device: Option<FileName>, trace: FileName) -> Load
     requires { AreAdmitted settings numbers.now }
     ensures numbers { numbers_of result ≡ numbers.now }
@@ -56,7 +56,7 @@ pub fn load_with(numbers: &[u32; 17], json: bool, device: Option<FileName>, trac
 }
 
 /// The load of a cache that serves with these numbers, one for each of `SERVED_SETTINGS` in their order, made for so many bytes
-/// of flash and of memory where they are given, whose devices are files of this folder, or in memory where there is none.
+/// of flash and of memory if they are given, whose devices are files of this folder, or in memory if there is none.
 pub fn served_with(
     numbers: &[u32; 19],
     size: Option<u64>,

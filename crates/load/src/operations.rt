@@ -45,7 +45,7 @@ fn value(alloc: Global, load: &Load, caller: u16, number: u32) -> Result<Value, 
     }
 }
 
-/// The moment of a caller's get with this number: the number itself, where puts expire.
+/// The moment of a caller's get with this number: the number itself, if puts expire.
 fn moment_of(load: &Load, number: u32) -> u64
     ensures { result ≡ moment_of load.now number }
 {
@@ -69,7 +69,7 @@ fn expires_of(load: &Load, number: u32) -> u64
 /// With a `ttl` of 0 each put is for ever, and each get at moment 0. With another the moment of an
 /// operation is its number, and a put is expired from the moment `ttl` further on.
 ///
-/// The words are drawn before memory is taken, so the generator is past them also where memory is
+/// The words are drawn before memory is taken, so the generator is past them also if memory is
 /// refused.
 pub fn next_operation(
     alloc: Global,

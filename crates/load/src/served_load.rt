@@ -8,7 +8,7 @@ use trace_file::FileName;
 /// number is in the range of its `Setting`.
 #[derive(Debug, Drop)]
 pub struct ServedLoad {
-    /// The numbers of each shard. Where a size is given, only its threshold and its admission count.
+    /// The numbers of each shard. If a size is given, only its threshold and its admission count.
     pub layout: Layout,
     /// Callers, each in a thread of its own.
     pub callers: u32,
@@ -29,15 +29,15 @@ pub struct ServedLoad {
     pub seed: u32,
     /// Operations of its caller after which a put expires; 0 for never.
     pub ttl: u32,
-    /// Groups of as many lanes. Where a size is given, they do not count.
+    /// Groups of as many lanes. If a size is given, they do not count.
     pub shards: u32,
     /// Slots of each lane for leases; 0 for no leases.
     pub leases: u32,
-    /// Bytes of flash that the cache is to be made for, of all lanes together; none where its numbers are given.
+    /// Bytes of flash that the cache is to be made for, of all lanes together; none if its numbers are given.
     pub size: Option<u64>,
-    /// Bytes of memory that the cache is to be made for, where a size is given; none for a part of the size.
+    /// Bytes of memory that the cache is to be made for, if a size is given; none for a part of the size.
     pub memory_bytes: Option<u64>,
-    /// Whether what is told is a JSON object and not lines.
+    /// Whether what is reported is a JSON object and not lines.
     pub json: bool,
     /// The folder of the lanes' files; none for devices in memory.
     pub device: Option<FileName>,

@@ -221,7 +221,7 @@ impl Setting {
         }
     }
 
-    // The numbers that it may be: those of the field of a configuration, where it is one.
+    // The numbers that it may be: those of the field of a configuration, if it is one.
     fn range(self) -> RangeInclusive<u32>
         ensures least { range_inclusive_start result ≡ (row_of self).range.least }
         ensures greatest { range_inclusive_end result ≡ (row_of self).range.greatest }
@@ -267,7 +267,7 @@ impl Setting {
         *self.range().end()
     }
 
-    /// The number that it is where none is given, in decimal.
+    /// The number that it is if none is given, in decimal.
     pub fn default_word(self) -> &'static str
         ensures { result.now ≡ (row_of self).default }
     {
@@ -296,7 +296,7 @@ impl Setting {
         self.least() <= number && number <= self.greatest()
     }
 
-    /// The number that a text gives it: digits, with or without a plus sign before them. `None` where the
+    /// The number that a text gives it: digits, with or without a plus sign before them. `None` if the
     /// text is no such number, or one that it may not be.
     pub fn number(self, text: &str) -> Option<u32>
         ensures { result ≡ number_in self text.now }

@@ -3,7 +3,7 @@ ghost use Rattle.std.specs.Prelude.{◌≡◌};
 ghost use Rattle.load.specs.Settings.{bytes_in};
 ghost use Rattle.load.specs.Sizes.{name_of};
 
-/// A size of a load of a cache that serves, in bytes, which an option of its name gives. None is given where there is no such
+/// A size of a load of a cache that serves, in bytes, which an option of its name gives. None is given if there is no such
 /// option.
 #[derive(Clone, Copy, Debug, PartialEq, Eq)]
 pub enum SizeSetting {
@@ -39,7 +39,7 @@ impl SizeSetting {
         }
     }
 
-    /// The bytes that a text gives it: digits, with or without a plus sign before them. `None` where the text is no such number,
+    /// The bytes that a text gives it: digits, with or without a plus sign before them. `None` if the text is no such number,
     /// or one that it may not be.
     pub fn bytes(self, text: &str) -> Option<u64>
         ensures { result ≡ bytes_in text.now }

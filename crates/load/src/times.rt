@@ -1,7 +1,7 @@
 // The times that were added to a histogram, without bytes.
 ghost use Rattle.std.specs.Prelude.{◌≡◌, ℕ, ◌++◌, ◌∷◌, [], List};
 
-use crate::next::Next;
+use crate::times_step::TimesStep;
 use std::marker::{Model, PhantomData};
 use std::snapshot::Snapshot;
 
@@ -23,7 +23,7 @@ impl Times {
     ghost use Rattle.load.specs.Trails.{times_after};
 
     /// The times after a step.
-    pub(crate) fn after(next: &Next) -> Times
+    pub(crate) fn after(next: &TimesStep) -> Times
         ensures { result.times ≡ times_after next.now }
     {
         let _ = next;
@@ -47,7 +47,7 @@ impl Drop for Times {
 pub(crate) fn note_added(times: &mut Times, time: u64)
     ensures { times.new.times ≡ times.old.times ++ time ∷ [] }
 {
-    let added = Next::Added(Snapshot::of(times), Snapshot::of(&time));
+    let added = TimesStep::Added(Snapshot::of(times), Snapshot::of(&time));
     *times = Times::after(&added);
 }
 
@@ -55,6 +55,6 @@ pub(crate) fn note_added(times: &mut Times, time: u64)
 pub(crate) fn note_merged(times: &mut Times, more: &Times)
     ensures { times.new.times ≡ times.old.times ++ more.now.times }
 {
-    let merged = Next::Merged(Snapshot::of(times), Snapshot::of(more));
+    let merged = TimesStep::Merged(Snapshot::of(times), Snapshot::of(more));
     *times = Times::after(&merged);
 }

@@ -5,7 +5,7 @@ use std::sync::atomic::{AtomicU64, Ordering};
 use std::thread::sleep;
 use std::time::{Clock, Duration};
 
-/// How long one look at the callers is behind the one before, in milliseconds.
+/// How long one look at the callers is after the one before, in milliseconds.
 const LOOK: u64 = 50;
 
 /// How many looks lie before the first line.
@@ -14,7 +14,7 @@ const SOON: u32 = 2;
 /// How many looks lie between two lines.
 const LATER: u32 = 10;
 
-/// Tells how many of all calls were made, as they are counted in `made`, at most twice a second, where `err` is a terminal,
+/// Tells how many of all calls were made, as they are counted in `made`, at most twice a second, if `err` is a terminal,
 /// until no caller is running. Each line is written over the one before, and the last one stays. What `err` refuses is not
 /// told.
 pub fn watch<R: Wait + Clock, E: Write + IsTerminal>(
@@ -44,7 +44,7 @@ pub fn watch<R: Wait + Clock, E: Write + IsTerminal>(
     }
 }
 
-/// Whether all callers have ended, within so many looks.
+/// Whether all callers have ended, within this many looks.
 fn have_ended<R: Clock>(rt: &R, running: &AtomicU64, looks: u32) -> bool {
     for _ in 0..looks {
         if running.load(Ordering::SeqCst) == 0 {

@@ -62,7 +62,7 @@ each_least operations (p ∷ ps) =
     let times = ap (λ n. n * operations) parts in
     omega (arith, all, own, here, times)
 
--- ---- a run is whole where no caller stopped
+-- ---- a run is whole if no caller stopped
 
 module _ (load : Load) (number : ℕ) (passes : List Ticket) (history : List Call) (certificate : List ℕ) (over : IsFinished number passes history certificate) (many : length passes ≡ load.callers) where
   listed : length history ≡ weigh_passes (λ s. 1) passes

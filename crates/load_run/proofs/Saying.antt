@@ -1,4 +1,4 @@
--- What was written where a run was judged.
+-- What was written if a run was judged.
 use Rattle.std.proofs.Common.{◌≡◌, ◌≢◌, ◌∙◌, ◌==◌, ℕ, Bool, true, false, List, Option, if◌then◌else◌, inl, inr, refl, subst, sym}
 use Rattle.trace_file.specs.declared.call.Call.{Call}
 use Rattle.certificate_checker.specs.declared.verdict.Verdict.{Verdict}

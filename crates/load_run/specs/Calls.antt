@@ -6,7 +6,7 @@ use Rattle.rand_pcg.specs.Pcg.{multiplier_64}
 use Rattle.history_recorder.specs.declared.operation.Operation.{Operation}
 use Rattle.load.specs.declared.load.Load.{Load}
 use Rattle.load.specs.Operations.{next_of}
-use Rattle.shared_cache.specs.declared.outcome.Outcome.{Outcome}
+use Rattle.shared_cache.specs.declared.response.Response.{Response}
 use Rattle.shared_cache.specs.Caches.{IsMade}
 use Rattle.shared_cache.specs.Passes.{Ticket}
 
@@ -25,7 +25,7 @@ operation_at load caller first number = (next_of load caller number (generator_a
 
 -- a call of an operation was made, whatever it gave
 pub record IsCalled (layout : Layout) (operation : Operation) (old new : Ticket) : Type 0 where
-  pub outcome : Outcome
+  pub outcome : Response
   pub made : IsMade layout operation old outcome new
 
 -- the pass made the first so many of its caller's operations, one after the other, and no other call

@@ -41,7 +41,7 @@ message_of ends.OutOfMemory = Some (codes "out of memory")
 message_of ends.FileFault = Some (codes "file fault")
 message_of ends.FinishFault = Some (codes "finish fault")
 
--- the same with its line feed, and nothing where none is written
+-- the same with its line feed, and nothing if none is written
 abbrev pub line_of : RunEnd → List ℕ
 line_of end = option_map_or (λ message. message ++ codes "\n") (message_of end) []
 

@@ -48,7 +48,7 @@ IsSaid form summary old new end =
     ⊎ ((end ≡ ends.OutOfMemory) × Keeps old new)
     ⊎ (end ≡ ends.FileFault)
 
--- A run of a load ended with this status. It was refused before anything was opened exactly where gets and removes exceed
+-- A run of a load ended with this status. It was refused before anything was opened exactly if gets and removes exceed
 -- 100; over devices in memory no history is rejected.
 pub record IsRunOf (load : Load) (old new : Option (List ℕ)) (status : ℕ) : Type 0 where
   pub end : RunEnd

@@ -1,4 +1,4 @@
--- What is told of a run that was judged.
+-- What is reported of a run that was judged.
 use Rattle.std.specs.Prelude.{ℕ, Bool, true, false, List, ◌∷◌, ◌++◌, codes}
 use Rattle.std.specs.Fmt.{decimal}
 use Rattle.trace_file.specs.declared.act.Act.{Act}
@@ -38,7 +38,7 @@ rows_of summary =
     row (codes "calls") (number summary.calls) ∷ row (codes "hits") (number summary.hits)
     ∷ row (codes "stopped") (number summary.stopped) ∷ verdict_rows summary.verdict
 
--- what is told of a run: its four lines, or a JSON object of its figures
+-- what is reported of a run: its four lines, or a JSON object of its figures
 abbrev pub text_of : Form → Summary → List ℕ
 text_of Lines summary = lines_of summary
 text_of Json summary = text_of_rows Json (rows_of summary)

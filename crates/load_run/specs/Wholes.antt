@@ -8,7 +8,7 @@ abbrev pub is_short : ℕ → Ticket → Bool
 is_short operations pass = not (length pass.calls == operations)
 
 -- so many calls were made, and so many callers stopped: each other caller made all its operations, so that these are all
--- calls where none stopped
+-- calls if none stopped
 pub record IsWhole (load : Load) (calls stopped : ℕ) : Type 0 where
   pub some : stopped ≤ load.callers
   pub least : load.callers * load.operations ≤ calls + stopped * load.operations

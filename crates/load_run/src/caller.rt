@@ -53,7 +53,7 @@ pub fn make_calls<D: PageDevice<PAGE>, P: EvictionPolicy + Drop, const PAGE: usi
     pass
 }
 
-/// Counts a thousand calls more where the call with this number is the last of a thousand.
+/// Counts a thousand calls more if the call with this number is the last of a thousand.
 fn count(made: &AtomicU64, number: u32) {
     if number % 1000 == 999 {
         made.fetch_add(1000, Ordering::SeqCst);

@@ -20,7 +20,7 @@ pub enum Cause {
     Random(io::Error),
     /// The cache was not finished, for this reason.
     Unfinished(FinishFault),
-    /// So many callers stopped at a refusal.
+    /// This many callers stopped at a refusal.
     Stopped(usize),
 }
 

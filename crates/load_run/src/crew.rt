@@ -18,7 +18,7 @@ use std::thread::Threads;
 use std::time::Clock;
 
 /// Runs each caller in a thread, which sends its pass when it ended, beside the workers, until all have ended. A caller
-/// for which no thread can be made sends nothing. How many calls were made is told to `err` meanwhile, where that is a
+/// for which no thread can be made sends nothing. How many calls were made is reported to `err` meanwhile, if that is a
 /// terminal.
 pub fn run_crew<
     D: PageDevice<PAGE> + Send,

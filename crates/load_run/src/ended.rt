@@ -7,7 +7,7 @@ use crate::run_end::RunEnd;
 use crate::summary::Summary;
 use shared_cache::FinishFault;
 
-/// How a run ended, and what failed, where a file, the output or the system did.
+/// How a run ended, and what failed, if a file, the output or the system did.
 #[derive(Debug, Drop)]
 pub struct Ended {
     pub end: RunEnd,

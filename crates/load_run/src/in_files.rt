@@ -16,7 +16,7 @@ use std::rt::Files;
 
 /// A device in a file of this folder for each lane, with the layout's pages.
 ///
-/// The first file that is not opened ends the run: as want of memory where that is why, and else as a fault of the file.
+/// The first file that is not opened ends the run: as want of memory if that is why, and else as a fault of the file.
 pub fn in_files<R: Files<File = File>>(
     rt: &R,
     alloc: Global,

@@ -1,4 +1,4 @@
-//! The run of a load: its callers and workers in threads on one cache, and what is told of it.
+//! The run of a load: its callers and workers in threads on one cache, and what is reported of it.
 #![tactic(auto)]
 
 mod caller;
@@ -7,7 +7,7 @@ mod crew;
 mod ended;
 mod hits;
 mod in_files;
-mod made;
+mod load_result;
 mod run;
 mod run_end;
 mod shared;
@@ -16,7 +16,7 @@ mod telling;
 mod worker;
 
 pub use hits::hits_of;
-pub use made::{Made, make_history};
+pub use load_result::{LoadResult, make_history};
 pub use run::run_load;
 pub use run_end::RunEnd;
 pub use summary::Summary;

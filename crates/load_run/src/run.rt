@@ -11,7 +11,7 @@ use crate::cause::Cause;
 use crate::ended::Ended;
 use crate::hits::hits_of;
 use crate::in_files::in_files;
-use crate::made::{Made, make_history};
+use crate::load_result::{LoadResult, make_history};
 use crate::run_end::RunEnd;
 use crate::shared::{PAGE, open};
 use crate::summary::Summary;
@@ -38,12 +38,12 @@ use trace_file::{Certificate, History, write_trace};
 ///
 /// The file of the trace is opened first, and emptied only when there is a trace to write: a file that can't be opened costs
 /// no run, and a run that fails before it has a trace loses no older one. Then each lane has a device: in memory, or in a file
-/// of the load's folder, `lane-0.dev` and so on, which is made where it is absent and stays when the run is over. A page of a
+/// of the load's folder, `lane-0.dev` and so on, which is made if it is absent and stays when the run is over. A page of a
 /// file that can't be read or written is a page of the cache that failed, and ends nothing.
 ///
 /// Each caller has a thread, its pass and a generator of its own, and stops at its first refusal; the workers flush and move
 /// beside them. Then the history is judged, by a table with a seed that is drawn for it, the trace is written to its file, and
-/// four lines are written to `out`, or a JSON object if the load wants that. What went wrong else is told to `err`, in a line,
+/// four lines are written to `out`, or a JSON object if the load wants that. What else went wrong is told to `err`, in a line,
 /// and after it in further lines what failed, with the file and the system's cause, and what to do. If `err` is a terminal, it
 /// is told too how many calls were made, at most twice a second while they are, and of a long run what is done after that.
 pub fn run_load<
@@ -131,7 +131,7 @@ fn run_cache<D: PageDevice<PAGE> + Send, R: Threads + Wait + Sync + Clock, E: Wr
     load: &Load,
     devices: Vec<D>,
     err: &mut E,
-) -> Result<Made<D>, FinishFault>
+) -> Result<LoadResult<D>, FinishFault>
     requires { AreDevicesFor D.page_count load.now.layout devices.items }
     ensures accepted { IfOk result (λ made.
         All (λ d. IsTrue (D.honest d)) made.finished.devices.items
@@ -148,7 +148,7 @@ fn run_cache<D: PageDevice<PAGE> + Send, R: Threads + Wait + Sync + Clock, E: Wr
     }
 }
 
-/// Opens the file of the trace, which is made where it is absent, and leaves in it what it holds.
+/// Opens the file of the trace, which is made if it is absent, and leaves in it what it holds.
 fn open_trace<R: Files>(rt: &R, name: &FileName) -> io::Result<R::File> {
     OpenOptions::new()
         .write(true)
@@ -156,8 +156,12 @@ fn open_trace<R: Files>(rt: &R, name: &FileName) -> io::Result<R::File> {
         .open(rt, name.as_str())
 }
 
-/// What is told of a history that was made.
-fn summary_of<D>(alloc: Global, seed: RandomSeed, made: &Made<D>) -> Result<Summary, AllocError>
+/// What is reported of a history that was made.
+fn summary_of<D>(
+    alloc: Global,
+    seed: RandomSeed,
+    made: &LoadResult<D>,
+) -> Result<Summary, AllocError>
     ensures is { IfOk result (λ summary. IsSummaryOf summary made.now.finished.history made.now.finished.certificate) }
     ensures stopped { IfOk result (λ summary. summary.stopped ≡ made.now.stopped) }
 {
@@ -195,7 +199,7 @@ fn save<R: AllocGlobal + Files>(
     Ok(())
 }
 
-/// Writes what is told of a run that was judged, and answers how the run ended.
+/// Writes what is reported of a run that was judged, and answers how the run ended.
 fn write_summary<O: Write>(alloc: Global, form: Form, summary: &Summary, out: &mut O) -> Ended
     ensures { IsSaid form summary.now (O.contents out.old) (O.contents out.new) result.end }
 {

@@ -29,7 +29,7 @@ pub enum RunEnd {
 }
 
 impl RunEnd {
-    /// How a run ended that was judged so and of whose callers so many stopped at a refusal.
+    /// How a run ended that was judged so and of whose callers this many stopped at a refusal.
     pub fn of_verdict(verdict: Verdict, stopped: usize) -> RunEnd
         ensures { result ≡ end_of_verdict verdict stopped }
     {
@@ -67,7 +67,7 @@ impl RunEnd {
         }
     }
 
-    /// The line that it writes to standard error, where it writes one.
+    /// The line that it writes to standard error, if it writes one.
     pub fn message(self) -> Option<&'static str>
         ensures { option_map (λ m. m.now) result ≡ message_of self }
     {
@@ -80,7 +80,7 @@ impl RunEnd {
         }
     }
 
-    /// Writes that line with its line feed, or nothing where there is none. A fault is the first that `err` has, and what it
+    /// Writes that line with its line feed, or nothing if there is none. A fault is the first that `err` has, and what it
     /// took before that stays.
     pub fn tell<E: Write>(self, err: &mut E) -> io::Result<()>
         ensures { OnOk result (Appends (E.contents err.old) (E.contents err.new) (line_of self)) }

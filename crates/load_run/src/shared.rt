@@ -12,14 +12,14 @@ use std::alloc::{AllocError, Global};
 pub const PAGE: usize = 4096;
 
 /// The cache of a run over such devices.
-pub type Cache<D> = SharedCache<D, Rriparoo, PAGE>;
+pub type RunCache<D> = SharedCache<D, Rriparoo, PAGE>;
 
 /// A cache for a load over its devices, with a pass for each caller.
 pub fn open<D: PageDevice<PAGE>>(
     alloc: Global,
     load: &Load,
     devices: Vec<D>,
-) -> Result<(Cache<D>, Vec<Pass>), AllocError>
+) -> Result<(RunCache<D>, Vec<Pass>), AllocError>
     requires { AreDevicesFor D.page_count load.now.layout devices.items }
     ensures layout { IfOk result (λ opened. opened.0.layout ≡ load.now.layout) }
     ensures ties { IfOk result (λ opened. All (λ p. p.sight.clock ≡ opened.0.clock) opened.1.items) }

@@ -1,4 +1,4 @@
-// What is told of a run that was judged.
+// What is reported of a run that was judged.
 ghost use Rattle.std.specs.Prelude.{◌≡◌, IfOk, string_bytes};
 ghost use Rattle.certificate_checker.specs.VerdictLine.{verdict_line};
 ghost use Rattle.figures.specs.declared.form.Form.TheVariants.{Json};
@@ -8,7 +8,7 @@ use certificate_checker::Verdict;
 use figures::{Figure, Form, tell_verdict};
 use std::alloc::{AllocError, Global};
 
-/// What is told of a run that was judged.
+/// What is reported of a run that was judged.
 #[derive(Clone, Copy, Debug, PartialEq, Eq)]
 pub struct Summary {
     /// Recorded calls.
@@ -24,7 +24,7 @@ pub struct Summary {
 impl Summary {
     ghost use Rattle.load_run.specs.Summaries.{lines_of, rows_of, text_of};
 
-    /// What is told of it: four lines, each with its line feed, or a JSON object on a line.
+    /// What is reported of it: four lines, each with its line feed, or a JSON object on a line.
     pub fn text(&self, alloc: Global, form: Form) -> Result<String, AllocError>
         ensures { IfOk result (λ text. string_bytes text ≡ text_of form self.now) }
     {
@@ -71,7 +71,7 @@ impl Summary {
     }
 }
 
-/// The line of a verdict on so many calls.
+/// The line of a verdict on this many calls.
 fn verdict_text(alloc: Global, verdict: Verdict, calls: usize) -> Result<String, AllocError>
     ensures { IfOk result (λ line. string_bytes line ≡ verdict_line verdict calls) }
 {

@@ -16,7 +16,7 @@ pub fn operations(load: &Load) -> u64
     u64::from(load.callers) * u64::from(load.operations)
 }
 
-/// Tells what is done now of a load whose callers have ended, where `err` is a terminal and the load is long. What `err`
+/// Tells what is done now of a load whose callers have ended, if `err` is a terminal and the load is long. What `err`
 /// refuses is not told.
 pub fn tell_step<E: Write + IsTerminal>(err: &mut E, load: &Load, step: &str) {
     if operations(load) < LONG || !err.is_terminal() {

@@ -12,7 +12,7 @@ use std::time::Duration;
 /// How long a worker waits, at the most, that found nothing to do in any lane, in microseconds.
 const NAP: u64 = 50;
 
-/// Flushes and moves in each lane in turn, beginning with the one of the worker's number, until all callers ended. Where
+/// Flushes and moves in each lane in turn, beginning with the one of the worker's number, until all callers ended. If
 /// there was nothing to do in as many lanes as there are, one after the other, it leaves their locks alone for a while.
 pub fn work<D: PageDevice<PAGE>, P: EvictionPolicy + Drop, const PAGE: usize, R: Wait>(
     rt: &R,

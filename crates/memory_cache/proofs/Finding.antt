@@ -52,7 +52,7 @@ module _ (key : List ℕ) where
     | inr other ↦ (other, absent es (sym (rw other refl) ∙ none))
   ]
 
-  -- nothing goes where the key is absent
+  -- nothing goes if the key is absent
   pub without_absent : (es : List Entry) → IsAbsent key es → without key (map pair_of es) ≡ map pair_of es
   without_absent [] none = refl
   without_absent (e ∷ es) none = rw none.0 (ap (λ ps. pair_of e ∷ ps) (without_absent es none.1))

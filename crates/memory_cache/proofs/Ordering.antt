@@ -42,14 +42,14 @@ module _ (c : LruCache (List ℕ) TimedValue) (k : List ℕ) (v : TimedValue) (d
   one_more : c.cap ≡ suc (c.cap - 1)
   one_more = omega arith
 
-  -- the list as it is where the key was there
+  -- the list as it is if the key was there
   replaced_fits : (e : Entry) → lookup_entry (bytes_eq k) c.entries ≡ Some e → length (entered pair pairs) ≤ c.cap
   replaced_fits e found =
       let fewer = one_fewer k c.entries e found in
       let left : length (without k pairs) ≡ length (remove_entry (bytes_eq k) c.entries) = ap length (sym (removed k c.entries distinct)) ∙ length-map (remove_entry (bytes_eq k) c.entries) pair_of in
       omega (arith, fewer, left)
 
-  -- the list as it is where the key was not
+  -- the list as it is if the key was not
   new_first : lookup_entry (bytes_eq k) c.entries ≡ None → entered pair pairs ≡ pair ∷ pairs
   new_first none = ap (λ ps. pair ∷ ps) (without_absent k c.entries (absent k c.entries none))
 
@@ -66,14 +66,14 @@ module _ (c : LruCache (List ℕ) TimedValue) (k : List ℕ) (v : TimedValue) (d
   pub put_after : memory_of (lru_cache (put_entries bytes_eq c k v) c.cap) ≡ after_put pair (memory_of c)
   put_after = ap (holding (memory_of c)) (put_by (lookup_entry (bytes_eq k) c.entries) refl)
 
-  -- the pair past the capacity, where the key was not there
+  -- the pair past the capacity, if the key was not there
   last_out : lookup_entry (bytes_eq k) c.entries ≡ None → option_map pair_of (slice_get c.entries (c.cap - 1)) ≡ pushed_out pair (memory_of c)
   last_out none =
       sym (slice_get-map pair_of c.entries (c.cap - 1))
       ∙ ap (slice_get (pair ∷ pairs)) (sym one_more)
       ∙ ap (λ ps. slice_get ps c.cap) (sym (new_first none))
 
-  -- none where it was
+  -- none if it was
   none_out : (e : Entry) → lookup_entry (bytes_eq k) c.entries ≡ Some e → None ≡ pushed_out pair (memory_of c)
   none_out e found = sym (slice_get_past (entered pair pairs) c.cap (replaced_fits e found))
 

@@ -8,15 +8,15 @@ use Rattle.record_pages.specs.declared.timed_value.TimedValue.{TimedValue}
 abbrev pub AllPass : (Pair → Bool) → MemoryList → Type 0
 AllPass test list = All (λ p. IsTrue (test p)) list.pairs
 
--- where each pair passes a test, and one that is put does, each does after the put
+-- if each pair passes a test, and one that is put does, each does after the put
 abbrev pub PutKeepsAll : Type 0
 PutKeepsAll = (test : Pair → Bool) (pair : Pair) (list : MemoryList) → IsTrue (test pair) → AllPass test list → AllPass test (after_put pair list)
 
--- where each pair passes a test, each does after a get
+-- if each pair passes a test, each does after a get
 abbrev pub GetKeepsAll : Type 0
 GetKeepsAll = (test : Pair → Bool) (key : List ℕ) (list : MemoryList) → AllPass test list → AllPass test (after_get key list)
 
--- where each pair passes a test, each does after a removal
+-- if each pair passes a test, each does after a removal
 abbrev pub RemoveKeepsAll : Type 0
 RemoveKeepsAll = (test : Pair → Bool) (key : List ℕ) (list : MemoryList) → AllPass test list → AllPass test (after_remove key list)
 

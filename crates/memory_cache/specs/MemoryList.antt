@@ -1,4 +1,4 @@
--- The pairs in memory: a list with distinct keys, the most recent first, of at most so many pairs.
+-- The pairs in memory: a list with distinct keys, the most recent first, of at most this many pairs.
 use Rattle.std.specs.Prelude.{◌≢◌, ℕ, ◌≤◌, List, [], ◌∷◌, length, take, filter, find, not, slice_get, AllPairs, Option, option_map, Some, None}
 use Rattle.std.specs.Str.{bytes_eq}
 use Rattle.memory_cache.specs.declared.pair.Pair.{Pair}

@@ -32,8 +32,8 @@ impl Model for MemoryCache {
 impl MemoryCache {
     ghost use Rattle.memory_cache.specs.Lending.{EndsAs};
 
-    /// An empty memory for so many objects, or `AllocError` where memory was refused. Its table hashes by a seed that is the
-    /// same in every run.
+    /// An empty memory for this many objects, or `AllocError` if memory was refused. Its table hashes by a seed that is
+    /// the same in every run.
     pub fn open(alloc: Global, capacity: u32) -> Result<MemoryCache, AllocError>
         requires { 1 ≤ capacity }
         ensures { IfOk result (λ memory. memory ≡ empty capacity) }
@@ -87,7 +87,7 @@ impl MemoryCache {
         self.peek_bytes(key.bytes())
     }
 
-    /// The value of the key with these bytes, as `peek` has it. None has it where they are no key.
+    /// The value of the key with these bytes, as `peek` has it. None has it if they are no key.
     pub fn peek_bytes(&self, key: &[u8]) -> Option<&TimedValue>
         ensures { option_copied result ≡ value_in key.now self.now.pairs }
     {
@@ -122,8 +122,8 @@ impl MemoryCache {
     /// Puts a value first, in place of an older one of its key. Gives the pair of another key that had
     /// to leave for it.
     ///
-    /// Where memory was refused the pair comes back and nothing has changed: an older value of the key
-    /// stays. That cannot be where the key has a value.
+    /// If memory was refused the pair comes back and nothing has changed: an older value of the key
+    /// stays. That cannot be if the key has a value.
     pub fn put(&mut self, key: Key, value: TimedValue) -> Result<Option<Pair>, Pair>
         ensures out { IfOk result (λ out.
             out ≡ pushed_out (record { key = key; value = value }) self.old) }

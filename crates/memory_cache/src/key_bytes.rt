@@ -7,7 +7,7 @@ ghost use Rattle.std.proofs.Common.{rules};
 use record_pages::Key;
 use std::collections::hash_map::Equivalent;
 
-/// The bytes of a key, which find it in a map where no `Key` is at hand.
+/// The bytes of a key, which find it in a map if no `Key` is at hand.
 #[derive(Clone, Copy, PartialEq, Eq, Hash)]
 pub(crate) struct KeyBytes<'a>(pub(crate) &'a [u8]);
 

@@ -1,7 +1,7 @@
 // Laws of the pairs in memory, for the layer above.
 ghost use Rattle.memory_cache.specs.Laws.{PutKeepsAll, GetKeepsAll, RemoveKeepsAll, PutKeepsBounds, GetKeepsBounds, RemoveKeepsBounds, FoundIsHeld, PushedOutWasHeld};
 
-/// What passes a test of all pairs in memory still does after each call, where a pair that is put passes it.
+/// What passes a test of all pairs in memory still does after each call, if a pair that is put passes it.
 pub fn memory_keeps_all()
     ensures put { PutKeepsAll }
     ensures got { GetKeepsAll }

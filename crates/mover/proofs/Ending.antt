@@ -116,7 +116,7 @@ module _ {D : Type 0} (size : ℕ) (plan_of : Job → List Choice) (old between 
         let numbers : job.number ≡ f.moving.number = ap (λ (j : Job). j.number) flies.job_is in
         begins_flight size old.log.shape flies.moving job (flight_of job.number between.flights) ((λ i. flight_of (numbers i) (flies.rest i).flights) ∙ found) flies.job_is
 
-    -- where it was given up, one move more is counted, and that is all
+    -- if it was given up, one move more is counted, and that is all
     pub counted_lane : (held : D → ℕ → Option (List ℕ)) → held between.device ≡ held old.device → new ≡ record between { flights = without_flight job.number between.flights } → lane_of held new ≡ lane_counted (lane_of held old)
     counted_lane held same up =
         let flies = (begun_job size old job between begun).1 in

@@ -30,7 +30,7 @@ find_only {X} p (y ∷ ys) x here passes only =
     step false is (inl first) rest = absurd (false≢true (sym is ∙ ap p first ∙ passes))
     step false is (inr behind) rest = rest behind
 
--- where nothing passes nothing is found
+-- if nothing passes nothing is found
 find_none : {X : Type 0} (p : X → Bool) (xs : List X) → All (λ x. p x ≡ false) xs → find p xs ≡ None
 find_none p [] none = refl
 find_none p (x ∷ xs) none = rw (none 0 x (omega arith)) (find_none p xs (λ i d lt. none (suc i) d (omega arith)))
@@ -94,7 +94,7 @@ module _ (name : ℕ) (es : List Entry) (e : Entry) (is : IsFirstOf name es e) w
   pub found_first : AreApart es → first_in name es ≡ Some e
   found_first apart = find_only (is_first name es) es e is.listed passes (only apart)
 
--- what is told of the oldest segment is what is in it
+-- what is said of the oldest segment is what is in it
 pub oldest_is : (passed : List ℕ) (k : LogState) (answer : Oldest) → AreApart k.entries → TellsOldest passed k answer → oldest_in passed k ≡ answer
 oldest_is passed k answer apart = by_answer answer
   where
@@ -104,7 +104,7 @@ oldest_is passed k answer apart = by_answer answer
     others : List Entry
     others = without (is_of_any passed) k.entries
 
-    -- there is a segment, and this is told of it
+    -- there is a segment, and this is said of it
     stored : {o : Oldest} → 0 < k.stored → live_in name passed k.entries ≡ o → oldest_in passed k ≡ o
     stored some is = rw (ne_eqb k.stored 0 (λ none. absurd (omega (arith, some, none)))) is
 

@@ -94,7 +94,7 @@ gathered_few moving takes reads =
     let fresh = length-map moving.taken (λ (t : TakenRecord). t.stored) in
     omega (arith, both, old, fresh, takes, reads)
 
--- they are in flight behind the others, with their job
+-- they are in flight after the others, with their job
 pub gathered : (size set : ℕ) (old mid new last : LaneState) (moving : Moving) (job : Job) → LaneTakes set old (taken.Records moving.taken) mid → LaneReads set mid (read.Records moving.visible) new → moving.set ≡ set → moving.number ≡ new.moves + 1 →
     job ≡ job_of size moving → last ≡ record new { flights = new.flights ++ just_begun new.log.shape moving ∷ []; moves = new.moves + 1 } → Gathers size set old (begin.Job job) last
 gathered size set old mid new last moving job takes reads its numbered job_is last_is =

@@ -171,7 +171,7 @@ needs_too step needs also old (Miss Expired) new to gives = gives
 needs_too step needs also old (Miss Fault) new to gives = (to gives.0, gives.1)
 needs_too step needs also old (Miss Damaged) new to gives = gives
 
--- where memory has no pair of the key the answer is that of the tiers below
+-- if memory has no pair of the key the answer is that of the tiers below
 pub get_below : (key : List ℕ) (moment : ℕ) (answer : Answer) (old new : LaneState) → value_in key old.memory.pairs ≡ None → StepGives (ask_log key moment old) (NeedsFlashPage key old) old answer new → GetGives key moment old answer new
 get_below key moment answer old new absent gives =
     subst (λ o. StepGives (memory_step key moment old o) (NeedsPage key old) old answer new) (sym absent)
@@ -185,7 +185,7 @@ asks_log key s at is asks = subst (λ (p : Placed). AreBuffered s.log (of_tag p.
 pub asks_set : {D : Type 0} (key : List ℕ) (s mid : StoreState D) (at : Placed) → at ≡ place_in s.log.shape key → HasAll s mid → AsksNothing key s → lets_show (notes_of mid.sets at.set) at.hash ≡ false
 asks_set key s mid at is all asks = (λ i. lets_show (notes_of (all i).sets (is i).set) (is i).hash) ∙ asks.denied
 
--- a page of a set is asked for only where its filter admits the key, and it is not struck
+-- a page of a set is asked for only if its filter admits the key, and it is not struck
 pub asked_page_at : (shows : Bool) (located : LocatedInSet) (found : List ℕ) (not_called : Type 0) → OnFalse shows ((located ≡ set.Absent) × not_called) → set_looked_of located found ≡ look.Fault → shows ≡ true
 asked_page_at true located found not_called denied is = refl
 asked_page_at false located found not_called denied is = let no : look.Fault ≡ look.Absent = sym is ∙ ap (λ (l : LocatedInSet). set_looked_of l found) denied.0 in absurd cc
@@ -224,7 +224,7 @@ module _ {D : Type 0} (key : List ℕ) (old mid : StoreState D) (at : Placed) (p
   pub hit_leaves : (value : List ℕ) (looked : Looked) → looked ≡ look.Hit value → LogLeaves at looked old mid → GetLeaves key (Hit value Log) old mid
   hit_leaves value looked is leaves = subst (λ (p : Placed). LogLeaves p (look.Hit value) old mid) placed (subst (λ l. LogLeaves at l old mid) is leaves)
 
-  -- what a look into the key's set leaves behind a call that leaves all is left by a get
+  -- what a look into the key's set leaves after a call that leaves all is left by a get
   pub leaves_after : (answer : Answer) (new : StoreState D) → HasAll old mid → SetLeaves at.set answer mid new → GetLeaves key answer old new
   leaves_after (Hit value Memory) new all leaves = absurd leaves
   leaves_after (Hit value Log) new all leaves = absurd leaves
@@ -235,7 +235,7 @@ module _ {D : Type 0} (key : List ℕ) (old mid : StoreState D) (at : Placed) (p
   })
   leaves_after (Miss cause) new all leaves = all_again old mid new all leaves
 
--- where only an entry of the log was lowered, that is so of the store
+-- if only an entry of the log was lowered, that is so of the store
 pub lowered_store : {D : Type 0} (s : StoreState D) (d : D) (k : LogState) (set : ℕ) (e : Entry) → k ≡ lowered_in s.log set e.place → d ≡ s.device → IsLowered set e s (record s { device = d; log = k })
 lowered_store s d k set e log device = λ i. record {
   layout = s.layout;
@@ -247,7 +247,7 @@ lowered_store s d k set e log device = λ i. record {
   moves = s.moves;
 }
 
--- where nothing changed, that is so of the store
+-- if nothing changed, that is so of the store
 pub same_store : {D : Type 0} (s : StoreState D) (d : D) (k : LogState) → k ≡ s.log → d ≡ s.device → record s { device = d; log = k } ≡ s
 same_store s d k log device = λ i. record {
   layout = s.layout;
@@ -264,7 +264,7 @@ pub record_told : {D : Type 0} (o : Option (List ℕ)) (s : StoreState D) (d : D
 record_told (Some value) s d k set e looked gives = (gives.hit, lowered_store s d k set e gives.lowered gives.uncalled)
 record_told None s d k set e looked gives = (gives.expired, same_store s d k gives.stays gives.uncalled)
 
--- where the log has the key, that is the answer of the tiers below memory
+-- if the log has the key, that is the answer of the tiers below memory
 pub log_hit_gives : (key : List ℕ) (moment : ℕ) (value : List ℕ) (old new : LaneState) → LogTells key moment old (look.Hit value) new → StepGives (ask_log key moment old) (NeedsFlashPage key old) old (Hit value Log) new
 log_hit_gives key moment value old new tells = step (newest_with old.live key) tells
   where
@@ -272,7 +272,7 @@ log_hit_gives key moment value old new tells = step (newest_with old.live key) t
     step None has = absurd has
     step (Some x) has = found_hit (value_at moment x.1.value) value Log (NeedsFlashPage key old) old new old (lane_lowered old x.0) has.0 has.1
 
--- so it is where what it has has expired
+-- so it is if what it has has expired
 pub log_expired_gives : (key : List ℕ) (moment : ℕ) (old new : LaneState) → LogTells key moment old look.Expired new → StepGives (ask_log key moment old) (NeedsFlashPage key old) old (Miss Expired) new
 log_expired_gives key moment old new tells = step (newest_with old.live key) tells.0
   where
@@ -280,11 +280,11 @@ log_expired_gives key moment old new tells = step (newest_with old.live key) tel
     step None has = absurd has
     step (Some x) has = found_expired (value_at moment x.1.value) Log (NeedsFlashPage key old) old new old (lane_lowered old x.0) has tells.1
 
--- where the device fails in the log a page of it was needed, and nothing changes
+-- if the device fails in the log a page of it was needed, and nothing changes
 pub log_fault_gives : (key : List ℕ) (moment : ℕ) (old new : LaneState) → LogTells key moment old look.Fault new → StepGives (ask_log key moment old) (NeedsFlashPage key old) old (Miss Fault) new
 log_fault_gives key moment old new tells = (inl tells.0, tells.1)
 
--- where the log lacks the key, its set's answer is that of the tiers below memory
+-- if the log lacks the key, its set's answer is that of the tiers below memory
 pub log_absent_gives : (key : List ℕ) (moment : ℕ) (old mid new : LaneState) (looked : Looked) (answer : Answer) → looked ≡ look.Absent → LogTells key moment old looked mid →
     StepGives (ask_set key moment mid) (NeedsSetPage key mid) mid answer new → StepGives (ask_log key moment old) (NeedsFlashPage key old) old answer new
 log_absent_gives key moment old mid new looked answer is tells gives =

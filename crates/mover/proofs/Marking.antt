@@ -64,7 +64,7 @@ pub removal_others : (key : List ℕ) (lane : LaneState) → IsLogPlaced lane �
 removal_others key lane placed marked p (inl visible) = let kept = removed_sees key lane placed p visible in (inl kept.0, kept.1)
 removal_others key lane placed marked p (inr held) = let kept = held_before key lane (removed key lane) p marked refl held in (inr kept.0, kept.1)
 
--- a put shows its pair, and else only other keys
+-- a put shows its pair, and otherwise only other keys
 pub put_alone : (size admit word : ℕ) (put : Pair) (lane : LaneState) → IsLogPlaced lane → All (AreMarked lane.log.shape) lane.flights → ShowsIt put lane (put_step size admit put word lane).lane
 put_alone size admit word put lane placed marked p (inl visible) =
     ⊎_elim (λ it. inl it) (λ kept. inr (inl kept.0, kept.1)) (put_sees size admit word put lane placed p visible)

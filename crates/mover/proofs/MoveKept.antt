@@ -113,7 +113,7 @@ module _ (size least : ℕ) (lane : LaneState) (was : IsInOrder lane) where
       by_answer begin.Dropped gives = stepped gives.1
       by_answer (begin.Job job) gives = stepped gives.1
 
--- where a move is no longer in flight a lane stays in order
+-- if a move is no longer in flight a lane stays in order
 given_up_kept : (number : ℕ) (lane : LaneState) → IsInOrder lane → KeepsOrder lane (given_up number lane)
 given_up_kept number lane was =
     let others : Flight → Bool = λ f. not (eqb f.moving.number number) in

@@ -70,7 +70,7 @@ begins_by size least lane P busy nothing oldest = by_room (nat_lt (length lane.f
 were_in_flight : (number : ℕ) (lane : LaneState) (f : Flight) → Contains (given_up number lane).flights f → Contains lane.flights f
 were_in_flight number lane f left = (in_filter (λ (g : Flight). not (eqb g.moving.number number)) lane.flights f left).0
 
--- where records of the log die nothing else is shown
+-- if records of the log die nothing else is shown
 without_shows : (es : List Entry) (q : Entry × Rec → Bool) (lane : LaneState) → SeesNoMore lane (record lane { log = with_list lane.log es; live = filter q lane.live })
 without_shows es q lane p (inl memory) = inl memory
 without_shows es q lane p (inr (inl live)) =
@@ -78,7 +78,7 @@ without_shows es q lane p (inr (inl live)) =
     inr (inl (mapped (λ (x : Entry × Rec). pair_of x.1) lane.live found.0 p (in_filter q lane.live found.0 found.1).0 found.2))
 without_shows es q lane p (inr (inr visible)) = inr (inr visible)
 
--- where a set shows other records, what is so of each of them and of what was visible is so of all that is visible
+-- if a set shows other records, what is so of each of them and of what was visible is so of all that is visible
 set_shown : (P : Pair → Type 0) (lane : LaneState) (sets : SetsState) (set : ℕ) (shows : List (ℕ × Rec)) → ((p : Pair) → IsVisible lane p → P p) → ((p : Pair) → Contains (map (λ (x : ℕ × Rec). pair_of x.1) shows) p → P p) →
     (p : Pair) → IsVisible (record lane { sets = sets; visible = with_set lane.visible set shows }) p → P p
 set_shown P lane sets set shows old fresh p (inl memory) = old p (inl memory)
@@ -96,7 +96,7 @@ nothing f p h = let lt = (in_map f [] p h).1.1 in omega (arith, lt)
 forgotten_shows : (lane : LaneState) (set : ℕ) (sets : SetsState) → SeesNoMore lane (record lane { sets = sets; visible = with_set lane.visible set [] })
 forgotten_shows lane set sets = set_shown (IsVisible lane) lane sets set [] (λ p here. here) (λ p h. absurd (nothing (λ (x : ℕ × Rec). pair_of x.1) p h))
 
--- where a page of the log is lost nothing else is shown
+-- if a page of the log is lost nothing else is shown
 page_shows : (old : LaneState) (e : Entry) → SeesNoMore old (lane_without_page e old)
 page_shows old e = without_shows (without_its_page old.log e).entries (λ (x : Entry × Rec). not (is_on_page old.log (segment_of old.log e) e.place.page x.0)) old
 

@@ -65,7 +65,7 @@ in_order old new shape live sets flights marked = (
 abbrev pub IsRightly : Shape → Entry × Rec → Type 0
 IsRightly shape x = ((place_in shape x.1.key).set ≡ x.0.set) × ((place_in shape x.1.key).tag ≡ x.0.tag)
 
--- where a prediction is lowered, the live records stay placed
+-- when a prediction is lowered, the live records stay placed
 lowered_placed : (shape : Shape) (set : ℕ) (place : Place) (live : List (Entry × Rec)) → ArePlaced shape live → ArePlaced shape (live_lowered set place live)
 lowered_placed shape set place live all =
     let now : List (Entry × Rec) = live_lowered set place live in All-weaker (Contains now) (IsRightly shape) one now (All-contains_itself now)

@@ -27,7 +27,7 @@ module _ {D : Type 0} (key : List ℕ) (moment : ℕ) (old : StoreState D) where
   recalled_expired None is = absurd cc
   recalled_expired (Some v) is = subst (λ x. RecallsBy x key old (Miss Expired) old) (same_value None (value_at moment v) is) (refl, refl)
 
--- where memory has nothing of a key there is no pair of it
+-- if memory has nothing of a key there is no pair of it
 pub recalled_absent : (moment : ℕ) (o : Option TimedValue) → None ≡ option_map (value_at moment) o → o ≡ None
 recalled_absent moment None is = refl
 recalled_absent moment (Some v) is = absurd cc

@@ -67,7 +67,7 @@ module _ {D : Type 0} (size : ℕ) (key : List ℕ) (moment : ℕ) (old mid : St
       told (Some value) tells = (sym (same_answer (Hit value Log) answer (sym (ap answer_of_log tells.0) ∙ is)), tells.1)
       told None tells = (sym (same_answer (Miss Expired) answer (sym (ap answer_of_log tells.0) ∙ is)), tells.1)
 
-  -- where the set is asked the buffers tell of none
+  -- if the set is asked the buffers tell of none
   pub not_in_buffers : answer_of_log looked ≡ None → (answer : Answer) (new : StoreState D) (e : Entry) (r : Rec) → IsInBuffers size old.log (place_in old.log.shape key).set (place_in old.log.shape key).tag key e r → AnswersFromBuffers key moment e r old answer new
   not_in_buffers is answer new e r here = absurd (told (value_at moment r.value) (its e r here))
     where

@@ -105,7 +105,7 @@ module _ {D : Type 0} (size : ℕ) (honest : D → Bool) (failures : D → ℕ) 
     gives = λ on. ended_gives key moment (lane_of held old) (lane_of held new) looked answer ends (l.tells on);
   }
 
-  -- where the log has nothing of it, its set's answer does
+  -- if the log has nothing of it, its set's answer does
   pub below_by_set : (mid : StoreState D) (answer : Answer) (new : StoreState D) → LooksInLog size honest failures held placed key moment old look.Absent mid → LooksInSet honest failures held placed key moment mid answer new →
       LooksBelow size honest failures held key moment old answer new
   below_by_set mid answer new l q = record {
@@ -121,7 +121,7 @@ not_some : {X : Type 0} (o : Option X) → o ≡ None → IsSome o → ⊥
 not_some None is some = false≢true some
 not_some (Some x) is some = none-some x (sym is)
 
--- where memory has nothing of a key, a look below it is the get
+-- if memory has nothing of a key, a look below it is the get
 module _ {D : Type 0} (size : ℕ) (honest : D → Bool) (failures : D → ℕ) (held : D → ℕ → Option (List ℕ)) (key : List ℕ) (moment : ℕ) (old : StoreState D) (absent : value_in key old.memory.pairs ≡ None) where
   pub below_gets : (answer : Answer) (new : StoreState D) → LooksBelow size honest failures held key moment old answer new → StoreGets size honest failures held key moment old (Ok answer) new
   below_gets answer new l = record {
@@ -135,7 +135,7 @@ module _ {D : Type 0} (size : ℕ) (honest : D → Bool) (failures : D → ℕ) 
     gives = λ on. get_below key moment answer (lane_of held old) (lane_of held new) absent (l.gives on);
   }
 
-  -- it is so too where the answer had no memory, and nothing was touched
+  -- it is so too if the answer had no memory, and nothing was touched
   pub short_gets : (e : AllocError) (located : Located) (buffer : List ℕ) (mid : StoreState D) → has_value located ≡ true → mid ≡ record old { device = mid.device } →
       LooksBelow size honest failures held key moment old (answer_at located buffer) (touched key located mid) → StoreGets size honest failures held key moment old (Err e) mid
   short_gets e located buffer mid has unchanged l = record {

@@ -1,4 +1,4 @@
--- What a get answers, told on memory, on the log's list of segments, and on the key's set.
+-- What a get answers, stated on memory, on the log's list of segments, and on the key's set.
 use Rattle.std.specs.Prelude.{◌≡◌, ℕ, List, Option, Some, None}
 use Rattle.record_pages.specs.Expiry.{value_at}
 use Rattle.record_pages.specs.Recs.{Rec}
@@ -24,7 +24,7 @@ first_of_tiers moment None (Some x) shown = answer_by (value_at moment x.value) 
 first_of_tiers moment None None (Some y) = answer_by (value_at moment y.1.value) Set
 first_of_tiers moment None None None = Miss Absent
 
--- A get of a key at a moment answers by memory, then by the last live record with the key of the log's segments, where it has
+-- A get of a key at a moment answers by memory, then by the last live record with the key of the log's segments, if it has
 -- one, then by the first visible record of the key's set.
 pub record AnswersBySegments (pages : ℕ → Option (List ℕ)) (lane : LaneState) (key : List ℕ) (moment : ℕ) : Type 0 where
   pub logged : Option LogRecord

@@ -26,7 +26,7 @@ pub record AsksNothing {D : Type 0} (key : List ℕ) (s : StoreState D) : Type 0
   pub buffered : AreBuffered s.log (of_tag (place_in s.log.shape key).set (place_in s.log.shape key).tag s.log.entries)
   pub denied : lets_show (notes_of s.sets (place_in s.log.shape key).set) (place_in s.log.shape key).hash ≡ false
 
--- where something holds no call of the device was made
+-- if something holds no call of the device was made
 pub record IfThen (P not_called : Type 0) : Type 0 where
   pub asks_not : P → not_called
 
@@ -37,7 +37,7 @@ pub record Recalls {D : Type 0} (key value : List ℕ) (old new : StoreState D) 
   pub rest : new ≡ record old { memory = after_get key old.memory }
 
 -- a hit in the log: one entry of this set and tag is asked for once more, and nothing else changes but the device; that
--- neither where the entry lies in a buffer
+-- neither if the entry lies in a buffer
 pub record LowersOne {D : Type 0} (at : Placed) (old new : StoreState D) : Type 0 where
   pub entry : Entry
   pub listed : Contains (of_tag at.set at.tag old.log.entries) entry
@@ -56,7 +56,7 @@ abbrev pub RecallsBy : {D : Type 0} → Option (List ℕ) → List ℕ → Store
 RecallsBy (Some value) key old answer new = (answer ≡ Hit value Memory) × (new ≡ record old { memory = after_get key old.memory })
 RecallsBy None key old answer new = (answer ≡ Miss Expired) × (new ≡ old)
 
--- what memory tells of a key at a moment; where it has no pair of the key all stays
+-- what memory tells of a key at a moment; if it has no pair of the key all stays
 abbrev pub MemoryTells : {D : Type 0} → List ℕ → ℕ → StoreState D → Option Answer → StoreState D → Type 0
 MemoryTells key moment old None new = (value_in key old.memory.pairs ≡ None) × (new ≡ old)
 MemoryTells key moment old (Some answer) new =

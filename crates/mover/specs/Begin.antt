@@ -77,7 +77,7 @@ moving_of lane set = record {
   taken = taken_of lane.log set lane.live;
 }
 
--- one move more began, of this set, and is in flight behind the others
+-- one move more began, of this set, and is in flight after the others
 abbrev pub lane_begun : LaneState → ℕ → LaneState
 lane_begun lane set =
     record (lane_counted lane) { flights = lane.flights ++ just_begun lane.log.shape (moving_of lane set) ∷ [] }
@@ -90,11 +90,11 @@ anew_step size lane e (Some r) =
     then record { reply = readmitted.Dropped; lane = lane_without_entry e lane }
     else record { reply = readmitted.Readmitted; lane = lane_appended size (lane_without_entry e lane) (entering r.key r.value) }
 
--- a readmission of an entry, where its page is had
+-- a readmission of an entry, if its page is had
 abbrev pub readmit_step : ℕ → Entry → LaneState → Step Readmitted
 readmit_step size e lane = anew_step size lane e (record_of e lane.live)
 
--- a readmission: where the device failed the live records of the entry's page die; no page is damaged
+-- a readmission: if the device failed the live records of the entry's page die; no page is damaged
 abbrev pub LaneReadmits : ℕ → Entry → LaneState → Readmitted → LaneState → Type 0
 LaneReadmits size e old readmitted.Fault new = new ≡ lane_without_page e old
 LaneReadmits size e old readmitted.Damaged new = ⊥
@@ -130,13 +130,13 @@ oldest_step size least lane oldest.Empty = record { reply = begin.Freed; lane = 
 oldest_step size least lane oldest.Passed = record { reply = begin.Busy; lane = lane }
 oldest_step size least lane (oldest.First e) = entry_step size lane e (judged least lane e)
 
--- how a move begins where one more may be in flight and no call of the device fails; only so many ever begin
+-- how a move begins if one more may be in flight and no call of the device fails; only so many ever begin
 abbrev pub next_step : ℕ → ℕ → LaneState → Step Begin
 next_step size least lane =
     if nat_lt lane.moves most_moves then oldest_step size least lane (oldest_in (sets_in_flight lane.flights) lane.log)
     else record { reply = begin.Nothing; lane = lane }
 
--- how a move begins where no call of the device fails; only so many are in flight at a time
+-- how a move begins if no call of the device fails; only so many are in flight at a time
 abbrev pub begin_step : ℕ → ℕ → LaneState → Step Begin
 begin_step size least lane =
     if nat_lt (length lane.flights) most_flights then next_step size least lane else record { reply = begin.Busy; lane = lane }
@@ -153,7 +153,7 @@ abbrev pub LaneTakes : ℕ → LaneState → SetTaken → LaneState → Type 0
 LaneTakes set old (taken.Records rs) new = (rs ≡ taken_of old.log set old.live) × (new ≡ old)
 LaneTakes set old taken.PageLost new = LosesTaken set old new
 
--- a reading of the visible records of a set: they stay; or its page is lost, which is not asked for where the filter is
+-- a reading of the visible records of a set: they stay; or its page is lost, which is not asked for if the filter is
 -- empty, and the set is forgotten
 abbrev pub LaneReads : ℕ → LaneState → SetRead → LaneState → Type 0
 LaneReads set old (read.Records rs) new = (rs ≡ set_records old set) × (new ≡ old)

@@ -65,9 +65,9 @@ AnswersRecord None set e old answer new = (answer ≡ Miss Expired) × (new ≡ 
 abbrev pub AnswersFromBuffers : {D : Type 0} → List ℕ → ℕ → Entry → Rec → StoreState D → Answer → StoreState D → Type 0
 AnswersFromBuffers key moment e r old answer new = AnswersRecord (value_at moment r.value) (place_in old.log.shape key).set e old answer new
 
--- A get. On any device no page is written, the device has failed exactly where a fault is answered, and the answer says
--- what is left; what memory has is answered at once, and else what the log's buffers tell of the key. Where the device is
--- honest, answer and lane are those of a get's step, and a fault comes only where a page is needed.
+-- A get. On any device no page is written, the device has failed exactly when a fault is answered, and the answer says
+-- what is left; what memory has is answered at once, and otherwise what the log's buffers tell of the key. If the device is
+-- honest, answer and lane are those of a get's step, and a fault comes only if a page is needed.
 pub record StoreGets {D : Type 0} (size : ℕ) (honest : D → Bool) (failures : D → ℕ) (held : D → ℕ → Option (List ℕ)) (key : List ℕ) (moment : ℕ) (old : StoreState D) (result : Result Answer AllocError) (new : StoreState D) : Type 0 where
   pub reads : OnlyReads honest failures held old (is_fault result) new
   pub leaves : IfOk result (λ answer. GetLeaves key answer old new)
@@ -93,7 +93,7 @@ pub record StoreRemoves {D : Type 0} (held : D → ℕ → Option (List ℕ)) (k
   pub device : new.device ≡ old.device
   pub removed : lane_of held new ≡ removed key (lane_of held old)
 
--- A step of flushing. On any device it changes the log alone, as is answered; where the device is honest, the lane so.
+-- A step of flushing. On any device it changes the log alone, as is answered; if the device is honest, the lane so.
 pub record StoreFlushes {D : Type 0} (honest : D → Bool) (failures : D → ℕ) (held : D → ℕ → Option (List ℕ)) (old : StoreState D) (flushed : Flushed) (new : StoreState D) : Type 0 where
   pub rest : new ≡ record old { device = new.device; log = new.log }
   pub honesty : honest new.device ≡ honest old.device
@@ -101,8 +101,8 @@ pub record StoreFlushes {D : Type 0} (honest : D → Bool) (failures : D → ℕ
   pub flushes : FlushGives old.log flushed new.log
   pub gives : IsTrue (honest old.device) → LaneFlushes (lane_of held old) flushed (lane_of held new)
 
--- The beginning of a move. No page is written. On any device it leaves the store as is answered; where the device is
--- honest it has failed exactly where a page is lost, and the lane is as a beginning gives.
+-- The beginning of a move. No page is written. On any device it leaves the store as is answered; if the device is
+-- honest it has failed exactly when a page is lost, and the lane is as a beginning gives.
 pub record StoreBegins {D : Type 0} (size : ℕ) (honest : D → Bool) (failures : D → ℕ) (held : D → ℕ → Option (List ℕ)) (old : StoreState D) (result : Result Begin AllocError) (new : StoreState D) : Type 0 where
   pub writes : WritesNothing honest held old new
   pub leaves : IfOk result (λ begun. BeginLeaves size old begun new)
@@ -149,8 +149,8 @@ MovingLeaves size plan_of old moved.Readmitted new = BeginLeaves size old begin.
 MovingLeaves size plan_of old moved.Dropped new = BeginLeaves size old begin.Dropped new
 MovingLeaves size plan_of old moved.PageLost new = BeginLeaves size old begin.PageLost new
 
--- A whole move by a policy. On any device it leaves the store as is answered; where the device is honest it has failed exactly
--- where a page is lost or not written, the lane is as a whole move gives, and the policy's plan was lawful.
+-- A whole move by a policy. On any device it leaves the store as is answered; if the device is honest it has failed exactly
+-- when a page is lost or not written, the lane is as a whole move gives, and the policy's plan was lawful.
 pub record StoreMoves {D : Type 0} (size : ℕ) (honest : D → Bool) (failures : D → ℕ) (held : D → ℕ → Option (List ℕ)) (plan_of : Job → List Choice) (old : StoreState D) (result : Result MovedWhole AllocError) (new : StoreState D) : Type 0 where
   pub layout : new.layout ≡ old.layout
   pub honesty : honest new.device ≡ honest old.device

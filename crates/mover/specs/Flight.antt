@@ -55,7 +55,7 @@ pub record IsUnstruck (f : Flight) (r : Rec) : Type 0 where
 abbrev pub most_flights : ℕ
 most_flights = 8
 
--- the move with this number, where it is in flight
+-- the move with this number, if it is in flight
 abbrev pub flight_of : ℕ → List Flight → Option Flight
 flight_of number flights = find (λ (f : Flight). f.moving.number == number) flights
 

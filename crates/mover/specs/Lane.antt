@@ -11,7 +11,7 @@ use Rattle.mover.specs.Flight.{Flight}
 use Rattle.mover.specs.Store.{StoreState}
 
 -- The pairs in memory; the log as memory sees it, and its live records, newest first; what is noted of the sets, and the
--- visible records of each in page order, each behind its slot; the moves in flight, as they began; and how many
+-- visible records of each in page order, each with its slot; the moves in flight, as they began; and how many
 -- moves began.
 pub record LaneState : Type 0 where
   pub memory : MemoryList

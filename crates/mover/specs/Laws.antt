@@ -1,4 +1,4 @@
--- Laws of a lane's steps: which pairs each shows, and that each record stays where it belongs.
+-- Laws of a lane's steps: which pairs each shows, and that each record stays if it belongs.
 use Rattle.std.specs.Prelude.{◌≡◌, ◌≤◌, ℕ, List, map, Option, Some, None, All}
 use Rattle.record_pages.specs.Recs.{Rec}
 use Rattle.record_pages.specs.declared.answer.Answer.{Answer}
@@ -100,12 +100,12 @@ AbortShows =
     → AbortGives number old aborted new
     → StepsInOrder None None old new
 
--- where a move begins with a job, the plan of it is a lawful one
+-- if a move begins with a job, the plan of it is a lawful one
 abbrev pub IsPlanned : (Job → List Choice) → Begin → Type 0
 IsPlanned plan_of (begin.Job job) = IsLawful job (plan_of job)
 IsPlanned plan_of _ = Unit {0}
 
--- the same where a whole move answers that it ended by a plan
+-- the same if a whole move answers that it ended by a plan
 abbrev pub IsPlannedFor : (Job → List Choice) → MovedWhole → Begin → Type 0
 IsPlannedFor plan_of moved.Written begun = IsPlanned plan_of begun
 IsPlannedFor plan_of moved.Forgotten begun = IsPlanned plan_of begun

@@ -29,7 +29,7 @@ use Rattle.mover.specs.declared.moving.Moving.{Moving}
 abbrev pub HasAll : {D : Type 0} → StoreState D → StoreState D → Type 0
 HasAll old new = new ≡ record old { device = new.device }
 
--- the log is this one, and else only the device may be another
+-- the log is this one, and otherwise only the device may be another
 abbrev pub HasLog : {D : Type 0} → LogState → StoreState D → StoreState D → Type 0
 HasLog log old new = new ≡ record old { device = new.device; log = log }
 
@@ -39,7 +39,7 @@ pub record LosesLogPage {D : Type 0} (set : ℕ) (old new : StoreState D) : Type
   pub listed : Contains (taken_entries old.log set) entry
   pub rest : HasLog (without_its_page old.log entry) old new
 
--- the page of a set is lost, which is not read where the filter is empty, and the set is forgotten
+-- the page of a set is lost, which is not read if the filter is empty, and the set is forgotten
 pub record LosesSetPage {D : Type 0} (set : ℕ) (old new : StoreState D) : Type 0 where
   pub read : (notes_of old.sets set).filter ≢ bits.empty
   pub rest : new ≡ record old { device = new.device; sets = forgotten old.sets set }
@@ -54,7 +54,7 @@ abbrev pub ReadingLeaves : {D : Type 0} → ℕ → StoreState D → SetRead →
 ReadingLeaves set old (read.Records rs) new = (length rs ≤ max_set_records) × HasAll old new
 ReadingLeaves set old read.PageLost new = LosesSetPage set old new
 
--- a move of a set with the next number is in flight, behind the others, and this is its job
+-- a move of a set with the next number is in flight, after the others, and this is its job
 pub record Flies {D : Type 0} (size set : ℕ) (old : StoreState D) (job : Job) (new : StoreState D) : Type 0 where
   pub moving : Moving
   pub number_is : moving.number ≡ old.moves + 1

@@ -29,13 +29,13 @@ abbrev pub told_first : Option Entry → Oldest
 told_first None = oldest.Passed
 told_first (Some e) = oldest.First e
 
--- what is live in the segment with this name, where entries of these sets are passed over: nothing, or those alone, or
+-- what is live in the segment with this name, if entries of these sets are passed over: nothing, or those alone, or
 -- which is the first of the others
 abbrev pub live_in : ℕ → List ℕ → List Entry → Oldest
 live_in segment passed es =
     if list_any (is_of_segment segment) es then told_first (first_in segment (without (is_of_any passed) es)) else oldest.Empty
 
--- the same of the oldest segment on the device, where there is one
+-- the same of the oldest segment on the device, if there is one
 abbrev pub oldest_in : List ℕ → LogState → Oldest
 oldest_in passed k = if k.stored == 0 then oldest.NoSegment else live_in (name_of k k.first) passed k.entries
 

@@ -7,13 +7,13 @@ use Rattle.mover.specs.declared.open_fault.OpenFault.{OpenFault}
 use Rattle.mover.specs.declared.open_fault.OpenFault.TheVariants as faults
 use Rattle.mover.specs.Store.{IsTooSmall}
 
--- a store of this configuration can be opened over a device of so many pages, memory aside
+-- a store of this configuration can be opened over a device of this many pages, memory aside
 pub record CanServe (size : ℕ) (config : Config) (pages : ℕ) : Type 0 where
   pub numbers : first_faulty config ≡ None
   pub page_size : IsPageSize size
   pub large : ¬ IsTooSmall config pages
 
--- When each refusal comes, over a device of so many pages: the first of these tests that fails; want of memory after all.
+-- When each refusal comes, over a device of this many pages: the first of these tests that fails; want of memory after all.
 abbrev pub RefusesStore : ℕ → Config → ℕ → OpenFault → Type 0
 RefusesStore size config pages (faults.ConfigFault field) = first_faulty config ≡ Some field
 RefusesStore size config pages faults.WrongPage = (first_faulty config ≡ None) × ¬ IsPageSize size

@@ -34,7 +34,7 @@ abbrev pub IsSmall : ℕ → Pair → Type 0
 IsSmall size p = object_size p.key p.value.value ≤ room size
 
 -- What is true of every store. Its tiers have the layout's numbers and the device has their pages; memory has room for one
--- object at least, and each object there fits on a page; the moves in flight are this store's, of different sets; and where the
+-- object at least, and each object there fits on a page; the moves in flight are this store's, of different sets; and if the
 -- device is honest, each live and each visible record is on a known page or in a buffer, and each visible record and each
 -- record in flight is in the set of its key.
 pub record IsStore {D : Type 0} (size : ℕ) (pages : D → ℕ) (honest : D → Bool) (held : D → ℕ → Option (List ℕ)) (s : StoreState D) : Type 0 where

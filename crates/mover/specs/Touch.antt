@@ -71,8 +71,8 @@ in_set n set.Absent = at.Miss Absent
 in_set n set.Fault = at.Miss Fault
 in_set n set.Damaged = at.Miss Damaged
 
--- A look into the log, by what it tells and the store after the touch. On any device no page is written; where the device is
--- honest, what is told is of the lane's live records.
+-- A look into the log, by what it tells and the store after the touch. On any device no page is written; if the device is
+-- honest, what is said is of the lane's live records.
 pub record LooksInLog {D : Type 0} (size : ℕ) (honest : D → Bool) (failures : D → ℕ) (held : D → ℕ → Option (List ℕ)) (placed : Placed) (key : List ℕ) (moment : ℕ) (old : StoreState D) (looked : Looked) (new : StoreState D) : Type 0 where
   pub reads : OnlyReads honest failures held old (is_log_fault (Ok looked)) new
   pub leaves : LogLeaves placed looked old new

@@ -27,7 +27,7 @@ abbrev pub ended_by : List Choice → Rewritten → Option Flight → LaneState 
 ended_by plan ended None lane = lane
 ended_by plan ended (Some f) lane = committed f plan ended lane
 
--- a move that began so ends by the policy's plan, where there is a job; else it is over
+-- a move that began so ends by the policy's plan, if there is a job; otherwise it is over
 abbrev pub end_step : (Job → List Choice) → Rewritten → Begin → LaneState → Step MovedWhole
 end_step plan_of ended (begin.Job job) lane = record { reply = moved_by ended; lane = ended_by (plan_of job) ended (flight_of job.number lane.flights) lane }
 end_step plan_of ended begin.Nothing lane = record { reply = moved.Nothing; lane = lane }
@@ -37,12 +37,12 @@ end_step plan_of ended begin.Readmitted lane = record { reply = moved.Readmitted
 end_step plan_of ended begin.Dropped lane = record { reply = moved.Dropped; lane = lane }
 end_step plan_of ended begin.PageLost lane = record { reply = moved.PageLost; lane = lane }
 
--- a whole move where the device reads each page, and writes that of the set or does not
+-- a whole move if the device reads each page, and writes that of the set or does not
 abbrev pub whole_step : ℕ → ℕ → (Job → List Choice) → Rewritten → LaneState → Step MovedWhole
 whole_step size least plan_of ended lane =
     end_step plan_of ended (begin_step size least lane).reply (begin_step size least lane).lane
 
--- a whole move where no call of the device fails
+-- a whole move if no call of the device fails
 abbrev pub move_step : ℕ → ℕ → (Job → List Choice) → LaneState → Step MovedWhole
 move_step size least plan_of lane = whole_step size least plan_of rewritten.Written lane
 

@@ -32,7 +32,7 @@ impl Flights {
     ghost use Rattle.std.specs.Prelude.{◌≡◌, ◌<◌, [], ◌∷◌, ◌++◌, length, map, remove, slice_get, Some, None, IfOk, IfSome, IfNone};
     ghost use Rattle.mover.specs.Flight.{most_flights, flight_of, sets_in_flight, flight_struck};
 
-    /// None in flight, with room for as many as may be, or `AllocError` where memory was refused.
+    /// None in flight, with room for as many as may be, or `AllocError` if memory was refused.
     pub(crate) fn open(alloc: Global) -> Result<Flights, AllocError>
         ensures { IfOk result (λ flights. flights ≡ []) }
     {
@@ -77,7 +77,7 @@ impl Flights {
         &self.flights[at]
     }
 
-    /// Puts a move behind the others.
+    /// Puts a move after the others.
     pub(crate) fn push(&mut self, flight: Flight)
         requires { length self.old < most_flights }
         ensures { self.new ≡ self.old ++ flight ∷ [] }

@@ -26,12 +26,12 @@ pub fn removal_shows()
     ensures { RemovalShows }
 {}
 
-/// A flush step shows nothing that was not shown, also where a page is lost.
+/// A flush step shows nothing that was not shown, also when a page is lost.
 pub fn flush_shows()
     ensures { FlushShows }
 {}
 
-/// A move that begins shows nothing that was not shown, also where a page is lost.
+/// A move that begins shows nothing that was not shown, also when a page is lost.
 pub fn begin_shows()
     ensures { BeginShows }
 {}

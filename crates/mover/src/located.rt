@@ -35,7 +35,7 @@ impl Located {
         }
     }
 
-    /// The answer with a copy of the value that this buffer holds, or `AllocError` where memory is refused for it.
+    /// The answer with a copy of the value that this buffer holds, or `AllocError` if memory is refused for it.
     pub(crate) fn answer(&self, alloc: Global, buffer: &ValueBuffer) -> Result<Answer, AllocError>
         ensures answer { IfOk result (λ answer. answer ≡ answer_at self.now buffer.now) }
         ensures short { OnErr result (has_value self.now ≡ true) }

@@ -32,7 +32,7 @@ impl Marks {
         }
     }
 
-    /// Puts a mark behind the others, or leaves them as they were where memory is refused.
+    /// Puts a mark after the others, or leaves them as they were if memory is refused.
     pub(crate) fn push(&mut self, mark: Mark) -> Result<(), AllocError>
         ensures { OnOk result (self.new ≡ self.old ++ mark ∷ []) }
     {

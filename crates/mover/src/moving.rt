@@ -48,7 +48,7 @@ impl Moving {
         }
     }
 
-    /// The job of the move, or `AllocError` where memory was refused.
+    /// The job of the move, or `AllocError` if memory was refused.
     pub(crate) fn job<const PAGE: usize>(&self, alloc: Global) -> Result<Job, AllocError>
         requires { IsPageSize PAGE }
         ensures { IfOk result (λ job. job ≡ job_of PAGE self.now) }
@@ -64,7 +64,7 @@ impl Moving {
         })
     }
 
-    /// A mark for each record, none of them struck, or `AllocError` where memory was refused.
+    /// A mark for each record, none of them struck, or `AllocError` if memory was refused.
     pub(crate) fn marks(&self, alloc: Global) -> Result<Marks, AllocError>
         requires { length (records_of self.now) ≤ max_set_records + most_taken }
         ensures { IfOk result (λ marks. (shape : Shape) →

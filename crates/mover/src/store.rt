@@ -94,8 +94,8 @@ impl<D: PageDevice<PAGE>, const PAGE: usize> Store<D, PAGE> {
         Ok(store)
     }
 
-    /// The layout of this configuration, if a store of it can be opened over the device, memory aside; else the first
-    /// refusal in the order of `OpenFault`, which is never `OutOfMemory`.
+    /// The layout of this configuration, if a store of it can be opened over the device, memory aside; otherwise
+    /// the first refusal in the order of `OpenFault`, which is never `OutOfMemory`.
     pub fn layout_for(config: &Config, device: &D) -> Result<Layout, OpenFault>
         ensures numbers { IfOk result (λ layout. HasNumbersOf layout config.now) }
         ensures room { IfOk result (λ layout. layout_pages layout ≤ D.page_count device.now) }

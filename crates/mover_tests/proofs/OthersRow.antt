@@ -21,7 +21,7 @@ use Rattle.mover.specs.Put.{put_step, IsStep}
 use Rattle.mover.proofs.public_laws.Showing.{put_flies}
 use Rattle.mover.proofs.public_laws.FlightLists.{number_of_found}
 
--- another move is found where one is taken out
+-- another move is found if one is taken out
 others_found : (n other : ℕ) (fs : List Flight) → other ≢ n → flight_of other (without_flight n fs) ≡ flight_of other fs
 others_found n other [] apart = refl
 others_found n other (f ∷ fs) apart = step (eqb f.moving.number n) refl (others_found n other fs apart)

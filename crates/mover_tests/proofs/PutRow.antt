@@ -58,7 +58,7 @@ first_found : (n : ℕ) (p : Pair) (ps : List Pair) → 1 ≤ n → value_in p.k
 first_found zero p ps some = absurd (omega (arith, some))
 first_found (suc n) p ps some = let same : bytes_eq p.key p.key ≡ true = (bytes_decides p.key p.key).1 refl in simp same refl
 
--- behind a put memory has the value
+-- after a put memory has the value
 pub put_is_in_memory : (size admit word : ℕ) (p : Pair) (old new : LaneState) → 1 ≤ old.memory.capacity → new ≡ (put_step size admit p word old).lane → value_in p.key new.memory.pairs ≡ Some p.value
 put_is_in_memory size admit word p old new roomy is =
     let memory : new.memory ≡ after_put p old.memory = ap (λ (l : LaneState). l.memory) is ∙ push_keeps size admit word (pushed_out p old.memory) (stored p old) in

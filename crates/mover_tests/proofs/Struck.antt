@@ -1,4 +1,4 @@
--- What a get and a commit show behind a strike of a key.
+-- What a get and a commit show after a strike of a key.
 use Rattle.std.proofs.Common.{◌≡◌, ℕ, List, Some, None, inl, ⊎_elim, refl, sym, ap, subst}
 use Rattle.std.proofs.lemmas.Option.{none-some}
 use Rattle.std.specs.Prelude.{IsTrue}
@@ -33,7 +33,7 @@ pub put_is_told : (key : List ℕ) (value told : TimedValue) (old new : LaneStat
 put_is_told key value told old new step here =
     ⊎_elim (λ was. absurd (was.1 refl)) (λ put. sym (ap (λ (p : Pair). p.value) (some_same put))) (step.shows (record { key = key; value = told }) here)
 
--- a get behind a removal of its key is no hit
+-- a get after a removal of its key is no hit
 pub removed_is_missed : (key : List ℕ) (moment : ℕ) (value : List ℕ) (tier : Tier) (answer : Answer) (old between new : LaneState) → RemovalShows → GetShows → IsInOrder old →
     between ≡ removed key old → GetGives key moment between answer new → answer ≡ Hit value tier → ⊥
 removed_is_missed key moment value tier answer old between new removal get order is gives told =
@@ -41,7 +41,7 @@ removed_is_missed key moment value tier answer old between new removal get order
     let seen : TellsVisible key moment between (Hit value tier) = subst (TellsVisible key moment between) told (get key moment between new answer struck.order gives).1 in
     struck_is_hidden key (timed value seen.expires) old between struck (inl seen.visible)
 
--- a hit behind a put of its key is the value that was put, and live
+-- a hit after a put of its key is the value that was put, and live
 pub put_is_hit : (size admit word : ℕ) (key value : List ℕ) (expires moment : ℕ) (told : List ℕ) (tier : Tier) (pushed : Pushed) (answer : Answer) (old between new : LaneState) → PutShows → GetShows → IsInOrder old →
     IsStep (put_step size admit (record { key = key; value = timed value expires }) word old) pushed between → GetGives key moment between answer new → answer ≡ Hit told tier → (told ≡ value) × IsTrue (is_live expires moment)
 put_is_hit size admit word key value expires moment told tier pushed answer old between new put get order is gives hit =
@@ -52,7 +52,7 @@ put_is_hit size admit word key value expires moment told tier pushed answer old 
       subst (λ n. IsTrue (is_live n moment)) (ap (λ (v : TimedValue). v.expires) same) seen.live,
     )
 
--- a commit behind a removal shows nothing of its key
+-- a commit after a removal shows nothing of its key
 pub removed_is_not_written : (size : ℕ) (plan : List Choice) (number : ℕ) (key : List ℕ) (value : TimedValue) (committed : Committed) (old between new : LaneState) → RemovalShows → CommitShows → IsInOrder old →
     between ≡ removed key old → CommitGives size plan number between committed new → IsShown new (record { key = key; value = value }) → ⊥
 removed_is_not_written size plan number key value committed old between new removal commit order is gives here =

@@ -50,7 +50,7 @@ pub struct Row {
     /// The number of the device's call that is refused, from 1, or 0.
     refused: u32,
     tables: &'static [&'static [Step]],
-    /// What the calls ask of the device, in this order, where that is told.
+    /// What the calls ask of the device, in this order, if that is told.
     asked: Option<&'static [Asked]>,
 }
 
@@ -82,7 +82,7 @@ fn over(alloc: Global, config: &Config, device: Tried) -> Result<Store<Tried, 25
     Ok(Store::open(alloc, config, device)?)
 }
 
-// An empty store, opened once more where memory was refused.
+// An empty store, opened once more if memory was refused.
 fn store(alloc: Global, row: &Row) -> Result<Store<Tried, 256>, Fail> {
     match Store::open(alloc, &row.config, device(alloc, row)?) {
         Ok(store) => Ok(store),

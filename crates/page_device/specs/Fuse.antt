@@ -1,7 +1,7 @@
 -- What a fuse over a device is.
 use Rattle.std.specs.Prelude.{ℕ, ◌+◌, ◌%◌, ◌^◌, Bool, nat_lt, ◌==◌, if◌then◌else◌}
 
--- A device over another one that refuses call number at, and where it is for good each later one. Calls are
+-- A device over another one that refuses call number at, and if it is for good each later one. Calls are
 -- counted from 1, up to at.
 pub record Fused (D : Type 0) : Type 0 where
   pub inner : D
@@ -14,7 +14,7 @@ pub record Fused (D : Type 0) : Type 0 where
 abbrev pub new_fuse : {D : Type 0} → D → ℕ → Bool → Fused D
 new_fuse inner at for_good = record { inner = inner; at = at; for_good = for_good; calls = 0; refused = 0 }
 
--- the next call is refused: it is call number at, or a later one where the fuse is for good
+-- the next call is refused: it is call number at, or a later one if the fuse is for good
 abbrev pub refuses : {D : Type 0} → Fused D → Bool
 refuses f = if nat_lt f.calls f.at then f.calls + 1 == f.at else f.for_good
 

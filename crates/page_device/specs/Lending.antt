@@ -15,15 +15,15 @@ abbrev pub MayFail : Bool → ℕ → ℕ → Type 0
 MayFail true before after = (failed : Bool) × (after ≡ faults_after before failed)
 MayFail false before after = after ≡ before
 
--- The call only reads, and stops at a page that it can't have: at most one call of the device failed, and only where it
--- stopped. Where the device is honest all pages stay.
+-- The call only reads, and stops at a page that it can't have: at most one call of the device failed, and only if it
+-- stopped. If the device is honest all pages stay.
 pub record ReadsOrStops {D : Type 0} (page_count : D → ℕ) (is_honest : D → Bool) (failures : D → ℕ) (held : D → ℕ → Option (List ℕ)) (old : D) (stopped : Bool) (new : D) : Type 0 where
   pub pages : page_count new ≡ page_count old
   pub honest : is_honest new ≡ is_honest old
   pub may_fail : MayFail stopped (failures old) (failures new)
   pub same : IsTrue (is_honest old) → held new ≡ held old
 
--- The call writes this page alone. Its count of failures tells whether that failed; where the device is honest all other
+-- The call writes this page alone. Its count of failures tells whether that failed; if the device is honest all other
 -- pages stay.
 pub record OnlyWrites {D : Type 0} (page_count : D → ℕ) (is_honest : D → Bool) (failures : D → ℕ) (held : D → ℕ → Option (List ℕ)) (page : ℕ) (old : D) (failed : Bool) (new : D) : Type 0 where
   pub pages : page_count new ≡ page_count old

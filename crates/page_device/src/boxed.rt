@@ -1,7 +1,8 @@
 // A device in memory of its own.
 ghost use Rattle.std.specs.Prelude.{◌≡◌, IfOk};
 
-use page_device::{DeviceFault, PageDevice};
+use crate::device::PageDevice;
+use crate::device_fault::DeviceFault;
 use std::alloc::{AllocError, Global};
 use std::marker::Model;
 
@@ -18,7 +19,7 @@ impl<D> Model for Boxed<D> {
 }
 
 impl<D> Boxed<D> {
-    /// The device, moved into memory of its own, or `AllocError` where that was refused: then it is dropped.
+    /// The device, moved into memory of its own, or `AllocError` if that was refused: then it is dropped.
     pub fn new(alloc: Global, device: D) -> Result<Boxed<D>, AllocError>
     where
         D: Drop,

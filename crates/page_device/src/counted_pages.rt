@@ -3,11 +3,12 @@ ghost use Rattle.std.specs.Prelude.{◌≡◌, ◌<◌, OnOk, IsTrue};
 ghost use Rattle.page_device.specs.Device.{failures_after, WritesPage, IsKnown};
 ghost use Rattle.page_device.specs.Counting.{no_device_counts, with_read, with_write};
 
+use crate::device::PageDevice;
 use crate::device_counts::DeviceCounts;
-use page_device::{DeviceFault, PageDevice};
+use crate::device_fault::DeviceFault;
 use std::marker::Model;
 
-/// A device that counts what it is asked. Else it is that device.
+/// A device that counts what it is asked. Otherwise it is that device.
 #[derive(Drop)]
 pub struct CountedPages<D> {
     device: D,

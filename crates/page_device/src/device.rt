@@ -6,7 +6,7 @@ use crate::device_fault::DeviceFault;
 
 /// A device of a fixed number of pages of `PAGE` bytes each.
 ///
-/// On any device the number of pages and the honesty stay, and `DeviceFault` is answered exactly where the
+/// On any device the number of pages and the honesty stay, and `DeviceFault` is answered exactly when the
 /// count of failures rises by one. What reads give is said of honest devices alone.
 pub trait PageDevice<const PAGE: usize>: Drop {
     /// How many pages it has.
@@ -15,7 +15,7 @@ pub trait PageDevice<const PAGE: usize>: Drop {
     /// Whether its reads return what was last written.
     ghost honest: { Self → Bool };
 
-    /// The bytes that a page is known to hold, or nothing where no law says what a read of it gives.
+    /// The bytes that a page is known to hold, or nothing if no law says what a read of it gives.
     ghost held: { Self → ℕ → Option (List ℕ) };
 
     /// How many calls have failed, modulo 2^64.
@@ -32,7 +32,7 @@ pub trait PageDevice<const PAGE: usize>: Drop {
         ensures honest { honest self.new ≡ honest self.old }
         ensures failures { failures self.new ≡ failures_after (failures self.old) result }
 
-        // Where it is honest.
+        // If it is honest.
         ensures same { IsTrue (honest self.old) → held self.new ≡ held self.old }
         ensures known { IsTrue (honest self.old) →
             OnOk result (IsKnown (held self.old page) into.new) };
@@ -44,7 +44,7 @@ pub trait PageDevice<const PAGE: usize>: Drop {
         ensures honest { honest self.new ≡ honest self.old }
         ensures failures { failures self.new ≡ failures_after (failures self.old) result }
 
-        // Where it is honest.
+        // If it is honest.
         ensures written { IsTrue (honest self.old) →
             WritesPage (held self.old) (held self.new) page bytes.now result };
 }

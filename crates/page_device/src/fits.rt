@@ -1,7 +1,7 @@
 // Whether devices are large enough.
 ghost use Rattle.std.specs.Prelude.{◌↔◌, ◌<◌, Any, IsTrue};
 
-use page_device::PageDevice;
+use crate::device::PageDevice;
 
 /// Whether some device has fewer pages than this.
 pub fn is_one_too_small<D: PageDevice<PAGE>, const PAGE: usize>(pages: u32, devices: &[D]) -> bool

@@ -1,4 +1,5 @@
-//! A device of pages: what its reads and writes promise, a device in memory and one that fails on demand.
+//! A device of pages: what its reads and writes promise, a device in memory and one that fails on demand. Also what a
+//! cache of lanes asks of its devices: that each is large enough, and may be boxed and counted.
 #![tactic(auto)]
 
 mod boxed;

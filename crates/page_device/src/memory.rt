@@ -23,7 +23,7 @@ impl<const PAGE: usize> Model for MemoryDevice<PAGE> {
 }
 
 impl<const PAGE: usize> MemoryDevice<PAGE> {
-    /// A device of pages of zeros, or `AllocError` where memory was refused.
+    /// A device of pages of zeros, or `AllocError` if memory was refused.
     pub fn new(alloc: Global, pages: u32) -> Result<Self, AllocError>
         ensures zeros { IfOk result (λ d. d ≡ replicate pages (replicate PAGE 0)) }
     {

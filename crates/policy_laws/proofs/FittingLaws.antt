@@ -8,7 +8,7 @@ use Rattle.policy_laws.specs.Rank.{rank_before, kept_before, fitting}
 use Rattle.policy_laws.proofs.OrderLaws.{before_itself, before_chain}
 use Rattle.policy_laws.proofs.ListLaws.{total, Pairs, Among, Ranks, All_among}
 
--- a candidate is next where it fits
+-- a candidate is next if it fits
 abbrev fits : ℕ → ℕ → Candidate → Bool
 fits room number x = leb x.size room && ltb 0 number
 
@@ -48,7 +48,7 @@ length-fitting room number (x ∷ xs) =
     more : (a : ℕ) → 0 < number → a ≤ number - 1 → suc a ≤ number
     more a h p = omega arith
 
--- where all fit, all do
+-- if all fit, all do
 pub all_fitting : (room number : ℕ) (xs : List Candidate) → total xs ≤ room → length xs ≤ number → fitting room number xs ≡ xs
 all_fitting room number [] within few = refl
 all_fitting room number (x ∷ xs) within few =
@@ -58,26 +58,26 @@ all_fitting room number (x ∷ xs) within few =
     let rest = all_fitting (room - x.size) (number - 1) xs (omega arith) (omega arith) in
     cond-true (fits room number x) _ _ (and_from _ _ (le-leb x.size room small) (lt-ltb 0 number some)) ∙ ap (λ l. x ∷ l) rest
 
--- ---- what fits is what fits behind the kept ones that rank before it
+-- ---- what fits is what fits after the kept ones that rank before it
 
--- a candidate fits into a room and a number behind kept ones
+-- a candidate fits into a room and a number after kept ones
 abbrev pub Fits : ℕ → ℕ → List Candidate → Candidate → Type 0
 Fits room number ks y = (y.size + total (kept_before ks y) ≤ room) × (length (kept_before ks y) < number)
 
--- what ranks before one does not rank behind it
+-- what ranks before one does not rank after it
 not_behind : (x k : Candidate) → Ranks x k → rank_before k x ≡ false
 not_behind x k h = false_from_ne_true (rank_before k x) (λ t. before_itself x (before_chain x k x h t))
 
--- nothing of what ranks behind one is before it
+-- nothing of what ranks after one is before it
 none_before : (x : Candidate) (ks : List Candidate) → AllByRecursion (Ranks x) ks → kept_before ks x ≡ []
 none_before x [] all = refl
 none_before x (k ∷ ks) all = cond-false (rank_before k x) _ _ (not_behind x k all.0) ∙ none_before x ks all.1
 
--- the first of all, where it is kept
+-- the first of all, if it is kept
 none_before_itself : (x : Candidate) (ks : List Candidate) → AllByRecursion (Ranks x) ks → kept_before (x ∷ ks) x ≡ []
 none_before_itself x ks all = cond-false (rank_before x x) _ _ (false_from_ne_true (rank_before x x) (before_itself x)) ∙ none_before x ks all
 
--- behind nothing a candidate fits where it is small enough
+-- after nothing a candidate fits if it is small enough
 fits_first : (room number : ℕ) (x : Candidate) (ks : List Candidate) → kept_before ks x ≡ [] → x.size ≤ room → 0 < number → Fits room number ks x
 fits_first room number x ks none small some = rw none (omega arith, some)
 
@@ -87,7 +87,7 @@ fits_only room number x ks none h =
     let few : length (kept_before ks x) ≡ 0 = ap length none in
     and_from _ _ (le-leb x.size room (omega arith)) (lt-ltb 0 number (omega arith))
 
--- behind a first one that is kept there is less room, for fewer
+-- after a first one that is kept there is less room, for fewer
 fits_behind : (room number : ℕ) (x y : Candidate) (ks : List Candidate) → Ranks x y → x.size ≤ room → 0 < number →
     Fits (room - x.size) (number - 1) ks y ↔ Fits room number (x ∷ ks) y
 fits_behind room number x y ks first small some =
@@ -98,7 +98,7 @@ fits_behind room number x y ks first small some =
     let back : Fits room number (x ∷ ks) y → Fits (room - x.size) (number - 1) ks y = λ h. (omega arith, omega arith) in
     (there, back)
 
--- where the first is kept
+-- if the first is kept
 kept_first : (room number : ℕ) (x y : Candidate) (xs : List Candidate) → Pairs Ranks (x ∷ xs) → fits room number x ≡ true → Among y (x ∷ xs) →
     (Among y xs → (Among y (fitting (room - x.size) (number - 1) xs) ↔ Fits (room - x.size) (number - 1) (fitting (room - x.size) (number - 1) xs) y)) →
     (Among y (x ∷ fitting (room - x.size) (number - 1) xs) ↔ Fits room number (x ∷ fitting (room - x.size) (number - 1) xs) y)
@@ -119,7 +119,7 @@ kept_first room number x y xs pairs t h rest =
         λ among. ⊎_elim (λ e. absurd (before_itself x (subst (Ranks x) (sym e) first))) (λ among'. behind.0 (here.0 among')) among in
         (there, (λ fit. inr (here.1 (behind.1 fit))))
 
--- where the first is left out
+-- if the first is left out
 left_first : (room number : ℕ) (x y : Candidate) (xs : List Candidate) → Pairs Ranks (x ∷ xs) → fits room number x ≡ false → Among y (x ∷ xs) →
     (Among y xs → (Among y (fitting room number xs) ↔ Fits room number (fitting room number xs) y)) →
     (Among y (fitting room number xs) ↔ Fits room number (fitting room number xs) y)
@@ -132,7 +132,7 @@ left_first room number x y xs pairs f h rest =
     let at_first : Q x = (there, back) in
     ⊎_elim (λ e. subst Q e at_first) rest h
 
--- a candidate of some that stand by rank is kept exactly where it fits behind the kept ones that rank before it
+-- a candidate of some that stand by rank is kept exactly when it fits after the kept ones that rank before it
 pub exactly_fitting : (room number : ℕ) (xs : List Candidate) → Pairs Ranks xs → (y : Candidate) → Among y xs →
     (Among y (fitting room number xs) ↔ Fits room number (fitting room number xs) y)
 exactly_fitting room number [] pairs y h = absurd h

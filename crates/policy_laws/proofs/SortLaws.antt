@@ -70,7 +70,7 @@ heads_tie a b front bs pa pb same =
     back : tied b a ≡ false → rank_before b a ≡ false
     back g = tied_among b a front b (filter (tied b) bs) pa (sym (cond-false (tied b a) _ _ g) ∙ same b ∙ head_tied b bs)
 
--- what is left of equal lists, where the same stands before
+-- what is left of equal lists, if the same stands before
 tails : (b : Bool) (a c : Candidate) (xs ys : List Candidate) → a ≡ c → cond b (a ∷ xs) xs ≡ cond b (c ∷ ys) ys → xs ≡ ys
 tails true a c xs ys e same = cc
 tails false a c xs ys e same = same
@@ -95,7 +95,7 @@ Pairs-placed_in x (y ∷ ys) pairs =
     (λ first. ((one_way x y first, All_map (NotAfter y) (NotAfter x) (λ z after. chain z y x after (one_way x y first)) ys pairs.0), pairs))
     (λ later. (All-placed_in (NotAfter y) x ys later pairs.0, Pairs-placed_in x ys pairs.1))
 
--- none of those that rank behind a candidate ties with what it ties with
+-- none of those that rank after a candidate ties with what it ties with
 none_tied : (z x : Candidate) (ys : List Candidate) → tied z x ≡ true → AllByRecursion (λ y. rank_before x y ≡ true) ys → filter (tied z) ys ≡ []
 none_tied z x [] t all = refl
 none_tied z x (y ∷ ys) t all =
@@ -107,7 +107,7 @@ behind : (x y w : Candidate) → rank_before x y ≡ true → NotAfter y w → r
 behind x y w first after =
     ⊎_elim (λ t. t) (λ f. absurd (false≢true (sym (chain x w y f after) ∙ first))) (cases_Bool (rank_before x w))
 
--- the one that is placed stands behind those that it ties with
+-- the one that is placed stands after those that it ties with
 tied-placed_in : (z x : Candidate) (ys : List Candidate) → Pairs NotAfter ys → filter (tied z) (placed_in x ys) ≡ filter (tied z) (ys ++ x ∷ [])
 tied-placed_in z x [] pairs = refl
 tied-placed_in z x (y ∷ ys) pairs =

@@ -15,7 +15,7 @@ pub record AllFit (job : Job) : Type 0 where
   pub within : sum_by (λ item. item.size) job.items ≤ job.room
   pub few : length job.items ≤ max_set_records
 
--- a plan names items of its job, none twice, that fit on a set page, and names all where all fit
+-- a plan names items of its job, none twice, that fit on a set page, and names all if all fit
 pub record IsLawful (job : Job) (plan : List Choice) : Type 0 where
   pub in_range : All (λ choice. choice.item < length job.items) plan
   pub distinct : AllPairs (λ a b. a.item ≢ b.item) plan

@@ -10,7 +10,7 @@ use Rattle.policy_laws.specs.declared.choice.Choice.{Choice}
 abbrev pub is_same : Bool → Bool → Bool
 is_same a b = if a then b else not b
 
--- a candidate ranks before another: it is nearer, or as near and early where the other is late, or alike in both
+-- a candidate ranks before another: it is nearer, or as near and early if the other is late, or alike in both
 -- with the lower item number
 abbrev pub rank_before : Candidate → Candidate → Bool
 rank_before a b =
@@ -28,7 +28,7 @@ pub record FitsBehind (room : ℕ) (kept : List Candidate) (x : Candidate) : Typ
   pub within : x.size + sum_by (λ k. k.size) (kept_before kept x) ≤ room
   pub few : length (kept_before kept x) < max_set_records
 
--- the kept of all candidates: they stand by rank, and one is kept exactly where it fits beside the kept ones that
+-- the kept of all candidates: they stand by rank, and one is kept exactly when it fits beside the kept ones that
 -- rank before it
 pub record IsKeptByRank (room : ℕ) (all kept : List Candidate) : Type 0 where
   pub among : All (Contains all) kept
@@ -54,7 +54,7 @@ placed_in x (y ∷ ys) = if rank_before x y then x ∷ y ∷ ys else y ∷ place
 abbrev pub by_rank : List Candidate → List Candidate
 by_rank all = fold (λ ranked x. placed_in x ranked) [] all
 
--- of candidates by rank those that fit into a room and a number, of which each leaves less to those behind it
+-- of candidates by rank those that fit into a room and a number, of which each leaves less to those after it
 abbrev pub fitting : ℕ → ℕ → List Candidate → List Candidate
 fitting room number [] = []
 fitting room number (x ∷ xs) =

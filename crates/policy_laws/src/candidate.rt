@@ -34,7 +34,7 @@ impl Candidate {
         }
         self.item < other.item
     }
-    // Less where this candidate ranks before the other one.
+    // Less if this candidate ranks before the other one.
     pub(crate) fn order(&self, other: &Candidate) -> Ordering
         ensures { is_lt result ≡ rank_before self.now other.now }
     {

@@ -44,7 +44,7 @@ impl Items {
         self.items.is_empty()
     }
 
-    /// Puts an item behind the others, or leaves the list as it was where memory is refused.
+    /// Puts an item after the others, or leaves the list as it was if memory is refused.
     pub fn push(&mut self, item: Item) -> Result<(), AllocError>
         ensures ok { OnOk result (self.new ≡ self.old ++ item ∷ []) }
         ensures err { OnErr result (self.new ≡ self.old) }

@@ -44,7 +44,7 @@ impl Plan {
         self.choices.is_empty()
     }
 
-    /// Keeps one more item, behind the others, or leaves the plan as it was where memory is refused.
+    /// Keeps one more item, after the others, or leaves the plan as it was if memory is refused.
     pub fn push(&mut self, choice: Choice) -> Result<(), AllocError>
         ensures ok { OnOk result (self.new ≡ self.old ++ choice ∷ []) }
         ensures err { OnErr result (self.new ≡ self.old) }

@@ -13,7 +13,7 @@ pub trait EvictionPolicy {
     /// The plan that it makes of a job.
     ghost plan_of: { Self → Job → List Choice };
 
-    /// Its plan of the job, or `AllocError` where memory was refused.
+    /// Its plan of the job, or `AllocError` if memory was refused.
     ///
     /// Each plan names items of the job, none twice, that fit on a set page together, and names all items where
     /// all fit.

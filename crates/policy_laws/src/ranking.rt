@@ -9,7 +9,7 @@ use record_pages::MAX_SET_RECORDS;
 use std::alloc::{AllocError, Global};
 
 /// The plan that keeps each candidate that fits beside the kept ones that rank before it: its size and theirs
-/// are within the room, and there are fewer than `MAX_SET_RECORDS` of them. `AllocError` where memory was refused.
+/// are within the room, and there are fewer than `MAX_SET_RECORDS` of them. `AllocError` if memory was refused.
 pub fn plan_by_rank(alloc: Global, room: u32, candidates: &[Candidate]) -> Result<Plan, AllocError>
     ensures plan { IfOk result (λ plan. plan ≡ plan_of room candidates.now) }
     ensures by_rank { AllPairs (λ a b. a.item ≢ b.item) candidates.now →

@@ -5,7 +5,7 @@ use Rattle.record_pages.specs.Recs.{Rec}
 use Rattle.record_pages.specs.declared.form.RecordForm.{RecordForm}
 use Rattle.record_pages.specs.Reading.{◌>>=◌, record_at, records_at}
 
--- the bytes behind so many records
+-- the bytes after this many records
 abbrev pub behind : RecordForm → ℕ → List ℕ → Option (List ℕ)
 behind form n bytes = option_map (λ x. x.1) (records_at form n bytes)
 

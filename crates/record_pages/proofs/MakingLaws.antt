@@ -57,7 +57,7 @@ four_puts t0 t1 t2 t3 t4 a b d e e1 e2 e3 e4 =
     let flat : (((t0 ++ a) ++ b) ++ d) ++ e ≡ t0 ++ (a ++ (b ++ (d ++ e))) = simp append_assoc in
     e4 ∙ ap (λ (t : List ℕ). t ++ e) (e3 ∙ ap (λ (t : List ℕ). t ++ d) (e2 ∙ ap (λ (t : List ℕ). t ++ b) e1)) ∙ flat
 
--- the first records of a list were written behind what stood before a place
+-- the first records of a list were written after what stood before a place
 pub record PutSoFar (xs : List Rec) (i at end : ℕ) (before after : List ℕ) : Type 0 where
   pub text : take end after ≡ take at before ++ records_text Timed (take i xs)
   pub end_is : end ≡ at + sizes (take i xs)
@@ -167,7 +167,7 @@ sizes_small page rs fits each = omega (arith, (fit_parts page rs fits).few, size
 
 -- ---- whole pages
 
--- a header, records behind it and zeros to the end were written
+-- a header, records after it and zeros to the end were written
 pub record Written (page : ℕ) (head new : List ℕ) (rs : List Rec) (at end : ℕ) (first front : List ℕ) : Type 0 where
   pub first_is : take at first ≡ head ++ to_be_bytes w16 (length rs)
   pub at_is : at ≡ length head + 2

@@ -208,7 +208,7 @@ value_len_of bytes = from_be_bytes w16 (get_or (take 4 bytes) 1 0 ∷ get_or (ta
 abbrev pub prediction_of : List ℕ → ℕ
 prediction_of bytes = get_or (take 4 bytes) 3 0
 
--- what lies at the front where a record is there
+-- what lies at the front if a record is there
 pub record Lies (form : RecordForm) (bytes : List ℕ) : Type 0 where
   pub long : 4 ≤ length bytes
   pub expires : ℕ

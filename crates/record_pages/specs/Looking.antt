@@ -10,11 +10,11 @@ use Rattle.record_pages.specs.declared.slot_record.SlotRecord.{SlotRecord}
 abbrev pub has_key : List ℕ → Rec → Bool
 has_key key r = pointwise nat_eq r.key key
 
--- the first record that has this key, behind its slot, where the first of all has this slot
+-- the first record that has this key, with its slot, if the first of all has this slot
 abbrev pub first_from : ℕ → List ℕ → List Rec → Option (ℕ × Rec)
 first_from slot key rs = find (λ x. has_key key x.1) (enumerate_from slot rs)
 
--- the first record that has this key, behind its slot
+-- the first record that has this key, with its slot
 abbrev pub first_with : List ℕ → List Rec → Option (ℕ × Rec)
 first_with key rs = first_from 0 key rs
 

@@ -41,7 +41,7 @@ abbrev pub CanSay : RecordForm → Rec → Type 0
 CanSay Timed r = Unit {0}
 CanSay Lasting r = r.value.expires ≡ never
 
--- a text with zeros behind it, up to a size
+-- a text with zeros after it, up to a size
 abbrev pub padded_to : ℕ → List ℕ → List ℕ
 padded_to size text = text ++ replicate (size - length text) 0
 
@@ -76,7 +76,7 @@ set_head form set write = to_be_bytes w32 (set_magic form) ++ (to_be_bytes w32 s
 abbrev pub log_head : RecordForm → ℕ → ℕ → List ℕ
 log_head form segment page = to_be_bytes w32 (log_magic form) ++ (to_be_bytes w64 segment ++ to_be_bytes w16 page)
 
--- what stands on a page of either kind behind its head: the number of records, and the records
+-- what stands on a page of either kind after its head: the number of records, and the records
 abbrev pub body_text : RecordForm → List Rec → List ℕ
 body_text form rs = to_be_bytes w16 (length rs) ++ records_text form rs
 

@@ -18,13 +18,13 @@ infixl 10 ◌>>=◌
 abbrev pub ◌>>=◌ : {A B : Type 0} → Option A → (A → Option B) → Option B
 o >>= f = option_and_then f o
 
--- the number of this width at the front, and the bytes behind it
+-- the number of this width at the front, and the bytes after it
 abbrev pub number_at : Width → List ℕ → Option (ℕ × List ℕ)
 number_at w bytes =
     if nat_lt (length bytes) (byte_len w) then None
     else Some (from_be_bytes w (take (byte_len w) bytes), drop (byte_len w) bytes)
 
--- the byte at the front, and the bytes behind it
+-- the byte at the front, and the bytes after it
 abbrev pub byte_at : List ℕ → Option (ℕ × List ℕ)
 byte_at [] = None
 byte_at (b ∷ rest) = Some (b, rest)
@@ -33,12 +33,12 @@ byte_at (b ∷ rest) = Some (b, rest)
 abbrev pub is_bad : ℕ → ℕ → ℕ → List ℕ → Bool
 is_bad k v p rest = k == 0 || nat_lt 2048 v || nat_lt 7 p || nat_lt (length rest) (k + v)
 
--- the expiry at the front, and the bytes behind it: a record of the older form has none, and never expires
+-- the expiry at the front, and the bytes after it: a record of the older form has none, and never expires
 abbrev pub expiry_at : RecordForm → List ℕ → Option (ℕ × List ℕ)
 expiry_at Timed bytes = number_at w64 bytes
 expiry_at Lasting bytes = Some (never, bytes)
 
--- the record at the front, and the bytes behind it
+-- the record at the front, and the bytes after it
 unfoldable pub record_at : RecordForm → List ℕ → Option (Rec × List ℕ)
 record_at form bytes = do
   k ← byte_at bytes
@@ -48,7 +48,7 @@ record_at form bytes = do
   if is_bad k.0 v.0 p.0 e.1 then None
       else Some (rec (take k.0 e.1) (timed (take v.0 (drop k.0 e.1)) e.0) p.0, drop v.0 (drop k.0 e.1))
 
--- so many records at the front, and the bytes behind them
+-- this many records at the front, and the bytes after them
 unfoldable pub records_at : RecordForm → ℕ → List ℕ → Option (List Rec × List ℕ)
 records_at form zero bytes = Some ([], bytes)
 records_at form (suc n) bytes = do
@@ -56,7 +56,7 @@ records_at form (suc n) bytes = do
   others ← records_at form n first.1
   Some (first.0 ∷ others.0, others.1)
 
--- so many records at the front, where they are there
+-- this many records at the front, if they are there
 abbrev pub records_of : RecordForm → ℕ → List ℕ → List Rec
 records_of form n bytes = option_map_or (λ x. x.0) (records_at form n bytes) []
 
@@ -74,7 +74,7 @@ abbrev pub limit_of : PageForm → ℕ
 limit_of (page_forms.Set form) = limit form
 limit_of (page_forms.Log form) = max_log_records
 
--- the records of a page whose head was read: a count that a page of this form may have, so many records, zeros to the end
+-- the records of a page whose head was read: a count that a page of this form may have, this many records, zeros to the end
 unfoldable pub body_at : PageForm → List ℕ → Option (List Rec)
 body_at form bytes = do
   count ← number_at w16 bytes

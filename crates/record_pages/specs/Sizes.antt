@@ -14,7 +14,7 @@ abbrev pub object_size : List ℕ → List ℕ → ℕ
 object_size key value = 12 + length key + length value
 
 -- how many records a set page may have: the hits of a set are the bits of one word of 128, one for each place of its page; so
--- many records lie on a page of 4,096 bytes where each takes at most 31 bytes, and the least takes 13
+-- many records lie on a page of 4,096 bytes if each takes at most 31 bytes, and the least takes 13
 abbrev pub max_set_records : ℕ
 max_set_records = 128
 

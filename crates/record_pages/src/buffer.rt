@@ -2,7 +2,7 @@
 ghost use Rattle.std.specs.Prelude.{◌≡◌, []};
 ghost use Rattle.record_pages.specs.Bounded.{IsValue};
 
-use record_pages::Value;
+use crate::value::Value;
 use std::marker::Model;
 
 /// Room for the bytes of a value, at most `Value::MAX_LEN` of them, which lie in the buffer itself. They are zeroed when

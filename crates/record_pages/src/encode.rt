@@ -8,7 +8,7 @@ use crate::object::{MAX_SET_RECORDS, PAGE_OVERHEAD};
 use crate::put::{put_log_header, put_records, put_set_header, zero_from};
 use crate::record::Record;
 
-/// Whether the records fit together on a set page of `PAGE` bytes. A log page takes them too where there are at most
+/// Whether the records fit together on a set page of `PAGE` bytes. A log page takes them too if there are at most
 /// `MAX_LOG_RECORDS` of them.
 pub fn fits<const PAGE: usize>(records: &[Record]) -> bool
     ensures { result ≡ fit PAGE records.now }

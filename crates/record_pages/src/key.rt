@@ -70,7 +70,7 @@ impl Key {
         self.bytes.as_slice()
     }
 
-    /// A copy of the key, or `AllocError` where memory was refused.
+    /// A copy of the key, or `AllocError` if memory was refused.
     pub fn try_clone(&self) -> Result<Key, AllocError>
         ensures { IfOk result (λ key. key ≡ self.now) }
     {

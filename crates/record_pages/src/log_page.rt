@@ -29,7 +29,7 @@ impl<'a> Model for LogPage<'a> {
 }
 
 impl<'a> LogPage<'a> {
-    /// The log page that these bytes spell, or nothing where they spell none.
+    /// The log page that these bytes spell, or nothing if they spell none.
     pub fn read<const PAGE: usize>(bytes: &'a [u8; PAGE]) -> Option<LogPage<'a>>
         ensures exact { result ≡ log_page_at bytes.entry.now }
         ensures found { IfSome result (SpellsLogPage PAGE bytes.entry.now) }

@@ -65,7 +65,7 @@ impl<const PAGE: usize> LogPageWriter<PAGE> {
         self.body.has_room(added) && self.len() < MAX_LOG_RECORDS
     }
 
-    /// Adds a record behind the others. It has to fit.
+    /// Adds a record after the others. It has to fit.
     pub fn push(&mut self, added: RecordRef<'_>)
         requires lawful { IsRecord (record_shown added) }
         requires fits { IsTrue (fit_log PAGE (self.old ++ record_shown added ∷ [])) }
@@ -83,7 +83,7 @@ impl<const PAGE: usize> LogPageWriter<PAGE> {
         self.body.clear();
     }
 
-    /// The record that lies so many places on, or nothing where there are fewer. It takes one step.
+    /// The record that lies this many places on, or nothing if there are fewer. It takes one step.
     pub fn at(&self, slot: usize) -> Option<RecordRef<'_>>
         ensures value { option_map record_shown result ≡ slice_get self.now slot }
         ensures lawful { IfSome result (λ r. IsRecord (record_shown r)) }

@@ -12,6 +12,6 @@ pub enum Looked {
     Absent,
     /// The device failed.
     Fault,
-    /// A page that was read is not the expected one, or has no record where one is expected.
+    /// A page that was read is not the expected one, or has no record if one is expected.
     Damaged,
 }

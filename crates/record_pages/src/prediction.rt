@@ -26,7 +26,7 @@ impl Prediction {
     /// The prediction with which a record enters the log. A hit there lowers it.
     pub const ENTERING: u8 = 6;
 
-    /// The prediction with this number, or nothing where it is above `MAX`.
+    /// The prediction with this number, or nothing if it is above `MAX`.
     pub fn new(number: u8) -> Option<Prediction>
         ensures some { IsSome result ↔ (number ≤ 7) }
         ensures value { IfSome result (λ p. p ≡ number) }

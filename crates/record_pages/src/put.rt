@@ -12,7 +12,7 @@ use crate::record::Record;
 use crate::record_ref::RecordRef;
 use crate::set_page::SET_MAGIC;
 
-// Writes bytes at a place, and answers the place behind them.
+// Writes bytes at a place, and answers the place after them.
 pub(crate) fn put(into: &mut [u8], at: usize, bytes: &[u8]) -> usize
     requires { at + length bytes.now ≤ length into.old }
     ensures text { take result into.new ≡ take at into.old ++ bytes.now }
@@ -23,7 +23,7 @@ pub(crate) fn put(into: &mut [u8], at: usize, bytes: &[u8]) -> usize
     end
 }
 
-// Writes a record at a place, and answers the place behind it.
+// Writes a record at a place, and answers the place after it.
 pub(crate) fn put_record(into: &mut [u8], at: usize, lent: RecordRef<'_>) -> usize
     requires lawful { IsRecord (record_shown lent) }
     requires room { at + size (record_shown lent) ≤ length into.old }
@@ -41,7 +41,7 @@ pub(crate) fn put_record(into: &mut [u8], at: usize, lent: RecordRef<'_>) -> usi
     put(into, at, value)
 }
 
-// Writes records at a place, one after the other, and answers the place behind them.
+// Writes records at a place, one after the other, and answers the place after them.
 pub(crate) fn put_records(into: &mut [u8], at: usize, records: &[Record]) -> usize
     requires { at + sizes records.now ≤ length into.old }
     ensures text { take result into.new ≡ take at into.old ++ records_text Timed records.now }
@@ -55,7 +55,7 @@ pub(crate) fn put_records(into: &mut [u8], at: usize, records: &[Record]) -> usi
     end
 }
 
-// Writes the header of a set page, and answers the place behind it.
+// Writes the header of a set page, and answers the place after it.
 pub(crate) fn put_set_header(into: &mut [u8], set: u32, write: u64, count: u16) -> usize
     requires { 18 ≤ length into.old }
     ensures text { take result into.new ≡ set_head Large set write ++ to_be_bytes w16 count }
@@ -67,7 +67,7 @@ pub(crate) fn put_set_header(into: &mut [u8], set: u32, write: u64, count: u16) 
     put(into, at, &count.to_be_bytes())
 }
 
-// Writes the header of a log page, and answers the place behind it.
+// Writes the header of a log page, and answers the place after it.
 pub(crate) fn put_log_header(into: &mut [u8], segment: u64, page: u16, count: u16) -> usize
     requires { 16 ≤ length into.old }
     ensures text { take result into.new ≡ log_head Timed segment page ++ to_be_bytes w16 count }

@@ -48,7 +48,8 @@ impl<'a> RecordRef<'a> {
         RECORD_OVERHEAD + self.key.len() + self.value.len()
     }
 
-    /// A copy of the value with bytes of its own, if it is live at the moment. `AllocError` where memory was refused for it.
+    /// A copy of the value with bytes of its own, if it is live at the moment. `AllocError` if memory was refused for
+    /// it.
     pub fn value_at(self, alloc: Global, moment: u64) -> Result<Option<Value>, AllocError>
         requires { IsRecord (record_shown self) }
         ensures value { IfOk result (λ value.
@@ -64,7 +65,7 @@ impl<'a> RecordRef<'a> {
         }
     }
 
-    /// A copy of the value with bytes of its own and when it expires, or `AllocError` where memory was refused.
+    /// A copy of the value with bytes of its own and when it expires, or `AllocError` if memory was refused.
     pub fn to_value(self, alloc: Global) -> Result<TimedValue, AllocError>
         requires { IsRecord (record_shown self) }
         ensures { IfOk result (λ value. value ≡ timed self.entry.value.now self.entry.expires) }
@@ -78,7 +79,7 @@ impl<'a> RecordRef<'a> {
         })
     }
 
-    /// A copy of the record with bytes of its own, or `AllocError` where memory was refused.
+    /// A copy of the record with bytes of its own, or `AllocError` if memory was refused.
     pub fn to_record(self, alloc: Global) -> Result<Record, AllocError>
         requires { IsRecord (record_shown self) }
         ensures { IfOk result (λ r. r ≡ record_shown self.entry) }

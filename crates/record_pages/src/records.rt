@@ -49,7 +49,7 @@ impl<'a> Records<'a> {
         self.len() == 0
     }
 
-    /// The record that lies so many places on, or nothing where there are fewer.
+    /// The record that lies this many places on, or nothing if there are fewer.
     pub fn at(mut self, slot: usize) -> Option<RecordRef<'a>>
         ensures value { option_map record_shown result ≡ slice_get self.entry slot }
         ensures lawful { IfSome result (λ r. IsRecord (record_shown r)) }
@@ -62,7 +62,7 @@ impl<'a> Records<'a> {
         self.next()
     }
 
-    /// The first of the records that has this key, or nothing where none has it.
+    /// The first of the records that has this key, or nothing if none has it.
     pub fn find_key(mut self, key: &[u8]) -> Option<SlotRecord<'a>>
         ensures value { option_map found_shown result ≡ first_with key.now self.entry }
         ensures lawful { IfSome result (λ f. IsRecord (record_shown f.lent)) }
@@ -107,7 +107,7 @@ impl<'a> Iterator for Records<'a> {
     }
 }
 
-// The walk over so many records, which are there.
+// The walk over this many records, which are there.
 pub(crate) fn records_in(form: RecordForm, left: u16, rest: &[u8]) -> Records<'_>
     requires { is_some (records_at form left rest.now) ≡ true }
     ensures { result ≡ records_of form left rest.now }
@@ -132,7 +132,7 @@ pub(crate) fn body_at(form: PageForm, bytes: &[u8]) -> Option<Records<'_>>
     Some(records_in(form, count, body))
 }
 
-// The bytes behind so many records.
+// The bytes after this many records.
 #[tactic(auto, unfolding(crate::specs::Reading::records_at))]
 fn after_records(form: RecordForm, count: u16, bytes: &[u8]) -> Option<&[u8]>
     ensures { option_map (λ x. x.now) result
@@ -148,7 +148,7 @@ fn after_records(form: RecordForm, count: u16, bytes: &[u8]) -> Option<&[u8]>
     Some(rest)
 }
 
-// The record at the front, and the bytes behind it.
+// The record at the front, and the bytes after it.
 #[tactic(auto, unfolding(crate::specs::Reading::record_at))]
 fn record_at(form: RecordForm, bytes: &[u8]) -> Option<(RecordRef<'_>, &[u8])>
     ensures value { option_map (λ x. (record_shown x.0, x.1.now)) result ≡ record_at form bytes.now }
@@ -177,7 +177,7 @@ fn record_at(form: RecordForm, bytes: &[u8]) -> Option<(RecordRef<'_>, &[u8])>
     Some((record, rest))
 }
 
-// When the record at the front expires, and the bytes behind that.
+// When the record at the front expires, and the bytes after that.
 fn expiry_at(form: RecordForm, bytes: &[u8]) -> Option<(u64, &[u8])>
     ensures { option_map (λ x. (x.0, x.1.now)) result ≡ expiry_at form bytes.now }
 {
@@ -187,7 +187,7 @@ fn expiry_at(form: RecordForm, bytes: &[u8]) -> Option<(u64, &[u8])>
     }
 }
 
-// The record at the front, which is there, and the bytes behind it. Nothing is tested again.
+// The record at the front, which is there, and the bytes after it. Nothing is tested again.
 pub(crate) fn record_there(form: RecordForm, bytes: &[u8]) -> (RecordRef<'_>, &[u8])
     requires { is_some (record_at form bytes.now) ≡ true }
     ensures value { record_at form bytes.now ≡ Some (record_shown result.0, result.1.now) }

@@ -33,7 +33,7 @@ impl<'a> Model for SetPage<'a> {
 }
 
 impl<'a> SetPage<'a> {
-    /// The set page that these bytes spell, or nothing where they spell none.
+    /// The set page that these bytes spell, or nothing if they spell none.
     pub fn read<const PAGE: usize>(bytes: &'a [u8; PAGE]) -> Option<SetPage<'a>>
         ensures exact { result ≡ set_page_at bytes.entry.now }
         ensures found { IfSome result (SpellsSetPage PAGE bytes.entry.now) }

@@ -58,7 +58,7 @@ impl<const PAGE: usize> SetPageWriter<PAGE> {
         self.body.has_room(added) && self.len() < MAX_SET_RECORDS
     }
 
-    /// Adds a record behind the others. It has to fit.
+    /// Adds a record after the others. It has to fit.
     pub fn push(&mut self, added: RecordRef<'_>)
         requires lawful { IsRecord (record_shown added) }
         requires fits { IsTrue (fit PAGE (self.old ++ record_shown added ∷ [])) }

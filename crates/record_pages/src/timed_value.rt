@@ -8,7 +8,7 @@ use std::alloc::AllocError;
 /// The `expires` of a value that never expires: it is live at every moment, also at the last one.
 pub const NEVER: u64 = u64::MAX;
 
-/// Whether a value that expires then is live at the moment: before its moment, or where it is `NEVER`.
+/// Whether a value that expires then is live at the moment: before its moment, or if it is `NEVER`.
 pub fn is_live(expires: u64, moment: u64) -> bool
     ensures { result ≡ is_live expires moment }
 {
@@ -49,7 +49,7 @@ impl TimedValue {
         is_live(self.expires, moment)
     }
 
-    /// A copy of the value, if it is live at the moment. `AllocError` where memory was refused for it.
+    /// A copy of the value, if it is live at the moment. `AllocError` if memory was refused for it.
     pub fn value_at(&self, moment: u64) -> Result<Option<Value>, AllocError>
         ensures value { IfOk result (λ value. value ≡ value_at moment self.now) }
         ensures refused { OnErr result (IsTrue (is_live self.now.expires moment)) }
@@ -61,7 +61,7 @@ impl TimedValue {
         Ok(Some(value))
     }
 
-    /// A copy, or `AllocError` where memory was refused.
+    /// A copy, or `AllocError` if memory was refused.
     pub fn try_clone(&self) -> Result<TimedValue, AllocError>
         ensures { IfOk result (λ copy. copy ≡ self.now) }
     {

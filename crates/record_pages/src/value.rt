@@ -59,7 +59,7 @@ impl Value {
         self.bytes.as_slice()
     }
 
-    /// A copy of the value, or `AllocError` where memory was refused.
+    /// A copy of the value, or `AllocError` if memory was refused.
     pub fn try_clone(&self) -> Result<Value, AllocError>
         ensures { IfOk result (λ value. value ≡ self.now) }
     {

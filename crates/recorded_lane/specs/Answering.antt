@@ -6,7 +6,7 @@ use Rattle.mover.specs.Store.{StoreState}
 use Rattle.mover.specs.Calls.{StoreGets}
 use Rattle.recorded_lane.specs.Lane.{Lane}
 
--- A get of a moment was refused: before the store was asked, or where memory was refused behind what the store gave.
+-- A get of a moment was refused: before the store was asked, or if memory was refused after what the store gave.
 abbrev pub MayHaveGot : {D : Type 0} → ℕ → (D → Bool) → (D → ℕ) → (D → ℕ → Option (List ℕ)) → List ℕ → ℕ → StoreState D → StoreState D → Type 0
 MayHaveGot size honest failures held key moment old new =
     (new ≡ old) ⊎ ((given : Result Answer AllocError) × StoreGets size honest failures held key moment old given new)

@@ -54,7 +54,7 @@ pub record IsNoted {D : Type 0} (lane : Lane D) (deeds : List Deed) : Type 0 whe
   pub few : length lane.calls ≤ max_calls
   pub its_deeds : deeds ≡ deeds_of lane.calls
 
--- What is true of every lane. Its keys are its own, each call starts before its point, and points rise. Where its device
+-- What is true of every lane. Its keys are its own, each call starts before its point, and points rise. If its device
 -- is honest it is in order and sound, and each recorded hit had its key's latest value.
 pub record IsRecorded {D : Type 0} (honest : D → Bool) (held : D → ℕ → Option (List ℕ)) (lane : Lane D) : Type 0 where
   pub number : lane.lane < lane.store.layout.lanes

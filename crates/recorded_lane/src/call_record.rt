@@ -44,7 +44,7 @@ impl CallRecord {
         self.history.len()
     }
 
-    /// Records a call after the others, or leaves them as they were where memory is refused.
+    /// Records a call after the others, or leaves them as they were if memory is refused.
     pub(crate) fn push(
         &mut self,
         caller: u16,

@@ -37,7 +37,7 @@ pub const MAX_CALLS: usize = 16777216;
 /// A lane of the cache: its store, with a record of its calls in the order in which they were done. The bytes of the
 /// recorded calls lie in one place.
 ///
-/// The record takes no memory before the first call. It is right of any device; that its hits are lawful is said where
+/// The record takes no memory before the first call. It is right of any device; that its hits are lawful is said if
 /// the device is honest.
 #[derive(Drop)]
 pub struct RecordedLane<D: PageDevice<PAGE>, const PAGE: usize> {
@@ -238,10 +238,10 @@ impl<D: PageDevice<PAGE>, const PAGE: usize> RecordedLane<D, PAGE> {
         Ok(answer)
     }
 
-    /// Puts a value into the store, where it expires at the moment `expires`, or never where that is `NEVER`, and records
+    /// Puts a value into the store, where it expires at the moment `expires`, or never if that is `NEVER`, and records
     /// it. No call of the device is made.
     ///
-    /// A refused put leaves the lane as it was, so an older value of the key stays: `TooLarge` where the object does not
+    /// A refused put leaves the lane as it was, so an older value of the key stays: `TooLarge` if the object does not
     /// fit on a page, else `HistoryFull` at `MAX_CALLS` calls, else `OutOfMemory`.
     pub fn put(
         &mut self,
@@ -342,7 +342,7 @@ impl<D: PageDevice<PAGE>, const PAGE: usize> RecordedLane<D, PAGE> {
         Ok(())
     }
 
-    /// The recorded calls as a history, in which each call ends at its point, and the device, as it is now. Where the
+    /// The recorded calls as a history, in which each call ends at its point, and the device, as it is now. If the
     /// device is honest the history is accepted with the positions 0, 1, 2 and so on for its certificate. It takes no
     /// memory; what memory held is gone.
     pub fn into_parts(self) -> RecordedParts<D>
@@ -359,7 +359,7 @@ impl<D: PageDevice<PAGE>, const PAGE: usize> RecordedLane<D, PAGE> {
     }
 }
 
-/// Records a put and does it. Where memory is refused, record and store are as they were.
+/// Records a put and does it. If memory is refused, record and store are as they were.
 fn put_noted<D: PageDevice<PAGE>, const PAGE: usize>(
     calls: &mut CallRecord,
     store: &mut DeedStore<D, PAGE>,

@@ -35,7 +35,7 @@ bit-set word place q within =
     other : (q ≡ place → ⊥) → bit_at (bit_or word (1 * 2 ^ place % 2 ^ 128)) q ≡ bit_at word q
     other ne = bit_at_set_other w128 word place within q ne
 
--- a place joins the set where its bit is set
+-- a place joins the set if its bit is set
 pub bits_of-set : (word place : ℕ) → place < max_set_records → bits_of (bit_or word (1 * 2 ^ place % 2 ^ 128)) ≡ insert (bits_of word) place
 bits_of-set word place within =
     same_numbers _ _ (λ q.

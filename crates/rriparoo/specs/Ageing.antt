@@ -19,7 +19,7 @@ greatest numbers = fold max 0 numbers
 abbrev pub farthest : List Item → ℕ
 farthest items = greatest (map (λ item. item.prediction) (filter grows_older items))
 
--- the farthest of one item more, where that of the others is this
+-- the farthest of one item more, if that of the others is this
 abbrev pub farther : ℕ → Item → ℕ
 farther far item = if grows_older item then max far item.prediction else far
 
@@ -27,7 +27,7 @@ farther far item = if grows_older item then max far item.prediction else far
 abbrev pub IsWithin : ℕ → Item → Type 0
 IsWithin far item = OnTrue (grows_older item) (item.prediction ≤ far)
 
--- the prediction that an item is written with, where the farthest that grows older has this one
+-- the prediction that an item is written with, if the farthest that grows older has this one
 abbrev pub aged : ℕ → Item → ℕ
 aged far item =
     if item.fresh then item.prediction

@@ -20,7 +20,7 @@ pub fn age(job: &Job, item: usize) -> Prediction
     aged_by(far, &items[item])
 }
 
-/// The farthest prediction of the old items without a hit, or 0 where there are none.
+/// The farthest prediction of the old items without a hit, or 0 if there are none.
 pub(crate) fn farthest_of(items: &[Item]) -> u8
     ensures value { result ≡ farthest items.now }
     ensures range { result ≤ 7 }
@@ -33,7 +33,7 @@ pub(crate) fn farthest_of(items: &[Item]) -> u8
     far
 }
 
-// The farthest of one item more, where that of the others is this.
+// The farthest of one item more, if that of the others is this.
 fn farther_of(far: u8, item: &Item) -> u8
     requires { far ≤ 7 }
     ensures value { result ≡ farther far item.now }
@@ -46,7 +46,7 @@ fn farther_of(far: u8, item: &Item) -> u8
     far.max(item.prediction.get())
 }
 
-/// The new prediction of an item, where the farthest old item without a hit has this one.
+/// The new prediction of an item, if the farthest old item without a hit has this one.
 pub(crate) fn aged_by(far: u8, item: &Item) -> Prediction
     requires range { far ≤ 7 }
     requires bound { IsWithin far item.now }

@@ -30,7 +30,7 @@ first_within (b ∷ bs) = elim (cases_Bool (eqb b 10)) [
   | inr other ↦ let rest = first_within bs in rw other (omega (arith, rest))
 ]
 
--- a line feed stands where the first line is not all
+-- a line feed stands after the first line if that is not all
 pub fed : (bytes : List ℕ) → length (first_line bytes) < length bytes → 0 < feeds bytes
 fed [] less = absurd (omega (arith, less))
 fed (b ∷ bs) less = elim (cases_Bool (eqb b 10)) [
@@ -100,7 +100,7 @@ first_at (b ∷ bs) (suc k) h is = elim (cases_Bool (eqb b 10)) [
       rw other (ap suc (first_at bs k rest is))
 ]
 
--- what is left behind the first line of the bytes from a place on
+-- what is left after the first line of the bytes from a place on
 pub dropped_through : (items : List ℕ) (at len : ℕ) → len ≡ length (first_line (drop at items)) → drop (min (at + len + 1) (length items)) items ≡ after_line (drop at items)
 dropped_through items at len is =
     let far : at + len + 1 ≡ at + (len + 1) = omega arith in
@@ -109,7 +109,7 @@ dropped_through items at len is =
 abbrev pub ahead_of : List ℕ → Bool → Ahead
 ahead_of bytes over = record { bytes = bytes; over = over }
 
--- what was taken is the first line, and what is left stands behind it
+-- what was taken is the first line, and what is left stands after it
 pub takes : (most : ℕ) (old : Ahead) (items ahead line : List ℕ) (at len to : ℕ) (over : Bool) → to ≡ min (at + len + 1) (length items) → ahead_of (drop at items) over ≡ old → ahead ≡ old.bytes → (ahead ≡ [] → ⊥) → len ≡ length (first_line ahead) → len ≤ most → line ≡ take len ahead → TakesWithin most old Line line (ahead_of (drop to items) over)
 takes most old items ahead line at len to over through is same some long few taken =
     let here : drop at items ≡ old.bytes = ap (λ (a : Ahead). a.bytes) is in

@@ -15,7 +15,7 @@ use Rattle.script_words.specs.Words.{are_digits, is_numeral, value_of, number_be
 own : IsNumeralModel (λ ds. are_digits ds ≡ true) value_of
 own = numerals_by_fold _ (search rules) (λ n ds. fold (λ m digit. 10 * m + (digit - 48)) n ds) (search rules)
 
--- a word that is a numeral is of digits, and has one; it has one alone where that is 0
+-- a word that is a numeral is of digits, and has one; it has one alone if that is 0
 pub record Parts (word : List ℕ) : Type 0 where
   pub digits : are_digits word ≡ true
   pub some : 0 < length word

@@ -40,7 +40,7 @@ bare_of words =
     else (if is_named words 1 (codes "move") then Some Move else None)))
 
 -- get KEY [MOMENT], remove KEY, forget KEY, put KEY VALUE WORD [EXPIRES], or a command of one word.
--- Where no moment is given, a get is at 0, and a put never expires
+-- If no moment is given, a get is at 0, and a put never expires
 abbrev pub command_of_words : List (List ℕ) → Option Command
 command_of_words words =
     if is_named words 2 (codes "get") then get_words (slice_index_or words 1 []) (Some 0)

@@ -37,7 +37,7 @@ config_of_words words = if is_named words 9 (codes "config") then config_from wo
 abbrev pub config_of : List ℕ → Option Config
 config_of line = option_and_then config_of_words (words_of line)
 
--- where no field is out of its range, more than one lane is faulty: a script has one
+-- if no field is out of its range, more than one lane is faulty: a script has one
 abbrev pub one_lane : Config → Option Field → Option Field
 one_lane config None = if config.lanes == 1 then None else Some Lanes
 one_lane config (Some field) = Some field

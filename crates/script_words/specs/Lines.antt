@@ -14,22 +14,22 @@ abbrev pub first_line : List ℕ → List ℕ
 first_line [] = []
 first_line (b ∷ bs) = if b == 10 then [] else b ∷ first_line bs
 
--- what is behind the first line's line feed
+-- what is after the first line's line feed
 abbrev pub after_line : List ℕ → List ℕ
 after_line [] = []
 after_line (b ∷ bs) = if b == 10 then bs else after_line bs
 
--- how many line feeds there are: so many lines are whole
+-- how many line feeds there are: as many lines are whole
 abbrev pub feeds : List ℕ → ℕ
 feeds [] = 0
 feeds (b ∷ bs) = if b == 10 then suc (feeds bs) else feeds bs
 
--- bytes that were read and not yet taken, and whether the reader told its end behind them
+-- bytes that were read and not yet taken, and whether the reader told its end after them
 pub record Ahead : Type 0 where
   pub bytes : List ℕ
   pub over : Bool
 
--- the next line can be judged, where a line has at most so many bytes: it is whole, too long, or the last
+-- the next line can be judged, if a line has at most this many bytes: it is whole, too long, or the last
 abbrev pub is_ready_within : ℕ → Ahead → Bool
 is_ready_within most ahead = ahead.over || nat_lt most (length ahead.bytes) || nat_lt 0 (feeds ahead.bytes)
 
@@ -39,7 +39,7 @@ TakesWithin most old Line line new = (old.bytes ≢ []) × (line ≡ first_line 
 TakesWithin most old TooLong line new = (most < length (first_line old.bytes)) × (new ≡ old)
 TakesWithin most old End line new = (old.bytes ≡ []) × (new ≡ old)
 
--- what taking a line gives of all bytes that are left: the first line and what is behind it, that it is too long, or that there is none
+-- what taking a line gives of all bytes that are left: the first line and what is after it, that it is too long, or that there is none
 abbrev pub GivesNext : ℕ → List ℕ → LineRead → List ℕ → Option (List ℕ) → Type 0
 GivesNext most bytes Line line rest = (bytes ≢ []) × (line ≡ first_line bytes) × (rest ≡ Some (after_line bytes)) × (length line ≤ most)
 GivesNext most bytes TooLong line rest = (bytes ≢ []) × (most < length (first_line bytes))

@@ -6,11 +6,11 @@ use Rattle.std.specs.List.{slice_split, list_all}
 abbrev pub is_word : List ℕ → Bool
 is_word bytes = not (length bytes == 0) && list_all (λ b. nat_le 33 b && nat_le b 126) bytes
 
--- decimal digits and nothing else
+-- decimal digits alone
 abbrev pub are_digits : List ℕ → Bool
 are_digits bytes = list_all (λ b. nat_le 48 b && nat_le b 57) bytes
 
--- the words of a line, which one space each parts; none where a part is no word
+-- the words of a line, which one space each parts; none if a part is no word
 abbrev pub words_of : List ℕ → Option (List (List ℕ))
 words_of line =
     let parts = slice_split (λ b. b == 32) line in
@@ -24,7 +24,7 @@ is_numeral word = are_digits word && not (length word == 0) && (not (slice_index
 abbrev pub value_of : List ℕ → ℕ
 value_of digits = fold (λ n digit. 10 * n + (digit - 48)) 0 digits
 
--- the number below a bound that the word writes; none where it writes none
+-- the number below a bound that the word writes; none if it writes none
 abbrev pub number_below : ℕ → List ℕ → Option ℕ
 number_below bound word = if is_numeral word && nat_lt (value_of word) bound then Some (value_of word) else None
 

@@ -6,7 +6,7 @@ use crate::words::{number, time, words_in};
 use record_pages::{Key, KeyFault, NEVER, Value, ValueFault};
 use std::alloc::{AllocError, Global};
 
-/// A line of a script behind its first.
+/// A line of a script after its first.
 #[derive(Debug, Drop)]
 pub enum Command {
     /// Puts a value, with the word that decides whether it enters flash, and the moment from which it is
@@ -28,7 +28,7 @@ pub enum Command {
     Trace,
 }
 
-/// Whether there are so many words, and the first is this one.
+/// Whether there are `count` words, and the first is this one.
 pub(crate) fn is_named(words: &[&[u8]], count: usize, name: &[u8]) -> bool
     requires { 0 < count }
     ensures { result ≡ is_named (map (λ w. w.now) words.now) count name.now }

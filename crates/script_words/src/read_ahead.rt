@@ -132,7 +132,7 @@ fn remove_front(bytes: &mut Vec<u8>, count: usize)
     bytes.truncate(len - count);
 }
 
-/// Reads once, behind these bytes, and says how many came.
+/// Reads once, after these bytes, and says how many came.
 fn read_behind<R: Read>(reader: &mut R, bytes: &mut Vec<u8>) -> Result<usize, ReadLineFault>
     ensures few { vec_len bytes.new ≤ vec_len bytes.old + 4096 }
     ensures front { take (vec_len bytes.old) bytes.new.items ≡ bytes.old.items }

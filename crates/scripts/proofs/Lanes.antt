@@ -38,7 +38,7 @@ get_is_step step needs old new (Miss Damaged) unfailed gives = absurd gives
 one_lane : (hash lanes : ℕ) → lanes ≡ 1 → hash % lanes ≡ 0
 one_lane hash lanes one = rw one (omega arith)
 
--- where there is one lane, each key is of it
+-- if there is one lane, each key is of it
 pub all_of_one : (shape : Shape) (key : List ℕ) → shape.lanes ≡ 1 → (place_in shape key).lane ≡ 0
 all_of_one shape key one = one_lane _ shape.lanes one
 

@@ -27,7 +27,7 @@ nothing_noted zero set = refl
 nothing_noted (suc sets) zero = refl
 nothing_noted (suc sets) (suc set) = nothing_noted sets set
 
--- where nothing was written nothing is visible
+-- if nothing was written nothing is visible
 nothing_visible : (held : ℕ → Option (List ℕ)) (sets set : ℕ) → visible_in held (opening_sets sets) set ≡ []
 nothing_visible held sets set =
     ap (λ notes. visible_from notes 0 (page_records held (opening_sets sets) set)) (nothing_noted sets set)

@@ -81,7 +81,7 @@ moved size plan_of old new answer whole moves =
     let step = move_is_step size old.store.layout.threshold plan_of (lane_of held_by old.store) (lane_of held_by new.store) answer (none_failed (is_failed (Ok answer)) (moves.faults refl)) (moves.gives refl) in
     (step.0, uncalled old new (move_step size old.store.layout.threshold plan_of (lane_of held_by old.store)).lane whole moves.layout step.1)
 
--- a lane of a script stays one where no call is recorded
+-- a lane of a script stays one if no call is recorded
 pub stays : (old new : Lane Pages) → IsOfScript old → new ≡ record old { store = new.store } → new.store.layout ≡ old.store.layout → IsOfScript new
 stays old new its whole layout =
     let calls = ap (λ (l : Lane Pages). l.calls) whole in
@@ -95,7 +95,7 @@ kept_layout : (size : ℕ) (key : List ℕ) (moment : ℕ) (old new : Lane Pages
 kept_layout size key moment old new (inl same) = ap (λ (s : StoreState Pages). s.layout) same
 kept_layout size key moment old new (inr got) = got.1.reads.layout
 
--- also where a get was refused
+-- also if a get was refused
 pub stays_refused : (size : ℕ) (key : List ℕ) (moment : ℕ) (old new : Lane Pages) → IsOfScript old → new ≡ record old { store = new.store } → MayHaveGot size honest failures held_by key moment old.store new.store → IsOfScript new
 stays_refused size key moment old new its whole kept = stays old new its whole (kept_layout size key moment old new kept)
 
@@ -112,7 +112,7 @@ one_more calls key act stamps i d within =
           subst (λ (m : Noted). (m.start ≡ 3 * i + 1) × (m.point ≡ 3 * i + 2) × (m.caller ≡ 0)) (sym here) (omega (arith, last), omega (arith, last), refl)
     ]
 
--- and where a call with the next number is
+-- and if a call with the next number is
 pub goes_on : (old new : Lane Pages) (key : List ℕ) (act : Act) → IsOfScript old →
     new ≡ record old { store = new.store; calls = old.calls ++ noted (length old.calls) key act ∷ [] } →
     new.store.layout ≡ old.store.layout → IsOfScript new

@@ -29,7 +29,7 @@ pub record Stands (page : ℕ) (bytes rest : List ℕ) (over : Bool) (start now 
   pub as_many : length done ≡ length lines
   pub bytes_are : bytes ≡ front ++ rest
   pub lines_are : lines_of bytes ≡ lines ++ lines_of rest
-  -- where the reader is not over, each of them ended at a line feed
+  -- if the reader is not over, each of them ended at a line feed
   pub fed : over ≡ false → feeds front ≡ length done
   pub wrote : Appends start now (concat done)
   pub replies : (script_of page bytes).replies ≡ done ++ (transcript page number lane (lines_of rest)).replies
@@ -98,7 +98,7 @@ on_time page number lane line goes = elim (cases_Bool (ltb 4294967295 number)) [
   | inr early ↦ ltb-false _ _ early
 ]
 
--- the whole behind a line is the line's reply, and then the rest
+-- the whole after a line is the line's reply, and then the rest
 step : (page number : ℕ) (lane : Option Opened) (rest : List ℕ) → rest ≢ [] → (r : LineReply) → reply_to_line page number lane (first_line rest) ≡ r → transcript page number lane (lines_of rest) ≡ then_rest r.text (by_turn r.turn (transcript page (number + 1) r.opened (lines_of (after_line rest))))
 step page number lane rest some r is =
     ap (transcript page number lane) (next_lines rest some)
@@ -220,7 +220,7 @@ goes_some page number lane TooLong line rest new h on = h.0
 goes_some page number None End line rest new h on = let bad : Ends BadLine ≡ GoesOn = on in cc
 goes_some page number (Some lane) End line rest new h on = let bad : Ends Ended ≡ GoesOn = on in cc
 
--- where more may come, a line that was taken ended at a line feed
+-- if more may come, a line that was taken ended at a line feed
 whole_line : (ahead new : Ahead) (rest line : List ℕ) (read : LineRead) → is_ready ahead ≡ true → Takes ahead read line new → read ≡ Line → ahead.over ≡ false → 0 < feeds (ahead.bytes ++ rest)
 whole_line ahead new rest line Line ready takes is going = elim (ready_line 4096 ahead ready (omega (arith, ap length takes.1, takes.2))) [
   | inl fed ↦ omega (arith, fed, feeds-append ahead.bytes rest)

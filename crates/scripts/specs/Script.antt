@@ -65,7 +65,7 @@ reply_to_line page number opened line =
     if nat_lt 4294967295 number || nat_lt 4096 (length line) then bad_line number opened
     else reply_within page number opened line
 
--- what a read of a line is for a script at this stage. Behind the last line nothing is written, but an input with no
+-- what a read of a line is for a script at this stage. After the last line nothing is written, but an input with no
 -- line has a bad line 1
 abbrev pub reply_to_read : ℕ → ℕ → Option Opened → LineRead → List ℕ → LineReply
 reply_to_read page number opened Line line = reply_to_line page number opened line
@@ -86,12 +86,12 @@ ends_by ending = record { replies = []; ending = ending }
 abbrev pub then_rest : List ℕ → Transcript → Transcript
 then_rest text rest = record { replies = text ∷ rest.replies; ending = rest.ending }
 
--- behind the last line: an input with no line has a bad line 1
+-- after the last line: an input with no line has a bad line 1
 abbrev pub at_end : ℕ → Option Opened → Transcript
 at_end number None = then_rest (bad_line number None).text (ends_by BadLine)
 at_end number (Some opened) = ends_by Ended
 
--- what comes behind a line that goes on, or ends the script
+-- what comes after a line that goes on, or ends the script
 abbrev pub by_turn : Turn → Transcript → Transcript
 by_turn GoesOn rest = rest
 by_turn (Ends ending) rest = ends_by ending

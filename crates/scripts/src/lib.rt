@@ -1,7 +1,7 @@
 //! Scripts of a cache: each line is answered, and its calls are recorded and judged.
 #![tactic(auto)]
 
-mod open_lane_fault;
+mod open_script_fault;
 mod recording;
 mod replies;
 mod script;
@@ -10,7 +10,7 @@ mod script_lane;
 mod scripted;
 mod turn;
 
-pub use open_lane_fault::OpenLaneFault;
+pub use open_script_fault::OpenScriptFault;
 pub use recording::Recording;
 pub use script::{run_script, run_script_with_hasher};
 pub use script_fault::ScriptFault;

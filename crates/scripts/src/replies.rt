@@ -72,7 +72,7 @@ fn move_name(moved: MovedWhole) -> &'static str
     }
 }
 
-/// Appends a value, which is `-` where it is empty.
+/// Appends a value, which is `-` if it is empty.
 fn append_value(text: &mut Vec<u8>, value: &Value) -> Result<(), AllocError>
     ensures { OnOk result (text.new.items ≡ text.old.items ++ shown value.now) }
 {

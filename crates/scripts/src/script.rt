@@ -11,7 +11,7 @@ ghost use Rattle.std.specs.Option.{option_map};
 ghost use Rattle.scripts.specs.Own.{seen_of};
 ghost use Rattle.scripts.specs.Reading.{Answers, Moves};
 
-use crate::open_lane_fault::OpenLaneFault;
+use crate::open_script_fault::OpenScriptFault;
 use crate::replies::{answer_command, append};
 use crate::script_fault::ScriptFault;
 use crate::script_lane::ScriptLane;
@@ -69,8 +69,8 @@ fn open_lane<const PAGE: usize>(
             *lane = Some(opened);
             Ok(Turn::GoesOn)
         }
-        Err(OpenLaneFault::BadConfig { field }) => append_bad_config(field, text),
-        Err(OpenLaneFault::OutOfMemory) => Err(AllocError),
+        Err(OpenScriptFault::BadConfig { field }) => append_bad_config(field, text),
+        Err(OpenScriptFault::OutOfMemory) => Err(AllocError),
     }
 }
 
@@ -95,7 +95,7 @@ fn answer_first<const PAGE: usize>(
     }
 }
 
-/// Answers a line behind the first.
+/// Answers a line after the first.
 fn answer_further<const PAGE: usize, S: BuildHasher + Drop>(
     alloc: Global,
     hash_builder: S,
@@ -252,11 +252,11 @@ fn answer_next<const PAGE: usize, S: BuildHasher + Drop, W: Write>(
 
 /// Answers a script: reads it line by line, and writes the reply to each line and nothing else.
 ///
-/// Where it answers, what it wrote is all that a script of the reader's bytes writes, and the answer
+/// If it answers, what it wrote is all that a script of the reader's bytes writes, and the answer
 /// says how the script ended. At `ReadFault` it wrote just the replies of the lines that were whole in
 /// what it read, at `OutOfMemory` those of the lines before the one that met it; after `WriteFault`
-/// nothing is said of the output. It flushes the writer before a read where a reply was written since,
-/// so whoever waits for a reply gets it. It reads ahead, so the reader may be left behind the script's end,
+/// nothing is said of the output. It flushes the writer before a read if a reply was written since,
+/// so whoever waits for a reply gets it. It reads ahead, so the reader may be left past the script's end,
 /// and it writes once a line, so give it a writer with a buffer. It takes memory for one line, what was
 /// read ahead, the lane and its calls.
 /// Its verdicts are for keys that were not picked to be slow: they hash keys by a seed that anyone can read.

@@ -15,7 +15,7 @@ ghost use Rattle.recorded_lane.specs.Lane.{act_of, max_calls};
 ghost use Rattle.script_words.specs.Configs.{faulty};
 ghost use Rattle.scripts.specs.Own.{seen_of, opened_by, after_call, with_lane, own_history, own_certificate};
 
-use crate::open_lane_fault::OpenLaneFault;
+use crate::open_script_fault::OpenScriptFault;
 use crate::recording::Recording;
 use klog::Flushed;
 use mover::MovedWhole;
@@ -51,19 +51,19 @@ impl<const PAGE: usize> Model for ScriptLane<PAGE> {
 
 impl<const PAGE: usize> ScriptLane<PAGE> {
     /// An empty lane of this configuration. A script has one lane.
-    pub fn open(alloc: Global, config: &Config) -> Result<ScriptLane<PAGE>, OpenLaneFault>
+    pub fn open(alloc: Global, config: &Config) -> Result<ScriptLane<PAGE>, OpenScriptFault>
         requires { IsPageSize PAGE }
         ensures ok { IfOk result (λ lane.
             (faulty config.now ≡ None) × (seen_of lane ≡ opened_by config.now)) }
         ensures bad { IfErr result (λ fault. (field : Field) →
-            fault ≡ OpenLaneFault.BadConfig field → faulty config.now ≡ Some field) }
+            fault ≡ OpenScriptFault.BadConfig field → faulty config.now ≡ Some field) }
     {
         let layout = match config.check() {
             Ok(layout) => layout,
-            Err(fault) => return Err(OpenLaneFault::BadConfig { field: fault.field }),
+            Err(fault) => return Err(OpenScriptFault::BadConfig { field: fault.field }),
         };
         if config.lanes != 1 {
-            return Err(OpenLaneFault::BadConfig {
+            return Err(OpenScriptFault::BadConfig {
                 field: Field::Lanes,
             });
         }
@@ -153,7 +153,7 @@ impl<const PAGE: usize> ScriptLane<PAGE> {
     }
 
     /// The calls so far as a history, with the certificate of their order. The pair is accepted.
-    /// `AllocError` comes where memory was refused.
+    /// `AllocError` comes if memory was refused.
     pub fn recording(&self, alloc: Global) -> Result<Recording, AllocError>
         ensures history { IfOk result (λ r. r.history ≡ own_history self.now.calls) }
         ensures certificate { IfOk result (λ r. r.certificate ≡ own_certificate self.now.calls) }
@@ -174,7 +174,7 @@ impl<const PAGE: usize> ScriptLane<PAGE> {
         })
     }
 
-    /// The timed trace of the calls so far, which are accepted. `AllocError` comes where memory was refused.
+    /// The timed trace of the calls so far, which are accepted. `AllocError` comes if memory was refused.
     pub fn trace(&self, alloc: Global) -> Result<Vec<u8>, AllocError>
         ensures trace { IfOk result (λ bytes. IsTraceOf Version.Timed bytes.items
             (own_history self.now.calls) (own_certificate self.now.calls)) }

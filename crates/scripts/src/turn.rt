@@ -1,7 +1,7 @@
-// Whether a script goes on behind a line.
+// Whether a script goes on after a line.
 use crate::scripted::Scripted;
 
-/// Whether a script goes on behind a line.
+/// Whether a script goes on after a line.
 #[derive(Clone, Copy, Debug, PartialEq, Eq)]
 pub enum Turn {
     GoesOn,

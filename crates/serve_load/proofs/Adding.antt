@@ -5,14 +5,14 @@ use Rattle.std.proofs.lemmas.List.{map-append}
 use Rattle.std.proofs.lemmas.List.Elements.{All-cons}
 use Rattle.std.proofs.lemmas.List.Sums.{sum_by-cons}
 use Rattle.load.specs.declared.served_load.ServedLoad.{ServedLoad}
-use Rattle.serve_load.specs.declared.counted.Counted.{Counted}
+use Rattle.serve_load.specs.declared.caller_tally.CallerTally.{CallerTally}
 use Rattle.serve_load.specs.declared.report.Report.{Report}
 use Rattle.serve_load.specs.Calls.{IsTally}
 use Rattle.serve_load.specs.Reports.{IsMade}
 use Rattle.serve_load.specs.Tallies.{AddUp, upto}
 
 -- one caller more adds what it counted
-pub one_adds : (is_tally : Counted → Type 0) (most o r w : ℕ) (c : Counted) (o' r' w' : ℕ) → AddUp is_tally most o r w → ∥ is_tally c ∥₁ → o' ≡ o + c.operations → r' ≡ r + c.refused → w' ≡ w + c.wrong_hits → AddUp is_tally (most + 1) o' r' w'
+pub one_adds : (is_tally : CallerTally → Type 0) (most o r w : ℕ) (c : CallerTally) (o' r' w' : ℕ) → AddUp is_tally most o r w → ∥ is_tally c ∥₁ → o' ≡ o + c.operations → r' ≡ r + c.refused → w' ≡ w + c.wrong_hits → AddUp is_tally (most + 1) o' r' w'
 one_adds is_tally most o r w c o' r' w' h t eo er ew = record {
   counts = c ∷ h.counts;
   few = let few = h.few in omega (arith, few);
@@ -23,7 +23,7 @@ one_adds is_tally most o r w c o' r' w' h t eo er ew = record {
 }
 
 -- tallies that are others too add up as those
-pub as_others : (is_tally is_other : Counted → Type 0) (most o r w : ℕ) → ((c : Counted) → is_tally c → is_other c) → AddUp is_tally most o r w → AddUp is_other most o r w
+pub as_others : (is_tally is_other : CallerTally → Type 0) (most o r w : ℕ) → ((c : CallerTally) → is_tally c → is_other c) → AddUp is_tally most o r w → AddUp is_other most o r w
 as_others is_tally is_other most o r w f h = record {
   counts = h.counts;
   few = h.few;
@@ -33,7 +33,7 @@ as_others is_tally is_other most o r w f h = record {
   wrong_are = h.wrong_are;
 }
 
--- the next number behind those below it
+-- the next number after those below it
 pub one_more_number : {X : Type 0} (f : X → ℕ) (xs ys : List X) (x : X) (n : ℕ) → map f xs ≡ upto n → f x ≡ n → ys ≡ xs ++ x ∷ [] → map f ys ≡ upto (n + 1)
 one_more_number {X} f xs ys x n e is items =
     let same : suc n ≡ n + 1 = omega arith in

@@ -4,20 +4,20 @@ use Rattle.rand_pcg.specs.Lcg.{Lcg}
 use Rattle.load.specs.Operations.{past}
 use Rattle.load.specs.Served.{served_next_of}
 use Rattle.load.specs.declared.served_load.ServedLoad.{ServedLoad}
-use Rattle.serve_load.specs.declared.counted.Counted.{Counted}
-use Rattle.serve_load.specs.declared.words.Step.{Step}
-use Rattle.serve_load.specs.declared.words.Step.TheVariants.{Done, Refused, WrongHit}
+use Rattle.serve_load.specs.declared.caller_tally.CallerTally.{CallerTally}
+use Rattle.serve_load.specs.declared.words.CallEnd.{CallEnd}
+use Rattle.serve_load.specs.declared.words.CallEnd.TheVariants.{Done, Refused, WrongHit}
 use Rattle.certificate_checker.specs.Deeds.{Deed}
 use Rattle.serve_load.specs.Calls.{Does, HasEnded, IsAt, IsEnded, IsOneOf, IsTally, Standing, begun, is_wrong, operation_at, refusals_of, standing}
 
 -- one operation is refused once at the most
-pub few_refusals : (step : Step) → refusals_of step ≤ 1
+pub few_refusals : (step : CallEnd) → refusals_of step ≤ 1
 few_refusals Done = omega arith
 few_refusals Refused = omega arith
 few_refusals WrongHit = omega arith
 
 -- a step that is wrong is that of a wrong hit
-wrong_is : (step : Step) → is_wrong step ≡ true → step ≡ WrongHit
+wrong_is : (step : CallEnd) → is_wrong step ≡ true → step ≡ WrongHit
 wrong_is Done h = absurd cc
 wrong_is Refused h = absurd cc
 wrong_is WrongHit h = refl
@@ -26,7 +26,7 @@ module _ (load : ServedLoad) (caller : ℕ) (first : Lcg) (number refused : ℕ)
   suc_is : suc number ≡ number + 1
   suc_is = omega arith
 
-  pub one_more : (who : ℕ) (step : Step) (new : Standing) (after : Lcg) → who ≡ caller → is_wrong step ≡ false → Does load who (served_next_of load g) number step now new → after ≡ past (past g) → IsAt load caller first (number + 1) (refused + refusals_of step) old new after
+  pub one_more : (who : ℕ) (step : CallEnd) (new : Standing) (after : Lcg) → who ≡ caller → is_wrong step ≡ false → Does load who (served_next_of load g) number step now new → after ≡ past (past g) → IsAt load caller first (number + 1) (refused + refusals_of step) old new after
   one_more who step new after same right does is =
       let mine : Does load caller (operation_at load first number) number step now new =
       subst (λ k. Does load caller (served_next_of load k) number step now new) here.at (subst (λ w. Does load w (served_next_of load g) number step now new) same does) in
@@ -47,7 +47,7 @@ module _ (load : ServedLoad) (caller : ℕ) (first : Lcg) (number refused : ℕ)
     ends = inl (record { end = now; made = here.made; none = refl });
   }
 
-  pub ended_wrong : (who : ℕ) (step : Step) (new : Standing) → who ≡ caller → is_wrong step ≡ true → Does load who (served_next_of load g) number step now new → number < load.operations → IsEnded load caller first old (record { operations = number + 1; refused = refused; wrong_hits = 1 })
+  pub ended_wrong : (who : ℕ) (step : CallEnd) (new : Standing) → who ≡ caller → is_wrong step ≡ true → Does load who (served_next_of load g) number step now new → number < load.operations → IsEnded load caller first old (record { operations = number + 1; refused = refused; wrong_hits = 1 })
   ended_wrong who step new same wrong does less =
       let mine : Does load caller (operation_at load first number) number step now new =
       subst (λ k. Does load caller (served_next_of load k) number step now new) here.at (subst (λ w. Does load w (served_next_of load g) number step now new) same does) in
@@ -68,7 +68,7 @@ module _ (load : ServedLoad) (caller : ℕ) (first : Lcg) (number refused : ℕ)
         });
       }
 
-module _ (load : ServedLoad) (number : ℕ) (g : Lcg) (words : List ℕ) (seen : List Deed) (one : IsOneOf load number g words seen) (counted : Counted) where
+module _ (load : ServedLoad) (number : ℕ) (g : Lcg) (words : List ℕ) (seen : List Deed) (one : IsOneOf load number g words seen) (counted : CallerTally) where
   -- a caller that began as one of the load's ended as one of them
   pub has_ended : IsEnded load number g (standing words seen) counted → HasEnded load number counted
   has_ended ended =

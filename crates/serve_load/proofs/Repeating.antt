@@ -42,7 +42,7 @@ module _ (word rest front back : List ℕ) (len : length word ≡ 8) (more : 8 �
   whole : length rest ≡ 8 + length back
   whole = let e = ap length behind in let k = length-drop 8 rest in omega (arith, e, k, more)
 
-  -- bytes that begin with the word go on so exactly where they are repeated
+  -- bytes that begin with the word go on so exactly if they are repeated
   pub goes_on : front ≡ word → IsRepeated word rest ↔ IsRepeated word back
   goes_on is = (
     λ h. append_cancel_left word back (repeated word (length back)) (ap (λ f. f ++ back) (sym is) ∙ sym split ∙ h ∙ longer word (length back) (length rest) len whole),

@@ -4,7 +4,7 @@ use Rattle.std.proofs.lemmas.List.Sums.{fold-append}
 use Rattle.figures.specs.declared.form.Form.{Form}
 use Rattle.figures.specs.Figures.{Row, number, row, with_row, with_rows}
 
--- three rows behind those that are told give the fourth text, and four the fifth
+-- three rows after those that are told give the fourth text, and four the fifth
 pub fourth : (form : Form) (t0 t1 t2 t3 t4 : List ℕ) (a b d e : Row) → t1 ≡ with_row form t0 a → t2 ≡ with_row form t1 b → t3 ≡ with_row form t2 d → t4 ≡ with_row form t3 e → t4 ≡ with_rows form t0 (a ∷ b ∷ d ∷ e ∷ [])
 fourth form t0 t1 t2 t3 t4 a b d e p q r s =
     s ∙ ap (λ t. with_row form t e) (r ∙ ap (λ t. with_row form t d) (q ∙ ap (λ t. with_row form t b) p))
@@ -13,7 +13,7 @@ pub fifth : (form : Form) (t0 t1 t2 t3 t4 t5 : List ℕ) (a b d e f : Row) → t
 fifth form t0 t1 t2 t3 t4 t5 a b d e f p q r s u =
     u ∙ ap (λ t. with_row form t f) (fourth form t0 t1 t2 t3 t4 a b d e p q r s)
 
--- rows behind rows
+-- rows after rows
 pub then_rows : (form : Form) (t0 t1 t2 : List ℕ) (a b : List Row) → t1 ≡ with_rows form t0 a → t2 ≡ with_rows form t1 b → t2 ≡ with_rows form t0 (a ++ b)
 then_rows form t0 t1 t2 a b p q = q ∙ ap (λ t. with_rows form t b) p ∙ sym (fold-append (with_row form) t0 a b)
 
@@ -24,6 +24,6 @@ third form t0 t1 t2 t3 a b d p q r = r ∙ ap (λ t. with_row form t d) (q ∙ a
 pub renumbered : (form : Form) (t0 t1 name : List ℕ) (m n : ℕ) → t1 ≡ with_row form t0 (row name (number m)) → m ≡ n → t1 ≡ with_row form t0 (row name (number n))
 renumbered form t0 t1 name m n p q = p ∙ ap (λ k. with_row form t0 (row name (number k))) q
 
--- three parts behind one another
+-- three parts after one another
 pub all_rows : (form : Form) (t0 t1 t2 t3 : List ℕ) (a b d : List Row) → t0 ≡ [] → t1 ≡ with_rows form t0 a → t2 ≡ with_rows form t1 b → t3 ≡ with_rows form t2 d → t3 ≡ with_rows form [] (a ++ (b ++ d))
 all_rows form t0 t1 t2 t3 a b d z p q r = then_rows form t0 t1 t3 a (b ++ d) p (then_rows form t1 t2 t3 b d q r) ∙ ap (λ t. with_rows form t (a ++ (b ++ d))) z

@@ -1,4 +1,4 @@
--- What was written where the callers of a load ended.
+-- What was written if the callers of a load ended.
 use Rattle.std.proofs.Common.{◌==◌, ℕ, Bool, true, false, List, Option, if◌then◌else◌, inl, inr, refl, subst, sym}
 use Rattle.figures.specs.Figures.{form_of}
 use Rattle.load.specs.declared.served_load.ServedLoad.{ServedLoad}

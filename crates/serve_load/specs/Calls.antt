@@ -12,9 +12,9 @@ use Rattle.load.specs.declared.served_operation.ServedOperation.{ServedOperation
 use Rattle.load.specs.declared.served_operation.ServedOperation.TheVariants.{Get, Put, Remove}
 use Rattle.service_cache.specs.Seated.{put_of}
 use Rattle.service_cache.specs.Calls.{AddsLast}
-use Rattle.serve_load.specs.declared.counted.Counted.{Counted}
-use Rattle.serve_load.specs.declared.words.Step.{Step}
-use Rattle.serve_load.specs.declared.words.Step.TheVariants.{Done, Refused, WrongHit}
+use Rattle.serve_load.specs.declared.caller_tally.CallerTally.{CallerTally}
+use Rattle.serve_load.specs.declared.words.CallEnd.{CallEnd}
+use Rattle.serve_load.specs.declared.words.CallEnd.TheVariants.{Done, Refused, WrongHit}
 use Rattle.serve_load.specs.Objects.{expires_of, key_of, value_of}
 use Rattle.serve_load.specs.Words.{Sets}
 
@@ -70,45 +70,45 @@ pub record Forgets (load : ServedLoad) (caller key number : ℕ) (old new : Stan
   pub word_is : Sets old.words new.words key 0
   pub seen : (new.seen ≡ old.seen) ⊎ (AddsLast old.seen (put_by load caller key number) new.seen ⊎ AddsLast old.seen (removal_by caller key) new.seen)
 
--- a look-up went so: it changed no word, or it missed and the key was filled, where the load has leases
-abbrev pub Looks : ServedLoad → ℕ → ℕ → ℕ → Step → Standing → Standing → Type 0
+-- a look-up went so: it changed no word, or it missed and the key was filled, if the load has leases
+abbrev pub Looks : ServedLoad → ℕ → ℕ → ℕ → CallEnd → Standing → Standing → Type 0
 Looks load caller key number Done old new = Keeps old new ⊎ ((load.leases ≢ 0) × Stores load caller key number old new)
 Looks load caller key number Refused old new = Keeps old new
 Looks load caller key number WrongHit old new = Keeps old new
 
 -- a put went so
-abbrev pub Puts : ServedLoad → ℕ → ℕ → ℕ → Step → Standing → Standing → Type 0
+abbrev pub Puts : ServedLoad → ℕ → ℕ → ℕ → CallEnd → Standing → Standing → Type 0
 Puts load caller key number Done old new = Stores load caller key number old new
 Puts load caller key number Refused old new = Forgets load caller key number old new
 Puts load caller key number WrongHit old new = ⊥
 
 -- a removal went so; one that is refused is no less done, and nothing more was seen
-abbrev pub Removes : ℕ → ℕ → Step → Standing → Standing → Type 0
+abbrev pub Removes : ℕ → ℕ → CallEnd → Standing → Standing → Type 0
 Removes caller key Done old new = Enters key 0 (removal_by caller key) old new
 Removes caller key Refused old new = Sets old.words new.words key 0 × (new.seen ≡ old.seen)
 Removes caller key WrongHit old new = ⊥
 
 -- a caller's operation of this number went so, and left this
-abbrev pub Does : ServedLoad → ℕ → ServedOperation → ℕ → Step → Standing → Standing → Type 0
+abbrev pub Does : ServedLoad → ℕ → ServedOperation → ℕ → CallEnd → Standing → Standing → Type 0
 Does load caller (Get key) number step old new = Looks load caller key number step old new
 Does load caller (Remove key) number step old new = Removes caller key step old new
 Does load caller (Put key) number step old new = Puts load caller key number step old new
 
 -- the step is a wrong hit
-abbrev pub is_wrong : Step → Bool
+abbrev pub is_wrong : CallEnd → Bool
 is_wrong Done = false
 is_wrong Refused = false
 is_wrong WrongHit = true
 
 -- how many operations were refused of one that went so
-abbrev pub refusals_of : Step → ℕ
+abbrev pub refusals_of : CallEnd → ℕ
 refusals_of Done = 0
 refusals_of Refused = 1
 refusals_of WrongHit = 0
 
 -- an operation of this number was made, of which no hit was wrong; so many of those up to it were refused, and so many before
 pub record Passes (load : ServedLoad) (caller : ℕ) (operation : ServedOperation) (number before refused : ℕ) (old new : Standing) : Type 0 where
-  pub step : Step
+  pub step : CallEnd
   pub right : is_wrong step ≡ false
   pub does : Does load caller operation number step old new
   pub refusals : refused ≡ before + refusals_of step
@@ -127,14 +127,14 @@ pub record IsAt (load : ServedLoad) (caller : ℕ) (first : Lcg) (number refused
   pub made : Makes load caller first number refused old now
   pub few : refused ≤ number
 
--- a caller counted that it made so many operations, of which no hit was wrong
-pub record EndsRight (load : ServedLoad) (caller : ℕ) (first : Lcg) (old : Standing) (counted : Counted) : Type 0 where
+-- a caller counted that it made this many operations, of which no hit was wrong
+pub record EndsRight (load : ServedLoad) (caller : ℕ) (first : Lcg) (old : Standing) (counted : CallerTally) : Type 0 where
   pub end : Standing
   pub made : Makes load caller first counted.operations counted.refused old end
   pub none : counted.wrong_hits ≡ 0
 
--- a caller counted that it made so many operations, the last of which was a wrong hit
-pub record EndsWrong (load : ServedLoad) (caller : ℕ) (first : Lcg) (old : Standing) (counted : Counted) : Type 0 where
+-- a caller counted that it made this many operations, the last of which was a wrong hit
+pub record EndsWrong (load : ServedLoad) (caller : ℕ) (first : Lcg) (old : Standing) (counted : CallerTally) : Type 0 where
   pub number : ℕ
   pub before : Standing
   pub end : Standing
@@ -144,7 +144,7 @@ pub record EndsWrong (load : ServedLoad) (caller : ℕ) (first : Lcg) (old : Sta
   pub one : counted.wrong_hits ≡ 1
 
 -- a caller of a load ended with these counts
-pub record IsEnded (load : ServedLoad) (caller : ℕ) (first : Lcg) (old : Standing) (counted : Counted) : Type 0 where
+pub record IsEnded (load : ServedLoad) (caller : ℕ) (first : Lcg) (old : Standing) (counted : CallerTally) : Type 0 where
   pub some : counted.operations ≤ load.operations
   pub few_refused : counted.refused ≤ counted.operations
   pub one_wrong : counted.wrong_hits ≤ 1
@@ -158,11 +158,11 @@ pub record IsOneOf (load : ServedLoad) (number : ℕ) (generator : Lcg) (words :
   pub seen_is : seen ≡ []
 
 -- a load's caller with this number ended with these counts
-abbrev pub HasEnded : ServedLoad → ℕ → Counted → Type 0
+abbrev pub HasEnded : ServedLoad → ℕ → CallerTally → Type 0
 HasEnded load caller counted = IsEnded load caller (first_generator load.seed caller) (begun load) counted
 
 -- one of a load's callers ended with these counts
-pub record IsTally (load : ServedLoad) (counted : Counted) : Type 0 where
+pub record IsTally (load : ServedLoad) (counted : CallerTally) : Type 0 where
   pub caller : ℕ
   pub one_of : caller < load.callers
   pub ended : HasEnded load caller counted

@@ -19,7 +19,7 @@ status_of (ends.Size fault) = 2
 status_of ends.OutOfMemory = 3
 status_of ends.FileFault = 3
 
--- what is told of a size that no cache has
+-- what is reported of a size that no cache has
 abbrev pub size_message_of : SizeFault → List ℕ
 size_message_of faults.FlashTooSmall = codes "--size is too small for a cache"
 size_message_of faults.FlashTooLarge = codes "--size is too large for a cache"

@@ -21,7 +21,7 @@ repeated word len = take len (repeat (len / 8 + 1) word)
 abbrev pub value_of : ℕ → ℕ → ℕ → List ℕ
 value_of len key number = repeated (word_of key number) len
 
--- the moment of a caller's operation: its number, where puts expire
+-- the moment of a caller's operation: its number, if puts expire
 abbrev pub moment_of : ServedLoad → ℕ → ℕ
 moment_of load number = if load.ttl == 0 then 0 else number
 

@@ -66,7 +66,7 @@ pub record IsReportOf (sums : Sums) (milliseconds : ℕ) (total : LaneEnd) (repo
   pub log_is : report.log_records ≡ total.log_records
 
 -- the callers made all operations of the load, or a hit was wrong and they made some; and operations, refusals and wrong hits are
--- the sums of what so many of its callers counted at their end
+-- the sums of what this many of its callers counted at their end
 pub record IsMade (load : ServedLoad) (report : Report) : Type 0 where
   pub most : report.operations ≤ load.callers * load.operations
   pub all : report.wrong_hits ≡ 0 → report.operations ≡ load.callers * load.operations

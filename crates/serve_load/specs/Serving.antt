@@ -18,7 +18,7 @@ pub record IsTold (load : ServedLoad) (old new : Option (List ℕ)) (end : Serve
   pub wrote : Appends old new (report_of (form_of load.json) report)
   pub ended : end ≡ end_of_wrong_hits report.wrong_hits
 
--- what was written where a load ended so: a report where its callers ended, else nothing, and where a file, the output or the clock
+-- what was written if a load ended so: a report if its callers ended, else nothing, and if a file, the output or the clock
 -- failed nothing is said
 abbrev pub WroteReport : ServedLoad → Option (List ℕ) → Option (List ℕ) → ServeEnd → Type 0
 WroteReport load old new ends.Right = IsTold load old new ends.Right
@@ -44,7 +44,7 @@ Exceeds load = 100 < load.gets + load.removes
 abbrev pub LacksSize : ServedLoad → Type 0
 LacksSize load = IsNone load.size × IsSome load.memory_bytes
 
--- each refusal before anything is opened comes for its reason, and where none came, there was no reason for the first two
+-- each refusal before anything is opened comes for its reason, and if none came, there was no reason for the first two
 abbrev pub IsRefusedFirst : ServedLoad → ServeEnd → Type 0
 IsRefusedFirst load ends.SharesExceed = Exceeds load
 IsRefusedFirst load ends.NoSize = (¬ Exceeds load) × LacksSize load

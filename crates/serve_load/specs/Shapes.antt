@@ -4,7 +4,7 @@ use Rattle.load.specs.declared.served_load.ServedLoad.{ServedLoad}
 use Rattle.serve_load.specs.declared.cache_shape.CacheShape.{CacheShape}
 use Rattle.serve_load.specs.Wanting.{IsMadeOf}
 
--- the shape has the numbers of the load's cache, and its slots for leases, or one where the load has none
+-- the shape has the numbers of the load's cache, and its slots for leases, or one if the load has none
 pub record IsShapeOf (load : ServedLoad) (size : Option ℕ) (shape : CacheShape) : Type 0 where
   pub made : IsMadeOf load size shape.layout shape.shards
   pub slots : shape.lease_slots ≡ max load.leases 1

@@ -1,4 +1,4 @@
--- What is told of times: of those of gets and of those of puts.
+-- What is reported of times: of those of gets and of those of puts.
 use Rattle.std.specs.Prelude.{◌≡◌, ◌⊎◌, ◌+◌, ◌%◌, ◌<◌, ◌≤◌, ◌++◌, ◌∷◌, [], List, ℕ, length, min, Option, None, Some}
 use Rattle.load.specs.declared.histogram.Quantiles.{Quantiles}
 use Rattle.load.specs.Cells.{longest}

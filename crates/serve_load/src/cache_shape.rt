@@ -14,7 +14,7 @@ pub struct CacheShape {
     pub layout: Layout,
     /// Groups of as many lanes, 1 to 1,024.
     pub shards: u32,
-    /// Slots of each lane for leases, 1 to 1,048,576: one where the load has none, which nobody uses.
+    /// Slots of each lane for leases, 1 to 1,048,576: one if the load has none, which nobody uses.
     pub lease_slots: u32,
     ghost shards_range: { (1 ≤ shards) × (shards ≤ 1024) },
     ghost lease_slots_range: { (1 ≤ lease_slots) × (lease_slots ≤ 1048576) },
@@ -23,7 +23,7 @@ pub struct CacheShape {
 impl CacheShape {
     ghost use Rattle.serve_load.specs.Shapes.{IsShapeOf};
 
-    /// The shape of a load: that of its numbers, or the one for its size, where it has one. With a size, memory that is not given
+    /// The shape of a load: that of its numbers, or the one for its size, if it has one. With a size, memory that is not given
     /// is an eighth of it, an object has as many bytes as a key and a value of the load, and the threads are the callers.
     ///
     /// The refusals are those of `Shape::of`.

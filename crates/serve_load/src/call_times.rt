@@ -7,7 +7,7 @@ use load::{Histogram, ServedOperation};
 use std::alloc::{AllocError, Global};
 use std::time::{Clock, Instant};
 
-/// Of so many operations of a caller, one is timed.
+/// Of this many operations of a caller, one is timed.
 pub(crate) const TIMED: u32 = 16;
 
 /// How long gets took, and how long puts took, of the calls that were timed. A get's time has the fill after a miss.
@@ -70,7 +70,7 @@ impl CallTimes {
         self.puts.merge(&other.puts);
     }
 
-    /// What is told of them.
+    /// What is reported of them.
     pub(crate) fn timed(&self) -> Timed
         ensures gets { AreTold self.now.gets result.gets }
         ensures puts { AreTold self.now.puts result.puts }

@@ -4,19 +4,19 @@ ghost use mathlib.Core.List.{IsPrefix};
 ghost use Rattle.load.specs.Operations.{past};
 ghost use Rattle.load.specs.Served.{key_number_of, served_next_of};
 ghost use Rattle.serve_load.specs.Calls.{Does, HasEnded, IsEnded, IsOneOf, IsTally, Looks, Puts, Removes, is_wrong, standing};
-ghost use Rattle.serve_load.specs.declared.counted.Counted.{Counted};
+ghost use Rattle.serve_load.specs.declared.caller_tally.CallerTally.{CallerTally};
 ghost use Rattle.serve_load.specs.Looking.{Finds, FindsAll};
 ghost use Rattle.serve_load.specs.Times.{IsSampled};
 ghost use Rattle.serve_load.specs.declared.call_times.TheConstants.{TIMED};
 ghost use Rattle.serve_load.specs.Objects.{key_of, value_of};
 
 use crate::call_times::{CallTimes, TIMED};
-use crate::counted::Counted;
+use crate::caller_tally::CallerTally;
 use crate::objects::{expires_of, key, key_bytes, moment_of};
 use crate::right::judged;
 use crate::room::Room;
 use crate::tally::{Tally, Tallying};
-use crate::words::{Step, step_of_fill, word_after_fill};
+use crate::words::{CallEnd, step_of_fill, word_after_fill};
 use deed_book::{KeyLanes, Naming, Seat};
 use load::{ServedLoad, ServedOperation};
 use mover::Seen;
@@ -85,13 +85,13 @@ impl<L: KeyLanes, J: Naming> Caller<L, J> {
     ) -> Tally<M>
         requires begun { IsOneOf load.now self.number self.generator self.words.items self.seat }
         requires most { load.now.operations ≤ M.most }
-        requires tallies { (counted : Counted) → IsTally load.now counted → M.is_tally counted }
+        requires tallies { (counted : CallerTally) → IsTally load.now counted → M.is_tally counted }
         ensures { HasEnded load.now self.number result.counted }
     {
         let Ok(mut times) = CallTimes::new(alloc) else {
             halted.store(1, Ordering::SeqCst);
             return Tally {
-                counted: Counted {
+                counted: CallerTally {
                     operations: 0,
                     refused: 0,
                     wrong_hits: 0,
@@ -119,7 +119,7 @@ impl<L: KeyLanes, J: Naming> Caller<L, J> {
         made: &AtomicU64,
         halted: &AtomicU64,
         times: &mut CallTimes,
-    ) -> Counted
+    ) -> CallerTally
         requires { length self.words.items ≡ load.now.keys }
         ensures { IsEnded load.now self.number self.generator (standing self.words.items self.seat)
             result }
@@ -128,7 +128,7 @@ impl<L: KeyLanes, J: Naming> Caller<L, J> {
         let mut refused = 0;
         for number in 0..load.operations {
             if halted.load(Ordering::SeqCst) != 0 {
-                return Counted {
+                return CallerTally {
                     operations: number,
                     refused,
                     wrong_hits: 0,
@@ -137,7 +137,7 @@ impl<L: KeyLanes, J: Naming> Caller<L, J> {
             let step = self.make_next(rt, alloc, cache, load, number, times, &mut found);
             if step.is_wrong() {
                 halted.store(1, Ordering::SeqCst);
-                return Counted {
+                return CallerTally {
                     operations: number + 1,
                     refused,
                     wrong_hits: 1,
@@ -146,7 +146,7 @@ impl<L: KeyLanes, J: Naming> Caller<L, J> {
             refused += step.refusals();
             count(made, number);
         }
-        Counted {
+        CallerTally {
             operations: load.operations,
             refused,
             wrong_hits: 0,
@@ -163,7 +163,7 @@ impl<L: KeyLanes, J: Naming> Caller<L, J> {
         number: u32,
         times: &mut CallTimes,
         found: &mut ValueBuffer,
-    ) -> Step
+    ) -> CallEnd
         requires keys { length self.old.words.items ≡ load.now.keys }
         requires number { number < 4294967295 }
         ensures does { Does load.now self.old.number (served_next_of load.now self.old.generator) number
@@ -195,7 +195,7 @@ impl<L: KeyLanes, J: Naming> Caller<L, J> {
         operation: ServedOperation,
         number: u32,
         found: &mut ValueBuffer,
-    ) -> Step
+    ) -> CallEnd
         requires key { key_number_of operation < length self.old.words.items }
         requires number { number < 4294967295 }
         ensures does { Does load.now self.old.number operation number result
@@ -230,7 +230,7 @@ impl<L: KeyLanes, J: Naming> Caller<L, J> {
         key: u32,
         number: u32,
         found: &mut ValueBuffer,
-    ) -> Step
+    ) -> CallEnd
         requires key { key < length self.old.words.items }
         requires empty { found.old ≡ [] }
         ensures finds { Finds L.is_honest L.lane_of load.now self.old.number key
@@ -263,7 +263,7 @@ impl<L: KeyLanes, J: Naming> Caller<L, J> {
         key: u32,
         number: u32,
         found: &mut ValueBuffer,
-    ) -> Step
+    ) -> CallEnd
         requires key { key < length self.old.words.items }
         requires number { number < 4294967295 }
         requires empty { found.old ≡ [] }
@@ -299,7 +299,7 @@ impl<L: KeyLanes, J: Naming> Caller<L, J> {
         lease: Lease,
         key: u32,
         number: u32,
-    ) -> Step
+    ) -> CallEnd
         requires key { key < length self.old.words.items }
         requires number { number < 4294967295 }
         requires leases { load.now.leases ≢ 0 }
@@ -312,7 +312,7 @@ impl<L: KeyLanes, J: Naming> Caller<L, J> {
         ensures keys { length self.new.words.items ≡ length self.old.words.items }
     {
         let Ok((name, value)) = self.object(alloc, load, key, number) else {
-            return Step::Refused;
+            return CallEnd::Refused;
         };
         let filled = cache.fill(
             rt,
@@ -336,7 +336,7 @@ impl<L: KeyLanes, J: Naming> Caller<L, J> {
         load: &ServedLoad,
         key: u32,
         number: u32,
-    ) -> Step
+    ) -> CallEnd
         requires key { key < length self.old.words.items }
         requires number { number < 4294967295 }
         ensures puts { Puts load.now self.old.number key number result
@@ -348,16 +348,16 @@ impl<L: KeyLanes, J: Naming> Caller<L, J> {
     {
         let Ok((name, value)) = self.object(alloc, load, key, number) else {
             let _removed = self.remove(rt, cache, key);
-            return Step::Refused;
+            return CallEnd::Refused;
         };
         match cache.put(rt, &mut self.seat, name, value, expires_of(load, number)) {
             Ok(_) => {
                 self.words[key as usize] = number + 1;
-                Step::Done
+                CallEnd::Done
             }
             Err(_) => {
                 self.words[key as usize] = 0;
-                Step::Refused
+                CallEnd::Refused
             }
         }
     }
@@ -368,7 +368,7 @@ impl<L: KeyLanes, J: Naming> Caller<L, J> {
         rt: &R,
         cache: &ServiceCache<D, P, PAGE, L, J>,
         key: u32,
-    ) -> Step
+    ) -> CallEnd
         requires { key < length self.old.words.items }
         ensures removes { Removes self.old.number key result
             (standing self.old.words.items self.old.seat)
@@ -381,8 +381,8 @@ impl<L: KeyLanes, J: Naming> Caller<L, J> {
         let removed = cache.remove(rt, &mut self.seat, &name);
         self.words[key as usize] = 0;
         match removed {
-            Ok(()) => Step::Done,
-            Err(_) => Step::Refused,
+            Ok(()) => CallEnd::Done,
+            Err(_) => CallEnd::Refused,
         }
     }
 
@@ -407,7 +407,7 @@ impl<L: KeyLanes, J: Naming> Caller<L, J> {
     }
 }
 
-/// Counts a thousand operations more where the one with this number is the last of a thousand.
+/// Counts a thousand operations more if the one with this number is the last of a thousand.
 fn count(made: &AtomicU64, number: u32) {
     if number % 1000 == 999 {
         made.fetch_add(1000, Ordering::SeqCst);

@@ -1,4 +1,4 @@
-// What failed of a load, where the system did.
+// What failed of a load, if the system did.
 use file_device::FileOpenFault;
 use service_cache::OpenServiceFault;
 use std::io;

@@ -2,7 +2,7 @@
 ghost use Rattle.std.specs.Prelude.{◌≡◌, ◌<◌, ◌*◌, All};
 ghost use Rattle.service_cache.specs.Serving.{lanes_of};
 ghost use Rattle.serve_load.specs.Calls.{IsOneOf, IsTally};
-ghost use Rattle.serve_load.specs.declared.counted.Counted.{Counted};
+ghost use Rattle.serve_load.specs.declared.caller_tally.CallerTally.{CallerTally};
 
 use crate::caller::Caller;
 use crate::tally::{Tally, Tallying};
@@ -22,7 +22,7 @@ use std::time::{Clock, Instant};
 use std::{io, thread};
 
 /// Runs each caller in a thread, which sends its tally when it ended, beside the workers, until all have ended. A caller for which
-/// no thread can be made sends nothing, and halts the load. How many operations were made is told to `err` meanwhile, where that
+/// no thread can be made sends nothing, and halts the load. How many operations were made is told to `err` meanwhile, if that
 /// is a terminal. It answers how many milliseconds after the start the last caller ended, unless the clock failed.
 pub(crate) fn run_crew<
     D: PageDevice<PAGE> + Send,
@@ -47,7 +47,7 @@ pub(crate) fn run_crew<
         c.seat) callers.items }
     requires lanes { 0 < lanes_of cache.now }
     requires most { M.most ≡ load.now.operations }
-    requires tallies { (counted : Counted) → IsTally load.now counted → M.is_tally counted }
+    requires tallies { (counted : CallerTally) → IsTally load.now counted → M.is_tally counted }
 {
     let running = AtomicU64::new(callers.len() as u64);
     let running = &running;
@@ -62,7 +62,7 @@ pub(crate) fn run_crew<
             requires callers { All (λ c. IsOneOf load.now c.number c.generator c.words.items c.seat) callers.items }
             requires lanes { 0 < lanes_of cache.now }
             requires most { M.most ≡ load.now.operations }
-            requires tallies { (counted : Counted) → IsTally load.now counted → M.is_tally counted }
+            requires tallies { (counted : CallerTally) → IsTally load.now counted → M.is_tally counted }
         {
             for worker in 0..load.workers {
                 let _ = scope.spawn(
@@ -77,7 +77,7 @@ pub(crate) fn run_crew<
                         requires caller { IsOneOf load.now caller.number caller.generator
                             caller.words.items caller.seat }
                         requires most { M.most ≡ load.now.operations }
-                        requires tallies { (counted : Counted) → IsTally load.now counted → M.is_tally counted }
+                        requires tallies { (counted : CallerTally) → IsTally load.now counted → M.is_tally counted }
                     {
                         let tally = caller.make_all::<D, P, PAGE, M, R>(
                             rt, alloc, cache, load, made, halted,

@@ -7,7 +7,7 @@ use crate::serve_end::ServeEnd;
 use load::ServedLoad;
 use std::io::Write;
 
-/// How a load ended, and what failed, where the system did.
+/// How a load ended, and what failed, if the system did.
 #[derive(Debug, Drop)]
 pub(crate) struct Ended {
     pub(crate) end: ServeEnd,

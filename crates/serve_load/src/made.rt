@@ -2,7 +2,7 @@
 ghost use Rattle.std.specs.Prelude.{◌≡◌, ◌≤◌, ◌<◌, [], All, IfErr, IfOk, map};
 ghost use Rattle.service_cache.specs.Serving.{lanes_of};
 ghost use Rattle.serve_load.specs.Calls.{IsOneOf, IsTally};
-ghost use Rattle.serve_load.specs.declared.counted.Counted.{Counted};
+ghost use Rattle.serve_load.specs.declared.caller_tally.CallerTally.{CallerTally};
 ghost use Rattle.serve_load.specs.Ends.{IsFailure};
 ghost use Rattle.serve_load.specs.Reports.{IsMade, IsReportOf};
 ghost use Rattle.serve_load.specs.Tallies.{upto};
@@ -30,7 +30,7 @@ use std::time::{Clock, Instant};
 
 /// Runs the threads of a load over a cache that was just opened, and says what they made.
 ///
-/// `OutOfMemory` where memory was refused outside a caller, or a thread to a caller, `FileFault` where the clock failed.
+/// `OutOfMemory` if memory was refused outside a caller, or a thread to a caller, `FileFault` if the clock failed.
 pub(crate) fn make<
     D: PageDevice<PAGE> + Send,
     P: EvictionPolicy + Drop + Sync,
@@ -49,8 +49,8 @@ pub(crate) fn make<
 ) -> Result<Report, Ended>
     requires lanes { 0 < lanes_of cache.now }
     requires most { M.most ≡ load.now.operations }
-    requires tallies { (counted : Counted) → IsTally load.now counted → M.is_tally counted }
-    requires only { (counted : Counted) → M.is_tally counted → IsTally load.now counted }
+    requires tallies { (counted : CallerTally) → IsTally load.now counted → M.is_tally counted }
+    requires only { (counted : CallerTally) → M.is_tally counted → IsTally load.now counted }
     ensures made { IfOk result (λ report. IsMade load.now report) }
     ensures refused { IfErr result (λ ended. IsFailure ended.end) }
 {

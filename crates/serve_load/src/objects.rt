@@ -38,7 +38,7 @@ pub(crate) fn word(key: u32, number: u32) -> [u8; 8]
     [a, b, c, d, e, f, g, h]
 }
 
-/// The moment of a caller's operation with this number: the number itself, where puts expire.
+/// The moment of a caller's operation with this number: the number itself, if puts expire.
 pub(crate) fn moment_of(load: &ServedLoad, number: u32) -> u64
     ensures { result ≡ moment_of load.now number }
 {

@@ -1,4 +1,4 @@
-// What is told of a load.
+// What is reported of a load.
 ghost use Rattle.std.specs.Prelude.{◌≡◌, ◌≤◌, IfOk, OnOk, string_bytes};
 ghost use Rattle.figures.specs.Figures.{with_rows};
 ghost use Rattle.serve_load.specs.Rows.{fill_rows, get_latency_rows, hit_rows, miss_rows, move_rows, page_rows, pushed_rows, put_latency_rows, put_rows, rate_of, ratio_of, ratio_rows, upkeep_rows};
@@ -19,7 +19,7 @@ pub struct Timed {
     pub puts: Quantiles,
 }
 
-/// What is told of a load.
+/// What is reported of a load.
 #[derive(Clone, Copy, Debug, PartialEq, Eq)]
 pub struct Report {
     /// Operations that all callers made.

@@ -5,7 +5,7 @@ ghost use Rattle.serve_load.specs.Objects.{repeated, value_of};
 ghost use Rattle.serve_load.specs.Words.{IsRight};
 
 use crate::objects::{expires_of, word};
-use crate::words::Step;
+use crate::words::CallEnd;
 use load::ServedLoad;
 use mover::Seen;
 use service_cache::SeatFault;
@@ -19,19 +19,19 @@ pub(crate) fn judged(
     moment: u64,
     seen: Result<Seen, SeatFault>,
     bytes: &[u8],
-) -> Step
+) -> CallEnd
     ensures { Judges load.now key known moment seen bytes.now result }
 {
     match seen {
         Ok(Seen::Hit(_)) => {
             if is_right(load, key, known, moment, bytes) {
-                Step::Done
+                CallEnd::Done
             } else {
-                Step::WrongHit
+                CallEnd::WrongHit
             }
         }
-        Ok(Seen::Miss(_)) => Step::Done,
-        Err(_) => Step::Refused,
+        Ok(Seen::Miss(_)) => CallEnd::Done,
+        Err(_) => CallEnd::Refused,
     }
 }
 

@@ -48,7 +48,7 @@ impl ServeEnd {
         }
     }
 
-    /// The line that it writes to standard error, where it writes one.
+    /// The line that it writes to standard error, if it writes one.
     pub fn message(self) -> Option<&'static str>
         ensures { option_map (λ m. m.now) result ≡ message_of self }
     {
@@ -66,7 +66,7 @@ impl ServeEnd {
 
 ghost use Rattle.serve_load.specs.Ends.{size_message_of};
 
-/// What is told of a size that no cache has.
+/// What is reported of a size that no cache has.
 fn size_message(fault: SizeFault) -> &'static str
     ensures { result.now ≡ size_message_of fault }
 {

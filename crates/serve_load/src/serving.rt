@@ -2,7 +2,7 @@
 ghost use Rattle.std.specs.Prelude.{◌≡◌, ◌≢◌, ◌↔◌, ◌⊎◌, ◌<◌, ◌+◌, IfErr, IfOk, length};
 ghost use Rattle.service_cache.specs.Serving.{lanes_of};
 ghost use Rattle.service_cache.specs.Sorted.{AreAsSaid, SortsBy};
-ghost use Rattle.serve_load.specs.declared.counted.Counted.{Counted};
+ghost use Rattle.serve_load.specs.declared.caller_tally.CallerTally.{CallerTally};
 ghost use Rattle.serve_load.specs.Calls.{IsTally};
 ghost use Rattle.serve_load.specs.Reports.{IsMade};
 ghost use Rattle.serve_load.specs.Ends.{IsFailure, status_of};
@@ -38,17 +38,17 @@ use std::time::Clock;
 const PAGE: usize = 4096;
 
 /// The cache of a load over such devices.
-type Cache<D, L, J> = ServiceCache<D, Rriparoo, PAGE, L, J>;
+type LoadCache<D, L, J> = ServiceCache<D, Rriparoo, PAGE, L, J>;
 
 /// Runs a load of a cache that serves, and answers the status that the program ends with.
 ///
 /// Each lane has a device: in memory, or in a file of the load's folder, `lane-0.dev` and so on over all shards, which is made
-/// where it is absent and stays when the load is over. A page of a file that can't be read or written is a page of the cache that
+/// if it is absent and stays when the load is over. A page of a file that can't be read or written is a page of the cache that
 /// failed, and ends nothing.
 ///
 /// Each caller has a thread, a generator and keys of its own, and knows what each of its keys has; a hit of anything else is
 /// wrong, and ends it and the load. The workers do the upkeep beside them. Then the report is written to `out`. What went wrong
-/// is told to `err`, in a line, and where the system failed in a second one, with its cause. Where `err` is a terminal it is told
+/// is told to `err`, in a line, and if the system failed in a second one, with its cause. If `err` is a terminal it is told
 /// too how many operations were made, at most twice a second while they are. No history is recorded, so memory does not grow by
 /// the operations.
 pub fn serve_load<
@@ -193,8 +193,8 @@ fn booked<
     requires honest { AreAsSaid L.is_honest D.honest devices.items }
     requires book { book ≡ J.book }
     requires most { M.most ≡ load.now.operations }
-    requires tallies { (counted : Counted) → IsTally load.now counted → M.is_tally counted }
-    requires only { (counted : Counted) → M.is_tally counted → IsTally load.now counted }
+    requires tallies { (counted : CallerTally) → IsTally load.now counted → M.is_tally counted }
+    requires only { (counted : CallerTally) → M.is_tally counted → IsTally load.now counted }
     ensures made { IfOk result (λ report. IsMade load.now report) }
     ensures refused { IfErr result (λ ended. IsFailure ended.end) }
 {
@@ -214,14 +214,14 @@ fn open<D: PageDevice<PAGE>, L: KeyLanes, J: Naming>(
     devices: Vec<D>,
     seed: RandomSeed,
     book: NamedBook<L, J>,
-) -> Result<Cache<D, L, J>, Ended>
+) -> Result<LoadCache<D, L, J>, Ended>
     requires first { book ≡ 0 }
     requires sorted { SortsBy L.lanes L.lane_of seed (length devices.items) }
     requires honest { AreAsSaid L.is_honest D.honest devices.items }
     ensures lanes { IfOk result (λ cache. 0 < lanes_of cache) }
     ensures refused { IfErr result (λ ended. IsFailure ended.end) }
 {
-    match Cache::<D, L, J>::with_layout(
+    match LoadCache::<D, L, J>::with_layout(
         alloc,
         &shape.layout,
         shape.shards,

@@ -16,7 +16,7 @@ pub(crate) struct SizedShape {
     ghost shards_range: { (1 ≤ shards) × (shards ≤ 1024) },
 }
 
-/// The numbers of a cache for a load of so many bytes of flash.
+/// The numbers of a cache for a load of this many bytes of flash.
 pub(crate) fn sized_shape(load: &ServedLoad, size: u64) -> Result<SizedShape, SizeFault>
     ensures sized { IfOk result (λ sized. IsSizedFor (wanted_by load.now size)
         load.now.layout sized.layout sized.shards) }

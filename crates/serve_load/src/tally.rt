@@ -2,18 +2,18 @@
 ghost use Rattle.std.specs.Prelude.{◌≤◌};
 
 use crate::call_times::CallTimes;
-use crate::counted::Counted;
+use crate::caller_tally::CallerTally;
 use std::marker::{Brand, PhantomData};
 
 /// What a type says of the load whose callers send their tallies: how many operations a caller makes at the most, and what a caller
 /// may have counted at its end.
 pub(crate) trait Tallying {
     ghost use Rattle.std.specs.Prelude.{ℕ};
-    ghost use Rattle.serve_load.specs.declared.counted.Counted.{Counted};
+    ghost use Rattle.serve_load.specs.declared.caller_tally.CallerTally.{CallerTally};
 
     ghost most: { ℕ };
 
-    ghost is_tally: { Counted → Type 0 };
+    ghost is_tally: { CallerTally → Type 0 };
 }
 
 impl Tallying for Brand {
@@ -25,7 +25,7 @@ impl Tallying for Brand {
 /// How a caller ended.
 #[derive(Drop)]
 pub(crate) struct Tally<M: Tallying> {
-    pub(crate) counted: Counted,
+    pub(crate) counted: CallerTally,
     /// How long its calls took; none if memory for them was refused, and then it made no operation.
     pub(crate) times: Option<CallTimes>,
     pub(crate) of: PhantomData<M>,

@@ -7,7 +7,7 @@ use service_lane::Filled;
 
 /// How a call of a caller went.
 #[derive(Clone, Copy, Debug, PartialEq, Eq)]
-pub(crate) enum Step {
+pub(crate) enum CallEnd {
     /// It was answered, and a hit was right.
     Done,
     /// Memory was refused, and nothing was stored.
@@ -16,7 +16,7 @@ pub(crate) enum Step {
     WrongHit,
 }
 
-impl Step {
+impl CallEnd {
     ghost use Rattle.serve_load.specs.Calls.{is_wrong, refusals_of};
 
     /// Whether a hit was not right.
@@ -24,8 +24,8 @@ impl Step {
         ensures { result ≡ is_wrong self }
     {
         match self {
-            Step::Done | Step::Refused => false,
-            Step::WrongHit => true,
+            CallEnd::Done | CallEnd::Refused => false,
+            CallEnd::WrongHit => true,
         }
     }
 
@@ -34,15 +34,15 @@ impl Step {
         ensures { result ≡ refusals_of self }
     {
         match self {
-            Step::Done | Step::WrongHit => 0,
-            Step::Refused => 1,
+            CallEnd::Done | CallEnd::WrongHit => 0,
+            CallEnd::Refused => 1,
         }
     }
 }
 
-/// What a caller knows of a key behind its fill in the operation with this number, where it knew this before.
+/// What a caller knows of a key after its fill in the operation with this number, if it knew this before.
 ///
-/// A word of a key is 0 where the key has no value, and else 1 more than the number of the operation that put it.
+/// A word of a key is 0 if the key has no value, and otherwise 1 more than the number of the operation that put it.
 pub(crate) fn word_after_fill(filled: Result<Filled, SeatPutFault>, known: u32, number: u32) -> u32
     requires { number < 4294967295 }
     ensures { result ≡ word_after_fill filled known number }
@@ -54,11 +54,11 @@ pub(crate) fn word_after_fill(filled: Result<Filled, SeatPutFault>, known: u32, 
 }
 
 /// How a fill went.
-pub(crate) fn step_of_fill(filled: Result<Filled, SeatPutFault>) -> Step
+pub(crate) fn step_of_fill(filled: Result<Filled, SeatPutFault>) -> CallEnd
     ensures { result ≡ step_of_fill filled }
 {
     match filled {
-        Ok(_) => Step::Done,
-        Err(_) => Step::Refused,
+        Ok(_) => CallEnd::Done,
+        Err(_) => CallEnd::Refused,
     }
 }

@@ -21,7 +21,7 @@ const STEPS: u32 = 16;
 const LAST_STEPS: u32 = 65536;
 
 /// Does the upkeep of each lane in turn, beginning with the one of the worker's number, until all callers ended, and then of each
-/// lane once more, until nothing is due there. Where there was nothing to do in as many lanes as there are, one after the other, it
+/// lane once more, until nothing is due there. If there was nothing to do in as many lanes as there are, one after the other, it
 /// leaves their locks alone for a while.
 pub(crate) fn work<
     D: PageDevice<PAGE>,

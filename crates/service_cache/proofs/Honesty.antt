@@ -46,7 +46,7 @@ module _ {D : Type 0} (size : ℕ) (honest : D → Bool) (failures : D → ℕ) 
     pub helps_keep : (old : Serving D) (helped : Helped) (new : Serving D) → Helps size honest failures held plan_of old helped new → IsAsHonest old new
     helps_keep old helped new helps = steps_keep helped.steps old helped.asked_device new helps.steps
 
--- what is as said stays so where number and honesty stay
+-- what is as said stays so if number and honesty stay
 pub said_stays : (said : ℕ → Bool) (number now : ℕ) (was is : Bool) → now ≡ number → is ≡ was → (IsTrue (said number) → IsTrue was) → IsTrue (said now) → IsTrue is
 said_stays said number now was is same_number same_honesty holds told =
     subst (λ (b : Bool). IsTrue b) (sym same_honesty) (holds (subst (λ (n : ℕ). IsTrue (said n)) same_number told))

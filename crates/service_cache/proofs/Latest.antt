@@ -30,7 +30,7 @@ part_gives lane_of n key (d ∷ deeds) has ours = elim (eqb_tells (lane_of d.key
       ap (λ ds. fold (after_deed key) has ds) first ∙ (part_gives lane_of n key deeds has ours ∙ ap (λ v. fold (after_deed key) v deeds) (sym stays))
 ]
 
--- where a lane has the same deeds in two lists, its keys have the same
+-- if a lane has the same deeds in two lists, its keys have the same
 pub same_part : (lane_of : List ℕ → ℕ) (n : ℕ) (key : List ℕ) (old new : List Deed) → lane_of key ≡ n → part_of lane_of n new ≡ part_of lane_of n old → current new key ≡ current old key
 same_part lane_of n key old new ours same =
     sym (part_gives lane_of n key new None ours) ∙ (ap (λ ds. fold (after_deed key) None ds) same ∙ part_gives lane_of n key old None ours)
@@ -52,7 +52,7 @@ removed_has deeds key =
     let same : bytes_eq key key ≡ true = (bytes_decides key key).1 refl in
     current-push key deeds d ∙ rw same refl
 
--- what is live where the key has nothing, or the same, is live by the same
+-- what is live if the key has nothing, or the same, is live by the same
 live_by : (deeds writes : List Deed) (key value : List ℕ) (moment : ℕ) → (current deeds key ≡ None) ⊎ (current deeds key ≡ current writes key) → IsLive deeds key value moment → IsLive writes key value moment
 live_by deeds writes key value moment (inl none) live =
     let no : given_at moment None ≡ Some value = ap (given_at moment) (sym none) ∙ live_found key value moment deeds live in

@@ -90,7 +90,7 @@ module _ (lane_of : List ℕ → ℕ) where
               elim (seated key ours) [ inl was ↦ inl (stays ∙ was) | inr has ↦ inr (stays ∙ has) ]
         ]
 
-    -- what the lane hits is latest in what the seat has seen behind a look
+    -- what the lane hits is latest in what the seat has seen after a look
     pub seated_live : (honest : Type 0) (seat_old seat_new : List Deed) (new : Registered) (key : List ℕ) (moment : ℕ) (answer : Answer) → Catches lane_of old seat_old new seat_new → lane_of key ≡ old.number → IsLiveHit honest deeds key moment answer → IsLiveHit honest seat_new key moment answer
     seated_live honest seat_old seat_new new key moment answer looks ours live =
         let has = seated_look seat_old seat_new new looks key (ours ∙ sym looks.number) in

@@ -39,19 +39,19 @@ abbrev pub IsForgotten : {D : Type 0} → (D → ℕ → Option (List ℕ)) → 
 IsForgotten held key old seat_old new seat_new =
     Removes held key old.serving new.serving × (new.register ≡ old.register) × (seat_new ≡ seat_old)
 
--- What a put leaves that was refused: its key is removed. Where the store refused it, it is entered.
+-- What a put leaves that was refused: its key is removed. If the store refused it, it is entered.
 abbrev pub PutLeaves : {D : Type 0} → (D → ℕ → Option (List ℕ)) → (List ℕ → ℕ) → List ℕ → List ℕ → ℕ → SeatPutFault → Seated D → List Deed → Seated D → List Deed → Type 0
 PutLeaves held lane_of key value expires (put_refusals.Put fault) old seat_old new seat_new =
     EntersIn lane_of old.register seat_old (put_of key value expires) new.register seat_new
     × Removes held key (record old.serving { counts = record old.serving.counts { puts = with_refused fault old.serving.counts.puts } }) new.serving
 PutLeaves held lane_of key value expires (put_refusals.Book fault) old seat_old new seat_new = IsForgotten held key old seat_old new seat_new
 
--- What a removal leaves that was refused. Where the book refused it, the key is removed.
+-- What a removal leaves that was refused. If the book refused it, the key is removed.
 abbrev pub RemovalLeaves : {D : Type 0} → (D → ℕ → Option (List ℕ)) → List ℕ → SeatFault → Seated D → List Deed → Seated D → List Deed → Type 0
 RemovalLeaves held key (refusals.Key fault) old seat_old new seat_new = StayAsTheyWere old seat_old new seat_new
 RemovalLeaves held key (refusals.Book fault) old seat_old new seat_new = IsForgotten held key old seat_old new seat_new
 
--- what a fill does to list and seat: where it is stale, nothing
+-- what a fill does to list and seat: if it is stale, nothing
 abbrev pub FillEnters : (List ℕ → ℕ) → Deed → Filled → Registered → List Deed → Registered → List Deed → Type 0
 FillEnters lane_of put (Stored pushed) old seat_old new seat_new = EntersIn lane_of old seat_old put new seat_new
 FillEnters lane_of put Stale old seat_old new seat_new = (new ≡ old) × (seat_new ≡ seat_old)
@@ -72,7 +72,7 @@ pub record FillsAndRemoves {D : Type 0} (size : ℕ) (held : D → ℕ → Optio
   pub fills : FillsStore size held (record { key = key; value = timed value expires }) word writes pushed old between
   pub removes : Removes held key between new
 
--- What a fill leaves that was refused. Where the book refused it, its key is removed.
+-- What a fill leaves that was refused. If the book refused it, its key is removed.
 abbrev pub FillRefusalLeaves : {D : Type 0} → ℕ → (D → ℕ → Option (List ℕ)) → List ℕ → List ℕ → ℕ → ℕ → ℕ → SeatPutFault → Seated D → List Deed → Seated D → List Deed → Type 0
 FillRefusalLeaves size held key value expires word writes (put_refusals.Put fault) old seat_old new seat_new =
     (new ≡ record old { serving = record old.serving { counts = record old.serving.counts { fills = with_refused fault old.serving.counts.fills } } }) × (seat_new ≡ seat_old)

@@ -25,7 +25,7 @@ pub record IsServing (s : Shape) (count : ℕ) : Type 0 where
   pub one_each : count ≡ lanes_of s
   pub some : 1 ≤ count
 
--- so many shards may be
+-- this many shards may be
 pub record AreShards (shards : ℕ) : Type 0 where
   pub some : 1 ≤ shards
   pub few : shards ≤ MAX_SHARDS
@@ -52,7 +52,7 @@ pub record HasDevices {D : Type 0} (needs : Needs) (shards : ℕ) (devices : Lis
 abbrev pub HasSmallOne : {D : Type 0} → (D → ℕ) → Needs → List D → Type 0
 HasSmallOne pages needs devices = Any (λ d. pages d < needs.pages) devices
 
--- so many shards, of which each asks for this, can be opened over these devices, memory aside
+-- this many shards, of which each asks for this, can be opened over these devices, memory aside
 pub record CanServe {D : Type 0} (size : ℕ) (pages : D → ℕ) (needs : Needs) (shards lease_slots : ℕ) (devices : List D) : Type 0 where
   pub has : HasDevices needs shards devices
   pub slots : 1 ≤ lease_slots

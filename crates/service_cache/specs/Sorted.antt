@@ -8,7 +8,7 @@ use Rattle.service_lane.specs.Leases.{hash_by}
 abbrev pub scaled : ℕ → ℕ → ℕ
 scaled number count = count * number / 2 ^ 32
 
--- the lane of a key among so many: by the high half of its hash, which is scaled to their number
+-- the lane of a key among this many: by the high half of its hash, which is scaled to their number
 abbrev pub lane_by : RandomSeed → ℕ → List ℕ → ℕ
 lane_by seed count key = scaled (hash_by seed key / 2 ^ 32) count
 
@@ -20,7 +20,7 @@ AreAsSaid {D} said honest devices = (number : ℕ) (device : D) → slice_get de
 abbrev pub honest_by : {D : Type 0} → (D → Bool) → List D → ℕ → Bool
 honest_by honest devices number = option_map_or honest (slice_get devices number) false
 
--- a book sorts keys by this seed into so many lanes
+-- a book sorts keys by this seed into this many lanes
 pub record SortsBy (lanes : ℕ) (lane_of : List ℕ → ℕ) (seed : RandomSeed) (count : ℕ) : Type 0 where
   pub one_each : lanes ≡ count
   pub sorted : (key : List ℕ) → lane_of key ≡ lane_by seed count key

@@ -20,8 +20,9 @@ ghost use Rattle.service_cache.specs.declared.seat_fault.SeatPutFault.{SeatPutFa
 ghost use Rattle.service_cache.specs.Calls.{HasMissed, IsHit, looked_up, AddsLast, FillAdds, RefusedPutAdds};
 ghost use Rattle.service_cache.specs.Held.{honest_in, failures_in, held_in, LooksUp, FillsOrNot};
 
+use crate::lane::SeatedLane;
 use crate::looked_up::LookedUp;
-use crate::{SeatFault, SeatPutFault, SeatedLane};
+use crate::seat_fault::{SeatFault, SeatPutFault};
 use deed_book::{KeyLanes, Naming, Seat};
 use mover::Seen;
 use page_device::{Boxed, CountedPages, PageDevice};
@@ -60,7 +61,10 @@ impl<D: PageDevice<PAGE>, const PAGE: usize, L: KeyLanes, J: Naming> Guarded<D, 
     ghost use Rattle.service_cache.specs.Held.{IsAsSaid};
 
     /// A lane with its register, and its generator of words.
-    pub(crate) fn new(lane: SeatedLane<CountedPages<Boxed<D>>, PAGE, L, J>, words: Lcg64Xsh32) -> Self
+    pub(crate) fn new(
+        lane: SeatedLane<CountedPages<Boxed<D>>, PAGE, L, J>,
+        words: Lcg64Xsh32,
+    ) -> Self
         requires { IsAsSaid L.is_honest D.honest (record { lane = lane; words = words }) }
         ensures { result ≡ record { lane = lane; words = words } }
     {

@@ -6,8 +6,8 @@ ghost use Rattle.service_lane.specs.Words.{words_for};
 ghost use Rattle.service_cache.specs.Held.{new_lane};
 ghost use Rattle.service_cache.specs.Sorted.{AreAsSaid};
 
-use crate::SeatedLane;
 use crate::guarded::Guarded;
+use crate::lane::SeatedLane;
 use crossbeam_utils::CachePadded;
 use deed_book::{KeyLanes, NamedBook, Naming, Register};
 use key_hash::RandomSeed;

@@ -37,7 +37,7 @@ use Rattle.std.specs.Prelude.{is_some}
 
 -- ---- a page that was due
 
--- where a page is due, one can be written
+-- if a page is due, one can be written
 flushes : (b w : Bool) → cond b (Some due.Flush) (cond w (Some due.Move) None) ≡ Some due.Flush → b ≡ true
 flushes true w is = refl
 flushes false true is = absurd (cc)
@@ -64,7 +64,7 @@ page_done k new answer is gives = by_answer answer gives
 
 -- ---- a move that asked no device
 
--- what a move begins with, where it asks no device
+-- what a move begins with, if it asks no device
 abbrev asks_none : Begin → Bool
 asks_none begin.Nothing = true
 asks_none begin.Busy = true

@@ -48,7 +48,7 @@ shown_more n = step (ltb n most_writes) (ltb (n + 1) most_writes) refl refl
         absurd (omega (arith, above, below))
     step false false e f = refl
 
--- each of so many slots shows its writes
+-- each of this many slots shows its writes
 abbrev AreShown : RandomSeed → ℕ → List Deed → List ℕ → Type 0
 AreShown seed count deeds writes = (slot : ℕ) → slot < count → get_or writes slot 0 ≡ shown_writes (writes_in seed count slot deeds)
 
@@ -65,7 +65,7 @@ pub counted_read : (deeds after : List Deed) (d : Deed) (slots : LeaseSlots) →
 counted_read deeds after d slots more reads were slot within =
     were slot within ∙ ap shown_writes (sym (ap (writes_in slots.seed (length slots.writes) slot) more ∙ none_push slots.seed (length slots.writes) slot deeds d (ap (λ b. b && eqb (slot_for slots d.key) slot) reads)))
 
--- where deeds and slots stay
+-- if deeds and slots stay
 pub counted_kept : (deeds after : List Deed) (slots now : LeaseSlots) → after ≡ deeds → now ≡ slots → AreCounted deeds slots → AreCounted after now
 counted_kept deeds after slots now deeds_stay slots_stay were = subst (λ (s : LeaseSlots). AreCounted after s) (sym slots_stay) (subst (λ (ds : List Deed). AreCounted ds slots) (sym deeds_stay) were)
 
@@ -100,7 +100,7 @@ counted_in deeds after d slots now more writes is within were =
     ] in
     subst (λ r. AreShown r (length now.writes) after now.writes) (sym same_seed) (subst (λ n. AreShown seed n after now.writes) (sym same_length) counts)
 
--- so it is where there is no slot
+-- so it is if there is no slot
 pub counted_write : (deeds after : List Deed) (d : Deed) (slots now : LeaseSlots) → after ≡ deeds ++ d ∷ [] → is_write d.act ≡ true → now ≡ with_write slots d.key → AreCounted deeds slots → AreCounted after now
 counted_write deeds after d slots now more writes is were = step (ltb 0 (length slots.writes)) refl
   where
@@ -125,7 +125,7 @@ write_is Miss w = absurd w
 wrote_slot : (seed : RandomSeed) (count : ℕ) (key : List ℕ) (d : Deed) → Writes d key → writes_slot seed count (slot_of seed count key) d ≡ true
 wrote_slot seed count key d w = ap (λ b. b && eqb (slot_of seed count d.key) (slot_of seed count key)) (write_is d.act w.1) ∙ eq-eqb (slot_of seed count d.key) (slot_of seed count key) (ap (slot_of seed count) w.0)
 
--- where no deed writes the slot, none writes the key
+-- if no deed writes the slot, none writes the key
 none_wrote : (seed : RandomSeed) (count : ℕ) (key : List ℕ) (deeds : List Deed) → writes_in seed count (slot_of seed count key) deeds ≡ 0 → AllByRecursion (λ deed. ¬ Writes deed key) deeds
 none_wrote seed count key [] zero_is = tt
 none_wrote seed count key (d ∷ deeds) zero_is = step (writes_slot seed count (slot_of seed count key) d) refl (none_wrote seed count key deeds)

@@ -4,7 +4,7 @@ use Rattle.klog.specs.declared.log_usage.LogUsage.{LogUsage}
 use Rattle.service_lane.specs.declared.due.Due.{Due}
 use Rattle.service_lane.specs.declared.due.Due.TheVariants.{Flush, Move}
 
--- so many places for segments are to be free: one of 16, and one at least
+-- this many places for segments are to be free: one of 16, and one at least
 abbrev pub least_free : LogUsage → ℕ
 least_free u = max 1 (u.segments / 16)
 

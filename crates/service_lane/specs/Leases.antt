@@ -16,11 +16,11 @@ pub record LeaseSlots : Type 0 where
 unfoldable pub hash_by : RandomSeed → List ℕ → ℕ
 hash_by seed bytes = (written (started seed) bytes).state
 
--- the slot of a key among so many: by the high half of its hash
+-- the slot of a key among this many: by the high half of its hash
 abbrev pub slot_of : RandomSeed → ℕ → List ℕ → ℕ
 slot_of seed count key = hash_by seed key / 2 ^ 32 % count
 
--- so many slots, which have seen no write
+-- this many slots, which have seen no write
 abbrev pub no_writes : RandomSeed → ℕ → LeaseSlots
 no_writes seed count = record { seed = seed; writes = replicate count 0 }
 
@@ -31,7 +31,7 @@ is_write Remove = true
 is_write (Hit value moment) = false
 is_write Miss = false
 
--- whether a deed writes a key of this slot, among so many
+-- whether a deed writes a key of this slot, among this many
 abbrev pub writes_slot : RandomSeed → ℕ → ℕ → Deed → Bool
 writes_slot seed count slot deed = is_write deed.act && (slot_of seed count deed.key == slot)
 
@@ -43,7 +43,7 @@ writes_in seed count slot deeds = length (filter (writes_slot seed count slot) d
 abbrev pub most_writes : ℕ
 most_writes = 18446744073709551615
 
--- what a slot shows of so many writes: it stops at the most
+-- what a slot shows of this many writes: it stops at the most
 abbrev pub shown_writes : ℕ → ℕ
 shown_writes n = if nat_lt n most_writes then n else most_writes
 
@@ -72,12 +72,12 @@ with_write_in slots slot = record slots { writes = slice_set slots.writes slot (
 abbrev pub with_write : LeaseSlots → List ℕ → LeaseSlots
 with_write slots key = with_write_in slots (slot_for slots key)
 
--- a lease of so many writes has not ended: the slot of its key shows as many, and fewer than the most
+-- a lease of this many writes has not ended: the slot of its key shows as many, and fewer than the most
 pub record HoldsLease (slots : LeaseSlots) (key : List ℕ) (writes : ℕ) : Type 0 where
   pub same : writes_for slots key ≡ writes
   pub few : writes < most_writes
 
--- after each front of the deeds in which the slot of the key had so many writes, none writes the key
+-- after each front of the deeds in which the slot of the key had this many writes, none writes the key
 abbrev pub IsUnwrittenSince : LeaseSlots → List Deed → List ℕ → ℕ → Type 0
 IsUnwrittenSince slots deeds key writes =
     (front after : List Deed) → deeds ≡ front ++ after → writes_in slots.seed (length slots.writes) (slot_for slots key) front ≡ writes → All (λ deed. ¬ Writes deed key) after

@@ -26,12 +26,12 @@ pub record Serving (D : Type 0) : Type 0 where
   pub slots : LeaseSlots
   pub counts : Counts
 
--- When each refusal to open a lane comes, over a device of so many pages: there is no slot; else those of a store.
+-- When each refusal to open a lane comes, over a device of this many pages: there is no slot; else those of a store.
 abbrev pub RefusesLane : ℕ → Config → ℕ → ℕ → OpenLaneFault → Type 0
 RefusesLane size config slots pages faults.NoLeaseSlots = slots ≡ 0
 RefusesLane size config slots pages (faults.Store fault) = (1 ≤ slots) × RefusesStore size config pages fault
 
--- A get that was answered so. A hit is its key's latest value not since removed, live at the moment; the answer is a deed behind the
+-- A get that was answered so. A hit is its key's latest value not since removed, live at the moment; the answer is a deed after the
 -- others, and counted; what the slots show stays; and answer and store are as a store's get has them.
 pub record Gets {D : Type 0} (size : ℕ) (honest : D → Bool) (failures : D → ℕ) (held : D → ℕ → Option (List ℕ)) (key : List ℕ) (moment : ℕ) (answer : Answer) (old new : Serving D) : Type 0 where
   pub live : IsLiveHit (IsTrue (honest old.store.device)) old.deeds key moment answer
@@ -40,7 +40,7 @@ pub record Gets {D : Type 0} (size : ℕ) (honest : D → Bool) (failures : D �
   pub slots : new.slots ≡ old.slots
   pub gets : StoreGets size honest failures held key moment old.store (Ok answer) new.store
 
--- A put that was stored: it is the store's put of the pair, its deed stands behind the others, the slot of its key shows a write more,
+-- A put that was stored: it is the store's put of the pair, its deed stands after the others, the slot of its key shows a write more,
 -- and it is counted.
 pub record PutsStore {D : Type 0} (size : ℕ) (held : D → ℕ → Option (List ℕ)) (p : Pair) (word : ℕ) (pushed : Pushed) (old new : Serving D) : Type 0 where
   pub puts : StorePuts size held p word old.store (Ok pushed) new.store
@@ -56,12 +56,12 @@ pub record FillsStore {D : Type 0} (size : ℕ) (held : D → ℕ → Option (Li
   pub slots : new.slots ≡ with_write old.slots p.key
   pub counts : new.counts ≡ counts_fill p.key p.value.value pushed old.counts
 
--- what a fill leaves: where it is stale, all but a counter
+-- what a fill leaves: if it is stale, all but a counter
 abbrev pub FillLeaves : {D : Type 0} → ℕ → (D → ℕ → Option (List ℕ)) → Pair → ℕ → ℕ → Serving D → Serving D → Filled → Type 0
 FillLeaves size held p word writes old new (Stored pushed) = FillsStore size held p word writes pushed old new
 FillLeaves size held p word writes old new Stale = new ≡ record old { counts = counts_stale old.counts }
 
--- A removal: it is the store's, its deed stands behind the others, the slot of its key shows a write more, and it is counted.
+-- A removal: it is the store's, its deed stands after the others, the slot of its key shows a write more, and it is counted.
 pub record Removes {D : Type 0} (held : D → ℕ → Option (List ℕ)) (key : List ℕ) (old new : Serving D) : Type 0 where
   pub removes : StoreRemoves held key old.store new.store
   pub deeds : new.deeds ≡ old.deeds ++ record { key = key; act = Remove } ∷ []

@@ -71,7 +71,7 @@ pub record LacksMemory {D : Type 0} (size : ℕ) (honest : D → Bool) (failures
   pub rest : new ≡ record old { store = new.store; counts = record old.counts { steps = with_refused_move old.counts.steps; upkeep = with_step old.counts.upkeep } }
   pub moves : StoreMoves size honest failures held plan_of old.store (Err (record {})) new.store
 
--- A step of upkeep does what is due, and nothing where nothing is.
+-- A step of upkeep does what is due, and nothing if nothing is.
 abbrev pub Upkeeps : {D : Type 0} → ℕ → (D → Bool) → (D → ℕ) → (D → ℕ → Option (List ℕ)) → (Job → List Choice) → Serving D → Upkept → Serving D → Type 0
 Upkeeps size honest failures held plan_of old upkept.Idle new = (due_in old ≡ None) × (new ≡ old)
 Upkeeps size honest failures held plan_of old (upkept.Flushed answer) new = Flushes honest failures held old answer new
@@ -86,14 +86,14 @@ pub record HelpsOnce {D : Type 0} (size : ℕ) (honest : D → Bool) (failures :
   pub asked_is : asked ≡ may_ask did
   pub counted : new ≡ record between { counts = record between.counts { upkeep = with_help between.counts.upkeep } }
 
--- the last of so many steps in help: it was done where the lane was near its end
+-- the last of this many steps in help: it was done if the lane was near its end
 pub record LastHelp {D : Type 0} (size : ℕ) (honest : D → Bool) (failures : D → ℕ) (held : D → ℕ → Option (List ℕ)) (plan_of : Job → List Choice) (before : Serving D → Type 0) (asked : Bool) (new : Serving D) : Type 0 where
   pub old : Serving D
   pub so_far : before old
   pub near : is_lane_near_end old ≡ true
   pub once : HelpsOnce size honest failures held plan_of old asked new
 
--- so many steps in help: each where the lane was near its end, and behind none that may have asked the device
+-- so many steps in help: each if the lane was near its end, and after none that may have asked the device
 abbrev pub HelpsSteps : {D : Type 0} → ℕ → (D → Bool) → (D → ℕ) → (D → ℕ → Option (List ℕ)) → (Job → List Choice) → ℕ → Serving D → Bool → Serving D → Type 0
 HelpsSteps size honest failures held plan_of zero old asked new = (asked ≡ false) × (new ≡ old)
 HelpsSteps size honest failures held plan_of (suc n) old asked new = LastHelp size honest failures held plan_of (λ s. HelpsSteps size honest failures held plan_of n old false s) asked new

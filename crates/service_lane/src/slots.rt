@@ -28,7 +28,7 @@ impl Model for Slots {
 }
 
 impl Slots {
-    /// So many slots, which have seen no write, or `AllocError` where memory was refused.
+    /// This many slots, which have seen no write, or `AllocError` if memory was refused.
     pub(crate) fn open(alloc: Global, seed: RandomSeed, count: u32) -> Result<Slots, AllocError>
         requires { 1 ≤ count }
         ensures { IfOk result (λ slots. slots ≡ no_writes seed count) }

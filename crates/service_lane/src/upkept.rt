@@ -23,9 +23,9 @@ pub enum Upkept {
 pub struct UpkeepStep {
     /// What it did.
     pub did: Upkept,
-    /// Whether it may have asked the device. Where not, the device is as it was.
+    /// Whether it may have asked the device. If not, the device is as it was.
     pub asked_device: bool,
-    /// Whether something is due behind it.
+    /// Whether something is due after it.
     pub is_due: bool,
 }
 

@@ -1,4 +1,4 @@
--- What a hit can be behind a put or a removal of its key, and that no lease outlives either.
+-- What a hit can be after a put or a removal of its key, and that no lease outlives either.
 use Rattle.std.proofs.Common.{◌≡◌, ◌≤◌, ◌<◌, ◌+◌, ◌/◌, ◌^◌, ◌∙◌, ℕ, Bool, true, false, List, [], ◌∷◌, ◌++◌, length, Option, Some, None, Result, Ok, sym, ap, refl, subst, cond, arith, get_or, set, ltb}
 use Rattle.std.specs.Prelude.{IsTrue}
 use Rattle.std.specs.Str.{bytes_eq}
@@ -38,14 +38,14 @@ ok_same x y is = cc
 
 -- ---- hits
 
--- behind a put of its key a live value is the one that was put
+-- after a put of its key a live value is the one that was put
 pub put_is_live : LatestIsCurrent → (before after : List Deed) (key value other : List ℕ) (expires moment : ℕ) → after ≡ before ++ record { key = key; act = Put value expires } ∷ [] → IsLive after key other moment → other ≡ value
 put_is_live law before after key value other expires moment more live =
     let now : current after key ≡ Some (timed other live.expires) = (law after key (timed other live.expires)).0 live.latest in
     let put : current after key ≡ Some (timed value expires) = ap (λ ds. current ds key) more ∙ put_gives before (record { key = key; act = Put value expires }) key value expires refl refl in
     ap (λ (t : TimedValue). t.value) (some_same (sym now ∙ put))
 
--- behind a removal of its key no value is live
+-- after a removal of its key no value is live
 pub removed_is_not_live : LatestIsCurrent → (before after : List Deed) (key other : List ℕ) (moment : ℕ) → after ≡ before ++ record { key = key; act = Remove } ∷ [] → IsLive after key other moment → ⊥
 removed_is_not_live law before after key other moment more live =
     let now : current after key ≡ Some (timed other live.expires) = (law after key (timed other live.expires)).0 live.latest in
@@ -57,7 +57,7 @@ removed_is_not_live law before after key other moment more live =
 pub in_memory : {D : Type 0} (honest : D → Bool) (device : D) (deeds : List Deed) (key found : List ℕ) (moment : ℕ) (seen : Seen) → seen ≡ Hit Memory → IsLiveHit (IsTrue (honest device)) deeds key moment (answer_of seen found) → IsLive deeds key found moment
 in_memory honest device deeds key found moment seen is live = subst (λ s. IsLiveHit (IsTrue (honest device)) deeds key moment (answer_of s found)) is live
 
--- and where all devices are honest each is
+-- and if all devices are honest each is
 pub in_any : {D : Type 0} (honest : D → Bool) (device : D) (deeds : List Deed) (key found : List ℕ) (moment : ℕ) (seen : Seen) (tier : Tier) → ((d : D) → IsTrue (honest d)) → seen ≡ Hit tier → IsLiveHit (IsTrue (honest device)) deeds key moment (answer_of seen found) → IsLive deeds key found moment
 in_any honest device deeds key found moment seen Memory all is live = in_memory honest device deeds key found moment seen is live
 in_any honest device deeds key found moment seen Log all is live = subst (λ s. IsLiveHit (IsTrue (honest device)) deeds key moment (answer_of s found)) is live (all device)
@@ -72,7 +72,7 @@ upkept_adds_none size honest failures held plan_of old upkept.OutOfMemory new do
 
 -- ---- leases
 
--- one more is more, where it is not the most
+-- one more is more, if it is not the most
 grows : (n : ℕ) (b : Bool) → ltb n most_writes ≡ b → n < most_writes → cond b (n + 1) n ≡ n → ⊥
 grows n true is few same = omega (arith, same)
 grows n false is few same =
@@ -92,7 +92,7 @@ lease_ended slots after key writes some leased written holds =
 
 -- ---- counters and upkeep
 
--- the counters behind a hit in a tier
+-- the counters after a hit in a tier
 pub counted_hit : {D : Type 0} (old new : Serving D) (found : List ℕ) (seen : Seen) (tier : Tier) → seen ≡ Hit tier → new.counts ≡ counts_answer (answer_of seen found) old.counts → new.counts ≡ counts_answer (answer_of (Hit tier) found) old.counts
 counted_hit old new found seen tier is counts = subst (λ s. new.counts ≡ counts_answer (answer_of s found) old.counts) is counts
 

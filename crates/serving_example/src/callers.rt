@@ -1,6 +1,6 @@
 // The threads of the example.
 use crate::database::{Database, ROWS};
-use crate::rows::{Cache, change, look_up};
+use crate::rows::{RowCache, change, look_up};
 use deed_book::{KeyLanes, Naming};
 use std::alloc::Global;
 use std::sync::Wait;
@@ -26,7 +26,7 @@ pub struct Made {
 fn call<L: KeyLanes, J: Naming, R: Wait>(
     rt: &R,
     alloc: Global,
-    cache: &Cache<L, J>,
+    cache: &RowCache<L, J>,
     database: &Database,
     caller: usize,
 ) -> Made {
@@ -55,11 +55,11 @@ fn call<L: KeyLanes, J: Naming, R: Wait>(
     }
 }
 
-/// What all callers made together; none where there was no memory for it.
+/// What all callers made together; none if there was no memory for it.
 fn made_by_callers<L: KeyLanes + Send + Sync, J: Naming + Send + Sync, R: Threads + Wait + Sync>(
     rt: &R,
     alloc: Global,
-    cache: &Cache<L, J>,
+    cache: &RowCache<L, J>,
     database: &Database,
 ) -> Option<Made> {
     let made = map_indices(
@@ -80,7 +80,7 @@ fn made_by_callers<L: KeyLanes + Send + Sync, J: Naming + Send + Sync, R: Thread
 }
 
 /// Does what is due in each lane, until the callers have ended.
-fn tend<L: KeyLanes, J: Naming, R: Wait>(rt: &R, cache: &Cache<L, J>, ended: &AtomicU64) {
+fn tend<L: KeyLanes, J: Naming, R: Wait>(rt: &R, cache: &RowCache<L, J>, ended: &AtomicU64) {
     for _ in rt.forever() {
         if ended.load(Ordering::SeqCst) != 0 {
             return;
@@ -95,7 +95,7 @@ fn tend<L: KeyLanes, J: Naming, R: Wait>(rt: &R, cache: &Cache<L, J>, ended: &At
 pub fn made_by_all<L: KeyLanes + Send + Sync, J: Naming + Send + Sync, R: Threads + Wait + Sync>(
     rt: &R,
     alloc: Global,
-    cache: &Cache<L, J>,
+    cache: &RowCache<L, J>,
     database: &Database,
 ) -> Option<Made> {
     let ended = AtomicU64::new(0);

@@ -15,7 +15,7 @@ use deed_book::{KeyLanes, Naming, NewBook};
 use key_hash::RandomSeed;
 use page_device::MemoryDevice;
 use record_pages::Config;
-use rows::Cache;
+use rows::RowCache;
 use rriparoo::Rriparoo;
 use std::alloc::Global;
 use std::marker::Brand;
@@ -76,7 +76,7 @@ fn made_with<L: KeyLanes + Send + Sync, J: Naming + Send + Sync, R: Threads + Wa
     requires book { book ≡ J.book }
 {
     let book = book.named::<J>();
-    let cache = Cache::<L, J>::open(
+    let cache = RowCache::<L, J>::open(
         alloc,
         &CONFIG,
         1,

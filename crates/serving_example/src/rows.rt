@@ -10,7 +10,7 @@ use std::alloc::Global;
 use std::sync::Wait;
 
 /// The cache, with pages of 256 bytes.
-pub type Cache<L, J> = ServiceCache<MemoryDevice<256>, Rriparoo, 256, L, J>;
+pub type RowCache<L, J> = ServiceCache<MemoryDevice<256>, Rriparoo, 256, L, J>;
 
 /// The key of a row.
 fn key_of(row: u8) -> [u8; 4] {
@@ -29,7 +29,7 @@ fn version_of(bytes: &[u8]) -> u64 {
 pub fn look_up<L: KeyLanes, J: Naming, R: Wait>(
     rt: &R,
     alloc: Global,
-    cache: &Cache<L, J>,
+    cache: &RowCache<L, J>,
     seat: &mut Seat<L, J>,
     database: &Database,
     row: u8,
@@ -51,7 +51,7 @@ pub fn look_up<L: KeyLanes, J: Naming, R: Wait>(
 fn fill<L: KeyLanes, J: Naming, R: Wait>(
     rt: &R,
     alloc: Global,
-    cache: &Cache<L, J>,
+    cache: &RowCache<L, J>,
     seat: &mut Seat<L, J>,
     lease: Lease,
     row: u8,
@@ -69,7 +69,7 @@ fn fill<L: KeyLanes, J: Naming, R: Wait>(
 /// Changes a row: first in the database, and then it is removed from the cache.
 pub fn change<L: KeyLanes, J: Naming, R: Wait>(
     rt: &R,
-    cache: &Cache<L, J>,
+    cache: &RowCache<L, J>,
     seat: &mut Seat<L, J>,
     database: &Database,
     row: u8,

@@ -22,7 +22,7 @@ probe_of hash i = (low_half hash + i * odd_high_half hash) % 256
 abbrev pub probes_of : ℕ → List ℕ
 probes_of hash = map (probe_of hash) (0 ∷ 1 ∷ 2 ∷ 3 ∷ [])
 
--- where a hash belongs among so many lanes of so many sets
+-- where a hash belongs among this many lanes of this many sets
 abbrev pub placed_of : ℕ → ℕ → ℕ → Placed
 placed_of lanes sets hash = record {
   hash = hash;

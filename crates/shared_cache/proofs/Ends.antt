@@ -66,7 +66,7 @@ closed_ended ns [] claimed = All-nil IsEnded
 closed_ended [] (d ∷ ds) claimed = absurd claimed
 closed_ended (n ∷ ns) (d ∷ ds) claimed = All-cons IsEnded d ds claimed.0.1 (closed_ended ns ds claimed.1)
 
--- a call has none behind those that have one
+-- a call has none after those that have one
 pub open_slots : (cs : List Call) (all : List ℕ) (left : List (Option ℕ)) → length (map Some all ++ no_end ∷ left) ≡ length cs
     → (rest : List (Option Done)) × (slots_in cs (map Some all ++ no_end ∷ left) ≡ map Some (dones_in cs all) ++ no_done ∷ rest) × (length (dones_in cs all) ≡ length all)
 open_slots [] [] left many = absurd cc
@@ -116,14 +116,14 @@ noted_at [] i c at = absurd cc
 noted_at (x ∷ cs) zero c at = ap (λ (d : Call). Some (noted_in d)) (same_Some x c at)
 noted_at (x ∷ cs) (suc i) c at = noted_at cs i c at
 
--- it fits where it is the call at its position, which has no end
+-- it fits if it is the call at its position, which has no end
 pub fits_so : (cs : List Call) (es : List (Option ℕ)) (l : Listed) (c : Call) → slice_get cs l.position ≡ Some c → slice_get es l.position ≡ Some None → l.call ≡ noted_in c → Fits (record { calls = map noted_in cs; slots = slots_in cs es }) l
 fits_so cs es l c at none same = record {
   stands = noted_at cs l.position c at ∙ ap (λ (n : Noted). Some n) (sym same);
   free = slot_at cs es l.position c None at none;
 }
 
--- and not where there is another call,
+-- and not if there is another call,
 pub unfit_else : (cs : List Call) (es : List (Option ℕ)) (l : Listed) (c : Call) → slice_get cs l.position ≡ Some c → l.call ≢ noted_in c → ¬ Fits (record { calls = map noted_in cs; slots = slots_in cs es }) l
 unfit_else cs es l c at other fits = other (same_Some l.call (noted_in c) (sym fits.stands ∙ noted_at cs l.position c at))
 

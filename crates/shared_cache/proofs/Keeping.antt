@@ -15,7 +15,7 @@ use Rattle.shared_cache.specs.Listed.{Listed, calls_listed, listed_in}
 use Rattle.shared_cache.specs.Passes.{KeepsCalls, IsPass, IsTimely, kept_with_end, most_lanes, with_end}
 use Rattle.shared_cache.proofs.Passing.{pass_ended, pass_more, pass_up}
 
--- the bytes of a kept call lie in a store of so many
+-- the bytes of a kept call lie in a store of this many
 abbrev pub Lies : ℕ → ListedEntry → Type 0
 Lies size e = LiesIn size e.entry
 
@@ -37,7 +37,7 @@ listed_so bytes more e lies =
     let same : call_in (bytes ++ more) e.entry ≡ call_in bytes e.entry = cc in
     ap (λ (c : Call). record { lane = e.lane; position = e.position; call = noted_in c; end = e.end }) same
 
--- bytes behind the others change no call
+-- bytes after the others change no call
 listed_more : (bytes more : List ℕ) (es : List ListedEntry) → All (Lies (length bytes)) es → calls_listed (bytes ++ more) es ≡ calls_listed bytes es
 listed_more bytes more [] lie = refl
 listed_more bytes more (e ∷ es) lie =
@@ -45,7 +45,7 @@ listed_more bytes more (e ∷ es) lie =
     let others = listed_more bytes more es (All-tail (Lies (length bytes)) e es lie) in
     cc
 
--- a call more, whose bytes were put behind the others
+-- a call more, whose bytes were put after the others
 pub listed_push : (bytes key value new : List ℕ) (es : List ListedEntry) (e : ListedEntry) → new ≡ (bytes ++ key) ++ value → All (Lies (length bytes)) es
     → calls_listed new (es ++ e ∷ []) ≡ calls_listed bytes es ++ listed_in new e ∷ []
 listed_push bytes key value new es e is lie =

@@ -25,7 +25,7 @@ set_there [] i v w e = absurd (some-ne-none v (sym e))
 set_there (x ∷ xs) zero v w e = refl
 set_there (x ∷ xs) (suc i) v w e = set_there xs i v w e
 
--- a source stays where a seat has raised no less than before
+-- a source stays if a seat has raised no less than before
 source_set : (n : ℕ) (views : List View) (id : ℕ) (v w : View) → get_elem? views id ≡ some v → (v.raised ≡ n → w.raised ≡ n) → Source n views → Source n (set views id w)
 source_set n views id v w at up from = ⊎_elim {C = Source n (set views id w)}
     (λ z. inl z)

@@ -11,7 +11,7 @@ use Rattle.shared_cache.specs.Listed.{Listed}
 use Rattle.shared_cache.specs.Finished.{done_of}
 use Rattle.shared_cache.specs.Blames.{IsFree, IsOfPlace}
 use Rattle.shared_cache.specs.Claimed.{Claims, Fits, IsFirstFree, IsFresh, IsTaken, weigh_slots}
-use Rattle.shared_cache.specs.declared.place.Place.{Place}
+use Rattle.shared_cache.specs.declared.list_place.ListPlace.{ListPlace}
 use Rattle.shared_cache.specs.Settled.{AreOwnOf, IsMade, IsOwnOf, IsStrangeAt, IsOutAt, IsOutIn, IsStrangeIn, IsUnlistedIn, all_in, index_of}
 use Rattle.shared_cache.proofs.Blaming.{by_claimed, by_more, lane_call, many_none, none_there}
 use Rattle.shared_cache.proofs.Claiming.{weigh_claimed, weigh_none}
@@ -36,7 +36,7 @@ own_more lane recorded calls l all own = λ k m at of. elim (found_before calls 
   | inr last ↦ rw (last.0, take-append_seam calls (l ∷ [])) (subst (IsOwnOf recorded calls) last.1 (own (ap (λ (x : Listed). x.lane) last.1 ∙ of)))
 ]
 
--- a listed call fits the claims on its lane just where it is the lane's own
+-- a listed call fits the claims on its lane exactly if it is the lane's own
 own_fits : (lane : ℕ) (claims : Claims) (before : List Listed) (l : Listed) → IsMade lane claims before → l.lane ≡ lane → Fits claims l → IsOwnOf claims.calls before l
 own_fits lane claims before l made of fits =
     let low = slice_get_within claims.slots l.position None fits.free in
@@ -136,7 +136,7 @@ strange_longer lane recorded calls more index first =
     record { call = first.call; at = found_left calls more index first.call first.at; of = first.of; before = rw same first.before; strange = rw same first.strange }
 
 -- a place in lists
-pub strange_place : (lane : ℕ) (recorded : List Noted) (lists : List (List Listed)) (calls : List Listed) (place : Place) → slice_get lists place.pass ≡ Some calls → place.call < length calls
+pub strange_place : (lane : ℕ) (recorded : List Noted) (lists : List (List Listed)) (calls : List Listed) (place : ListPlace) → slice_get lists place.pass ≡ Some calls → place.call < length calls
     → IsStrangeIn lane recorded (all_in (take place.pass lists) ++ calls) (length (all_in (take place.pass lists)) + place.call) → IsStrangeAt lane recorded lists place
 strange_place lane recorded lists calls place at within first = record {
   place_is = record { calls = calls; there = at; within = within };
@@ -175,7 +175,7 @@ next_within lanes lists n calls at front here =
 pub all_within : (lanes : ℕ) (lists : List (List Listed)) (n : ℕ) → length lists ≤ n → All (λ l. l.lane < lanes) (all_in (take n lists)) → All (λ l. l.lane < lanes) (all_in lists)
 all_within lanes lists n past all = subst (λ ls. All (λ (l : Listed). l.lane < lanes) (all_in ls)) (take_all n lists past) all
 
-pub outside_place : (lanes : ℕ) (lists : List (List Listed)) (calls : List Listed) (place : Place) → slice_get lists place.pass ≡ Some calls → All (λ l. l.lane < lanes) (all_in (take place.pass lists)) → IsOutIn lanes calls place.call → IsOutAt lanes lists place
+pub outside_place : (lanes : ℕ) (lists : List (List Listed)) (calls : List Listed) (place : ListPlace) → slice_get lists place.pass ≡ Some calls → All (λ l. l.lane < lanes) (all_in (take place.pass lists)) → IsOutIn lanes calls place.call → IsOutAt lanes lists place
 outside_place lanes lists calls place at front first =
     let low = slice_get_within calls place.call first.call first.at in
     let whole = (all_in (take place.pass lists) ++ calls) ++ all_in (drop (suc place.pass) lists) in

@@ -41,7 +41,7 @@ all_so P f xs h = λ k d lt.
 pub rise_of : {D : Type 0} (honest : D → Bool) (lane_of : List ℕ → ℕ) (n : ℕ) (lane : List Done) (d : D) → IsOver honest lane_of n (map noted_of lane) d → PointsRise lane
 rise_of honest lane_of n lane d over = pairs_so (λ (a b : Noted). a.point < b.point) noted_of lane over.points
 
--- it is well recorded where its device is honest
+-- it is well recorded if its device is honest
 pub lane_over : {D : Type 0} (honest : D → Bool) (lane_of : List ℕ → ℕ) (n : ℕ) (lane : List Done) (d : D) → IsOver honest lane_of n (map noted_of lane) d → All IsEnded lane → IsTrue (honest d) → IsLane lane
 lane_over honest lane_of n lane d over ended is = record {
   points_rise = rise_of honest lane_of n lane d over;

@@ -3,7 +3,7 @@ use Rattle.std.proofs.Common.{◌≡◌, ℕ, ◌<◌, ◌≤◌, ◌+◌, ◌^�
 use Rattle.record_pages.specs.declared.layout.Layout.{Layout}
 use Rattle.history_recorder.specs.declared.operation.Operation.{Operation}
 use Rattle.history_recorder.specs.Operations.{key_of, lane_of_key}
-use Rattle.shared_cache.specs.declared.outcome.Outcome.{Outcome}
+use Rattle.shared_cache.specs.declared.response.Response.{Response}
 use Rattle.shared_cache.specs.Acts.{listing}
 use Rattle.shared_cache.specs.Passes.{Ticket, with_end}
 use Rattle.shared_cache.specs.declared.act_fault.ActFault.{ActFault}
@@ -12,7 +12,7 @@ use Rattle.shared_cache.specs.declared.call_fault.CallFault.TheVariants as calls
 use Rattle.shared_cache.specs.Caches.{IsMade, fault_in}
 use Rattle.shared_cache.proofs.Passing.{with_end_snoc}
 
-pub made_call : (layout : Layout) (op : Operation) (old started acted ended : Ticket) (outcome : Outcome) (lane position start point : ℕ)
+pub made_call : (layout : Layout) (op : Operation) (old started acted ended : Ticket) (outcome : Response) (lane position start point : ℕ)
     → ended.calls ≡ with_end ended.sight.seen acted.calls
     → acted.calls ≡ started.calls ++ listing lane position started.caller start point point op outcome ∷ []
     → started.calls ≡ old.calls → started.caller ≡ old.caller → lane ≡ lane_of_key layout (key_of op)
@@ -29,7 +29,7 @@ made_call layout op old started acted ended outcome lane position start point la
   ended = record { from_point = omega arith; above = λ more_left. let h = unless more_left in omega arith };
 }
 
--- the clock is full for a call where it is for its act
+-- the clock is full for a call if it is for its act
 pub clock_full : (lane : ℕ) (fault : ActFault) → fault_in lane fault ≡ calls.ClockFull → fault ≡ acts.ClockFull
 clock_full lane (acts.HistoryLost position found) is = absurd cc
 clock_full lane acts.HistoryFull is = absurd cc

@@ -17,7 +17,7 @@ use Rattle.shared_cache.specs.declared.finish_fault.FinishFault.TheVariants as e
 use Rattle.shared_cache.specs.declared.lane_left.LaneLeft.{LaneLeft}
 use Rattle.shared_cache.specs.declared.lane_fault.LaneFault.{LaneFault}
 use Rattle.shared_cache.specs.declared.lane_fault.LaneFault.TheVariants.{OutOfMemory, Strange, Unlisted}
-use Rattle.shared_cache.specs.declared.place.Place.{Place}
+use Rattle.shared_cache.specs.declared.list_place.ListPlace.{ListPlace}
 use Rattle.shared_cache.specs.Listed.{Listed}
 use Rattle.shared_cache.specs.Passes.{Ticket}
 use Rattle.shared_cache.specs.Blames.{AreOwn, IsFirstStrange, IsOwn, IsStrange, IsUnlisted, calls_in, recorded_at}
@@ -86,7 +86,7 @@ calls_grow (p ∷ lists) (suc m) (suc n) le =
     let b = length-append p (all_in (take n lists)) in
     omega (arith, a, b, rest)
 
-index_before : (lists : List (List Listed)) (p q : Place) → IsPlace lists p → IsNotBehind p q → index_of lists p ≤ index_of lists q
+index_before : (lists : List (List Listed)) (p q : ListPlace) → IsPlace lists p → IsNotBehind p q → index_of lists p ≤ index_of lists q
 index_before lists p q is (inl less) =
     let a = calls_to lists p.pass is.calls is.there in
     let b = calls_grow lists (suc p.pass) q.pass (omega arith) in
@@ -98,53 +98,53 @@ index_before lists p q is (inr same) =
 
 -- ---- the first of some places
 
-behind_not : (p q r : Place) → IsNotBehind p q → IsNotBehind q r → IsNotBehind p r
+behind_not : (p q r : ListPlace) → IsNotBehind p q → IsNotBehind q r → IsNotBehind p r
 behind_not p q r (inl a) (inl b) = inl (omega arith)
 behind_not p q r (inl a) (inr b) = inl (omega (arith, a, b.0))
 behind_not p q r (inr a) (inl b) = inl (omega (arith, a.0, b))
 behind_not p q r (inr a) (inr b) = inr (a.0 ∙ b.0, omega (arith, a.1, b.1))
 
-abbrev came : Place → Came
+abbrev came : ListPlace → Came
 came p = Err (Strange p)
 
-same_place : (p q : Place) → came p ≡ came q → p ≡ q
+same_place : (p q : ListPlace) → came p ≡ came q → p ≡ q
 same_place p q e = cc
 
 -- what came of one lane more
 pub came_next : (rs : List Came) (i : ℕ) (r : Came) → i < length rs → r ≡ get_or rs i r → take (i + 1) rs ≡ take i rs ++ r ∷ []
 came_next rs i r low at = take_more rs i r low ∙ ap (λ (x : Came). take i rs ++ x ∷ []) (sym at)
 
-strange_is : (r : Came) (p : Place) → place_in r ≡ Some p → r ≡ came p
+strange_is : (r : Came) (p : ListPlace) → place_in r ≡ Some p → r ≡ came p
 strange_is (Ok dones) p is = absurd cc
 strange_is (Err OutOfMemory) p is = absurd cc
 strange_is (Err (Strange place)) p is = ap came (same_Some place p is)
 strange_is (Err (Unlisted position)) p is = absurd cc
 
-not_strange : (r : Came) (q : Place) → place_in r ≡ None → r ≢ came q
+not_strange : (r : Came) (q : ListPlace) → place_in r ≡ None → r ≢ came q
 not_strange (Ok dones) q is same = absurd cc
 not_strange (Err OutOfMemory) q is same = absurd cc
 not_strange (Err (Strange place)) q is same = absurd cc
 not_strange (Err (Unlisted position)) q is same = absurd cc
 
 -- a strange one more
-pub first_came : (other : Option Place) (done : List Came) (first : Option Place) (place new : Place) → FindsFirst other done first → IsEarlier first place new → IsFirstPlace other (done ++ Err (Strange place) ∷ []) new
+pub first_came : (other : Option ListPlace) (done : List Came) (first : Option ListPlace) (place new : ListPlace) → FindsFirst other done first → IsEarlier first place new → IsFirstPlace other (done ++ Err (Strange place) ∷ []) new
 first_came other done None place new none is = record {
-  is = inr (length done, found_right done (came place ∷ []) (length done) 0 (omega arith) ∙ ap (λ (p : Place). Some (came p)) (sym is));
+  is = inr (length done, found_right done (came place ∷ []) (length done) 0 (omega arith) ∙ ap (λ (p : ListPlace). Some (came p)) (sym is));
   before_other = λ q at. let no : None ≡ Some q = sym none.0 ∙ at in absurd cc;
   before = λ lane q at. elim (found_before done (came place) (came q) lane at) [
     | inl early ↦ absurd (none.1 lane q early)
     | inr last ↦
         let same = is ∙ same_place place q last.1 in
-        inr (ap (λ (p : Place). p.pass) same, let call = ap (λ (p : Place). p.call) same in omega arith)
+        inr (ap (λ (p : ListPlace). p.pass) same, let call = ap (λ (p : ListPlace). p.call) same in omega arith)
   ];
 }
 first_came other done (Some first) place new found is = record {
   is = elim is.0 [
     | inl same ↦ elim found.is [
-      | inl at ↦ inl (at ∙ ap (λ (p : Place). Some p) (sym same))
-      | inr there ↦ inr (there.0, found_left done (came place ∷ []) there.0 (came first) there.1 ∙ ap (λ (p : Place). Some (came p)) (sym same))
+      | inl at ↦ inl (at ∙ ap (λ (p : ListPlace). Some p) (sym same))
+      | inr there ↦ inr (there.0, found_left done (came place ∷ []) there.0 (came first) there.1 ∙ ap (λ (p : ListPlace). Some (came p)) (sym same))
     ]
-    | inr same ↦ inr (length done, found_right done (came place ∷ []) (length done) 0 (omega arith) ∙ ap (λ (p : Place). Some (came p)) (sym same))
+    | inr same ↦ inr (length done, found_right done (came place ∷ []) (length done) 0 (omega arith) ∙ ap (λ (p : ListPlace). Some (came p)) (sym same))
   ];
   before_other = λ q at. behind_not new first q is.1 (found.before_other q at);
   before = λ lane q at. elim (found_before done (came place) (came q) lane at) [
@@ -154,7 +154,7 @@ first_came other done (Some first) place new found is = record {
 }
 
 -- or another
-pub first_stays : (other : Option Place) (done : List Came) (first : Option Place) (r : Came) → FindsFirst other done first → ((q : Place) → r ≢ Err (Strange q)) → FindsFirst other (done ++ r ∷ []) first
+pub first_stays : (other : Option ListPlace) (done : List Came) (first : Option ListPlace) (r : Came) → FindsFirst other done first → ((q : ListPlace) → r ≢ Err (Strange q)) → FindsFirst other (done ++ r ∷ []) first
 first_stays other done None r found other_one = (found.0, λ lane q at. elim (found_before done r (came q) lane at) [ inl early ↦ found.1 lane q early | inr last ↦ other_one q last.1 ])
 first_stays other done (Some p) r found other_one = record {
   is = elim found.is [ inl at ↦ inl at | inr there ↦ inr (there.0, found_left done (r ∷ []) there.0 (came p) there.1) ];
@@ -163,12 +163,12 @@ first_stays other done (Some p) r found other_one = record {
 }
 
 -- the next of what came of lanes
-pub next_strange : (other : Option Place) (rs : List Came) (i : ℕ) (r : Came) (first : Option Place) (place new : Place) → i < length rs → r ≡ get_or rs i r → FindsFirst other (take i rs) first → place_in r ≡ Some place
+pub next_strange : (other : Option ListPlace) (rs : List Came) (i : ℕ) (r : Came) (first : Option ListPlace) (place new : ListPlace) → i < length rs → r ≡ get_or rs i r → FindsFirst other (take i rs) first → place_in r ≡ Some place
     → IsEarlier first place new → FindsFirst other (take (i + 1) rs) (Some new)
 next_strange other rs i r first place new low at found is earlier =
     rw (came_next rs i r low at, strange_is r place is) (first_came other (take i rs) first place new found earlier)
 
-pub next_plain : (other : Option Place) (rs : List Came) (i : ℕ) (r : Came) (first : Option Place) → i < length rs → r ≡ get_or rs i r → FindsFirst other (take i rs) first → place_in r ≡ None → FindsFirst other (take (i + 1) rs) first
+pub next_plain : (other : Option ListPlace) (rs : List Came) (i : ℕ) (r : Came) (first : Option ListPlace) → i < length rs → r ≡ get_or rs i r → FindsFirst other (take i rs) first → place_in r ≡ None → FindsFirst other (take (i + 1) rs) first
 next_plain other rs i r first low at found is = subst (λ ls. FindsFirst other ls first) (sym (came_next rs i r low at)) (first_stays other (take i rs) first r found (λ q. not_strange r q is))
 
 -- ---- each lane's own
@@ -194,7 +194,7 @@ own_shorter lane c calls m n le own = subst (AreOwnOf lane c) (take-take m n cal
 within_take : (lanes : ℕ) (calls : List Listed) (n : ℕ) → All (λ l. l.lane < lanes) calls → All (λ l. l.lane < lanes) (take n calls)
 within_take lanes calls n all = all_by_index (λ (l : Listed). l.lane < lanes) (take n calls) (λ k l at. at_so (λ (l : Listed). l.lane < lanes) calls k l all (taken_at calls n k l at).1)
 
-own_before : (lane : ℕ) (c : List Noted) (lists : List (List Listed)) (n : ℕ) (r : Came) → Settles lane c lists r → r ≢ Err OutOfMemory → ((q : Place) → r ≡ Err (Strange q) → n ≤ index_of lists q) → AreOwnOf lane c (take n (all_in lists))
+own_before : (lane : ℕ) (c : List Noted) (lists : List (List Listed)) (n : ℕ) (r : Came) → Settles lane c lists r → r ≢ Err OutOfMemory → ((q : ListPlace) → r ≡ Err (Strange q) → n ≤ index_of lists q) → AreOwnOf lane c (take n (all_in lists))
 own_before lane c lists n (Ok dones) is told behind = own_take lane c (all_in lists) n is.own
 own_before lane c lists n (Err OutOfMemory) is told behind = absurd (told refl)
 own_before lane c lists n (Err (Strange q)) is told behind = own_shorter lane c (all_in lists) n (index_of lists q) (behind q refl) is.first.before
@@ -235,7 +235,7 @@ module _ (lists : List (List Listed)) (recorded : List (List Noted)) (settled : 
   told_at : (lane : ℕ) (r : Came) → slice_get settled lane ≡ Some r → r ≢ Err OutOfMemory
   told_at lane r at refused = told (lane, r, slice_get_within settled lane r at, get_or_from_slice_get settled lane r r at, refused)
 
-  each_before : (n : ℕ) → ((lane : ℕ) (q : Place) → slice_get settled lane ≡ Some (Err (Strange q)) → n ≤ index_of lists q) → (lane : ℕ) (c : List Noted) → slice_get recorded lane ≡ Some c → AreOwnOf lane c (take n (all_in lists))
+  each_before : (n : ℕ) → ((lane : ℕ) (q : ListPlace) → slice_get settled lane ≡ Some (Err (Strange q)) → n ≤ index_of lists q) → (lane : ℕ) (c : List Noted) → slice_get recorded lane ≡ Some c → AreOwnOf lane c (take n (all_in lists))
   each_before n behind lane c at =
       let came = settled_for 0 lists recorded settled lane lane c all (omega arith) at in
       own_before lane c lists n came.0 came.2 (told_at lane came.0 came.1) (λ q is. behind lane q (came.1 ∙ ap (λ (r : Came). Some r) is))
@@ -250,19 +250,19 @@ module _ (lists : List (List Listed)) (recorded : List (List Noted)) (settled : 
   outside_call : (before : List Listed) (l : Listed) → length recorded ≤ l.lane → ¬ IsOwn recorded before l
   outside_call before l past own = let none = sym (recorded_past recorded l.lane l.position past) ∙ own.stands in absurd cc
 
-  within_to : (other : Option Place) (p : Place) → IfNone other (All (λ l. l.lane < length recorded) (all_in lists)) → IfSome other (IsOutAt (length recorded) lists) → IsPlace lists p
-      → ((q : Place) → other ≡ Some q → IsNotBehind p q) → All (λ l. l.lane < length recorded) (take (index_of lists p) (all_in lists))
+  within_to : (other : Option ListPlace) (p : ListPlace) → IfNone other (All (λ l. l.lane < length recorded) (all_in lists)) → IfSome other (IsOutAt (length recorded) lists) → IsPlace lists p
+      → ((q : ListPlace) → other ≡ Some q → IsNotBehind p q) → All (λ l. l.lane < length recorded) (take (index_of lists p) (all_in lists))
   within_to None p none some place_is before = within_take (length recorded) (all_in lists) (index_of lists p) none
   within_to (Some q) p none some place_is before =
       let le = index_before lists p q place_is (before q refl) in
       subst (All (λ l. l.lane < length recorded)) (take-take (index_of lists p) (index_of lists q) (all_in lists) le)
       (within_take (length recorded) (take (index_of lists q) (all_in lists)) (index_of lists p) some.first.before)
 
-  first_is : (other : Option Place) (p : Place) → IfNone other (All (λ l. l.lane < length recorded) (all_in lists)) → IfSome other (IsOutAt (length recorded) lists) → IsFirstPlace other settled p
+  first_is : (other : Option ListPlace) (p : ListPlace) → IfNone other (All (λ l. l.lane < length recorded) (all_in lists)) → IfSome other (IsOutAt (length recorded) lists) → IsFirstPlace other settled p
       → (l : Listed) × IsPlace lists p × (slice_get (all_in lists) (index_of lists p) ≡ Some l) × (¬ IsOwn recorded (take (index_of lists p) (all_in lists)) l)
   first_is other p none some first = elim first.is [ inl at ↦ out other some at | inr there ↦ strange there.0 there.1 ]
     where
-      out : (other : Option Place) → IfSome other (IsOutAt (length recorded) lists) → other ≡ Some p
+      out : (other : Option ListPlace) → IfSome other (IsOutAt (length recorded) lists) → other ≡ Some p
           → (l : Listed) × IsPlace lists p × (slice_get (all_in lists) (index_of lists p) ≡ Some l) × (¬ IsOwn recorded (take (index_of lists p) (all_in lists)) l)
       out None some at = absurd cc
       out (Some q) some at =
@@ -277,7 +277,7 @@ module _ (lists : List (List Listed)) (recorded : List (List Noted)) (settled : 
           (is.first.call, is.place_is, is.first.at, strange_call lane of.0 (take (index_of lists p) (all_in lists)) is.first.call of.1 is.first.of is.first.strange)
 
   -- the first place is that of the first call that is not its lane's own
-  pub strange_first : (other : Option Place) (p : Place) → IfNone other (All (λ l. l.lane < length recorded) (all_in lists)) → IfSome other (IsOutAt (length recorded) lists) → IsFirstPlace other settled p
+  pub strange_first : (other : Option ListPlace) (p : ListPlace) → IfNone other (All (λ l. l.lane < length recorded) (all_in lists)) → IfSome other (IsOutAt (length recorded) lists) → IsFirstPlace other settled p
       → IsPlace lists p × IsFirstStrange recorded (all_in lists) (index_of lists p)
   strange_first other p none some first =
       let is = first_is other p none some first in
@@ -292,7 +292,7 @@ module _ (lists : List (List Listed)) (recorded : List (List Noted)) (settled : 
       )
 
 -- it is in the pass there
-pub strange_pass : (recorded : List (List Noted)) (passes : List Ticket) (place : Place) (pass : Ticket) → IsPlace (lists_of passes) place → IsFirstStrange recorded (all_in (lists_of passes)) (index_of (lists_of passes) place)
+pub strange_pass : (recorded : List (List Noted)) (passes : List Ticket) (place : ListPlace) (pass : Ticket) → IsPlace (lists_of passes) place → IsFirstStrange recorded (all_in (lists_of passes)) (index_of (lists_of passes) place)
     → slice_get passes place.pass ≡ Some pass → IsStrange recorded passes pass.caller place.call
 strange_pass recorded passes place pass is first at =
     let same : is.calls ≡ pass.calls = same_Some is.calls pass.calls (sym is.there ∙ list_at passes place.pass pass at) in
@@ -307,13 +307,13 @@ strange_pass recorded passes place pass is first at =
       first = subst (λ n. IsFirstStrange recorded (calls_in passes) n) index (subst (λ ls. IsFirstStrange recorded ls (index_of (lists_of passes) place)) (all_of passes) first);
     }
 
-pub place_within : (passes : List Ticket) (place : Place) → IsPlace (lists_of passes) place → place.pass < length passes
+pub place_within : (passes : List Ticket) (place : ListPlace) → IsPlace (lists_of passes) place → place.pass < length passes
 place_within passes place is = let low = slice_get_within (lists_of passes) place.pass is.calls is.there in let many = length-map passes (λ (p : Ticket). p.calls) in omega (arith, low, many)
 
 abbrev pub AreIn : ℕ → List (List Listed) → Type 0
 AreIn lanes lists = All (λ l. l.lane < lanes) (all_in lists)
 
-pub strange_end : (order : List Ticket) (recorded : List (List Noted)) (settled : List Came) (other : Option Place) (p : Place) (caller : ℕ) → AreSettled 0 (lists_of order) recorded settled → ¬ IsRefused settled
+pub strange_end : (order : List Ticket) (recorded : List (List Noted)) (settled : List Came) (other : Option ListPlace) (p : ListPlace) (caller : ℕ) → AreSettled 0 (lists_of order) recorded settled → ¬ IsRefused settled
     → IfNone other (AreIn (length recorded) (lists_of order)) → IfSome other (IsOutAt (length recorded) (lists_of order)) → IsFirstPlace other settled p → IsSomeAnd (slice_get order p.pass) (λ q. q.caller ≡ caller) → IsStrange recorded order caller p.call
 strange_end order recorded settled other p caller all told none some first has = by_pass (slice_get order p.pass) refl has
   where
@@ -323,11 +323,11 @@ strange_end order recorded settled other p caller all told none some first has =
         subst (λ n. IsStrange recorded order n p.call) same (strange_pass recorded order p pass is.0 is.1 at)
     by_pass None at same = absurd same
 
-pub strange_within : (order : List Ticket) (recorded : List (List Noted)) (settled : List Came) (other : Option Place) (p : Place) → AreSettled 0 (lists_of order) recorded settled → ¬ IsRefused settled
+pub strange_within : (order : List Ticket) (recorded : List (List Noted)) (settled : List Came) (other : Option ListPlace) (p : ListPlace) → AreSettled 0 (lists_of order) recorded settled → ¬ IsRefused settled
     → IfNone other (AreIn (length recorded) (lists_of order)) → IfSome other (IsOutAt (length recorded) (lists_of order)) → IsFirstPlace other settled p → p.pass < length order
 strange_within order recorded settled other p all told none some first = place_within order p (strange_first (lists_of order) recorded settled all told other p none some first).0
 
-pub none_outside : (X : Type 0) (other : Option Place) → other ≡ None → IfNone other X → X
+pub none_outside : (X : Type 0) (other : Option ListPlace) → other ≡ None → IfNone other X → X
 none_outside X other is x = subst (λ o. IfNone o X) is x
 
 pub as_many_settled : (number : ℕ) (lists : List (List Listed)) (cs : List (List Noted)) (rs : List Came) → AreSettled number lists cs rs → length rs ≡ length cs
@@ -336,7 +336,7 @@ as_many_settled number lists [] (r ∷ rs) all = absurd all
 as_many_settled number lists (c ∷ cs) [] all = absurd all
 as_many_settled number lists (c ∷ cs) (r ∷ rs) all = ap suc (as_many_settled (suc number) lists cs rs all.1)
 
--- ---- where each lane is settled
+-- ---- if each lane is settled
 
 pub as_recorded : (number : ℕ) (lists : List (List Listed)) (cs : List (List Noted)) (lanes : List (List Done)) → AreSettled number lists cs (map Ok lanes) → recorded_of lanes ≡ cs
 as_recorded number lists [] [] all = refl
@@ -377,7 +377,7 @@ pub listed_all : (h : Stamped → ℕ) (order : List Ticket) (cs : List (List No
 listed_all h order cs lanes all within =
     weighed_all h (lists_of order) cs lanes all within ∙ all_past h (all_in (lists_of order)) ∙ ap (λ (ls : List Listed). weigh_calls h ls) (all_of order) ∙ weigh_in h order
 
--- ---- where one is not
+-- ---- if one is not
 
 front_ok : (done : List (List Done)) (rest : List Came) (k : ℕ) → k < length done → (d : List Done) × (slice_get (map Ok done ++ rest) k ≡ Some (Ok d))
 front_ok [] rest k low = absurd (omega (arith, low))
@@ -418,7 +418,7 @@ open_one settled done r rest is =
     let many = length-map {B = Came} done (λ d. Ok d) in
     rw (← is) (found_right (map Ok done) (r ∷ rest) (length done) 0 (omega (arith, many)))
 
-pub never_strange : (settled : List Came) (done : List (List Done)) (r : Came) (rest : List Came) (q : Place) → map Ok done ++ r ∷ rest ≡ settled → IsNoneStrange settled → r ≢ Err (Strange q)
+pub never_strange : (settled : List Came) (done : List (List Done)) (r : Came) (rest : List Came) (q : ListPlace) → map Ok done ++ r ∷ rest ≡ settled → IsNoneStrange settled → r ≢ Err (Strange q)
 never_strange settled done r rest q is none same = none (length done) q (open_one settled done r rest is ∙ ap (λ (x : Came). Some x) same)
 
 pub few_done : (settled : List Came) (done : List (List Done)) (rest : List Came) → map Ok done ++ rest ≡ settled → length done ≤ length settled

@@ -75,7 +75,7 @@ one_step h number l = elim (cases_order l.lane number) [
   ]
 ]
 
--- the calls of a lane and of those behind it
+-- the calls of a lane and of those after it
 pub lane_and_past : (h : Stamped → ℕ) (number : ℕ) (calls : List Listed) → weigh_of (λ d. h (stamp number d)) number calls + weigh_past h (suc number) calls ≡ weigh_past h number calls
 lane_and_past h number [] = refl
 lane_and_past h number (l ∷ calls) =
@@ -86,7 +86,7 @@ lane_and_past h number (l ∷ calls) =
     let rest = lane_and_past h number calls in
     omega (arith, a, b, c, one, rest)
 
--- no call is of a lane behind all
+-- no call is of a lane after all
 pub none_past : (h : Stamped → ℕ) (number : ℕ) (calls : List Listed) → All (λ l. l.lane < number) calls → weigh_past h number calls ≡ 0
 none_past h number [] below = refl
 none_past h number (l ∷ calls) below =
@@ -95,7 +95,7 @@ none_past h number (l ∷ calls) below =
     let rest = none_past h number calls (All-tail (λ m. m.lane < number) l calls below) in
     omega (arith, a, b, rest)
 
--- and each is of the first or of one behind it
+-- and each is of the first or of one after it
 pub all_past : (h : Stamped → ℕ) (calls : List Listed) → weigh_past h 0 calls ≡ weigh_calls h calls
 all_past h [] = refl
 all_past h (l ∷ calls) =

@@ -14,12 +14,12 @@ use Rattle.history_recorder.specs.declared.operation.Operation.TheVariants as as
 use Rattle.history_recorder.specs.Operations.{key_of}
 use Rattle.shared_cache.specs.declared.act_fault.ActFault.{ActFault}
 use Rattle.shared_cache.specs.declared.act_fault.ActFault.TheVariants.{HistoryLost, HistoryFull, ClockFull, OutOfMemory}
-use Rattle.shared_cache.specs.declared.acted.Acted.{Acted}
+use Rattle.shared_cache.specs.declared.act_answer.ActAnswer.{ActAnswer}
 use Rattle.shared_cache.specs.declared.asked.Asked.{Asked}
 use Rattle.shared_cache.specs.declared.asked.Asked.TheVariants as lent
 use Rattle.shared_cache.specs.Listed.{Listed}
-use Rattle.shared_cache.specs.declared.outcome.Outcome.{Outcome}
-use Rattle.shared_cache.specs.declared.outcome.Outcome.TheVariants as outcomes
+use Rattle.shared_cache.specs.declared.response.Response.{Response}
+use Rattle.shared_cache.specs.declared.response.Response.TheVariants as outcomes
 use Rattle.shared_cache.specs.Passes.{Ticket, former}
 
 -- the operation that a lent one asks for
@@ -29,18 +29,18 @@ asked_shown (lent.Put key value word expires) = asked.Put key value word expires
 asked_shown (lent.Remove key) = asked.Remove key.now
 
 -- what is recorded of an operation by what it gave
-abbrev pub act_by : Operation → Outcome → Act
+abbrev pub act_by : Operation → Response → Act
 act_by (asked.Get key moment) (outcomes.Got answer) = act_of moment answer
 act_by (asked.Get key moment) _ = acts.Miss
 act_by (asked.Put key value word expires) _ = acts.Put value expires
 act_by (asked.Remove key) _ = acts.Remove
 
 -- the call that is recorded of an operation
-abbrev pub made : ℕ → ℕ → ℕ → Operation → Outcome → Noted
+abbrev pub made : ℕ → ℕ → ℕ → Operation → Response → Noted
 made caller start point operation outcome = record { caller = caller; start = start; point = point; key = key_of operation; act = act_by operation outcome }
 
 -- a call as it is listed: of a lane, at a position there, with its start, its point and its end
-abbrev pub listing : ℕ → ℕ → ℕ → ℕ → ℕ → ℕ → Operation → Outcome → Listed
+abbrev pub listing : ℕ → ℕ → ℕ → ℕ → ℕ → ℕ → Operation → Response → Listed
 listing lane position caller start point end operation outcome = record {
   lane = lane;
   position = position;
@@ -56,14 +56,14 @@ IsFitting size (asked.Remove key) = Unit {0}
 
 module _ {D : Type 0} (honest : D → Bool) (failures : D → ℕ) (held : D → ℕ → Option (List ℕ)) (size : ℕ) where
   -- What an operation gives and does to the store of its lane: what that call of a store does. It gives nothing else.
-  abbrev pub ActGives : Operation → StoreState D → Outcome → StoreState D → Type 0
+  abbrev pub ActGives : Operation → StoreState D → Response → StoreState D → Type 0
   ActGives (asked.Get key moment) old (outcomes.Got answer) new = StoreGets size honest failures held key moment old (Ok answer) new
   ActGives (asked.Put key value word expires) old (outcomes.Stored pushed) new =
       StorePuts size held (record { key = key; value = timed value expires }) word old (Ok pushed) new
   ActGives (asked.Remove key) old outcomes.Removed new = StoreRemoves held key old new
   ActGives _ old _ new = ⊥
 
-  -- what want of memory leaves: of a get the store as it was, or as the answer left it; else all as it was
+  -- what want of memory leaves: of a get the store as it was, or as the answer left it; otherwise all as it was
   abbrev pub ActLeaves : Operation → StoreState D → StoreState D → Type 0
   ActLeaves (asked.Get key moment) old new = MayHaveGot size honest failures held key moment old new
   ActLeaves (asked.Put key value word expires) old new = new ≡ old
@@ -105,7 +105,7 @@ module _ {D : Type 0} where
   IsBook book = All (λ n. n.point < 2 ^ 63) book.calls
 
 -- what an operation gives: a get an answer, a put what became of the pair that was pushed out, a removal nothing
-abbrev pub Suits : Operation → Outcome → Type 0
+abbrev pub Suits : Operation → Response → Type 0
 Suits (asked.Get key moment) (outcomes.Got answer) = Unit {0}
 Suits (asked.Put key value word expires) (outcomes.Stored pushed) = Unit {0}
 Suits (asked.Remove key) outcomes.Removed = Unit {0}
@@ -115,7 +115,7 @@ module _ {D : Type 0} (honest : D → Bool) (failures : D → ℕ) (held : D →
   -- An operation was done while a lane's lock was held, at a stamp above all that the pass had seen and above all points of
   -- the lane's calls. The book has one call more, last, and its store took that operation's step; the pass lists that call,
   -- last, at its position, and with the stamp for its end.
-  pub record IsActed (operation : Operation) (start : ℕ) (book : Lane D) (ticket : Ticket) (acted : Acted) (book' : Lane D) (ticket' : Ticket) : Type 0 where
+  pub record IsActed (operation : Operation) (start : ℕ) (book : Lane D) (ticket : Ticket) (acted : ActAnswer) (book' : Lane D) (ticket' : Ticket) : Type 0 where
     pub recorded : book' ≡ record book { store = book'.store; calls = book.calls ++ made ticket.caller start acted.point operation acted.outcome ∷ [] }
     pub gives : ActGives honest failures held size operation book.store acted.outcome book'.store
     pub listed : ticket'.calls ≡ ticket.calls ++ listing book.lane (length book.calls) ticket.caller start acted.point acted.point operation acted.outcome ∷ []
@@ -125,7 +125,7 @@ module _ {D : Type 0} (honest : D → Bool) (failures : D → ℕ) (held : D →
     pub stands : Stands book ticket
     pub room : length book.calls < max_calls
 
-  -- An operation was refused while a lane's lock was held. It is in no list, and but for want of memory behind an answer
+  -- An operation was refused while a lane's lock was held. It is in no list, and but for want of memory after an answer
   -- all is as it was.
   pub record IsUnacted (operation : Operation) (book : Lane D) (ticket : Ticket) (fault : ActFault) (book' : Lane D) (ticket' : Ticket) : Type 0 where
     pub explained : Explains book ticket ticket'.sight.seen fault

@@ -26,7 +26,7 @@ IsOfPlace lane position l = (l.lane ≡ lane) × (l.position ≡ position)
 abbrev pub IsFree : List Listed → ℕ → ℕ → Type 0
 IsFree calls lane position = All (λ l. ¬ IsOfPlace lane position l) calls
 
--- A listed call, behind these, is its lane's own: it stands where it is listed, and none before it is listed of that place.
+-- A listed call, after these, is its lane's own: it stands where it is listed, and none before it is listed of that place.
 pub record IsOwn (recorded : List (List Noted)) (before : List Listed) (l : Listed) : Type 0 where
   pub stands : recorded_at recorded l.lane l.position ≡ Some l.call
   pub once : IsFree before l.lane l.position
@@ -67,12 +67,12 @@ pub record IsListed (passes : List Ticket) (caller call : ℕ) : Type 0 where
   pub of : pass.caller ≡ caller
   pub within : call < length pass.calls
 
--- no pass lists a call of this position of this lane, which is one of so many
+-- no pass lists a call of this position of this lane, which is one of this many
 pub record IsListedByNone (lanes : ℕ) (passes : List Ticket) (lane position : ℕ) : Type 0 where
   pub of : lane < lanes
   pub free : IsFree (calls_in passes) lane position
 
--- Why a cache of so many callers and lanes is not finished by these passes, as far as they tell.
+-- Why a cache of this many callers and lanes is not finished by these passes, as far as they tell.
 abbrev pub Blames : ℕ → ℕ → List Ticket → FinishFault → Type 0
 Blames callers lanes passes (MissingPass caller) = IsLeastMissing callers passes caller
 Blames callers lanes passes (Strange caller call) = IsListed passes caller call

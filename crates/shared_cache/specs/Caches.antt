@@ -9,7 +9,7 @@ use Rattle.record_pages.specs.declared.config.Config.{Config}
 use Rattle.record_pages.specs.declared.layout.Layout.{Layout}
 use Rattle.history_recorder.specs.declared.operation.Operation.{Operation}
 use Rattle.history_recorder.specs.Operations.{key_of, lane_of_key}
-use Rattle.shared_cache.specs.declared.outcome.Outcome.{Outcome}
+use Rattle.shared_cache.specs.declared.response.Response.{Response}
 use Rattle.shared_cache.specs.declared.act_fault.ActFault.{ActFault}
 use Rattle.shared_cache.specs.declared.act_fault.ActFault.TheVariants as acts
 use Rattle.shared_cache.specs.declared.call_fault.CallFault.{CallFault}
@@ -26,7 +26,7 @@ pub record Cache : Type 0 where
 
 -- A call was made, and gave this: its pass lists one call more, last, of the lane of its key, at some position there. It
 -- started above all that the pass had seen, was done above its start, and ended where the pass has seen the clock last.
-pub record IsMade (layout : Layout) (operation : Operation) (old : Ticket) (outcome : Outcome) (new : Ticket) : Type 0 where
+pub record IsMade (layout : Layout) (operation : Operation) (old : Ticket) (outcome : Response) (new : Ticket) : Type 0 where
   pub position : ℕ
   pub start : ℕ
   pub point : ℕ

@@ -71,7 +71,7 @@ pub record IsFirstFree (slots : List (Option Done)) (position : ℕ) : Type 0 wh
   pub free : slice_get slots position ≡ Some None
   pub before : (k : ℕ) → k < position → slice_get slots k ≢ Some None
 
--- what is claimed of a lane is just what these list: a position is free where none of them is of it
+-- what is claimed of a lane is just what these list: a position is free if none of them is of it
 pub record IsBy (claims : Claims) (lane : ℕ) (calls : List Listed) : Type 0 where
   pub many : length claims.slots ≡ length claims.calls
   pub free : (position : ℕ) → position < length claims.calls → ((slice_get claims.slots position ≡ Some None) ↔ IsFree calls lane position)
@@ -85,7 +85,7 @@ abbrev pub IsUnready : List (Option Done) → Unready → Type 0
 IsUnready slots unready.OutOfMemory = Unit {0}
 IsUnready slots (unready.Unclaimed position) = IsFirstFree slots position
 
--- why lanes, so many of them, are not taken apart
+-- why lanes, this many of them, are not taken apart
 abbrev pub IsNoBook : ℕ → FinishFault → Type 0
 IsNoBook count OutOfMemory = Unit {0}
 IsNoBook count (LaneLost lane) = lane < count

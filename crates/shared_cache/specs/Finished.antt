@@ -26,7 +26,7 @@ weigh_passes h passes = sum_by (λ p. weigh_calls h p.calls) passes
 abbrev pub has_pass : List Ticket → ℕ → Bool
 has_pass passes caller = list_any (λ p. p.caller == caller) passes
 
--- the least caller, of so many, with no pass among these
+-- the least caller, of this many, with no pass among these
 pub record IsLeastMissing (callers : ℕ) (passes : List Ticket) (caller : ℕ) : Type 0 where
   pub below : caller < callers
   pub missing : has_pass passes caller ≡ false

@@ -23,7 +23,7 @@ most_lanes = 16
 abbrev pub most_bytes : ℕ
 most_bytes = 2303
 
--- a place one further back, or else the first place where it is one
+-- a place one further back, or else the first place if it is one
 abbrev pub place_behind : Option ℕ → Bool → Option ℕ
 place_behind (Some place) is_first = Some (suc place)
 place_behind None true = Some 0

@@ -11,7 +11,7 @@ use Rattle.shared_cache.specs.declared.finish_fault.FinishFault.TheVariants as e
 use Rattle.shared_cache.specs.declared.lane_fault.LaneFault.{LaneFault}
 use Rattle.shared_cache.specs.declared.lane_fault.LaneFault.TheVariants.{OutOfMemory, Strange, Unlisted}
 use Rattle.shared_cache.specs.declared.lane_left.LaneLeft.{LaneLeft}
-use Rattle.shared_cache.specs.declared.place.Place.{Place}
+use Rattle.shared_cache.specs.declared.list_place.ListPlace.{ListPlace}
 use Rattle.shared_cache.specs.Listed.{Listed}
 use Rattle.shared_cache.specs.Passes.{Ticket}
 use Rattle.shared_cache.specs.Finished.{done_of}
@@ -20,7 +20,7 @@ use Rattle.shared_cache.specs.Claimed.{Claims, IsBy, IsEnded, noted_of, weigh_sl
 
 -- ---- one lane
 
--- a call that is listed of a lane with these calls, behind the calls before it, is the lane's own
+-- a call that is listed of a lane with these calls, after the calls before it, is the lane's own
 pub record IsOwnOf (recorded : List Noted) (before : List Listed) (l : Listed) : Type 0 where
   pub stands : slice_get recorded l.position ≡ Some l.call
   pub once : IsFree before l.lane l.position
@@ -33,7 +33,7 @@ AreOwnOf lane recorded calls = (k : ℕ) (l : Listed) → slice_get calls k ≡ 
 abbrev pub weigh_of : (Done → ℕ) → ℕ → List Listed → ℕ
 weigh_of h lane calls = sum_by (λ l. if l.lane == lane then h (done_of l) else 0) calls
 
--- the claims on a lane are those of just these listed calls, where each that is listed of the lane is its own
+-- the claims on a lane are those of just these listed calls, if each that is listed of the lane is its own
 pub record IsMade (lane : ℕ) (claims : Claims) (calls : List Listed) : Type 0 where
   pub by : IsBy claims lane calls
   pub own : AreOwnOf lane claims.calls calls
@@ -52,17 +52,17 @@ abbrev pub all_in : List (List Listed) → List Listed
 all_in lists = flat_map (λ calls. calls) lists
 
 -- a call is listed at this place
-pub record IsPlace (lists : List (List Listed)) (place : Place) : Type 0 where
+pub record IsPlace (lists : List (List Listed)) (place : ListPlace) : Type 0 where
   pub calls : List Listed
   pub there : slice_get lists place.pass ≡ Some calls
   pub within : place.call < length calls
 
 -- how many calls are listed before a place
-abbrev pub index_of : List (List Listed) → Place → ℕ
+abbrev pub index_of : List (List Listed) → ListPlace → ℕ
 index_of lists place = length (all_in (take place.pass lists)) + place.call
 
 -- the call at this place is the first that is listed of the lane and not its own
-pub record IsStrangeAt (lane : ℕ) (recorded : List Noted) (lists : List (List Listed)) (place : Place) : Type 0 where
+pub record IsStrangeAt (lane : ℕ) (recorded : List Noted) (lists : List (List Listed)) (place : ListPlace) : Type 0 where
   pub place_is : IsPlace lists place
   pub first : IsStrangeIn lane recorded (all_in lists) (index_of lists place)
 
@@ -111,7 +111,7 @@ AreSettled number lists (c ∷ cs) (r ∷ rs) = Settles number c lists r × AreS
 abbrev pub IsRefused : List (Result (List Done) LaneFault) → Type 0
 IsRefused settled = Any (λ r. r ≡ Err OutOfMemory) settled
 
--- the first of these that is listed of none of so many lanes
+-- the first of these that is listed of none of this many lanes
 pub record IsOutIn (lanes : ℕ) (calls : List Listed) (index : ℕ) : Type 0 where
   pub call : Listed
   pub at : slice_get calls index ≡ Some call
@@ -119,38 +119,38 @@ pub record IsOutIn (lanes : ℕ) (calls : List Listed) (index : ℕ) : Type 0 wh
   pub before : All (λ l. l.lane < lanes) (take index calls)
 
 -- the call at this place is that
-pub record IsOutAt (lanes : ℕ) (lists : List (List Listed)) (place : Place) : Type 0 where
+pub record IsOutAt (lanes : ℕ) (lists : List (List Listed)) (place : ListPlace) : Type 0 where
   pub place_is : IsPlace lists place
   pub first : IsOutIn lanes (all_in lists) (index_of lists place)
 
 -- the place at which what came of a lane is strange
-abbrev pub place_in : Result (List Done) LaneFault → Option Place
+abbrev pub place_in : Result (List Done) LaneFault → Option ListPlace
 place_in (Ok dones) = None
 place_in (Err OutOfMemory) = None
 place_in (Err (Strange place)) = Some place
 place_in (Err (Unlisted position)) = None
 
--- a place is not behind another
-abbrev pub IsNotBehind : Place → Place → Type 0
+-- a place is not after another
+abbrev pub IsNotBehind : ListPlace → ListPlace → Type 0
 IsNotBehind p q = (p.pass < q.pass) ⊎ ((p.pass ≡ q.pass) × (p.call ≤ q.call))
 
 -- the first of the places at which what came of lanes is strange, and of another place
-pub record IsFirstPlace (other : Option Place) (settled : List (Result (List Done) LaneFault)) (p : Place) : Type 0 where
+pub record IsFirstPlace (other : Option ListPlace) (settled : List (Result (List Done) LaneFault)) (p : ListPlace) : Type 0 where
   pub is : (other ≡ Some p) ⊎ ((lane : ℕ) × (slice_get settled lane ≡ Some (Err (Strange p))))
-  pub before_other : (q : Place) → other ≡ Some q → IsNotBehind p q
-  pub before : (lane : ℕ) (q : Place) → slice_get settled lane ≡ Some (Err (Strange q)) → IsNotBehind p q
+  pub before_other : (q : ListPlace) → other ≡ Some q → IsNotBehind p q
+  pub before : (lane : ℕ) (q : ListPlace) → slice_get settled lane ≡ Some (Err (Strange q)) → IsNotBehind p q
 
 -- nothing that came of lanes is strange
 abbrev pub IsNoneStrange : List (Result (List Done) LaneFault) → Type 0
-IsNoneStrange settled = (lane : ℕ) (q : Place) → slice_get settled lane ≢ Some (Err (Strange q))
+IsNoneStrange settled = (lane : ℕ) (q : ListPlace) → slice_get settled lane ≢ Some (Err (Strange q))
 
--- that place, or none where there is none
-abbrev pub FindsFirst : Option Place → List (Result (List Done) LaneFault) → Option Place → Type 0
+-- that place, or none if there is none
+abbrev pub FindsFirst : Option ListPlace → List (Result (List Done) LaneFault) → Option ListPlace → Type 0
 FindsFirst other settled None = (other ≡ None) × IsNoneStrange settled
 FindsFirst other settled (Some p) = IsFirstPlace other settled p
 
 -- the first of two places, or the one that there is
-abbrev pub IsEarlier : Option Place → Place → Place → Type 0
+abbrev pub IsEarlier : Option ListPlace → ListPlace → ListPlace → Type 0
 IsEarlier None place result = result ≡ place
 IsEarlier (Some first) place result = ((result ≡ first) ⊎ (result ≡ place)) × IsNotBehind result first × IsNotBehind result place
 
@@ -161,7 +161,7 @@ pub record IsFirstOpen (settled : List (Result (List Done) LaneFault)) (lane pos
   pub split : settled ≡ map Ok done ++ Err (Unlisted position) ∷ rest
   pub number : lane ≡ length done
 
--- why a lane was not settled, where no call is strange
+-- why a lane was not settled, if no call is strange
 abbrev pub IsFaultOf : ℕ → LaneFault → FinishFault → Type 0
 IsFaultOf lane OutOfMemory fault = fault ≡ ends.OutOfMemory
 IsFaultOf lane (Unlisted position) fault = fault ≡ ends.Unlisted lane position

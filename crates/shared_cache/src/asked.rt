@@ -8,9 +8,9 @@ use record_pages::{Key, Value};
 /// An operation, as it is asked of the lane of its key: what the lane only reads is lent to it, and it keeps what it is given.
 #[derive(Drop)]
 pub enum Asked<'a> {
-    /// The value of a key, where it is live at this moment.
+    /// The value of a key, if it is live at this moment.
     Get(&'a Key, u64),
-    /// To keep a value of a key, by the word of its admission, until this moment, or for ever where that is `NEVER`.
+    /// To keep a value of a key, by the word of its admission, until this moment, or for ever if that is `NEVER`.
     Put(Key, Value, u32, u64),
     /// To keep no value of a key.
     Remove(&'a Key),

@@ -19,8 +19,8 @@ ghost use Rattle.shared_cache.specs.Over.{IsOver};
 ghost use Rattle.shared_cache.specs.Acts.{Explains, IsActed, IsBook, IsFitting, IsUnacted, Stands, asked_shown};
 ghost use Rattle.shared_cache.specs.Caches.{KeepsTie};
 
+use crate::act_answer::ActAnswer;
 use crate::act_fault::ActFault;
-use crate::acted::Acted;
 use crate::asked::Asked;
 use crate::clock::{Clock, ClockSeat};
 use crate::clock_full::ClockFull;
@@ -35,7 +35,7 @@ use record_pages::{Config, Key, Layout, Value};
 use recorded_lane::{MAX_CALLS, NotedRef, RecordedLane, RecordedParts};
 use std::alloc::{AllocError, Global};
 use std::marker::Model;
-use trace_file::{CallRef, Entry};
+use trace_file::{CallRef, StoredCall};
 
 mod background;
 
@@ -144,7 +144,7 @@ impl Pass {
         clock.tick(&mut self.seat)
     }
 
-    /// Draws the end of the call that was listed last: a stamp above its point, or the last one where the clock is full.
+    /// Draws the end of the call that was listed last: a stamp above its point, or the last one if the clock is full.
     pub(crate) fn end(&mut self, clock: &Clock)
         requires { self.old.sight.clock ≡ clock.now }
         ensures calls { self.new.calls ≡ with_end self.new.sight.seen self.old.calls }
@@ -171,7 +171,7 @@ impl Pass {
         ListedCalls::new(self.calls.as_slice(), self.bytes.as_slice())
     }
 
-    /// Draws a stamp, or takes the last one where the clock is full.
+    /// Draws a stamp, or takes the last one if the clock is full.
     fn draw_end(&mut self, clock: &Clock) -> u64
         requires { self.old.sight.clock ≡ clock.now }
         ensures end { result ≡ self.new.sight.seen }
@@ -291,7 +291,7 @@ impl<D: PageDevice<PAGE>, const PAGE: usize> LaneBook<D, PAGE> {
     /// pass with its position and, until its end is drawn, its point for its end.
     ///
     /// A refused call is not recorded and not listed. `HistoryLost`, `HistoryFull` and `ClockFull` leave the book as it
-    /// was, and so does `OutOfMemory` of a put or a removal; of a get it may come behind the answer, when the pair has
+    /// was, and so does `OutOfMemory` of a put or a removal; of a get it may come after the answer, when the pair has
     /// come to the front of memory, its prediction is one less, or its slot is hit.
     pub fn act(
         &mut self,
@@ -299,7 +299,7 @@ impl<D: PageDevice<PAGE>, const PAGE: usize> LaneBook<D, PAGE> {
         pass: &mut Pass,
         start: u64,
         asked: Asked<'_>,
-    ) -> Result<Acted, ActFault>
+    ) -> Result<ActAnswer, ActFault>
         requires clock { pass.old.sight.clock ≡ clock.now }
         requires start { start ≤ pass.old.sight.seen }
         requires own { IsOfLane self.old.store.layout self.old.lane (key_of (asked_shown asked)) }
@@ -330,11 +330,11 @@ impl<D: PageDevice<PAGE>, const PAGE: usize> LaneBook<D, PAGE> {
             entry,
         };
         list(&mut pass.calls, &mut pass.former, listed);
-        Ok(Acted { outcome, point })
+        Ok(ActAnswer { outcome, point })
     }
 
     /// Whether the pass's former call of this lane stands at its position. `HistoryLost` has a copy of what stands there
-    /// else, and is `OutOfMemory` where that copy is refused.
+    /// else, and is `OutOfMemory` if that copy is refused.
     fn check(&self, pass: &Pass) -> Result<(), ActFault>
         ensures stands { OnOk result (Stands self.now pass.now) }
         ensures refused { IfErr result (λ fault. Explains self.now pass.now 0 fault
@@ -375,8 +375,8 @@ impl<D: PageDevice<PAGE>, const PAGE: usize> LaneBook<D, PAGE> {
     }
 }
 
-/// Keeps the bytes of a recorded call behind the others, for which there is room.
-fn keep(bytes: &mut Vec<u8>, call: &NotedRef<'_>) -> Entry
+/// Keeps the bytes of a recorded call after the others, for which there is room.
+fn keep(bytes: &mut Vec<u8>, call: &NotedRef<'_>) -> StoredCall
     requires key { IsKey call.now.key.now }
     requires value { IsValue (value_of (act_shown call.now.act)) }
     requires room { length bytes.old.items + most_bytes ≤ vec_capacity bytes.old }
@@ -386,7 +386,7 @@ fn keep(bytes: &mut Vec<u8>, call: &NotedRef<'_>) -> Entry
     ensures call { noted_in (call_in bytes.new.items result) ≡ noted_shown call.now }
 {
     let call = CallRef::new(call.caller, call.start, call.point, call.key, call.act);
-    let entry = Entry::of(&call, bytes.len());
+    let entry = StoredCall::of(&call, bytes.len());
     bytes.extend_from_slice(call.key).unwrap();
     bytes.extend_from_slice(call.act.value()).unwrap();
     entry

@@ -4,7 +4,7 @@ ghost use Rattle.record_pages.specs.Asked.{HasNumbersOf, layout_pages};
 ghost use Rattle.record_pages.specs.Sizes.{IsPageSize, object_size, room};
 ghost use Rattle.certificate_checker.specs.Acceptance.{IsAccepted};
 ghost use Rattle.history_recorder.specs.declared.operation.Operation.{Operation};
-ghost use Rattle.shared_cache.specs.declared.outcome.Outcome.{Outcome};
+ghost use Rattle.shared_cache.specs.declared.response.Response.{Response};
 ghost use Rattle.shared_cache.specs.Acts.{IsFitting, Suits, asked_shown};
 ghost use Rattle.shared_cache.specs.Blames.{Blames};
 ghost use Rattle.shared_cache.specs.Caches.{CanShare, ExplainsOpening, IsMade, KeepsTie, fault_in};
@@ -23,7 +23,7 @@ use crate::finish_fault::FinishFault;
 use crate::finished::Finished;
 use crate::open_cache_fault::OpenCacheFault;
 use crate::opening::{books_of, passes_of};
-use crate::outcome::Outcome;
+use crate::response::Response;
 use crossbeam_utils::CachePadded;
 use history_recorder::lay_out;
 use page_device::{PageDevice, is_one_too_small};
@@ -149,7 +149,7 @@ impl<D: PageDevice<PAGE>, P: EvictionPolicy + Drop, const PAGE: usize> SharedCac
     /// caller to caller: what is promised of an answer speaks of the moment that its get brought. So let all callers read
     /// one clock.
     ///
-    /// A refused get is not recorded. Where memory was refused behind the answer, the key's pair has come to the front
+    /// A refused get is not recorded. If memory was refused after the answer, the key's pair has come to the front
     /// of memory, or its prediction is one less, or its slot is hit.
     pub fn get<R: Wait>(
         &self,
@@ -160,20 +160,20 @@ impl<D: PageDevice<PAGE>, P: EvictionPolicy + Drop, const PAGE: usize> SharedCac
     ) -> Result<Answer, CallFault>
         requires { pass.old.sight.clock ≡ self.now.clock }
         ensures made { IfOk result (λ answer.
-            IsMade self.now.layout (Operation.Get key.now moment) pass.old (Outcome.Got answer) pass.new) }
+            IsMade self.now.layout (Operation.Get key.now moment) pass.old (Response.Got answer) pass.new) }
         ensures refused { OnErr result (pass.new.calls ≡ pass.old.calls) }
         ensures full { result ≡ Err CallFault.ClockFull → pass.new.sight.seen + 1 ≡ 2 ^ 63 }
         ensures small { result ≢ Err CallFault.TooLarge }
         ensures tie { KeepsTie pass.old pass.new }
     {
         match self.call(rt, pass, Asked::Get(key, moment)) {
-            Ok(Outcome::Got(answer)) => Ok(answer),
+            Ok(Response::Got(answer)) => Ok(answer),
             Ok(_) => unreachable!(),
             Err(fault) => Err(fault),
         }
     }
 
-    /// Puts a value, which expires at the moment `expires`, or never where that is `NEVER`. A refused put leaves the lane
+    /// Puts a value, which expires at the moment `expires`, or never if that is `NEVER`. A refused put leaves the lane
     /// as it was, so an older value of the key stays.
     pub fn put<R: Wait>(
         &self,
@@ -186,7 +186,7 @@ impl<D: PageDevice<PAGE>, P: EvictionPolicy + Drop, const PAGE: usize> SharedCac
     ) -> Result<Pushed, CallFault>
         requires { pass.old.sight.clock ≡ self.now.clock }
         ensures made { IfOk result (λ pushed. IsMade self.now.layout
-            (Operation.Put key value word expires) pass.old (Outcome.Stored pushed) pass.new) }
+            (Operation.Put key value word expires) pass.old (Response.Stored pushed) pass.new) }
         ensures large { IsErrOf result CallFault.TooLarge ↔ (room PAGE < object_size key value) }
         ensures refused { OnErr result (pass.new.calls ≡ pass.old.calls) }
         ensures full { result ≡ Err CallFault.ClockFull → pass.new.sight.seen + 1 ≡ 2 ^ 63 }
@@ -196,7 +196,7 @@ impl<D: PageDevice<PAGE>, P: EvictionPolicy + Drop, const PAGE: usize> SharedCac
             return Err(CallFault::TooLarge);
         }
         match self.call(rt, pass, Asked::Put(key, value, word, expires)) {
-            Ok(Outcome::Stored(pushed)) => Ok(pushed),
+            Ok(Response::Stored(pushed)) => Ok(pushed),
             Ok(_) => unreachable!(),
             Err(fault) => Err(fault),
         }
@@ -206,14 +206,14 @@ impl<D: PageDevice<PAGE>, P: EvictionPolicy + Drop, const PAGE: usize> SharedCac
     pub fn remove<R: Wait>(&self, rt: &R, pass: &mut Pass, key: &Key) -> Result<(), CallFault>
         requires { pass.old.sight.clock ≡ self.now.clock }
         ensures made { OnOk result (IsMade self.now.layout
-            (Operation.Remove key.now) pass.old Outcome.Removed pass.new) }
+            (Operation.Remove key.now) pass.old Response.Removed pass.new) }
         ensures refused { OnErr result (pass.new.calls ≡ pass.old.calls) }
         ensures full { result ≡ Err CallFault.ClockFull → pass.new.sight.seen + 1 ≡ 2 ^ 63 }
         ensures small { result ≢ Err CallFault.TooLarge }
         ensures tie { KeepsTie pass.old pass.new }
     {
         match self.call(rt, pass, Asked::Remove(key)) {
-            Ok(Outcome::Removed) => Ok(()),
+            Ok(Response::Removed) => Ok(()),
             Ok(_) => unreachable!(),
             Err(fault) => Err(fault),
         }
@@ -222,7 +222,7 @@ impl<D: PageDevice<PAGE>, P: EvictionPolicy + Drop, const PAGE: usize> SharedCac
     /// Ends the cache: lays its lanes' calls out as one history, with the ends that the passes list and the certificate
     /// that lists the calls by point and lane, and hands the devices back.
     ///
-    /// The lanes are gone through side by side, in a thread each where one can be made. Where the devices are honest the
+    /// The lanes are gone through side by side, in a thread each if one can be made. If the devices are honest the
     /// checker accepts the pair. The refusals are those of `FinishFault`, in its order.
     pub fn finish<R: Threads + Sync>(
         self,
@@ -262,7 +262,12 @@ impl<D: PageDevice<PAGE>, P: EvictionPolicy + Drop, const PAGE: usize> SharedCac
     }
 
     /// A whole call: its start, one act in one hold of the lock of its lane, and its end.
-    fn call<R: Wait>(&self, rt: &R, pass: &mut Pass, asked: Asked<'_>) -> Result<Outcome, CallFault>
+    fn call<R: Wait>(
+        &self,
+        rt: &R,
+        pass: &mut Pass,
+        asked: Asked<'_>,
+    ) -> Result<Response, CallFault>
         requires clock { pass.old.sight.clock ≡ self.now.clock }
         requires fits { IsFitting PAGE (asked_shown asked) }
         ensures made { IfOk result (λ outcome.

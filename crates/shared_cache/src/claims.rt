@@ -5,8 +5,8 @@ ghost use Rattle.shared_cache.specs.Settled.{FindsFirst, IsEarlier, IsOutAt, IsO
 
 use crate::books::Pass;
 use crate::lane_fault::LaneFault;
+use crate::list_place::ListPlace;
 use crate::listed_calls::ListedCalls;
-use crate::place::Place;
 use history_recorder::Dones;
 
 /// The least of so many callers that has no pass. It is quick where each pass stands at its caller's number.
@@ -34,20 +34,20 @@ fn has(passes: &[Pass], caller: u16) -> bool
     passes.iter().any(|pass| pass.caller() == caller)
 }
 
-/// The first call that is listed of none of so many lanes.
-pub(crate) fn place_outside(lanes: usize, lists: &[ListedCalls<'_>]) -> Option<Place>
+/// The first call that is listed of none of this many lanes.
+pub(crate) fn place_outside(lanes: usize, lists: &[ListedCalls<'_>]) -> Option<ListPlace>
     ensures none { IfNone result (All (λ l. l.lane < lanes) (all_in lists.now)) }
     ensures some { IfSome result (IsOutAt lanes lists.now) }
 {
     for pass in 0..lists.len() {
         if let Some(call) = call_outside(lanes, &lists[pass]) {
-            return Some(Place { pass, call });
+            return Some(ListPlace { pass, call });
         }
     }
     None
 }
 
-/// The first call of a list that is listed of none of so many lanes.
+/// The first call of a list that is listed of none of this many lanes.
 fn call_outside(lanes: usize, calls: &ListedCalls<'_>) -> Option<usize>
     ensures none { IfNone result (All (λ l. l.lane < lanes) calls.now) }
     ensures some { IfSome result (IsOutIn lanes calls.now) }
@@ -72,8 +72,8 @@ pub(crate) fn is_refused(settled: &[Result<Dones, LaneFault>]) -> bool
 /// The first of the places at which what came of the lanes is strange, and of another place, if there is one.
 pub(crate) fn first_place(
     settled: &[Result<Dones, LaneFault>],
-    other: Option<Place>,
-) -> Option<Place>
+    other: Option<ListPlace>,
+) -> Option<ListPlace>
     ensures { FindsFirst other settled.now result }
 {
     let mut first = other;
@@ -86,7 +86,7 @@ pub(crate) fn first_place(
 }
 
 /// The place at which what came of a lane is strange.
-fn strange_place(settled: &Result<Dones, LaneFault>) -> Option<Place>
+fn strange_place(settled: &Result<Dones, LaneFault>) -> Option<ListPlace>
     ensures { result ≡ place_in settled.now }
 {
     match settled {
@@ -98,7 +98,7 @@ fn strange_place(settled: &Result<Dones, LaneFault>) -> Option<Place>
 }
 
 /// The first of two places, or the one that there is.
-fn earlier(first: Option<Place>, place: Place) -> Place
+fn earlier(first: Option<ListPlace>, place: ListPlace) -> ListPlace
     ensures { IsEarlier first place result }
 {
     let Some(first) = first else {

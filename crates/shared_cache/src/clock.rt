@@ -3,7 +3,7 @@ ghost use Rattle.std.specs.Prelude.{◌≡◌, ◌+◌, ◌<◌, ◌≤◌, ◌^
 ghost use Rattle.shared_cache.specs.Stamps.{new_sight};
 
 use crate::clock_full::ClockFull;
-use crate::clock_rule::{ClockRule, Look, Raise, Twin, View};
+use crate::clock_rule::{ClockLook, ClockRule, Raise, Twin, View};
 use atomic_table::{Seat, Table};
 use std::alloc::{AllocError, Global};
 use std::marker::Model;
@@ -49,7 +49,7 @@ impl Model for ClockSeat {
 }
 
 impl Clock {
-    /// A clock at 0 and so many seats, which have seen 0. `AllocError` where memory was refused.
+    /// A clock at 0 and this many seats, which have seen 0. `AllocError` if memory was refused.
     pub fn new(alloc: Global, seats: u16) -> Result<(Clock, Vec<ClockSeat>), AllocError>
         requires { 0 < seats }
         ensures many { IfOk result (λ r. length r.1.items ≡ seats) }
@@ -69,7 +69,7 @@ impl Clock {
     }
 
     /// A stamp: one more than the greatest of the word and all that the seat has seen. The word and the seat are at
-    /// least there then. `ClockFull` where it would pass the last stamp: then the word is not raised, and the seat has
+    /// least there then. `ClockFull` if it would pass the last stamp: then the word is not raised, and the seat has
     /// seen the last stamp.
     pub fn tick(&self, seat: &mut ClockSeat) -> Result<u64, ClockFull>
         requires { seat.old.clock ≡ self.now }
@@ -82,7 +82,7 @@ impl Clock {
         ensures not_raised { OnErr result (seat.new.raised ≡ seat.old.raised) }
         ensures grows { seat.old.seen ≤ seat.new.seen }
     {
-        let found = self.table.shared.load::<Look>(&mut seat.seat, 0);
+        let found = self.table.shared.load::<ClockLook>(&mut seat.seat, 0);
         seat.seen = seat.seen.max(found);
         if seat.seen == LAST_STAMP {
             return Err(ClockFull);

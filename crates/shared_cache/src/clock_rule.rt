@@ -21,9 +21,9 @@ impl TableRule<(), View, ()> for ClockRule {
 }
 
 // A load of the word.
-pub(crate) struct Look;
+pub(crate) struct ClockLook;
 
-impl Play<(), View> for Look {
+impl Play<(), View> for ClockLook {
     ghost use Rattle.shared_cache.specs.Word.{Looked};
 
     ghost then = { Looked };

@@ -10,7 +10,7 @@ use recorded_lane::{Noted, NotedRef};
 use std::alloc::{AllocError, Global};
 use trace_file::{Act, ActRef};
 
-/// A copy of a recorded call, or `AllocError` where memory was refused.
+/// A copy of a recorded call, or `AllocError` if memory was refused.
 pub(crate) fn copy_of(alloc: Global, call: &NotedRef<'_>) -> Result<Noted, AllocError>
     requires key { IsKey call.now.key.now }
     requires value { IsValue (value_of (act_shown call.now.act)) }

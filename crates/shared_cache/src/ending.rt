@@ -5,7 +5,7 @@ ghost use Rattle.recorded_lane.specs.Points.{noted_in};
 ghost use Rattle.history_recorder.specs.Operations.{lane_of_key};
 ghost use Rattle.certificate_checker.specs.Lanes.{Stamped, stamped};
 ghost use Rattle.shared_cache.specs.Passes.{most_lanes};
-ghost use Rattle.shared_cache.specs.declared.place.Place.{Place};
+ghost use Rattle.shared_cache.specs.declared.list_place.ListPlace.{ListPlace};
 ghost use Rattle.shared_cache.specs.Finished.{weigh_passes};
 ghost use Rattle.shared_cache.specs.Claimed.{IsEnded, IsNoBook, recorded_of};
 ghost use Rattle.shared_cache.specs.Settled.{AreNumbered, AreSettled, IsFaultOf, IsNoEnd, IsNoneStrange, IsNotOwn, LeavesOpen, Settles, recorded_in};
@@ -207,9 +207,9 @@ fn all_settled(
     Ok(lanes)
 }
 
-/// Why a lane was not settled, where it is not that a call is strange.
+/// Why a lane was not settled, if it is not that a call is strange.
 fn fault_of(lane: u32, fault: LaneFault) -> FinishFault
-    requires { (place : Place) → fault ≢ LaneFault.Strange place }
+    requires { (place : ListPlace) → fault ≢ LaneFault.Strange place }
     ensures { IsFaultOf lane fault result }
 {
     match fault {

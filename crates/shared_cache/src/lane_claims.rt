@@ -114,7 +114,7 @@ impl LaneClaims {
     }
 }
 
-/// So many calls with no end.
+/// This many calls with no end.
 fn no_ends(alloc: Global, count: usize) -> Result<Vec<Option<u64>>, AllocError>
     ensures { IfOk result (λ ends. ends.items ≡ replicate count None) }
 {

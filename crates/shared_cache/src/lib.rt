@@ -2,8 +2,8 @@
 //! its callers, and the history that is left of it with an order of its calls.
 #![tactic(auto)]
 
+mod act_answer;
 mod act_fault;
-mod acted;
 mod asked;
 mod books;
 mod cache;
@@ -20,19 +20,19 @@ mod finished;
 mod lane_claims;
 mod lane_fault;
 mod lane_left;
+mod list_place;
 mod listed_calls;
 mod listed_entry;
 mod listed_ref;
 mod moved;
 mod open_cache_fault;
 mod opening;
-mod outcome;
 mod performing;
-mod place;
+mod response;
 mod settling;
 
+pub use act_answer::ActAnswer;
 pub use act_fault::ActFault;
-pub use acted::Acted;
 pub use asked::Asked;
 pub use books::{LaneBook, Pass};
 pub use cache::SharedCache;
@@ -43,4 +43,4 @@ pub use finish_fault::FinishFault;
 pub use finished::Finished;
 pub use moved::Moved;
 pub use open_cache_fault::OpenCacheFault;
-pub use outcome::Outcome;
+pub use response::Response;

@@ -1,5 +1,5 @@
 // What a pass keeps of a call that it lists.
-use trace_file::Entry;
+use trace_file::StoredCall;
 
 /// What a pass keeps of a call that it lists, whose bytes lie in the pass's store.
 #[derive(Clone, Copy, Debug)]
@@ -11,5 +11,5 @@ pub(crate) struct ListedEntry {
     /// The stamp at which it ended. Until that is drawn it is the call's point.
     pub(crate) end: u64,
     /// The call, as the lane recorded it, with its point for its end.
-    pub(crate) entry: Entry,
+    pub(crate) entry: StoredCall,
 }

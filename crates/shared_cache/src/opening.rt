@@ -14,7 +14,7 @@ use std::alloc::{AllocError, Global};
 use std::collections::VecDeque;
 use std::sync::Mutex;
 
-/// A pass for each of so many callers, numbered from 0, each with one of the clock's new seats.
+/// A pass for each of this many callers, numbered from 0, each with one of the clock's new seats.
 pub(crate) fn passes_of(
     alloc: Global,
     clock: &Clock,

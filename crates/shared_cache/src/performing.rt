@@ -6,7 +6,7 @@ ghost use Rattle.shared_cache.specs.Acts.{ActGives, ActLeaves, IsFitting, asked_
 
 use crate::act_fault::ActFault;
 use crate::asked::Asked;
-use crate::outcome::Outcome;
+use crate::response::Response;
 use page_device::{Boxed, PageDevice};
 use recorded_lane::RecordedLane;
 
@@ -17,7 +17,7 @@ pub(crate) fn perform<D: PageDevice<PAGE>, const PAGE: usize>(
     start: u64,
     point: u64,
     asked: Asked<'_>,
-) -> Result<Outcome, ActFault>
+) -> Result<Response, ActFault>
     requires start { start < point }
     requires rises { All (λ n. n.point < point) lane.old.calls }
     requires own { IsOfLane lane.old.store.layout lane.old.lane (key_of (asked_shown asked)) }
@@ -36,17 +36,17 @@ pub(crate) fn perform<D: PageDevice<PAGE>, const PAGE: usize>(
 {
     match asked {
         Asked::Get(key, moment) => match lane.get(caller, start, point, key, moment) {
-            Ok(answer) => Ok(Outcome::Got(answer)),
+            Ok(answer) => Ok(Response::Got(answer)),
             Err(_) => Err(ActFault::OutOfMemory),
         },
         Asked::Put(key, value, word, expires) => {
             match lane.put(caller, start, point, key, value, word, expires) {
-                Ok(pushed) => Ok(Outcome::Stored(pushed)),
+                Ok(pushed) => Ok(Response::Stored(pushed)),
                 Err(_) => Err(ActFault::OutOfMemory),
             }
         }
         Asked::Remove(key) => match lane.remove(caller, start, point, key) {
-            Ok(()) => Ok(Outcome::Removed),
+            Ok(()) => Ok(Response::Removed),
             Err(_) => Err(ActFault::OutOfMemory),
         },
     }

@@ -7,8 +7,8 @@ ghost use Rattle.shared_cache.specs.Settled.{IsMade, IsStrangeIn, IsStrangeAt, S
 use crate::lane_claims::{LaneClaims, Unready};
 use crate::lane_fault::LaneFault;
 use crate::lane_left::LaneLeft;
+use crate::list_place::ListPlace;
 use crate::listed_calls::ListedCalls;
-use crate::place::Place;
 use history_recorder::Dones;
 use std::alloc::Global;
 
@@ -36,7 +36,7 @@ pub(crate) fn settle(
 }
 
 /// Claims the calls that are listed of a lane, in their order, up to the first that is not the lane's own.
-fn claim_listed(claims: &mut LaneClaims, lane: u32, lists: &[ListedCalls<'_>]) -> Option<Place>
+fn claim_listed(claims: &mut LaneClaims, lane: u32, lists: &[ListedCalls<'_>]) -> Option<ListPlace>
     requires { IsMade lane claims.old [] }
     ensures calls { claims.new.calls ≡ claims.old.calls }
     ensures made { IfNone result (IsMade lane claims.new (all_in lists.now)) }
@@ -44,13 +44,13 @@ fn claim_listed(claims: &mut LaneClaims, lane: u32, lists: &[ListedCalls<'_>]) -
 {
     for pass in 0..lists.len() {
         if let Some(call) = claim_calls(claims, lane, &lists[pass]) {
-            return Some(Place { pass, call });
+            return Some(ListPlace { pass, call });
         }
     }
     None
 }
 
-/// Claims the calls that are listed of a lane in one list, in their order, up to the first that is not the lane's own, behind those
+/// Claims the calls that are listed of a lane in one list, in their order, up to the first that is not the lane's own, after those
 /// that made the claims that there are.
 fn claim_calls(claims: &mut LaneClaims, lane: u32, calls: &ListedCalls<'_>) -> Option<usize>
     ensures calls { claims.new.calls ≡ claims.old.calls }

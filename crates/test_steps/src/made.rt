@@ -5,7 +5,7 @@ use record_pages::{Key, Value};
 use std::alloc::Global;
 use std::test::Fail;
 
-/// The key of these bytes. It fails where they are no key, or memory was refused twice.
+/// The key of these bytes. It fails if they are no key, or memory was refused twice.
 pub fn key(alloc: Global, bytes: &[u8]) -> Result<Key, Fail>
     ensures { IfOk result (λ key. key ≡ bytes.now) }
 {
@@ -15,7 +15,7 @@ pub fn key(alloc: Global, bytes: &[u8]) -> Result<Key, Fail>
     }
 }
 
-/// The value of these bytes. It fails where there are too many, or memory was refused twice.
+/// The value of these bytes. It fails if there are too many, or memory was refused twice.
 pub fn value(alloc: Global, bytes: &[u8]) -> Result<Value, Fail>
     ensures { IfOk result (λ value. value ≡ bytes.now) }
 {

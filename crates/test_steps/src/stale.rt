@@ -29,8 +29,8 @@ impl<const PAGE: usize> Model for StaleDevice<PAGE> {
 }
 
 impl<const PAGE: usize> StaleDevice<PAGE> {
-    /// A device of pages of zeros, of which this one goes stale after so many writes, from the start where they are 0. A page
-    /// that the device has not may be named: then none goes stale. `AllocError` where memory was refused.
+    /// A device of pages of zeros, of which this one goes stale after this many writes, from the start if they are 0. A page
+    /// that the device has not may be named: then none goes stale. `AllocError` if memory was refused.
     pub fn new(alloc: Global, pages: u32, page: u32, writes: u32) -> Result<Self, AllocError>
         ensures { IfOk result (λ device. device ≡ new_stale PAGE pages page writes) }
     {

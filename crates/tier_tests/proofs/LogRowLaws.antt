@@ -1,4 +1,4 @@
--- Entries that are left where others are dropped.
+-- Entries that are left if others are dropped.
 use Rattle.std.proofs.Common.{◌≡◌, ℕ, Bool, true, false, cond, not, eqb, List, [], ◌∷◌, length, map, filter, Option, Some, All, Contains, slice_get, refl, sym, ap, subst, ◌∙◌, arith}
 use Rattle.std.specs.Prelude.{◌≢◌, find, IsSomeAnd, None, IsTrue, Result, Ok, Err}
 use Rattle.std.specs.declared.alloc.AllocError.{AllocError}
@@ -62,7 +62,7 @@ on_it segment page e h =
     let both = and_parts (eqb e.place.segment segment) (eqb e.place.page page) h in
     (eqb-true e.place.segment segment both.0, eqb-true e.place.page page both.1)
 
--- where a page's entries are dropped, one that is not on it stays
+-- if a page's entries are dropped, one that is not on it stays
 pub off_page : (segment page : ℕ) (es : List Entry) (other : Entry) → Contains es other → (other.place.page ≡ page → other.place.segment ≢ segment) → Contains (without (is_on segment page) es) other
 off_page segment page es other there apart = kept (λ e. not (is_on segment page e)) es other there (step (is_on segment page other) refl)
   where
@@ -70,7 +70,7 @@ off_page segment page es other there apart = kept (λ e. not (is_on segment page
     step false is = ap not is
     step true is = absurd (apart (on_it segment page other is).1 (on_it segment page other is).0)
 
--- and where one is gone, one on another page stays
+-- and if one is gone, one on another page stays
 pub one_page : (segment page : ℕ) (es : List Entry) (gone other : Entry) → Contains es gone → Contains es other → (Contains (without (is_on segment page) es) gone → ⊥) → AreOnOthers other gone
     → Contains (without (is_on segment page) es) other
 one_page segment page es gone other was there lost apart = step (is_on segment page gone) refl
@@ -130,7 +130,7 @@ left_by_readmit bytes old new e a names held leaves other there apart = step a l
         subst (λ (k : LogState). Contains k.entries other) (sym h.added)
         (Contains-append_right (entry_for bytes (taker bytes k r) r ∷ []) (taker bytes k r).entries other (subst (λ (es : List Entry). Contains es other) (sym (taker_entries bytes k r)) entry_gone))
 
--- no entry with a tag is left where those with it are dropped
+-- no entry with a tag is left if those with it are dropped
 pub none_with : (set tag : ℕ) (es : List Entry) → of_tag set tag (without (has_tag set tag) es) ≡ []
 none_with set tag [] = refl
 none_with set tag (x ∷ es) = step (has_tag set tag x) refl (none_with set tag es)
@@ -149,7 +149,7 @@ none_to_read k es none = subst (λ (es : List Entry). AreBuffered k es) (sym non
 no_slot : (es : List Entry) (i : ℕ) (e : Entry) → es ≡ [] → slice_get es i ≡ Some e → ⊥
 no_slot es i e none at = let within = slice_get_within es i e at in let empty : length es ≡ 0 = ap length none in omega (arith, within, empty)
 
--- where no entry has the tag a look answers Absent
+-- if no entry has the tag a look answers Absent
 pub absent_where_none : (bytes : ℕ) (k new : LogState) (set tag : ℕ) (key : List ℕ) (moment : ℕ) (result : Result Looked AllocError) (nc : Type 0) → of_tag set tag k.entries ≡ []
     → LooksAt bytes no_pages k set tag key moment result new nc → result ≡ Ok looked.Absent
 absent_where_none bytes k new set tag key moment (Ok (looked.Hit value)) nc none at = absurd (no_slot (of_tag set tag k.entries) at.reached.behind at.entry none at.reached.at)
@@ -159,7 +159,7 @@ absent_where_none bytes k new set tag key moment (Ok looked.Fault) nc none at = 
 absent_where_none bytes k new set tag key moment (Ok looked.Damaged) nc none at = absurd (no_slot (of_tag set tag k.entries) at.reached.behind at.entry none at.reached.at)
 absent_where_none bytes k new set tag key moment (Err x) nc none at = absurd (no_slot (of_tag set tag k.entries) at.reached.behind at.entry none at.reached.at)
 
--- entries of other sets stay where taken records are dropped
+-- entries of other sets stay if taken records are dropped
 pub off_set : (k : LogState) (set : ℕ) (ts : List TakenRecord) (other : Entry) → Contains k.entries other → other.set ≢ set → Contains (dropped k set ts).entries other
 off_set k set ts other there apart = kept (λ e. not (is_taken k set ts e)) k.entries other there (step (is_taken k set ts other) refl)
   where
@@ -178,7 +178,7 @@ first_kept p q (y ∷ ys) x at is = step (p y) (q y) refl refl (λ h. first_kept
     step false true py qy later = let here : find p ys ≡ Some x = grind (arith, at, py) in simp (qy, py) (later here)
     step false false py qy later = let here : find p ys ≡ Some x = grind (arith, at, py) in simp qy (later here)
 
--- what is the newest of a key is the newest behind a step of flushing, if it is not on the page that may be lost
+-- what is the newest of a key is the newest after a step of flushing, if it is not on the page that may be lost
 pub newest_still : (old : LogState) (a : Flushed) (live seen : List (Entry × Rec)) (key : List ℕ) (x : Entry × Rec) → seen ≡ live_flushed old a live → newest_with live key ≡ Some x
     → is_on_page old (flushed_number old) old.done x.0 ≡ false → newest_with seen key ≡ Some x
 newest_still old a live seen key x is at apart = subst (λ (xs : List (Entry × Rec)). newest_with xs key ≡ Some x) (sym is) (step (is_page_lost a))
@@ -187,7 +187,7 @@ newest_still old a live seen key x is at apart = subst (λ (xs : List (Entry × 
     step true = first_kept (λ x. has_key key x.1) (λ x. not (is_on_page old (flushed_number old) old.done x.0)) live x at (ap not apart)
     step false = at
 
--- so a look behind it does not answer that it is absent
+-- so a look after it does not answer that it is absent
 pub not_absent : (live : List (Entry × Rec)) (key : List ℕ) (moment : ℕ) (x : Entry × Rec) (old : LogState) (a : Looked) (new : LogState) (after : List (Entry × Rec)) → newest_with live key ≡ Some x
     → LogLookGives live key moment old a new after → ◌≡◌ {A = Result Looked AllocError} (Ok a) (Ok looked.Absent) → ⊥
 not_absent live key moment x old looked.Absent new after there h is = let none : None ≡ Some x = sym h.0 ∙ there in grind (arith, none)
@@ -219,7 +219,7 @@ mapped f (x ∷ es) =
     All-cons (λ y. Contains (f x ∷ map f es) (f y)) x es (0, omega arith, refl)
     (All-weaker (λ y. Contains (map f es) (f y)) (λ y. Contains (f x ∷ map f es) (f y)) (λ y h. Contains-append_right (f x ∷ []) (map f es) (f y) h) es (mapped f es))
 
--- where entries of a kind are lowered, an entry stays as its kind says
+-- if entries of a kind are lowered, an entry stays as its kind says
 lowered_by : (p : Entry → Bool) (es : List Entry) (e : Entry) (b : Bool) → p e ≡ b → Contains es e → Contains (with_lowered p es) (cond b (lowered e) e)
 lowered_by p es e b is h =
     subst (λ (c : Bool). Contains (with_lowered p es) (cond c (lowered e) e)) is
@@ -242,7 +242,7 @@ pub as_many : (old new : LogState) (e : Entry) → new ≡ lowered_in old e.set 
 as_many old new e is = ap (λ (k : LogState). length k.entries) is ∙ length-map old.entries (λ x. cond (is_in e.set e.place x) (lowered x) x)
 
 module _ {D : Type 0} {size : ℕ} {pages : D → ℕ} {honest : D → Bool} {failures : D → ℕ} {held : D → ℕ → Option (List ℕ)} {placed : Placed} {key : List ℕ} {moment : ℕ} {k : LogState} {device : D} {was : List ℕ} {f : LocatedInLog} {device' : D} {buffer : List ℕ} where
-  -- what is located is what a look-up answers, where the log is left with the entry of a hit touched
+  -- what is located is what a look-up answers, if the log is left with the entry of a hit touched
   pub looks_of : (new : LogState) → LogLocates size pages honest failures held placed key moment k device was f device' buffer → new ≡ log_after f k → new.shape ≡ k.shape → ((on : ℕ → Option (List ℕ)) → IsSpelledOn size on k → IsSpelledOn size on new)
       → LogLooks size pages honest failures held placed key moment k device (Ok (looked_of f buffer)) new device'
   looks_of new h is shape spelled =

@@ -53,6 +53,6 @@ hit_or_damaged value same = cc
 pub absent_or_damaged : ◌≢◌ {A = Result Looked AllocError} (Ok looked.Absent) (Ok looked.Damaged)
 absent_or_damaged same = cc
 
--- no records are read where the page is lost
+-- no records are read if the page is lost
 pub none_read : (answer : Result SetRead AllocError) (records : List SetRecord) → answer ≡ Ok read.PageLost → answer ≢ Ok (read.Records records)
 none_read answer records lost same = let both : ◌≡◌ {A = Result SetRead AllocError} (Ok (read.Records records)) (Ok read.PageLost) = sym same ∙ lost in cc

@@ -10,7 +10,7 @@ pub record OwnerState (D : Type 0) : Type 0 where
   pub device : D
   pub log : LogState
 
--- The log has the layout's numbers, the device has its pages, and where it is honest each live record is known.
+-- The log has the layout's numbers, the device has its pages, and if it is honest each live record is known.
 pub record IsOwner {D : Type 0} (size : ℕ) (layout : Layout) (pages : D → ℕ) (honest : D → Bool) (held : D → ℕ → Option (List ℕ)) (o : OwnerState D) : Type 0 where
   pub shape : o.log.shape ≡ shape_of layout
   pub room : HasRoom (pages o.device) o.log

@@ -3,7 +3,7 @@ use Rattle.std.proofs.Common.{◌≡◌, ℕ, ◌+◌, ◌-◌, ◌≤◌, List,
 use Rattle.std.proofs.lemmas.List.{length-take-le, length_push, get_or_append_left, get_or_push, map_push, take-append-drop}
 use Rattle.std.proofs.Math.Seq.{take-append_seam}
 use Rattle.trace_file.specs.declared.call.Call.{Call}
-use Rattle.trace_file.specs.declared.entry.Entry.{Entry}
+use Rattle.trace_file.specs.declared.stored_call.StoredCall.{StoredCall}
 use Rattle.trace_file.specs.Stored.{call_in, calls_in, LiesIn, AreStored}
 use Rattle.trace_file.proofs.public_laws.StoreLaws.{calls_in-more}
 
@@ -14,7 +14,7 @@ before_last xs x =
     ap (λ m. take m (xs ++ x ∷ [])) n ∙ take-append_seam xs (x ∷ [])
 
 -- an entry before the last lies before the last one's bytes
-lies_before : (size : ℕ) (a e : Entry) → LiesIn size a → a.offset + a.key_len + a.value_len ≤ e.offset → LiesIn e.offset a
+lies_before : (size : ℕ) (a e : StoredCall) → LiesIn size a → a.offset + a.key_len + a.value_len ≤ e.offset → LiesIn e.offset a
 lies_before size a e lies before = record {
   caller = lies.caller;
   start = lies.start;
@@ -26,7 +26,7 @@ lies_before size a e lies before = record {
   room = before;
 }
 
-module _ (store : List ℕ) (front : List Entry) (e : Entry) (stored : AreStored (length store) (front ++ e ∷ [])) where
+module _ (store : List ℕ) (front : List StoredCall) (e : StoredCall) (stored : AreStored (length store) (front ++ e ∷ [])) where
   -- the store up to the last entry's bytes
   abbrev kept : List ℕ
   kept = take e.offset store
@@ -46,16 +46,16 @@ module _ (store : List ℕ) (front : List Entry) (e : Entry) (stored : AreStored
       let last : get_or (front ++ e ∷ []) (length front) d ≡ e = get_or_push front e d (length front) refl in
       let lies = subst (LiesIn (length store)) here (stored.lie k d (omega (arith, all))) in
       let before = stored.behind k (length front) d within (omega (arith, all)) in
-      let before' = subst (λ (a : Entry). a.offset + a.key_len + a.value_len ≤ (get_or (front ++ e ∷ []) (length front) d).offset) here before in
-      lies_before (length store) (get_or front k d) e lies (subst (λ (b : Entry). (get_or front k d).offset + (get_or front k d).key_len + (get_or front k d).value_len ≤ b.offset) last before')
+      let before' = subst (λ (a : StoredCall). a.offset + a.key_len + a.value_len ≤ (get_or (front ++ e ∷ []) (length front) d).offset) here before in
+      lies_before (length store) (get_or front k d) e lies (subst (λ (b : StoredCall). (get_or front k d).offset + (get_or front k d).key_len + (get_or front k d).value_len ≤ b.offset) last before')
 
-  still_behind : AllPairs (λ (a b : Entry). a.offset + a.key_len + a.value_len ≤ b.offset) front
+  still_behind : AllPairs (λ (a b : StoredCall). a.offset + a.key_len + a.value_len ≤ b.offset) front
   still_behind i j d less within =
       let first : get_or (front ++ e ∷ []) i d ≡ get_or front i d = get_or_append_left front (e ∷ []) d i (omega arith) in
       let second : get_or (front ++ e ∷ []) j d ≡ get_or front j d = get_or_append_left front (e ∷ []) d j within in
       let before = stored.behind i j d less (omega (arith, all)) in
-      let before' = subst (λ (a : Entry). a.offset + a.key_len + a.value_len ≤ (get_or (front ++ e ∷ []) j d).offset) first before in
-      subst (λ (b : Entry). (get_or front i d).offset + (get_or front i d).key_len + (get_or front i d).value_len ≤ b.offset) second before'
+      let before' = subst (λ (a : StoredCall). a.offset + a.key_len + a.value_len ≤ (get_or (front ++ e ∷ []) j d).offset) first before in
+      subst (λ (b : StoredCall). (get_or front i d).offset + (get_or front i d).key_len + (get_or front i d).value_len ≤ b.offset) second before'
 
   stored_without : AreStored (length kept) front
   stored_without = record {
@@ -72,12 +72,12 @@ module _ (store : List ℕ) (front : List Entry) (e : Entry) (stored : AreStored
       sym same ∙ ap (λ s. calls_in s front) whole
       ∙ sym (ap (λ (cs : List Call). take (length cs - 1) cs) pushed ∙ before_last (calls_in store front) (call_in store e))
 
--- the same, of lists that are told by equations
-pub stored_after_drop : (store new : List ℕ) (es front : List Entry) (e : Entry) → AreStored (length store) es → es ≡ front ++ e ∷ [] → new ≡ take e.offset store → AreStored (length new) front
+-- the same, of lists that are given by equations
+pub stored_after_drop : (store new : List ℕ) (es front : List StoredCall) (e : StoredCall) → AreStored (length store) es → es ≡ front ++ e ∷ [] → new ≡ take e.offset store → AreStored (length new) front
 stored_after_drop store new es front e stored is cut =
     subst (λ s. AreStored (length s) front) (sym cut) (stored_without store front e (subst (AreStored (length store)) is stored))
 
-pub calls_after_drop : (store new : List ℕ) (es front : List Entry) (e : Entry) (calls : List Call) → AreStored (length store) es → calls_in store es ≡ calls → es ≡ front ++ e ∷ [] → new ≡ take e.offset store
+pub calls_after_drop : (store new : List ℕ) (es front : List StoredCall) (e : StoredCall) (calls : List Call) → AreStored (length store) es → calls_in store es ≡ calls → es ≡ front ++ e ∷ [] → new ≡ take e.offset store
     → calls_in new front ≡ take (length calls - 1) calls
 calls_after_drop store new es front e calls stored are is cut =
     ap (λ s. calls_in s front) cut

@@ -40,7 +40,7 @@ pub not_short : {A : Type 0} (b : Bool) (x : A) (f : TraceFault) → ◌≡◌ {
 not_short true x f e = cc
 not_short false x f e = cc
 
--- a last step that only puts a value in front meets no fault
+-- a last step that only puts a value first meets no fault
 not_last : {A : Type 0} (r : Read (List A)) (x : A) (f : TraceFault) → in_front (x ∷ []) r ≡ Err (Fault f) → r ≡ Err (Fault f)
 not_last (Ok others) x f e = absurd cc
 not_last (Err d) x f e = cc
@@ -60,11 +60,11 @@ bind_err (Err d') f d e = at_first cc
 pub ok_is : {A : Type 0} (x y : A) → ◌≡◌ {A = Result A Stop} (Ok x) (Ok y) → x ≡ y
 ok_is x y e = cc
 
--- the same place with more bytes behind it
+-- the same place with more bytes after it
 abbrev pub longer : Place → List ℕ → Place
 longer p more = place p.at (p.bytes ++ more)
 
--- a text stands here, and the other place is behind it
+-- a text stands here, and the other place is after it
 pub record Takes (p : Place) (text : List ℕ) (q : Place) : Type 0 where
   pub parts : p.bytes ≡ text ++ q.bytes
   pub at : q.at ≡ p.at + length text
@@ -121,7 +121,7 @@ pure_format {A} y = record {
   kind = λ p f e. absurd cc;
 }
 
--- one format behind another: what the second reads says what the first read
+-- one format after another: what the second reads says what the first read
 module _ {A B : Type 0} (read : Place → Read A) (text : A → List ℕ) (lawful : A → Type 0)
     (read' : ℕ → A → Place → Read B) (text' : B → List ℕ) (lawful' : A → B → Type 0) (back : B → A)
     (first : IsFormat read text lawful) (second : (at : ℕ) (x : A) → IsFormat (read' at x) text' (lawful' x)) (only : (x : A) (y : B) → lawful x → lawful' x y → back y ≡ x) where
@@ -214,7 +214,7 @@ bytes_again n at x rest len =
     let long : ltb (length (x ++ rest)) n ≡ false = le-ltb _ _ (omega (arith, len, length-append x rest)) in
     rw (long, take_at x rest n len, drop_at x rest n len, len) refl
 
--- so many bytes
+-- n bytes
 pub bytes_format : (n : ℕ) → IsFormat (bytes_at n) (λ bytes. bytes) (λ bytes. length bytes ≡ n)
 bytes_format n = record {
   takes = λ p x q fits e. let t = bytes_takes n p x q fits e in (t.0, t.1.1);
@@ -396,6 +396,6 @@ module _ {A : Type 0} {item : Place → Read A} {text : A → List ℕ} {lawful 
         | at_second x e' g ↦ many_kind n x.1 f (not_last (many_at item n x.1) x.0 f (sym (first_in_front x.0 (many_at item n x.1)) ∙ g))
       ]
 
-  -- so many items
+  -- n items
   pub many_format : (n : ℕ) → IsFormat (many_at item n) (flat_map text) (AreItems n)
   many_format n = record { takes = many_take n; again = many_again n; stays = many_stay n; kind = many_kind n }

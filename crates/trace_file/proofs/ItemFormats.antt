@@ -388,7 +388,7 @@ none_of : (b : Bool) (x : ℕ) → cond b (Some x) None ≡ None → b ≡ false
 none_of true x e = absurd cc
 none_of false x e = refl
 
--- where no byte differs the bytes are those
+-- if no byte differs the bytes are those
 pub same_from_none : (bytes others : List ℕ) → length bytes ≡ length others → first_difference bytes others ≡ None → bytes ≡ others
 same_from_none bytes others len e =
     let test = none_of (ltb (prefix_len (λ p. not (not (eqb p.0 p.1))) (zip bytes others)) (length (zip bytes others))) (prefix_len (λ p. not (not (eqb p.0 p.1))) (zip bytes others)) e in

@@ -171,7 +171,7 @@ number_is_there : (w : Width) (at : ℕ) (bytes rest : List ℕ) → length byte
 unfolding number_at
 number_is_there w at bytes rest len = ap (λ (r : Read (List ℕ)). r >>= λ b. Ok (from_be_bytes w b.0, b.1)) ((bytes_format (byte_len w)).again at bytes rest len)
 
--- behind the head of a call its key is read
+-- after the head of a call its key is read
 record Headed (version : Version) (kind : Kind) (at : ℕ) (head rest : List ℕ) : Type 0 where
   pub caller : ℕ
   pub start : ℕ
@@ -266,7 +266,7 @@ value_met version bytes at s start =
 
 -- ---- among the calls
 
--- what is wrong with the call behind a header and calls, fewer than it counts, is what is met
+-- what is wrong with the call after a header and calls, fewer than it counts, is what is met
 behind_calls : (bytes front rest : List ℕ) (f : TraceFault) (a : AreCalls front) → bytes ≡ front ++ rest → call_at a.version (place (length front) rest) ≡ Err (Fault f) → first_fault_of bytes ≡ Some f
 unfolding trace_at first_fault_of many_at
 behind_calls bytes front rest f a split wrong =

@@ -137,7 +137,7 @@ behind_by : (header : Option Header) (h : List Call) (c : List ℕ) (at : ℕ) (
 behind_by None h c at pending is at-is = ap (λ (i : ℕ). trace_at (place i pending)) (sym at-is)
 behind_by (Some n) h c at pending is at-is = goes_on n h c pending is ∙ ap (λ (i : ℕ). read_behind (Some n) h c (place i pending)) (sym at-is)
 
--- what is read of the whole stream is what is read behind that which was taken
+-- what is read of the whole stream is what is read after what was taken
 behind_is : (t : Taken) (at : ℕ) (pending : List ℕ) → StartsOn t at pending → trace_at (place 0 (stream_of t pending)) ≡ read_behind t.header t.history t.certificate (place at pending)
 behind_is t at pending starts = behind_by t.header t.history t.certificate at pending starts.taken_is starts.at_is
 
@@ -176,7 +176,7 @@ module _ {old : Taken} {at : ℕ} {pending : List ℕ} (starts : StartsOn old at
       let e : trace_at (place 0 (stream_of old pending)) ≡ Err (Fault f) = behind_is old at pending starts ∙ fails known in
       ap met (trace_stays (place 0 (stream_of old pending)) f more (bytes_from_All (stream_of old pending) starts.are_bytes) e)
 
--- a piece was put behind the pending bytes
+-- a piece was put after the pending bytes
 pub starts_from : (t : Taken) (at : ℕ) (pending piece now : List ℕ) → at < 2 ^ 40 → IsReading t at pending → All (λ byte. byte < 256) piece → now ≡ pending ++ piece → StartsOn t at now
 starts_from t at pending piece now small is bytes grown =
     let text = text_so_far t.header t.history t.certificate in

@@ -180,7 +180,7 @@ header_stands bytes f fits e =
 
 -- ---- a call
 
--- where a fault of a call stands, behind a place
+-- where a fault of a call stands, after a place
 abbrev CallStands : Place → TraceFault → Type 0
 CallStands p (BadKind at) = (kind : ℕ) × (more : List ℕ) × (p.bytes ≡ kind ∷ more) × (¬ IsKind kind) × (at ≡ p.at)
 CallStands p (BadKey at) = (head : List ℕ) × IsHead head × (more : List ℕ) × (p.bytes ≡ head ++ (0 ∷ more)) × (at ≡ p.at + length head)
@@ -254,7 +254,7 @@ unfolding time_at
 no_fault_in_time Timed meant p f e = no_fault_in_number w64 p f e
 no_fault_in_time Timeless meant p f e = not_ok (meant, p) f e
 
--- a time behind a value, and the act that has both
+-- a time after a value, and the act that has both
 abbrev pub timed_at : Version → ℕ → (List ℕ → ℕ → Act) → List ℕ → Place → Read Act
 timed_at version meant make value p = time_at version meant p >>= λ time. Ok (make value time.0, time.1)
 
@@ -354,7 +354,7 @@ call_stands version p f fits e =
 
 -- ---- among the calls, and at the end
 
--- behind some calls, fewer than these, stands what is wrong with the next
+-- after some calls, fewer than these, stands what is wrong with the next
 pub record AmongCalls (version : Version) (n : ℕ) (p : Place) (f : TraceFault) : Type 0 where
   pub calls : List Call
   pub behind : Place

@@ -61,7 +61,7 @@ one_pair bytes h g c d a b =
     let pairs : pair_of h c ≡ pair_of g d = cc in
     (ap (λ (t : Trace). t.history) pairs, ap (λ (t : Trace). t.certificate) pairs)
 
--- bytes behind a trace are a fault
+-- bytes after a trace are a fault
 pub behind_trace : (version : Version) (h : List Call) (c more : List ℕ) → IsPairOf version h c → 0 < length more → trace_at (place 0 (text_of version h c ++ more)) ≡ Err (Fault (TrailingBytes (length (text_of version h c))))
 unfolding text_of counted_text
 behind_trace version h c more is some =

@@ -5,14 +5,14 @@ use Rattle.trace_file.specs.declared.act.Act.{Act}
 use Rattle.trace_file.specs.declared.act.Act.TheVariants.{Put, Remove, Hit, Miss}
 use Rattle.trace_file.specs.declared.call.Call.{Call}
 
--- the bytes of the value that an act speaks of, none where it speaks of none
+-- the bytes of the value that an act speaks of, none if it speaks of none
 abbrev pub value_of : Act → List ℕ
 value_of (Put value expires) = value
 value_of Remove = []
 value_of (Hit value moment) = value
 value_of Miss = []
 
--- when what an act put expires, or the moment that it was asked for, 0 where it speaks of no time
+-- when what an act put expires, or the moment that it was asked for, 0 if it speaks of no time
 abbrev pub time_of : Act → ℕ
 time_of (Put value expires) = expires
 time_of Remove = 0

@@ -4,7 +4,7 @@ use Rattle.std.specs.Fmt.{decimal}
 use Rattle.trace_file.specs.declared.trace_fault.TraceFault.{TraceFault}
 use Rattle.trace_file.specs.declared.trace_fault.TraceFault.TheVariants.{BadMagic, TooMany, BadKind, BadKey, BadValue, Truncated, TrailingBytes, ReadFault, OutOfMemory}
 
--- a fault of reading: its name, and the offset where it has one
+-- a fault of reading: its name, and the offset if it has one
 abbrev pub trace_fault_text : TraceFault → List ℕ
 trace_fault_text (BadMagic at) = codes "BadMagic at " ++ decimal at
 trace_fault_text (TooMany at) = codes "TooMany at " ++ decimal at

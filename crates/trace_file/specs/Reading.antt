@@ -26,7 +26,7 @@ pub record Place : Type 0 where
 abbrev pub place : ℕ → List ℕ → Place
 place at bytes = record { at = at; bytes = bytes }
 
--- what reading at a place gives: a value and the place behind it, or why there is none
+-- what reading at a place gives: a value and the place after it, or why there is none
 abbrev pub Read : Type 0 → Type 0
 Read A = Result (A × Place) Stop
 
@@ -35,7 +35,7 @@ abbrev pub ◌>>=◌ : {A B : Type 0} → Result A Stop → (A → Result B Stop
 (Ok x) >>= f = f x
 (Err e) >>= f = Err e
 
--- so many bytes, once all of them are there
+-- the next n bytes, once all of them are there
 abbrev pub bytes_at : ℕ → Place → Read (List ℕ)
 bytes_at n p = if nat_lt (length p.bytes) n then Err Short else Ok (take n p.bytes, place (p.at + n) (drop n p.bytes))
 
@@ -45,7 +45,7 @@ number_at w p = do
   bytes ← bytes_at (byte_len w) p
   Ok (from_be_bytes w bytes.0, bytes.1)
 
--- the first byte of these, with the place behind it
+-- the first byte of these, with the place after it
 abbrev pub first_at : ℕ → List ℕ → Read ℕ
 first_at at [] = Err Short
 first_at at (b ∷ rest) = Ok (b, place (at + 1) rest)
@@ -53,7 +53,7 @@ first_at at (b ∷ rest) = Ok (b, place (at + 1) rest)
 unfoldable pub byte_at : Place → Read ℕ
 byte_at p = first_at p.at p.bytes
 
--- the value where there is one, else the fault
+-- the value if there is one, otherwise the fault
 abbrev pub or_fault : {A : Type 0} → Option A → TraceFault → Place → Read A
 or_fault (Some x) fault p = Ok (x, p)
 or_fault None fault p = Err (Fault fault)
@@ -84,7 +84,7 @@ unfoldable pub time_at : Version → ℕ → Place → Read ℕ
 time_at Timed meant p = number_at w64 p
 time_at Timeless meant p = Ok (meant, p)
 
--- the act of a kind, with its value and its time where it has them
+-- the act of a kind, with its value and its time if it has them
 unfoldable pub act_at : Version → Kind → Place → Read Act
 act_at version Put p = do
   value ← value_at p
@@ -138,7 +138,7 @@ header_at p = do
   count ← count_at version.1
   Ok (header_of version.0 count.0, count.1)
 
--- so many items, one after the other
+-- n items, one after the other
 unfoldable pub many_at : {A : Type 0} → (Place → Read A) → ℕ → Place → Read (List A)
 many_at item zero p = Ok ([], p)
 many_at item (suc n) p = do
@@ -146,7 +146,7 @@ many_at item (suc n) p = do
   others ← many_at item n first.1
   Ok (first.0 ∷ others.0, others.1)
 
--- the pair, where nothing stands behind it
+-- the pair, if nothing stands after it
 unfoldable pub end_at : Trace → Place → Result Trace Stop
 end_at trace p = if length p.bytes == 0 then Ok trace else Err (Fault (TrailingBytes p.at))
 
@@ -158,7 +158,7 @@ trace_at p = do
   positions ← many_at position_at header.0.count calls.1
   end_at (record { history = calls.0; certificate = positions.0 }) positions.1
 
--- what a whole input of so many bytes gives: the trace, or the first fault
+-- what a whole input of this length gives: the trace, or the first fault
 abbrev pub at_end : ℕ → Result Trace Stop → Result Trace TraceFault
 at_end len (Ok trace) = Ok trace
 at_end len (Err Short) = Err (Truncated len)

@@ -18,7 +18,7 @@ pub record DiffersAt (bytes : List ℕ) (at : ℕ) : Type 0 where
   pub same : take at bytes ≡ take at (magic Timed)
   pub other : slice_index bytes at ≢ slice_index (magic Timed) at
 
--- behind a magic stands a count that is above the most calls
+-- after a magic stands a count that is above the most calls
 pub record CountsTooMany (bytes : List ℕ) (at : ℕ) : Type 0 where
   pub version : Version
   pub count : ℕ
@@ -50,7 +50,7 @@ pub record IsHead (head : List ℕ) : Type 0 where
   pub known : IsKind kind
   pub long : length numbers ≡ 18
 
--- behind the header and calls, fewer than it counts, stands a byte that is no kind
+-- after the header and calls, fewer than it counts, stands a byte that is no kind
 pub record HasBadKind (bytes : List ℕ) (at : ℕ) : Type 0 where
   pub front : List ℕ
   pub before : AreCalls front
@@ -60,7 +60,7 @@ pub record HasBadKind (bytes : List ℕ) (at : ℕ) : Type 0 where
   pub unknown : ¬ IsKind kind
   pub at_is : at ≡ length front
 
--- behind them stands the head of a call, and then 0 as the length of its key
+-- after them stands the head of a call, and then 0 as the length of its key
 pub record HasBadKey (bytes : List ℕ) (at : ℕ) : Type 0 where
   pub front : List ℕ
   pub before : AreCalls front
@@ -70,7 +70,7 @@ pub record HasBadKey (bytes : List ℕ) (at : ℕ) : Type 0 where
   pub split : bytes ≡ front ++ (head ++ (0 ∷ more))
   pub at_is : at ≡ length front + length head
 
--- behind them stands the head of a put or a hit, its key, and then a length of its value that is above 2,048
+-- after them stands the head of a put or a hit, its key, and then a length of its value that is above 2,048
 pub record HasBadValue (bytes : List ℕ) (at : ℕ) : Type 0 where
   pub front : List ℕ
   pub before : AreCalls front
@@ -86,7 +86,7 @@ pub record HasBadValue (bytes : List ℕ) (at : ℕ) : Type 0 where
   pub number : len < 2 ^ 16
   pub at_is : at ≡ length front + length head + length (key_text key)
 
--- behind a whole trace stands a byte
+-- after a whole trace stands a byte
 pub record HasMore (bytes : List ℕ) (at : ℕ) : Type 0 where
   pub version : Version
   pub history : List Call

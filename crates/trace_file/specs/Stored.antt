@@ -3,15 +3,15 @@ use Rattle.std.specs.Prelude.{ℕ, ◌+◌, ◌<◌, ◌≤◌, ◌^◌, List, [
 use Rattle.trace_file.specs.declared.act.Act.{Act}
 use Rattle.trace_file.specs.declared.act.Act.TheVariants as acts
 use Rattle.trace_file.specs.declared.call.Call.{Call}
-use Rattle.trace_file.specs.declared.entry.Entry.{Entry}
+use Rattle.trace_file.specs.declared.stored_call.StoredCall.{StoredCall}
 use Rattle.trace_file.specs.declared.kind.Kind.{Kind}
 use Rattle.trace_file.specs.declared.kind.Kind.TheVariants.{Put, Remove, Hit, Miss}
 
--- so many bytes of a store, from a place on
+-- this many bytes of a store, from an offset on
 abbrev pub part : ℕ → ℕ → List ℕ → List ℕ
 part offset len store = take len (drop offset store)
 
--- the act of a kind, with its value and its time where it has them
+-- the act of a kind, with its value and its time if it has them
 abbrev pub act_of : Kind → List ℕ → ℕ → Act
 act_of Put value time = acts.Put value time
 act_of Remove value time = acts.Remove
@@ -19,7 +19,7 @@ act_of Hit value time = acts.Hit value time
 act_of Miss value time = acts.Miss
 
 -- the call that an entry stands for
-unfoldable pub call_in : List ℕ → Entry → Call
+unfoldable pub call_in : List ℕ → StoredCall → Call
 call_in store e = record {
   caller = e.caller;
   start = e.start;
@@ -29,16 +29,16 @@ call_in store e = record {
 }
 
 -- the calls that entries stand for, in their order
-abbrev pub calls_in : List ℕ → List Entry → List Call
+abbrev pub calls_in : List ℕ → List StoredCall → List Call
 calls_in store entries = map (call_in store) entries
 
 -- entries, the first of them each with an end of its own
-abbrev pub each_ended : List Entry → List ℕ → List Entry
+abbrev pub each_ended : List StoredCall → List ℕ → List StoredCall
 each_ended (e ∷ es) (end ∷ ends) = record e { end = end } ∷ each_ended es ends
 each_ended es ends = es
 
--- an entry that lies so many bytes farther, with another end
-abbrev pub moved_by : ℕ → Entry → ℕ → Entry
+-- an entry that lies this many bytes farther, with another end
+abbrev pub moved_by : ℕ → StoredCall → ℕ → StoredCall
 moved_by bytes e end = record {
   start = e.start;
   end = end;
@@ -50,13 +50,13 @@ moved_by bytes e end = record {
   kind = e.kind;
 }
 
--- entries that lie so many bytes farther, each with an end of its own
-abbrev pub each_moved : ℕ → List Entry → List ℕ → List Entry
+-- entries that lie this many bytes farther, each with an end of its own
+abbrev pub each_moved : ℕ → List StoredCall → List ℕ → List StoredCall
 each_moved bytes (e ∷ es) (end ∷ ends) = moved_by bytes e end ∷ each_moved bytes es ends
 each_moved bytes es ends = []
 
--- an entry of a store of so many bytes: its parts lie in it, with lawful lengths
-pub record LiesIn (size : ℕ) (e : Entry) : Type 0 where
+-- an entry of a store of this many bytes: its parts lie in it, with lawful lengths
+pub record LiesIn (size : ℕ) (e : StoredCall) : Type 0 where
   pub caller : e.caller < 2 ^ 16
   pub start : e.start < 2 ^ 64
   pub end : e.end < 2 ^ 64
@@ -66,7 +66,7 @@ pub record LiesIn (size : ℕ) (e : Entry) : Type 0 where
   pub value : e.value_len ≤ 2048
   pub room : e.offset + e.key_len + e.value_len ≤ size
 
--- the entries of a store of so many bytes: each lies in it, and behind those before it
-pub record AreStored (size : ℕ) (entries : List Entry) : Type 0 where
+-- the entries of a store of this many bytes: each lies in it, and after those before it
+pub record AreStored (size : ℕ) (entries : List StoredCall) : Type 0 where
   pub lie : All (LiesIn size) entries
   pub behind : AllPairs (λ a b. a.offset + a.key_len + a.value_len ≤ b.offset) entries

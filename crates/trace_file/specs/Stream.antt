@@ -20,14 +20,14 @@ pair_of history certificate = record { history = history; certificate = certific
 unfoldable pub counted_text : Header → List Call → List ℕ → List ℕ
 counted_text header calls positions = header_text header ++ (flat_map (call_text header.version) calls ++ flat_map position_text positions)
 
--- what is read behind so many of the calls and positions that the header counts
+-- what is read after these of the calls and positions that the header counts
 unfoldable pub counted_at : Header → List Call → List ℕ → Place → Result Trace Stop
 counted_at header calls positions p = do
   more ← many_at (call_at header.version) (header.count - length calls) p
   others ← many_at position_at (header.count - length positions) more.1
   end_at (pair_of (calls ++ more.0) (positions ++ others.0)) others.1
 
--- the calls and positions that a header may have behind it so far
+-- the calls and positions that a header may have after it so far
 pub record IsCounted (header : Header) (history : List Call) (certificate : List ℕ) : Type 0 where
   pub few : header.count ≤ most_calls
   pub within : length history ≤ header.count
@@ -36,7 +36,7 @@ pub record IsCounted (header : Header) (history : List Call) (certificate : List
   pub calls : All (IsCallOf header.version) history
   pub positions : All (λ position. position < 2 ^ 32) certificate
 
--- what was read before, in front of what is read
+-- what was read before, followed by what is read
 abbrev pub in_front : {A : Type 0} → List A → Read (List A) → Read (List A)
 in_front xs (Ok others) = Ok (xs ++ others.0, others.1)
 in_front xs (Err d) = Err d
@@ -61,7 +61,7 @@ abbrev pub text_so_far : Option Header → List Call → List ℕ → List ℕ
 text_so_far None history certificate = []
 text_so_far (Some header) history certificate = counted_text header history certificate
 
--- what is read behind what was taken
+-- what is read after what was taken
 abbrev pub read_behind : Option Header → List Call → List ℕ → Place → Result Trace Stop
 read_behind None history certificate p = trace_at p
 read_behind (Some header) history certificate p = counted_at header history certificate p
@@ -80,7 +80,7 @@ whole (Some header) certificate = length certificate == header.count
 abbrev pub standing : Option Header → List Call → List ℕ → Result Trace Stop
 standing header history certificate = if whole header certificate then Ok (pair_of history certificate) else Err Short
 
--- taking went on from one place to another, and what is read behind is the same
+-- taking went on from one place to another, and what is read after is the same
 pub record GoesOn (header : Header) (old_calls : List Call) (old_positions : List ℕ) (p : Place) (calls : List Call) (positions : List ℕ) (q : Place) : Type 0 where
   pub counted : IsCounted header calls positions
   pub spelled : counted_text header calls positions ++ q.bytes ≡ counted_text header old_calls old_positions ++ p.bytes
@@ -88,12 +88,12 @@ pub record GoesOn (header : Header) (old_calls : List Call) (old_positions : Lis
   pub onward : p.at ≤ q.at
   pub read : counted_at header old_calls old_positions p ≡ counted_at header calls positions q
 
--- behind the header, as much as is whole was taken of the bytes at a place, and reading waits at another
+-- after the header, as much as is whole was taken of the bytes at a place, and reading waits at another
 pub record Settles (header : Header) (old_calls : List Call) (old_positions : List ℕ) (p : Place) (calls : List Call) (positions : List ℕ) (q : Place) : Type 0 where
   pub on : GoesOn header old_calls old_positions p calls positions q
   pub stands : counted_at header calls positions q ≡ standing (Some header) calls positions
 
--- the header is taken, and what is read behind it is what was read before
+-- the header is taken, and what is read after it is what was read before
 pub record Opened (old new : Taken) (p : Place) (opened : Header) (q : Place) : Type 0 where
   pub header : new ≡ record old { header = Some opened }
   pub counted : IsCounted opened old.history old.certificate
@@ -115,7 +115,7 @@ pub record Advances (old new : Taken) (p q : Place) : Type 0 where
   pub onward : p.at ≤ q.at
   pub stands : read_behind old.header old.history old.certificate p ≡ standing new.header new.history new.certificate
 
--- what a reader of pieces knows of the stream that was fed to it: what was taken, with its length, and the bytes behind it
+-- what a reader of pieces knows of the stream that was fed to it: what was taken, with its length, and the bytes after it
 pub record IsReading (taken : Taken) (at : ℕ) (pending : List ℕ) : Type 0 where
   pub taken_is : IsTaken taken.header taken.history taken.certificate
   pub at_is : at ≡ length (text_so_far taken.header taken.history taken.certificate)

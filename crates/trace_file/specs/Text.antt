@@ -40,14 +40,14 @@ abbrev pub time_text : Version → ℕ → List ℕ
 time_text Timed time = to_be_bytes w64 time
 time_text Timeless time = []
 
--- what stands behind the key: the value and its time, where the act has them
+-- what stands after the key: the value and its time, if the act has them
 abbrev pub act_text : Version → Act → List ℕ
 act_text version (Put value expires) = value_text value ++ time_text version expires
 act_text version Remove = []
 act_text version (Hit value moment) = value_text value ++ time_text version moment
 act_text version Miss = []
 
--- a call: kind, caller, start, end, key, and the value and its time where there are any
+-- a call: kind, caller, start, end, key, and the value and its time if there are any
 unfoldable pub call_text : Version → Call → List ℕ
 call_text version c =
     (kind_byte c.act ∷ [])

@@ -21,7 +21,7 @@ impl<'a> ActRef<'a> {
     ghost use Rattle.trace_file.specs.Lent.{act_shown};
     ghost use Rattle.trace_file.specs.Stored.{act_of};
 
-    /// The bytes of the value, none where the act has no value.
+    /// The bytes of the value, none if the act has no value.
     pub fn value(&self) -> &'a [u8]
         ensures { result.now ≡ value_of (act_shown self.now) }
     {
@@ -33,7 +33,7 @@ impl<'a> ActRef<'a> {
         }
     }
 
-    /// The moment at which what it put expires, or at which it was asked for; 0 where the act has none.
+    /// The moment at which what it put expires, or at which it was asked for; 0 if the act has none.
     pub fn time(&self) -> u64
         ensures time { result ≡ time_of (act_shown self.now) }
         ensures small { time_of (act_shown self.now) < 2 ^ 64 }

@@ -45,7 +45,7 @@ impl Certificate {
         self.positions.is_empty()
     }
 
-    /// Puts a position at the next place, or leaves the certificate as it was where memory is refused.
+    /// Puts a position at the next place, or leaves the certificate as it was if memory is refused.
     pub fn push(&mut self, position: u32) -> Result<(), AllocError>
         ensures ok { OnOk result (self.new ≡ self.old ++ position ∷ []) }
         ensures err { OnErr result (self.new ≡ self.old) }

@@ -25,7 +25,7 @@ impl<'a> Cursor<'a> {
     ghost use Rattle.trace_file.specs.Given.{Gives, shown};
     ghost use Rattle.trace_file.specs.Reading.{place, bytes_at, byte_at, number_at};
 
-    /// So many bytes.
+    /// The next `count` bytes.
     pub(crate) fn bytes(self, count: usize) -> Result<(&'a [u8], Cursor<'a>), Stop>
         ensures read { Gives (λ x. (x.0.now, shown x.1)) result (bytes_at count (shown self.entry)) }
         ensures len { IfOk result (λ x. length x.0.now ≡ count) }

@@ -17,7 +17,7 @@ impl Model for FileName {
 }
 
 impl FileName {
-    /// A copy of a name, or `AllocError` where memory was refused.
+    /// A copy of a name, or `AllocError` if memory was refused.
     pub fn new(alloc: Global, name: &str) -> Result<FileName, AllocError>
         ensures { IfOk result (λ file. file ≡ name.now) }
     {

@@ -19,7 +19,7 @@ pub fn read_trace<R: Read>(alloc: Global, reader: &mut R) -> Result<Trace, Trace
     // Whatever is read, a trace has a lawful pair.
     ensures pair { IfOk result (λ trace. IsPair trace.history trace.certificate) }
 
-    // Where the bytes that the reader has left are known:
+    // If the bytes that the reader has left are known:
     ensures found { IfOk result (λ trace. IfSome (R.remaining reader.old) (λ bytes.
         IsTrace bytes trace.history trace.certificate)) }
     ensures fault { IfErr result (λ fault. IfSome (R.remaining reader.old) (λ bytes.

@@ -5,7 +5,7 @@ ghost use Rattle.trace_file.specs.Stored.{each_ended, each_moved};
 
 use crate::call::Call;
 use crate::call_ref::CallRef;
-use crate::entry::Entry;
+use crate::stored_call::StoredCall;
 use std::alloc::{AllocError, Global};
 use std::marker::Model;
 
@@ -14,7 +14,7 @@ use std::marker::Model;
 /// The bytes of all keys and values lie in one store.
 #[derive(Debug, Drop)]
 pub struct History {
-    entries: Vec<Entry>,
+    entries: Vec<StoredCall>,
     store: Vec<u8>,
 }
 
@@ -61,7 +61,7 @@ impl History {
         self.entries.is_empty()
     }
 
-    /// Records a call after the others, or leaves the history as it was where memory is refused.
+    /// Records a call after the others, or leaves the history as it was if memory is refused.
     pub fn push(&mut self, call: Call) -> Result<(), AllocError>
         ensures ok { OnOk result (self.new ≡ self.old ++ call ∷ []) }
         ensures err { OnErr result (self.new ≡ self.old) }
@@ -69,20 +69,20 @@ impl History {
         self.push_ref(&call.lent())
     }
 
-    /// Records a lent call after the others, or leaves the history as it was where memory is refused.
+    /// Records a lent call after the others, or leaves the history as it was if memory is refused.
     pub fn push_ref(&mut self, call: &CallRef<'_>) -> Result<(), AllocError>
         requires { IsCall (call_shown call.now) }
         ensures ok { OnOk result (self.new ≡ self.old ++ call_shown call.now ∷ []) }
         ensures err { OnErr result (self.new ≡ self.old) }
     {
-        let entry = Entry::of(call, self.store.len());
+        let entry = StoredCall::of(call, self.store.len());
         let value = call.act.value();
         put_behind(&mut self.entries, &mut self.store, entry, call.key, value)?;
         Ok(())
     }
 
     /// Records the calls of another history after the others, each with an end of its own in place of that which it has
-    /// there, or leaves the history as it was where memory is refused. The bytes are copied at once.
+    /// there, or leaves the history as it was if memory is refused. The bytes are copied at once.
     pub fn extend_ending(&mut self, calls: &History, ends: &[u64]) -> Result<(), AllocError>
         requires { length ends.now ≡ length calls.now }
         ensures ok { OnOk result (self.new ≡ self.old ++ each_ending calls.now ends.now) }
@@ -128,12 +128,12 @@ impl History {
     }
 }
 
-/// Puts an entry behind the others and its bytes behind the store's. Where memory is refused both keep
+/// Puts an entry after the others and its bytes after the store's. If memory is refused both keep
 /// just what they held, so that no bytes are left of a call that was not recorded.
 fn put_behind(
-    entries: &mut Vec<Entry>,
+    entries: &mut Vec<StoredCall>,
     store: &mut Vec<u8>,
-    entry: Entry,
+    entry: StoredCall,
     key: &[u8],
     value: &[u8],
 ) -> Result<(), AllocError>
@@ -151,8 +151,8 @@ fn put_behind(
     Ok(())
 }
 
-/// Puts other entries, for which there is room, behind the entries, each so many bytes farther and with an end of its own.
-fn push_moved(entries: &mut Vec<Entry>, others: &[Entry], ends: &[u64], bytes: usize)
+/// Puts other entries, for which there is room, after the entries, each this many bytes farther and with an end of its own.
+fn push_moved(entries: &mut Vec<StoredCall>, others: &[StoredCall], ends: &[u64], bytes: usize)
     requires many { length ends.now ≡ length others.now }
     requires room { length entries.old.items + length others.now ≤ vec_capacity entries.old }
     requires low { All (λ e. e.offset + bytes < 2 ^ 64) others.now }
@@ -165,7 +165,7 @@ fn push_moved(entries: &mut Vec<Entry>, others: &[Entry], ends: &[u64], bytes: u
 }
 
 /// Gives each entry an end of its own.
-fn set_ends(entries: &mut Vec<Entry>, ends: &[u64])
+fn set_ends(entries: &mut Vec<StoredCall>, ends: &[u64])
     requires { length ends.now ≡ length entries.old.items }
     ensures { entries.new.items ≡ each_ended entries.old.items ends.now }
 {

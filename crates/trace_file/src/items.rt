@@ -78,7 +78,7 @@ fn value(cursor: Cursor<'_>) -> Result<(&[u8], Cursor<'_>), Stop>
     Ok((value, behind))
 }
 
-/// The time that stands here, or what its lack means where the trace says no times.
+/// The time that stands here, or what its lack means if the trace says no times.
 #[tactic(auto, unfolding(crate::specs::Reading::time_at))]
 fn time(version: Version, meant: u64, cursor: Cursor<'_>) -> Result<(u64, Cursor<'_>), Stop>
     ensures { Gives (λ x. (x.0, shown x.1)) result (time_at version meant (shown cursor.entry)) }

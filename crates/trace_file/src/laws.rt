@@ -46,7 +46,7 @@ pub fn fault_laws()
         All (λ byte. byte < 256) bytes → first_fault_of bytes ≡ Some fault →
         ¬ IsTrace (bytes ++ more) history certificate }
 
-    // Bytes behind a trace are found at its end, and a trace that is cut ends too early.
+    // Bytes after a trace are found at its end, and a trace that is cut ends too early.
     ensures trailing { (version : Version) (history : List Call) (certificate : List ℕ) (more : List ℕ) →
         IsPairOf version history certificate → more ≢ [] →
         outcome_of (text_of version history certificate ++ more)

@@ -1,4 +1,4 @@
-//! Recorded calls, their history, and the certificate that spells an order of them.
+//! Recorded calls, their history, the certificate that spells an order of them, and the names of files as the command line gives them.
 #![tactic(auto)]
 
 mod act;
@@ -7,7 +7,6 @@ mod call;
 mod call_ref;
 mod certificate;
 mod cursor;
-mod entry;
 mod file_name;
 mod from_reader;
 mod header;
@@ -16,6 +15,7 @@ mod items;
 mod kind;
 mod laws;
 mod stop;
+mod stored_call;
 mod taken;
 mod taking;
 mod text_buffer;
@@ -32,11 +32,11 @@ pub use act_ref::ActRef;
 pub use call::Call;
 pub use call_ref::CallRef;
 pub use certificate::Certificate;
-pub use entry::Entry;
 pub use file_name::FileName;
 pub use from_reader::read_trace;
 pub use history::History;
 pub use laws::{fault_laws, trace_laws};
+pub use stored_call::StoredCall;
 pub use to_writer::{write_trace, write_whole};
 pub use trace::Trace;
 pub use trace_fault::TraceFault;

@@ -18,7 +18,7 @@ use crate::trace::Trace;
 use crate::trace_fault::TraceFault;
 use std::alloc::Global;
 
-/// Takes the calls that are whole, up to as many as the header counts, and answers the place behind them.
+/// Takes the calls that are whole, up to as many as the header counts, and answers the place after them.
 fn take_calls<'a>(
     history: &mut History,
     header: Header,
@@ -44,7 +44,7 @@ fn take_calls<'a>(
     Ok(rest)
 }
 
-/// Takes the positions that are whole, up to so many, and answers the place behind them.
+/// Takes the positions that are whole, up to `count`, and answers the place after them.
 fn take_positions<'a>(
     certificate: &mut Certificate,
     count: u32,
@@ -118,7 +118,7 @@ impl Taken {
         }
     }
 
-    /// What was taken as a trace, if it is whole; else the stream ended too early, after so many bytes.
+    /// What was taken as a trace, if it is whole; otherwise the stream ended too early, after `fed` bytes.
     pub(crate) fn ended(self, fed: u64) -> Result<Trace, TraceFault>
         ensures { result ≡ at_end fed (standing self.header self.history self.certificate) }
     {
@@ -136,7 +136,7 @@ impl Taken {
         })
     }
 
-    /// Takes the header, once it is whole, and answers it and the place behind it.
+    /// Takes the header, once it is whole, and answers it and the place after it.
     fn take_header<'a>(
         &mut self,
         cursor: Cursor<'a>,
@@ -159,7 +159,7 @@ impl Taken {
         }
     }
 
-    /// Takes as much as is whole of the bytes behind what was taken, and answers the place behind it.
+    /// Takes as much as is whole of the bytes after what was taken, and answers the place after it.
     ///
     /// After a fault nothing is said of what was taken.
     pub(crate) fn take<'a>(&mut self, cursor: Cursor<'a>) -> Result<Cursor<'a>, TraceFault>

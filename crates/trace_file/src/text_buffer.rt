@@ -55,7 +55,7 @@ impl TextBuffer {
         self.len = 0;
     }
 
-    /// Puts bytes behind the others.
+    /// Appends bytes.
     pub(crate) fn push(&mut self, bytes: &[u8])
         requires { length self.old + length bytes.now ≤ 8192 }
         ensures { self.new ≡ self.old ++ bytes.now }

@@ -58,7 +58,7 @@ fn make_room<W: Write>(buffer: &mut TextBuffer, writer: &mut W) -> Result<(), Un
     }
 }
 
-/// Puts a call behind the bytes that wait.
+/// Puts a call after the bytes that wait.
 #[tactic(auto, unfolding(crate::specs::Text::call_text))]
 fn put_call(buffer: &mut TextBuffer, call: &CallRef<'_>)
     requires room { length buffer.old + 2333 ≤ 8192 }
@@ -74,7 +74,7 @@ fn put_call(buffer: &mut TextBuffer, call: &CallRef<'_>)
     put_act(buffer, &call.act);
 }
 
-/// Puts the value and the time of an act behind the bytes that wait, where it has them.
+/// Puts the value and the time of an act after the bytes that wait, if it has them.
 fn put_act(buffer: &mut TextBuffer, act: &ActRef<'_>)
     requires room { length buffer.old + 2058 ≤ 8192 }
     requires value { IsValue (value_of (act_shown act.now)) }
@@ -88,7 +88,7 @@ fn put_act(buffer: &mut TextBuffer, act: &ActRef<'_>)
     }
 }
 
-/// Puts a value and a time behind the bytes that wait.
+/// Puts a value and a time after the bytes that wait.
 fn put_timed(buffer: &mut TextBuffer, value: &[u8], time: u64)
     requires room { length buffer.old + 2058 ≤ 8192 }
     requires value { IsValue value.now }
@@ -98,7 +98,7 @@ fn put_timed(buffer: &mut TextBuffer, value: &[u8], time: u64)
     buffer.push(&time.to_be_bytes());
 }
 
-/// Puts a value behind the bytes that wait, after its length.
+/// Puts a value after the bytes that wait, after its length.
 fn put_value(buffer: &mut TextBuffer, value: &[u8])
     requires room { length buffer.old + 2050 ≤ 8192 }
     requires value { IsValue value.now }

@@ -19,7 +19,7 @@ pub enum TraceFault {
     BadValue { at: u64 },
     /// The input ends before the trace does; how many bytes it has.
     Truncated { at: u64 },
-    /// A byte stands behind the certificate; that byte.
+    /// A byte stands after the certificate; that byte.
     TrailingBytes { at: u64 },
     /// The reader failed; how many bytes were read before.
     ReadFault { at: u64 },

@@ -168,7 +168,7 @@ fn advance(taken: &mut Taken, at: u64, pending: &mut Vec<u8>) -> Result<u64, Tra
     }
 }
 
-/// Keeps the last so many bytes. Where all are kept, none is moved.
+/// Keeps the last `count` bytes. If all are kept, none is moved.
 fn keep_last(bytes: &mut Vec<u8>, count: usize)
     requires { count ≤ length bytes.old.items }
     ensures { bytes.new.items ≡ drop (length bytes.old.items - count) bytes.old.items }

@@ -1,4 +1,4 @@
-// That bytes were not all written.
+// The failure to write all bytes.
 use thiserror::Error;
 
 /// A writer failed, or takes no more, before all bytes were written.

@@ -82,7 +82,7 @@ tells-empty words len first second third fourth =
     λ none. rw (word-none words 0 (lit< tt) first none, word-none words 1 (lit< tt) second none, word-none words 2 (lit< tt) third none, word-none words 3 (lit< tt) fourth none) refl in
     ((λ t. zeros (eqb-true _ 0 t)), back)
 
--- a bit joins the set where it is set in its word
+-- a bit joins the set if it is set in its word
 pub set_bits-set : (words : List ℕ) (bit : ℕ) → length words ≡ 4 → bit < 256 →
     set_bits (set words (bit / 64) (bit_or (get_or words (bit / 64) 0) (1 * 2 ^ (bit % 64) % 2 ^ 64))) ≡ insert (set_bits words) bit
 set_bits-set words bit len in_range =

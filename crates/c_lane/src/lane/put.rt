@@ -16,7 +16,7 @@ use service_lane::{Filled, Lease};
 use std::alloc::Global;
 
 impl<D: PageDevice<4096>> CLane<D> {
-    /// Puts a value, and helps for the room that it took. It expires at the moment `expires`, or never where that is 2^64 - 1.
+    /// Puts a value, and helps for the room that it took. It expires at the moment `expires`, or never if that is 2^64 - 1.
     /// **A put that is refused leaves the older value of the key, and later gets hit it.** `WrongKey`, `TooLarge` and `NoMemory`
     /// change nothing but counters and the next word of admission.
     pub fn put(&mut self, alloc: Global, key: &[u8], value: &[u8], expires: u64) -> Status
@@ -39,7 +39,7 @@ impl<D: PageDevice<4096>> CLane<D> {
         }
     }
 
-    /// Puts a value as `put` does, or removes the key where the put is refused by `TooLarge` or `NoMemory`: an older value is hit
+    /// Puts a value as `put` does, or removes the key if the put is refused by `TooLarge` or `NoMemory`: an older value is hit
     /// no more either way.
     pub fn put_or_remove(&mut self, alloc: Global, key: &[u8], value: &[u8], expires: u64) -> Status
         ensures wrong_key { (result ≡ Status.WrongKey) ↔ (IsKey key.now → ⊥) }

@@ -11,7 +11,7 @@ use rriparoo::Rriparoo;
 use service_lane::what_is_due;
 
 impl<D: PageDevice<4096>> CLane<D> {
-    /// Does what is due, one step, or nothing where nothing is. At most 33 pages are read and one is written.
+    /// Does what is due, one step, or nothing if nothing is. At most 33 pages are read and one is written.
     pub fn upkeep_step(&mut self) -> Step
         ensures { Tends (laws_of D.honest D.failures D.held) self.old result self.new }
     {

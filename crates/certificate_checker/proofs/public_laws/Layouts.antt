@@ -1,4 +1,4 @@
--- A layout of lanes exists, and where points rise it is one.
+-- A layout of lanes exists, and if points rise it is one.
 use Rattle.std.proofs.Common.{◌≡◌, ◌≢◌, ℕ, ◌<◌, zero, suc, Option, Some, None, List, [], ◌∷◌, length, refl, sym, ap, ◌∙◌, subst, arith, inl, inr, ◌⊎◌}
 use Rattle.std.specs.Prelude.{slice_get, All}
 use Rattle.std.specs.List.{flat_map, filter_map, cons_option}

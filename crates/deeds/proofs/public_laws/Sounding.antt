@@ -1,4 +1,4 @@
--- Each step of a lane keeps it sound, where deeds give a key what is put and leave what is not struck.
+-- Each step of a lane keeps it sound, if deeds give a key what is put and leave what is not struck.
 use Rattle.std.proofs.Common.{◌≡◌, ◌≢◌, ◌⊎◌, ℕ, true, List, [], ◌∷◌, ◌++◌, Option, Some, None, sym, ap, ◌∙◌, refl, subst, inl, inr}
 use Rattle.std.specs.Prelude.{Result, Ok, Err, IfOk, OnErr}
 use Rattle.std.specs.Str.{bytes_eq}
@@ -32,7 +32,7 @@ no_deed (x ∷ before) after deed split = cc
 
 -- ---- what a lane shows is what its keys have
 
--- The law of every step. What a step shows was shown and not struck, or is what it put: where deeds give a key what was
+-- The law of every step. What a step shows was shown and not struck, or is what it put: if deeds give a key what was
 -- put, and leave what was not struck, the lane is sound after them.
 pub sound_by : (struck : Option (List ℕ)) (put : Option Pair) (before after : List Deed) (old new : LaneState) → ((p : Pair) → put ≡ Some p → current after p.key ≡ Some p.value) → ((p : Pair) → (struck ≢ Some p.key) → current after p.key ≡ current before p.key) → IsSound old before → ShowsFrom struck put old new → IsSound new after
 sound_by struck put before after old new puts stays sound shows = λ p shown. elim (shows p shown) [

@@ -32,7 +32,7 @@ all_set P xs i x so h = λ k d lt.
           subst P (get_or_from_slice_get xs k (get_or (set xs i x) k d) d before) (h k d (slice_get_within xs k (get_or (set xs i x) k d) before))
     ]
 
--- where a mapped list has an element, the list has one that gives it
+-- if a mapped list has an element, the list has one that gives it
 pub map_has : {X Y : Type 0} (f : X → Y) (xs : List X) (i : ℕ) (y : Y) → slice_get (map f xs) i ≡ Some y → (x : X) × (slice_get xs i ≡ Some x) × (f x ≡ y)
 map_has {X} {Y} f xs i y e = from (slice_get xs i) refl (sym (slice_get-map f xs i) ∙ e) where
   from : (o : Option X) → slice_get xs i ≡ o → option_map f o ≡ Some y → (x : X) × (slice_get xs i ≡ Some x) × (f x ≡ y)
@@ -72,7 +72,7 @@ all_then A B xs f h = λ k d lt. f (get_or xs k d) (h k d lt)
 pub at_so : {X : Type 0} (A : X → Type 0) (xs : List X) (i : ℕ) (x : X) → All A xs → slice_get xs i ≡ Some x → A x
 at_so A xs i x h e = subst A (get_or_from_slice_get xs i x x e) (h i x (slice_get_within xs i x e))
 
--- what is so of all and of another is so of the one at an index, or of the other where there is none
+-- what is so of all and of another is so of the one at an index, or of the other if there is none
 pub at_or : {X : Type 0} (A : X → Type 0) (xs : List X) (i : ℕ) (d : X) → All A xs → A d → A (slice_index_or xs i d)
 at_or A [] i d h so = so
 at_or A (x ∷ xs) zero d h so = All-head A x xs h

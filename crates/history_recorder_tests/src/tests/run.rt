@@ -30,7 +30,7 @@ pub enum Step {
     Move(Moved),
 }
 
-/// What is told of a lane behind its calls.
+/// What is reported of a lane after its calls.
 #[derive(Clone, Copy, Debug, PartialEq, Eq)]
 pub struct Told {
     /// The number of the first call that did not give what is written beside it, or was not recorded as it must.
@@ -41,12 +41,12 @@ pub struct Told {
     pub is_empty: bool,
 }
 
-/// The last stamp of so many recorded calls.
+/// The last stamp of this many recorded calls.
 pub fn stamps_of(calls: usize) -> u64 {
     (calls as u64).wrapping_mul(2)
 }
 
-/// What is told of a lane whose calls all gave what is written beside them, behind so many recorded calls.
+/// What is reported of a lane whose calls all gave what is written beside them, after this many recorded calls.
 pub fn as_written(calls: usize) -> Told {
     Told {
         strayed: None,
@@ -227,7 +227,7 @@ fn stamps<D: PageDevice<PAGE>, const PAGE: usize>(
     }
 }
 
-// Puts a pair, once more where memory was refused.
+// Puts a pair, once more if memory was refused.
 fn put<D: PageDevice<PAGE>, const PAGE: usize>(
     alloc: Global,
     lane: &mut RecordedLane<D, PAGE>,
@@ -260,7 +260,7 @@ fn put_once<D: PageDevice<PAGE>, const PAGE: usize>(
     Ok(lane.put(caller, start, point, key, value, word, NEVER))
 }
 
-// Gets a key at the caller's number, once more where memory was refused.
+// Gets a key at the caller's number, once more if memory was refused.
 fn get<D: PageDevice<PAGE>, const PAGE: usize>(
     alloc: Global,
     lane: &mut RecordedLane<D, PAGE>,
@@ -284,7 +284,7 @@ fn get_once<D: PageDevice<PAGE>, const PAGE: usize>(
     Ok(lane.get(caller, start, point, &key, caller as u64))
 }
 
-// Removes a key, once more where memory was refused.
+// Removes a key, once more if memory was refused.
 fn remove<D: PageDevice<PAGE>, const PAGE: usize>(
     alloc: Global,
     lane: &mut RecordedLane<D, PAGE>,
@@ -339,7 +339,7 @@ fn is_found(answer: &Answer, wanted: &Found) -> bool {
     }
 }
 
-// Whether one call was recorded behind so many: by this caller, of this key, with this act, and its stamps are the last two.
+// Whether one call was recorded after so many: by this caller, of this key, with this act, and its stamps are the last two.
 fn is_last<D: PageDevice<PAGE>, const PAGE: usize>(
     lane: &RecordedLane<D, PAGE>,
     before: usize,

@@ -1,4 +1,4 @@
-//! What is told, and how the program ends.
+//! What is reported, and how the program ends.
 mod files;
 mod json;
 mod rows;

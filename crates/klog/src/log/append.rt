@@ -60,7 +60,7 @@ impl<const PAGE: usize> KLog<PAGE> {
         self.index.drop_tag(placed.set, placed.tag);
     }
 
-    // Adds a record of this set and tag where there is a place for it, and says whether there was.
+    // Adds a record of this set and tag if there is a place for it, and says whether there was.
     pub(super) fn enter(&mut self, set: u32, tag: u16, added: RecordRef<'_>) -> bool
         requires page_size { IsPageSize PAGE }
         requires lawful { IsRecord (record_shown added) }
@@ -108,7 +108,7 @@ impl<const PAGE: usize> KLog<PAGE> {
         self.done = 0;
     }
 
-    // Adds a record to the filled segment, where that has room, and says whether it had.
+    // Adds a record to the filled segment, if that has room, and says whether it had.
     fn put(&mut self, set: u32, tag: u16, added: RecordRef<'_>) -> bool
         requires page_size { IsPageSize PAGE }
         requires lawful { IsRecord (record_shown added) }

@@ -109,7 +109,7 @@ impl<const PAGE: usize> KLog<PAGE> {
         self.checked(entry, record_on(bytes, number, entry), asked)
     }
 
-    // The record of an entry, where there is one and it has the entry's set and tag and a record's size.
+    // The record of an entry, if there is one and it has the entry's set and tag and a record's size.
     fn checked<'a>(
         &self,
         entry: &Entry,
@@ -149,7 +149,7 @@ impl<const PAGE: usize> KLog<PAGE> {
     }
 }
 
-// The record in an entry's slot of a page, where that is the page of this segment.
+// The record in an entry's slot of a page, if that is the page of this segment.
 #[tactic(auto, unfolding(crate::specs::Shown::record_on))]
 fn record_on<'a, const PAGE: usize>(
     bytes: &'a [u8; PAGE],

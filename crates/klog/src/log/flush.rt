@@ -11,7 +11,7 @@ use crate::flushed::Flushed;
 use page_device::PageDevice;
 
 impl<const PAGE: usize> KLog<PAGE> {
-    /// One step of flushing. With a segment to be flushed its next page is written, or, where the device fails, its live
+    /// One step of flushing. With a segment to be flushed its next page is written, or, if the device fails, its live
     /// records are lost; it waits while the device has no segment free. Without one, the filled segment becomes it where
     /// it has a record. No memory is taken.
     pub fn flush_step<D: PageDevice<PAGE>>(&mut self, device: &mut D) -> Flushed

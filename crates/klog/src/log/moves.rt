@@ -67,7 +67,7 @@ impl<const PAGE: usize> KLog<PAGE> {
     }
 
     /// Drops the live records of a set that were taken as these. One whose segment was freed since is passed over, also
-    /// where another record lies at its place now.
+    /// if another record lies at its place now.
     pub fn drop_taken(&mut self, set: u32, taken: &TakenRecords)
         ensures shape { self.new.shape ≡ self.old.shape }
         ensures dropped { self.new ≡ dropped self.old set taken.now }
@@ -122,7 +122,7 @@ impl<const PAGE: usize> KLog<PAGE> {
     }
 
     /// The newest live records of a set, at most `MAX_TAKEN`, newest first; they stay in the log. Each page that is not
-    /// in memory is read. Where one is lost, its live records are dropped; `AllocError` changes nothing.
+    /// in memory is read. If one is lost, its live records are dropped; `AllocError` changes nothing.
     pub fn take_set<D: PageDevice<PAGE>>(
         &mut self,
         alloc: Global,
@@ -182,7 +182,7 @@ impl<const PAGE: usize> KLog<PAGE> {
         Ok(Gathered::Records(records))
     }
 
-    // A copy of an entry's record, or nothing where its page is lost. A page that is read is read into these bytes.
+    // A copy of an entry's record, or nothing if its page is lost. A page that is read is read into these bytes.
     fn copy<D: PageDevice<PAGE>>(
         &self,
         alloc: Global,
@@ -219,7 +219,7 @@ impl<const PAGE: usize> KLog<PAGE> {
         }))
     }
 
-    // Drops the entry of a record, and adds the record anew where there is a place for it.
+    // Drops the entry of a record, and adds the record anew if there is a place for it.
     fn enter_anew(&mut self, entry: &Entry, found: RecordRef<'_>) -> Readmitted
         requires page_size { IsPageSize PAGE }
         requires listed { Contains self.old.entries entry.now }

@@ -167,7 +167,7 @@ drop-row p (x ∷ xs) r apart (inr i) its =
     ap (λ (b : Bool). without p (entries_of (cond (not b) (x ∷ without_at r.at xs) (without_at r.at xs)))) (ne_eqb x.at r.at differs)
     ∙ ap (λ (es : List Entry). cond (not (p (entry_of x.item))) (entry_of x.item ∷ es) es) (drop-row p xs r apart.1 i its)
 
--- where none is of the kind, all stay
+-- if none is of the kind, all stay
 pub keep-all : (p : Entry → Bool) (rows : List Row) → row_of p rows ≡ None → without p (entries_of rows) ≡ entries_of rows
 keep-all p [] h = refl
 keep-all p (x ∷ xs) h = elim (cases_Bool (p (entry_of x.item))) [

@@ -28,7 +28,7 @@ all_with {X} P visible set shows others own other = step (eqb other set) refl
     step true same = subst (λ (s : ℕ). All (P s) shows) (sym (eqb-true other set same)) own
     step false differs = others other (eqb-false other set differs)
 
--- what holds of records holds of them behind their slots
+-- what holds of records holds of them with their slots
 all_slots : (P : Rec → Type 0) (rs : List Rec) → All P rs → All (λ (x : ℕ × Rec). P x.1) (enumerate_from 0 rs)
 all_slots P rs all = λ n d h.
     let within : n < length rs = subst (λ (len : ℕ). n < len) (length-enumerate_from 0 rs) h in
@@ -55,7 +55,7 @@ rewritings_keep lanes sets set rs Written visible its all =
     (all_slots (λ (r : Rec). (placed_of lanes sets (fnv1a r.key)).set ≡ set) rs its)
 rewritings_keep lanes sets set rs Forgotten visible its all = all_with (λ s (x : ℕ × Rec). (placed_of lanes sets (fnv1a x.1.key)).set ≡ s) visible set [] (λ other _. all other) (All-nil _)
 
--- a current record with another key is current where the current value of one key alone changed
+-- a current record with another key is current if the current value of one key alone changed
 other_key : (lanes sets : ℕ) (was is : List ℕ → Option TimedValue) (key : List ℕ) → ((k : List ℕ) → k ≢ key → is k ≡ was k) →
     (set : ℕ) (r : Rec) → IsCurrent lanes sets was set r → r.key ≢ key → IsCurrent lanes sets is set r
 other_key lanes sets was is key same set r current differs = record { now = same r.key differs ∙ current.now; its = current.its }

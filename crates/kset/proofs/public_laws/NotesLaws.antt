@@ -30,7 +30,7 @@ pub insert-known : (s : FinSet nat_cmp) (k : ℕ) → contains s k ≡ true → 
 insert-known s k is =
     same_numbers _ _ (λ q. contains-insert_nat s k q ∙ sym (same_or _ _ (λ e. ap (contains s) (eqb-true q k e) ∙ is)))
 
--- a hash that is not there is put behind the others
+-- a hash that is not there is put after the others
 pub from_list-put : (hashes : List ℕ) (count hash : ℕ) → count < length hashes → from_list {R = nat_cmp} (take (count + 1) (set hashes count hash)) ≡ insert (from_list (take count hashes)) hash
 from_list-put hashes count hash within =
     ap from_list (take_more_set hashes count hash within) ∙ from_list_push nat_cmp_total nat_cmp-IsAntisymmetric (take count hashes) hash
@@ -80,7 +80,7 @@ struck-hidden notes hash =
       | false ↦ λ is. ap (λ b. b && not (contains notes.strikes hash)) is
     ] refl
 
--- what is noted of a set where something else is noted
+-- what is noted of a set if something else is noted
 pub notes_of-with : (k : SetsState) (set : ℕ) (notes : Notes) → set < set_count k → notes_of (with_notes k set notes) set ≡ notes
 notes_of-with k set notes within = get_or-set_same k.notes set notes no_notes within
 

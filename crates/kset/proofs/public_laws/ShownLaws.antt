@@ -20,7 +20,7 @@ use Rattle.kset.specs.After.{with_set, without_hash, after_strike, shown_after_r
 use Rattle.kset.proofs.public_laws.NotesLaws.{notes_of-with}
 use Rattle.kset.proofs.LookLaws.{visible_from-empty}
 
--- there are as many sets as before where something else is noted of one
+-- there are as many sets as before if something else is noted of one
 pub set_count-with : (k : SetsState) (set : ℕ) (notes : Notes) → set_count (with_notes k set notes) ≡ set_count k
 set_count-with k set notes = length-set k.notes set notes
 
@@ -35,7 +35,7 @@ shown_by held old new set notes counted noted =
     ap (λ (n : Notes). visible_from n 0 (page_records held new set)) noted
     ∙ ap (λ (count : ℕ). visible_from notes 0 (records_on (pages_before count held set))) counted
 
--- the other sets show what they showed where something else is noted of one
+-- the other sets show what they showed if something else is noted of one
 pub shown-other : (held : ℕ → Option (List ℕ)) (k : SetsState) (set other : ℕ) (notes : Notes) → other ≢ set → visible_in held (with_notes k set notes) other ≡ visible_in held k other
 shown-other held k set other notes differs =
     shown_by held k (with_notes k set notes) other (notes_of k other) (set_count-with k set notes) (notes_of-other k set other notes differs)
@@ -45,7 +45,7 @@ pub shown-own : (held : ℕ → Option (List ℕ)) (k : SetsState) (set : ℕ) (
     visible_in held (with_notes k set notes) set ≡ visible_from notes 0 (page_records held k set)
 shown-own held k set notes within = shown_by held k (with_notes k set notes) set notes (set_count-with k set notes) (notes_of-with k set notes within)
 
--- what shows now, where one set shows something else and the others what they showed
+-- what shows now, if one set shows something else and the others what they showed
 pub shown_with : {X : Type 0} (old new : ℕ → X) (set : ℕ) (shows : X) → new set ≡ shows → ((other : ℕ) → other ≢ set → new other ≡ old other) → new ≡ with_set old set shows
 shown_with {X} old new set shows own others = λ i other. at other i
   where
@@ -56,7 +56,7 @@ shown_with {X} old new set shows own others = λ i other. at other i
     at : (other : ℕ) → new other ≡ with_set old set shows other
     at other = step other (eqb other set) refl
 
--- what shows where something else is noted of one set
+-- what shows if something else is noted of one set
 shown-with_notes : (held : ℕ → Option (List ℕ)) (k : SetsState) (set : ℕ) (notes : Notes) → set < set_count k →
     visible_in held (with_notes k set notes) ≡ with_set (visible_in held k) set (visible_from notes 0 (page_records held k set))
 shown-with_notes held k set notes within =
@@ -73,7 +73,7 @@ shown-hit held k set slot within = λ i other. at other i
         (λ differs. shown-other held k set other (with_hit (notes_of k set) slot) differs)
         (cases_eq other set)
 
--- where a slot is hit in one set, each shows what it showed
+-- when a slot is hit in one set, each shows what it showed
 pub shown-hit_on : (was is : ℕ → Option (List ℕ)) (old new : SetsState) (set slot : ℕ) → set < set_count old → is ≡ was → new ≡ hit_in old set slot → visible_in is new ≡ visible_in was old
 shown-hit_on was is old new set slot within same hit =
     ap (λ (held : ℕ → Option (List ℕ)). visible_in held new) same ∙ ap (visible_in was) hit ∙ shown-hit was old set slot within
@@ -83,7 +83,7 @@ pub shown-forgotten : (held : ℕ → Option (List ℕ)) (k : SetsState) (set : 
 shown-forgotten held k set within =
     shown-with_notes held k set no_notes within ∙ ap (with_set (visible_in held k) set) (visible_from-empty no_notes refl 0 (page_records held k set))
 
--- no set shows anything where nothing is noted
+-- no set shows anything if nothing is noted
 pub shown-opening : (held : ℕ → Option (List ℕ)) (k : SetsState) (count set : ℕ) → k.notes ≡ replicate count no_notes → visible_in held k set ≡ []
 shown-opening held k count set noted =
     visible_from-empty (notes_of k set) (ap (λ (n : Notes). n.filter) (ap (λ (xs : List Notes). slice_index_or xs set no_notes) noted ∙ none count set)) 0 (page_records held k set)
@@ -125,7 +125,7 @@ with_strike notes hash slot rs =
     ∙ one_more (admits notes.filter (probes_of (fnv1a x.1.key))) (contains notes.strikes (fnv1a x.1.key)) (eqb (fnv1a x.1.key) hash))
     _
 
--- where a filter denies a hash no record of that hash shows
+-- if a filter denies a hash no record of that hash shows
 without_denied : (notes : Notes) (hash slot : ℕ) (rs : List Rec) → admits notes.filter (probes_of hash) ≡ false →
     visible_from notes slot rs ≡ without_hash hash (visible_from notes slot rs)
 without_denied notes hash slot rs denied =
@@ -151,14 +151,14 @@ visible_from-struck notes hash slot rs =
       | false ↦ λ denied. without_denied notes hash slot rs denied
     ] refl
 
--- what shows where a hash is struck in a set
+-- what shows when a hash is struck in a set
 pub shown-struck : (held : ℕ → Option (List ℕ)) (k : SetsState) (set hash : ℕ) → set < set_count k →
     visible_in held (struck_in k set hash) ≡ with_set (visible_in held k) set (after_strike (notes_of k set) hash (visible_in held k set))
 shown-struck held k set hash within =
     shown-with_notes held k set (struck (notes_of k set) hash) within
     ∙ ap (with_set (visible_in held k) set) (visible_from-struck (notes_of k set) hash 0 (page_records held k set))
 
--- where the page of a set was lost, that one shows nothing
+-- if the page of a set was lost, that one shows nothing
 pub shown-lost : (was is : ℕ → Option (List ℕ)) (old new : SetsState) (set : ℕ) (read : SetRead) → set < set_count old → is ≡ was → read ≡ PageLost → new ≡ forgotten old set →
     visible_in is new ≡ shown_after_reading (Ok read) set (visible_in was old)
 shown-lost was is old new set read within same lost leaves =

@@ -24,7 +24,7 @@ impl Counts {
         self.reads.fetch_add(1, Ordering::SeqCst);
     }
 
-    /// Counts a write of a page, where the first so many pages are those of the sets.
+    /// Counts a write of a page, if the first so many pages are those of the sets.
     pub fn count_write(&self, page: u32, sets: u32) {
         if page < sets {
             self.set_writes.fetch_add(1, Ordering::SeqCst);

@@ -34,7 +34,7 @@ const FRESH: Row = Row {
     ends: Ends::Accepted(b"calls 4000\n", b"\nstopped 0\naccepted 4000 calls\n"),
 };
 
-/// Whether a file is there and has so many bytes.
+/// Whether a file is there and has this many bytes.
 fn has_length<R: Files>(rt: &R, path: &str, bytes: u64) -> bool {
     match fs::metadata(rt, path) {
         Ok(found) => found.len() == bytes,
@@ -70,7 +70,7 @@ fn is_cleared<R: Files + AllocGlobal>(rt: &R, path: &str) -> bool {
     fs::remove_dir_all(rt, path).is_ok()
 }
 
-/// Whether the file of each lane is there and has so many bytes.
+/// Whether the file of each lane is there and has this many bytes.
 fn are_left<R: Files>(rt: &R, bytes: u64) -> bool {
     has_length(rt, "fresh.devices/lane-0.dev", bytes)
         && has_length(rt, "fresh.devices/lane-1.dev", bytes)

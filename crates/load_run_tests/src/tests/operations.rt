@@ -164,7 +164,7 @@ fn operations_are_those_of_the_words(rt: HostRuntime) -> Result<(), Fail> {
 ghost use Rattle.std.specs.Prelude.{◌≡◌};
 ghost use Rattle.load.specs.Operations.{next_of};
 
-/// Draws the words of an operation, also where memory is refused for it: the operation behind it has words of its own.
+/// Draws the words of an operation, also if memory is refused for it: the operation after it has words of its own.
 fn pass_over(alloc: Global, generator: &mut Lcg64Xsh32, load: &Load, caller: u16, number: u32)
     ensures { generator.new ≡ (next_of load.now caller number generator.old).generator }
 {
@@ -190,7 +190,7 @@ fn operations_go_on_behind_the_words_that_were_drawn(rt: HostRuntime) -> Result<
     Ok(())
 }
 
-/// The value that caller 258 puts with the number 50595078, of so many bytes.
+/// The value that caller 258 puts with the number 50595078, of this many bytes.
 fn value_of(alloc: Global, layout: Layout, value_bytes: u32) -> Result<Vec<u8>, Fail> {
     let row = Row {
         keys: 1,

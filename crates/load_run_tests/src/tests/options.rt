@@ -47,7 +47,7 @@ fn is_refused(line: &Result<Line, LineFault>, option: &str) -> bool {
     }
 }
 
-/// Whether a setting takes its least and its greatest number and is the word of the table where it is not given, and
+/// Whether a setting takes its least and its greatest number and is the word of the table if it is not given, and
 /// takes none further out and no word.
 fn is_in_range(alloc: Global, setting: Setting) -> Result<bool, AllocError> {
     let least = u64::from(setting.least());
@@ -102,7 +102,7 @@ fn a_setting_that_is_not_given_is_its_default(rt: HostRuntime) {
     }
 }
 
-/// Whether words give a load over the files of this folder, or in memory where it is none.
+/// Whether words give a load over the files of this folder, or in memory if it is none.
 fn gives_folder<'a>(alloc: Global, words: &'a [&'a str], folder: Option<&str>) -> bool {
     match parse_line(alloc, words) {
         Ok(Line::Run(load)) => is_folder(&load, folder),
@@ -180,7 +180,7 @@ fn what_is_no_run_gets_a_usage(rt: HostRuntime) {
     }
 }
 
-/// Whether these words give a load that is told as JSON.
+/// Whether these words give a load that is reported as JSON.
 fn gives_json<'a>(alloc: Global, words: &'a [&'a str]) -> bool {
     match parse_line(alloc, words) {
         Ok(Line::Run(load)) => load.json,
@@ -198,7 +198,7 @@ fn json_is_asked_for_by_its_flag(rt: HostRuntime) {
     assert!(rt; !gives_json(alloc, &["k", "serve-load"]));
 }
 
-/// Whether the first operation of caller 54 is the put of PCG's reference words for the seed 42 and the stream 54, where
+/// Whether the first operation of caller 54 is the put of PCG's reference words for the seed 42 and the stream 54, if
 /// the load is that of these words.
 fn puts_first<'a>(alloc: Global, words: &'a [&'a str]) -> Result<bool, AllocError> {
     match parse_line(alloc, words) {

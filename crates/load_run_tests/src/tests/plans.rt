@@ -15,7 +15,7 @@ pub struct Plans {
 }
 
 impl Plans {
-    /// No plan yet. So many are to be made at once.
+    /// No plan yet. This many are to be made at once.
     pub fn new(wanted: u32) -> Plans {
         Plans {
             wanted,
@@ -25,7 +25,7 @@ impl Plans {
         }
     }
 
-    /// Begins a plan, and waits until as many were made at once as are wanted, or for so many turns.
+    /// Begins a plan, and waits until as many were made at once as are wanted, or for this many turns.
     pub fn begin(&self) {
         let now = self.now.fetch_add(1, Ordering::SeqCst).wrapping_add(1);
         self.most.fetch_max(now, Ordering::SeqCst);

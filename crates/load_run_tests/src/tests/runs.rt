@@ -32,7 +32,7 @@ pub struct Row {
 pub enum Ends {
     /// Accepted: its four lines begin and end so, and nothing goes to the other output.
     Accepted(&'static [u8], &'static [u8]),
-    /// The same before a terminal: its lines begin so, and what is told to the terminal ends so.
+    /// The same before a terminal: its lines begin so, and what is reported to the terminal ends so.
     Told(&'static [u8], &'static [u8]),
     /// Refused, with this status: no lines, and this line on the other output.
     Refused(u8, &'static [u8]),
@@ -243,7 +243,7 @@ fn a_trace_that_can_not_be_made_is_a_file_fault(rt: HostRuntime) {
     assert!(rt; holds(&rt, &NOWHERE));
 }
 
-/// A run that is told as JSON.
+/// A run that is reported as JSON.
 const OBJECT: Row = Row {
     words: &[
         "k",
@@ -265,7 +265,7 @@ fn a_run_can_be_told_as_an_object(rt: HostRuntime) {
     assert!(rt; holds(&rt, &OBJECT) && is_removed(&rt, "object.trace"));
 }
 
-/// So many calls of one lane that they take longer than what lies before the first line.
+/// This many calls of one lane that they take longer than what lies before the first line.
 const LONG: Row = Row {
     words: &[
         "k",

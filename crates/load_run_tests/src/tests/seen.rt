@@ -25,7 +25,7 @@ pub struct Seen {
 }
 
 impl Seen {
-    /// Nothing yet of a load. So many plans are to be made at once.
+    /// Nothing yet of a load. This many plans are to be made at once.
     pub fn new(alloc: Global, load: &Load, wanted: u32) -> Result<Seen, Fail> {
         let mut lanes = Vec::new(alloc);
         for _ in 0..load.layout.lanes {

@@ -104,7 +104,7 @@ module _ {D : Type 0} (held : D → ℕ → Option (List ℕ)) (s : StoreState D
       step readmitted.Fault moved left = log_as k _ _ moved left
       step readmitted.Damaged moved left = moved
 
--- where no record is read no page is lost
+-- if no record is read no page is lost
 pub not_lost : (answer : SetRead) (given : Result SetRead AllocError) → given ≡ Ok (read.Records []) → given ≡ Ok answer → answer ≢ read.PageLost
 not_lost answer given is was lost = absurd cc
 
@@ -141,14 +141,14 @@ module _ {D : Type 0} where
   pub all_again : (old mid new : StoreState D) → HasAll old mid → HasAll mid new → HasAll old new
   all_again old mid new first next = next ∙ ap (λ (x : StoreState D). record x { device = new.device }) first
 
-  -- the page of a set is lost behind a call that leaves all
+  -- the page of a set is lost after a call that leaves all
   pub set_lost_after : (set : ℕ) (old mid new : StoreState D) → HasAll old mid → LosesSetPage set mid new → LosesSetPage set old new
   set_lost_after set old mid new first lost = record {
     read = subst (λ (x : StoreState D). (notes_of x.sets set).filter ≢ bits.empty) first lost.read;
     rest = lost.rest ∙ ap (λ (x : StoreState D). record x { device = new.device; sets = forgotten x.sets set }) first;
   }
 
-  -- a move is in flight behind a call that leaves all
+  -- a move is in flight after a call that leaves all
   pub flown_after : (size set : ℕ) (old mid new : StoreState D) (moving : Moving) (job : Job) → HasAll old mid → moving.set ≡ set → moving.number ≡ mid.moves + 1 → job ≡ job_of size moving →
       new ≡ record mid { flights = mid.flights ++ just_begun mid.log.shape moving ∷ []; moves = mid.moves + 1 } → Flies size set old job new
   flown_after size set old mid new moving job first its number job_is flies = record {
@@ -160,7 +160,7 @@ module _ {D : Type 0} where
         ∙ ap (λ (d : D). record old { device = d; flights = old.flights ++ just_begun old.log.shape moving ∷ []; moves = old.moves + 1 }) (sym (ap (λ (x : StoreState D). x.device) flies));
   }
 
-  -- a beginning with a job: a move of some set is in flight now, behind the others
+  -- a beginning with a job: a move of some set is in flight now, after the others
   module _ (size : ℕ) (old : StoreState D) (job : Job) (new : StoreState D) where
     by_entry : (e : Entry) (j : Judgement) → EntryLeaves size e j old (begin.Job job) new → (set : ℕ) × Flies size set old job new
     by_entry e judgement.Move leaves = (e.set, leaves)

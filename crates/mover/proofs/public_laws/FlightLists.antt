@@ -70,7 +70,7 @@ flights_counted shape moves fs are = All-weaker (IsFlightOf shape moves) (λ (f 
 pub fresh_number : (moves : ℕ) (fs : List Flight) → All (λ (g : Flight). g.moving.number ≤ moves) fs → All (λ (g : Flight). g.moving.number ≢ moves + 1) fs
 fresh_number moves fs counted = λ i d lt same. let le = counted i d lt in omega (arith, le, same)
 
--- a move behind others of other numbers is found
+-- a move after others of other numbers is found
 pub found_last : (fs : List Flight) (f : Flight) → All (λ (g : Flight). g.moving.number ≢ f.moving.number) fs → flight_of f.moving.number (fs ++ f ∷ []) ≡ Some f
 found_last [] f others = ap (λ (b : Bool). cond b (Some f) None) (eq-eqb f.moving.number f.moving.number refl)
 found_last (g ∷ fs) f others =
@@ -101,7 +101,7 @@ found_here n (g ∷ fs) (suc at) f others is its =
     ap (λ (b : Bool). cond b (Some g) (flight_of n fs)) (ne_eqb g.moving.number n (All-head (λ (h : Flight). h.moving.number ≢ n) g (take at fs) others))
     ∙ found_here n fs at f (All-tail (λ (h : Flight). h.moving.number ≢ n) g (take at fs) others) is its
 
--- where one is taken out, its mapped one is
+-- if one is taken out, its mapped one is
 pub map_removed : {X Y : Type 0} (f : X → Y) (xs : List X) (i : ℕ) → remove (map f xs) i ≡ map f (remove xs i)
 map_removed f [] zero = refl
 map_removed f [] (suc i) = refl
@@ -131,7 +131,7 @@ flights_left shape moves n fs are = record {
   apart = AllPairs-filter (λ (a b : Flight). a.moving.set ≢ b.moving.set) (λ (f : Flight). not (eqb f.moving.number n)) fs are.apart;
 }
 
--- neither of two is true where one of them is not
+-- neither of two is true if one of them is not
 neither : (a b : Bool) → (a || b) ≡ false → (a ≡ false) × (b ≡ false)
 neither true b is = absurd (false≢true (sym is))
 neither false b is = (refl, is)
@@ -143,7 +143,7 @@ other_sets set (f ∷ fs) none =
     let parts = neither (eqb f.moving.set set) (is_any set (sets_in_flight fs)) none in
     All-cons (λ (g : Flight). g.moving.set ≢ set) f fs (λ same. false≢true (sym parts.0 ∙ eq-eqb f.moving.set set same)) (other_sets set fs parts.1)
 
--- the moves with one more behind them
+-- the moves with one more after them
 pub flights_more : (shape : Shape) (moves : ℕ) (fs : List Flight) (f : Flight) → AreFlights shape moves fs → length fs < most_flights → IsFlightOf shape (moves + 1) f → f.moving.number ≡ moves + 1 → is_any f.moving.set (sets_in_flight fs) ≡ false →
     AreFlights shape (moves + 1) (fs ++ f ∷ [])
 flights_more shape moves fs f are room its number none = record {

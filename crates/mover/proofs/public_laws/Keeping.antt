@@ -120,7 +120,7 @@ module _ {D : Type 0} (size : ℕ) (pages : D → ℕ) (honest : D → Bool) (he
     sets_placed = was.sets_placed;
   }
 
--- small objects stay small ones where one leaves
+-- small objects stay small ones if one leaves
 pub small_removed : (size : ℕ) (old new : MemoryList) (key : List ℕ) → new ≡ after_remove key old → All (IsSmall size) old.pairs → All (IsSmall size) new.pairs
 small_removed size old new key after small =
     subst (λ (m : MemoryList). All (IsSmall size) m.pairs) (sym after) (All-filter (λ p. not (bytes_eq key p.key)) (IsSmall size) old.pairs small)
@@ -152,7 +152,7 @@ opened size pages honest held layout d m k q fs page_size roomy memory log sets 
   flights_placed = λ _. subst (All (λ (f : Flight). AreOfSet k.shape f.moving)) (sym none) (All-nil (λ (f : Flight). AreOfSet k.shape f.moving));
 }
 
--- what holds of each pair in memory holds of each still where one comes to the front
+-- what holds of each pair in memory holds of each still if one comes to the front
 pub all_fronted : (P : Pair → Type 0) (old new : MemoryList) (key : List ℕ) → new ≡ after_get key old → All P old.pairs → All P new.pairs
 all_fronted P old new key after all = subst (λ (m : MemoryList). All P m.pairs) (sym after) (step (pair_in key old.pairs) refl)
   where

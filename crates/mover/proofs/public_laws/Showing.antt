@@ -93,12 +93,12 @@ then old mid new first next p here = ⊎_elim (λ kept. first p kept.0) (λ none
 pub held_still : (old new : LaneState) (p : Pair) (held : IsHeldInFlight new p) → Contains old.flights held.its → IsHeldInFlight old p
 held_still old new p held flies = record { its = held.its; flies = flies; item = held.item; unstruck = held.unstruck; pair = held.pair }
 
--- where no other move is in flight no more is shown where no more is visible
+-- if no other move is in flight, no more is shown when no more is visible
 pub sees_fewer : (old new : LaneState) → ((f : Flight) → Contains new.flights f → Contains old.flights f) → SeesNoMore old new → ShowsNoMore old new
 sees_fewer old new fewer sees p (inl visible) = inl (sees p visible)
 sees_fewer old new fewer sees p (inr held) = inr (held_still old new p held (fewer held.its held.flies))
 
--- so where the same moves are
+-- so if the same moves are
 pub sees_no_more : (old new : LaneState) → new.flights ≡ old.flights → SeesNoMore old new → ShowsNoMore old new
 sees_no_more old new same = sees_fewer old new (λ f flies. subst (λ (fs : List Flight). Contains fs f) same flies)
 
@@ -155,14 +155,14 @@ pub removed_sees : (key : List ℕ) (lane : LaneState) → IsLogPlaced lane → 
 removed_sees key lane placed p (inl here) = let kept = without_key key lane.memory.pairs p here in (inl kept.0, kept.1)
 removed_sees key lane placed p (inr flash) = let kept = struck_shows key (record lane { memory = record { capacity = lane.memory.capacity; pairs = without key lane.memory.pairs } }) p placed flash in (inr kept.0, kept.1)
 
--- where a pair of memory comes to the front, no other pair is there
+-- if a pair of memory comes to the front, no other pair is there
 raised_shows : (key : List ℕ) (pairs : List Pair) (p : Pair) → (o : Option Pair) → pair_in key pairs ≡ o → Contains (to_front_by o pairs) p → Contains pairs p
 raised_shows key pairs p None is here = here
 raised_shows key pairs p (Some x) is here =
     ⊎_elim (λ first. subst (Contains pairs) first (found_in (λ (y : Pair). bytes_eq key y.key) pairs x is)) (λ behind. (without_key x.key pairs p behind).0)
     (split p x (without x.key pairs) here)
 
--- where a prediction is lowered, the records stay
+-- when a prediction is lowered, the records stay
 lowered_shows : (set : ℕ) (place : Place) (live : List (Entry × Rec)) (p : Pair) → Contains (map (λ (x : Entry × Rec). pair_of x.1) (live_lowered set place live)) p → Contains (map (λ (x : Entry × Rec). pair_of x.1) live) p
 lowered_shows set place live p here =
     let outer = in_map (λ (x : Entry × Rec). pair_of x.1) (live_lowered set place live) p here in
@@ -229,7 +229,7 @@ get_shows key moment old new answer gives = by_answer answer gives
 
 -- ---- puts
 
--- a pair that is stored is shown, and else only other keys
+-- a pair that is stored is shown, and otherwise only other keys
 stored_shows : (put : Pair) (lane : LaneState) → IsLogPlaced lane → SeesIt put lane (stored put lane)
 stored_shows put lane placed p (inl here) =
     ⊎_elim (λ first. inl (sym first)) (λ behind. let kept = without_key put.key lane.memory.pairs p behind in inr (inl kept.0, kept.1))
@@ -264,7 +264,7 @@ append_shows size lane r p = step (nat_lt (length lane.log.entries) lane.log.sha
     step true true here = inr here
     step true false here = appended_shows size lane r p here
 
--- a put makes its pair visible, and else only other keys
+-- a put makes its pair visible, and otherwise only other keys
 pub put_sees : (size admit word : ℕ) (put : Pair) (lane : LaneState) → IsLogPlaced lane → SeesIt put lane (put_step size admit put word lane).lane
 put_sees size admit word put lane placed = by_pushed (pushed_out put lane.memory) refl
   where

@@ -41,7 +41,7 @@ use Rattle.mover.proofs.MovingShows.{nothing, begins_by, begin_shows, committed_
 use Rattle.mover.proofs.MoveKept.{begin_step_kept, committed_kept}
 use Rattle.mover.proofs.public_laws.StepLaws.{both, begin_law}
 
--- where there is a job it is that of the move in flight with its number
+-- if there is a job it is that of the move in flight with its number
 abbrev HasJob : ℕ → Step Begin → Type 0
 HasJob size step = (job : Job) → step.reply ≡ begin.Job job → IsSomeAnd (flight_of job.number step.lane.flights) (λ f. job ≡ job_of size f.moving)
 
@@ -68,7 +68,7 @@ module _ (size least : ℕ) (lane : LaneState) (counted : AreCounted lane) where
   oldest_job oldest.Passed job is = absurd cc
   oldest_job (oldest.First e) job is = entry_job e (judged least lane e) job is
 
-  -- so it is where a move begins
+  -- so it is if a move begins
   begin_job : HasJob size (begin_step size least lane)
   begin_job = begins_by size least lane (HasJob size) (λ job is. absurd cc) (λ job is. absurd cc) oldest_job
 

@@ -74,14 +74,14 @@ impl<D: PageDevice<PAGE>, const PAGE: usize> Store<D, PAGE> {
 }
 
 impl<D: PageDevice<PAGE>, const PAGE: usize> Store<D, PAGE> {
-    /// Begins a move: by the first live entry of the oldest segment on the device that is of no set in flight. Where there is
-    /// a job it is in flight until it is committed or aborted with its number; numbers start at 1, rise with each job, and
-    /// none is given again.
+    /// Begins a move: by the first live entry of the oldest segment on the device that is of no set in flight. If there
+    /// is a job it is in flight until it is committed or aborted with its number; numbers start at 1, rise with each job,
+    /// and none is given again.
     ///
-    /// `Busy`, which changes nothing, where 8 moves are in flight, or each live entry of the oldest segment is of a set in
+    /// `Busy`, which changes nothing, if 8 moves are in flight, or each live entry of the oldest segment is of a set in
     /// flight: it passes when one of them ends.
     ///
-    /// Where memory is refused the store stays as it was, and no number is spent.
+    /// If memory is refused the store stays as it was, and no number is spent.
     pub fn move_begin(&mut self) -> Result<Begin, AllocError>
         ensures { StoreBegins PAGE D.honest D.failures D.held self.old result self.new }
     {
@@ -92,7 +92,7 @@ impl<D: PageDevice<PAGE>, const PAGE: usize> Store<D, PAGE> {
         Ok(begun)
     }
 
-    // Begins a move where one more may be in flight.
+    // Begins a move if one more may be in flight.
     fn begin_oldest(&mut self) -> Result<Begin, AllocError>
         requires { length self.old.flights < most_flights }
         ensures writes { WritesNothing D.honest D.held self.old self.new }

@@ -68,7 +68,7 @@ impl<D: PageDevice<PAGE>, const PAGE: usize> Store<D, PAGE> {
         ensures gives { IsTrue (D.honest self.old.device) → IfOk result (λ begun.
             Gathers PAGE set (lane_of D.held self.old) begun (lane_of D.held self.new)) }
     {
-        // Where the records of the lane are placed, so are those of a move.
+        // If the records of the lane are placed, so are those of a move.
         let _layout = self.layout();
         let SetTaken::Records(taken) = self.take_set(set)? else {
             return Ok(Begin::PageLost);

@@ -20,7 +20,7 @@ impl<D: PageDevice<PAGE>, const PAGE: usize> Store<D, PAGE> {
     /// Moves the objects of a set from the oldest segment of the log to their page, by a policy's plan; or readmits or
     /// drops one, or frees the segment. It begins a move, and commits it by the plan.
     ///
-    /// Where memory is refused the tiers stay as they were. Where it is the policy that is refused, a move began, is given
+    /// If memory is refused the tiers stay as they were. If it is the policy that is refused, a move began, is given
     /// up, and its number is not given again.
     pub fn move_whole<P: EvictionPolicy>(&mut self, policy: &P) -> Result<MovedWhole, AllocError>
         ensures { StoreMoves PAGE D.honest D.failures D.held (P.plan_of policy.now) self.old result
@@ -42,7 +42,7 @@ impl<D: PageDevice<PAGE>, const PAGE: usize> Store<D, PAGE> {
         }
     }
 
-    // Ends the move of a job by a policy's plan, or gives it up where the policy is refused memory.
+    // Ends the move of a job by a policy's plan, or gives it up if the policy is refused memory.
     fn end_by<P: EvictionPolicy>(&mut self, job: &Job, policy: &P) -> Result<MovedWhole, AllocError>
         requires { IsSomeAnd (flight_of job.now.number self.old.flights) (IsJustBegun PAGE job.now) }
         ensures layout { self.new.layout ≡ self.old.layout }

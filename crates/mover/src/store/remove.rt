@@ -20,7 +20,7 @@ impl<D: PageDevice<PAGE>, const PAGE: usize> Store<D, PAGE> {
         self.remove_bytes(key.bytes());
     }
 
-    /// The pair of the key with these bytes leaves every tier, as `remove` has it; there is none where they are no key. No
+    /// The pair of the key with these bytes leaves every tier, as `remove` has it; there is none if they are no key. No
     /// call of the device is made, and no memory taken.
     pub fn remove_bytes(&mut self, key: &[u8])
         ensures { StoreRemoves D.held key.now self.old self.new }

@@ -1,4 +1,4 @@
-//! Which calls a store makes of a device that is not honest: a get asks for no page behind one that was damaged or not
+//! Which calls a store makes of a device that is not honest: a get asks for no page after one that was damaged or not
 //! read, and a move for each page once.
 use super::run::Began;
 use super::*;
@@ -53,7 +53,7 @@ const FAULT_ABOVE_INTO: [Step; 12] = [
     Step::GetInto(b"a", Found::Set(b"1")),
 ];
 
-// Neither the log's page nor, where it fails, the set's is asked for again.
+// Neither the log's page nor, if it fails, the set's is asked for again.
 const ENDED: [Row; 3] = [
     Row {
         stale: 2,
@@ -173,7 +173,7 @@ const ON_THREE_PAGES: [Step; 17] = [
     Step::Abort(2, Aborted::Aborted),
 ];
 
-// The log's pages are read newest first, then the set's; the calls behind the beginning ask for none.
+// The log's pages are read newest first, then the set's; the calls after the beginning ask for none.
 const GATHERED: [Row; 1] = [Row {
     tables: &[&ON_THREE_PAGES],
     asked: Some(&[

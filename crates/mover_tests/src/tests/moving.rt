@@ -64,7 +64,7 @@ const DROPPED: [Step; 7] = [
     Step::Move(Moved::Freed),
 ];
 
-// A record that was readmitted has the prediction of a new one, so it is dropped where it is not asked for again.
+// A record that was readmitted has the prediction of a new one, so it is dropped if it is not asked for again.
 const READMITTED: [Step; 12] = [
     Step::Put(b"ax", b"1", 0, Pushed::Nobody),
     Step::Put(b"bx", b"2", 0, Pushed::Logged),

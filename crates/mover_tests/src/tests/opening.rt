@@ -1,7 +1,7 @@
 //! When a store opens.
 use super::*;
 
-// Why a store of this configuration and page size is not opened over so many pages.
+// Why a store of this configuration and page size is not opened over this many pages.
 fn fault<const PAGE: usize>(
     alloc: Global,
     config: &Config,

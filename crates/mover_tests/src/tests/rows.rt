@@ -42,7 +42,7 @@ pub fn a_miss_keeps_all<D: PageDevice<PAGE>, const PAGE: usize>(
     Ok(answer)
 }
 
-/// An abort gives up the move with its number, and no other; where it finds none it leaves the store as it was, its device
+/// An abort gives up the move with its number, and no other; if it finds none it leaves the store as it was, its device
 /// too.
 pub fn an_abort_is_of_its_number<D: PageDevice<PAGE>, const PAGE: usize>(
     store: &mut Store<D, PAGE>,
@@ -174,7 +174,7 @@ pub fn a_forgotten_commit_keeps_other_sets<D: PageDevice<PAGE>, const PAGE: usiz
     store.move_commit(plan, number)
 }
 
-/// A commit leaves each other move in flight as it was, with its items and which of them were struck; and where it is not
+/// A commit leaves each other move in flight as it was, with its items and which of them were struck; and if it is not
 /// refused its own is over.
 pub fn a_commit_leaves_the_other_moves<D: PageDevice<PAGE>, const PAGE: usize>(
     store: &mut Store<D, PAGE>,

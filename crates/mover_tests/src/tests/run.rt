@@ -140,7 +140,7 @@ fn moves<D: PageDevice<PAGE>, const PAGE: usize>(
     }
 }
 
-// Puts a pair, once more where memory was refused.
+// Puts a pair, once more if memory was refused.
 fn put<D: PageDevice<PAGE>, const PAGE: usize>(
     alloc: Global,
     store: &mut Store<D, PAGE>,
@@ -198,7 +198,7 @@ pub fn is_seen(seen: Seen, wanted: &Found) -> bool {
     }
 }
 
-// What a buffer is to hold behind a get.
+// What a buffer is to hold after a get.
 pub fn held_then(wanted: &Found) -> &'static [u8] {
     match wanted {
         Found::Memory(bytes) => *bytes,
@@ -226,7 +226,7 @@ fn begun<D: PageDevice<PAGE>, const PAGE: usize>(
     }
 }
 
-// A plan that keeps these items, made once more where memory was refused.
+// A plan that keeps these items, made once more if memory was refused.
 fn plan(alloc: Global, items: &[usize]) -> Result<Plan, Fail> {
     let mut plan = Plan::new(alloc);
     let Some(prediction) = Prediction::new(Prediction::ENTERING) else {
@@ -238,7 +238,7 @@ fn plan(alloc: Global, items: &[usize]) -> Result<Plan, Fail> {
     Ok(plan)
 }
 
-// One more item is kept, tried once more where memory was refused.
+// One more item is kept, tried once more if memory was refused.
 fn keep(plan: &mut Plan, item: usize, prediction: Prediction) -> Result<(), Fail> {
     match plan.push(Choice { item, prediction }) {
         Ok(()) => Ok(()),

@@ -21,7 +21,7 @@ fn lane(alloc: Global, config: &Config) -> Result<Lane, Fail> {
     }
 }
 
-// Puts a pair, once more where memory was refused.
+// Puts a pair, once more if memory was refused.
 fn put<D: PageDevice<PAGE>, const PAGE: usize>(
     alloc: Global,
     lane: &mut ServiceLane<D, PAGE>,

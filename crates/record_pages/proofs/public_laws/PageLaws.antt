@@ -17,9 +17,9 @@ use Rattle.record_pages.specs.Reading.{◌>>=◌, form_within, limit_of, set_for
 use Rattle.record_pages.proofs.FrontLaws.{IsBytes, bind_some, guard_some-then, some_is, Takes, Takes-then, wide16, wide32, wide64, number_takes, number_again, zeros_from, zeros_are}
 use Rattle.record_pages.proofs.RecordLaws.{records_take, records_again, length-records_text}
 
--- ---- behind the head
+-- ---- after the head
 
--- the bytes behind a head hold these records and nothing else
+-- the bytes after a head hold these records and nothing else
 pub record HoldsBody (form : PageForm) (bytes : List ℕ) (rs : List Rec) : Type 0 where
   pub each : All IsRecord rs
   pub said : All (CanSay (form_within form)) rs
@@ -34,7 +34,7 @@ limit_small (page_forms.Set set_forms.Timed) = omega arith
 limit_small (page_forms.Set set_forms.Lasting) = omega arith
 limit_small (page_forms.Log form) = omega arith
 
--- a count, so many records, zeros
+-- a count, this many records, zeros
 body_from : (form : PageForm) (bytes b1 rest : List ℕ) (rs : List Rec) → Takes bytes (to_be_bytes w16 (length rs)) b1 → Takes b1 (records_text (form_within form) rs) rest → length rs ≤ limit_of form → All IsRecord rs → All (CanSay (form_within form)) rs → rest ≡ replicate (length rest) 0 → HoldsBody form bytes rs
 body_from form bytes b1 rest rs t0 t1 few each said zeros =
     let both = Takes-then bytes (to_be_bytes w16 (length rs)) b1 (records_text (form_within form) rs) rest t0 t1 in

@@ -11,7 +11,7 @@ use std::alloc::AllocError;
 impl<D: PageDevice<PAGE>, const PAGE: usize> RecordedLane<D, PAGE> {
     /// Begins a move of the store, as `Store::move_begin` does. No call is recorded.
     ///
-    /// Where memory is refused the store stays as it was, and no number is spent.
+    /// If memory is refused the store stays as it was, and no number is spent.
     pub fn move_begin(&mut self) -> Result<Begin, AllocError>
         ensures unrecorded { self.new ≡ record self.old { store = self.new.store } }
         ensures begins { StoreBegins PAGE D.honest D.failures D.held self.old.store result

@@ -48,7 +48,7 @@ one_feed (b ∷ bs) some = elim (cases_Bool (eqb b 10)) [
   | inr other ↦ let rest : 0 < feeds bs = rw other at some in rw (other, other) (one_feed bs rest)
 ]
 
--- a line that ends at a line feed is the same, whatever comes behind
+-- a line that ends at a line feed is the same, whatever comes after
 pub fed_line : (xs ys : List ℕ) → 0 < feeds xs → (first_line (xs ++ ys) ≡ first_line xs) × (after_line (xs ++ ys) ≡ after_line xs ++ ys)
 fed_line [] ys some = absurd (omega (arith, some))
 fed_line (b ∷ bs) ys some = elim (cases_Bool (eqb b 10)) [

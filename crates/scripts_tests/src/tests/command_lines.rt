@@ -39,7 +39,7 @@ fn is_usage(text: &str) -> bool {
     text.starts_with("error: ") && text.contains("\n\nUsage: kangaroo ")
 }
 
-/// Whether a file is named so, or none is where this is empty.
+/// Whether a file is named so, or none is if this is empty.
 fn is_named(file: &Option<FileName>, name: &str) -> bool {
     match file {
         Some(file) => file.as_str() == name,
@@ -252,7 +252,7 @@ fn the_program_has_one_name(rt: HostRuntime) {
     assert!(rt; ask_for(alloc, &["out/bench_driver", "check"], Asked::Usage));
 }
 
-/// What the words are where one of them is not text can't be told, but how they are spelled can.
+/// What the words are if one of them is not text can't be told, but how they are spelled can.
 #[test]
 fn a_word_that_is_no_text_gets_a_usage(rt: HostRuntime) {
     let line = Err(no_text(rt.alloc()));
@@ -310,11 +310,11 @@ fn each_ending_tells_what_failed(rt: HostRuntime) {
     assert!(rt; tells(alloc, Ending::BadWords, b"") && tells(alloc, Ending::Done, b""));
 }
 
-/// What is told after a bad line.
+/// What is reported after a bad line.
 const LINES: &[u8] =
     b"the first line is: config LANES SETS MEMORY SEGMENTS SEGMENT-PAGES ENTRIES THRESHOLD ADMIT\na later line is one of: put KEY VALUE WORD [EXPIRES], get KEY [MOMENT], remove KEY, forget KEY, flush, move, verdict, trace\nseparate words by exactly one space, write numbers without leading zeros, and end each line by a line feed\n";
 
-/// What is told after a bad configuration.
+/// What is reported after a bad configuration.
 const CONFIG: &[u8] =
     b"config takes: LANES 1, SETS 1 to 65536, MEMORY 1 to 1048576, SEGMENTS 2 to 256, SEGMENT-PAGES 1 to 64, ENTRIES 1 to 1048576, THRESHOLD 1 to 32, ADMIT 0 to 65536\n";
 

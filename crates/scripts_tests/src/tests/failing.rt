@@ -5,7 +5,7 @@ use std::io;
 use std::io::{Error, ErrorKind, Read, Write};
 use std::test::Fail;
 
-/// A reader that gives a byte at a time, and fails once where there are so many bytes left. Where it is
+/// A reader that gives a byte at a time, and fails once when there are this many bytes left. If it is
 /// read again it goes on.
 #[derive(Drop)]
 struct Slow<'a> {
@@ -45,7 +45,7 @@ impl Write for Broken {
     }
 }
 
-/// Whether a script that is read slowly, by a reader that fails once where there are so many bytes
+/// Whether a script that is read slowly, by a reader that fails once when there are this many bytes
 /// left, writes just this and ends so.
 fn is_answered(
     alloc: Global,
@@ -71,7 +71,7 @@ fn a_slow_reader_gives_the_same(rt: HostRuntime) {
     assert!(rt; is_answered(rt.alloc(), INPUT, None, replies, Ok(Scripted::BadLine)));
 }
 
-/// Neither the line that was being read nor a line behind the fault is answered, though the reader would go on.
+/// Neither the line that was being read nor a line after the fault is answered, though the reader would go on.
 #[test]
 fn a_failed_read_is_not_tried_again(rt: HostRuntime) {
     let fault = Err(ScriptFault::ReadFault);
@@ -82,7 +82,7 @@ fn a_failed_read_is_not_tried_again(rt: HostRuntime) {
     assert!(rt; is_answered(rt.alloc(), INPUT, Some(INPUT.len()), b"", fault));
 }
 
-/// A line is judged at its 4,097th byte, and a reader that fails behind that is not asked.
+/// A line is judged at its 4,097th byte, and a reader that fails after that is not asked.
 #[test]
 fn a_line_too_long_is_judged_before_the_fault(rt: HostRuntime) -> Result<(), Fail> {
     let long = vec![in rt.alloc(); b'x'; 4097]?;

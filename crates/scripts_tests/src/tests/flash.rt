@@ -26,7 +26,7 @@ const ONE_TAG: [Line; 6] = [
     (b"get b", b"hit 2 log"),
 ];
 
-// Where nothing is admitted it is lost.
+// If nothing is admitted it is lost.
 const NONE_ADMITTED: [Line; 4] = [
     (b"config 1 1 1 2 1 8 1 0", b"ready"),
     (b"put ax 1 0", b"stored"),
@@ -216,7 +216,7 @@ const GONE: [Line; 16] = [
     (b"verdict", b"accepted 10 calls"),
 ];
 
-// A value that was replaced stays hidden in its set, and out of the next move, also where the new one was lost.
+// A value that was replaced stays hidden in its set, and out of the next move, also if the new one was lost.
 const REPLACED: [Line; 17] = [
     (b"config 1 1 1 2 1 8 1 32768", b"ready"),
     (b"put ax 1 0", b"stored"),
@@ -254,7 +254,7 @@ const RECORDED: [Line; 10] = [
     (b"verdict", b"accepted 4 calls"),
 ];
 
-// Where there is nothing to flush or to move, and nothing of it is a call.
+// If there is nothing to flush or to move, and nothing of it is a call.
 const NOTHING: [Line; 8] = [
     (b"config 1 1 1 2 1 8 1 65536", b"ready"),
     (b"flush", b"nothing"),
@@ -310,7 +310,7 @@ const BUFFERS: [Line; 13] = [
     ),
 ];
 
-// A record that was hit in its set stays there, where not all fit on the page, and one that was not leaves.
+// A record that was hit in its set stays there, if not all fit on the page, and one that was not leaves.
 const PLAN: [Line; 19] = [
     (b"config 1 1 1 2 1 8 1 65536", b"ready"),
     (
@@ -453,7 +453,7 @@ fn add_line(text: &mut Vec<u8>, line: &[u8]) -> Result<(), Fail> {
     Ok(())
 }
 
-/// Whether a script of these lines gets just these replies, and ends behind them.
+/// Whether a script of these lines gets just these replies, and ends after them.
 fn are_answered<const PAGE: usize>(alloc: Global, lines: &[Line]) -> Result<bool, Fail>
     requires { IsPageSize PAGE }
 {

@@ -1,4 +1,4 @@
-// When the replies of a script are flushed: before a read, where there are some, and never else.
+// When the replies of a script are flushed: before a read, if there are some, and at no other time.
 use scripts::{Scripted, run_script};
 use std::alloc::Global;
 use std::io;
@@ -55,9 +55,9 @@ const CASES: [Case; 5] = [
     (&[b"config 1 1 4 2 1 8 1 65536\n", b"put a 1 0\n"], 2, 13),
     // all at once: one flush, before the read that finds the end
     (&[b"config 1 1 4 2 1 8 1 65536\nput a 1 0\nget a\n"], 1, 26),
-    // the end is not asked for again behind a last line with no line feed
+    // the end is not asked for again after a last line with no line feed
     (&[b"config 1 1 4 2 1 8 1 65536\n", b"get a"], 1, 6),
-    // where no reply came since the last flush there is none
+    // if no reply came since the last flush there is none
     (
         &[b"config 1 1 4 2 1 8 1 65536\nput a", b" 1", b" 0\n", b"put"],
         2,

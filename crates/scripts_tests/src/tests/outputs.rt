@@ -59,7 +59,7 @@ impl Read for Cut<'_> {
 /// What hashes keys in these tests.
 type Known = BuildHasherDefault<FoldHasher>;
 
-/// Whether a script of one good line, and a bad one where that is wanted, ends so over this output.
+/// Whether a script of one good line, and a bad one if that is wanted, ends so over this output.
 fn ends(
     alloc: Global,
     input: &[u8],
@@ -102,7 +102,7 @@ fn an_output_that_fails_ends_the_program_with_a_file_fault(rt: HostRuntime) -> R
     Ok(())
 }
 
-/// The replies to the whole lines are written out also where the input fails.
+/// The replies to the whole lines are written out also if the input fails.
 #[test]
 fn an_input_that_fails_ends_the_program_with_a_read_fault(rt: HostRuntime) -> Result<(), Fail> {
     let output = Output {

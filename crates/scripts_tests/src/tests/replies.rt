@@ -12,7 +12,7 @@ const CALLS: [Case; 10] = [
         b"ready\nstored\nhit 1 memory\nmiss absent\naccepted 3 calls\n",
         Scripted::Ended,
     ),
-    // one object fits in memory, and where nothing is admitted to the log the older one is lost
+    // one object fits in memory, and if nothing is admitted to the log the older one is lost
     (
         b"config 1 1 1 2 1 8 1 0\nput a 1 0\nput b 2 0\nget a\nget b\nput b - 0\nget b\nverdict",
         b"ready\nstored\nstored\nmiss absent\nhit 2 memory\nstored\nhit - memory\naccepted 6 calls\n",

@@ -5,7 +5,7 @@ use scripts::run_script;
 use std::alloc::Global;
 use std::test::Fail;
 
-/// The input of a put of a key and a value of so many bytes, behind a configuration.
+/// The input of a put of a key and a value of this many bytes, after a configuration.
 fn put_of(alloc: Global, key: usize, value: usize) -> Result<Vec<u8>, Fail> {
     let mut input = b"config 1 1 4 2 1 8 1 65536\nput ".to_vec(alloc)?;
     input.extend_from_slice(vec![in alloc; b'k'; key]?.as_slice())?;

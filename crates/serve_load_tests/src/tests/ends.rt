@@ -66,7 +66,7 @@ fn each_refusal_tells_its_line(rt: HostRuntime) -> Result<(), Fail> {
     Ok(())
 }
 
-/// A size that no cache has, and what is told of it: the option whose number is wrong.
+/// A size that no cache has, and what is reported of it: the option whose number is wrong.
 #[derive(Clone, Copy)]
 struct Told {
     fault: SizeFault,

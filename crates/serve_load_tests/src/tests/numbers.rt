@@ -1,4 +1,4 @@
-//! The numbers that a load tells. Where all its objects stay in memory they are those of a model outside: a map with expiry for
+//! The numbers that a load tells. If all its objects stay in memory they are those of a model outside: a map with expiry for
 //! each caller, over the words of PCG's reference generator with the load's seed and the caller's number as its stream.
 use super::loads::{Ran, load_of, run_of};
 use std::test::Fail;

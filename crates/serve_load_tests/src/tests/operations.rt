@@ -7,7 +7,7 @@ use rand_pcg::Lcg64Xsh32;
 use std::alloc::Global;
 use std::test::Fail;
 
-/// The load of so many gets and removes on 1,000 keys.
+/// The load of this many gets and removes on 1,000 keys.
 fn load_with(alloc: Global, gets: &'static str, removes: &'static str) -> Option<ServedLoad> {
     load_of(
         alloc,
@@ -15,7 +15,7 @@ fn load_with(alloc: Global, gets: &'static str, removes: &'static str) -> Option
     )
 }
 
-/// The first operation of a load, and the word behind those that were drawn for it.
+/// The first operation of a load, and the word after those that were drawn for it.
 fn first_of(load: &ServedLoad) -> (ServedOperation, u32) {
     let mut generator = Lcg64Xsh32::new(42, 54);
     let operation = ServedOperation::next(&mut generator, load);

@@ -47,7 +47,7 @@ fn is_refused(line: &Result<Line, LineFault>, option: &str) -> bool {
     }
 }
 
-/// Whether an option takes a number: it does where the setting has it then.
+/// Whether an option takes a number: it does if the setting has it then.
 fn takes(alloc: Global, setting: Setting, number: u64) -> Result<bool, AllocError> {
     let option = format!(in alloc; "--{}", setting.name())?;
     let word = format!(in alloc; "{number}")?;

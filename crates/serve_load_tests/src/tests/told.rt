@@ -4,7 +4,7 @@ use load::ServedLoad;
 use std::alloc::Global;
 use std::test::Fail;
 
-/// A small load of so many gets and removes in a hundred operations; the others are puts.
+/// A small load of this many gets and removes in a hundred operations; the others are puts.
 fn load_with(alloc: Global, gets: &'static str, removes: &'static str) -> Option<ServedLoad> {
     load_of(
         alloc,
@@ -78,7 +78,7 @@ fn gets_and_puts_are_timed_and_removals_are_not(rt: HostRuntime) -> Result<(), F
     Ok(())
 }
 
-/// A small load that is told as JSON.
+/// A small load that is reported as JSON.
 const OBJECT: &[&str] = &[
     "k",
     "serve-load",

@@ -14,7 +14,7 @@ ghost use Rattle.service_cache.specs.Calls.{HasMissed, IsHit, looked_up, AddsLas
 
 use super::ServiceCache;
 use crate::looked_up::LookedUp;
-use crate::{SeatFault, SeatPutFault};
+use crate::seat_fault::{SeatFault, SeatPutFault};
 use deed_book::{EntryFault, KeyLanes, Naming, Seat};
 use mover::Seen;
 use page_device::PageDevice;

@@ -21,7 +21,7 @@ impl<D: PageDevice<PAGE>, const PAGE: usize, L: KeyLanes, J: Naming> SeatedLane<
     /// Looks a key of the lane up, by its bytes, as `ServiceLane::get` does; and the seat sees the list as it is.
     ///
     /// A hit is the key's latest value not since removed in the list that the seat has seen then, live at the moment: in
-    /// memory whatever the device does, on flash where it gives back what was written.
+    /// memory whatever the device does, on flash if it gives back what was written.
     pub fn get(
         &mut self,
         seat: &mut Seat<L, J>,

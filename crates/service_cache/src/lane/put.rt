@@ -17,7 +17,7 @@ ghost use Rattle.service_cache.specs.declared.seat_fault.SeatPutFault.{SeatPutFa
 
 use super::SeatedLane;
 use crate::seat_fault::{SeatFault, SeatPutFault};
-use deed_book::{Entry, EntryFault, KeyLanes, Naming, Register, Seat};
+use deed_book::{EntryFault, KeyLanes, Naming, OfferedWrite, Register, Seat};
 use page_device::PageDevice;
 use record_pages::{Key, Pushed, Value};
 use service_lane::{Filled, KeyBuffer, Lease, ServiceLane};
@@ -58,7 +58,7 @@ impl<D: PageDevice<PAGE>, const PAGE: usize, L: KeyLanes, J: Naming> SeatedLane<
 
     /// Removes a key of the lane, by its bytes, and enters that in the list after all that the seat has seen.
     ///
-    /// Where the book refuses, the key is removed all the same, and nothing is entered. For bytes that are no key's nothing
+    /// If the book refuses, the key is removed all the same, and nothing is entered. For bytes that are no key's nothing
     /// changes.
     pub fn remove(&mut self, seat: &mut Seat<L, J>, key: &[u8]) -> Result<(), SeatFault>
         requires { L.lane_of key.now ≡ self.old.register.number }
@@ -82,7 +82,7 @@ impl<D: PageDevice<PAGE>, const PAGE: usize, L: KeyLanes, J: Naming> SeatedLane<
     /// Fills a key of the lane by a lease, as `ServiceLane::fill` does; and enters that in the list after all that the seat has
     /// seen, unless it is stale.
     ///
-    /// Where the store refuses the object, nothing is entered, and what the key had it has. Where the book refuses, the key
+    /// If the store refuses the object, nothing is entered, and what the key had it has. If the book refuses, the key
     /// is removed, and nothing is entered.
     pub fn fill(
         &mut self,
@@ -135,7 +135,7 @@ fn enter_or_remove<D: PageDevice<PAGE>, const PAGE: usize, L: KeyLanes, J: Namin
     lane: &mut ServiceLane<D, PAGE>,
     register: &mut Register<L, J>,
     seat: &mut Seat<L, J>,
-    write: Entry<L>,
+    write: OfferedWrite<L>,
     key: &[u8],
 ) -> Result<(), EntryFault>
     requires ours { L.lane_of write.key ≡ register.old.number }

@@ -22,7 +22,7 @@ impl<D: PageDevice<PAGE>, const PAGE: usize, L: KeyLanes, J: Naming> SeatedLane<
         self.lane.upkeep_step(policy)
     }
 
-    /// Does steps of upkeep where the lane is near the end of its room, as `ServiceLane::help` does.
+    /// Does steps of upkeep if the lane is near the end of its room, as `ServiceLane::help` does.
     pub fn help<P: EvictionPolicy>(&mut self, policy: &P) -> Helped
         ensures helps { Helps PAGE D.honest D.failures D.held (P.plan_of policy.now)
             self.old.serving result self.new.serving }

@@ -20,7 +20,7 @@ impl<D: PageDevice<PAGE>, const PAGE: usize> ServiceLane<D, PAGE> {
     /// Looks a key up, by its bytes. The value of a hit is in the buffer then; at a miss the buffer is as it was. No memory is
     /// taken.
     ///
-    /// A hit is the key's latest value not since removed, live at the moment: in memory whatever the device does, on flash where
+    /// A hit is the key's latest value not since removed, live at the moment: in memory whatever the device does, on flash if
     /// it gives back what was written. The moment is the caller's, and may go backwards. `KeyEmpty` and `KeyTooLong`, for bytes that
     /// are no key's, change nothing.
     pub fn get(

@@ -18,10 +18,10 @@ use page_device::PageDevice;
 use record_pages::{Key, KeyFault, Pushed, PutFault, Value};
 
 impl<D: PageDevice<PAGE>, const PAGE: usize> ServiceLane<D, PAGE> {
-    /// Puts a value. **A put that is refused leaves the older value of the key, and later gets hit it: remove the key then**, where
+    /// Puts a value. **A put that is refused leaves the older value of the key, and later gets hit it: remove the key then**, if
     /// that would be wrong.
     ///
-    /// The value expires at the moment `expires`, or never where that is `NEVER`. The word decides whether the pair that leaves
+    /// The value expires at the moment `expires`, or never if that is `NEVER`. The word decides whether the pair that leaves
     /// memory for it enters the log. No call of the device is made.
     pub fn put(
         &mut self,
@@ -57,7 +57,7 @@ impl<D: PageDevice<PAGE>, const PAGE: usize> ServiceLane<D, PAGE> {
     /// Puts a value that was read elsewhere since a get of its key missed, if no put, fill or removal of the key came between;
     /// else it is `Stale`, and nothing is stored. It may be stale without cause, since keys share slots.
     ///
-    /// It believes nothing of the lease. Whatever number that holds: where the value is stored, the key was not written behind
+    /// It believes nothing of the lease. Whatever number that holds: if the value is stored, the key was not written after
     /// any moment at which its slot had seen that many writes; the moment at which the lease was given is one.
     pub fn fill(
         &mut self,
@@ -120,7 +120,7 @@ impl<D: PageDevice<PAGE>, const PAGE: usize> ServiceLane<D, PAGE> {
         }
     }
 
-    /// Puts a value, or removes the key where the put is refused: an older value is hit no more either way.
+    /// Puts a value, or removes the key if the put is refused: an older value is hit no more either way.
     ///
     /// Its answers and refusals are those of `put`.
     pub fn put_or_remove(
@@ -184,7 +184,7 @@ fn bytes_of(key: &Key, value: &Value) -> u64
     (key.bytes().len() + value.bytes().len()) as u64
 }
 
-// Puts a value, and counts the write in its key's slot where it is stored.
+// Puts a value, and counts the write in its key's slot if it is stored.
 fn put_counted<D: PageDevice<PAGE>, const PAGE: usize>(
     slots: &mut Slots,
     asked: &mut DeedStore<D, PAGE>,

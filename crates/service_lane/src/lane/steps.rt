@@ -28,7 +28,7 @@ impl<D: PageDevice<PAGE>, const PAGE: usize> ServiceLane<D, PAGE> {
     /// Moves the objects of a set from the oldest segment of the log to their page, by a policy's plan; or readmits or drops
     /// one, or frees the segment. It adds no deed.
     ///
-    /// Where memory is refused the tiers stay as they were. Where it is the policy that is refused, a move began, is given
+    /// If memory is refused the tiers stay as they were. If it is the policy that is refused, a move began, is given
     /// up, and its number is not given again.
     pub fn move_whole<P: EvictionPolicy>(&mut self, policy: &P) -> Result<MovedWhole, AllocError>
         ensures moved { IfOk result (λ moved. self.new ≡ record self.old {

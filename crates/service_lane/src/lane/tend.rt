@@ -4,17 +4,17 @@ ghost use Rattle.service_lane.specs.Counting.{with_step, with_help};
 ghost use Rattle.service_lane.specs.Upkeep.{Upkeeps, HelpsOnce, Helps, may_ask, due_in};
 
 use super::ServiceLane;
+use crate::due::{Due, is_near_end, what_is_due};
 use crate::helped::{Helped, MAX_HELP_STEPS};
 use crate::upkept::{UpkeepStep, Upkept};
-use crate::{Due, is_near_end, what_is_due};
 use page_device::PageDevice;
 use policy_laws::EvictionPolicy;
 
 impl<D: PageDevice<PAGE>, const PAGE: usize> ServiceLane<D, PAGE> {
     /// Does what is due in the lane, one step: writes a page of its log, or has the policy move what is oldest there; or
-    /// nothing, where nothing is due. It adds no deed.
+    /// nothing, if nothing is due. It adds no deed.
     ///
-    /// Meant for a thread in the background, which calls it as long as something is due, and ends its round where memory was
+    /// Meant for a thread in the background, which calls it as long as something is due, and ends its round if memory was
     /// refused. At most 33 pages are read and one is written.
     pub fn upkeep_step<P: EvictionPolicy>(&mut self, policy: &P) -> UpkeepStep
         ensures upkept { Upkeeps PAGE D.honest D.failures D.held (P.plan_of policy.now) self.old
@@ -32,7 +32,7 @@ impl<D: PageDevice<PAGE>, const PAGE: usize> ServiceLane<D, PAGE> {
         }
     }
 
-    /// Does steps of upkeep where the lane is near the end of its room, up to the first that may have asked the device, and at
+    /// Does steps of upkeep if the lane is near the end of its room, up to the first that may have asked the device, and at
     /// most `MAX_HELP_STEPS`: what a put does for the room that it takes, so that a lane which nobody tends still serves.
     pub fn help<P: EvictionPolicy>(&mut self, policy: &P) -> Helped
         ensures { Helps PAGE D.honest D.failures D.held (P.plan_of policy.now) self.old result

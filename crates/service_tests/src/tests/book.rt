@@ -32,7 +32,7 @@ fn entered_by_two<J: Naming + Send + Sync, R: Threads + Wait + Sync>(
     enter_both::<J, R>(rt, book, here, new).is_some()
 }
 
-// Two threads enter a put, after a look, and a removal of one key. Where both did, who has seen what both have seen has seen both.
+// Two threads enter a put, after a look, and a removal of one key. If both did, who has seen what both have seen has seen both.
 fn enter_both<J: Naming + Send + Sync, R: Threads + Wait + Sync>(
     rt: &R,
     book: NewBook<OneLane>,

@@ -3,8 +3,8 @@ mod run;
 
 use self::run::{Step, run};
 use c_lane::{
-    CLane as LaneOver, Counters, LaneShape, Place, Seed, Sizes, Status, WantedSizes, judge_trace,
-    place_of,
+    CLane as LaneOver, Counters, KeyPlace, LaneShape, Seed, Sizes, Status, WantedSizes,
+    judge_trace, place_of,
 };
 use cache_sizes::SizeFault;
 use page_device::MemoryDevice;
@@ -34,7 +34,7 @@ const SEED: Seed = Seed {
     second: 0xfedc_ba98_7654_3210,
 };
 
-// So many pages, asked for once more where memory was refused.
+// This many pages, asked for once more if memory was refused.
 fn device(alloc: Global, pages: u32) -> Result<Device, Fail> {
     match Device::new(alloc, pages) {
         Ok(device) => Ok(device),
@@ -42,7 +42,7 @@ fn device(alloc: Global, pages: u32) -> Result<Device, Fail> {
     }
 }
 
-// A lane of this shape over so many pages, opened once more where memory was refused.
+// A lane of this shape over this many pages, opened once more if memory was refused.
 fn lane(alloc: Global, shape: &LaneShape, pages: u32) -> Result<Result<CLane, Status>, Fail> {
     match CLane::open(alloc, shape, &SEED, 0, device(alloc, pages)?) {
         Err(Status::NoMemory) => Ok(CLane::open(alloc, shape, &SEED, 0, device(alloc, pages)?)),
@@ -138,7 +138,7 @@ fn what_leaves_memory_is_hit_in_the_log(rt: HostRuntime) -> Result<(), Fail> {
     Ok(())
 }
 
-// The status of an opening over so many pages.
+// The status of an opening over this many pages.
 fn opened(alloc: Global, shape: &LaneShape, pages: u32) -> Result<Status, Fail> {
     match lane(alloc, shape, pages)? {
         Ok(_) => Ok(Status::Done),
@@ -166,7 +166,7 @@ fn a_lane_opens_over_enough_pages_and_not_with_a_number_out_of_its_range(
     Ok(())
 }
 
-// A shape whose numbers are all one below their least, or above their greatest where the least is 0.
+// A shape whose numbers are all one below their least, or above their greatest if the least is 0.
 const LOW: LaneShape = LaneShape {
     shards: 0,
     lanes: 0,
@@ -208,7 +208,7 @@ const GREATEST: LaneShape = LaneShape {
     admit: 65536,
 };
 
-// A shape whose first numbers, so many, are those of one shape, and the others those of another.
+// A shape whose first numbers, this many, are those of one shape, and the others those of another.
 fn mixed(count: u32, first: &LaneShape, rest: &LaneShape) -> LaneShape {
     let from = |place: u32, one: u32, other: u32| if place < count { one } else { other };
     LaneShape {
@@ -288,7 +288,7 @@ fn a_shape_without_slots_gets_as_many_as_sets(rt: HostRuntime) {
 fn keys_lie_in_all_lanes(rt: HostRuntime) {
     let mut seen = [0u32; 4];
     for number in 0..64u8 {
-        let Place { lane, word: _ } = place_of(&SEED, 4, &[b'k', number]);
+        let KeyPlace { lane, word: _ } = place_of(&SEED, 4, &[b'k', number]);
         let count = &mut seen[lane as usize % 4];
         *count = count.saturating_add(1);
     }

@@ -33,7 +33,7 @@ fn device(alloc: Global) -> Result<MemoryDevice<256>, Fail> {
     }
 }
 
-// A lane with so many slots for leases, opened once more where memory was refused.
+// A lane with this many slots for leases, opened once more if memory was refused.
 fn lane(alloc: Global, slots: u32) -> Result<ServiceLane<MemoryDevice<256>, 256>, Fail> {
     match ServiceLane::open(alloc, &ONE_SET, slots, device(alloc)?, RandomSeed::fixed()) {
         Ok(lane) => Ok(lane),
@@ -240,7 +240,7 @@ fn an_object_is_lost_and_counted_where_nobody_tends(rt: HostRuntime) -> Result<(
     Ok(())
 }
 
-/// An opening of a lane over so many pages, of 128 bytes or of 256, and why it is refused.
+/// An opening of a lane over this many pages, of 128 bytes or of 256, and why it is refused.
 #[derive(Clone, Copy)]
 struct Opening {
     config: Config,
@@ -260,7 +260,7 @@ const OPENS: Opening = Opening {
     fault: None,
 };
 
-// Each refusal comes where all after it apply too; the last opening is not refused.
+// Each refusal comes when all after it apply too; the last opening is not refused.
 const OPENINGS: [Opening; 5] = [
     Opening {
         config: NO_SETS,

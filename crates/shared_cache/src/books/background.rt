@@ -22,7 +22,7 @@ impl<D: PageDevice<PAGE>, const PAGE: usize> LaneBook<D, PAGE> {
     /// Begins a move of its lane: the records of a set are to move, by a plan for the job that is answered; or what else
     /// `Begin` says. No call is recorded.
     ///
-    /// Where memory is refused the lane stays as it was, and no number is spent.
+    /// If memory is refused the lane stays as it was, and no number is spent.
     pub fn begin(&mut self) -> Result<Begin, AllocError>
         ensures unrecorded { self.new ≡ record self.old { store = self.new.store } }
         ensures begins { StoreBegins PAGE D.honest D.failures D.held self.old.store result

@@ -32,7 +32,7 @@ impl<D: PageDevice<PAGE>, P: EvictionPolicy + Drop, const PAGE: usize> SharedCac
     /// of sets that other rounds move. `StalePlan` and `BadPlan` would change nothing in the second hold; neither comes while
     /// each round ends its own move and the policy keeps its laws.
     ///
-    /// `AllocError` of the first hold leaves the lane as it was. Where it is the policy that is refused memory, the move
+    /// `AllocError` of the first hold leaves the lane as it was. If it is the policy that is refused memory, the move
     /// is given up in a hold of its own: the lane's tiers are as the calls meanwhile left them, none of this round's is in
     /// flight, and its number is not given again.
     pub fn move_round<R: Wait>(&self, rt: &R, lane: u32) -> Result<Moved, AllocError>
@@ -49,7 +49,7 @@ impl<D: PageDevice<PAGE>, P: EvictionPolicy + Drop, const PAGE: usize> SharedCac
         }
     }
 
-    /// Ends the move of a job by the policy's plan, or gives it up where the policy is refused memory.
+    /// Ends the move of a job by the policy's plan, or gives it up if the policy is refused memory.
     fn end_move<R: Wait>(&self, rt: &R, lane: u32, job: &Job) -> Result<Moved, AllocError>
         requires { lane < self.now.layout.lanes }
     {

@@ -53,7 +53,7 @@ fn are_apart(devices: &[TestDevice], lane: u32) -> bool {
     devices.len() == 2 && is_own(&devices[0], 0, lane) && is_own(&devices[1], 1, lane)
 }
 
-// Whether a device has this number, and was written just where it is the lane's.
+// Whether a device has this number, and was written exactly if it is the lane's.
 fn is_own(device: &TestDevice, number: u32, lane: u32) -> bool {
     let writes = u32::from(number == lane);
     device.number == number && device.log_writes == writes && device.set_writes == writes

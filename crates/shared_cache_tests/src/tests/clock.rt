@@ -10,7 +10,7 @@ use std::thread::{Threads, join};
 /// A step of a seat, and what it gives.
 #[derive(Clone, Copy)]
 enum Step {
-    /// A stamp, or none where the clock is full.
+    /// A stamp, or none if the clock is full.
     Tick(Option<u64>),
     Observe(u64),
     /// A stamp that the seat is told of, and whether it is refused.
@@ -43,7 +43,7 @@ fn observes(clock: &Clock, seat: &mut ClockSeat, stamp: u64) -> bool
     true
 }
 
-// A seat behind its steps, and whether each gave what is written beside it.
+// A seat after its steps, and whether each gave what is written beside it.
 fn all_give(clock: &Clock, mut seat: ClockSeat, steps: &[Step]) -> (ClockSeat, bool)
     requires { seat.clock ≡ clock.now }
     ensures { result.0.clock ≡ clock.now }
@@ -154,7 +154,7 @@ fn draw_in_threads<R: Threads + Wait + Sync>(
     )
 }
 
-// Whether a stamp behind the end of two threads is above each of theirs.
+// Whether a stamp after the end of two threads is above each of theirs.
 fn is_above_both<R: Threads + Wait + Sync>(rt: &R, alloc: Global) -> Result<bool, Fail> {
     let (clock, first, second) = of_two(alloc)?;
     let ((mut first, its), (_, other)) = draw_in_threads(rt, &clock, first, second);

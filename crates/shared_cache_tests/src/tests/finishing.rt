@@ -211,7 +211,7 @@ fn passes_of(alloc: Global, given: Given, four: [Pass; 4]) -> Result<Vec<Pass>, 
     Ok(passes.split_off(from)?)
 }
 
-// Why the cache of a row is not finished. It fails where memory was refused.
+// Why the cache of a row is not finished. It fails if memory was refused.
 fn fault<R: Threads + Wait + Sync>(
     rt: &R,
     alloc: Global,
@@ -240,7 +240,7 @@ fn the_passes_list_just_the_recorded_calls(rt: HostRuntime) -> Result<(), Fail> 
     Ok(())
 }
 
-// Why a cache is not finished. It fails where memory was refused.
+// Why a cache is not finished. It fails if memory was refused.
 fn fault_of(ended: Result<Finished<TestDevice>, FinishFault>) -> Result<Option<FinishFault>, Fail> {
     match ended {
         Ok(_) => Ok(None),

@@ -321,7 +321,7 @@ fn gathered(alloc: Global, called: Vec<Called>) -> Result<(Vec<Pass>, Tally), Fa
     Ok((passes, tally))
 }
 
-// What is left of a cache behind the calls of its callers, and how they went.
+// What is left of a cache after the calls of its callers, and how they went.
 fn left<R: Threads + Wait + Sync>(
     rt: &R,
     alloc: Global,

@@ -30,7 +30,7 @@ const OPENS: Row = Row {
     fault: None,
 };
 
-// Each refusal where all after it apply too.
+// Each refusal when all after it apply too.
 const ROWS: [Row; 7] = [
     OPENS,
     Row {
@@ -87,7 +87,7 @@ fn so_many<const PAGE: usize>(
     Ok(devices)
 }
 
-// Why a cache with pages of this size is not opened so. It fails where memory was refused.
+// Why a cache with pages of this size is not opened so. It fails if memory was refused.
 fn fault<const PAGE: usize>(alloc: Global, row: &Row) -> Result<Option<OpenCacheFault>, Fail> {
     let devices = so_many::<PAGE>(alloc, row.devices, row.pages)?;
     match SharedCache::open(alloc, &row.config, devices, Rriparoo, row.callers) {

@@ -17,7 +17,7 @@ use std::thread::{Threads, join};
 pub enum Way {
     /// Each in a thread of its own.
     SideBySide,
-    /// Each in a thread of its own, the second behind the end of the first.
+    /// Each in a thread of its own, the second after the end of the first.
     OneByOne,
     /// Each in a thread of its own, the second once the gate is reached, which it opens then.
     AtTheGate,
@@ -47,7 +47,7 @@ pub const NOTHING: Play = Play {
     second: &[],
 };
 
-/// A cache behind its calls, and its passes.
+/// A cache after its calls, and its passes.
 #[derive(Drop)]
 pub struct Played {
     pub cache: Cache,
@@ -78,7 +78,7 @@ pub fn run_play<R: Threads + Wait + Sync>(
     }
 }
 
-/// What is left of a cache behind a play.
+/// What is left of a cache after a play.
 pub fn ended<R: Threads + Wait + Sync>(
     rt: &R,
     alloc: Global,
@@ -103,7 +103,7 @@ pub fn is_accepted<R: Threads + Wait + Sync>(
     Ok(has_calls(alloc, &ended(rt, alloc, play)?, calls))
 }
 
-/// Whether the checker accepts what is left of a cache, of so many calls.
+/// Whether the checker accepts what is left of a cache, of this many calls.
 pub fn has_calls(alloc: Global, finished: &Finished<TestDevice>, calls: usize) -> bool {
     finished.history.len() == calls
         && matches!(
@@ -125,7 +125,7 @@ fn two_of(cache: &Cache, passes: Vec<Pass>) -> Result<(Pass, Pass), Fail>
     Ok((first, second))
 }
 
-// Both callers behind their calls. Where a call of the first caller alone did not give what is written, that is all.
+// Both callers after their calls. If a call of the first caller alone did not give what is written, that is all.
 fn after<R: Threads + Wait + Sync>(
     rt: &R,
     alloc: Global,
@@ -177,7 +177,7 @@ fn in_a_thread<R: Threads + Wait + Sync>(
     ran
 }
 
-// Both callers, each in a thread of its own. Where no thread can be made a wait at the gate runs out.
+// Both callers, each in a thread of its own. If no thread can be made a wait at the gate runs out.
 fn in_threads<R: Threads + Wait + Sync>(
     rt: &R,
     alloc: Global,

@@ -58,7 +58,7 @@ const LEAVING: Play = Play {
     ..NOTHING
 };
 
-// Where a plan is refused the move is given up: the set's objects move in the round behind it.
+// If a plan is refused the move is given up: the set's objects move in the round after it.
 const TWICE_REFUSED: [Step; 8] = [
     Step::Put(b"ax", b"1", Pushed::Nobody),
     Step::Put(b"bx", b"2", Pushed::Logged),

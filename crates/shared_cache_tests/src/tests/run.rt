@@ -114,7 +114,7 @@ fn gives<R: Wait>(
     }
 }
 
-// Puts a pair by this word and with this expiry, once more where memory was refused.
+// Puts a pair by this word and with this expiry, once more if memory was refused.
 fn puts<R: Wait>(
     rt: &R,
     alloc: Global,
@@ -154,7 +154,7 @@ fn puts<R: Wait>(
     }
 }
 
-// Looks a key up at moment 5, once more where memory was refused.
+// Looks a key up at moment 5, once more if memory was refused.
 fn gets<R: Wait>(
     rt: &R,
     alloc: Global,
@@ -175,7 +175,7 @@ fn gets<R: Wait>(
     }
 }
 
-// Removes a key, once more where memory was refused.
+// Removes a key, once more if memory was refused.
 fn removes<R: Wait>(rt: &R, alloc: Global, cache: &Cache, pass: &mut Pass, name: &[u8]) -> bool
     requires { pass.old.sight.clock ≡ cache.now.clock }
     ensures { pass.new.sight.clock ≡ cache.now.clock }
@@ -190,7 +190,7 @@ fn removes<R: Wait>(rt: &R, alloc: Global, cache: &Cache, pass: &mut Pass, name:
     }
 }
 
-// Moves the objects of a lane, once more where memory was refused.
+// Moves the objects of a lane, once more if memory was refused.
 fn moves<R: Wait>(rt: &R, cache: &Cache, lane: u32) -> Option<Moved>
     requires { lane < cache.now.layout.lanes }
 {
@@ -210,7 +210,7 @@ fn is_full<R: Wait>(rt: &R, alloc: Global, cache: &Cache, pass: &mut Pass, name:
     matches!(&answer, Err(CallFault::ClockFull)) && pass.len() == count
 }
 
-// The key of these bytes, made once more where memory was refused.
+// The key of these bytes, made once more if memory was refused.
 fn key(alloc: Global, bytes: &[u8]) -> Option<Key> {
     match Key::new(alloc, bytes) {
         Ok(key) => Some(key),
@@ -218,7 +218,7 @@ fn key(alloc: Global, bytes: &[u8]) -> Option<Key> {
     }
 }
 
-// The value of these bytes, made once more where memory was refused.
+// The value of these bytes, made once more if memory was refused.
 fn value(alloc: Global, bytes: &[u8]) -> Option<Value> {
     match Value::new(alloc, bytes) {
         Ok(value) => Some(value),

@@ -8,7 +8,7 @@ use std::sync::Arc;
 use test_steps::StaleDevice;
 
 /// Pages in memory with a number, and how many of them were written that are no sets' pages, and that are. A read waits at
-/// the gate, if there is one, and fails where that was not opened in time.
+/// the gate, if there is one, and fails if that was not opened in time.
 #[derive(Drop)]
 pub struct TestDevice {
     pub pages: StaleDevice<256>,

@@ -122,7 +122,7 @@ fn on(
     run(rt, alloc, &mut refusing_log(alloc, config, refused)?, steps)
 }
 
-// What comes where the call behind so many is refused alone, and where it is refused with all later ones.
+// What comes if the call after this many is refused alone, and if it is refused with all later ones.
 fn refused_in_turn(
     rt: &impl Abort,
     alloc: Global,

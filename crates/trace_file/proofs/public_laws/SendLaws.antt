@@ -39,11 +39,11 @@ sent_whole a b c all left p took = subst (Appends a c) (sym p.parts) (Appends-tr
 pub begun_more : (a b c : Option (List ℕ)) (all left : List ℕ) → Sent a b all left → Begun b c left → Begun a c all
 begun_more a b c all left p q = (q.0, q.1, sent_more a b c all left q.0 p q.2)
 
--- more bytes were put behind those that are left
+-- more bytes were put after those that are left
 pub sent_behind : (a b : Option (List ℕ)) (all left more : List ℕ) → Sent a b all left → Sent a b (all ++ more) (left ++ more)
 sent_behind a b all left more p = record { front = p.front; written = p.written; parts = ap (λ (x : List ℕ). x ++ more) p.parts ∙ append_assoc p.front left more }
 
--- bytes behind some are some
+-- bytes after some are some
 some_behind : (left more : List ℕ) → left ≢ [] → (left ++ more) ≢ []
 some_behind [] more some = absurd (some refl)
 some_behind (b ∷ left) more some = λ e. cc
@@ -74,7 +74,7 @@ sent_item text a b c start left rest new xs i x lt at p q grown =
     let all : (start ++ flat_map text (take i xs)) ++ text x ≡ start ++ flat_map text (take (i + 1) xs) = flat_map_more text start (take i xs) x ∙ ap (λ ys. start ++ flat_map text ys) (sym next) in
     subst (λ (l : List ℕ). Sent a c (start ++ flat_map text (take (i + 1) xs)) l) (sym grown) (subst (λ (t : List ℕ). Sent a c t (rest ++ text x)) all one)
 
--- seven parts, one behind the other
+-- seven parts, one after the other
 pub joined : (b p1 p2 p3 p4 p5 p6 p7 k caller start end len key act : List ℕ) → p1 ≡ b ++ k → p2 ≡ p1 ++ caller → p3 ≡ p2 ++ start → p4 ≡ p3 ++ end → p5 ≡ p4 ++ len → p6 ≡ p5 ++ key → p7 ≡ p6 ++ act
     → p7 ≡ b ++ (k ++ (caller ++ (start ++ (end ++ ((len ++ key) ++ act)))))
 joined b p1 p2 p3 p4 p5 p6 p7 k caller start end len key act e1 e2 e3 e4 e5 e6 e7 =

@@ -8,7 +8,7 @@ use Rattle.std.proofs.lemmas.List.Elements.{recursion_from_All, All-map, All-wea
 use Rattle.std.proofs.lemmas.Option.{slice_get-map, slice_get_read}
 use Rattle.record_pages.specs.Bounded.{IsValue}
 use Rattle.trace_file.specs.declared.call.Call.{Call}
-use Rattle.trace_file.specs.declared.entry.Entry.{Entry}
+use Rattle.trace_file.specs.declared.stored_call.StoredCall.{StoredCall}
 use Rattle.trace_file.specs.declared.kind.Kind.{Kind}
 use Rattle.trace_file.specs.declared.kind.Kind.TheVariants.{Put, Remove, Hit, Miss}
 use Rattle.trace_file.specs.Calls.{IsCall, value_of, time_of}
@@ -26,19 +26,19 @@ part-more offset len store more le =
 part-len : (offset len : ℕ) (store : List ℕ) → offset + len ≤ length store → length (part offset len store) ≡ len
 part-len offset len store le = length-take-le len (drop offset store) (omega (arith, length-drop offset store))
 
-call_in-more : (store more : List ℕ) (e : Entry) → LiesIn (length store) e → call_in (store ++ more) e ≡ call_in store e
+call_in-more : (store more : List ℕ) (e : StoredCall) → LiesIn (length store) e → call_in (store ++ more) e ≡ call_in store e
 unfolding call_in
 call_in-more store more e lies =
     let key : part e.offset e.key_len (store ++ more) ≡ part e.offset e.key_len store = part-more e.offset e.key_len store more (omega (arith, lies.room)) in
     let value : part (e.offset + e.key_len) e.value_len (store ++ more) ≡ part (e.offset + e.key_len) e.value_len store = part-more (e.offset + e.key_len) e.value_len store more (omega (arith, lies.room)) in
     cc
 
-by_more : (store more : List ℕ) (es : List Entry) → AllByRecursion (LiesIn (length store)) es → calls_in (store ++ more) es ≡ calls_in store es
+by_more : (store more : List ℕ) (es : List StoredCall) → AllByRecursion (LiesIn (length store)) es → calls_in (store ++ more) es ≡ calls_in store es
 by_more store more [] lie = refl
 by_more store more (e ∷ es) lie = let one = call_in-more store more e lie.0 in let others = by_more store more es lie.1 in cc
 
--- bytes behind the others change no call
-pub calls_in-more : (store more : List ℕ) (es : List Entry) → All (LiesIn (length store)) es → calls_in (store ++ more) es ≡ calls_in store es
+-- bytes after the others change no call
+pub calls_in-more : (store more : List ℕ) (es : List StoredCall) → All (LiesIn (length store)) es → calls_in (store ++ more) es ≡ calls_in store es
 calls_in-more store more es lie = by_more store more es (recursion_from_All (LiesIn (length store)) es lie)
 
 act_value : (kind : Kind) (value : List ℕ) (time : ℕ) → IsValue value → IsValue (value_of (act_of kind value time))
@@ -54,7 +54,7 @@ act_time Hit value time h = h
 act_time Miss value time h = omega arith
 
 -- an entry that lies in a store stands for a call
-pub call_in-lawful : (store : List ℕ) (e : Entry) → LiesIn (length store) e → IsCall (call_in store e)
+pub call_in-lawful : (store : List ℕ) (e : StoredCall) → LiesIn (length store) e → IsCall (call_in store e)
 unfolding call_in
 call_in-lawful store e lies =
     let key = part-len e.offset e.key_len store (omega (arith, lies.room)) in
@@ -68,7 +68,7 @@ call_in-lawful store e lies =
       time = act_time e.kind _ e.time lies.time;
     }
 
-pub calls_in-lawful : (store : List ℕ) (es : List Entry) → All (LiesIn (length store)) es → All IsCall (calls_in store es)
+pub calls_in-lawful : (store : List ℕ) (es : List StoredCall) → All (LiesIn (length store)) es → All IsCall (calls_in store es)
 calls_in-lawful store es lie =
     All-map IsCall (call_in store) es (All-weaker (LiesIn (length store)) (λ e. IsCall (call_in store e)) (call_in-lawful store) es lie)
 
@@ -76,8 +76,8 @@ calls_in-lawful store es lie =
 same_call : (a b : Call) → a.caller ≡ b.caller → a.start ≡ b.start → a.end ≡ b.end → a.key ≡ b.key → a.act ≡ b.act → a ≡ b
 same_call a b caller start end key act = λ i. record { caller = caller i; start = start i; end = end i; key = key i; act = act i }
 
--- an entry for a key and a value that were put behind the store stands for their call
-pub call_in-new : (store key value : List ℕ) (e : Entry) (call : Call) → e.offset ≡ length store → e.key_len ≡ length key → e.value_len ≡ length value
+-- an entry for a key and a value that were put after the store stands for their call
+pub call_in-new : (store key value : List ℕ) (e : StoredCall) (call : Call) → e.offset ≡ length store → e.key_len ≡ length key → e.value_len ≡ length value
     → e.caller ≡ call.caller → e.start ≡ call.start → e.end ≡ call.end → key ≡ call.key → act_of e.kind value e.time ≡ call.act → call_in ((store ++ key) ++ value) e ≡ call
 unfolding call_in
 call_in-new store key value e call at key_len value_len caller start end key-is act =
@@ -89,12 +89,12 @@ call_in-new store key value e call at key_len value_len caller start end key-is 
     let k' : part e.offset e.key_len ((store ++ key) ++ value) ≡ call.key = k ∙ key-is in
     same_call _ call caller start end k' a
 
--- what stood in the store is as it was, whatever was put behind it
-pub still : (store new more : List ℕ) (es : List Entry) (calls : List Call) → All (LiesIn (length store)) es → calls_in store es ≡ calls → new ≡ store ++ more → calls_in new es ≡ calls
+-- what stood in the store is as it was, whatever was put after it
+pub still : (store new more : List ℕ) (es : List StoredCall) (calls : List Call) → All (LiesIn (length store)) es → calls_in store es ≡ calls → new ≡ store ++ more → calls_in new es ≡ calls
 still store new more es calls lie is grown = ap (λ (s : List ℕ). calls_in s es) grown ∙ calls_in-more store more es lie ∙ is
 
--- a call was put behind the others
-pub pushed_call : (store new key value : List ℕ) (es now : List Entry) (calls : List Call) (e : Entry) (call : Call) → All (LiesIn (length store)) es → calls_in store es ≡ calls
+-- a call was put after the others
+pub pushed_call : (store new key value : List ℕ) (es now : List StoredCall) (calls : List Call) (e : StoredCall) (call : Call) → All (LiesIn (length store)) es → calls_in store es ≡ calls
     → new ≡ store ++ key ++ value → now ≡ es ++ e ∷ [] → call_in (store ++ key ++ value) e ≡ call → calls_in new now ≡ calls ++ call ∷ []
 pushed_call store new key value es now calls e call lie is grown pushed one =
     ap (calls_in new) pushed
@@ -103,23 +103,23 @@ pushed_call store new key value es now calls e call lie is grown pushed one =
     ∙ ap (λ (x : Call). calls ++ x ∷ []) (ap (λ (s : List ℕ). call_in s e) grown ∙ one)
 
 -- the call that an entry stands for, by its parts
-pub lent_call : (store : List ℕ) (e : Entry) (call : Call) → e.caller ≡ call.caller → e.start ≡ call.start → e.end ≡ call.end → part e.offset e.key_len store ≡ call.key
+pub lent_call : (store : List ℕ) (e : StoredCall) (call : Call) → e.caller ≡ call.caller → e.start ≡ call.start → e.end ≡ call.end → part e.offset e.key_len store ≡ call.key
     → act_of e.kind (part (e.offset + e.key_len) e.value_len store) e.time ≡ call.act → call_in store e ≡ call
 unfolding call_in
 lent_call store e call caller start end key act = same_call (call_in store e) call caller start end key act
 
 -- the call at a position is that of the entry there
-pub read_call : (store : List ℕ) (es : List Entry) (calls : List Call) (i : ℕ) (e : Entry) (call : Call) → calls_in store es ≡ calls → e ≡ get_or es i e → i < length calls
+pub read_call : (store : List ℕ) (es : List StoredCall) (calls : List Call) (i : ℕ) (e : StoredCall) (call : Call) → calls_in store es ≡ calls → e ≡ get_or es i e → i < length calls
     → call ≡ call_in store e → slice_get calls i ≡ Some call
 read_call store es calls i e call is at lt shown =
     let found : slice_get es i ≡ Some e = slice_get_read es (length es) i e refl (omega (arith, length-map es (call_in store), ap length is)) at in
     ap (λ (cs : List Call). slice_get cs i) (sym is) ∙ slice_get-map (call_in store) es i ∙ ap (option_map (call_in store)) found ∙ ap (λ (x : Call). Some x) (sym shown)
 
 -- that entry lies in the store
-pub lies_at : (store s : List ℕ) (es : List Entry) (calls : List Call) (i : ℕ) (e : Entry) → calls_in store es ≡ calls → All (LiesIn (length store)) es → e ≡ get_or es i e → i < length calls → s ≡ store → LiesIn (length s) e
+pub lies_at : (store s : List ℕ) (es : List StoredCall) (calls : List Call) (i : ℕ) (e : StoredCall) → calls_in store es ≡ calls → All (LiesIn (length store)) es → e ≡ get_or es i e → i < length calls → s ≡ store → LiesIn (length s) e
 lies_at store s es calls i e is lie at lt same =
     let within : i < length es = omega (arith, length-map es (call_in store), ap length is) in
-    subst (λ (x : Entry). LiesIn (length s) x) (sym at) (subst (λ (b : List ℕ). LiesIn (length b) (get_or es i e)) (sym same) (lie i e within))
+    subst (λ (x : StoredCall). LiesIn (length s) x) (sym at) (subst (λ (b : List ℕ). LiesIn (length b) (get_or es i e)) (sym same) (lie i e within))
 
 -- a slice of the store is a part of it
 pub slice_is : (store s : List ℕ) (offset len : ℕ) → s ≡ store → part offset len store ≡ take (offset + len - offset) (drop offset s)

@@ -78,7 +78,7 @@ pub stopped_at_header : (p : Place) (d : Stop) → header_at p ≡ Err d → tra
 unfolding trace_at
 stopped_at_header p d e = ap (λ (r : Read Header). r >>= after_header) e
 
--- with no call and no position taken, what is behind the header is all that is read
+-- with no call and no position taken, what is after the header is all that is read
 pub behind_header : (n : Header) (p q : Place) → header_at p ≡ Ok (n, q) → trace_at p ≡ counted_at n [] [] q
 unfolding trace_at counted_at
 behind_header n p q e =
@@ -86,7 +86,7 @@ behind_header n p q e =
     ap (λ (r : Read Header). r >>= after_header) e
     ∙ ap (λ (i : ℕ). many_at (call_at n.version) i q >>= λ c. many_at position_at i c.1 >>= λ x. end_at (pair_of c.0 x.0) x.1) z
 
--- ---- going on behind what was taken
+-- ---- going on after what was taken
 
 calls_first : (n : ℕ) (cs : List Call) (r : Read (List Call)) → (in_front cs r >>= after_calls n) ≡ (r >>= λ c. after_calls n (cs ++ c.0, c.1))
 calls_first n cs (Ok c) = refl
@@ -126,7 +126,7 @@ after_all_calls n at cs ps more few full within lawful lawful' =
     ∙ positions_first all ps (many_at position_at (n.count - length ps) (place end more))
     ∙ ap (λ (i : ℕ). many_at (call_at n.version) i (place end more) >>= λ c. many_at position_at (n.count - length ps) c.1 >>= λ q. end_at (pair_of (cs ++ c.0) (ps ++ q.0)) q.1) (sym none)
 
--- what is read of the whole is what is read behind that which was taken
+-- what is read of the whole is what is read after what was taken
 pub goes_on : (n : Header) (cs : List Call) (ps more : List ℕ) → IsCounted n cs ps → trace_at (place 0 (counted_text n cs ps ++ more)) ≡ counted_at n cs ps (place (length (counted_text n cs ps)) more)
 unfolding counted_text
 goes_on n cs [] more is =

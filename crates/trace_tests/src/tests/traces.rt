@@ -55,7 +55,7 @@ fn fault_of(alloc: Global, bytes: &[u8]) -> Option<TraceFault> {
     read_trace(alloc, &mut reader).err()
 }
 
-/// A reader that gives at most so many bytes at a time, and fails once before a byte.
+/// A reader that gives at most this many bytes at a time, and fails once before a byte.
 #[derive(Drop)]
 struct Uneven<'a> {
     bytes: &'a [u8],
@@ -83,7 +83,7 @@ impl Read for Uneven<'_> {
     }
 }
 
-/// A writer that takes so many bytes and then fails once.
+/// A writer that takes this many bytes and then fails once.
 #[derive(Drop)]
 struct Limited {
     room: usize,
@@ -244,7 +244,7 @@ fn each_fault_has_its_offset(rt: HostRuntime) {
     }
 }
 
-// Feeds the bytes, so many at a time, and says how many were fed.
+// Feeds the bytes, this many at a time, and says how many were fed.
 fn feed_all(parts: &mut TraceReader, bytes: &[u8], size: usize) -> Result<u64, TraceFault>
     requires { 0 < size }
 {
@@ -254,7 +254,7 @@ fn feed_all(parts: &mut TraceReader, bytes: &[u8], size: usize) -> Result<u64, T
     Ok(parts.bytes_fed())
 }
 
-// How many bytes were fed, so many at a time, and their trace.
+// How many bytes were fed, this many at a time, and their trace.
 fn in_pieces(alloc: Global, bytes: &[u8], size: usize) -> Result<(u64, Trace), TraceFault>
     requires { 0 < size }
 {
@@ -301,7 +301,7 @@ fn what_is_missing_is_told_at_the_end(rt: HostRuntime) {
     assert_eq!(rt; parts.finish().err(), Some(TraceFault::Truncated { at: 9 }));
 }
 
-// The fault of `ONE_PUT` where at most so many bytes are read at a time, and a read fails once before a byte.
+// The fault of `ONE_PUT` if at most this many bytes are read at a time, and a read fails once before a byte.
 fn fault_before(alloc: Global, most: usize, fails_before: usize) -> Option<TraceFault> {
     let mut reader = Uneven {
         bytes: ONE_PUT.as_slice(),
@@ -330,13 +330,13 @@ fn trace_of(alloc: Global, bytes: &[u8]) -> Result<Trace, TraceFault> {
     read_trace(alloc, &mut reader)
 }
 
-// Whether a trace is written, or why not, to a writer with room for so many bytes.
+// Whether a trace is written, or why not, to a writer with room for this many bytes.
 fn written_within(trace: &Trace, room: usize) -> Result<(), WriteTraceFault> {
     let mut writer = Limited { room };
     write_trace(&trace.history, &trace.certificate, &mut writer)
 }
 
-// Whether a trace of 48 bytes is written where there is room, and is a write fault where there is too little.
+// Whether a trace of 48 bytes is written if there is room, and is a write fault if there is too little.
 fn needs_room(trace: &Trace) -> bool {
     let fault = Err(WriteTraceFault::WriteFault);
     written_within(trace, 0) == fault

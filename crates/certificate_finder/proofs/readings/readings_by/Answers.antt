@@ -1,6 +1,6 @@
 use Rattle.std.proofs.Common.{◌≡◌, length, refl, ap, ◌∙◌, subst, arith, rules}
 use Rattle.std.proofs.lemmas.Option.{slice_get_within}
-use Rattle.certificate_finder.specs.declared.step.Step.{Step}
+use Rattle.certificate_finder.specs.declared.numbered_call.NumberedCall.{NumberedCall}
 use Rattle.certificate_finder.specs.Putting.{put_rank, value_rank}
 use Rattle.certificate_finder.specs.Writing.{IsSplit}
 use Rattle.certificate_finder.proofs.AskLemmas.{all_read, call_of, goes_up, read_begins, read_more}
@@ -20,7 +20,7 @@ pub reading_of-reading-requires-clause-begun : goal.reading_of-reading-requires-
 reading_of-reading-requires-clause-begun c =
     let call = call_of c.args.steps.now c.args.puts.now c.args.leaves.now c.over-shape.result c.args.asked.now c.requires.asked c.loop-index.index c.ranked_at-hit.result c.ranked_at-hit.ensures in
     let same : call.0 ≡ c.step_at-step.result = same_at c.args.steps.now c.ranked_at-hit.result.position c.ranked_at-hit.result.position call.0 c.step_at-step.result refl call.1 c.step_at-step.ensures in
-    subst (λ r. IsSplit put_rank c.args.puts.now r c.puts_upto-upto.result) (call.2 ∙ ap (λ (s : Step). value_rank s.key s.value s.end) same) c.puts_upto-upto.ensures
+    subst (λ r. IsSplit put_rank c.args.puts.now r c.puts_upto-upto.result) (call.2 ∙ ap (λ (s : NumberedCall). value_rank s.key s.value s.end) same) c.puts_upto-upto.ensures
 
 pub index_mut-requires : goal.index_mut-requires
 index_mut-requires c = let within = slice_get_within c.args.steps.now c.ranked_at-hit.result.position c.step_at-step.result c.step_at-step.ensures in let count = c.loop-index.invariant.count in omega arith

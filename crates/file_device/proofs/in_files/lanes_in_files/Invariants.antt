@@ -1,4 +1,4 @@
--- As many devices as lanes so far, each of so many pages.
+-- As many devices as lanes so far, each of this many pages.
 use Rattle.std.proofs.Common.{◌≡◌, All, length}
 use Rattle.file_device.proofs.in_files.lanes_in_files.Given as goal
 

@@ -1,4 +1,4 @@
--- As many devices as lanes that were counted, each of so many pages.
+-- As many devices as lanes that were counted, each of this many pages.
 use Rattle.std.proofs.Common.{◌≡◌, All, length}
 use Rattle.file_device.proofs.in_memory.lanes_in_memory.Given as goal
 

@@ -1,7 +1,7 @@
 -- Call by call, the certificate lists what the heads count.
 use Rattle.std.proofs.Common.{◌+◌, ◌<◌, ◌^◌, ℕ, List, sym, subst}
 use Rattle.std.specs.Prelude.{slice_get, Some, None, IsSomeAnd}
-use Rattle.history_recorder.specs.declared.head.Head.{Head}
+use Rattle.history_recorder.specs.declared.lane_head.LaneHead.{LaneHead}
 use Rattle.history_recorder.specs.Merging.{ListsNext, ListsSoFar}
 use Rattle.history_recorder.proofs.Firsts.{first_read}
 use Rattle.history_recorder.proofs.Listings.{left, position_fits, lists_more, fewer_left, all_written, moved_len, lists_none, lists_all}
@@ -13,7 +13,7 @@ list_next-position-requires c =
     let heads = c.loop-next.heads.items in
     let next = c.in-Some.next in
     let first = first_read lanes c.deref.result.now heads c.first_next.result (Some next) c.deref.ensures.value c.in-Some.is c.first_next.ensures in
-    subst (λ (hs : List Head). IsSomeAnd (slice_get hs next.lane) (λ head. head.first + head.listed < 2 ^ 32)) (sym c.deref_mut.ensures.value) (position_fits lanes heads c.loop-next.certificate next c.loop-next.invariant first c.requires.few)
+    subst (λ (hs : List LaneHead). IsSomeAnd (slice_get hs next.lane) (λ head. head.first + head.listed < 2 ^ 32)) (sym c.deref_mut.ensures.value) (position_fits lanes heads c.loop-next.certificate next c.loop-next.invariant first c.requires.few)
 
 pub loop-next-init : goal.loop-next-init
 loop-next-init c =
@@ -29,9 +29,9 @@ loop-next-smaller c =
     let next = c.in-Some.next in
     let position = c.list_next-position.result in
     let first = first_read lanes c.deref.result.now heads c.first_next.result (Some next) c.deref.ensures.value c.in-Some.is c.first_next.ensures in
-    let moved : ListsNext heads new next.lane position = subst (λ (hs : List Head). ListsNext hs new next.lane position) c.deref_mut.ensures.value c.list_next-position.ensures in
+    let moved : ListsNext heads new next.lane position = subst (λ (hs : List LaneHead). ListsNext hs new next.lane position) c.deref_mut.ensures.value c.list_next-position.ensures in
     let whole = all_written heads new c.loop-next.heads.len c.loop-next.heads.ok.0 (moved_len heads new next.lane position moved) in
-    subst (λ (hs : List Head). left lanes hs < left lanes heads) (sym whole) (fewer_left lanes heads new c.loop-next.certificate next position c.requires.rise c.loop-next.invariant first moved)
+    subst (λ (hs : List LaneHead). left lanes hs < left lanes heads) (sym whole) (fewer_left lanes heads new c.loop-next.certificate next position c.requires.rise c.loop-next.invariant first moved)
 
 pub loop-next-preserved : goal.loop-next-preserved
 loop-next-preserved c =
@@ -41,10 +41,10 @@ loop-next-preserved c =
     let next = c.in-Some.next in
     let position = c.list_next-position.result in
     let first = first_read lanes c.deref.result.now heads c.first_next.result (Some next) c.deref.ensures.value c.in-Some.is c.first_next.ensures in
-    let moved : ListsNext heads new next.lane position = subst (λ (hs : List Head). ListsNext hs new next.lane position) c.deref_mut.ensures.value c.list_next-position.ensures in
+    let moved : ListsNext heads new next.lane position = subst (λ (hs : List LaneHead). ListsNext hs new next.lane position) c.deref_mut.ensures.value c.list_next-position.ensures in
     let whole = all_written heads new c.loop-next.heads.len c.loop-next.heads.ok.0 (moved_len heads new next.lane position moved) in
     let more = lists_more lanes heads new c.loop-next.certificate next position c.requires.rise c.loop-next.invariant first moved in
-    subst (λ (hs : List Head). ListsSoFar lanes hs c.push.new.self) (sym whole) (subst (λ (ps : List ℕ). ListsSoFar lanes new ps) (sym c.in_ok-push.ensures.ok) more)
+    subst (λ (hs : List LaneHead). ListsSoFar lanes hs c.push.new.self) (sym whole) (subst (λ (ps : List ℕ). ListsSoFar lanes new ps) (sym c.in_ok-push.ensures.ok) more)
 
 pub returns : goal.returns
 returns c =

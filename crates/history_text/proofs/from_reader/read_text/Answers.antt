@@ -1,7 +1,7 @@
 -- Each way out, and each line more.
 use Rattle.std.proofs.Common.{ℕ, List, Ok, arith, ap, sym, subst, ◌∙◌}
 use Rattle.std.specs.Io.KnownBytes.{prepend_known}
-use Rattle.history_text.specs.declared.cause.Cause.TheVariants.{TooLong}
+use Rattle.history_text.specs.declared.line_cause.LineCause.TheVariants.{TooLong}
 use Rattle.history_text.specs.declared.read_text_fault.ReadTextFault.TheVariants.{Bad}
 use Rattle.history_text.specs.Outcome.{fault_at}
 use Rattle.history_text.specs.Spelled.{IsSaid}

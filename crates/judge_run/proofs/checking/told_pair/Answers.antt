@@ -1,8 +1,8 @@
--- The first fault of a trace that is rejected, with what is told after it.
+-- The first fault of a trace that is rejected, with what is reported after it.
 use Rattle.std.proofs.Common.{◌≡◌, ◌∙◌, List, ℕ, ap, length, subst}
 use Rattle.certificate_checker.specs.declared.verdict.Verdict.{Verdict}
 use Rattle.certificate_checker.specs.declared.verdict.Verdict.TheVariants.{Rejected}
-use Rattle.judge_run.specs.Told.{IsBehind}
+use Rattle.judge_run.specs.JudgeReport.{IsBehind}
 use Rattle.judge_run.specs.TraceTold.{verdict_begun}
 use Rattle.std.specs.Prelude.{string_bytes}
 use Rattle.judge_run.proofs.checking.told_pair.Goals as goal

@@ -1,4 +1,4 @@
--- What is told of the pair that was read, or of the fault.
+-- The report on the pair that was read, or on the fault.
 use Rattle.judge_run.proofs.TraceLines.{of_fault, of_pair}
 use Rattle.std.specs.Prelude.{string_bytes}
 use Rattle.judge_run.proofs.checking.told_trace.Goals as goal

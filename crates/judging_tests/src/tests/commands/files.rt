@@ -80,7 +80,7 @@ const STEPS: [Step; 32] = [
     Step::ShowInput(TRACE, "k", 0),
     Step::ShowInput(TRACE, "j", 0),
     Step::Remove("-"),
-    // also where no file has that name
+    // also if no file has that name
     Step::JudgeInput(b"", 0),
     Step::CheckInput(b"", 2),
     Step::ShowInput(TRACE, "j", 0),

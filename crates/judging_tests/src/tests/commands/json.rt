@@ -5,7 +5,7 @@ use std::alloc::Global;
 use std::hash::{BuildHasherDefault, FoldHasher};
 use trace_file::write_trace;
 
-/// A text that is judged, and what is told of it.
+/// A text that is judged, and what is reported of it.
 #[derive(Clone, Copy)]
 struct Case {
     text: &'static str,

@@ -3,7 +3,7 @@ use super::files::{checked_input, judged_input};
 use std::alloc::AllocError;
 use test_steps::WithoutRandom;
 
-/// What is told where the host has no random numbers.
+/// What is reported if the host has no random numbers.
 const TOLD: &str =
     "file fault\nno random numbers: permission denied\nthey are the seed of the tables: try again\n";
 

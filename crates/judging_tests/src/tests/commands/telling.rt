@@ -1,11 +1,11 @@
-// What is told of histories, of traces, and of what is neither.
+// What is reported of histories, of traces, and of what is neither.
 use figures::Form;
 use judge_run::{JudgeEnd, Outcome, Shown, answer_check, answer_judge, answer_show};
 use std::alloc::Global;
 use std::hash::{BuildHasherDefault, FoldHasher};
 use trace_file::{Trace, TraceFault, write_trace};
 
-/// A text that is judged, and what is told of it.
+/// A text that is judged, and what is reported of it.
 #[derive(Clone, Copy)]
 struct Case {
     text: &'static str,
@@ -26,7 +26,7 @@ the hit of red (line 3) is stale: put red (line 1) ended at 14, before put blue 
 * 3  carol  25  30  hit    red       []
 ";
 
-/// Texts, each with what is told of it. The verdicts were worked out by hand.
+/// Texts, each with what is reported of it. The verdicts were worked out by hand.
 const CASES: [Case; 14] = [
     Case {
         text: "",
@@ -242,7 +242,7 @@ fn is_shown(alloc: Global) -> bool {
 /// The line of what is no trace.
 const NO_TRACE: &str = "bad trace BadMagic at 7\n";
 
-/// Whether what is no trace is told to be none, where it is to be shown and where it is checked.
+/// Whether what is no trace is told to be none, if it is to be shown and if it is checked.
 fn is_no_trace_told(alloc: Global) -> bool {
     let mut told: Vec<u8> = Vec::new(alloc);
     let mut reader = b"KGTRACE3".as_slice();

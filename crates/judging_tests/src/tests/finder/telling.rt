@@ -57,7 +57,7 @@ fn history_of(alloc: Global, rows: &[Row]) -> Result<History, Fail> {
     Ok(history)
 }
 
-/// What a certificate shows: nothing where the checker rejects it.
+/// What a certificate shows: nothing if the checker rejects it.
 fn shown(
     alloc: Global,
     history: &History,
@@ -78,7 +78,7 @@ fn kind_of(witness: &Witness) -> Want {
     }
 }
 
-/// What is found, or nothing where a certificate was found that the checker rejects.
+/// What is found, or nothing if a certificate was found that the checker rejects.
 fn found(alloc: Global, history: &History) -> Result<Option<Want>, Fail> {
     match find(alloc, history)? {
         Found::Accepted(certificate) => shown(alloc, history, &certificate),
@@ -108,7 +108,7 @@ fn what_is_found_for_telling_histories(rt: HostRuntime) -> Result<(), Fail> {
         (&[(1, 0, 0, Did::Miss)], Want::Accepted),
         (&[(1, 0, 0, Did::Hit(1))], Want::Hit),
         (&[(1, 4, 3, Did::Remove)], Want::Interval),
-        // A hit before its put, at one stamp with it, and behind it.
+        // A hit before its put, at one stamp with it, and after it.
         (&[(1, 0, 1, Did::Hit(1)), (1, 2, 3, Did::Put(1))], Want::Hit),
         (
             &[(1, 0, 2, Did::Hit(1)), (1, 2, 3, Did::Put(1))],
@@ -118,7 +118,7 @@ fn what_is_found_for_telling_histories(rt: HostRuntime) -> Result<(), Fail> {
             &[(1, 4, 5, Did::Hit(1)), (1, 2, 3, Did::Put(1))],
             Want::Accepted,
         ),
-        // A stale hit: behind another put, and behind a removal; not where they overlap; not where they are of another key.
+        // A stale hit: after another put, and after a removal; not if they overlap; not if they are of another key.
         (
             &[
                 (1, 0, 1, Did::Put(1)),
@@ -151,7 +151,7 @@ fn what_is_found_for_telling_histories(rt: HostRuntime) -> Result<(), Fail> {
             ],
             Want::Accepted,
         ),
-        // A put that ends late, read before and behind one that it spans.
+        // A put that ends late, read before and after one that it spans.
         (
             &[
                 (1, 0, 9, Did::Put(1)),
@@ -224,7 +224,7 @@ fn what_is_found_for_telling_histories(rt: HostRuntime) -> Result<(), Fail> {
 #[test]
 fn what_is_found_for_writes_that_are_crossed(rt: HostRuntime) -> Result<(), Fail> {
     let table: [(&[Row], Want); 9] = [
-        // Between two reads of a value another one was put, or it was removed; not where the times touch.
+        // Between two reads of a value another one was put, or it was removed; not if the times touch.
         (
             &[
                 (1, 0, 9, Did::Put(1)),
@@ -261,7 +261,7 @@ fn what_is_found_for_writes_that_are_crossed(rt: HostRuntime) -> Result<(), Fail
             ],
             Want::Crossed,
         ),
-        // Puts at one time, whose reads go one behind the other, back and forth, and back and forth at equal stamps.
+        // Puts at one time, whose reads go one after the other, back and forth, and back and forth at equal stamps.
         (
             &[
                 (1, 0, 9, Did::Put(1)),

@@ -82,7 +82,7 @@ pub(super) fn hit(
     })
 }
 
-/// Two puts of a key, and a hit of the first one's value behind both.
+/// Two puts of a key, and a hit of the first one's value after both.
 pub(super) fn stale(alloc: Global) -> Result<History, AllocError> {
     let mut history = History::new(alloc);
     put(alloc, &mut history, 0, [0, 14], b"\x1b%")?;

@@ -1,6 +1,6 @@
 // Keys by their words, names, the calls of one key, and calls that have no text.
 use crate::tests::texts::lines::read;
-use history_text::{Cause, LineFault, WriteTextFault, key_bytes, word, write_text};
+use history_text::{LineCause, TextFault, WriteTextFault, key_bytes, word, write_text};
 use record_pages::Key;
 use std::alloc::{AllocError, Global};
 use std::test::Fail;
@@ -9,7 +9,7 @@ use trace_file::{Act, Call, History};
 /// A word, and the key that it writes or why it writes none.
 struct KeyWord {
     word: &'static [u8],
-    key: Result<&'static [u8], Cause>,
+    key: Result<&'static [u8], LineCause>,
 }
 
 /// Words of a command line.
@@ -32,19 +32,19 @@ const WORDS: [KeyWord; 8] = [
     },
     KeyWord {
         word: b"-",
-        key: Err(Cause::BadKeyLen),
+        key: Err(LineCause::BadKeyLen),
     },
     KeyWord {
         word: b"",
-        key: Err(Cause::BadKeyLen),
+        key: Err(LineCause::BadKeyLen),
     },
     KeyWord {
         word: b"a%2",
-        key: Err(Cause::BadKeyCode),
+        key: Err(LineCause::BadKeyCode),
     },
     KeyWord {
         word: b"%%20",
-        key: Err(Cause::BadKeyCode),
+        key: Err(LineCause::BadKeyCode),
     },
 ];
 
@@ -52,8 +52,8 @@ const WORDS: [KeyWord; 8] = [
 fn is_right(alloc: Global, row: &KeyWord) -> Result<bool, AllocError> {
     match key_bytes(alloc, row.word) {
         Ok(key) => Ok(row.key == Ok(key.as_slice())),
-        Err(LineFault::Bad(cause)) => Ok(row.key == Err(cause)),
-        Err(LineFault::OutOfMemory) => Err(AllocError),
+        Err(TextFault::Bad(cause)) => Ok(row.key == Err(cause)),
+        Err(TextFault::OutOfMemory) => Err(AllocError),
     }
 }
 

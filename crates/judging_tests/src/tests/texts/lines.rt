@@ -1,10 +1,10 @@
 // What lines spell, which are bad and why, and what is written of them.
-use history_text::{Cause, ReadTextFault, TextHistory, read_text, write_text};
+use history_text::{LineCause, ReadTextFault, TextHistory, read_text, write_text};
 use std::alloc::{AllocError, Global};
 use std::hash::{BuildHasherDefault, FoldHasher};
 use std::test::Fail;
 
-/// A text, and what is told of it: the first bad line, or the text that is written of what was read.
+/// A text, and what is reported of it: the first bad line, or the text that is written of what was read.
 struct Row {
     text: &'static [u8],
     told: &'static [u8],
@@ -204,7 +204,7 @@ pub(super) fn read(
     read_text(alloc, hash_builder, &mut left)
 }
 
-/// What is told of a text.
+/// What is reported of a text.
 fn told(alloc: Global, text: &[u8]) -> Result<Vec<u8>, AllocError> {
     match read(alloc, text) {
         Ok(read) => {
@@ -244,7 +244,7 @@ fn right_lines_are_read_and_written(rt: HostRuntime) -> Result<(), Fail> {
     Ok(())
 }
 
-/// A miss of each of so many callers.
+/// A miss of each of this many callers.
 fn callers_text(alloc: Global, count: u32) -> Result<Vec<u8>, AllocError> {
     let mut text = Vec::new(alloc);
     for caller in 0..count {
@@ -254,7 +254,7 @@ fn callers_text(alloc: Global, count: u32) -> Result<Vec<u8>, AllocError> {
     Ok(text)
 }
 
-/// Whether a text with so many callers is read, and the last one of them has this name.
+/// Whether a text with this many callers is read, and the last one of them has this name.
 fn are_read(alloc: Global, count: u32, last: &[u8]) -> Result<bool, AllocError> {
     match read(alloc, &callers_text(alloc, count)?) {
         Ok(text) => {
@@ -265,11 +265,11 @@ fn are_read(alloc: Global, count: u32, last: &[u8]) -> Result<bool, AllocError> 
     }
 }
 
-/// Whether a text with so many callers is bad at the line of the last one.
+/// Whether a text with this many callers is bad at the line of the last one.
 fn are_too_many(alloc: Global, count: u32) -> Result<bool, AllocError> {
     match read(alloc, &callers_text(alloc, count)?) {
         Err(ReadTextFault::Bad(bad)) => {
-            Ok(bad.number == u64::from(count) && bad.cause == Cause::TooManyCallers)
+            Ok(bad.number == u64::from(count) && bad.cause == LineCause::TooManyCallers)
         }
         Err(_) => Err(AllocError),
         Ok(_) => Ok(false),

@@ -4,7 +4,7 @@ use history_text::ReadTextFault;
 use std::alloc::{AllocError, Global};
 use std::test::Fail;
 
-/// A line with a piece of it so many times behind a front, and what is told of it where it is bad.
+/// A line with a piece of it this many times after a front, and what is reported of it if it is bad.
 struct Size {
     front: &'static [u8],
     piece: &'static [u8],

@@ -1,7 +1,7 @@
 // Readers and writers that give or take little, that fail, or that never end.
 use crate::tests::texts::lines::read;
 use history_text::{
-    BadLine, Cause, ReadTextFault, TextHistory, WriteTextFault, read_text, write_text,
+    BadLine, LineCause, ReadTextFault, TextHistory, WriteTextFault, read_text, write_text,
 };
 use std::alloc::Global;
 use std::hash::{BuildHasherDefault, FoldHasher};
@@ -28,7 +28,7 @@ impl Read for Endless {
     }
 }
 
-/// A reader that gives a byte at a time, and behind them fails or is at its end.
+/// A reader that gives a byte at a time, and after them fails or is at its end.
 #[derive(Drop)]
 struct Slow<'a> {
     rest: &'a [u8],
@@ -55,7 +55,7 @@ impl Read for Slow<'_> {
     }
 }
 
-/// A writer that takes so many bytes, and then fails.
+/// A writer that takes this many bytes, and then fails.
 #[derive(Drop)]
 struct Full {
     room: usize,
@@ -96,7 +96,7 @@ fn a_line_without_end_is_bad_before_more_is_read(rt: HostRuntime) -> Result<(), 
             &answer,
             Err(ReadTextFault::Bad(BadLine {
                 number: 1,
-                cause: Cause::TooLong
+                cause: LineCause::TooLong
             }))
         )
     );
@@ -146,7 +146,7 @@ fn a_bad_line_is_told_before_a_failed_read(rt: HostRuntime) -> Result<(), Fail> 
             &answer,
             Err(ReadTextFault::Bad(BadLine {
                 number: 2,
-                cause: Cause::NotWords
+                cause: LineCause::NotWords
             }))
         )
     );

@@ -19,7 +19,7 @@ pub fn reads(device: &mut Pages, page: u32, byte: u8) -> bool {
     page < device.pages() && device.read(page, &mut bytes).is_ok() && bytes == [byte; 256]
 }
 
-/// Whether a file is there and has so many bytes.
+/// Whether a file is there and has this many bytes.
 pub fn has_length<R: Files>(rt: &R, path: &str, bytes: u64) -> bool {
     match fs::metadata(rt, path) {
         Ok(found) => found.len() == bytes,

@@ -53,7 +53,7 @@ fn a_pipe_without_a_writer_is_refused_by_its_name_and_opened(rt: HostRuntime) ->
     drop(writer);
     let path = format!(in rt.alloc(); "/proc/self/fd/{}", reader.as_raw_fd())?;
     assert!(rt; is_not_regular(&rt, path.as_str()));
-    // Where it comes under the name late, it is opened, which does not wait.
+    // If it comes under the name late, it is opened, which does not wait.
     let late = LateNames { below: &rt };
     assert!(rt; is_not_regular(&late, path.as_str()));
     Ok(())

@@ -7,12 +7,12 @@ use record_pages::{
 use std::alloc::Global;
 use std::test::Fail;
 
-/// Why these bytes are no key, where they are none.
+/// Why these bytes are no key, if they are none.
 fn key_fault(alloc: Global, bytes: &[u8]) -> Option<KeyFault> {
     Key::new(alloc, bytes).err()
 }
 
-/// Why these bytes are no value, where they are none.
+/// Why these bytes are no value, if they are none.
 fn value_fault(alloc: Global, bytes: &[u8]) -> Option<ValueFault> {
     Value::new(alloc, bytes).err()
 }
@@ -32,7 +32,7 @@ fn keys_and_values_have_their_limits(rt: HostRuntime) {
     assert!(rt; Prediction::new(8).is_none());
 }
 
-/// Whether the object of key `a` and a value of so many bytes is too large for a page of 256 bytes.
+/// Whether the object of key `a` and a value of this many bytes is too large for a page of 256 bytes.
 fn is_large(alloc: Global, value: &[u8]) -> Result<bool, Fail> {
     let key = Key::new(alloc, b"a")?;
     let value = Value::new(alloc, value)?;
@@ -46,7 +46,7 @@ fn objects_have_their_limit(rt: HostRuntime) -> Result<(), Fail> {
     Ok(())
 }
 
-/// Whether a record of key `a` and a value of so many bytes fits alone on a page of 256 bytes.
+/// Whether a record of key `a` and a value of this many bytes fits alone on a page of 256 bytes.
 fn fits_alone(alloc: Global, value: &[u8]) -> Result<bool, Fail> {
     let key = Key::new(alloc, b"a")?;
     let value = TimedValue::lasting(Value::new(alloc, value)?);

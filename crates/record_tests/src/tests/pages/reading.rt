@@ -70,7 +70,7 @@ fn is_refused<const PAGE: usize>(front: &[u8], at: usize, byte: u8) -> bool
 }
 
 /// Whether a page of a row is read as it is and with other bytes that may stand there, and each byte that may not is
-/// refused: the magic, a second record where none is, no key, a value of 2,050 bytes, prediction 8, a byte behind the
+/// refused: the magic, a second record where none is, no key, a value of 2,050 bytes, prediction 8, a byte after the
 /// record and the last one. The row's header ends before `body`, and its record, of 7 or 15 bytes, at `end`.
 fn are_refused<const PAGE: usize>(front: &[u8], body: usize, end: usize) -> bool
     requires small { (0 < body) × (body < 64) }
@@ -135,7 +135,7 @@ fn values_have_their_greatest_length(rt: HostRuntime) {
     assert!(rt; !reads_a_lasting_value_of(236));
 }
 
-/// A page with this head and so many records, each of these bytes.
+/// A page with this head and this many records, each of these bytes.
 fn crowded(head: &[u8], repeated: &[u8], count: u8) -> [u8; 4096]
     requires head { length head.now ≤ 16 }
     requires some { 0 < length repeated.now }
@@ -156,7 +156,7 @@ const SMALL: [u8; 13] = [1, 0, 0, 6, 0, 0, 0, 0, 0, 0, 0, 1, 0x61];
 
 const LASTING_SMALL: [u8; 5] = [1, 0, 0, 6, 0x61];
 
-/// Whether a set page with the head of a row is read with so many records, and no page with one more is.
+/// Whether a set page with the head of a row is read with this many records, and no page with one more is.
 fn is_set_limit(row: &[u8], record: &[u8], count: u8) -> bool
     requires row { 16 ≤ length row.now }
     requires record { 0 < length record.now }

@@ -64,7 +64,7 @@ fn timed_record(alloc: Global, (key, value, number): Row, expires: u64) -> Resul
     Ok(Record { key, value, pred })
 }
 
-/// A page that begins with these bytes, and has zeros behind them.
+/// A page that begins with these bytes, and has zeros after them.
 pub fn page_of<const PAGE: usize>(front: &[u8]) -> [u8; PAGE] {
     let mut page = [0; PAGE];
     for (byte, given) in page.iter_mut().zip(front) {

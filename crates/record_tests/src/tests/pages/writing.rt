@@ -36,7 +36,7 @@ fn one_record_is_written(rt: HostRuntime) -> Result<(), Fail> {
     Ok(())
 }
 
-/// Pushes a record where it fits; whether it did.
+/// Pushes a record if it fits; whether it did.
 fn push<const PAGE: usize>(writer: &mut SetPageWriter<PAGE>, added: &Record) -> bool {
     let fits = writer.fits(added.lent());
     if fits {
@@ -45,7 +45,7 @@ fn push<const PAGE: usize>(writer: &mut SetPageWriter<PAGE>, added: &Record) -> 
     fits
 }
 
-/// Pushes a record where it fits; whether it did.
+/// Pushes a record if it fits; whether it did.
 fn push_to_log<const PAGE: usize>(writer: &mut LogPageWriter<PAGE>, added: &Record) -> bool {
     let fits = writer.fits(added.lent());
     if fits {
@@ -125,7 +125,7 @@ fn a_large_page_has_its_room(rt: HostRuntime) -> Result<(), Fail> {
     Ok(())
 }
 
-/// How many of so many tries to push a record succeed.
+/// How many of this many tries to push a record succeed.
 fn pushed(tries: u8, record: &Record) -> usize {
     let mut writer = SetPageWriter::<4096>::new();
     for _ in 0..tries {
@@ -143,7 +143,7 @@ fn pushed_to_log(tries: u8, record: &Record) -> usize {
     writer.len()
 }
 
-/// So many records of 13 bytes.
+/// This many records of 13 bytes.
 fn small(alloc: Global, count: u8) -> Result<Vec<Record>, Fail> {
     let mut records = Vec::new(alloc);
     for _ in 0..count {

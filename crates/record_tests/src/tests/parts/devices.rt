@@ -101,7 +101,7 @@ const THIRD_IS_MADE_AGAIN: [Step; 4] = [
     Step::Read(0, 7),
 ];
 
-// Whether two pages give what is written where one call is refused, none where the number is 0.
+// Whether two pages give what is written if one call is refused, none if the number is 0.
 fn gives_at_one(alloc: Global, number: u32, steps: &[Step]) -> bool {
     match MemoryDevice::<256>::new(alloc, 2) {
         Ok(device) => strayed(FuseDevice::one(device, number), steps).is_none(),
@@ -109,7 +109,7 @@ fn gives_at_one(alloc: Global, number: u32, steps: &[Step]) -> bool {
     }
 }
 
-// Whether they do where all calls from one on are refused.
+// Whether they do if all calls from one on are refused.
 fn gives_from(alloc: Global, number: u32, steps: &[Step]) -> bool {
     match MemoryDevice::<256>::new(alloc, 2) {
         Ok(device) => strayed(FuseDevice::from(device, number), steps).is_none(),

@@ -21,7 +21,7 @@ enum Look {
     OfSet(u32, usize, Option<Seen>),
     Find(u32, u16, usize, Option<Seen>),
     Oldest(Option<Seen>),
-    /// Of a segment, where some sets are passed over.
+    /// Of a segment, if some sets are passed over.
     FirstOf(u16, &'static [u32], Option<Seen>),
     OldestBut(u16, &'static [u32], Option<Seen>),
     /// The entries that a walk over a set gives.
@@ -251,7 +251,7 @@ const LEAST: Option<Seen> = Some(Seen(2, 9, 5, 1, 0, 6));
 
 const OF_SEGMENT_6: Option<Seen> = Some(Seen(1, 7, 6, 1, 2, 6));
 
-// With no set as `oldest` where that is of the segment; sets that have no entry of the segment change nothing; one whose
+// With no set as `oldest` if that is of the segment; sets that have no entry of the segment change nothing; one whose
 // entry is the oldest gives the next one; all of them give none, though the next segment has an entry of another set.
 const PASSED_OVER: [Look; 14] = [
     Look::Oldest(OLDEST),

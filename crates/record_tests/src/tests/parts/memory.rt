@@ -1,4 +1,4 @@
-// The order of small memories, and what is left where memory was refused.
+// The order of small memories, and what is left if memory was refused.
 ghost use Rattle.std.specs.Prelude.{◌<◌};
 
 use memory_cache::{MemoryCache, Pair};

@@ -17,7 +17,7 @@ const FIVE: [Row; 5] = [
     (7, 2, false, true),
 ];
 
-/// Where the second item does not fit, a smaller one behind it does.
+/// If the second item does not fit, a smaller one after it does.
 const SMALLER_BEHIND: [Row; 3] = [
     (20, 3, false, true),
     (15, 3, false, true),
@@ -104,7 +104,7 @@ fn is_choice(choice: Choice, (item, number): (usize, u8)) -> bool {
     choice.item == item && choice.prediction.get() == number
 }
 
-/// Whether a plan keeps the first items, so many, in their order.
+/// Whether a plan keeps the first items, this many, in their order.
 fn keeps_first(plan: &Plan, count: usize) -> bool {
     for index in 0..plan.len() {
         if !is_choice(plan.at(index), (index, 6)) {
@@ -154,7 +154,7 @@ const CASES: [Case; 4] = [
         By::FifoThroughTheBound,
         &[(3, 6), (4, 2), (0, 3), (1, 5)],
     ),
-    // a smaller item is kept behind one that does not fit
+    // a smaller item is kept after one that does not fit
     Case(&SMALLER_BEHIND, &[], By::Fifo, &[(0, 3), (2, 3)]),
     // the farthest item is left out
     Case(
@@ -163,7 +163,7 @@ const CASES: [Case; 4] = [
         By::RriparooThroughTheBound,
         &[(0, 0), (4, 2), (2, 6), (3, 6)],
     ),
-    // items age where all fit
+    // items age if all fit
     Case(&ALL_FIT, &[5, 7], By::Rriparoo, &[(0, 5), (1, 7)]),
 ];
 

@@ -1,4 +1,4 @@
--- What was read stands behind the bytes that were there.
+-- What was read stands after the bytes that were there.
 use Rattle.std.proofs.Common.{◌≡◌, ◌+◌, ℕ, List, take, drop, vec_len, sym, ap, ◌∙◌, subst, rules}
 use Rattle.std.specs.Io.KnownBytes.{Consumes}
 use Rattle.std.proofs.lemmas.List.{drop-take, with_items_is, places}

@@ -1,4 +1,4 @@
--- The parts are those that one space each parts; they are words or not, and where there is no room for one there are more than nine.
+-- The parts are those that one space each parts; they are words or not, and if there is no room for one there are more than nine.
 use Rattle.std.proofs.Common.{◌≡◌, ◌<◌, ◌==◌, List, ℕ, Bor, map, length, true, false, Some, IfSome, sym, ap, ◌∙◌, rules, tests, arith, inl, inr}
 use Rattle.std.specs.List.{slice_split, list_all}
 use Rattle.std.proofs.lemmas.Bool.{cases_Bool}

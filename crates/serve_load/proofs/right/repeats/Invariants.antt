@@ -1,4 +1,4 @@
--- The bytes are the word over and over exactly where the rest is.
+-- The bytes are the word over and over exactly if the rest is.
 use Rattle.std.proofs.Common.{◌↔◌, length}
 use Rattle.serve_load.proofs.Repeating.{IsRepeated}
 use Rattle.serve_load.proofs.right.repeats.Given as goal

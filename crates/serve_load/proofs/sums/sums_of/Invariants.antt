@@ -1,4 +1,4 @@
--- So many tallies add up to the sums.
+-- This many tallies add up to the sums.
 use Rattle.std.proofs.Common.{◌≤◌, ◌*◌}
 use Rattle.serve_load.specs.Tallies.{AddUp}
 use Rattle.serve_load.proofs.sums.sums_of.Given as goal

@@ -19,7 +19,7 @@ fn finds<D: PageDevice<256>, L: KeyLanes, J: Naming, R: Wait>(
     }
 }
 
-/// Whether each of so many keys is found after its put, and not after its removal.
+/// Whether each of this many keys is found after its put, and not after its removal.
 pub fn each_is_found<D: PageDevice<256>, L: KeyLanes, J: Naming, R: Wait>(
     rt: &R,
     alloc: Global,

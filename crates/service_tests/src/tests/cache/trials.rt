@@ -175,7 +175,7 @@ pub const TWO_SHARDS: Numbers = Numbers {
     slots: 1_000,
 };
 
-/// Whether a trial holds of a cache of so many shards of the small lanes, over memory.
+/// Whether a trial holds of a cache of this many shards of the small lanes, over memory.
 pub fn is_held<R: Threads + Wait + Sync>(
     rt: &R,
     alloc: Global,

@@ -7,7 +7,7 @@ use c_lane::{Hit, Step as Upkept};
 pub enum Step {
     /// A key, its value, when that expires, and the status.
     Put(&'static [u8], &'static [u8], u64, Status),
-    /// The same of a put that removes where it is refused.
+    /// The same of a put that removes if it is refused.
     Instead(&'static [u8], &'static [u8], Status),
     /// A key, the moment, the value that is found, and its tier.
     Hit(&'static [u8], u64, &'static [u8], u32),
@@ -59,7 +59,7 @@ fn gives(alloc: Global, lane: &mut CLane, leases: &mut [u64; 2], step: &Step) ->
     }
 }
 
-// Puts a value, once more where memory was refused.
+// Puts a value, once more if memory was refused.
 fn put(alloc: Global, lane: &mut CLane, key: &[u8], value: &[u8], expires: u64) -> Status {
     match lane.put(alloc, key, value, expires) {
         Status::NoMemory => lane.put(alloc, key, value, expires),
@@ -75,7 +75,7 @@ fn instead(alloc: Global, lane: &mut CLane, key: &[u8], value: &[u8]) -> Status 
     }
 }
 
-// Fills a key, once more where memory was refused.
+// Fills a key, once more if memory was refused.
 fn fill(alloc: Global, lane: &mut CLane, writes: u64, key: &[u8], value: &[u8]) -> Status {
     match lane.fill(alloc, writes, key, value, u64::MAX) {
         Status::NoMemory => lane.fill(alloc, writes, key, value, u64::MAX),
@@ -83,7 +83,7 @@ fn fill(alloc: Global, lane: &mut CLane, writes: u64, key: &[u8], value: &[u8]) 
     }
 }
 
-// Whether the value is found in the tier, and no byte behind it is written.
+// Whether the value is found in the tier, and no byte after it is written.
 fn hits(lane: &mut CLane, key: &[u8], moment: u64, value: &[u8], tier: u32) -> bool {
     let mut into = [0xeeu8; 16];
     let mut hit = NO_HIT;

@@ -15,7 +15,7 @@ use policy_laws::EvictionPolicy;
 use record_pages::{Key, KeyFault, PutFault, Value, ValueBuffer};
 use service_lane::{Filled, ServiceLane, UpkeepStep};
 
-/// A hit behind a put of its key has the value that was put: in memory whatever the device does, on flash where it gives back
+/// A hit after a put of its key has the value that was put: in memory whatever the device does, on flash if it gives back
 /// what was written.
 pub fn a_hit_is_what_was_put<D: PageDevice<PAGE>, const PAGE: usize>(
     lane: &mut ServiceLane<D, PAGE>,
@@ -40,8 +40,8 @@ pub fn a_hit_is_what_was_put<D: PageDevice<PAGE>, const PAGE: usize>(
     }
 }
 
-/// Behind a removal of its key nothing is hit, also where a step of upkeep lies between: in memory whatever the device does, on
-/// flash where it gives back what was written.
+/// After a removal of its key nothing is hit, also where a step of upkeep lies between: in memory whatever the device does, on
+/// flash if it gives back what was written.
 pub fn a_removed_key_is_not_hit<D: PageDevice<PAGE>, P: EvictionPolicy, const PAGE: usize>(
     lane: &mut ServiceLane<D, PAGE>,
     policy: &P,
@@ -117,7 +117,7 @@ pub fn a_hit_is_counted_in_its_tier<D: PageDevice<PAGE>, const PAGE: usize>(
     }
 }
 
-/// A step of upkeep writes a page or loses one, where it flushes: it seals no segment, and does nothing where nothing is due.
+/// A step of upkeep writes a page or loses one, if it flushes: it seals no segment, and does nothing if nothing is due.
 pub fn upkeep_seals_nothing<D: PageDevice<PAGE>, P: EvictionPolicy, const PAGE: usize>(
     lane: &mut ServiceLane<D, PAGE>,
     policy: &P,

@@ -39,7 +39,7 @@ pub enum Step {
     Fill(usize, &'static [u8], &'static [u8], Filled),
     Flush(Flushed),
     Move(Moved),
-    /// What a step of upkeep does, whether it may ask the device, and whether something is due behind it.
+    /// What a step of upkeep does, whether it may ask the device, and whether something is due after it.
     Tend(Upkept, bool, bool),
     /// How many steps are done in help, and whether the device may have been asked.
     Help(u32, bool),
@@ -110,7 +110,7 @@ fn gives<D: PageDevice<PAGE>, const PAGE: usize>(
     }
 }
 
-// Puts a pair, once more where memory was refused.
+// Puts a pair, once more if memory was refused.
 fn put<D: PageDevice<PAGE>, const PAGE: usize>(
     alloc: Global,
     lane: &mut ServiceLane<D, PAGE>,
@@ -136,7 +136,7 @@ fn put_or_remove<D: PageDevice<PAGE>, const PAGE: usize>(
     Ok(lane.put_or_remove(key(alloc, name)?, value(alloc, bytes)?, 0, NEVER))
 }
 
-// Fills a key, once more where memory was refused.
+// Fills a key, once more if memory was refused.
 fn fill<D: PageDevice<PAGE>, const PAGE: usize>(
     alloc: Global,
     lane: &mut ServiceLane<D, PAGE>,

@@ -71,7 +71,7 @@ const PLAN: [Asked; 10] = [
     Asked::Write(4),
 ];
 
-// Three keys with one tag, of which two have a record: the newer one is read first, and where it has the key no other.
+// Three keys with one tag, of which two have a record: the newer one is read first, and if it has the key no other.
 const ONE_TAG: [Step; 8] = [
     Step::Append(b"a", &[1; 200], ADDED),
     Step::Append(b"b", &[2; 200], ADDED),

@@ -33,7 +33,7 @@ fn a_set_is_taken_from_memory_newest_first(rt: HostRuntime) -> Result<(), Fail> 
     on(&rt, rt.alloc(), &ONE_SET, ALL_REFUSED, &TAKEN_FROM_MEMORY)
 }
 
-/// Calls before a taking of the set, between that and the dropping of what was taken, and behind it.
+/// Calls before a taking of the set, between that and the dropping of what was taken, and after it.
 #[derive(Clone, Copy)]
 struct Dropping {
     before: &'static [Step],

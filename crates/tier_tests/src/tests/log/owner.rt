@@ -26,7 +26,7 @@ impl<D: PageDevice<PAGE>, const PAGE: usize> Model for Owner<D, PAGE> {
 }
 
 impl<D: PageDevice<PAGE>, const PAGE: usize> Owner<D, PAGE> {
-    /// A log with no record, or nothing where the device is too small.
+    /// A log with no record, or nothing if the device is too small.
     pub(super) fn open(
         alloc: Global,
         layout: &Layout,
@@ -55,7 +55,7 @@ impl<D: PageDevice<PAGE>, const PAGE: usize> Owner<D, PAGE> {
         })
     }
 
-    /// What became of the record, or nothing where the object is too large for a page.
+    /// What became of the record, or nothing if the object is too large for a page.
     pub(super) fn append(&mut self, key: &Key, value: &TimedValue) -> Option<Appended>
         requires { IsPageSize PAGE }
     {
@@ -79,7 +79,12 @@ impl<D: PageDevice<PAGE>, const PAGE: usize> Owner<D, PAGE> {
     }
 
     /// Where the newest record of a key is at a moment.
-    pub(super) fn locate(&mut self, key: &[u8], moment: u64, found: &mut ValueBuffer) -> LocatedInLog
+    pub(super) fn locate(
+        &mut self,
+        key: &[u8],
+        moment: u64,
+        found: &mut ValueBuffer,
+    ) -> LocatedInLog
         requires { IsPageSize PAGE }
     {
         let placed = self.placed(key);
@@ -113,7 +118,7 @@ impl<D: PageDevice<PAGE>, const PAGE: usize> Owner<D, PAGE> {
         self.log.oldest(&[])
     }
 
-    /// What is told of the oldest segment where entries of these sets are passed over.
+    /// What is reported of the oldest segment if entries of these sets are passed over.
     pub(super) fn oldest_but(&self, passed: &[u32]) -> Oldest {
         self.log.oldest(passed)
     }
@@ -137,7 +142,7 @@ impl<D: PageDevice<PAGE>, const PAGE: usize> Owner<D, PAGE> {
         true
     }
 
-    /// Readmits what `oldest` tells, or nothing where it tells of no entry.
+    /// Readmits what `oldest` tells, or nothing if it tells of no entry.
     pub(super) fn readmit(&mut self) -> Option<Readmitted>
         requires { IsPageSize PAGE }
     {
@@ -147,7 +152,7 @@ impl<D: PageDevice<PAGE>, const PAGE: usize> Owner<D, PAGE> {
         Some(self.log.readmit(&mut self.device, &entry))
     }
 
-    /// Frees the oldest segment on the device where it has no live record, and says whether it had none.
+    /// Frees the oldest segment on the device if it has no live record, and says whether it had none.
     pub(super) fn free(&mut self) -> bool {
         let Oldest::Empty = self.log.oldest(&[]) else {
             return false;

@@ -76,7 +76,7 @@ const FAULT: Step = Step::Readmit(Some(Readmitted::Fault));
 
 const NONE: Step = Step::Readmit(None);
 
-// Behind the readmissions the oldest segment has no live record, whatever was lost.
+// After the readmissions the oldest segment has no live record, whatever was lost.
 const END: Step = Step::Empty;
 
 const FREE: Step = Step::Free(true);
@@ -88,8 +88,8 @@ const WHOLE: [Step; 14] = [
     ADD_A, ADD_B, SEAL, WRITE, WRITE, A, B, TAKE, MOVE, MOVE, END, A, B, FREE,
 ];
 
-// What comes where each call of the device is refused alone, and where it is refused with all later ones. A taking loses
-// the page of one record, and the readmission behind it that of the other.
+// What comes if each call of the device is refused alone, and if it is refused with all later ones. A taking loses
+// the page of one record, and the readmission after it that of the other.
 const REFUSED: [(&[Step], &[Step]); 9] = [
     (
         &[

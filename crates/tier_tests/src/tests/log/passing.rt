@@ -1,10 +1,10 @@
-//! What is told of the oldest segment where entries of some sets are passed over.
+//! What is reported of the oldest segment if entries of some sets are passed over.
 use super::*;
 
 // One lane of two sets: `ax` and `cx` are of set 0, `bx` of set 1.
 pub const TWO_SETS: Config = Config { sets: 2, ..ONE_SET };
 
-/// What is told of the oldest segment: the set and the slot of an entry, or that there is none.
+/// What is reported of the oldest segment: the set and the slot of an entry, or that there is none.
 #[derive(Clone, Copy, PartialEq, Eq)]
 pub enum Told {
     NoSegment,
@@ -52,7 +52,7 @@ fn entries_of_some_sets_are_passed_over(rt: HostRuntime) -> Result<(), Fail> {
     on(&rt, rt.alloc(), &TWO_SETS, NONE_REFUSED, &ONE_BY_ONE)
 }
 
-// An entry of a younger segment is not told of, where all of the oldest one are passed over.
+// An entry of a younger segment is not told of, if all of the oldest one are passed over.
 const IN_TWO_SEGMENTS: [Step; 8] = [
     Step::Append(b"ax", b"1", ADDED),
     Step::Flush(Flushed::Sealed),

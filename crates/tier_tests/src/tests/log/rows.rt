@@ -74,7 +74,7 @@ pub fn look_after_strike<D: PageDevice<PAGE>, const PAGE: usize>(
     }
 }
 
-/// Behind a step that wrote its page, an honest device gives what was live, and all other pages are as they were.
+/// After a step that wrote its page, an honest device gives what was live, and all other pages are as they were.
 pub fn look_after_write<D: PageDevice<PAGE>, const PAGE: usize>(
     alloc: Global,
     log: &mut KLog<PAGE>,
@@ -110,7 +110,7 @@ pub fn look_after_write<D: PageDevice<PAGE>, const PAGE: usize>(
     }
 }
 
-/// Behind any step, an honest device gives the newest value of a key, if it is live at the moment, unless that was on the page that the step may lose.
+/// After any step, an honest device gives the newest value of a key, if it is live at the moment, unless that was on the page that the step may lose.
 pub fn look_after_step<D: PageDevice<PAGE>, const PAGE: usize>(
     alloc: Global,
     log: &mut KLog<PAGE>,
@@ -225,7 +225,7 @@ pub fn touch_of_one_entry<const PAGE: usize>(log: &mut KLog<PAGE>, entry: &Entry
     log.touch(entry);
 }
 
-/// A taking loses entries of one page at most, over any device: where one is gone, those of other pages are live.
+/// A taking loses entries of one page at most, over any device: if one is gone, those of other pages are live.
 pub fn take_of_one_page<D: PageDevice<PAGE>, const PAGE: usize>(
     alloc: Global,
     log: &mut KLog<PAGE>,
@@ -280,7 +280,7 @@ pub fn readmit_as_newest<D: PageDevice<PAGE>, const PAGE: usize>(
     log.readmit(device, entry)
 }
 
-/// Where taken records are dropped the entries of other sets stay.
+/// If taken records are dropped the entries of other sets stay.
 pub fn drop_of_one_set<const PAGE: usize>(log: &mut KLog<PAGE>, set: u32, taken: &TakenRecords)
     ensures { (other : Entry) → Contains log.old.entries other → other.set ≢ set →
         Contains log.new.entries other }
@@ -288,7 +288,7 @@ pub fn drop_of_one_set<const PAGE: usize>(log: &mut KLog<PAGE>, set: u32, taken:
     log.drop_taken(set, taken);
 }
 
-/// A segment is freed where none of its records is live, and takes no entry with it.
+/// A segment is freed if none of its records is live, and takes no entry with it.
 pub fn free_where_empty<const PAGE: usize>(log: &mut KLog<PAGE>) -> bool
     ensures { log.new.entries ≡ log.old.entries }
 {

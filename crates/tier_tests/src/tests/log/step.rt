@@ -39,7 +39,7 @@ pub enum Step {
     Flush(Flushed),
     /// The oldest segment's first record: its tag, place and prediction.
     First(u16, Place, u8),
-    /// What is told of the oldest segment where entries of these sets are passed over.
+    /// What is reported of the oldest segment if entries of these sets are passed over.
     Oldest(&'static [u32], Told),
     /// No segment is on the device.
     NoSegment,

@@ -1,7 +1,7 @@
 //! Each call of the device refused in turn, alone and with all later ones, and pages that are not the sets'.
 use super::*;
 
-// A writing of the set, a look-up and a reading, twice: six calls of the device where none is refused.
+// A writing of the set, a look-up and a reading, twice: six calls of the device if none is refused.
 const WHOLE: [Step; 6] = [WRITES, FINDS_A, READS_A_HIT, WRITES, FINDS_B, READS_B_HIT];
 
 const READS_NONE: Step = Step::Read(&[]);
@@ -18,7 +18,7 @@ const FAULT_OF_B: Step = Step::Look(b"bx", Seen::Fault);
 
 const MISSES_B: Step = Step::Look(b"bx", Seen::Absent);
 
-// What the calls give where one call of the device is refused, from the first to the sixth.
+// What the calls give if one call of the device is refused, from the first to the sixth.
 const ALONE: [[Step; 6]; 6] = [
     [FORGETS, MISSES_A, READS_NONE, WRITES, FINDS_B, READS_B_HIT],
     [WRITES, FAULT_OF_A, READS, WRITES, FINDS_B, READS_B_HIT],
@@ -42,7 +42,7 @@ const ALONE: [[Step; 6]; 6] = [
     ],
 ];
 
-// The same where all calls from one on are refused.
+// The same if all calls from one on are refused.
 const FOR_GOOD: [[Step; 6]; 6] = [
     [FORGETS, MISSES_A, READS_NONE, FORGETS, MISSES_B, READS_NONE],
     [

@@ -97,7 +97,7 @@ fn is_last_alone_hit(read: SetRead) -> bool {
     true
 }
 
-// What is read of a set of these pairs, behind these calls.
+// What is read of a set of these pairs, after these calls.
 fn read_behind(
     rt: &impl Abort,
     alloc: Global,

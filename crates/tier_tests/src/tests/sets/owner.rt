@@ -31,7 +31,7 @@ impl<D: PageDevice<PAGE>, const PAGE: usize> Model for Owner<D, PAGE> {
 }
 
 impl<D: PageDevice<PAGE>, const PAGE: usize> Owner<D, PAGE> {
-    /// All sets empty, or nothing where the device is too small.
+    /// All sets empty, or nothing if the device is too small.
     pub(super) fn open(
         alloc: Global,
         layout: &Layout,
@@ -70,7 +70,12 @@ impl<D: PageDevice<PAGE>, const PAGE: usize> Owner<D, PAGE> {
     }
 
     /// What is located of the bytes of a key.
-    pub(super) fn locate(&mut self, key: &[u8], moment: u64, found: &mut ValueBuffer) -> LocatedInSet
+    pub(super) fn locate(
+        &mut self,
+        key: &[u8],
+        moment: u64,
+        found: &mut ValueBuffer,
+    ) -> LocatedInSet
         requires { IsPageSize PAGE }
     {
         let placed = place(&self.layout, key);

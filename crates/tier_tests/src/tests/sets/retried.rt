@@ -30,7 +30,7 @@ fn record(alloc: Global, pair: &Pair) -> Result<Record, Fail> {
     Ok(Record { key, value, pred })
 }
 
-// Adds a record where it fits.
+// Adds a record if it fits.
 fn push<const PAGE: usize>(writer: &mut SetPageWriter<PAGE>, record: &Record) {
     if writer.fits(record.lent()) {
         writer.push(record.lent());

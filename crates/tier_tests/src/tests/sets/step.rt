@@ -71,7 +71,13 @@ fn gives<D: PageDevice<PAGE>, const PAGE: usize>(
         Step::Locate(key, wanted, held) => {
             Ok(is_located(owner, key, EXPIRES - 1, *wanted, held))
         }
-        Step::LocateLate(key) => Ok(is_located(owner, key, EXPIRES, LocatedInSet::Expired, WAS_HELD)),
+        Step::LocateLate(key) => Ok(is_located(
+            owner,
+            key,
+            EXPIRES,
+            LocatedInSet::Expired,
+            WAS_HELD,
+        )),
         Step::Touch(key, slot) => Ok(touches(owner, key, *slot)),
         Step::WriteOf(key, pairs) => Ok(
             rewrite_of(alloc, owner, key, pairs)? == Rewritten::Written,

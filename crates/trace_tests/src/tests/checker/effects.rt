@@ -40,7 +40,7 @@ impl Read for CountedReads<'_> {
     }
 }
 
-/// A writer that fails at one of its calls, and takes at most so many bytes at the others.
+/// A writer that fails at one of its calls, and takes at most this many bytes at the others.
 #[derive(Drop)]
 struct CountedWrites {
     fails_at: u32,

@@ -4,7 +4,7 @@ use std::alloc::AllocError;
 use std::hash::{BuildHasher, Hasher};
 use std::test::Fail;
 
-/// Eight bytes behind which all keys have one hash under the toolchain's `FoldHasher`, whose seed is known.
+/// Eight bytes after which all keys have one hash under the toolchain's `FoldHasher`, whose seed is known.
 const KNOWN: [u8; 8] = [0x15, 0x7c, 0x4a, 0x7f, 0xb9, 0x79, 0x37, 0x9e];
 
 /// The hash of a key.

@@ -42,7 +42,7 @@ impl Read for CountedReads<'_> {
     }
 }
 
-/// A writer that fails at one of its calls, takes at most so many bytes at the others, and notes how it
+/// A writer that fails at one of its calls, takes at most this many bytes at the others, and notes how it
 /// is called.
 #[derive(Drop)]
 struct CountedWrites {
@@ -70,7 +70,7 @@ impl Write for CountedWrites {
     }
 }
 
-/// What is read, the long trace where nothing is named, the number of the read that fails, how often the reader is called, and the
+/// What is read, the long trace if nothing is named, the number of the read that fails, how often the reader is called, and the
 /// fault.
 #[derive(Clone, Copy)]
 struct Reads(Option<&'static [u8]>, u32, u32, Option<TraceFault>);

@@ -1,4 +1,4 @@
--- No bit of four words is one exactly where the words are zeros.
+-- No bit of four words is one exactly when the words are zeros.
 use Rattle.std.proofs.Common.{◌<◌, ◌^◌, get_or, ◌∙◌, sym, arith}
 use Rattle.bloom.proofs.public_laws.FilterLaws.{tells-empty}
 use Rattle.bloom.proofs.filter.Filter.is_empty.Goals as goal

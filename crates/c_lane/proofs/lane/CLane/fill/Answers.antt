@@ -1,4 +1,4 @@
--- A fill that the lane stored, and the help behind it.
+-- A fill that the lane stored, and the help after it.
 use Rattle.std.proofs.Common.{subst}
 use Rattle.record_pages.specs.declared.put_fault.PutFault.{PutFault}
 use Rattle.service_lane.specs.declared.filled.Filled.{Filled}

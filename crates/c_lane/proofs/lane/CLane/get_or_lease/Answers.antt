@@ -1,4 +1,4 @@
--- A get, and the lease behind one that missed.
+-- A get, and the lease after one that missed.
 use Rattle.std.proofs.Common.{refl, sym, subst, ◌∙◌}
 use Rattle.c_lane.specs.Getting.{Answers}
 use Rattle.c_lane.specs.Lane.{LaneState, laws_of}

@@ -1,4 +1,4 @@
--- A put that the lane stored, and the help behind it.
+-- A put that the lane stored, and the help after it.
 use Rattle.std.proofs.Common.{subst}
 use Rattle.c_lane.specs.Lane.{LaneState, laws_of}
 use Rattle.c_lane.specs.Putting.{Stores}

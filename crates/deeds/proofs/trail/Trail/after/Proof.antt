@@ -32,12 +32,12 @@ use denote.Triple.Walked.{says, Stays, stay_dropped, walk_of, ends_at, Goes-drop
 use Rattle.deeds.specs.contracts.trail.Trail.after.{ended, clauses}
 use Rattle.deeds.specs.contracts.trail.Trail.after.Key.{name as #self}
 use Rattle.deeds.specs.Trails.{deeds_after}
-use Rattle.deeds.specs.contracts.next.Next as Next
+use Rattle.deeds.specs.contracts.trail_step.TrailStep as TrailStep
 use Rattle.deeds.proofs.trail.Trail.after.Statement as stated
 use Rattle.deeds.proofs.trail.Trail.after.Code as code
 
 abbrev stayed : Stays ended.signature.params ended.kept
-stayed = (stay_dropped (RefOf (0 ∷ []) tt (plain (λ κs. Next.the_row (named_lft 2 1 tt κs))) (λ _. tt)) yes, tt)
+stayed = (stay_dropped (RefOf (0 ∷ []) tt (plain (λ κs. TrailStep.the_row (named_lft 2 1 tt κs))) (λ _. tt)) yes, tt)
 
 module _ {M : Type 1} {𝓤 : Ura M} (𝓛 : Logic 𝓤) (at_mem : Memory → SProp 𝓤) (run : Routine → Fun 𝓤) where
   open 𝓛 use {H}
@@ -81,7 +81,7 @@ module _ {M : Type 1} {𝓤 : Ura M} (𝓛 : Logic 𝓤) (at_mem : Memory → SP
 
   meets : (𝓣 : Tables 𝓤 H) → Meets 𝓛 ended.signature (WpFn 𝓤 H 𝓣.C 𝓣.Λ code.function) (closing 𝓛 ended held)
   meets 𝓣 =
-      walk_Meets 𝓛 ended stayed (Goes-dropped 𝓛 2 (RefOf (0 ∷ []) tt (plain (λ κs. Next.the_row (named_lft 2 1 tt κs))) (λ _. tt)) yes (λ κs x f. refl), tt) held
+      walk_Meets 𝓛 ended stayed (Goes-dropped 𝓛 2 (RefOf (0 ∷ []) tt (plain (λ κs. TrailStep.the_row (named_lft 2 1 tt κs))) (λ _. tt)) yes (λ κs x f. refl), tt) held
       (WpFn 𝓤 H 𝓣.C 𝓣.Λ code.function) (WpFn-mono 𝓤 H 𝓛.laws 𝓣 code.function)
       (λ z. let a = z.0.3 in let vss = z.0.4 in let Rs : List RattleType = types_at ended.signature.params z.0.0 in
       fact_use 𝓤 (Are Rs (Ises Rs) a vss) (via 𝓤 (sem 𝓛 (owns Rs a vss)) (via 𝓤 (on_entry 𝓛 ended.signature z.0.0 z.0.1 a vss) (fst∗ 𝓤 (on_entry 𝓛 ended.signature z.0.0 z.0.1 a vss) ((held z.0.0 a).requires z.1)) (snd∗ 𝓤 (alive 𝓛 ended.signature z.0.0 z.0.1) (sem 𝓛 (owns Rs a vss)))) (owns_show 𝓛 Rs (Ises Rs) (showss 𝓛 Rs) a vss)) (λ are.

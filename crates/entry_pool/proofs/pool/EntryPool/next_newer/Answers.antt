@@ -1,4 +1,4 @@
--- What the mark leads to is what comes behind it, where the nodes are turned round.
+-- What the mark leads to is what comes after it, if the nodes are turned round.
 use Rattle.std.proofs.Common.{◌≡◌, List, ◌∷◌, reverse, inl, inr, ap, ◌∙◌, arith}
 use Rattle.entry_pool.specs.declared.links.Links.{Links}
 use Rattle.entry_pool.specs.declared.row.Row.{Row}

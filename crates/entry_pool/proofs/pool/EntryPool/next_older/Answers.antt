@@ -1,4 +1,4 @@
--- What the mark leads to is what comes behind it.
+-- What the mark leads to is what comes after it.
 use Rattle.std.proofs.Common.{◌≡◌, inl, inr, arith}
 use Rattle.entry_pool.specs.Chains.{none, IsIn}
 use Rattle.entry_pool.specs.Linked.{chains_of}

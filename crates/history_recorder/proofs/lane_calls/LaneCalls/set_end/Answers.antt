@@ -1,4 +1,4 @@
--- Set where there is such a position, and else as it was.
+-- Set if there is such a position, and otherwise as it was.
 use Rattle.std.proofs.Common.{◌≡◌, List, arith, sym, ap, ◌∙◌, subst}
 use Rattle.history_recorder.specs.declared.booked.Booked.{Booked}
 use Rattle.history_recorder.specs.Books.{ended_at}

@@ -9,7 +9,7 @@ use Rattle.klog.specs.Moves.{is_taken, dropped}
 use Rattle.klog.proofs.LiveLaws.{log_kept, spelled_kept, live_on-kept}
 use Rattle.klog.proofs.log.KLog.drop_taken.Goals as goal
 
--- a log without the entries that pass, by this number and so many names, is one of which the records were dropped
+-- a log without the entries that pass, by this number and this many names, is one of which the records were dropped
 by_names : (x k : LogState) (set : ℕ) (ts : List TakenRecord) (f n : ℕ) → f ≡ k.first → n ≡ names k → x ≡ with_list k (without (passes_of set (is_source_by (record { taken = ts; first = f; names = n }))) k.entries) → x ≡ dropped k set ts
 by_names x k set ts f n first many is =
     is

@@ -1,4 +1,4 @@
--- A row of the kind goes, and what is not of the kind stays behind the mark.
+-- A row of the kind goes, and what is not of the kind stays after the mark.
 use Rattle.std.proofs.Common.{◌<◌, length, sym, subst}
 use Rattle.entry_pool.specs.Chains.{none}
 use Rattle.entry_pool.specs.Rows.{Rows, rows_after}

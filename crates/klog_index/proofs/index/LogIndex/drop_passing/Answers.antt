@@ -1,4 +1,4 @@
--- A row of the set that passes goes, and what does not stays behind the mark.
+-- A row of the set that passes goes, and what does not stays after the mark.
 use Rattle.std.proofs.Common.{◌≡◌, ◌<◌, ℕ, Some, true, false, eqb, length, sym, ap, subst, ◌∙◌}
 use Rattle.std.proofs.lemmas.Bool.{and_from, eq-eqb}
 use Rattle.entry_pool.specs.Chains.{none}

@@ -4,7 +4,7 @@ use Rattle.std.specs.FinSet.{FinSet, contains, insert, len}
 use Rattle.kset.proofs.public_laws.NotesLaws.{from_list-put, len-insert_new}
 use Rattle.kset.proofs.strikes.Strikes.push.Goals as goal
 
--- there is a place behind the others
+-- there is a place after the others
 within : (c : goal.After-self-1) → c.self.inside.count < length c.self.inside.hashes
 within c =
     let counted : len c.args.self.now ≡ c.self.inside.count = sym (ap len c.self.view_is) ∙ c.self.invariant.1 in

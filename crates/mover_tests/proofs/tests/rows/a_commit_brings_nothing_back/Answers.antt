@@ -1,4 +1,4 @@
--- A commit behind a removal.
+-- A commit after a removal.
 use Rattle.std.proofs.Common.{IsTrue, sym, subst}
 use Rattle.mover.specs.Lane.{lane_of}
 use Rattle.mover_tests.proofs.Struck.{removed_is_not_written}

@@ -1,4 +1,4 @@
--- What a commit leaves of other sets where its page was not written.
+-- What a commit leaves of other sets if its page was not written.
 use Rattle.std.proofs.Common.{subst}
 use Rattle.mover.specs.Commit.{CommitLeaves}
 use Rattle.mover_tests.proofs.PutRow.{others_stay}

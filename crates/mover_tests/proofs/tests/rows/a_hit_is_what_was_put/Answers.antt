@@ -1,4 +1,4 @@
--- A get behind a put.
+-- A get after a put.
 use Rattle.std.specs.Prelude.{List, ℕ}
 use Rattle.mover.specs.Get.{GetGives}
 use Rattle.std.proofs.Common.{IsTrue, sym, subst}

@@ -1,4 +1,4 @@
--- A get behind a put, over any device.
+-- A get after a put, over any device.
 use Rattle.std.proofs.Common.{◌≡◌, List, ℕ, Some, refl, sym, subst, ◌∙◌}
 use Rattle.record_pages.specs.Expiry.{timed}
 use Rattle.memory_cache.specs.MemoryList.{value_in}

@@ -1,4 +1,4 @@
--- A get behind a removal.
+-- A get after a removal.
 use Rattle.std.proofs.Common.{IsTrue, sym, subst}
 use Rattle.mover.specs.Lane.{lane_of}
 use Rattle.mover_tests.proofs.Struck.{removed_is_missed}

@@ -214,7 +214,7 @@ fn agree_on_segment(index: &LogIndex, plain: &PlainIndex, segment: u16, sets: &[
         && index.oldest_but(segment, sets) == plain.oldest_but(segment, sets)
 }
 
-// Whether both give the same answers behind a step.
+// Whether both give the same answers after a step.
 fn step_agrees(index: &mut LogIndex, plain: &mut PlainIndex, step: Step) -> Result<bool, Fail>
     requires { index.old.sets ≡ 256 }
     ensures { index.new.sets ≡ 256 }
@@ -223,7 +223,7 @@ fn step_agrees(index: &mut LogIndex, plain: &mut PlainIndex, step: Step) -> Resu
     Ok(both && agree(index, plain))
 }
 
-// Whether all steps leave both with the same answers, with room for so many entries.
+// Whether all steps leave both with the same answers, with room for this many entries.
 fn all_agree(alloc: Global, limit: u32) -> Result<bool, Fail>
     requires { limit < 1000 }
 {

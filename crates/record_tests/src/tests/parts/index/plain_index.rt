@@ -32,7 +32,7 @@ impl PlainIndex {
         Ok(true)
     }
 
-    /// The newest of these entries behind so many of them.
+    /// The newest of these entries after this many of them.
     pub fn nth(&self, which: Which, skip: usize) -> Option<Entry> {
         let mut left = skip;
         for entry in self.entries.iter() {
@@ -46,7 +46,7 @@ impl PlainIndex {
         None
     }
 
-    /// Whether there are so many of these entries.
+    /// Whether there are this many of these entries.
     pub fn has_just(&self, which: Which, count: usize) -> bool {
         self.nth(which, count).is_none() && (count == 0 || self.nth(which, count - 1).is_some())
     }

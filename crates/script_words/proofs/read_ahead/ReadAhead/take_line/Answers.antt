@@ -1,4 +1,4 @@
--- A line that was taken is the first one, and what is left stands behind it.
+-- A line that was taken is the first one, and what is left stands after it.
 use Rattle.std.proofs.Common.{◌≡◌, [], ◌+◌, length, take, min, rules}
 use Rattle.script_words.proofs.FirstLine.{takes}
 use Rattle.script_words.proofs.read_ahead.ReadAhead.take_line.Goals as goal

@@ -1,11 +1,11 @@
 -- The counts are those of one of the load's callers.
 use Rattle.std.proofs.Common.{arith}
-use Rattle.serve_load.specs.declared.counted.Counted.{Counted}
+use Rattle.serve_load.specs.declared.caller_tally.CallerTally.{CallerTally}
 use Rattle.serve_load.proofs.Making.{has_ended, is_tally, no_operations}
 use Rattle.serve_load.proofs.caller.Caller.make_all.Goals as goal
 
 -- what a caller counts that made nothing
-abbrev none : Counted
+abbrev none : CallerTally
 none = record { operations = 0; refused = 0; wrong_hits = 0 }
 
 pub invariant_of-result : goal.invariant_of-result

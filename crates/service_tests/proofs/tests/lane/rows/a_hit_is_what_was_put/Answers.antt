@@ -1,4 +1,4 @@
--- The value behind a put is the one that was put, since it is the key's latest.
+-- The value after a put is the one that was put, since it is the key's latest.
 use Rattle.std.proofs.Common.{List, ℕ, subst}
 use Rattle.certificate_checker.specs.Latest.{IsLive}
 use Rattle.service_tests.proofs.LaneRows.{ok_same, put_is_live, in_memory, in_any}

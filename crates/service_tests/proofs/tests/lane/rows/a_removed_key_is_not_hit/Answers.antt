@@ -1,4 +1,4 @@
--- Behind a removal no value is live, and a step of upkeep adds no deed.
+-- After a removal no value is live, and a step of upkeep adds no deed.
 use Rattle.std.proofs.Common.{◌∙◌, refl, subst}
 use Rattle.std.specs.Prelude.{IfOk}
 use Rattle.record_pages.specs.declared.tier.Tier.TheVariants.{Memory}

@@ -1,0 +1,66 @@
+// A call in numbers.
+ghost use Rattle.std.specs.Prelude.{◌≡◌, ◌<◌, Some, length, slice_get};
+ghost use Rattle.trace_file.specs.Lent.{act_shown};
+ghost use Rattle.certificate_finder.specs.Steps.{kind_of as kind_of_act};
+
+use crate::call_kind::CallKind;
+use trace_file::{ActRef, CallRef};
+
+/// A call, with a number in place of its key and one in place of its value.
+#[derive(Clone, Copy)]
+pub(crate) struct NumberedCall {
+    /// The number of its key.
+    pub(crate) key: u32,
+    /// The number of its value.
+    pub(crate) value: u32,
+    /// What it does.
+    pub(crate) kind: CallKind,
+    /// The stamp at which it started.
+    pub(crate) start: u64,
+    /// The stamp at which it ended.
+    pub(crate) end: u64,
+    /// When what it put expires, or the moment at which it was asked for.
+    pub(crate) time: u64,
+}
+
+impl NumberedCall {
+    ghost use Rattle.trace_file.specs.Lent.{call_shown};
+    ghost use Rattle.certificate_finder.specs.Steps.{IsStep};
+
+    /// The call with these numbers.
+    pub(crate) fn of(call: &CallRef<'_>, key: u32, value: u32) -> NumberedCall
+        ensures key { result.key ≡ key }
+        ensures value { result.value ≡ value }
+        ensures step { IsStep (call_shown call.now) result }
+    {
+        let kind = kind_of(&call.act);
+        NumberedCall {
+            key,
+            value,
+            kind,
+            start: call.start,
+            end: call.end,
+            time: call.act.time(),
+        }
+    }
+}
+
+/// The kind of an act.
+fn kind_of(act: &ActRef<'_>) -> CallKind
+    ensures { result ≡ kind_of_act (act_shown act.now) }
+{
+    match act {
+        ActRef::Put(..) => CallKind::Put,
+        ActRef::Remove => CallKind::Remove,
+        ActRef::Hit(..) => CallKind::Hit,
+        ActRef::Miss => CallKind::Miss,
+    }
+}
+
+/// The call at a position.
+pub(crate) fn step_at(steps: &[NumberedCall], position: usize) -> NumberedCall
+    requires { position < length steps.now }
+    ensures { slice_get steps.now position ≡ Some result }
+{
+    steps[position]
+}
