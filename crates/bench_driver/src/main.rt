@@ -2,7 +2,7 @@
 //! that serves.
 #![tactic(auto)]
 
-use command_line::{Ended, Ending, Line, LineFault, answer_script, asked, tell_help};
+use command_line::{Ending, Line, LineFault, ProgramEnd, answer_script, asked, tell_help};
 use judge_run::{run_check, run_judge, run_show};
 use key_hash::RandomSeed;
 use load_run::run_load;
@@ -36,10 +36,10 @@ fn main(rt: HostRuntime) -> ExitCode {
         }
         Err(LineFault::Usage(text)) => {
             let _ = eprint!(rt; "{text}");
-            Ended::plain(Ending::BadWords)
+            ProgramEnd::plain(Ending::BadWords)
         }
-        Err(LineFault::Help(text)) => Ended::plain(tell_help(&mut output, text.as_str())),
-        Err(LineFault::OutOfMemory) => Ended::plain(Ending::OutOfMemory),
+        Err(LineFault::Help(text)) => ProgramEnd::plain(tell_help(&mut output, text.as_str())),
+        Err(LineFault::OutOfMemory) => ProgramEnd::plain(Ending::OutOfMemory),
     };
     ended.tell(&mut rt.stderr());
     ended.code()
@@ -47,15 +47,15 @@ fn main(rt: HostRuntime) -> ExitCode {
 
 /// Answers the script of standard input on standard output, through a buffer. The tables of its verdicts have a seed of
 /// their own.
-fn script(rt: &(impl Input + Print + RandomSource + AllocGlobal)) -> Ended {
+fn script(rt: &(impl Input + Print + RandomSource + AllocGlobal)) -> ProgramEnd {
     let hash_builder = match RandomSeed::draw(rt) {
         Ok(hash_builder) => hash_builder,
-        Err(error) => return Ended::without_random(error),
+        Err(error) => return ProgramEnd::without_random(error),
     };
     let Ok(mut writer) = BufWriter::new(rt.alloc(), io::writer(rt)) else {
-        return Ended::plain(Ending::OutOfMemory);
+        return ProgramEnd::plain(Ending::OutOfMemory);
     };
-    Ended::plain(answer_script::<PAGE, _, _, _>(
+    ProgramEnd::plain(answer_script::<PAGE, _, _, _>(
         rt.alloc(),
         hash_builder,
         &mut rt.reader(),

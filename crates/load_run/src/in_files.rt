@@ -3,9 +3,9 @@ ghost use Rattle.std.specs.Prelude.{IfErr, IfOk};
 ghost use Rattle.load_run.specs.Devices.{AreDevicesFor};
 ghost use Rattle.load_run.specs.Ends.{IsUnopened};
 
-use crate::cause::Cause;
-use crate::ended::Ended;
+use crate::run_cause::RunCause;
 use crate::run_end::RunEnd;
+use crate::run_outcome::RunOutcome;
 use crate::shared::PAGE;
 use file_device::{FileDevice, LaneFileFault, lanes_in_files};
 use load::FileName;
@@ -22,14 +22,16 @@ pub fn in_files<R: Files<File = File>>(
     alloc: Global,
     layout: &Layout,
     folder: &FileName,
-) -> Result<Vec<FileDevice<PAGE>>, Ended>
+) -> Result<Vec<FileDevice<PAGE>>, RunOutcome>
     ensures all { IfOk result (λ devices.
         AreDevicesFor (λ d. d.pages) layout.now devices.items) }
     ensures refused { IfErr result (λ ended. IsUnopened ended.end) }
 {
     match lanes_in_files(rt, alloc, folder.as_str(), layout.lanes, layout.pages()) {
         Ok(devices) => Ok(devices),
-        Err(LaneFileFault::OutOfMemory) => Err(Ended::plain(RunEnd::OutOfMemory)),
-        Err(LaneFileFault::Unopened(path, fault)) => Err(Ended::failed(Cause::Device(path, fault))),
+        Err(LaneFileFault::OutOfMemory) => Err(RunOutcome::plain(RunEnd::OutOfMemory)),
+        Err(LaneFileFault::Unopened(path, fault)) => Err(RunOutcome::failed(RunCause::Device(
+            path, fault,
+        ))),
     }
 }

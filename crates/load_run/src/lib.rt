@@ -2,14 +2,14 @@
 #![tactic(auto)]
 
 mod caller;
-mod cause;
 mod crew;
-mod ended;
 mod hits;
 mod in_files;
 mod load_result;
 mod run;
+mod run_cause;
 mod run_end;
+mod run_outcome;
 mod shared;
 mod summary;
 mod telling;

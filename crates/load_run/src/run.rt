@@ -7,12 +7,12 @@ ghost use Rattle.load_run.specs.Ends.{status_of};
 ghost use Rattle.load_run.specs.Runs.{IsRunOf, IsSaid, IsSummaryOf, WroteSummary};
 ghost use Rattle.load_run.specs.Wholes.{IsWhole};
 
-use crate::cause::Cause;
-use crate::ended::Ended;
 use crate::hits::hits_of;
 use crate::in_files::in_files;
 use crate::load_result::{LoadResult, make_history};
+use crate::run_cause::RunCause;
 use crate::run_end::RunEnd;
+use crate::run_outcome::RunOutcome;
 use crate::shared::{PAGE, open};
 use crate::summary::Summary;
 use crate::telling::{tell_end, tell_step};
@@ -64,17 +64,17 @@ fn run_to_end<
     R: Threads + Wait + Sync + AllocGlobal + Files<File = File> + Clock + RandomSource,
     O: Write,
     E: Write + IsTerminal,
->(rt: &R, load: &Load, out: &mut O, err: &mut E) -> Ended
+>(rt: &R, load: &Load, out: &mut O, err: &mut E) -> RunOutcome
     ensures shares { (result.end ≡ RunEnd.SharesExceed) ↔ (100 < load.now.gets + load.now.removes) }
     ensures wrote { WroteSummary load.now (O.contents out.old) (O.contents out.new) result.end }
     ensures accepted { load.now.device ≡ None → result.end ≢ RunEnd.Rejected }
 {
     if load.gets + load.removes > 100 {
-        return Ended::plain(RunEnd::SharesExceed);
+        return RunOutcome::plain(RunEnd::SharesExceed);
     }
     let _opened = match open_trace(rt, &load.trace) {
         Ok(file) => file,
-        Err(error) => return Ended::failed(Cause::Opening(error)),
+        Err(error) => return RunOutcome::failed(RunCause::Opening(error)),
     };
     match &load.device {
         Some(folder) => match in_files(rt, rt.alloc(), &load.layout, folder) {
@@ -83,7 +83,7 @@ fn run_to_end<
         },
         None => match lanes_in_memory(rt.alloc(), load.layout.lanes, load.layout.pages()) {
             Ok(devices) => run_over(rt, load, devices, out, err),
-            Err(_) => Ended::plain(RunEnd::OutOfMemory),
+            Err(_) => RunOutcome::plain(RunEnd::OutOfMemory),
         },
     }
 }
@@ -94,7 +94,7 @@ fn run_over<
     R: Threads + Wait + Sync + AllocGlobal + Files + Clock + RandomSource,
     O: Write,
     E: Write + IsTerminal,
->(rt: &R, load: &Load, devices: Vec<D>, out: &mut O, err: &mut E) -> Ended
+>(rt: &R, load: &Load, devices: Vec<D>, out: &mut O, err: &mut E) -> RunOutcome
     requires { AreDevicesFor D.page_count load.now.layout devices.items }
     ensures shares { result.end ≢ RunEnd.SharesExceed }
     ensures wrote { WroteSummary load.now (O.contents out.old) (O.contents out.new) result.end }
@@ -102,15 +102,15 @@ fn run_over<
 {
     let seed = match RandomSeed::draw(rt) {
         Ok(seed) => seed,
-        Err(error) => return Ended::failed(Cause::Random(error)),
+        Err(error) => return RunOutcome::failed(RunCause::Random(error)),
     };
     let made = match run_cache(rt, rt.alloc(), load, devices, err) {
         Ok(made) => made,
-        Err(fault) => return Ended::unfinished(fault),
+        Err(fault) => return RunOutcome::unfinished(fault),
     };
     tell_step(err, load, "judging");
     let Ok(summary) = summary_of(rt.alloc(), seed, &made) else {
-        return Ended::plain(RunEnd::OutOfMemory);
+        return RunOutcome::plain(RunEnd::OutOfMemory);
     };
     tell_step(err, load, "writing the trace");
     if let Err(ended) = save(
@@ -180,37 +180,37 @@ fn save<R: AllocGlobal + Files>(
     name: &FileName,
     history: &History,
     certificate: &Certificate,
-) -> Result<(), Ended>
+) -> Result<(), RunOutcome>
     ensures { IfErr result (λ ended. (ended.end ≡ RunEnd.OutOfMemory) ⊎ (ended.end ≡ RunEnd.FileFault)) }
 {
     let file = match fs::create(rt, name.as_str()) {
         Ok(file) => file,
-        Err(error) => return Err(Ended::failed(Cause::Opening(error))),
+        Err(error) => return Err(RunOutcome::failed(RunCause::Opening(error))),
     };
     let Ok(mut writer) = BufWriter::new(rt.alloc(), file) else {
-        return Err(Ended::plain(RunEnd::OutOfMemory));
+        return Err(RunOutcome::plain(RunEnd::OutOfMemory));
     };
     if write_trace(history, certificate, &mut writer).is_err() {
-        return Err(Ended::failed(Cause::Writing));
+        return Err(RunOutcome::failed(RunCause::Writing));
     }
     if writer.flush().is_err() {
-        return Err(Ended::failed(Cause::Writing));
+        return Err(RunOutcome::failed(RunCause::Writing));
     }
     Ok(())
 }
 
 /// Writes what is reported of a run that was judged, and answers how the run ended.
-fn write_summary<O: Write>(alloc: Global, form: Form, summary: &Summary, out: &mut O) -> Ended
+fn write_summary<O: Write>(alloc: Global, form: Form, summary: &Summary, out: &mut O) -> RunOutcome
     ensures { IsSaid form summary.now (O.contents out.old) (O.contents out.new) result.end }
 {
     let Ok(text) = summary.text(alloc, form) else {
-        return Ended::plain(RunEnd::OutOfMemory);
+        return RunOutcome::plain(RunEnd::OutOfMemory);
     };
     if out.write_all(text.as_bytes()).is_err() {
-        return Ended::failed(Cause::Output);
+        return RunOutcome::failed(RunCause::Output);
     }
     if out.flush().is_err() {
-        return Ended::failed(Cause::Output);
+        return RunOutcome::failed(RunCause::Output);
     }
-    Ended::judged(summary)
+    RunOutcome::judged(summary)
 }

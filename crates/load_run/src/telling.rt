@@ -1,8 +1,8 @@
 // What a user sees of a run, beside what it found.
 ghost use Rattle.std.specs.Prelude.{◌≡◌, ◌*◌};
 
-use crate::ended::Ended;
 use crate::run_end::RunEnd;
+use crate::run_outcome::RunOutcome;
 use load::Load;
 use std::io::{IsTerminal, Write};
 
@@ -27,7 +27,7 @@ pub fn tell_step<E: Write + IsTerminal>(err: &mut E, load: &Load, step: &str) {
 }
 
 /// Tells how a run ended: the line of its end, if that has one, then what failed and what to do. What `err` refuses is not told.
-pub fn tell_end<E: Write>(err: &mut E, load: &Load, ended: &Ended) {
+pub fn tell_end<E: Write>(err: &mut E, load: &Load, ended: &RunOutcome) {
     let _ = ended.end.tell(err);
     tell_advice(err, load, ended.end);
     if let Some(cause) = &ended.cause {

@@ -8,12 +8,12 @@ ghost use Rattle.serve_load.specs.Reports.{IsMade, IsReportOf};
 ghost use Rattle.serve_load.specs.Tallies.{upto};
 
 use crate::caller::Caller;
-use crate::cause::Cause;
 use crate::crew::{operations, run_crew};
-use crate::ended::Ended;
 use crate::lane_end::{LaneEnd, lane_ends, total_of};
 use crate::report::Report;
+use crate::serve_cause::ServeCause;
 use crate::serve_end::ServeEnd;
+use crate::serve_outcome::ServeOutcome;
 use crate::sums::{Sums, sums_of};
 use crate::tally::{Tally, Tallying};
 use crossbeam_channel::bounded;
@@ -46,7 +46,7 @@ pub(crate) fn make<
     load: &ServedLoad,
     cache: &ServiceCache<D, P, PAGE, L, J>,
     err: &mut E,
-) -> Result<Report, Ended>
+) -> Result<Report, ServeOutcome>
     requires lanes { 0 < lanes_of cache.now }
     requires most { M.most ≡ load.now.operations }
     requires tallies { (counted : CallerTally) → IsTally load.now counted → M.is_tally counted }
@@ -55,27 +55,27 @@ pub(crate) fn make<
     ensures refused { IfErr result (λ ended. IsFailure ended.end) }
 {
     let Ok(callers) = callers_of(alloc, load, cache.seat()) else {
-        return Err(Ended::plain(ServeEnd::OutOfMemory));
+        return Err(ServeOutcome::plain(ServeEnd::OutOfMemory));
     };
     let Ok((to, from)) = bounded::<Tally<M>, _>(alloc, load.callers as usize) else {
-        return Err(Ended::plain(ServeEnd::OutOfMemory));
+        return Err(ServeOutcome::plain(ServeEnd::OutOfMemory));
     };
     let start = match Instant::now(rt) {
         Ok(start) => start,
-        Err(error) => return Err(Ended::failed(Cause::Clock(error))),
+        Err(error) => return Err(ServeOutcome::failed(ServeCause::Clock(error))),
     };
     let milliseconds = match run_crew(rt, alloc, cache, load, callers, &start, &to, err) {
         Ok(milliseconds) => milliseconds,
-        Err(error) => return Err(Ended::failed(Cause::Clock(error))),
+        Err(error) => return Err(ServeOutcome::failed(ServeCause::Clock(error))),
     };
     let Ok(sums) = sums_of::<M, R>(rt, alloc, load, &from) else {
-        return Err(Ended::plain(ServeEnd::OutOfMemory));
+        return Err(ServeOutcome::plain(ServeEnd::OutOfMemory));
     };
     if sums.wrong_hits == 0 && sums.operations < operations(load) {
-        return Err(Ended::plain(ServeEnd::OutOfMemory));
+        return Err(ServeOutcome::plain(ServeEnd::OutOfMemory));
     }
     let Ok(ends) = lane_ends(rt, alloc, cache) else {
-        return Err(Ended::plain(ServeEnd::OutOfMemory));
+        return Err(ServeOutcome::plain(ServeEnd::OutOfMemory));
     };
     Ok(report_of(&sums, milliseconds, &total_of(&ends)))
 }

@@ -10,11 +10,11 @@ ghost use Rattle.figures.specs.Figures.{form_of};
 ghost use Rattle.serve_load.specs.Serving.{IsServed, IsServedOver, IsSaid, IsRefusedFirst, WroteReport};
 
 use crate::cache_shape::CacheShape;
-use crate::cause::Cause;
-use crate::ended::Ended;
 use crate::made::make;
 use crate::report::Report;
+use crate::serve_cause::ServeCause;
 use crate::serve_end::ServeEnd;
+use crate::serve_outcome::ServeOutcome;
 use crate::tally::Tallying;
 use deed_book::{KeyLanes, NamedBook, Naming, NewBook};
 use figures::Form;
@@ -84,19 +84,19 @@ fn serve_to_end<
     R: Threads + Wait + Sync + AllocGlobal + Files<File = File> + Clock + RandomSource,
     O: Write,
     E: Write + IsTerminal,
->(rt: &R, load: &ServedLoad, out: &mut O, err: &mut E) -> Ended
+>(rt: &R, load: &ServedLoad, out: &mut O, err: &mut E) -> ServeOutcome
     ensures first { IsRefusedFirst load.now result.end }
     ensures wrote { WroteReport load.now (O.contents out.old) (O.contents out.new) result.end }
 {
     if load.gets + load.removes > 100 {
-        return Ended::plain(ServeEnd::SharesExceed);
+        return ServeOutcome::plain(ServeEnd::SharesExceed);
     }
     if load.size.is_none() && load.memory_bytes.is_some() {
-        return Ended::plain(ServeEnd::NoSize);
+        return ServeOutcome::plain(ServeEnd::NoSize);
     }
     let shape = match CacheShape::of(load) {
         Ok(shape) => shape,
-        Err(fault) => return Ended::plain(ServeEnd::Size(fault)),
+        Err(fault) => return ServeOutcome::plain(ServeEnd::Size(fault)),
     };
     match &load.device {
         Some(folder) => match in_files(rt, rt.alloc(), &shape, folder) {
@@ -105,7 +105,7 @@ fn serve_to_end<
         },
         None => match lanes_in_memory(rt.alloc(), shape.lanes(), shape.pages()) {
             Ok(devices) => over(rt, load, &shape, devices, out, err),
-            Err(_) => Ended::plain(ServeEnd::OutOfMemory),
+            Err(_) => ServeOutcome::plain(ServeEnd::OutOfMemory),
         },
     }
 }
@@ -116,13 +116,15 @@ fn in_files<R: Files<File = File>>(
     alloc: Global,
     shape: &CacheShape,
     folder: &FileName,
-) -> Result<Vec<FileDevice<PAGE>>, Ended>
+) -> Result<Vec<FileDevice<PAGE>>, ServeOutcome>
     ensures { IfErr result (λ ended. IsFailure ended.end) }
 {
     match lanes_in_files(rt, alloc, folder.as_str(), shape.lanes(), shape.pages()) {
         Ok(devices) => Ok(devices),
-        Err(LaneFileFault::OutOfMemory) => Err(Ended::plain(ServeEnd::OutOfMemory)),
-        Err(LaneFileFault::Unopened(path, fault)) => Err(Ended::failed(Cause::Device(path, fault))),
+        Err(LaneFileFault::OutOfMemory) => Err(ServeOutcome::plain(ServeEnd::OutOfMemory)),
+        Err(LaneFileFault::Unopened(path, fault)) => Err(ServeOutcome::failed(ServeCause::Device(
+            path, fault,
+        ))),
     }
 }
 
@@ -132,13 +134,20 @@ fn over<
     R: Threads + Wait + Sync + AllocGlobal + Clock + RandomSource,
     O: Write,
     E: Write + IsTerminal,
->(rt: &R, load: &ServedLoad, shape: &CacheShape, devices: Vec<D>, out: &mut O, err: &mut E) -> Ended
+>(
+    rt: &R,
+    load: &ServedLoad,
+    shape: &CacheShape,
+    devices: Vec<D>,
+    out: &mut O,
+    err: &mut E,
+) -> ServeOutcome
     ensures late { IsLate result.end }
     ensures wrote { WroteReport load.now (O.contents out.old) (O.contents out.new) result.end }
 {
     let seed = match RandomSeed::draw(rt) {
         Ok(seed) => seed,
-        Err(error) => return Ended::failed(Cause::Random(error)),
+        Err(error) => return ServeOutcome::failed(ServeCause::Random(error)),
     };
     match sorted::<Brand, D, R, E>(rt, load, shape, devices, seed, err) {
         Ok(report) => write_report(rt.alloc(), load, &report, out),
@@ -159,7 +168,7 @@ fn sorted<
     devices: Vec<D>,
     seed: RandomSeed,
     err: &mut E,
-) -> Result<Report, Ended>
+) -> Result<Report, ServeOutcome>
     requires sorted { SortsBy L.lanes L.lane_of seed (length devices.items) }
     requires honest { AreAsSaid L.is_honest D.honest devices.items }
     ensures made { IfOk result (λ report. IsMade load.now report) }
@@ -188,7 +197,7 @@ fn booked<
     seed: RandomSeed,
     book: NewBook<L>,
     err: &mut E,
-) -> Result<Report, Ended>
+) -> Result<Report, ServeOutcome>
     requires sorted { SortsBy L.lanes L.lane_of seed (length devices.items) }
     requires honest { AreAsSaid L.is_honest D.honest devices.items }
     requires book { book ≡ J.book }
@@ -214,7 +223,7 @@ fn open<D: PageDevice<PAGE>, L: KeyLanes, J: Naming>(
     devices: Vec<D>,
     seed: RandomSeed,
     book: NamedBook<L, J>,
-) -> Result<LoadCache<D, L, J>, Ended>
+) -> Result<LoadCache<D, L, J>, ServeOutcome>
     requires first { book ≡ 0 }
     requires sorted { SortsBy L.lanes L.lane_of seed (length devices.items) }
     requires honest { AreAsSaid L.is_honest D.honest devices.items }
@@ -232,24 +241,29 @@ fn open<D: PageDevice<PAGE>, L: KeyLanes, J: Naming>(
         book,
     ) {
         Ok(cache) => Ok(cache),
-        Err(OpenServiceFault::OutOfMemory) => Err(Ended::plain(ServeEnd::OutOfMemory)),
-        Err(fault) => Err(Ended::failed(Cause::Cache(fault))),
+        Err(OpenServiceFault::OutOfMemory) => Err(ServeOutcome::plain(ServeEnd::OutOfMemory)),
+        Err(fault) => Err(ServeOutcome::failed(ServeCause::Cache(fault))),
     }
 }
 
 /// Writes a report in the form that a load wants, and answers how the load ended.
-fn write_report<O: Write>(alloc: Global, load: &ServedLoad, report: &Report, out: &mut O) -> Ended
+fn write_report<O: Write>(
+    alloc: Global,
+    load: &ServedLoad,
+    report: &Report,
+    out: &mut O,
+) -> ServeOutcome
     ensures { IsSaid (form_of load.now.json) report.now
         (O.contents out.old) (O.contents out.new) result.end }
 {
     let Ok(text) = report.text(alloc, Form::of(load.json)) else {
-        return Ended::plain(ServeEnd::OutOfMemory);
+        return ServeOutcome::plain(ServeEnd::OutOfMemory);
     };
     if out.write_all(text.as_bytes()).is_err() {
-        return Ended::failed(Cause::Output);
+        return ServeOutcome::failed(ServeCause::Output);
     }
     if out.flush().is_err() {
-        return Ended::failed(Cause::Output);
+        return ServeOutcome::failed(ServeCause::Output);
     }
-    Ended::plain(ServeEnd::of_wrong_hits(report.wrong_hits))
+    ServeOutcome::plain(ServeEnd::of_wrong_hits(report.wrong_hits))
 }

@@ -1,5 +1,5 @@
 // What the words of a command line ask for, and how the program ends.
-use command_line::{Ended, Ending, Line, LineFault, no_text, parse_line};
+use command_line::{Ending, Line, LineFault, ProgramEnd, no_text, parse_line};
 use judge_run::{CheckRequest, JudgeRequest, ShowRequest};
 use std::alloc::Global;
 use std::io;
@@ -279,7 +279,7 @@ fn other_command_lines_get_a_usage(rt: HostRuntime) {
 /// Whether a program that ended so tells these lines, and no others.
 fn tells(alloc: Global, ending: Ending, lines: &[u8]) -> bool {
     let mut told: Vec<u8> = Vec::new(alloc);
-    Ended::plain(ending).tell(&mut told);
+    ProgramEnd::plain(ending).tell(&mut told);
     told.as_slice() == lines
 }
 
@@ -327,7 +327,7 @@ fn a_bad_script_is_told_what_its_lines_may_be(rt: HostRuntime) {
 #[test]
 fn a_system_without_random_numbers_is_told(rt: HostRuntime) {
     let mut told: Vec<u8> = Vec::new(rt.alloc());
-    let ended = Ended::without_random(io::Error::from(ErrorKind::PermissionDenied));
+    let ended = ProgramEnd::without_random(io::Error::from(ErrorKind::PermissionDenied));
     assert_eq!(rt; ended.ending, Ending::FileFault);
     ended.tell(&mut told);
     assert_eq!(rt;

@@ -2,31 +2,31 @@
 ghost use Rattle.std.specs.Prelude.{◌≡◌};
 
 use crate::advice::advise;
-use crate::cause::Cause;
+use crate::serve_cause::ServeCause;
 use crate::serve_end::ServeEnd;
 use load::ServedLoad;
 use std::io::Write;
 
 /// How a load ended, and what failed, if the system did.
 #[derive(Debug, Drop)]
-pub(crate) struct Ended {
+pub(crate) struct ServeOutcome {
     pub(crate) end: ServeEnd,
-    pub(crate) cause: Option<Cause>,
+    pub(crate) cause: Option<ServeCause>,
 }
 
-impl Ended {
+impl ServeOutcome {
     /// A load that ended so, with nothing more to tell.
-    pub(crate) fn plain(end: ServeEnd) -> Ended
+    pub(crate) fn plain(end: ServeEnd) -> ServeOutcome
         ensures { result.end ≡ end }
     {
-        Ended { end, cause: None }
+        ServeOutcome { end, cause: None }
     }
 
     /// A load of which this failed.
-    pub(crate) fn failed(cause: Cause) -> Ended
+    pub(crate) fn failed(cause: ServeCause) -> ServeOutcome
         ensures { result.end ≡ ServeEnd.FileFault }
     {
-        Ended {
+        ServeOutcome {
             end: ServeEnd::FileFault,
             cause: Some(cause),
         }

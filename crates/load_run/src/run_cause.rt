@@ -7,7 +7,7 @@ use std::io::Write;
 
 /// What is to be told of a run beside its end.
 #[derive(Debug, Drop)]
-pub enum Cause {
+pub enum RunCause {
     /// The file of the trace was not opened, for this reason.
     Opening(io::Error),
     /// The file of a lane's device, of this name, was not opened, for this reason.
@@ -24,12 +24,12 @@ pub enum Cause {
     Stopped(usize),
 }
 
-impl Cause {
+impl RunCause {
     /// Tells what failed, with the file if one did, and what to do. What `err` refuses is not told.
     pub fn tell<E: Write>(&self, load: &Load, err: &mut E) {
         match self {
-            Cause::Unfinished(fault) => tell_unfinished(*fault, err),
-            Cause::Stopped(callers) => tell_stopped(*callers, load, err),
+            RunCause::Unfinished(fault) => tell_unfinished(*fault, err),
+            RunCause::Stopped(callers) => tell_stopped(*callers, load, err),
             _ => self.tell_failure(&load.trace, err),
         }
     }
@@ -38,29 +38,29 @@ impl Cause {
     fn tell_failure<E: Write>(&self, trace: &FileName, err: &mut E) {
         let name = trace.as_str();
         let _ = match self {
-            Cause::Opening(error) => {
+            RunCause::Opening(error) => {
                 write!(
                     err,
                     "{name}: {error}\nname a file with --trace that can be written\n"
                 )
             }
-            Cause::Device(path, fault) => { write!(err, "{}: {fault}\n", path.as_str()) }
-            Cause::Writing => {
+            RunCause::Device(path, fault) => { write!(err, "{}: {fault}\n", path.as_str()) }
+            RunCause::Writing => {
                 write!(
                     err,
                     "{name}: the trace was not written whole\nfree room on its disk, or name another file with --trace\n"
                 )
             }
-            Cause::Output => {
+            RunCause::Output => {
                 write!(
                     err,
                     "standard output was not written whole: it was closed, or its disk is full\n"
                 )
             }
-            Cause::Random(error) => write!(err, "no random numbers: {error}\n"),
-            Cause::Unfinished(_) | Cause::Stopped(_) => Ok(()),
+            RunCause::Random(error) => write!(err, "no random numbers: {error}\n"),
+            RunCause::Unfinished(_) | RunCause::Stopped(_) => Ok(()),
         };
-        if let Cause::Device(..) = self {
+        if let RunCause::Device(..) = self {
             let _ = err.write_all(DEVICE);
         }
     }

@@ -6,7 +6,7 @@ use std::io::Write;
 
 /// What failed of a load.
 #[derive(Debug, Drop)]
-pub(crate) enum Cause {
+pub(crate) enum ServeCause {
     /// The file of a lane's device, of this name, was not opened, for this reason.
     Device(String, FileOpenFault),
     /// The cache was not opened over the devices of its lanes, for this reason, which is not want of memory.
@@ -19,25 +19,25 @@ pub(crate) enum Cause {
     Clock(io::Error),
 }
 
-impl Cause {
+impl ServeCause {
     /// Tells it, with the file that failed, if one did, and what to do. What `err` refuses is not told.
     pub(crate) fn tell<E: Write>(&self, err: &mut E) {
         let _ = match self {
-            Cause::Device(path, fault) => write!(
+            ServeCause::Device(path, fault) => write!(
                 err,
                 "{}: {fault}\ncheck the folder that --device names: each lane has a file there\n",
                 path.as_str()
             ),
-            Cause::Cache(fault) => write!(err, "the cache: {fault}\n"),
-            Cause::Output => write!(
+            ServeCause::Cache(fault) => write!(err, "the cache: {fault}\n"),
+            ServeCause::Output => write!(
                 err,
                 "standard output: the report was not written whole: check that it is open and has room\n"
             ),
-            Cause::Random(error) => write!(
+            ServeCause::Random(error) => write!(
                 err,
                 "no random numbers: {error}\nthey are the seed of the cache: try again\n"
             ),
-            Cause::Clock(error) => write!(
+            ServeCause::Clock(error) => write!(
                 err,
                 "no time: {error}\nthe load is timed by the clock: try again\n"
             ),

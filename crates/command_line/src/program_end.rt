@@ -18,27 +18,27 @@ const CONFIG: &str =
 
 /// How the program ended, and why the system gave no random numbers, if that is the cause.
 #[derive(Debug, Drop)]
-pub struct Ended {
+pub struct ProgramEnd {
     pub ending: Ending,
     without_random: Option<io::Error>,
 }
 
-impl Ended {
+impl ProgramEnd {
     /// The program ended so, with nothing more to tell.
-    pub fn plain(ending: Ending) -> Ended
+    pub fn plain(ending: Ending) -> ProgramEnd
         ensures { result.ending ≡ ending }
     {
-        Ended {
+        ProgramEnd {
             ending,
             without_random: None,
         }
     }
 
     /// The program ended since the system gave no random numbers.
-    pub fn without_random(error: io::Error) -> Ended
+    pub fn without_random(error: io::Error) -> ProgramEnd
         ensures { result.ending ≡ Ending.FileFault }
     {
-        Ended {
+        ProgramEnd {
             ending: Ending::FileFault,
             without_random: Some(error),
         }

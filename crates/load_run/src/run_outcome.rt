@@ -2,52 +2,52 @@
 ghost use Rattle.std.specs.Prelude.{◌≡◌};
 ghost use Rattle.load_run.specs.Ends.{IsRefusal, end_of_finish, end_of_verdict};
 
-use crate::cause::Cause;
+use crate::run_cause::RunCause;
 use crate::run_end::RunEnd;
 use crate::summary::Summary;
 use shared_cache::FinishFault;
 
 /// How a run ended, and what failed, if a file, the output or the system did.
 #[derive(Debug, Drop)]
-pub struct Ended {
+pub struct RunOutcome {
     pub end: RunEnd,
-    pub cause: Option<Cause>,
+    pub cause: Option<RunCause>,
 }
 
-impl Ended {
+impl RunOutcome {
     /// A run that ended so, with nothing more to tell.
-    pub fn plain(end: RunEnd) -> Ended
+    pub fn plain(end: RunEnd) -> RunOutcome
         ensures { result.end ≡ end }
     {
-        Ended { end, cause: None }
+        RunOutcome { end, cause: None }
     }
 
     /// A run that was judged, of which this is to be told. If callers stopped, it keeps how many.
-    pub fn judged(summary: &Summary) -> Ended
+    pub fn judged(summary: &Summary) -> RunOutcome
         ensures { result.end ≡ end_of_verdict summary.now.verdict summary.now.stopped }
     {
-        Ended {
+        RunOutcome {
             end: RunEnd::of_verdict(summary.verdict, summary.stopped),
-            cause: Some(Cause::Stopped(summary.stopped)),
+            cause: Some(RunCause::Stopped(summary.stopped)),
         }
     }
 
     /// A run whose cache was not finished, for this fault.
-    pub fn unfinished(fault: FinishFault) -> Ended
+    pub fn unfinished(fault: FinishFault) -> RunOutcome
         ensures end { result.end ≡ end_of_finish fault }
         ensures refusal { IsRefusal result.end }
     {
-        Ended {
+        RunOutcome {
             end: RunEnd::of_finish(fault),
-            cause: Some(Cause::Unfinished(fault)),
+            cause: Some(RunCause::Unfinished(fault)),
         }
     }
 
     /// A run of which this failed.
-    pub fn failed(cause: Cause) -> Ended
+    pub fn failed(cause: RunCause) -> RunOutcome
         ensures { result.end ≡ RunEnd.FileFault }
     {
-        Ended {
+        RunOutcome {
             end: RunEnd::FileFault,
             cause: Some(cause),
         }
