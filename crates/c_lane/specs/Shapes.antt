@@ -171,7 +171,7 @@ pub record SizesOfParts (s : LaneShape) (object_bytes : ℕ) (sizes : Sizes) : T
   pub parts : HasPartsOf shape s
   pub are : sizes ≡ sizes_for shape object_bytes
 
--- the sizes where this is the first faulty field, if there is one
+-- the sizes when this is the first faulty field, if there is one
 abbrev pub SizesBy : Option ShapeField → LaneShape → ℕ → Sizes → Type 0
 SizesBy None s object_bytes sizes = SizesOfParts s object_bytes sizes
 SizesBy (Some field) s object_bytes sizes = sizes ≡ no_sizes

@@ -1,5 +1,5 @@
-// The limits of what is wanted, and of what a shape has beside the numbers of a configuration. Those have their limits in
-// `record_pages`.
+// The limits of what is wanted, and of what a shape has beside the numbers of a configuration. Those have their limits
+// in `record_pages`.
 use crate::proportions::LANES_FOR_THREAD;
 use record_pages::{Key, MAX_LANES, MAX_SETS, Value};
 

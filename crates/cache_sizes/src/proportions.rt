@@ -12,14 +12,14 @@ pub(crate) const USUAL_SEGMENTS: u64 = 128;
 // Lanes for each thread: with four of them two threads seldom want one lane.
 pub(crate) const LANES_FOR_THREAD: u32 = 4;
 
-// The least pages of a lane that is wanted for the threads' sake, before shards are filled up with lanes: with fewer its
-// log would have few segments.
+// The least pages of a lane that is wanted for the threads' sake, before shards are filled up with lanes: with fewer
+// its log would have few segments.
 pub(crate) const LEAST_LANE_PAGES: u64 = 1024;
 
 // Entries of a log's index for each four typical records that it has room for: there are smaller objects, which lie
 // closer.
 pub(crate) const ENTRIES_FOR_4_RECORDS: u64 = 5;
 
-// Objects for each 100 that the sets have room for: keys fall into sets by chance. With 93 some 4 keys of 100 find their
-// set full, with more these grow.
+// Objects for each 100 that the sets have room for: keys fall into sets by chance. With 93 some 4 keys of 100 find
+// their set full, with more these grow.
 pub(crate) const FULL_PERCENT: u64 = 93;

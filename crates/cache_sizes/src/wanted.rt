@@ -1,4 +1,3 @@
-// What a user knows of the cache that is wanted.
 ghost use Rattle.std.specs.Prelude.{◌≡◌, IfNone};
 
 use crate::lanes::lanes_for_sets;

@@ -1,4 +1,3 @@
-// Why a trace was not judged.
 ghost use Rattle.std.specs.Prelude.{◌≡◌};
 ghost use Rattle.certificate_checker.specs.declared.judge_fault.JudgeFault.TheVariants.{OutOfMemory};
 

@@ -1,4 +1,4 @@
--- Which of some indexes are so.
+-- Which of some indexes satisfy a condition.
 use Rattle.std.proofs.Common.{ℕ, ◌⊎◌, sym, ◌∙◌, subst, inl, inr}
 use Rattle.certificate_finder.specs.declared.reads.Reading.{Reading}
 use Rattle.certificate_finder.specs.declared.reads.Reading.TheVariants.{Nothing, One, Several}

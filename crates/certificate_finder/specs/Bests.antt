@@ -14,7 +14,7 @@ AreAmong puts Empty = Unit {0}
 AreAmong puts (One first) = first < length puts
 AreAmong puts (Two first second) = (first < length puts) × (second < length puts)
 
--- of the puts that are so, the one that expires last and the one of the others that does
+-- of the puts that satisfy the condition, the one that expires last and the one of the others that does
 pub record AreBoth (puts : List Put) (P : ℕ → Type 0) (first second : ℕ) : Type 0 where
   pub first_is : P first
   pub second_is : P second
@@ -22,7 +22,7 @@ pub record AreBoth (puts : List Put) (P : ℕ → Type 0) (first second : ℕ) :
   pub most : expiry_at puts second ≤ expiry_at puts first
   pub next : (index : ℕ) → P index → index ≢ first → expiry_at puts index ≤ expiry_at puts second
 
--- of the puts that are so, the two that expire last
+-- of the puts that satisfy the condition, the two that expire last
 abbrev pub IsBestOf : List Put → (ℕ → Type 0) → Best → Type 0
 IsBestOf puts P Empty = (index : ℕ) → ¬ P index
 IsBestOf puts P (One first) = P first × ((index : ℕ) → P index → index ≡ first)

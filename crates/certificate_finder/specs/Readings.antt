@@ -1,10 +1,10 @@
--- Which of some indexes are so.
+-- Which of some indexes satisfy a condition.
 use Rattle.std.specs.Prelude.{◌≡◌, ◌≢◌, ℕ, ◌⊎◌}
 use Rattle.certificate_finder.specs.declared.reads.Reading.{Reading}
 use Rattle.certificate_finder.specs.declared.reads.Reading.TheVariants.{Nothing, One, Several}
 use Rattle.certificate_finder.specs.Reads.{HoldsTwice}
 
--- no index is so, this one alone, or several are
+-- no index satisfies the condition, this one alone does, or several do
 abbrev pub Says : (ℕ → Type 0) → Reading → Type 0
 Says P Nothing = (index : ℕ) → ¬ P index
 Says P (One index) = P index × ((other : ℕ) → P other → other ≡ index)

@@ -1,4 +1,3 @@
-// What a call does, without its value.
 ghost use Rattle.std.specs.Prelude.{◌≡◌, ◌↔◌, IsTrue};
 
 /// What a call does, without its value.

@@ -26,13 +26,14 @@ pub const MAX_CALLS: usize = 2147483647;
 
 /// Finds a certificate for a history, or a reason why there can be none, or the hits for which nothing was decided.
 ///
-/// A hit can have read a put of its key and value that began before the hit ended and had not expired at its moment, and after
-/// which no write of the key lies that ended before the hit began. If each hit can have read at most one, it is decided.
+/// A hit can have read a put of its key and value that began before the hit ended and had not expired at its moment,
+/// and after which no write of the key lies that ended before the hit began. If each hit can have read at most one, it
+/// is decided.
 ///
-/// Its time is `n log n` for `n` calls if the keys and values were not picked to be slow: the map that it numbers them by
-/// hashes them by a seed that anyone can read. Whoever judges a stranger's history calls `find_with_hasher`. It takes about
-/// 250 bytes a call, and copies no key and no value. `AllocError` comes if memory was refused, and if there are more than
-/// `MAX_CALLS` calls.
+/// Its time is `n log n` for `n` calls if the keys and values were not picked to be slow: the map that it numbers them
+/// by hashes them by a seed that anyone can read. Whoever judges a stranger's history calls `find_with_hasher`. It
+/// takes about 250 bytes a call, and copies no key and no value. `AllocError` comes if memory was refused, and if there
+/// are more than `MAX_CALLS` calls.
 pub fn find(alloc: Global, history: &History) -> Result<Found, AllocError>
     ensures accepted { IfOk result (λ found. IfAccepted found (IsAccepted history.now)) }
     ensures rejected { IfOk result (λ found. IfRejected found (IsWitness history.now)) }
@@ -45,8 +46,8 @@ pub fn find(alloc: Global, history: &History) -> Result<Found, AllocError>
     }
 }
 
-/// The same with keys and values hashed by `hash_builder`, such as a `RandomState` of the runtime, whose seed was unknown
-/// to whoever wrote the history.
+/// The same with keys and values hashed by `hash_builder`, such as a `RandomState` of the runtime, whose seed was
+/// unknown to whoever wrote the history.
 pub fn find_with_hasher<S: BuildHasher + Drop>(
     alloc: Global,
     hash_builder: S,

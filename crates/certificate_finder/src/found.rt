@@ -1,4 +1,3 @@
-// What was found for a history.
 use crate::witness::Witness;
 use trace_file::Certificate;
 

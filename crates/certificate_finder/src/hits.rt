@@ -16,7 +16,7 @@ use crate::refusal::Refusal;
 use crate::writes::{soonest_of, writes_of};
 use std::alloc::{AllocError, Global};
 
-/// With which write each call goes, or a hit that can have read no put.
+/// The owners of all calls, or a hit that can have read no put, with what excludes each put.
 pub(crate) fn read_result_of(
     alloc: Global,
     steps: &[NumberedCall],

@@ -124,7 +124,8 @@ fn listed_turns(
     Ok(line)
 }
 
-/// The point of a call after another, which has a point: the greatest start so far of its key. A miss has its own start.
+/// The point of a call after another, which has a point: the greatest start so far of its key. A miss has its own
+/// start.
 fn next_point(step: &NumberedCall, before: &NumberedCall, point: u64) -> u64
     ensures { IsNextPoint step.now before.now point result }
 {

@@ -1,6 +1,6 @@
-// With which write a call goes.
+// What is known of the write with which a call goes.
 
-/// With which write a call goes.
+/// What is known of the write with which a call goes.
 #[derive(Clone, Copy)]
 pub(crate) enum Owner {
     /// It is a write or a miss, and goes by itself.

@@ -1,4 +1,4 @@
-// With which write each call goes.
+// Finding the write with which each call goes.
 ghost use Rattle.std.specs.Prelude.{◌≡◌, ◌<◌, ◌^◌, All, IfOk, length, slice_get, Some};
 ghost use Rattle.certificate_finder.specs.Asking.{AreReadings};
 ghost use Rattle.certificate_finder.specs.Owning.{IsNoted, IsOwnerAt, IsOwning};
@@ -12,7 +12,7 @@ use crate::put::{Put, put_at};
 use crate::reads::Reading;
 use std::alloc::{AllocError, Global};
 
-/// With which write each call goes.
+/// The owners of all calls, or the position of a hit that can have read no put.
 pub(crate) fn owners_of(
     alloc: Global,
     steps: &[NumberedCall],

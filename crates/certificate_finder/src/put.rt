@@ -1,4 +1,3 @@
-// A put, and until when it can be read.
 ghost use Rattle.std.specs.Prelude.{◌≡◌, ◌<◌, ◌↔◌, IsTrue, Some, length, slice_get};
 ghost use Rattle.certificate_finder.specs.Putting.{expiry_at, value_rank as rank_of_value};
 

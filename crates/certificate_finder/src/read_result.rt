@@ -2,10 +2,10 @@
 use crate::owning::Owners;
 use crate::refusal::Refusal;
 
-/// With which write each call goes, or a hit that can have read no put.
+/// The owners of all calls, or a hit that can have read no put, with what excludes each put.
 #[derive(Drop)]
 pub(crate) enum ReadResult {
-    /// With which write each call goes.
+    /// The owners of all calls.
     Each(Owners),
     /// This hit can have read no put.
     Refused(Refusal),

@@ -85,8 +85,8 @@ fn readings_by(
     Ok(readings)
 }
 
-/// Which puts a hit can have read, if the puts below an index are those that it does not precede. They enter the tree, in
-/// which those below another index are.
+/// Which puts a hit can have read, if the puts below an index are those that it does not precede. They enter the tree,
+/// in which those below another index are.
 fn reading_of(
     nodes: &mut [Best],
     shape: TreeShape,

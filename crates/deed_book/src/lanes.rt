@@ -1,8 +1,8 @@
 // Which lane a key has, which lanes have an honest device, and which book it is: what types say of it.
 use std::marker::Brand;
 
-/// Which lane each key has, in a cache of so many, and of which lanes the device gives back what was written. Each call of a program
-/// picks it.
+/// Which lane each key has, in a cache of this many, and of which lanes the device gives back what was written. Each
+/// call of a program picks it.
 pub trait KeyLanes {
     ghost use Rattle.std.specs.Prelude.{ℕ, List, Bool};
 

@@ -10,7 +10,7 @@ use std::marker::{Model, PhantomData};
 
 /// What a caller has seen of a book: a beginning of its list of writes. It has no bytes.
 ///
-/// Whoever hands another a seat, or a copy, hands on what he has seen.
+/// Whoever hands another a seat, or a copy, hands on what they have seen.
 #[derive(Drop)]
 pub struct Seat<L: KeyLanes, J: Naming> {
     pub(crate) seen: Seen<Written, u64, Law<L>>,

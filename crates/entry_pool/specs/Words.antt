@@ -3,7 +3,7 @@ use Rattle.std.specs.Prelude.{ℕ, ◌/◌, ◌%◌, ◌^◌, ◌<◌, ◌≤◌
 use Rattle.entry_pool.specs.declared.pool_item.PoolItem.{PoolItem}
 use Rattle.entry_pool.specs.declared.node.Node.{Node}
 
--- the bits of a word from one on, so many of them, as a number
+-- the bits of a word from one on, this many of them, as a number
 abbrev pub bits : ℕ → ℕ → ℕ → ℕ
 bits from count word = word / 2 ^ from % 2 ^ count
 

@@ -1,4 +1,3 @@
-// A node in two words.
 ghost use Rattle.std.specs.Prelude.{◌≡◌, ◌<◌, ◌^◌};
 ghost use Rattle.entry_pool.specs.Words.{Fits, IsNode};
 

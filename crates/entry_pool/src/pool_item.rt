@@ -1,4 +1,3 @@
-// What an index notes of a live record.
 use record_pages::Prediction;
 
 /// What an index notes of a live record.

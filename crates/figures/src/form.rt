@@ -1,4 +1,3 @@
-// In which form figures are written.
 ghost use Rattle.std.specs.Prelude.{◌≡◌, ◌++◌, OnOk, string_bytes};
 ghost use Rattle.figures.specs.Figures.{ended, figure_of, form_of, row, with_row};
 
@@ -23,8 +22,8 @@ impl Form {
         if json { Form::Json } else { Form::Lines }
     }
 
-    /// Writes one figure more, after those that the text has. The first is written into an empty text. A name has small letters, digits
-    /// and dashes alone. If memory is refused the text is a front of the whole.
+    /// Writes one figure more, after those that the text has. The first is written into an empty text. A name has small
+    /// letters, digits and dashes alone. If memory is refused the text is a front of the whole.
     pub fn tell(
         self,
         alloc: Global,

@@ -8,9 +8,9 @@ use crate::form::Form;
 use certificate_checker::{Fault, Verdict};
 use std::alloc::{AllocError, Global};
 
-/// Tells a verdict: `verdict`, which is `accepted` or `rejected`, and after the second `fault`, the kind of the fault, with its
-/// `position` among the calls or its `place` in the certificate, if it has one. If memory is refused the text is a front of
-/// the whole.
+/// Tells a verdict: `verdict`, which is `accepted` or `rejected`, and after the second `fault`, the kind of the fault,
+/// with its `position` among the calls or its `place` in the certificate, if it has one. If memory is refused the text
+/// is a front of the whole.
 pub fn tell_verdict(
     alloc: Global,
     form: Form,

@@ -12,7 +12,8 @@ use std::marker::Model;
 use std::os::unix::fs::FileExt;
 use std::rt::Files;
 
-/// Pages in a regular file of the system, of at most 4096 bytes each: page `p` lies in the file from byte `p * PAGE` on.
+/// Pages in a regular file of the system, of at most 4096 bytes each: page `p` lies in the file from byte `p * PAGE`
+/// on.
 ///
 /// A read or a write is one call of the system. If that fails, is interrupted or moves less than a page, the answer is
 /// `DeviceFault`, and it is not tried again: of a page that was to be written any part may be in the file.
@@ -40,10 +41,10 @@ impl<const PAGE: usize> Model for FileDevice<PAGE> {
 impl<const PAGE: usize> FileDevice<PAGE> {
     /// Opens a file as a device of this many pages, makes it with mode 0600 if absent, and sets its length to theirs.
     ///
-    /// The pages that the file has keep their bytes, new ones hold zeros, and what lies past the last page is cut off. The
-    /// file is locked before that, without waiting, and until the device is dropped: one that another device has is refused
-    /// with nothing changed. A link is followed. If the system bounds the length of files for this process, and these
-    /// pages exceed that, the system may end the process.
+    /// The pages that the file has keep their bytes, new ones hold zeros, and what lies past the last page is cut off.
+    /// The file is locked before that, without waiting, and until the device is dropped: one that another device has is
+    /// refused with nothing changed. A link is followed. If the system bounds the length of files for this process, and
+    /// these pages exceed that, the system may end the process.
     pub fn open<R: Files<File = File>>(
         rt: &R,
         path: &str,

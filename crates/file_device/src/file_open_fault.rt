@@ -7,8 +7,8 @@ use thiserror::Error;
 
 /// Why no file was opened as a device. If the system said why, its error is kept.
 ///
-/// The length is set last. So each refusal but `Sizing` and `OutOfMemory` leaves a file that was there as it was. A file
-/// that was made before the refusal stays, empty.
+/// The length is set last. So each refusal but `Sizing` and `OutOfMemory` leaves a file that was there as it was. A
+/// file that was made before the refusal stays, empty.
 #[derive(Clone, Copy, Debug, Error)]
 pub enum FileOpenFault {
     /// A page has more than 4096 bytes. No file was made or opened.

@@ -1,4 +1,3 @@
-// Why the files of lanes were not opened.
 use crate::file_open_fault::FileOpenFault;
 use std::alloc::AllocError;
 

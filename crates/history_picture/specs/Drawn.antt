@@ -22,7 +22,7 @@ pub record IsPicture (history : List Call) (lines : List ℕ) (callers : List (L
   pub is : text ≡ picture_text history lines callers (sentence_of history lines reason) drawing (marks_of reason) shown (arrows_of reason)
   pub plain : IsPlain text
 
--- a picture alone was written
+-- a picture was written, and nothing else
 pub record WrotePicture (history : List Call) (lines : List ℕ) (callers : List (List ℕ)) (reason : Reason) (old new : Option (List ℕ)) : Type 0 where
   pub text : List ℕ
   pub is : IsPicture history lines callers reason text

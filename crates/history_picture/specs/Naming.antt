@@ -28,17 +28,17 @@ abbrev pub call_words : Option Call → List ℕ → List ℕ
 call_words (Some call) label = act_words call.act ++ (codes " (" ++ (label ++ codes ")"))
 call_words None label = codes "a call that is not there (" ++ (label ++ codes ")")
 
--- the start of a call, 0 of none
+-- the start of a call, 0 if there is none
 abbrev pub start_of : Option Call → ℕ
 start_of (Some call) = call.start
 start_of None = 0
 
--- the end of a call, 0 of none
+-- the end of a call, 0 if there is none
 abbrev pub end_of : Option Call → ℕ
 end_of (Some call) = call.end
 end_of None = 0
 
--- the time that a call speaks of, 0 of none
+-- the time that a call speaks of, 0 if there is none
 abbrev pub moment_of : Option Call → ℕ
 moment_of (Some call) = time_of call.act
 moment_of None = 0

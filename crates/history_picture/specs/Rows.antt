@@ -86,7 +86,7 @@ back_text sheet call =
     left 6 (act_name call.act) ++ (codes " " ++ (left sheet.values (value_words call.act) ++ (codes "  "
     ++ bar_text sheet.stamps.items call.start call.end)))
 
--- the line of a call, none of no call
+-- the line of a call, or nothing if there is no call
 abbrev pub line_of : List ℕ → List (List ℕ) → List ℕ → Sheet → ℕ → Option Call → List ℕ
 line_of lines callers marks sheet position None = []
 line_of lines callers marks sheet position (Some call) =

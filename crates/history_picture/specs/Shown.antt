@@ -18,7 +18,7 @@ abbrev pub MayBeShown : List Call → List ℕ → ℕ → Type 0
 MayBeShown history marks position =
     Contains marks position ⊎ IsSomeAnd (slice_get marks 0) (λ first. HaveOneKey history position first)
 
--- when the call at a position started, 0 of none
+-- when the call at a position started, 0 if there is none
 abbrev pub started : List Call → ℕ → ℕ
 started history position = start_of (slice_get history position)
 

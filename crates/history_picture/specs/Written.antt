@@ -6,7 +6,7 @@ use Rattle.trace_file.specs.declared.call.Call.{Call}
 use Rattle.history_picture.specs.Shown.{IsExplanation}
 use Rattle.history_picture.specs.declared.reason.Reason.{Reason}
 
--- an explanation alone was written
+-- an explanation was written, and nothing else
 pub record WroteExplanation (history : List Call) (lines : List ℕ) (callers : List (List ℕ)) (reason : Reason) (old new : Option (List ℕ)) : Type 0 where
   pub text : List ℕ
   pub is : IsExplanation history lines callers reason text

@@ -1,4 +1,3 @@
-// Why an explanation or a picture was not written.
 ghost use Rattle.std.specs.Prelude.{◌≡◌};
 ghost use Rattle.history_picture.specs.declared.explain_fault.ExplainFault.TheVariants.{OutOfMemory};
 

@@ -7,7 +7,7 @@ use Rattle.certificate_checker.specs.Lanes.{calls_of, stamp, Stamped, stamped, C
 use Rattle.history_recorder.specs.declared.lane_head.LaneHead.{LaneHead}
 use Rattle.history_recorder.specs.declared.next_call.NextCall.{NextCall}
 
--- the position of the first call of the lane with this number, where the lanes' calls stand one lane after the other
+-- the position of the first call of the lane with this number, if the lanes' calls stand one lane after the other
 abbrev pub first_of : List (List Done) → ℕ → ℕ
 first_of lanes number = length (flat_map calls_of (take number lanes))
 

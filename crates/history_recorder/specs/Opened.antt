@@ -69,7 +69,7 @@ pub record CanOpen (size : ℕ) (config : Config) (pages : List ℕ) (callers : 
   pub page_size : IsPageSize size
   pub large : ¬ Any (IsTooSmall config) pages
 
--- When each refusal comes, over devices of so many pages: the first of these tests that fails; want of memory after all.
+-- When each refusal comes, over devices of this many pages: the first of these tests that fails; want of memory after all.
 abbrev pub RefusesWorld : ℕ → Config → List ℕ → ℕ → OpenWorldFault → Type 0
 RefusesWorld size config pages callers (faults.ConfigFault field) = first_faulty config ≡ Some field
 RefusesWorld size config pages callers faults.NoCallers = (first_faulty config ≡ None) × (callers ≡ 0)

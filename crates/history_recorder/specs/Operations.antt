@@ -30,14 +30,14 @@ lane_of_key layout key = (placed_of layout.lanes layout.sets (fnv1a key)).lane
 abbrev pub lane_of : Layout → Operation → ℕ
 lane_of layout operation = lane_of_key layout (key_of operation)
 
--- the act that is recorded of an operation by its reply; none where it was refused
+-- the act that is recorded of an operation by its reply; none if it was refused
 abbrev pub act_done : Operation → Reply → Option Act
 act_done (operations.Get key moment) (replies.Got (Ok answer)) = Some (act_of moment answer)
 act_done (operations.Put key value word expires) (replies.Stored (Ok pushed)) = Some (acts.Put value expires)
 act_done (operations.Remove key) (replies.Removed (Ok done)) = Some acts.Remove
 act_done operation reply = None
 
--- the call that is recorded of an operation by its reply; none where it was refused
+-- the call that is recorded of an operation by its reply; none if it was refused
 abbrev pub noted_by : ℕ → ℕ → ℕ → Operation → Reply → Option Noted
 noted_by caller start point operation reply =
     option_map (λ act. record { caller = caller; start = start; point = point; key = key_of operation; act = act }) (act_done operation reply)

@@ -1,4 +1,3 @@
-// What an act of a lane gives.
 use crate::reply::Reply;
 use recorded_lane::Noted;
 

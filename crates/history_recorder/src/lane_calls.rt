@@ -33,7 +33,7 @@ impl LaneCalls {
         }
     }
 
-    /// Lists a call that has no end yet after the others, and tells its position.
+    /// Lists, after the others, a call that has no end yet, and tells its position.
     pub(crate) fn push(&mut self, noted: Noted) -> Result<usize, AllocError>
         ensures ok { OnOk result (self.new ≡ self.old ++ record { noted = noted; end = None } ∷ []) }
         ensures position { IfOk result (λ position. position ≡ length self.old) }

@@ -1,4 +1,3 @@
-// Why a world is not opened.
 ghost use Rattle.std.specs.Prelude.{◌≡◌};
 ghost use Rattle.history_recorder.specs.declared.open_world_fault.OpenWorldFault.TheVariants.{ConfigFault, OutOfMemory};
 

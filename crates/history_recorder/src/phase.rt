@@ -1,4 +1,3 @@
-// What a caller is doing.
 use crate::operation::Operation;
 
 /// What a caller is doing.

@@ -1,4 +1,3 @@
-// What an event is replied.
 use klog::Flushed;
 use mover::{Aborted, Begin, Committed};
 use record_pages::{Answer, Pushed};

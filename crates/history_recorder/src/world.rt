@@ -35,8 +35,9 @@ impl<D: PageDevice<PAGE>, const PAGE: usize> World<D, PAGE> {
     ghost use Rattle.history_recorder.specs.Game.{unboxed};
     ghost use Rattle.history_recorder.specs.Opened.{AreTheLanes, devices_of, CanOpen, RefusesWorld};
 
-    /// A world of this configuration, with one device for each lane in the lanes' order, and so many callers, numbered
-    /// from 0. Its refusals are tested in the order of `OpenWorldFault`, and the devices are dropped with each.
+    /// A world of this configuration, with one device for each lane in the lanes' order, and this many callers,
+    /// numbered from 0. Its refusals are tested in the order of `OpenWorldFault`, and the devices are dropped with
+    /// each.
     pub fn open(
         alloc: Global,
         config: &Config,

@@ -45,7 +45,7 @@ pub(crate) struct Called(
     pub(crate) &'static [u8],
 );
 
-/// A world of so many lanes of so many sets, with room for so many objects in memory, and of three callers.
+/// A world of this many lanes of this many sets, with room for this many objects in memory, and of three callers.
 #[derive(Clone, Copy)]
 pub(crate) struct Row {
     pub(crate) lanes: u32,
@@ -68,7 +68,7 @@ pub(crate) fn config(row: &Row) -> Config {
     }
 }
 
-// So many devices of so many pages.
+// This many devices of this many pages.
 fn devices<const PAGE: usize>(
     alloc: Global,
     count: u32,

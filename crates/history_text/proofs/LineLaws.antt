@@ -19,7 +19,7 @@ gives old mid new (Some xs) None read line ready ahead kept takes = absurd kept
 gives old mid new (Some xs) (Some rest) read line ready ahead kept takes =
     subst (λ (bytes : List ℕ). GivesNext 8192 bytes read line (Some (new.bytes ++ rest))) kept (reads 8192 mid new rest line read ready ahead takes)
 
--- whether the reader told its end is as it was
+-- whether the reader reported its end is as it was
 same_over : (old new : Ahead) (read : LineRead) (line : List ℕ) → TakesWithin 8192 old read line new → new.over ≡ old.over
 same_over old new Line line takes = ap (λ (a : Ahead). a.over) takes.3
 same_over old new TooLong line takes = ap (λ (a : Ahead). a.over) takes.1
@@ -31,7 +31,7 @@ still_ahead old new left read line ahead takes = λ over. ahead (sym (same_over 
 pub ahead_same : (mid new : Ahead) (left : Option (List ℕ)) → new ≡ mid → IsAhead mid left → IsAhead new left
 ahead_same mid new left same ahead = subst (λ (a : Ahead). IsAhead a left) (sym same) ahead
 
--- if nothing is left and a line can be taken, the reader told its end
+-- if nothing is left and a line can be taken, the reader reported its end
 over_last : (mid : Ahead) → mid.bytes ≡ [] → is_ready_within 8192 mid ≡ true → mid.over ≡ true
 over_last mid none ready = elim (cases_Bool mid.over) [
   | inl over ↦ over

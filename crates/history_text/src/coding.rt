@@ -32,8 +32,8 @@ fn is_coded(word: &[u8]) -> bool
     true
 }
 
-/// Puts the bytes that a word writes in place of those of `bytes`, and says whether it writes some: if a `%` stands before
-/// no two hexadecimal digits, it does not.
+/// Puts the bytes that a word writes in place of those of `bytes`, and says whether it writes some: if a `%` stands
+/// before no two hexadecimal digits, it does not.
 #[tactic(auto, unfolding(crate::specs::Coding::bytes_of))]
 pub(crate) fn decode(word: &[u8], bytes: &mut Vec<u8>) -> Result<bool, AllocError>
     ensures { IfOk result (λ writes. bytes_of word.now ≡ (if writes then Some bytes.new.items else None)) }

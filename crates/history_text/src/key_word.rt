@@ -10,8 +10,8 @@ use std::alloc::Global;
 
 /// The bytes of the key that a word writes, as the fifth word of a line does.
 ///
-/// It is refused with `LineCause::BadKeyCode` if a `%` stands before no two hexadecimal digits, and with `LineCause::BadKeyLen`
-/// if it does not write 1 to 255 bytes.
+/// It is refused with `LineCause::BadKeyCode` if a `%` stands before no two hexadecimal digits, and with
+/// `LineCause::BadKeyLen` if it does not write 1 to 255 bytes.
 pub fn key_bytes(alloc: Global, word: &[u8]) -> Result<Vec<u8>, TextFault>
     ensures ok { IfOk result (λ key. key_of word.now ≡ Ok key.items) }
     ensures key { IfOk result (λ key. IsKey key.items) }

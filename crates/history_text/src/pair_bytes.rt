@@ -1,4 +1,3 @@
-// The bytes of a line's key and of its value.
 use std::alloc::Global;
 
 /// The bytes of a line's key and of its value.

@@ -1,4 +1,3 @@
-// Why a text was not read.
 ghost use Rattle.std.specs.Prelude.{◌≡◌};
 ghost use Rattle.history_text.specs.Outcome.{of_read_line};
 

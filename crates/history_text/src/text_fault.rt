@@ -1,4 +1,3 @@
-// Why a line, or a word of one, was not taken.
 ghost use Rattle.std.specs.Prelude.{◌≡◌};
 ghost use Rattle.history_text.specs.declared.text_fault.TextFault.TheVariants.{Bad, OutOfMemory};
 

@@ -162,7 +162,8 @@ fn write_call<W: Write>(
     }
 }
 
-/// Writes the calls of a history as text, each on a line, those of one key alone if one is named. Caller N is called `cN`.
+/// Writes the calls of a history as text, each on a line, those of one key alone if one is named. Caller N is called
+/// `cN`.
 ///
 /// A call with a stamp or a time of 2^63 or more has no text, but for an expiry of never and the end of a put or a removal that
 /// never returned. It writes once a line, so give it a writer with a buffer, and it flushes nothing.

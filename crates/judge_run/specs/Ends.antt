@@ -9,7 +9,7 @@ use Rattle.judge_run.specs.declared.shown.Shown.TheVariants as showing
 use Rattle.judge_run.specs.declared.tell_fault.TellFault.{TellFault}
 use Rattle.judge_run.specs.declared.tell_fault.TellFault.TheVariants.{OutOfMemory, ReadFault, WriteFault}
 
--- how it ends after what came of judging
+-- how it ends, by the outcome of judging
 abbrev pub end_of_outcome : Outcome → JudgeEnd
 end_of_outcome (Accepted trace) = ends.Done
 end_of_outcome (Rejected rejection) = ends.Rejected
@@ -17,7 +17,7 @@ end_of_outcome (Undecided hits) = ends.Undecided
 end_of_outcome (BadLine bad) = ends.BadInput
 end_of_outcome (BadTrace fault) = ends.BadInput
 
--- how it ends after what came of showing
+-- how it ends, by the outcome of showing
 abbrev pub end_of_shown : Shown → JudgeEnd
 end_of_shown showing.Whole = ends.Done
 end_of_shown (showing.BadTrace fault) = ends.BadInput
@@ -42,7 +42,7 @@ status_of ends.Undecided = 4
 abbrev pub IsFault : JudgeEnd → Type 0
 IsFault end = (end ≡ ends.OutOfMemory) ⊎ (end ≡ ends.FileFault)
 
--- it ends as what came of judging says, or a file that was wanted beside it was not written
+-- it ends as the outcome of judging says, or a file that was wanted beside it was not written
 abbrev pub IsSaved : Outcome → JudgeEnd → Type 0
 IsSaved outcome end = (end ≡ end_of_outcome outcome) ⊎ IsFault end
 

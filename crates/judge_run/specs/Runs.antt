@@ -20,7 +20,7 @@ pub record JudgedOn (form : Form) (known : Option (List ℕ)) (explain : Bool) (
   pub status_is : status ≡ status_of (end_of_outcome outcome)
   pub told : ToldText form known explain outcome old new
 
--- so it is with each status but that of a fault
+-- this holds for each status but that of a fault
 abbrev pub IsJudgeRunOn : Form → Option (List ℕ) → Bool → Option (List ℕ) → Option (List ℕ) → ℕ → Type 0
 IsJudgeRunOn form known explain old new status = status ≢ 3 → JudgedOn form known explain old new status
 
@@ -38,7 +38,7 @@ pub record CheckedOn (form : Form) (known left : Option (List ℕ)) (explain : B
   pub status_is : status ≡ status_of (end_of_outcome outcome)
   pub told : ToldTrace form known left explain outcome old new
 
--- so it is with each status but that of a fault
+-- this holds for each status but that of a fault
 abbrev pub IsCheckRunOn : Form → Option (List ℕ) → Option (List ℕ) → Bool → Option (List ℕ) → Option (List ℕ) → ℕ → Type 0
 IsCheckRunOn form known left explain old new status = status ≢ 3 → CheckedOn form known left explain old new status
 
@@ -61,7 +61,7 @@ abbrev pub IsNotAskedFor : Option (List ℕ) → TextFault → Type 0
 IsNotAskedFor None fault = ⊥
 IsNotAskedFor (Some word) fault = IsSaid (key_of word) fault
 
--- what came of showing a trace of these bytes was written, and the status is that of it
+-- the outcome of showing a trace of these bytes was written, and the status is that of it
 pub record ShownAs (known only old new : Option (List ℕ)) (status : ℕ) : Type 0 where
   pub shown : Shown
   pub status_is : status ≡ status_of (end_of_shown shown)
@@ -80,7 +80,7 @@ pub record ShownNothing (word old new : Option (List ℕ)) (status : ℕ) : Type
   pub status_is : status ≡ 2
   pub kept : Keeps old new
 
--- so it is with each status but that of a fault
+-- this holds for each status but that of a fault
 abbrev pub IsShowRunOn : Option (List ℕ) → Option (List ℕ) → Option (List ℕ) → Option (List ℕ) → ℕ → Type 0
 IsShowRunOn known word old new status = status ≢ 3 → ShownOn known word old new status ⊎ ShownNothing word old new status
 

@@ -112,7 +112,7 @@ IsTextTold form known explain (Undecided hits) told = SpelledTold form known exp
 IsTextTold form known explain (BadLine bad) told = BadTold form known bad told
 IsTextTold form known explain (BadTrace fault) told = ⊥
 
--- the report on a text alone was written
+-- the report on a text was written, and nothing else
 pub record ToldText (form : Form) (known : Option (List ℕ)) (explain : Bool) (outcome : Outcome) (old new : Option (List ℕ)) : Type 0 where
   pub told : List ℕ
   pub is : IsTextTold form known explain outcome told

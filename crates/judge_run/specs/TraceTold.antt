@@ -86,7 +86,7 @@ pub record VerdictTold (form : Form) (known left : Option (List ℕ)) (judged : 
   pub rows_on : AreRowsOn known left judged rows
   pub begins : IsBegunBy form line rows told
 
--- this is the fault of what is no trace, and that alone is reported
+-- this is the fault of what is no trace, which is reported, and nothing else
 pub record BadTold (form : Form) (known left : Option (List ℕ)) (fault : TraceFault) (told : List ℕ) : Type 0 where
   pub line_on : IsLineOn known left kinds.BadTrace (bad_trace_line fault)
   pub rows_on : AreRowsOn known left kinds.BadTrace (bad_trace_rows fault)
@@ -100,7 +100,7 @@ IsTraceTold form known left explain (Undecided hits) told = ⊥
 IsTraceTold form known left explain (BadLine bad) told = ⊥
 IsTraceTold form known left explain (BadTrace fault) told = BadTold form known left fault told
 
--- the report on a trace alone was written
+-- the report on a trace was written, and nothing else
 pub record ToldTrace (form : Form) (known left : Option (List ℕ)) (explain : Bool) (outcome : Outcome) (old new : Option (List ℕ)) : Type 0 where
   pub told : List ℕ
   pub is : IsTraceTold form known left explain outcome told

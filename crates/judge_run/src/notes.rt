@@ -5,8 +5,8 @@ use history_text::BadLine;
 use std::io::Write;
 use trace_file::TraceFault;
 
-/// Tells what an answer to an input of this name means and what to do, if it does not say so itself. What `err` refuses is
-/// dropped, here and below.
+/// Tells what an answer to an input of this name means and what to do, if it does not say so itself. What `err` refuses
+/// is dropped, here and below.
 pub(crate) fn note_answer<E: Write>(err: &mut E, name: &str, outcome: &Outcome) {
     match outcome {
         Outcome::Accepted(trace) => note_calls(err, name, trace.history.len()),

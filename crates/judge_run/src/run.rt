@@ -28,10 +28,10 @@ use std::random::RandomSource;
 use std::rt::Files;
 use trace_file::FileName;
 
-/// Judges the history of a text in a file or of standard input, and answers the status that the program ends with. The tables
-/// have a seed of their own. The verdict is written to `out`, and after it why it is so, if that is wanted. Then an accepted
-/// history is written to the file of its trace, and the picture of a rejected one to its file, if they are wanted. What failed, and
-/// what to do about it, is written to `err`.
+/// Judges the history of a text in a file or of standard input, and answers the status that the program ends with. The
+/// tables have a seed of their own. The verdict is written to `out`, followed by the reason, if that is wanted. Then an
+/// accepted history is written to the file of its trace, and the picture of a rejected one to its file, if they are
+/// wanted. What failed, and what to do about it, is written to `err`.
 pub fn run_judge<R: AllocGlobal + Files + Input + RandomSource, O: Write, E: Write>(
     rt: &R,
     request: &JudgeRequest,
@@ -92,9 +92,10 @@ fn judge_from<R: AllocGlobal + Files, I: Read, O: Write, E: Write>(
     end.status()
 }
 
-/// Judges the trace in a file or of standard input, and answers the status that the program ends with. The table has a seed of its
-/// own. The verdict is written to `out`, and after it why it is so, if that is wanted. The picture of a rejected history is
-/// written to its file, if that is wanted. What failed, and what to do about it, is written to `err`.
+/// Judges the trace in a file or of standard input, and answers the status that the program ends with. The table has a
+/// seed of its own. The verdict is written to `out`, followed by the reason, if that is wanted. The picture of a
+/// rejected history is written to its file, if that is wanted. What failed, and what to do about it, is written to
+/// `err`.
 pub fn run_check<R: AllocGlobal + Files + Input + RandomSource, O: Write, E: Write>(
     rt: &R,
     request: &CheckRequest,
@@ -155,7 +156,8 @@ fn check_from<R: AllocGlobal + Files, I: Read, O: Write, E: Write>(
     end.status()
 }
 
-/// How the program ends after an answer to the input of a file: what is to be saved is saved, and what failed is reported.
+/// How the program ends after an answer to the input of a file: what is to be saved is saved, and what failed is
+/// reported.
 fn settled<R: AllocGlobal + Files, E: Write>(
     rt: &R,
     file: &FileName,
@@ -175,8 +177,8 @@ fn settled<R: AllocGlobal + Files, E: Write>(
     }
 }
 
-/// Writes the trace in a file or of standard input as text to `out`, and answers the status that the program ends with. If a key is
-/// asked for, only its calls are written. What failed, and what to do about it, is written to `err`.
+/// Writes the trace in a file or of standard input as text to `out`, and answers the status that the program ends with.
+/// If a key is asked for, only its calls are written. What failed, and what to do about it, is written to `err`.
 pub fn run_show<R: AllocGlobal + Files + Input, O: Write + Drop, E: Write>(
     rt: &R,
     request: &ShowRequest,
@@ -268,7 +270,7 @@ fn lent(key: &Option<Vec<u8>>) -> Option<&[u8]>
     }
 }
 
-/// How the program ends after what came of showing the input of this name. What there is to do about it is reported.
+/// How the program ends, by the outcome of showing the input of this name. What there is to do about it is reported.
 fn told_of<E: Write>(err: &mut E, name: &str, shown: Shown) -> JudgeEnd
     ensures { result ≡ end_of_shown shown }
 {

@@ -1,4 +1,4 @@
-// Writing what came of judging to files.
+// Writing the outcome of judging to files.
 ghost use Rattle.std.specs.Prelude.{IfErr};
 ghost use Rattle.judge_run.specs.Ends.{IsFault, IsSaved};
 

@@ -14,8 +14,8 @@ use std::alloc::{AllocError, Global};
 use std::io::{Read, Write};
 use trace_file::{TraceFault, Unwritten, read_trace, write_whole};
 
-/// Writes the calls of a reader's trace as text, each on a line, those of one key alone if one is named; or a line that says
-/// why the input is no trace. It writes once a call, so give it a writer with a buffer, and it flushes nothing.
+/// Writes the calls of a reader's trace as text, each on a line, those of one key alone if one is named; or a line that
+/// says why the input is no trace. It writes once a call, so give it a writer with a buffer, and it flushes nothing.
 pub fn answer_show<R: Read, W: Write>(
     alloc: Global,
     only: Option<&[u8]>,

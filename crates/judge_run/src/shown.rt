@@ -1,7 +1,6 @@
-// What came of writing a trace as text.
 use trace_file::TraceFault;
 
-/// What came of writing a trace as text.
+/// The outcome of writing a trace as text.
 #[derive(Clone, Copy, Debug, PartialEq, Eq)]
 pub enum Shown {
     /// All was written.

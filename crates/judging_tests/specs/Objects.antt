@@ -18,7 +18,7 @@ abbrev pub accepted_object : Trace → List ℕ
 accepted_object trace =
     text_of_rows Json (row (codes "calls") (number (length trace.history)) ∷ row (codes "verdict") (word (codes "accepted")) ∷ [])
 
--- the object of a history of so many calls that is rejected for this fault
+-- the object of a history of this many calls that is rejected for this fault
 abbrev pub rejected_object : ℕ → Fault → List ℕ
 rejected_object calls fault = text_of_rows Json (row (codes "calls") (number calls) ∷ verdict_rows (verdicts.Rejected fault))
 

@@ -21,7 +21,7 @@ pub record IsRefused (fault : SizeFault) (old : LaneShape) (number : ℕ) (new :
   pub number_is : number ≡ number_of_size_fault fault
   pub stays : new ≡ old
 
--- what is written where this is the first fault, if there is one
+-- what is written when this is the first fault, if there is one
 abbrev pub IsWrittenBy : Option SizeFault → WantedSizes → LaneShape → ℕ → LaneShape → Type 0
 IsWrittenBy None wanted old number new = (number ≡ 0) × IsWrittenFor (wanted_of wanted) old new
 IsWrittenBy (Some fault) wanted old number new = IsRefused fault old number new

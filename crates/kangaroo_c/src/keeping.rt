@@ -29,7 +29,7 @@ pub(crate) fn filled(place: &mut Handle, lane: Box<KeptLane>)
 
 ghost use Rattle.kangaroo_c.specs.Telling.{IsPut};
 
-// Puts a lane into memory of its own, and that into a place; `NoMemory` where it was refused.
+// Puts a lane into memory of its own, and that into a place; `NoMemory` if it was refused.
 pub(crate) fn put_in(alloc: Global, lane: CLane<MappedDevice<4096>>, place: &mut Handle) -> Status
     ensures { IsPut lane place.old.lane result place.new.lane }
 {

@@ -10,7 +10,7 @@ use std::marker::Model;
 /// Pages of 4,096 bytes in memory that C lends. An export takes it by value, and C passes
 /// `struct { uint8_t *at; uint32_t count; }`.
 ///
-/// What C owes, and nothing checks: `at` is not null, also where there are no pages; `count` pages lie from there on,
+/// What C owes, and nothing checks: `at` is not null, even if there are no pages; `count` pages lie from there on,
 /// with any bytes; and nobody else reads or writes them until what was made of them is dropped.
 #[repr(C)]
 #[derive(Drop)]

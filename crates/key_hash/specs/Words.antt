@@ -5,7 +5,7 @@ use Rattle.std.specs.Prelude.{ℕ, ◌+◌, ◌-◌, ◌*◌, ◌/◌, ◌%◌, 
 unfoldable pub half : List ℕ → ℕ → ℕ
 half bytes i = slice_index bytes i + slice_index bytes (i + 1) * 256 + slice_index bytes (i + 2) * 65536 + slice_index bytes (i + 3) * 16777216
 
--- a number of 64 bits moved up by so many, without those that leave it
+-- a number of 64 bits moved up by this many, without those that leave it
 abbrev pub moved_up : ℕ → ℕ → ℕ
 moved_up x by = (x * 2 ^ by) % 2 ^ 64
 

@@ -30,8 +30,8 @@ impl RandomSeed {
         })
     }
 
-    /// The seed that is the same in every run, of fractional bits of pi. It is for maps whose keys no stranger picks: whoever
-    /// reads this can pick keys that collide under it.
+    /// The seed that is the same in every run, of fractional bits of pi. It is for maps whose keys no stranger picks:
+    /// whoever reads this can pick keys that collide under it.
     pub fn fixed() -> RandomSeed
         ensures { result ≡ fixed_seed }
     {
@@ -41,8 +41,8 @@ impl RandomSeed {
         }
     }
 
-    /// Another seed, made of this one and a number. Who hashes the same keys for several uses gives each use a number of its
-    /// own, so that keys that one use has put together are apart in the others.
+    /// Another seed, made of this one and a number. Who hashes the same keys for several uses gives each use a number
+    /// of its own, so that keys that one use has put together are apart in the others.
     pub fn derive(self, number: u32) -> RandomSeed
         ensures { result ≡ derived self number }
     {

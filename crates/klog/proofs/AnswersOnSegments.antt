@@ -1,4 +1,4 @@
--- Counts, look-ups and takings, stated on the list of segments.
+-- Counts, look-ups and takings, in terms of the list of segments.
 use Rattle.std.proofs.Common.{◌≡◌, ◌≢◌, ℕ, Bool, true, false, cond, eqb, List, [], ◌∷◌, ◌++◌, length, take, filter, map, reverse, Option, Some, None, refl, sym, ap, subst, ◌∙◌, inl, inr}
 use Rattle.std.specs.Prelude.{find}
 use Rattle.std.specs.Option.{option_map}
@@ -31,7 +31,7 @@ aged-one : {X Y : Type 0} (f : X → Y) (x : X) (ys : List X) (b : Bool) → map
 aged-one f x ys true = sym (aged-cons f x ys)
 aged-one f x ys false = append-nil (map f (reverse ys))
 
--- those that are kept are the same, counted before or after
+-- those that are kept are the same, whether chosen before or after
 aged-kept : {X Y : Type 0} (f : X → Y) (p : Y → Bool) (xs : List X) → filter p (map f (reverse xs)) ≡ map f (reverse (filter (λ x. p (f x)) xs))
 aged-kept f p [] = refl
 aged-kept f p (x ∷ xs) =
@@ -75,7 +75,7 @@ listed-taken : (k : LogState) (xs : List (Entry × Rec)) → map as_listed (map 
 listed-taken k [] = refl
 listed-taken k (x ∷ xs) = ap (λ (ys : List LogRecord). live_record x ∷ ys) (listed-taken k xs)
 
--- the newest ones, so many
+-- this many of the newest ones
 last_listed : (k : LogState) (n : ℕ) (xs : List (Entry × Rec)) → map as_listed (map (taken_as k) (take n xs)) ≡ take n (reverse (map live_record (reverse xs)))
 last_listed k n xs = listed-taken k (take n xs) ∙ sym (take-map live_record n xs) ∙ ap (take n) (sym (aged-again live_record xs))
 

@@ -48,7 +48,7 @@ last_listed k e last = let at = lasts k.entries e last e in (length k.entries - 
 last_held : (k : LogState) (e : Entry) → IsLog k → last_or None k.entries ≡ Some e → IsHeld k e
 last_held k e log last = let at = lasts k.entries e last e in subst (IsHeld k) at.1 (log.held (length k.entries - 1) e (omega (arith, at.0)))
 
--- of no entry where there is none
+-- of no entry if there is none
 pub none_last : (v k : LogState) (o : Option Entry) (segment : ℕ) → v ≡ k → o ≡ last_or None v.entries → o ≡ None → NoneOfSegment segment k.entries
 none_last v k o segment same told none = λ i d lt. absurd (no_entry k.entries (ap (λ (q : LogState). last_or None q.entries) (sym same) ∙ sym told ∙ none) i lt)
   where

@@ -1,4 +1,4 @@
--- What is said of the oldest segment, on the list of segments.
+-- What is said of the oldest segment, in terms of the list of segments.
 use Rattle.std.proofs.Common.{◌≡◌, ◌≢◌, ℕ, zero, suc, ◌+◌, ◌<◌, Bool, true, false, cond, eqb, List, [], ◌∷◌, ◌++◌, length, get_or, filter, map, reverse, Option, Some, None, All, Contains, slice_get, refl, sym, ap, subst, ◌∙◌, inl, inr, arith}
 use Rattle.std.specs.Prelude.{AllPairs, IsSomeAnd}
 use Rattle.std.specs.List.{flat_map, range_with_len}

@@ -1,4 +1,4 @@
--- Laws of what the log answers, stated on its list of segments.
+-- Laws of what the log answers, in terms of its list of segments.
 use Rattle.std.specs.Prelude.{◌≡◌, ◌≢◌, ◌⊎◌, ◌↔◌, ℕ, ◌+◌, ◌-◌, ◌<◌, ◌≤◌, ◌^◌, List, [], ◌∷◌, ◌++◌, length, map, take, reverse, filter, count_by, sum_by, slice_get, All, Option, Some, IsSome, MatchOption, true}
 use Rattle.std.specs.Option.{option_map}
 use Rattle.record_pages.specs.Recs.{Rec, size}

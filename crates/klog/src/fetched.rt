@@ -1,4 +1,3 @@
-// What the reading of an entry's record gave.
 use record_pages::RecordRef;
 
 /// What the reading of an entry's record gave.

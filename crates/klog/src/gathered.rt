@@ -1,4 +1,3 @@
-// What a reading of a set's records gave.
 use crate::taken_records::TakenRecords;
 use klog_index::Entry;
 

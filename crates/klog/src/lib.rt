@@ -1,5 +1,5 @@
-//! The log on flash: segments of pages, of which one is filled and one may be flushed from memory, and the oldest lie on
-//! a device.
+//! The log on flash: segments of pages, of which one is filled and one may be flushed from memory, and the oldest lie
+//! on a device.
 #![tactic(auto)]
 
 mod answer_laws;

@@ -1,4 +1,3 @@
-// What is live in the oldest segment on the device.
 use klog_index::Entry;
 
 /// What is live in the oldest segment on the device.

@@ -1,4 +1,3 @@
-// What a taking of a set's records answers.
 use crate::taken_records::TakenRecords;
 
 /// What a taking of a set's records answers.

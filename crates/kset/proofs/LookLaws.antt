@@ -93,7 +93,7 @@ reads_page size count set held bytes within p known =
       seen_records = ap records_on p.holds ∙ ap (λ (o : Option SetPageParts). option_map_or (λ (read : SetPageParts). read.records) o []) at;
     }
 
--- what a page says of a key, stated of the visible records
+-- what a page says of a key, in terms of the visible records
 abbrev pub Says : List (ℕ × Rec) → List ℕ → ℕ → List ℕ → LocatedInSet → Type 0
 Says visible key moment buffer (Hit slot) = IsSomeAnd (first_visible visible key) (λ x. (x.0 ≡ slot) × (value_at moment x.1.value ≡ Some buffer))
 Says visible key moment buffer Expired = IsSomeAnd (first_visible visible key) (λ x. value_at moment x.1.value ≡ None)

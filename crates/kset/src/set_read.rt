@@ -1,4 +1,3 @@
-// What a reading of a whole set answers.
 use crate::set_records::SetRecords;
 
 /// What a reading of a whole set answers.

@@ -66,8 +66,8 @@ impl<const PAGE: usize> KSet<PAGE> {
     }
 
     /// The slot of the first visible record of a key, if it is live at the moment. Its value goes into the buffer; all
-    /// other answers leave the buffer as it was. A key that the filter denies or that is struck is absent without a call
-    /// of the device. Nothing is noted, and no memory is taken.
+    /// other answers leave the buffer as it was. A key that the filter denies or that is struck is absent without a
+    /// call of the device. Nothing is noted, and no memory is taken.
     pub fn locate<D: PageDevice<PAGE>>(
         &self,
         device: &mut D,

@@ -105,7 +105,7 @@ small_bytes n a = let most : n ≤ most_bytes = grind (arith, common_steps) in o
 pub within : (settings : List Setting) (numbers : List ℕ) → AreAdmitted settings numbers → (place : ℕ) → place < length settings → ((row_of (get_or settings place Lanes)).range.least ≤ get_or numbers place 0) × (get_or numbers place 0 ≤ (row_of (get_or settings place Lanes)).range.greatest)
 within settings numbers h place less = (least _ _ _ (h place less), greatest _ _ _ (h place less))
 
--- numbers that are admitted for settings are admitted for those in front
+-- numbers that are admitted for settings are admitted for those that come first
 pub in_front : (front rest : List Setting) (numbers : List ℕ) → AreAdmitted (front ++ rest) numbers → AreAdmitted front numbers
 in_front front rest numbers h = λ place less.
     let all : place < length (front ++ rest) = omega (arith, length-append front rest, less) in

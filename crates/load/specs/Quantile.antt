@@ -12,7 +12,7 @@ abbrev pub greatest : List ℕ → ℕ
 greatest [] = 0
 greatest (time ∷ times) = max time (greatest times)
 
--- Of so many thousandths of the times none is above the result. At each top below the result they are fewer. The result is
+-- Of this many thousandths of the times none is above the result. At each top below the result they are fewer. The result is
 -- not above the greatest time either.
 pub record IsQuantile (times : List ℕ) (thousandths : ℕ) (result : ℕ) : Type 0 where
   pub enough : thousandths * length times ≤ 1000 * count_within result times

@@ -1,4 +1,5 @@
-//! What a load asks of a cache: its settings, and the operations of its callers.
+//! What a load asks of a cache: its settings, and the operations of its callers. Also a histogram of how long calls
+//! took, and a watch that shows progress while a load runs.
 #![tactic(auto)]
 
 mod cells;

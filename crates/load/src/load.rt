@@ -21,7 +21,7 @@ pub struct Load {
     /// Gets, in per cent of the operations.
     pub gets: u32,
     /// Removes, in per cent of the operations. With the gets they may exceed 100; such a load is refused
-    /// where it is to be run.
+    /// when it is to be run.
     pub removes: u32,
     /// Workers that flush and move, each in a thread of its own.
     pub workers: u32,

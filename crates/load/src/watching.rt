@@ -5,7 +5,7 @@ use std::sync::atomic::{AtomicU64, Ordering};
 use std::thread::sleep;
 use std::time::{Clock, Duration};
 
-/// How long one look at the callers is after the one before, in milliseconds.
+/// Milliseconds between one look at the callers and the next.
 const LOOK: u64 = 50;
 
 /// How many looks lie before the first line.

@@ -34,7 +34,7 @@ Makes layout load first zero old new = new ≡ old
 Makes layout load first (suc number) old new =
     (before : Ticket) × Makes layout load first number old before × IsCalled layout (operation_at load old.caller first number) before new
 
--- the pass made so many operations, and the next was refused, which left the calls that it lists
+-- the pass made this many operations, and the next was refused, which left the calls that it lists
 pub record IsStopped (layout : Layout) (load : Load) (first : Lcg) (old new : Ticket) : Type 0 where
   pub number : ℕ
   pub before : Ticket

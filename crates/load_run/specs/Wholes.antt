@@ -3,11 +3,11 @@ use Rattle.std.specs.Prelude.{◌≡◌, ℕ, ◌≤◌, ◌+◌, ◌*◌, ◌==
 use Rattle.load.specs.declared.load.Load.{Load}
 use Rattle.shared_cache.specs.Passes.{Ticket}
 
--- the pass does not list so many calls
+-- the pass does not list this many calls
 abbrev pub is_short : ℕ → Ticket → Bool
 is_short operations pass = not (length pass.calls == operations)
 
--- so many calls were made, and so many callers stopped: each other caller made all its operations, so that these are all
+-- this many calls were made, and this many callers stopped: each other caller made all its operations, so that these are all
 -- calls if none stopped
 pub record IsWhole (load : Load) (calls stopped : ℕ) : Type 0 where
   pub some : stopped ≤ load.callers

@@ -108,7 +108,7 @@ fn take_left<R: Wait>(
     Ok(Left { passes, stopped })
 }
 
-/// Whether a pass does not list so many calls: its caller stopped at a refusal.
+/// Whether a pass does not list this many calls: its caller stopped at a refusal.
 fn is_short(pass: &Pass, operations: u32) -> bool
     ensures { result ≡ is_short operations pass.now }
 {

@@ -43,9 +43,10 @@ use trace_file::{Certificate, History, write_trace};
 ///
 /// Each caller has a thread, its pass and a generator of its own, and stops at its first refusal; the workers flush and move
 /// beside them. Then the history is judged, by a table with a seed that is drawn for it, the trace is written to its file, and
-/// four lines are written to `out`, or a JSON object if the load wants that. What else went wrong is told to `err`, in a line,
-/// and after it in further lines what failed, with the file and the system's cause, and what to do. If `err` is a terminal, it
-/// is told too how many calls were made, at most twice a second while they are, and of a long run what is done after that.
+/// four lines are written to `out`, or a JSON object if the load wants that. What else went wrong goes to `err`, in a
+/// line, and after it in further lines what failed, with the file and the system's cause, and what to do. If `err` is a
+/// terminal, it also shows how many calls were made, at most twice a second while they are, and of a long run what is
+/// done after that.
 pub fn run_load<
     R: Threads + Wait + Sync + AllocGlobal + Files<File = File> + Clock + RandomSource,
     O: Write,

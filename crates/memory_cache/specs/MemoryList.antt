@@ -13,7 +13,7 @@ pub record MemoryList : Type 0 where
 pub record IsBounded (list : MemoryList) : Type 0 where
   -- no two pairs have the same key
   pub distinct : AllPairs (λ a b. a.key ≢ b.key) list.pairs
-  -- there are at most so many
+  -- there are at most as many as the capacity
   pub within : length list.pairs ≤ list.capacity
   -- there may be one
   pub roomy : 1 ≤ list.capacity

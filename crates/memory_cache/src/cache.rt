@@ -41,8 +41,8 @@ impl MemoryCache {
         MemoryCache::with_seed(alloc, capacity, RandomSeed::fixed())
     }
 
-    /// An empty memory, as `open` makes it, whose table hashes by this seed. Who does not know it can't pick keys that collide
-    /// in the table.
+    /// An empty memory, as `open` makes it, whose table hashes by this seed. Whoever does not know it can't pick keys
+    /// that collide in the table.
     pub fn with_seed(
         alloc: Global,
         capacity: u32,

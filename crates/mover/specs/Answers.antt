@@ -1,4 +1,4 @@
--- What a get answers, stated on memory, on the log's list of segments, and on the key's set.
+-- What a get answers, in terms of memory, of the log's list of segments, and of the key's set.
 use Rattle.std.specs.Prelude.{◌≡◌, ℕ, List, Option, Some, None}
 use Rattle.record_pages.specs.Expiry.{value_at}
 use Rattle.record_pages.specs.Recs.{Rec}

@@ -1,4 +1,3 @@
-// How a move began.
 use policy_laws::Job;
 
 /// How a move began.

@@ -4,7 +4,8 @@ ghost use Rattle.mover.specs.Laws.{GetShows, PutShows, RemovalShows, FlushShows,
 
 use klog::look_finds_newest;
 
-/// A get shows nothing that was not shown, and a hit is the value of a visible pair of its key that is live at the get's moment.
+/// A get shows nothing that was not shown, and a hit is the value of a visible pair of its key that is live at the
+/// get's moment.
 pub fn get_shows()
     ensures { GetShows }
 {}

@@ -4,8 +4,8 @@ ghost use Rattle.std.specs.Prelude.{◌≡◌};
 use record_pages::Record;
 use set_hash::hash;
 
-/// What is noted of an item of a move in flight: the hash of its key, and whether a key of that hash was struck since the
-/// move began.
+/// What is noted of an item of a move in flight: the hash of its key, and whether a key of that hash was struck since
+/// the move began.
 #[derive(Clone, Copy, Debug)]
 pub(crate) struct Mark {
     pub(crate) hash: u64,

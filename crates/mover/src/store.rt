@@ -25,8 +25,8 @@ mod move_whole;
 mod put;
 mod remove;
 
-/// The store of a lane: the objects in memory, the log and the sets, over one device. Up to 8 moves of different sets are in
-/// flight at once.
+/// The store of a lane: the objects in memory, the log and the sets, over one device. Up to 8 moves of different sets
+/// are in flight at once.
 #[derive(Drop)]
 pub struct Store<D: PageDevice<PAGE>, const PAGE: usize> {
     alloc: Global,
@@ -113,9 +113,9 @@ impl<D: PageDevice<PAGE>, const PAGE: usize> Store<D, PAGE> {
         Ok(layout)
     }
 
-    /// An empty store of this layout over a device that has its pages, or `AllocError`, with which the device is dropped.
-    /// Nothing is tested again. The table of its memory hashes by this seed: anyone who does not know it cannot pick keys
-    /// that collide there.
+    /// An empty store of this layout over a device that has its pages, or `AllocError`, with which the device is
+    /// dropped. Nothing is tested again. The table of its memory hashes by this seed: anyone who does not know it
+    /// cannot pick keys that collide there.
     pub fn with_layout(
         alloc: Global,
         layout: &Layout,

@@ -2,7 +2,7 @@
 use Rattle.std.specs.Prelude.{◌≡◌, ◌≢◌, ℕ, List, Option, Bool, true, false, IsTrue}
 use Rattle.page_device.specs.Device.{faults_after}
 
--- The call only reads, or does not touch the device. Its count of failures tells whether a call of it failed; where it is
+-- The call only reads, or does not touch the device. Its count of failures tells whether a call of it failed; if it is
 -- honest all pages stay.
 pub record OnlyReads {D : Type 0} (page_count : D → ℕ) (is_honest : D → Bool) (failures : D → ℕ) (held : D → ℕ → Option (List ℕ)) (old : D) (failed : Bool) (new : D) : Type 0 where
   pub pages : page_count new ≡ page_count old

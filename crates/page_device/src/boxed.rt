@@ -6,7 +6,8 @@ use crate::device_fault::DeviceFault;
 use std::alloc::{AllocError, Global};
 use std::marker::Model;
 
-/// A device in memory of its own, so that what holds it has a size that is known whatever the device. It is that device.
+/// A device in memory of its own, so that what holds it has a size that is known whatever the device. It is that
+/// device.
 #[derive(Drop)]
 pub struct Boxed<D> {
     device: Box<D>,

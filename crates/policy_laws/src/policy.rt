@@ -15,7 +15,7 @@ pub trait EvictionPolicy {
 
     /// Its plan of the job, or `AllocError` if memory was refused.
     ///
-    /// Each plan names items of the job, none twice, that fit on a set page together, and names all items where
+    /// Each plan names items of the job, none twice, that fit on a set page together, and names all items if
     /// all fit.
     fn choose(&self, alloc: Global, job: &Job) -> Result<Plan, AllocError>
         ensures plan { IfOk result (λ plan. plan ≡ plan_of self.now job.now) }

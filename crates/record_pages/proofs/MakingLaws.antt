@@ -23,7 +23,7 @@ use Rattle.record_pages.proofs.RecordLaws.{records_again, record_from, length-re
 
 -- ---- records that fit
 
--- what fits is within the room, and at most so many
+-- what fits is within the room, and at most this many
 pub record Fits (most page : ℕ) (rs : List Rec) : Type 0 where
   pub room : sizes rs ≤ room page
   pub few : length rs ≤ most

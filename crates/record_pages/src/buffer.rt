@@ -5,8 +5,8 @@ ghost use Rattle.record_pages.specs.Bounded.{IsValue};
 use crate::value::Value;
 use std::marker::Model;
 
-/// Room for the bytes of a value, at most `Value::MAX_LEN` of them, which lie in the buffer itself. They are zeroed when
-/// it is made, so whoever looks up many values keeps one.
+/// Room for the bytes of a value, at most `Value::MAX_LEN` of them, which lie in the buffer itself. They are zeroed
+/// when it is made, so whoever looks up many values keeps one.
 #[derive(Drop)]
 pub struct ValueBuffer {
     bytes: [u8; Value::MAX_LEN],

@@ -1,5 +1,5 @@
-//! Keys, values, records, pages, the answers of a cache and its configuration: the words that all layers share. Also the
-//! room for a value, and laws of sets of numbers that are bits of words.
+//! Keys, values, records, pages, the answers of a cache and its configuration: the words that all layers share. Also
+//! the room for a value, and laws of sets of numbers that are bits of words.
 #![tactic(auto)]
 
 mod answer;

@@ -11,8 +11,8 @@ pub const RECORD_OVERHEAD: usize = 12;
 /// How many bytes of a page no record may take.
 pub const PAGE_OVERHEAD: usize = 18;
 
-/// The most records of a set page. The hits of a set are the bits of one word of 128, one for each place of its page. So
-/// many records lie on a page of 4,096 bytes if each takes at most 31 bytes; the least takes 13.
+/// The most records of a set page. The hits of a set are the bits of one word of 128, one for each place of its page.
+/// So many records lie on a page of 4,096 bytes if each takes at most 31 bytes; the least takes 13.
 pub const MAX_SET_RECORDS: usize = 128;
 
 /// The most records of a log page. An entry of the log's index has room for 64 places on a page, and a page in the

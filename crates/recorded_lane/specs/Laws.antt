@@ -7,7 +7,7 @@ use Rattle.certificate_checker.specs.Deeds.{deed_of}
 use Rattle.certificate_checker.specs.Latest.{IsLawful}
 use Rattle.certificate_checker.specs.Orders.{Agrees}
 
--- A history is accepted with the positions 0, 1, 2 and so on for its certificate, where its calls stand in an order of
+-- A history is accepted with the positions 0, 1, 2 and so on for its certificate, if its calls stand in an order of
 -- theirs, each no later at its start than at its end, and are lawful in it.
 abbrev pub AcceptedInTurn : Type 0
 AcceptedInTurn =

@@ -37,7 +37,7 @@ pub const MAX_CALLS: usize = 16777216;
 /// A lane of the cache: its store, with a record of its calls in the order in which they were done. The bytes of the
 /// recorded calls lie in one place.
 ///
-/// The record takes no memory before the first call. It is right of any device; that its hits are lawful is said if
+/// The record takes no memory before the first call. It is right of any device; its hits are said to be lawful only if
 /// the device is honest.
 #[derive(Drop)]
 pub struct RecordedLane<D: PageDevice<PAGE>, const PAGE: usize> {

@@ -1,4 +1,3 @@
-// The parts of a lane that is over.
 use trace_file::History;
 
 /// The parts of a lane that is over.

@@ -24,7 +24,7 @@ abbrev pub feeds : List ℕ → ℕ
 feeds [] = 0
 feeds (b ∷ bs) = if b == 10 then suc (feeds bs) else feeds bs
 
--- bytes that were read and not yet taken, and whether the reader told its end after them
+-- bytes that were read and not yet taken, and whether the reader reported its end after them
 pub record Ahead : Type 0 where
   pub bytes : List ℕ
   pub over : Bool

@@ -1,4 +1,3 @@
-// Why a script's lane is not opened.
 ghost use Rattle.std.specs.Prelude.{◌≡◌};
 ghost use Rattle.scripts.specs.declared.open_script_fault.OpenScriptFault.TheVariants.{OutOfMemory};
 

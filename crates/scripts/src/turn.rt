@@ -1,4 +1,3 @@
-// Whether a script goes on after a line.
 use crate::scripted::Scripted;
 
 /// Whether a script goes on after a line.

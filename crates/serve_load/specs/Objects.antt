@@ -17,7 +17,7 @@ word_of key number = to_be_bytes w32 key ++ to_be_bytes w32 number
 abbrev pub repeated : List ℕ → ℕ → List ℕ
 repeated word len = take len (repeat (len / 8 + 1) word)
 
--- the value of so many bytes that an operation puts for a key
+-- the value of this many bytes that an operation puts for a key
 abbrev pub value_of : ℕ → ℕ → ℕ → List ℕ
 value_of len key number = repeated (word_of key number) len
 

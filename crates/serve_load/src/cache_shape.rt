@@ -1,4 +1,3 @@
-// What a load's cache is made of.
 ghost use Rattle.std.specs.Prelude.{◌≡◌, ◌≤◌, ◌*◌, ◌+◌, IfErr, IfOk};
 ghost use Rattle.serve_load.specs.Wanting.{RefusesSize};
 

@@ -1,5 +1,5 @@
 //! A load of a cache that serves: its callers and workers in threads on one cache, what its callers know of their keys, and what
-//! is told of it.
+//! is reported of it.
 #![tactic(auto)]
 
 mod advice;

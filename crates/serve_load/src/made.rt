@@ -99,7 +99,8 @@ fn callers_of<L: KeyLanes, J: Naming>(
     Ok(callers)
 }
 
-/// The report on what the callers did together in so many milliseconds, and on what the lanes of their cache tell together.
+/// The report on what the callers did together in this many milliseconds, and on what the lanes of their cache tell
+/// together.
 fn report_of(sums: &Sums, milliseconds: u64, total: &LaneEnd) -> Report
     requires { sums.now.operations ≤ 64000000000 }
     ensures { IsReportOf sums.now milliseconds total.now result }

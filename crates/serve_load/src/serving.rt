@@ -48,9 +48,9 @@ type LoadCache<D, L, J> = ServiceCache<D, Rriparoo, PAGE, L, J>;
 ///
 /// Each caller has a thread, a generator and keys of its own, and knows what each of its keys has; a hit of anything else is
 /// wrong, and ends it and the load. The workers do the upkeep beside them. Then the report is written to `out`. What went wrong
-/// is told to `err`, in a line, and if the system failed in a second one, with its cause. If `err` is a terminal it is told
-/// too how many operations were made, at most twice a second while they are. No history is recorded, so memory does not grow by
-/// the operations.
+/// is reported to `err`, in a line, and if the system failed, in a second one, with its cause. If `err` is a terminal,
+/// it also shows how many operations were made, at most twice a second while they are. No history is recorded, so
+/// memory does not grow by the operations.
 pub fn serve_load<
     R: Threads + Wait + Sync + AllocGlobal + Files<File = File> + Clock + RandomSource,
     O: Write,

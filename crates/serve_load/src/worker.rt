@@ -82,7 +82,7 @@ fn tend_all<
     }
 }
 
-/// Does what is due in a lane, up to so many steps, or to one that is refused memory. Whether a step was done.
+/// Does what is due in a lane, up to this many steps, or to one that is refused memory. Whether a step was done.
 fn tend<
     D: PageDevice<PAGE>,
     P: EvictionPolicy + Drop,

@@ -41,7 +41,7 @@ pub record Held (D : Type 0) : Type 0 where
 abbrev pub IsAsSaid : {D : Type 0} → (ℕ → Bool) → (D → Bool) → Held D → Type 0
 IsAsSaid said honest held = IsTrue (said held.lane.register.number) → IsTrue (honest held.lane.serving.store.device.device)
 
--- a new lane of this number: empty, of this layout, over this device, with so many slots for leases that have seen no write, and
+-- a new lane of this number: empty, of this layout, over this device, with this many slots for leases that have seen no write, and
 -- sorted by the cache's seed for the number
 abbrev pub new_lane : {D : Type 0} → Layout → ℕ → RandomSeed → ℕ → D → Serving (CountedDevice D)
 new_lane layout lease_slots seed number device = record {
@@ -63,7 +63,7 @@ pub record LooksUp {D : Type 0} (size : ℕ) (honest : D → Bool) (failures : D
   pub gets : Gets size honest failures held key moment (looked_up looked found) old between
   pub leased : LeasesAfter looked key between new
 
--- what a fill leaves: where it was stored, the lane's fill and help after it; where it is stale, all but a counter
+-- what a fill leaves: if it was stored, the lane's fill and help after it; if it is stale, all but a counter
 abbrev pub FillsOrNot : {D : Type 0} → ℕ → (D → Bool) → (D → ℕ) → (D → ℕ → Option (List ℕ)) → (Job → List Choice) → List ℕ → List ℕ → ℕ → ℕ → ℕ → Filled → Serving D → Serving D → Type 0
 FillsOrNot size honest failures held plan_of key value expires word writes (Stored pushed) old new =
     FillsAndHelps size honest failures held plan_of (record { key = key; value = timed value expires }) word writes pushed old new

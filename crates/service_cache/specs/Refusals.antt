@@ -28,7 +28,7 @@ abbrev pub RefusesRemoval : List ℕ → SeatFault → Type 0
 RefusesRemoval key (refusals.Key fault) = RefusesBytes key fault
 RefusesRemoval key (refusals.Book fault) = IsKey key
 
--- when a put of an object is refused for its size, on pages of so many bytes, and when for memory: only if it fits on a page
+-- when a put of an object is refused for its size, on pages of this many bytes, and when for memory: only if it fits on a page
 abbrev pub RefusesPut : ℕ → List ℕ → List ℕ → SeatPutFault → Type 0
 RefusesPut size key value (put_refusals.Put puts.TooLarge) = room size < object_size key value
 RefusesPut size key value (put_refusals.Put puts.OutOfMemory) = object_size key value ≤ room size

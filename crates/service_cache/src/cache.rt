@@ -64,9 +64,9 @@ impl<
     L: KeyLanes,
     J: Naming,
 > ServiceCache<D, P, PAGE, L, J> {
-    /// A cache of so many shards of this configuration, with empty lanes, one over each device, whose moves go by this policy,
-    /// and a book with no write. Its refusals are tested in the order of `OpenServiceFault`; devices, policy and book are
-    /// dropped with each.
+    /// A cache of this many shards of this configuration, with empty lanes, one over each device, whose moves go by
+    /// this policy, and a book with no write. Its refusals are tested in the order of `OpenServiceFault`; devices,
+    /// policy and book are dropped with each.
     ///
     /// The seed decides in which lane a key is, and all else of a lane that is random comes from it. Draw it at random.
     pub fn open(

@@ -1,5 +1,6 @@
 //! A cache that serves: lanes of which nothing is recorded, each under a lock of its own. Each call of it brings a seat, which says what
-//! its caller has seen of one list of all writes of the cache; the list exists only in proofs.
+//! its caller has seen of one list of all writes of the cache; the list exists only in proofs. `SeatedLane` is one such
+//! lane alone, without the lock.
 #![tactic(auto)]
 
 mod cache;

@@ -1,4 +1,3 @@
-// What a look-up gave that leases a key at a miss.
 use record_pages::{MissCause, Tier};
 use service_lane::Lease;
 

@@ -1,4 +1,3 @@
-// Why a cache that serves is not opened.
 use record_pages::Field;
 use thiserror::Error;
 

@@ -91,7 +91,7 @@ abbrev pub with_answer : Answer → GetCounts → GetCounts
 with_answer (Hit value tier) c = with_hit tier c
 with_answer (Miss cause) c = with_miss cause c
 
--- an object more of so many bytes that was stored
+-- an object more of this many bytes that was stored
 abbrev pub with_stored : ℕ → PutCounts → PutCounts
 with_stored bytes c = record c { stored = more c.stored; bytes = (c.bytes + bytes) % 2 ^ 64 }
 
@@ -147,7 +147,7 @@ with_step c = record c { steps = more c.steps }
 abbrev pub with_help : UpkeepCounts → UpkeepCounts
 with_help c = record c { in_help = more c.in_help }
 
--- so many steps more that were due, all of them done in help
+-- this many steps more that were due, all of them done in help
 abbrev pub with_helps : ℕ → UpkeepCounts → UpkeepCounts
 with_helps zero c = c
 with_helps (suc n) c = with_help (with_step (with_helps n c))

@@ -93,7 +93,7 @@ pub record LastHelp {D : Type 0} (size : ℕ) (honest : D → Bool) (failures : 
   pub near : is_lane_near_end old ≡ true
   pub once : HelpsOnce size honest failures held plan_of old asked new
 
--- so many steps in help: each if the lane was near its end, and after none that may have asked the device
+-- this many steps in help: each if the lane was near its end, and after none that may have asked the device
 abbrev pub HelpsSteps : {D : Type 0} → ℕ → (D → Bool) → (D → ℕ) → (D → ℕ → Option (List ℕ)) → (Job → List Choice) → ℕ → Serving D → Bool → Serving D → Type 0
 HelpsSteps size honest failures held plan_of zero old asked new = (asked ≡ false) × (new ≡ old)
 HelpsSteps size honest failures held plan_of (suc n) old asked new = LastHelp size honest failures held plan_of (λ s. HelpsSteps size honest failures held plan_of n old false s) asked new

@@ -15,9 +15,9 @@ pub enum Due {
 
 /// What is due in a lane whose log is so full, if anything is.
 ///
-/// A page is, if a segment is flushed and has a place on the device. Otherwise a move is, if the log is short: fewer than one of
-/// 16 places are free, or none, or more than 15 of 16 records that may be live are; but none while no segment lies on the
-/// device. No segment is sealed for it: that is done by the put that finds it full.
+/// A page is due if a segment is flushed and has a place on the device. Otherwise a move is due if the log is short:
+/// fewer than one of 16 places are free, or none, or more than 15 of 16 records that may be live are; but no move is
+/// due while no segment lies on the device. No segment is sealed for it: that is done by the put that finds it full.
 pub fn what_is_due(usage: &LogUsage) -> Option<Due>
     ensures { result ≡ due_of usage.now }
 {

@@ -1,4 +1,3 @@
-// What a fill did.
 use record_pages::Pushed;
 
 /// What a fill did.

@@ -61,8 +61,8 @@ impl<D: PageDevice<PAGE>, const PAGE: usize> ServiceLane<D, PAGE> {
     ghost use Rattle.service_lane.specs.Leases.{AreCounted, no_writes};
     ghost use Rattle.service_lane.specs.Serving.{RefusesLane};
 
-    /// An empty lane with so many slots for leases, over a device. Its refusals are tested in the order of `OpenLaneFault`,
-    /// those of the store in that of `Store::open`, and the device is dropped with each.
+    /// An empty lane with this many slots for leases, over a device. Its refusals are tested in the order of
+    /// `OpenLaneFault`, those of the store in that of `Store::open`, and the device is dropped with each.
     ///
     /// The seed is that of the table of the objects in memory, and that by which keys have their slots. Draw it at random if
     /// strangers pick keys: anyone who knows it can pick keys that collide there.

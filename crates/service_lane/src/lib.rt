@@ -1,5 +1,6 @@
 //! A lane that serves: a store with counters and leases, of which nothing is recorded. What it was asked and answered is there
-//! in proofs alone: it takes no memory, however long the lane serves.
+//! in proofs alone: it takes no memory, however long the lane serves. It also says when a page of the log is due to be
+//! written, and when records are due to move.
 #![tactic(auto)]
 
 mod counts;

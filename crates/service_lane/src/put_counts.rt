@@ -31,7 +31,7 @@ impl PutCounts {
         }
     }
 
-    /// Counts an object of so many bytes that was stored.
+    /// Counts an object of this many bytes that was stored.
     pub(crate) fn stored(&mut self, bytes: u64)
         ensures { self.new ≡ with_stored bytes self.old }
     {

@@ -32,7 +32,7 @@ pub record IsLeastMissing (callers : ℕ) (passes : List Ticket) (caller : ℕ) 
   pub missing : has_pass passes caller ≡ false
   pub least : (other : ℕ) → other < caller → has_pass passes other ≡ true
 
--- A history and its certificate are those of a cache with so many lanes, by these passes. The lanes' calls are the calls
+-- A history and its certificate are those of a cache with this many lanes, by these passes. The lanes' calls are the calls
 -- that the passes list, each in its lane and with its end, each once: they weigh the same, however calls are weighed. In
 -- each lane points rise, and the lanes are laid out by point and lane.
 pub record IsFinished (number : ℕ) (passes : List Ticket) (history : List Call) (certificate : List ℕ) : Type 0 where

@@ -334,7 +334,7 @@ impl<D: PageDevice<PAGE>, const PAGE: usize> LaneBook<D, PAGE> {
     }
 
     /// Whether the pass's former call of this lane stands at its position. `HistoryLost` has a copy of what stands there
-    /// else, and is `OutOfMemory` if that copy is refused.
+    /// instead, and is `OutOfMemory` if that copy is refused.
     fn check(&self, pass: &Pass) -> Result<(), ActFault>
         ensures stands { OnOk result (Stands self.now pass.now) }
         ensures refused { IfErr result (λ fault. Explains self.now pass.now 0 fault

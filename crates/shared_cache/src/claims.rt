@@ -9,7 +9,7 @@ use crate::list_place::ListPlace;
 use crate::listed_calls::ListedCalls;
 use history_recorder::Dones;
 
-/// The least of so many callers that has no pass. It is quick where each pass stands at its caller's number.
+/// The least of this many callers that has no pass. It is quick if each pass stands at its caller's number.
 pub(crate) fn missing(callers: u16, passes: &[Pass]) -> Option<u16>
     ensures some { IfSome result (λ caller. IsLeastMissing callers passes.now caller) }
     ensures none { IfNone result

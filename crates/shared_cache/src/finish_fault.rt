@@ -12,8 +12,8 @@ pub enum FinishFault {
     /// No pass of this caller was given: the least such caller.
     #[error("the pass of caller {caller} is missing")]
     MissingPass { caller: u16 },
-    /// The call that stands here in the pass of this caller is not the lane's call at its position, or another listed
-    /// call claimed that position before. It is the first by caller, then call.
+    /// The call that stands here in the pass of this caller is of no lane of the cache, or is not the lane's call at
+    /// its position, or an earlier listed call is of that position. It is the first such call, by caller, then call.
     #[error("call {call} of caller {caller} was not recorded as it is listed")]
     Strange { caller: u16, call: usize },
     /// Memory was refused.

@@ -1,4 +1,3 @@
-// Why no cache was opened.
 use record_pages::Field;
 use thiserror::Error;
 

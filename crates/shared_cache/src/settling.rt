@@ -35,7 +35,8 @@ pub(crate) fn settle(
     }
 }
 
-/// Claims the calls that are listed of a lane, in their order, up to the first that is not the lane's own.
+/// Claims, in order, each call of the lists that is of this lane; stops at the first that the lane did not record so,
+/// or that is claimed already.
 fn claim_listed(claims: &mut LaneClaims, lane: u32, lists: &[ListedCalls<'_>]) -> Option<ListPlace>
     requires { IsMade lane claims.old [] }
     ensures calls { claims.new.calls ≡ claims.old.calls }
@@ -50,8 +51,8 @@ fn claim_listed(claims: &mut LaneClaims, lane: u32, lists: &[ListedCalls<'_>]) -
     None
 }
 
-/// Claims the calls that are listed of a lane in one list, in their order, up to the first that is not the lane's own, after those
-/// that made the claims that there are.
+/// Claims, in order, each call of the list that is of this lane; stops at the first that the lane did not record so, or
+/// that is claimed already. Earlier lists are claimed already.
 fn claim_calls(claims: &mut LaneClaims, lane: u32, calls: &ListedCalls<'_>) -> Option<usize>
     ensures calls { claims.new.calls ≡ claims.old.calls }
     ensures made { IfNone result ((before : List Listed) → IsMade lane claims.old before

@@ -1,5 +1,6 @@
 //! What tests have alike: keys and values that are made once more if memory was refused, what a look-up is to give, a device
-//! that loses what is written, one that knows which calls are to come, and a host that has no random numbers.
+//! that loses what is written, one that knows which calls are to come, `StaleDevice`, which goes back to an old page,
+//! and a host that has no random numbers.
 #![tactic(auto)]
 
 mod blank_device;

@@ -6,8 +6,8 @@ use page_device::{DeviceFault, PageDevice};
 use std::alloc::{AllocError, Global};
 use std::marker::Model;
 
-/// Pages in memory of which one goes stale: once that was written so many times, a read of it gives the bytes that it had
-/// before its last write. Each other page is read as it was last written. No call fails.
+/// Pages in memory of which one goes stale: once that was written this many times, a read of it gives the bytes that it
+/// had before its last write. Each other page is read as it was last written. No call fails.
 ///
 /// It is not honest, so as a `PageDevice` it promises no bytes. What a read gives is said by its own contract.
 #[derive(Drop)]

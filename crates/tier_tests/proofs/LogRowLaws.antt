@@ -139,7 +139,7 @@ none_with set tag (x ∷ es) = step (has_tag set tag x) refl (none_with set tag 
     step true is rest = simp is rest
     step false is rest = simp is rest
 
--- so none is left behind a strike
+-- so none is left after a strike
 pub none_left : (old new : LogState) (set tag : ℕ) → new ≡ with_list old (without (has_tag set tag) old.entries) → of_tag set tag new.entries ≡ []
 none_left old new set tag is = subst (λ (k : LogState). of_tag set tag k.entries ≡ []) (sym is) (none_with set tag old.entries)
 

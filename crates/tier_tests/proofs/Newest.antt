@@ -38,7 +38,7 @@ first_shown f (x ∷ es) e r rest is = step (λ h. first_shown f es e r rest h) 
         ap f (sym (ap (λ (p : Entry × Rec). p.0) same)) ∙ at ∙ ap Some (ap (λ (p : Entry × Rec). p.1) same)
     step later None at h = later (subst (λ (o : Option Rec). cons_option (option_map (λ y. (x, y)) o) (live_by f es) ≡ (e, r) ∷ rest) at h)
 
--- what an entry shows where nothing is known of any page lies in a buffer
+-- what an entry shows if nothing is known of any page lies in a buffer
 in_a_buffer : (k : LogState) (e : Entry) (r : Rec) → shown_on no_pages k e ≡ Some r → IsTrue (is_buffered k e)
 unfolding shown record_on
 in_a_buffer k e r = step (segment_of k e == filled_number k) (k.is_flushing && segment_of k e == flushed_number k)

@@ -80,7 +80,7 @@ whole (Some header) certificate = length certificate == header.count
 abbrev pub standing : Option Header → List Call → List ℕ → Result Trace Stop
 standing header history certificate = if whole header certificate then Ok (pair_of history certificate) else Err Short
 
--- taking went on from one place to another, and what is read after is the same
+-- taking went on from one place to another, and what is read from there on is the same
 pub record GoesOn (header : Header) (old_calls : List Call) (old_positions : List ℕ) (p : Place) (calls : List Call) (positions : List ℕ) (q : Place) : Type 0 where
   pub counted : IsCounted header calls positions
   pub spelled : counted_text header calls positions ++ q.bytes ≡ counted_text header old_calls old_positions ++ p.bytes

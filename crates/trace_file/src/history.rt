@@ -151,7 +151,8 @@ fn put_behind(
     Ok(())
 }
 
-/// Puts other entries, for which there is room, after the entries, each this many bytes farther and with an end of its own.
+/// Puts other entries, for which there is room, after the entries, each this many bytes farther and with an end of its
+/// own.
 fn push_moved(entries: &mut Vec<StoredCall>, others: &[StoredCall], ends: &[u64], bytes: usize)
     requires many { length ends.now ≡ length others.now }
     requires room { length entries.old.items + length others.now ≤ vec_capacity entries.old }

@@ -1,4 +1,4 @@
-//! Recorded calls, their history, the certificate that spells an order of them, and the names of files as the command line gives them.
+//! Recorded calls, their history, the certificate that spells an order of them, and the names of files.
 #![tactic(auto)]
 
 mod act;

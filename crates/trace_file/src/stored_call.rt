@@ -8,8 +8,8 @@ use crate::act_ref::ActRef;
 use crate::call_ref::CallRef;
 use crate::kind::Kind;
 
-/// A call whose key and value lie in a store of bytes: the key at `offset`, the value after it. It is for those who keep
-/// calls in a store of their own.
+/// A call whose key and value lie in a store of bytes: the key at `offset`, the value after it. It is for those who
+/// keep calls in a store of their own.
 #[derive(Clone, Copy, Debug)]
 pub struct StoredCall {
     pub(crate) start: u64,

@@ -1,4 +1,3 @@
-// Why a trace was not written.
 use thiserror::Error;
 
 /// Why a trace was not written.

@@ -16,8 +16,8 @@ use record_pages::ValueBuffer;
 impl<D: PageDevice<4096>> CLane<D> {
     /// Looks a key up. At `Done` its value stands at the front of the buffer, the rest of which is as it was; at any other status
     /// the whole buffer is. A miss is `Absent`, `Expired`, `Unreadable` or `Damaged`; `ShortBuffer` is a hit whose value is longer
-    /// than the buffer. The hit is told at `Done` and `ShortBuffer`, and is all zeros else. `WrongKey` changes nothing. No memory
-    /// is taken.
+    /// than the buffer. The hit is given at `Done` and `ShortBuffer`, and is all zeros otherwise. `WrongKey` changes
+    /// nothing. No memory is taken.
     ///
     /// The moment is the caller's, in the unit in which puts say when they expire.
     pub fn get(&mut self, key: &[u8], moment: u64, into: &mut [u8], hit: &mut Hit) -> Status

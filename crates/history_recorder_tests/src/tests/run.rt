@@ -339,7 +339,8 @@ fn is_found(answer: &Answer, wanted: &Found) -> bool {
     }
 }
 
-// Whether one call was recorded after so many: by this caller, of this key, with this act, and its stamps are the last two.
+// Whether one call was recorded after this many: by this caller, of this key, with this act, and its stamps are the
+// last two.
 fn is_last<D: PageDevice<PAGE>, const PAGE: usize>(
     lane: &RecordedLane<D, PAGE>,
     before: usize,

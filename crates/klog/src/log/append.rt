@@ -22,8 +22,8 @@ use std::mem;
 const MAX_SEGMENT: u64 = 1 << 62;
 
 impl<const PAGE: usize> KLog<PAGE> {
-    /// Adds a record of this key and value with when that expires, with the entering prediction, as the newest live one. Both refusals change nothing. No
-    /// call of the device is made, and no memory taken.
+    /// Adds a record of this key and value with when that expires, with the entering prediction, as the newest live
+    /// one. Both refusals change nothing. No call of the device is made, and no memory taken.
     pub fn append(&mut self, key: &Key, value: &TimedValue) -> Appended
         requires page_size { IsPageSize PAGE }
         requires small { object_size key.now value.now.value ≤ room PAGE }

@@ -12,7 +12,7 @@ use page_device::PageDevice;
 
 impl<const PAGE: usize> KLog<PAGE> {
     /// One step of flushing. With a segment to be flushed its next page is written, or, if the device fails, its live
-    /// records are lost; it waits while the device has no segment free. Without one, the filled segment becomes it where
+    /// records are lost; it waits while the device has no segment free. Without one, the filled segment becomes it if
     /// it has a record. No memory is taken.
     pub fn flush_step<D: PageDevice<PAGE>>(&mut self, device: &mut D) -> Flushed
         requires page_size { IsPageSize PAGE }

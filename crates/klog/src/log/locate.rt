@@ -22,8 +22,8 @@ use set_hash::Placed;
 
 impl<const PAGE: usize> KLog<PAGE> {
     /// The entry of the newest live record of a key, if that has not expired at the moment: its value is then in the
-    /// buffer. All other answers leave the buffer as it was. A record that lies in memory is found without a call of the
-    /// device. No memory is taken.
+    /// buffer. All other answers leave the buffer as it was. A record that lies in memory is found without a call of
+    /// the device. No memory is taken.
     pub fn locate<D: PageDevice<PAGE>>(
         &self,
         device: &mut D,
@@ -54,8 +54,8 @@ impl<const PAGE: usize> KLog<PAGE> {
         LocatedInLog::Absent
     }
 
-    // What the record of an entry says of a key. A live value of the key goes into the buffer. Bytes for a page are made
-    // if one is read.
+    // What the record of an entry says of a key. A live value of the key goes into the buffer. Bytes for a page are
+    // made if one is read.
     fn ask<D: PageDevice<PAGE>>(
         &self,
         device: &mut D,

@@ -15,9 +15,9 @@ use set_hash::Placed;
 use std::alloc::{AllocError, Global};
 
 impl<const PAGE: usize> KLog<PAGE> {
-    /// The value of the newest live record of a key, if it has not expired at the moment: its prediction is then one less,
-    /// and not below 0. All other answers, and `AllocError`, change nothing. A record that lies in memory is given without a
-    /// call of the device.
+    /// The value of the newest live record of a key, if it has not expired at the moment: its prediction is then one
+    /// less, and not below 0. All other answers, and `AllocError`, change nothing. A record that lies in memory is
+    /// given without a call of the device.
     pub fn look<D: PageDevice<PAGE>>(
         &mut self,
         alloc: Global,
@@ -48,7 +48,8 @@ impl<const PAGE: usize> KLog<PAGE> {
         }
     }
 
-    /// The prediction of the live record of this entry is one less, and not below 0. It can't fail, and takes no memory.
+    /// The prediction of the live record of this entry is one less, and not below 0. It can't fail, and takes no
+    /// memory.
     pub fn touch(&mut self, entry: &Entry)
         ensures shape { self.new.shape ≡ self.old.shape }
         ensures touched { self.new ≡ lowered_in self.old entry.now.set entry.now.place }

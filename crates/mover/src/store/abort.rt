@@ -9,8 +9,8 @@ use crate::flight::Flight;
 use page_device::PageDevice;
 
 impl<D: PageDevice<PAGE>, const PAGE: usize> Store<D, PAGE> {
-    /// Gives up the move with this number, if it is in flight; all else stays, the other moves too. No call of the device is
-    /// made, and no memory taken.
+    /// Gives up the move with this number, if it is in flight; all else stays, the other moves too. No call of the
+    /// device is made, and no memory taken.
     pub fn move_abort(&mut self, number: u64) -> Aborted
         ensures { StoreAborts D.held number self.old result self.new }
     {

@@ -75,8 +75,8 @@ impl<D: PageDevice<PAGE>, const PAGE: usize> Store<D, PAGE> {
 
 impl<D: PageDevice<PAGE>, const PAGE: usize> Store<D, PAGE> {
     /// Begins a move: by the first live entry of the oldest segment on the device that is of no set in flight. If there
-    /// is a job it is in flight until it is committed or aborted with its number; numbers start at 1, rise with each job,
-    /// and none is given again.
+    /// is a job it is in flight until it is committed or aborted with its number; numbers start at 1, rise with each
+    /// job, and none is given again.
     ///
     /// `Busy`, which changes nothing, if 8 moves are in flight, or each live entry of the oldest segment is of a set in
     /// flight: it passes when one of them ends.

@@ -53,11 +53,12 @@ impl<D: PageDevice<PAGE>, const PAGE: usize> Store<D, PAGE> {
 }
 
 impl<D: PageDevice<PAGE>, const PAGE: usize> Store<D, PAGE> {
-    /// Ends the move with this number by a plan, if it is in flight: its set is written anew with the plan's items that were
-    /// not struck since the move began, or forgotten if the device fails; and what was taken of the log leaves it. The
-    /// other moves stay in flight. Hits since the move began are not seen. No memory is taken.
+    /// Ends the move with this number by a plan, if it is in flight: its set is written anew with the plan's items that
+    /// were not struck since the move began, or forgotten if the device fails; and what was taken of the log leaves it.
+    /// The other moves stay in flight. Hits since the move began are not seen. No memory is taken.
     ///
-    /// `StalePlan` and `BadPlan` change nothing and make no call of the device; after `BadPlan` the move stays in flight.
+    /// `StalePlan` and `BadPlan` change nothing and make no call of the device; after `BadPlan` the move stays in
+    /// flight.
     pub fn move_commit(&mut self, plan: &Plan, number: u64) -> Committed
         ensures { StoreCommits PAGE D.honest D.failures D.held plan.now number self.old result
             self.new }

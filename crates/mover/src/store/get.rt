@@ -19,9 +19,9 @@ use record_pages::{Answer, Key, MissCause, Tier, ValueBuffer};
 use std::alloc::AllocError;
 
 impl<D: PageDevice<PAGE>, const PAGE: usize> Store<D, PAGE> {
-    /// The value that a key has at a moment, with the first tier that has a pair of the key: memory, the log, its set. A pair
-    /// that has expired ends the search as one that is live does, and changes nothing. So do a fault of the device, a page
-    /// that is not the expected one, and `AllocError`.
+    /// The value that a key has at a moment, with the first tier that has a pair of the key: memory, the log, its set.
+    /// A pair that has expired ends the search as one that is live does, and changes nothing. So do a fault of the
+    /// device, a page that is not the expected one, and `AllocError`.
     pub fn get(&mut self, key: &Key, moment: u64) -> Result<Answer, AllocError>
         ensures { StoreGets PAGE D.honest D.failures D.held key.now moment self.old result self.new }
     {
@@ -40,8 +40,9 @@ impl<D: PageDevice<PAGE>, const PAGE: usize> Store<D, PAGE> {
         }
     }
 
-    /// The value that the key with these bytes has at a moment, as `get` has it, into room of the caller's: a hit leaves the
-    /// value in the buffer, and a miss leaves the buffer as it was. Bytes that are no key are absent. No memory is taken.
+    /// The value that the key with these bytes has at a moment, as `get` has it, into room of the caller's: a hit
+    /// leaves the value in the buffer, and a miss leaves the buffer as it was. Bytes that are no key are absent. No
+    /// memory is taken.
     pub fn get_into(&mut self, key: &[u8], moment: u64, found: &mut ValueBuffer) -> Seen
         ensures gets { StoreGets PAGE D.honest D.failures D.held key.now moment self.old
             (Ok (answer_of result found.new)) self.new }

@@ -67,7 +67,7 @@ fn seen_with(seen: Seen, answer: Answer) -> Seen {
     }
 }
 
-// Makes a call that a word picks. None where it was answered otherwise than memory tells.
+// Makes a call that a word picks. None if it was answered otherwise than memory tells.
 fn calls(
     alloc: Global,
     store: &mut Untrue<'_>,

@@ -106,7 +106,7 @@ const TIERS: &[u8] =
 const TIERS_REPLIES: &[u8] =
     b"ready\nstored\nstored\nhit 1 log\nsealed\nwrote\nreadmitted\nfreed\nhit 1 log\nremoved\naccepted 5 calls\n4b475452414345320000000501000000000000000000010000000000000003026178000131ffffffffffffffff01000000000000000000040000000000000006026278000132ffffffffffffffff030000000000000000000700000000000000090261780001310000000000000000030000000000000000000a000000000000000c0261780001310000000000000000020000000000000000000d000000000000000f0261780000000000000001000000020000000300000004\n";
 
-/// Whether this is all that the script above must write where it ended so, or where it was given up, the
+/// Whether this is all that the script above must write if it ended so, or if it was given up, the
 /// replies of its first lines.
 fn wrote_first_replies(out: &[u8], ending: Result<Scripted, ScriptFault>) -> bool {
     match ending {

@@ -128,8 +128,12 @@ impl<
     }
 
     /// Puts a value that was read elsewhere since the look-up that leased its key missed, if no put, fill or removal of the key
-    /// came between, and enters that in the list after all that the seat has seen. Else it is `Stale`, and nothing is stored or
-    /// entered. It may be stale without cause, since keys share slots. If the store refuses the object, nothing is entered.
+    /// came between, and enters that in the list after all that the seat has seen. Otherwise it is `Stale`, and nothing
+    /// is stored or entered. It may be stale without cause, since keys share slots.
+    ///
+    /// If the store refuses the object, nothing is entered, and the key keeps what it had. If the book is `Full`,
+    /// nothing is entered, and the key is removed. `Foreign` does not come, as `get` says; if the lane under the lock
+    /// were not the key's, it would change nothing.
     pub fn fill<R: Wait>(
         &self,
         rt: &R,
@@ -156,7 +160,11 @@ impl<
     }
 
     /// Removes a key, by its bytes, and enters that in the list after all that the seat has seen, in one hold of its lane. It
-    /// takes no memory and makes no call of a device. If the book refuses, the key is removed all the same.
+    /// takes no memory and makes no call of a device.
+    ///
+    /// For bytes that are no key's nothing changes. If the book is `Full`, nothing is entered, and the key is removed
+    /// all the same. `Foreign` does not come, as `get` says; if the lane under the lock were not the key's, nothing
+    /// would be removed.
     pub fn remove<R: Wait>(
         &self,
         rt: &R,

@@ -40,7 +40,7 @@ const SMALL: Config = Config {
 // The pages of three sets and of two segments.
 const PAGES: u32 = 5;
 
-// So many devices of so many pages.
+// This many devices of this many pages.
 fn so_many(alloc: Global, count: u32, pages: u32) -> Result<Vec<MemoryDevice<256>>, Fail>
     ensures { IfOk result (λ devices. length devices.items ≡ count) }
 {

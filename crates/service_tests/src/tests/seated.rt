@@ -97,8 +97,8 @@ fn found_by_both<J: Naming + Send + Sync, R: Threads + Wait + Sync>(
     }
 }
 
-// Each thread puts its object. Who has seen what both have seen has seen both puts; and what he hits is his key's latest value in
-// what he has seen.
+// Each thread puts its object. Whoever has seen what both have seen has seen both puts; and what they hit is their
+// key's latest value in what they have seen.
 fn last_of_both<J: Naming + Send + Sync, R: Threads + Wait + Sync>(
     rt: &R,
     book: NewBook<OneLane>,

@@ -74,7 +74,7 @@ const ROWS: [Row; 7] = [
     },
 ];
 
-// So many devices of so many pages.
+// This many devices of this many pages.
 fn so_many<const PAGE: usize>(
     alloc: Global,
     count: u32,

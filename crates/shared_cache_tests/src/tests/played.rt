@@ -93,7 +93,8 @@ pub fn ended<R: Threads + Wait + Sync>(
     Ok(cache.finish(rt, passes)?)
 }
 
-/// Whether each call of a play gives what is written beside it, and the checker accepts their history, of so many calls.
+/// Whether each call of a play gives what is written beside it, and the checker accepts their history, of this many
+/// calls.
 pub fn is_accepted<R: Threads + Wait + Sync>(
     rt: &R,
     alloc: Global,

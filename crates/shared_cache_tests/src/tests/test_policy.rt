@@ -13,7 +13,7 @@ use std::thread::yield_now;
 const TURNS: u32 = 10_000_000;
 
 /// Makes the plan of `Rriparoo`, after the first so many plans, which are refused: once so many plans were begun, and the
-/// gate, if there is one, is open. Where that is not so within ten million turns it makes none, so each wait ends.
+/// gate, if there is one, is open. If that is not so within ten million turns it makes none, so each wait ends.
 #[derive(Drop)]
 pub struct TestPolicy {
     gate: Option<Arc<Gate, Global>>,

@@ -405,7 +405,7 @@ fn written(alloc: Global, trace: &Trace) -> Result<Vec<u8>, WriteTraceFault> {
     Ok(written)
 }
 
-// How many calls these bytes are a trace of, where it is written as the same bytes again.
+// How many calls these bytes are a trace of, if it is written as the same bytes again.
 fn come_back(alloc: Global, bytes: &[u8]) -> Result<Option<usize>, Fail> {
     let trace = trace_of(alloc, bytes)?;
     let again = written(alloc, &trace)?;

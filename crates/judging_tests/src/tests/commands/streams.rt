@@ -101,7 +101,7 @@ impl Write for Stuck {
     }
 }
 
-/// The status that showing a trace with no calls ends with, where it is written and not flushed.
+/// The status that showing a trace with no calls ends with, if it is written and not flushed.
 fn status_unflushed<R: AllocGlobal + Files>(rt: &R) -> Result<u8, AllocError> {
     let request = ShowRequest {
         file: FileName::new(rt.alloc(), "-")?,

@@ -242,7 +242,7 @@ fn is_shown(alloc: Global) -> bool {
 /// The line of what is no trace.
 const NO_TRACE: &str = "bad trace BadMagic at 7\n";
 
-/// Whether what is no trace is told to be none, if it is to be shown and if it is checked.
+/// Whether what is no trace is told to be none, both when it is to be shown and when it is checked.
 fn is_no_trace_told(alloc: Global) -> bool {
     let mut told: Vec<u8> = Vec::new(alloc);
     let mut reader = b"KGTRACE3".as_slice();

@@ -162,7 +162,7 @@ fn does(index: &mut LogIndex, step: &Step) -> bool
     }
 }
 
-// The number of the first step of an empty index for so many entries that gives something else than is written.
+// The number of the first step of an empty index for this many entries that gives something else than is written.
 fn run(alloc: Global, limit: u32, steps: &[Step]) -> Result<Option<usize>, Fail>
     requires { limit ≤ 1048576 }
 {

@@ -117,7 +117,7 @@ fn gives(
     }
 }
 
-// The number of the first step of an empty memory for so many pairs that gives something else than is written.
+// The number of the first step of an empty memory for this many pairs that gives something else than is written.
 fn strayed(
     rt: &impl Abort,
     alloc: Global,

@@ -60,7 +60,7 @@ fn job(alloc: Global, rows: &[Row]) -> Result<Job, Fail> {
     })
 }
 
-/// A job of so many fresh items, the least that there are, for a page of 4,096 bytes.
+/// A job of this many fresh items, the least that there are, for a page of 4,096 bytes.
 fn least(alloc: Global, count: usize) -> Result<Job, Fail> {
     let mut items = Items::new(alloc);
     for _ in 0..count {

@@ -166,7 +166,8 @@ fn version_at(number: u32, drawn: u64) -> Version {
     Version { number, expires }
 }
 
-/// Makes so many calls: of ten five are gets, four puts and one a removal. The number of a call, from 1, is its moment.
+/// Makes this many calls: of ten five are gets, four puts and one a removal. The number of a call, from 1, is its
+/// moment.
 pub fn calls<D: PageDevice<256>, L: KeyLanes, J: Naming, R: Wait>(
     rt: &R,
     alloc: Global,

@@ -40,8 +40,8 @@ pub fn a_hit_is_what_was_put<D: PageDevice<PAGE>, const PAGE: usize>(
     }
 }
 
-/// After a removal of its key nothing is hit, also where a step of upkeep lies between: in memory whatever the device does, on
-/// flash if it gives back what was written.
+/// After a removal of its key nothing is hit, also if a step of upkeep lies between: in memory whatever the device
+/// does, on flash if it gives back what was written.
 pub fn a_removed_key_is_not_hit<D: PageDevice<PAGE>, P: EvictionPolicy, const PAGE: usize>(
     lane: &mut ServiceLane<D, PAGE>,
     policy: &P,

@@ -1,4 +1,4 @@
-//! Calls that take memory, made once more where it was refused: what lacked memory changed nothing.
+//! Calls that take memory, made once more if it was refused: what lacked memory changed nothing.
 ghost use Rattle.record_pages.specs.Sizes.{IsPageSize};
 
 use super::*;

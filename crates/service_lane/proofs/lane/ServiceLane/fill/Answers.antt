@@ -1,4 +1,4 @@
--- A fill is stale if its lease has ended alone.
+-- A fill is stale exactly if its lease has ended.
 use Rattle.std.proofs.Common.{ℕ, List, subst}
 use Rattle.service_lane.specs.Leases.{HoldsLease}
 use Rattle.service_lane.specs.Serving.{Serving}
