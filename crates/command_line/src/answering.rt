@@ -2,7 +2,7 @@
 ghost use Rattle.std.specs.Prelude.{◌≡◌, ◌≢◌, IfSome};
 ghost use Rattle.std.specs.Io.Buffered.{writer_contents, writer_inner};
 ghost use Rattle.std.specs.Io.KnownBytes.{Appends};
-ghost use Rattle.record_pages.specs.AskedSizes.{IsPageSize};
+ghost use Rattle.record_pages.specs.Sizes.{IsPageSize};
 ghost use Rattle.command_line.specs.Outcomes.{IsAnswered};
 
 use crate::ending::Ending;

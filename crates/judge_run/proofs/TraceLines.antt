@@ -20,7 +20,7 @@ use Rattle.judge_run.specs.declared.outcome.Outcome.{Outcome}
 use Rattle.judge_run.specs.declared.outcome.Outcome.TheVariants.{Accepted, Rejected, Undecided, BadLine, BadTrace}
 use Rattle.judge_run.specs.declared.rejection.Rejection.{Rejection}
 use Rattle.judge_run.specs.Answers.{answered, begun, why_row}
-use Rattle.judge_run.specs.JudgeReport.{IsBehind}
+use Rattle.judge_run.specs.Told.{IsBehind}
 use Rattle.judge_run.specs.TraceRows.{bad_trace_rows, check_rows}
 use Rattle.judge_run.specs.TraceTold.{IsBegunBy, IsPairTold, IsTraceTold, bad_trace_answer}
 use Rattle.judge_run.proofs.RowLaws.{rows_on_fault, rows_on_trace}

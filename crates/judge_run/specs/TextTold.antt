@@ -26,7 +26,7 @@ use Rattle.judge_run.specs.declared.rejection.Rejection.{Rejection}
 use Rattle.judge_run.specs.declared.tell_fault.TellFault.{TellFault}
 use Rattle.judge_run.specs.declared.tell_fault.TellFault.TheVariants.{OutOfMemory, ReadFault, WriteFault}
 use Rattle.judge_run.specs.Answers.{answered, begun}
-use Rattle.judge_run.specs.JudgeReport.{IsBehind}
+use Rattle.judge_run.specs.Told.{IsBehind}
 
 -- the line of a history of this many calls that is accepted
 abbrev pub accepted_text : ℕ → List ℕ

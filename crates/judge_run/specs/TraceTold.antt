@@ -24,7 +24,7 @@ use Rattle.judge_run.specs.declared.rejection.Rejection.{Rejection}
 use Rattle.judge_run.specs.declared.tell_fault.TellFault.{TellFault}
 use Rattle.judge_run.specs.declared.tell_fault.TellFault.TheVariants.{OutOfMemory, ReadFault, WriteFault}
 use Rattle.judge_run.specs.Answers.{answered, begun}
-use Rattle.judge_run.specs.JudgeReport.{IsBehind}
+use Rattle.judge_run.specs.Told.{IsBehind}
 use Rattle.judge_run.specs.TraceRows.{AreRowsOn, bad_trace_rows, check_rows}
 
 -- what a trace is judged to be

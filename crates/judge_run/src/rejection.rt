@@ -3,7 +3,7 @@ ghost use Rattle.std.specs.Prelude.{◌≡◌, IfOk, OnOk, string_bytes};
 ghost use Rattle.history_picture.specs.Names.{names_of};
 ghost use Rattle.history_picture.specs.Shown.{IsExplanation};
 ghost use Rattle.judge_run.specs.Answers.{with_why};
-ghost use Rattle.judge_run.specs.JudgeReport.{IsBehind};
+ghost use Rattle.judge_run.specs.Told.{IsBehind};
 
 use crate::answers::ended;
 use figures::{Figure, Form};

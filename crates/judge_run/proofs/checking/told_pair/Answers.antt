@@ -2,7 +2,7 @@
 use Rattle.std.proofs.Common.{◌≡◌, ◌∙◌, List, ℕ, ap, length, subst}
 use Rattle.certificate_checker.specs.declared.verdict.Verdict.{Verdict}
 use Rattle.certificate_checker.specs.declared.verdict.Verdict.TheVariants.{Rejected}
-use Rattle.judge_run.specs.JudgeReport.{IsBehind}
+use Rattle.judge_run.specs.Told.{IsBehind}
 use Rattle.judge_run.specs.TraceTold.{verdict_begun}
 use Rattle.std.specs.Prelude.{string_bytes}
 use Rattle.judge_run.proofs.checking.told_pair.Goals as goal

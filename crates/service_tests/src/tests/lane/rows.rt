@@ -1,5 +1,6 @@
 //! What users of a lane rely on, of any lane and any device.
-ghost use Rattle.std.specs.Prelude.{◌≡◌, ◌≢◌, ◌+◌, ◌%◌, ◌^◌, Ok, IfOk, IsTrue};
+ghost use Rattle.std.specs.Prelude.{◌≡◌, ◌≢◌, ◌+◌, ◌%◌, ◌^◌, false, Ok, IfOk, IsTrue, Some};
+ghost use Rattle.record_pages.specs.Expiry.{is_live};
 ghost use Rattle.record_pages.specs.declared.tier.Tier.{Tier};
 ghost use Rattle.record_pages.specs.declared.tier.Tier.TheVariants.{Memory, Log, Set};
 ghost use Rattle.klog.specs.declared.flushed.Flushed.{Flushed};
@@ -37,6 +38,56 @@ pub fn a_hit_is_what_was_put<D: PageDevice<PAGE>, const PAGE: usize>(
         Ok(seen) => Ok(seen),
         // A key's bytes are never refused.
         Err(_) => Err(PutFault::OutOfMemory),
+    }
+}
+
+/// A value is hit at no moment at or after its expiry: in memory whatever the device does, on flash if it gives back what was
+/// written.
+pub fn an_expired_value_is_not_hit<D: PageDevice<PAGE>, const PAGE: usize>(
+    lane: &mut ServiceLane<D, PAGE>,
+    key: Key,
+    name: &[u8],
+    value: Value,
+    expires: u64,
+    moment: u64,
+    found: &mut ValueBuffer,
+) -> Result<Seen, PutFault>
+    requires name { name.now ≡ key }
+    requires expired { is_live expires moment ≡ false }
+    ensures memory { result ≢ Ok (Hit Memory) }
+    ensures flash { ((d : D) → IsTrue (D.honest d)) → (tier : Tier) → result ≢ Ok (Hit tier) }
+{
+    latest_is_current();
+    let _pushed = lane.put(key, value, 0, expires)?;
+    match lane.get(name, moment, found) {
+        Ok(seen) => Ok(seen),
+        // A key's bytes are never refused.
+        Err(_) => Err(PutFault::OutOfMemory),
+    }
+}
+
+/// After a put or removal in one call nothing older is hit: what is hit then is the value of the put, if it was stored, and
+/// nothing if it was refused.
+pub fn nothing_older_is_hit<D: PageDevice<PAGE>, const PAGE: usize>(
+    lane: &mut ServiceLane<D, PAGE>,
+    key: Key,
+    name: &[u8],
+    value: Value,
+    moment: u64,
+    found: &mut ValueBuffer,
+) -> Option<Seen>
+    requires { name.now ≡ key }
+    ensures memory { result ≢ Some (Hit Memory) }
+    ensures flash { ((d : D) → IsTrue (D.honest d)) → (tier : Tier) → result ≢ Some (Hit tier) }
+{
+    latest_is_current();
+    let Err(_) = lane.put_or_remove(key, value, 0, 0) else {
+        return None;
+    };
+    match lane.get(name, moment, found) {
+        Ok(seen) => Some(seen),
+        // A key's bytes are never refused.
+        Err(_) => None,
     }
 }
 
