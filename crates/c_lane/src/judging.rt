@@ -42,7 +42,7 @@ struct JudgedLine {
 }
 
 ghost use Rattle.std.specs.Prelude.{IfOk, length, min, string_bytes};
-ghost use Rattle.c_lane.specs.Judging.{IsLineFor, IsLineOfTrace, IsLineOfFault, front_written};
+ghost use Rattle.c_lane.specs.Judging.{IsLineFor, IsLineOfTrace, IsLineOfFault, front_written, status_of_verdict};
 
 // The judgement on the bytes of a trace.
 fn judgement_of(alloc: Global, seed: &Seed, bytes: &[u8]) -> Result<JudgedLine, AllocError>
@@ -87,15 +87,20 @@ fn on_trace(alloc: Global, seed: &Seed, trace: &Trace) -> Result<JudgedLine, All
 {
     let calls = trace.history.len();
     let verdict = check_with_hasher(alloc, seed.random(), &trace.history, &trace.certificate)?;
+    let line = verdict.line(alloc, calls)?;
+    Ok(JudgedLine {
+        status: status_of_verdict(verdict),
+        line,
+    })
+}
+
+// The status of a verdict.
+fn status_of_verdict(verdict: Verdict) -> Status
+    ensures { result ≡ status_of_verdict verdict }
+{
     match verdict {
-        Verdict::Accepted => Ok(JudgedLine {
-            status: Status::Done,
-            line: format!(in alloc; "accepted {calls} calls")?,
-        }),
-        Verdict::Rejected(fault) => Ok(JudgedLine {
-            status: Status::Rejected,
-            line: format!(in alloc; "rejected {fault}")?,
-        }),
+        Verdict::Accepted => Status::Done,
+        Verdict::Rejected(_) => Status::Rejected,
     }
 }
 

@@ -8,7 +8,6 @@ ghost use Rattle.certificate_checker.specs.VerdictLine.{bad_trace_line};
 use crate::acceptance::check_with_hasher;
 use crate::judge_fault::JudgeFault;
 use crate::judged::Judged;
-use crate::verdict_line::told;
 use std::alloc::{AllocError, Global};
 use std::hash::{BuildHasher, BuildHasherDefault, FoldHasher};
 use std::io::{Read, Write};
@@ -107,7 +106,7 @@ fn on_trace<S: BuildHasher + Drop>(
         × (string_bytes j.line ≡ line ++ codes "\n")) }
 {
     let verdict = check_with_hasher(alloc, hash_builder, &trace.history, &trace.certificate)?;
-    let line = told(alloc, verdict, trace.history.len())?;
+    let line = verdict.line(alloc, trace.history.len())?;
     Ok(VerdictLine {
         judged: Judged::of(verdict),
         line: format!(in alloc; "{line}\n")?,

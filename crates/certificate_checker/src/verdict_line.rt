@@ -35,18 +35,21 @@ pub fn verdict_line_with_hasher<S: BuildHasher + Drop>(
     ensures { IfOk result (λ line. TellsVerdict history.now certificate.now (string_bytes line)) }
 {
     let verdict = check_with_hasher(alloc, hash_builder, history, certificate)?;
-    match told(alloc, verdict, history.len()) {
+    match verdict.line(alloc, history.len()) {
         Ok(line) => Ok(line),
         Err(refused) => Err(refused),
     }
 }
 
-/// The line of a verdict on this many calls.
-pub(crate) fn told(alloc: Global, verdict: Verdict, calls: usize) -> Result<String, AllocError>
-    ensures { IfOk result (λ line. string_bytes line ≡ verdict_line verdict calls) }
-{
-    match verdict {
-        Verdict::Accepted => format!(in alloc; "accepted {calls} calls"),
-        Verdict::Rejected(fault) => format!(in alloc; "rejected {fault}"),
+impl Verdict {
+    /// The line of a verdict on this many calls, without a line feed: `accepted N calls`, or `rejected` with the first
+    /// fault. `AllocError` comes if memory was refused.
+    pub fn line(self, alloc: Global, calls: usize) -> Result<String, AllocError>
+        ensures { IfOk result (λ line. string_bytes line ≡ verdict_line self calls) }
+    {
+        match self {
+            Verdict::Accepted => format!(in alloc; "accepted {calls} calls"),
+            Verdict::Rejected(fault) => format!(in alloc; "rejected {fault}"),
+        }
     }
 }

@@ -37,7 +37,7 @@ pub(crate) fn rows_from_oldest(pool: &EntryPool) -> FromOldest<'_>
 impl<'a> Iterator for FromOldest<'a> {
     ghost use Rattle.std.specs.Iterator.{YieldsFirst, item_count};
 
-    type PoolItem = Row;
+    type Item = Row;
 
     ghost next_gives = { YieldsFirst (λ rest. rest) };
 

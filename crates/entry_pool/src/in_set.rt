@@ -43,7 +43,7 @@ pub(crate) fn rows_in_set(pool: &EntryPool, set: u32) -> InSet<'_>
 impl<'a> Iterator for InSet<'a> {
     ghost use Rattle.std.specs.Iterator.{YieldsFirst, item_count};
 
-    type PoolItem = Row;
+    type Item = Row;
 
     ghost next_gives = { YieldsFirst (λ rest. rest) };
 

@@ -68,7 +68,7 @@ spaced numbers = flat_map (λ n. codes " " ++ decimal n) numbers
 
 -- what is said of calls, which stand on these lines, with the line feed
 abbrev pub verdict_text : List Call → List ℕ → Found → List ℕ
-verdict_text calls lines (Accepted certificate) = codes "accepted " ++ decimal (length calls) ++ codes " calls\n"
+verdict_text calls lines (Accepted certificate) = verdict_line verdicts.Accepted (length calls) ++ codes "\n"
 verdict_text calls lines (Rejected witness) =
     codes "rejected " ++ witness_word witness ++ codes " key " ++ word_of (key_at calls (first_position witness)) ++ codes " lines" ++ spaced (ascending (lines_at lines (witness_positions witness))) ++ codes "\n"
 verdict_text calls lines (Undecided hits) = codes "undecided " ++ decimal (length hits.items) ++ codes " hits\n"

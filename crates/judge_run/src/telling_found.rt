@@ -7,6 +7,7 @@ ghost use Rattle.judge_run.specs.Telling.{verdict_text};
 use crate::judged_text::JudgedText;
 use crate::key_word::{key_word, kind_word};
 use crate::told_lines::{lines_of, spaced};
+use certificate_checker::Verdict;
 use certificate_finder::{Found, Witness};
 use std::alloc::{AllocError, Global};
 use std::hash::BuildHasher;
@@ -43,8 +44,8 @@ pub fn verdict_text<S: BuildHasher>(
     let history = &judged.text.history;
     match &judged.found {
         Found::Accepted(_) => {
-            let calls = history.len();
-            format!(in alloc; "accepted {calls} calls\n")
+            let line = Verdict::Accepted.line(alloc, history.len())?;
+            format!(in alloc; "{line}\n")
         }
         Found::Rejected(witness) => rejected_text(alloc, history, &judged.text.lines, witness),
         Found::Undecided(hits) => {

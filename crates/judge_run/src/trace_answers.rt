@@ -29,10 +29,8 @@ pub(crate) fn verdict_begun(
 fn line_of(alloc: Global, verdict: Verdict, calls: usize) -> Result<String, AllocError>
     ensures { IfOk result (λ line. string_bytes line ≡ verdict_line verdict calls ++ codes "\n") }
 {
-    match verdict {
-        Verdict::Accepted => format!(in alloc; "accepted {calls} calls\n"),
-        Verdict::Rejected(fault) => format!(in alloc; "rejected {fault}\n"),
-    }
+    let line = verdict.line(alloc, calls)?;
+    format!(in alloc; "{line}\n")
 }
 
 /// The members of a JSON object that tell a verdict on this many calls.

@@ -50,7 +50,7 @@ pub(crate) fn entry_of(item: &PoolItem) -> Entry
 impl<'a> Iterator for EntriesOf<'a> {
     ghost use Rattle.std.specs.Iterator.{YieldsFirst, item_count};
 
-    type PoolItem = Entry;
+    type Item = Entry;
 
     ghost next_gives = { YieldsFirst (λ rest. rest) };
 

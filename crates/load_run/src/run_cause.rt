@@ -57,7 +57,12 @@ impl RunCause {
                     "standard output was not written whole: it was closed, or its disk is full\n"
                 )
             }
-            RunCause::Random(error) => write!(err, "no random numbers: {error}\n"),
+            RunCause::Random(error) => {
+                write!(
+                    err,
+                    "no random numbers: {error}\nthey are the seed of the tables: try again\n"
+                )
+            }
             RunCause::Unfinished(_) | RunCause::Stopped(_) => Ok(()),
         };
         if let RunCause::Device(..) = self {

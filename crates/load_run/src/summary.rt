@@ -1,6 +1,5 @@
 // What is reported of a run that was judged.
 ghost use Rattle.std.specs.Prelude.{◌≡◌, IfOk, string_bytes};
-ghost use Rattle.certificate_checker.specs.VerdictLine.{verdict_line};
 ghost use Rattle.figures.specs.declared.form.Form.TheVariants.{Json};
 ghost use Rattle.figures.specs.Figures.{text_of_rows};
 
@@ -44,7 +43,7 @@ impl Summary {
     fn lines(&self, alloc: Global) -> Result<String, AllocError>
         ensures { IfOk result (λ lines. string_bytes lines ≡ lines_of self.now) }
     {
-        let verdict = verdict_text(alloc, self.verdict, self.calls)?;
+        let verdict = self.verdict.line(alloc, self.calls)?;
         format!(in alloc;
             "calls {}\nhits {}\nstopped {}\n{verdict}\n",
             self.calls, self.hits, self.stopped
@@ -68,15 +67,5 @@ impl Summary {
         tell_verdict(alloc, form, &mut text, self.verdict)?;
         form.end(&mut text)?;
         Ok(text)
-    }
-}
-
-/// The line of a verdict on this many calls.
-fn verdict_text(alloc: Global, verdict: Verdict, calls: usize) -> Result<String, AllocError>
-    ensures { IfOk result (λ line. string_bytes line ≡ verdict_line verdict calls) }
-{
-    match verdict {
-        Verdict::Accepted => format!(in alloc; "accepted {calls} calls"),
-        Verdict::Rejected(fault) => format!(in alloc; "rejected {fault}"),
     }
 }

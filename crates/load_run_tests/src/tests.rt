@@ -9,5 +9,6 @@ mod plans;
 mod rounds;
 mod runs;
 mod screen;
+mod seeds;
 mod seen;
 mod tiers;

@@ -6,5 +6,6 @@ mod operations;
 mod options;
 mod reports;
 mod screen;
+mod seeds;
 mod times;
 mod told;

@@ -3,10 +3,10 @@ use Rattle.std.proofs.Common.{◌≡◌, ◌≤◌, ◌<◌, ◌+◌, ◌/◌, �
 use Rattle.std.specs.Prelude.{IsTrue}
 use Rattle.std.specs.Str.{bytes_eq}
 use Rattle.std.specs.Cmp.Lexicographic.{bytes_decides}
-use Rattle.std.proofs.lemmas.Bool.{ltb-false}
+use Rattle.std.proofs.lemmas.Bool.{ltb-false, false≢true}
 use Rattle.std.proofs.lemmas.List.{get_or-set_same, length-set}
 use Rattle.std.proofs.lemmas.Nat.{mod_below}
-use Rattle.record_pages.specs.Expiry.{timed}
+use Rattle.record_pages.specs.Expiry.{timed, is_live}
 use Rattle.record_pages.specs.declared.tier.Tier.{Tier}
 use Rattle.record_pages.specs.declared.tier.Tier.TheVariants.{Memory, Log, Set}
 use Rattle.record_pages.specs.declared.timed_value.TimedValue.{TimedValue}
@@ -44,6 +44,14 @@ put_is_live law before after key value other expires moment more live =
     let now : current after key ≡ Some (timed other live.expires) = (law after key (timed other live.expires)).0 live.latest in
     let put : current after key ≡ Some (timed value expires) = ap (λ ds. current ds key) more ∙ put_gives before (record { key = key; act = Put value expires }) key value expires refl refl in
     ap (λ (t : TimedValue). t.value) (some_same (sym now ∙ put))
+
+-- after a put of its key that has expired no value is live
+pub put_is_expired : LatestIsCurrent → (before after : List Deed) (key value other : List ℕ) (expires moment : ℕ) → after ≡ before ++ record { key = key; act = Put value expires } ∷ [] → is_live expires moment ≡ false → IsLive after key other moment → ⊥
+put_is_expired law before after key value other expires moment more dead live =
+    let now : current after key ≡ Some (timed other live.expires) = (law after key (timed other live.expires)).0 live.latest in
+    let put : current after key ≡ Some (timed value expires) = ap (λ ds. current ds key) more ∙ put_gives before (record { key = key; act = Put value expires }) key value expires refl refl in
+    let same : live.expires ≡ expires = ap (λ (t : TimedValue). t.expires) (some_same (sym now ∙ put)) in
+    false≢true (sym dead ∙ subst (λ e. is_live e moment ≡ true) same live.live)
 
 -- after a removal of its key no value is live
 pub removed_is_not_live : LatestIsCurrent → (before after : List Deed) (key other : List ℕ) (moment : ℕ) → after ≡ before ++ record { key = key; act = Remove } ∷ [] → IsLive after key other moment → ⊥
