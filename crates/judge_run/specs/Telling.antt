@@ -3,6 +3,8 @@ use Rattle.std.specs.Prelude.{ℕ, ◌==◌, nat_lt, List, [], ◌∷◌, ◌++�
 use Rattle.std.specs.Fmt.{decimal}
 use Rattle.std.specs.List.{flat_map}
 use Rattle.trace_file.specs.declared.call.Call.{Call}
+use Rattle.certificate_checker.specs.declared.verdict.Verdict.TheVariants as verdicts
+use Rattle.certificate_checker.specs.VerdictLine.{verdict_line}
 use Rattle.certificate_finder.specs.declared.excluded.Excluded.{Excluded}
 use Rattle.certificate_finder.specs.declared.excluded.Excuse.{Excuse}
 use Rattle.certificate_finder.specs.declared.excluded.Excuse.TheVariants.{Later, Expired, Replaced}
