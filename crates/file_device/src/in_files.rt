@@ -4,7 +4,7 @@ ghost use Rattle.std.specs.Prelude.{◌≡◌, All, IfOk, length};
 use crate::file::FileDevice;
 use crate::file_open_fault::FileOpenFault;
 use crate::lane_file_fault::LaneFileFault;
-use crate::lane_path::lane_path;
+use crate::path::lane_path;
 use std::alloc::Global;
 use std::fs::File;
 use std::rt::Files;
