@@ -65,7 +65,7 @@ FIELD(kl_step, asked_device, 4, 4);
 FIELD(kl_step, is_due, 8, 4);
 WHOLE(kl_step, 12, 4);
 
-/* Place, c_lane/src/placing.rt */
+/* KeyPlace, c_lane/src/key_place.rt */
 FIELD(kl_place, lane, 0, 4);
 FIELD(kl_place, word, 4, 4);
 WHOLE(kl_place, 8, 4);
