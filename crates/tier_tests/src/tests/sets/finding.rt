@@ -51,7 +51,7 @@ const SECOND: Listed = Listed {
 
 const THE_FIRST_OF_TWO: [Step; 6] = [
     Step::Rewrite(&TWO_OF_ONE_KEY, Rewritten::Written),
-    Step::Locate(b"cd", Located::Hit { slot: 1 }, b"2"),
+    Step::Locate(b"cd", LocatedInSet::Hit { slot: 1 }, b"2"),
     Step::Look(b"cd", Seen::Value(b"2")),
     Step::Read(&[AB, FIRST_HIT, SECOND]),
     // A rewriting clears the hits.
