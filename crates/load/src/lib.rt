@@ -13,6 +13,7 @@ mod setting;
 mod size_setting;
 mod times;
 mod times_step;
+mod turns;
 mod watching;
 
 pub use cells::LONGEST;
@@ -25,4 +26,5 @@ pub use served_operation::ServedOperation;
 pub use setting::{SERVED_SETTINGS, SETTINGS, Setting};
 pub use size_setting::SizeSetting;
 pub use trace_file::FileName;
+pub use turns::{lane_after, rest};
 pub use watching::watch;

@@ -1,16 +1,13 @@
 // A worker of a run.
-ghost use Rattle.std.specs.Prelude.{◌≡◌, ◌<◌, ◌+◌, ◌%◌};
+ghost use Rattle.std.specs.Prelude.{◌≡◌, ◌<◌};
 
 use klog::Flushed;
+use load::{lane_after, rest};
 use page_device::PageDevice;
 use policy_laws::EvictionPolicy;
 use shared_cache::{Moved, SharedCache};
 use std::sync::Wait;
 use std::sync::atomic::{AtomicU64, Ordering};
-use std::time::Duration;
-
-/// How long a worker waits, at the most, that found nothing to do in any lane, in microseconds.
-const NAP: u64 = 50;
 
 /// Flushes and moves in each lane in turn, beginning with the one of the worker's number, until all callers ended. If
 /// there was nothing to do in as many lanes as there are, one after the other, it leaves their locks alone for a while.
@@ -37,24 +34,11 @@ pub fn work<D: PageDevice<PAGE>, P: EvictionPolicy + Drop, const PAGE: usize, R:
             idle + 1
         };
         if idle == lanes {
-            running.park_timeout(
-                rt,
-                (callers & 0xffff_ffff) as u32,
-                Duration::from_micros(NAP),
-            );
+            rest(rt, running, callers);
             idle = 0;
         }
         lane = lane_after(lane, lanes);
     }
-}
-
-/// The lane after this one, in turn.
-fn lane_after(lane: u32, lanes: u32) -> u32
-    requires { lane < lanes }
-    ensures next { result ≡ (lane + 1) % lanes }
-    ensures within { result < lanes }
-{
-    if lane + 1 < lanes { lane + 1 } else { 0 }
 }
 
 /// One round of flushing and one of moving in a lane. Whether there was something to do.

@@ -1,18 +1,15 @@
 // A worker of a load.
-ghost use Rattle.std.specs.Prelude.{◌≡◌, ◌<◌, ◌+◌, ◌%◌};
+ghost use Rattle.std.specs.Prelude.{◌<◌};
 ghost use Rattle.service_cache.specs.Serving.{lanes_of};
 
 use deed_book::{KeyLanes, Naming};
+use load::{lane_after, rest};
 use page_device::PageDevice;
 use policy_laws::EvictionPolicy;
 use service_cache::ServiceCache;
 use service_lane::Upkept;
 use std::sync::Wait;
 use std::sync::atomic::{AtomicU64, Ordering};
-use std::time::Duration;
-
-/// How long a worker waits, at the most, that found nothing to do in any lane, in microseconds.
-const NAP: u64 = 50;
 
 /// How many steps a worker does in a lane before it goes on to the next.
 const STEPS: u32 = 16;
@@ -47,25 +44,12 @@ pub(crate) fn work<
             idle + 1
         };
         if idle == lanes {
-            running.park_timeout(
-                rt,
-                (callers & 0xffff_ffff) as u32,
-                Duration::from_micros(NAP),
-            );
+            rest(rt, running, callers);
             idle = 0;
         }
         lane = lane_after(lane, lanes);
     }
     tend_all(rt, cache);
-}
-
-/// The lane after this one, in turn.
-fn lane_after(lane: u32, lanes: u32) -> u32
-    requires { lane < lanes }
-    ensures next { result ≡ (lane + 1) % lanes }
-    ensures within { result < lanes }
-{
-    if lane + 1 < lanes { lane + 1 } else { 0 }
 }
 
 /// Does what is due in each lane.
