@@ -27,7 +27,7 @@ pub enum Step {
     /// A key. No call is recorded.
     Forget(&'static [u8]),
     Flush(Flushed),
-    Move(Moved),
+    Move(MovedWhole),
 }
 
 /// What is reported of a lane after its calls.
@@ -181,7 +181,7 @@ fn flushes<D: PageDevice<PAGE>, const PAGE: usize>(
 
 fn moves<D: PageDevice<PAGE>, const PAGE: usize>(
     lane: &mut RecordedLane<D, PAGE>,
-    wanted: Moved,
+    wanted: MovedWhole,
 ) -> Result<bool, Fail> {
     let before = lane.len();
     let moved = moved(lane)?;
@@ -310,7 +310,7 @@ fn remove_once<D: PageDevice<PAGE>, const PAGE: usize>(
 
 fn moved<D: PageDevice<PAGE>, const PAGE: usize>(
     lane: &mut RecordedLane<D, PAGE>,
-) -> Result<Moved, Fail> {
+) -> Result<MovedWhole, Fail> {
     match lane.move_whole(&Rriparoo) {
         Ok(moved) => Ok(moved),
         Err(_) => Ok(lane.move_whole(&Rriparoo)?),

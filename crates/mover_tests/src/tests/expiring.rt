@@ -14,7 +14,7 @@ const IN_EACH_TIER: [Step; 19] = [
     Step::Flush(Flushed::Wrote),
     Step::GetLate(b"ax", Found::Expired),
     Step::Get(b"ax", Found::Log(b"1")),
-    Step::Move(Moved::Written),
+    Step::Move(MovedWhole::Written),
     Step::GetLate(b"ax", Found::Expired),
     Step::Get(b"ax", Found::Set(b"1")),
     Step::GetLate(b"cx", Found::Absent),

@@ -13,13 +13,13 @@ const WRITE: Step = Step::Flush(Flushed::Wrote);
 
 const LOSE: Step = Step::Flush(Flushed::PageLost);
 
-const MOVE: Step = Step::Move(Moved::Written);
+const MOVE: Step = Step::Move(MovedWhole::Written);
 
-const FREE: Step = Step::Move(Moved::Freed);
+const FREE: Step = Step::Move(MovedWhole::Freed);
 
-const MOVE_LOST: Step = Step::Move(Moved::PageLost);
+const MOVE_LOST: Step = Step::Move(MovedWhole::PageLost);
 
-const FORGET: Step = Step::Move(Moved::Forgotten);
+const FORGET: Step = Step::Move(MovedWhole::Forgotten);
 
 const A: Step = Step::Get(b"ax", Found::Set(b"1"));
 

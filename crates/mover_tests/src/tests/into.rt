@@ -19,7 +19,7 @@ const IN_EACH_TIER: [Step; 24] = [
     Step::Flush(Flushed::Wrote),
     Step::GetInto(b"ax", Found::Log(b"1")),
     Step::GetIntoLate(b"ax", Found::Expired),
-    Step::Move(Moved::Written),
+    Step::Move(MovedWhole::Written),
     Step::GetInto(b"ax", Found::Set(b"1")),
     Step::GetIntoLate(b"ax", Found::Expired),
     Step::GetInto(b"", Found::Absent),

@@ -67,7 +67,7 @@ pub enum Step {
     /// A key.
     Forget(&'static [u8]),
     Flush(Flushed),
-    Move(Moved),
+    Move(MovedWhole),
     Begin(Began),
     /// The items that a plan keeps, each with prediction 6, and the number of its move.
     Commit(&'static [usize], u64, Committed),
@@ -210,7 +210,7 @@ pub fn held_then(wanted: &Found) -> &'static [u8] {
 
 fn moved<D: PageDevice<PAGE>, const PAGE: usize>(
     store: &mut Store<D, PAGE>,
-) -> Result<Moved, Fail> {
+) -> Result<MovedWhole, Fail> {
     match store.move_whole(&Rriparoo) {
         Ok(moved) => Ok(moved),
         Err(_) => Ok(store.move_whole(&Rriparoo)?),

@@ -260,7 +260,7 @@ const GIVEN_UP: [Step; 17] = [
     Step::Flush(Flushed::Wrote),
     Step::Begin(Began::Job(1, &[FRESH])),
     Step::Begin(Began::Busy),
-    Step::Move(Moved::Busy),
+    Step::Move(MovedWhole::Busy),
     Step::Abort(1, Aborted::Aborted),
     Step::Commit(&[0], 1, Committed::StalePlan),
     Step::Abort(1, Aborted::StalePlan),

@@ -26,7 +26,7 @@ const PUT_ANEW: [Step; 11] = [
     Step::Put(b"bx", b"2", 32767, Pushed::Logged),
     Step::Flush(Flushed::Sealed),
     Step::Flush(Flushed::Wrote),
-    Step::Move(Moved::Written),
+    Step::Move(MovedWhole::Written),
     Step::Put(b"ax", b"3", 65536, Pushed::Logged),
     Step::Put(b"bx", b"4", 65535, Pushed::Declined),
     Step::Get(b"ax", Found::Absent),
@@ -83,7 +83,7 @@ pub const ELEVEN: [Step; 14] = [
     Step::Put(b"kx", b"1", 0, Pushed::Logged),
     Step::Flush(Flushed::Sealed),
     Step::Flush(Flushed::Wrote),
-    Step::Move(Moved::Written),
+    Step::Move(MovedWhole::Written),
 ];
 
 const NINE_STRIKES: [Step; 14] = [

@@ -69,7 +69,7 @@ fn removes<D: PageDevice<PAGE>, const PAGE: usize>(
 
 fn moved<D: PageDevice<PAGE>, const PAGE: usize>(
     lane: &mut ServiceLane<D, PAGE>,
-) -> Result<Moved, Fail> {
+) -> Result<MovedWhole, Fail> {
     match lane.move_whole(&Rriparoo) {
         Ok(moved) => Ok(moved),
         Err(_) => Ok(lane.move_whole(&Rriparoo)?),

@@ -38,7 +38,7 @@ pub enum Step {
     /// A fill by the lease at this place: a key, its value, and what it does.
     Fill(usize, &'static [u8], &'static [u8], Filled),
     Flush(Flushed),
-    Move(Moved),
+    Move(MovedWhole),
     /// What a step of upkeep does, whether it may ask the device, and whether something is due after it.
     Tend(Upkept, bool, bool),
     /// How many steps are done in help, and whether the device may have been asked.
@@ -155,7 +155,7 @@ fn fill<D: PageDevice<PAGE>, const PAGE: usize>(
 
 fn moved<D: PageDevice<PAGE>, const PAGE: usize>(
     lane: &mut ServiceLane<D, PAGE>,
-) -> Result<Moved, Fail> {
+) -> Result<MovedWhole, Fail> {
     match lane.move_whole(&Rriparoo) {
         Ok(moved) => Ok(moved),
         Err(_) => Ok(lane.move_whole(&Rriparoo)?),
