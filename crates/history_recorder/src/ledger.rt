@@ -96,8 +96,8 @@ impl Ledger {
 
     // Where the call of a caller that acted stands.
     fn acted(&self, caller: u16) -> Option<(u32, usize)>
-        ensures { MatchOption result ((lane position : ℕ) → IsDoing self.now caller (Phase.ActReply lane position) → ⊥)
-            (λ at. IsDoing self.now caller (Phase.ActReply at.0 at.1)) }
+        ensures { MatchOption result ((lane position : ℕ) → IsDoing self.now caller (Phase.Acted lane position) → ⊥)
+            (λ at. IsDoing self.now caller (Phase.Acted at.0 at.1)) }
     {
         match self.callers.get(usize::from(caller)) {
             Some(Phase::Acted(lane, position)) => Some((*lane, *position)),
