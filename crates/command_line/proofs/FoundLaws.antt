@@ -6,7 +6,7 @@ use Rattle.std.specs.List.{list_all}
 use Rattle.load.specs.declared.load.Load.{Load}
 use Rattle.load.specs.Asked.{numbers_of, served_numbers_of}
 use Rattle.load.specs.Sizes.{name_of}
-use Rattle.load.specs.declared.served_load.ServedLoad.{ServedLoad}
+use Rattle.load.specs.declared.serve_load.ServeLoad.{ServeLoad}
 use Rattle.load.specs.declared.size_setting.SizeSetting.{SizeSetting}
 use Rattle.load.specs.declared.size_setting.SizeSetting.TheVariants.{Size, MemoryBytes}
 use Rattle.command_line.specs.declared.line.Line.TheVariants.{Run, Serve}
@@ -85,7 +85,7 @@ served_if true false is_a is_b w = absurd cc
 served_if false b is_a is_b w = absurd cc
 
 -- and so is the load of a cache that serves
-pub asks_served : (rows : List Row) (load : ServedLoad) (numbers : List ℕ) (size memory : Option ℕ) (json : Bool) (folder : Option Text) → map (number_found rows) served_settings ≡ map Some numbers → bytes_found rows Size ≡ Some size → bytes_found rows MemoryBytes ≡ Some memory → served_numbers_of load ≡ numbers → load.size ≡ size → load.memory_bytes ≡ memory → load.json ≡ json → json ≡ is_on (codes "json") rows → load.device ≡ folder → folder ≡ first_of (codes "device") rows → served_wanted rows ≡ Some (wanted_of (Serve load))
+pub asks_served : (rows : List Row) (load : ServeLoad) (numbers : List ℕ) (size memory : Option ℕ) (json : Bool) (folder : Option Text) → map (number_found rows) served_settings ≡ map Some numbers → bytes_found rows Size ≡ Some size → bytes_found rows MemoryBytes ≡ Some memory → served_numbers_of load ≡ numbers → load.size ≡ size → load.memory_bytes ≡ memory → load.json ≡ json → json ≡ is_on (codes "json") rows → load.device ≡ folder → folder ≡ first_of (codes "device") rows → served_wanted rows ≡ Some (wanted_of (Serve load))
 asks_served rows load numbers size memory json folder e found_size found_memory has is_size is_memory is_json found_json is_device found_device =
     let given : has_numbers served_settings rows ≡ true = all_found (number_found rows) served_settings numbers e in
     let sized : has_sizes rows ≡ true = rw (found_size, found_memory) refl in

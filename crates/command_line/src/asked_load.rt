@@ -8,7 +8,7 @@ use crate::line::Line;
 use crate::line_fault::LineFault;
 use crate::telling::{Loading, no_bytes, no_number, usage};
 use clap::ArgMatches;
-use load::{SERVED_SETTINGS, SETTINGS, Setting, SizeSetting, load_with, served_with};
+use load::{SERVE_SETTINGS, SETTINGS, Setting, SizeSetting, load_with, served_with};
 use std::alloc::Global;
 use trace_file::FileName;
 
@@ -117,7 +117,7 @@ pub fn serve_line<'a>(alloc: Global, found: &ArgMatches<'a>) -> Result<Line, Lin
     ensures taken { IsSome (served_wanted (rows_of (found_of found.now)))
         → IfErr result (λ fault. fault ≡ LineFault.OutOfMemory) }
 {
-    let numbers = match numbers_of(found, &SERVED_SETTINGS) {
+    let numbers = match numbers_of(found, &SERVE_SETTINGS) {
         Ok(numbers) => numbers,
         Err(setting) => {
             let given = given(found, setting.name());

@@ -1,6 +1,6 @@
 // What the command line asks for.
 use judge_run::{CheckRequest, JudgeRequest, ShowRequest};
-use load::{Load, ServedLoad};
+use load::{Load, ServeLoad};
 
 /// What the words of the command line ask for.
 #[derive(Debug, Drop)]
@@ -16,5 +16,5 @@ pub enum Line {
     /// This load is to be run.
     Run(Load),
     /// This load of a cache that serves is to be run.
-    Serve(ServedLoad),
+    Serve(ServeLoad),
 }

@@ -6,7 +6,7 @@ ghost use Rattle.command_line.specs.CommandLine.{check_command, device_rule, exp
 use crate::help;
 use crate::help::Help;
 use clap::{Arg, ArgAction, Command};
-use load::{SERVED_SETTINGS, SETTINGS, Setting, SizeSetting};
+use load::{SERVE_SETTINGS, SETTINGS, Setting, SizeSetting};
 use std::alloc::{AllocError, Global};
 
 /// What the program calls itself, however it was started.
@@ -197,7 +197,7 @@ pub fn serve<'a>(alloc: Global) -> Result<Command<'a>, AllocError>
     ensures { IfOk result (λ c. app_of c ≡ serve_command) }
 {
     let mut serve = command(alloc, "serve-load", &help::SERVE);
-    for setting in &SERVED_SETTINGS {
+    for setting in &SERVE_SETTINGS {
         serve = serve.arg(option(alloc, *setting))?;
     }
     let sized = serve.arg(size(alloc, SizeSetting::Size))?;

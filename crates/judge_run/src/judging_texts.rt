@@ -9,7 +9,7 @@ use crate::answers::ended;
 use crate::judge_report::JudgeReport;
 use crate::judged_text::JudgedText;
 use crate::judging_text::judge_text;
-use crate::names::copied;
+use crate::names::copy_names;
 use crate::outcome::Outcome;
 use crate::rejection::Rejection;
 use crate::tell_fault::TellFault;
@@ -141,7 +141,7 @@ fn told_rejected<S: BuildHasher + Drop>(
     let rejection = Rejection {
         history,
         lines,
-        callers: copied(alloc, callers.names())?,
+        callers: copy_names(alloc, callers.names())?,
         reason: Reason::of_witness(witness),
     };
     let text = rejection.told_behind(alloc, form, begun, explain)?;

@@ -5,7 +5,7 @@ ghost use Rattle.history_picture.specs.Names.{names_of};
 use std::alloc::{AllocError, Global};
 
 /// A copy of some names.
-pub(crate) fn copied(alloc: Global, names: &[Vec<u8>]) -> Result<Vec<Vec<u8>>, AllocError>
+pub(crate) fn copy_names(alloc: Global, names: &[Vec<u8>]) -> Result<Vec<Vec<u8>>, AllocError>
     ensures { IfOk result (λ copy. names_of copy.items ≡ names_of names.now) }
 {
     let mut copy = Vec::new(alloc);

@@ -12,7 +12,7 @@ use std::alloc::Global;
 use std::mem::replace;
 
 // The lane of a place, which is empty then.
-pub(crate) fn taken(alloc: Global, place: &mut Handle) -> Box<KeptLane>
+pub(crate) fn take_lane(alloc: Global, place: &mut Handle) -> Box<KeptLane>
     requires { IsFull place.old.lane }
     ensures value { place.old.lane ≡ Some result.value }
     ensures left { place.new.lane ≡ None }
@@ -21,7 +21,7 @@ pub(crate) fn taken(alloc: Global, place: &mut Handle) -> Box<KeptLane>
 }
 
 // Puts a lane into a place.
-pub(crate) fn filled(place: &mut Handle, lane: Box<KeptLane>)
+pub(crate) fn put_back(place: &mut Handle, lane: Box<KeptLane>)
     ensures { place.new.lane ≡ Some lane.value }
 {
     *place = Handle::of_parts(Parts::of(lane));
@@ -35,7 +35,7 @@ pub(crate) fn put_in(alloc: Global, lane: CLane<MappedDevice<4096>>, place: &mut
 {
     match Box::new(alloc, KeptLane { lane }) {
         Ok(kept) => {
-            filled(place, kept);
+            put_back(place, kept);
             Status::Done
         }
         Err(_) => Status::NoMemory,

@@ -6,7 +6,7 @@ ghost use Rattle.c_lane.specs.Putting.{Puts, PutsOrRemoves, FillsOrNot, RemovesK
 ghost use Rattle.kangaroo_c.specs.Telling.{IsFull, Tells, TellsOpening, page_laws};
 
 use crate::handle::Handle;
-use crate::keeping::{filled, open_in, taken};
+use crate::keeping::{open_in, put_back, take_lane};
 use crate::lent_pages::LentPages;
 use c_lane::{Hit, LaneShape, Seed};
 use std::alloc::Global;
@@ -34,7 +34,7 @@ pub extern "C" fn kl_close(alloc: Global, lane: &mut Handle)
     requires { IsFull lane.old.lane }
     ensures { lane.new.lane ≡ None }
 {
-    drop(taken(alloc, lane));
+    drop(take_lane(alloc, lane));
 }
 
 /// Looks a key up.
@@ -55,9 +55,9 @@ pub extern "C" fn kl_get(
         (λ status old new. RefusesGet into.old old status new into.new hit.new)
         result lane.old.lane lane.new.lane }
 {
-    let mut kept = taken(alloc, lane);
+    let mut kept = take_lane(alloc, lane);
     let status = kept.lane.get(key, moment, into, hit);
-    filled(lane, kept);
+    put_back(lane, kept);
     status.number()
 }
 
@@ -82,9 +82,9 @@ pub extern "C" fn kl_get_or_lease(
         result lane.old.lane lane.new.lane }
     ensures no_lease { (IsKey key.now → ⊥) → writes.new ≡ writes.old }
 {
-    let mut kept = taken(alloc, lane);
+    let mut kept = take_lane(alloc, lane);
     let status = kept.lane.get_or_lease(key, moment, into, hit, writes);
-    filled(lane, kept);
+    put_back(lane, kept);
     status.number()
 }
 
@@ -101,9 +101,9 @@ pub extern "C" fn kl_put(
     ensures { Tells (λ status old new. Puts page_laws key.now value.now expires old status new)
         result lane.old.lane lane.new.lane }
 {
-    let mut kept = taken(alloc, lane);
+    let mut kept = take_lane(alloc, lane);
     let status = kept.lane.put(alloc, key, value, expires);
-    filled(lane, kept);
+    put_back(lane, kept);
     status.number()
 }
 
@@ -120,9 +120,9 @@ pub extern "C" fn kl_put_or_remove(
     ensures { Tells (λ status old new. PutsOrRemoves page_laws key.now value.now expires old status new)
         result lane.old.lane lane.new.lane }
 {
-    let mut kept = taken(alloc, lane);
+    let mut kept = take_lane(alloc, lane);
     let status = kept.lane.put_or_remove(alloc, key, value, expires);
-    filled(lane, kept);
+    put_back(lane, kept);
     status.number()
 }
 
@@ -140,9 +140,9 @@ pub extern "C" fn kl_fill(
     ensures { Tells (λ status old new. FillsOrNot page_laws writes key.now value.now expires old status new)
         result lane.old.lane lane.new.lane }
 {
-    let mut kept = taken(alloc, lane);
+    let mut kept = take_lane(alloc, lane);
     let status = kept.lane.fill(alloc, writes, key, value, expires);
-    filled(lane, kept);
+    put_back(lane, kept);
     status.number()
 }
 
@@ -153,8 +153,8 @@ pub extern "C" fn kl_remove(alloc: Global, lane: &mut Handle, key: &[u8]) -> i32
     ensures { Tells (λ status old new. RemovesKey page_laws key.now old status new)
         result lane.old.lane lane.new.lane }
 {
-    let mut kept = taken(alloc, lane);
+    let mut kept = take_lane(alloc, lane);
     let status = kept.lane.remove(key);
-    filled(lane, kept);
+    put_back(lane, kept);
     status.number()
 }

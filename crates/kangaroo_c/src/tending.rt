@@ -7,7 +7,7 @@ ghost use Rattle.c_lane.specs.Tending.{Tends};
 ghost use Rattle.kangaroo_c.specs.Telling.{IsFull, OnLanes, page_laws};
 
 use crate::handle::Handle;
-use crate::keeping::{filled, taken};
+use crate::keeping::{put_back, take_lane};
 use c_lane::{Counters, Step};
 use std::alloc::Global;
 
@@ -17,9 +17,9 @@ pub extern "C" fn kl_upkeep_step(alloc: Global, lane: &mut Handle, to: &mut Step
     requires { IsFull lane.old.lane }
     ensures { OnLanes (λ old new. Tends page_laws old to.new new) lane.old.lane lane.new.lane }
 {
-    let mut kept = taken(alloc, lane);
+    let mut kept = take_lane(alloc, lane);
     *to = kept.lane.upkeep_step();
-    filled(lane, kept);
+    put_back(lane, kept);
 }
 
 /// How often a lane did what, and what it holds now. The lane stays as it is.
@@ -28,9 +28,9 @@ pub extern "C" fn kl_count(alloc: Global, lane: &mut Handle, to: &mut Counters)
     requires { IsFull lane.old.lane }
     ensures { OnLanes (λ old new. (to.new ≡ counters_of old) × (new ≡ old)) lane.old.lane lane.new.lane }
 {
-    let kept = taken(alloc, lane);
+    let kept = take_lane(alloc, lane);
     *to = kept.lane.counters();
-    filled(lane, kept);
+    put_back(lane, kept);
 }
 
 /// 1 if something is due, else 0. The lane stays as it is.
@@ -40,8 +40,8 @@ pub extern "C" fn kl_is_due(alloc: Global, lane: &mut Handle) -> u32
     ensures { OnLanes (λ old new. (result ≡ from_bool (is_some (due_in old.serving))) × (new ≡ old))
         lane.old.lane lane.new.lane }
 {
-    let kept = taken(alloc, lane);
+    let kept = take_lane(alloc, lane);
     let is_due = kept.lane.is_due();
-    filled(lane, kept);
+    put_back(lane, kept);
     u32::from(is_due)
 }

@@ -2,7 +2,7 @@
 use Rattle.std.specs.Prelude.{◌≡◌, ℕ, List, [], ◌∷◌, slice_index}
 use Rattle.record_pages.specs.declared.layout.Layout.{Layout}
 use Rattle.load.specs.declared.load.Load.{Load}
-use Rattle.load.specs.declared.served_load.ServedLoad.{ServedLoad}
+use Rattle.load.specs.declared.serve_load.ServeLoad.{ServeLoad}
 
 -- the cache has the first eight of these numbers
 pub record IsLayoutOf (layout : Layout) (numbers : List ℕ) : Type 0 where
@@ -26,6 +26,6 @@ numbers_of load =
     with_layout load.layout (load.callers ∷ load.operations ∷ load.keys ∷ load.value_bytes ∷ load.gets ∷ load.removes ∷ load.workers ∷ load.seed ∷ load.ttl ∷ [])
 
 -- the numbers of a load of a cache that serves, one for each of its settings
-abbrev pub served_numbers_of : ServedLoad → List ℕ
+abbrev pub served_numbers_of : ServeLoad → List ℕ
 served_numbers_of load =
     with_layout load.layout (load.callers ∷ load.operations ∷ load.keys ∷ load.value_bytes ∷ load.gets ∷ load.removes ∷ load.workers ∷ load.seed ∷ load.ttl ∷ load.shards ∷ load.leases ∷ [])

@@ -4,7 +4,7 @@ ghost use Rattle.load.specs.Settings.{AreAdmitted, served_settings, settings};
 ghost use Rattle.load.specs.Asked.{IsLayoutOf, numbers_of, served_numbers_of};
 
 use crate::load::Load;
-use crate::served_load::ServedLoad;
+use crate::serve_load::ServeLoad;
 use record_pages::{Config, Layout};
 use trace_file::FileName;
 
@@ -55,7 +55,7 @@ pub fn load_with(numbers: &[u32; 17], json: bool, device: Option<FileName>, trac
     }
 }
 
-/// The load of a cache that serves with these numbers, one for each of `SERVED_SETTINGS` in their order, made for so many bytes
+/// The load of a cache that serves with these numbers, one for each of `SERVE_SETTINGS` in their order, made for so many bytes
 /// of flash and of memory if they are given, whose devices are files of this folder, or in memory if there is none.
 pub fn served_with(
     numbers: &[u32; 19],
@@ -63,7 +63,7 @@ pub fn served_with(
     memory_bytes: Option<u64>,
     json: bool,
     device: Option<FileName>,
-) -> ServedLoad
+) -> ServeLoad
     requires { AreAdmitted served_settings numbers.now }
     ensures numbers { served_numbers_of result ≡ numbers.now }
     ensures size { result.size ≡ size }
@@ -71,7 +71,7 @@ pub fn served_with(
     ensures json { result.json ≡ json }
     ensures device { result.device ≡ device }
 {
-    ServedLoad {
+    ServeLoad {
         layout: layout_with(numbers),
         callers: numbers[8],
         operations: numbers[9],

@@ -79,7 +79,7 @@ pub const SETTINGS: [Setting; 17] = [
 ];
 
 /// The settings of a load of a cache that serves, in their order.
-pub const SERVED_SETTINGS: [Setting; 19] = [
+pub const SERVE_SETTINGS: [Setting; 19] = [
     Setting::Lanes,
     Setting::Sets,
     Setting::Memory,

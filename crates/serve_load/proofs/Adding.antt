@@ -4,7 +4,7 @@ use Rattle.std.proofs.Math.Logic.{∥∥₁_map}
 use Rattle.std.proofs.lemmas.List.{map-append}
 use Rattle.std.proofs.lemmas.List.Elements.{All-cons}
 use Rattle.std.proofs.lemmas.List.Sums.{sum_by-cons}
-use Rattle.load.specs.declared.served_load.ServedLoad.{ServedLoad}
+use Rattle.load.specs.declared.serve_load.ServeLoad.{ServeLoad}
 use Rattle.serve_load.specs.declared.caller_tally.CallerTally.{CallerTally}
 use Rattle.serve_load.specs.declared.report.Report.{Report}
 use Rattle.serve_load.specs.Calls.{IsTally}
@@ -40,7 +40,7 @@ one_more_number {X} f xs ys x n e is items =
     ap (map f) items ∙ map-append f xs (x ∷ []) ∙ ap₂ (λ a b. a ++ b ∷ []) e is ∙ ap upto same
 
 -- a report with these sums is one of what the callers of a load counted
-pub is_made : (load : ServedLoad) (report : Report) (o r w : ℕ) → report.operations ≡ o → report.refused ≡ r → report.wrong_hits ≡ w → o ≤ load.callers * load.operations → (w ≡ 0 → o ≡ load.callers * load.operations) → AddUp (IsTally load) load.callers o r w → IsMade load report
+pub is_made : (load : ServeLoad) (report : Report) (o r w : ℕ) → report.operations ≡ o → report.refused ≡ r → report.wrong_hits ≡ w → o ≤ load.callers * load.operations → (w ≡ 0 → o ≡ load.callers * load.operations) → AddUp (IsTally load) load.callers o r w → IsMade load report
 is_made load report o r w eo er ew most all sums = record {
   most = subst (λ n. n ≤ load.callers * load.operations) (sym eo) most;
   all = λ none. eo ∙ all (sym ew ∙ none);

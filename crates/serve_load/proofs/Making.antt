@@ -3,7 +3,7 @@ use Rattle.std.proofs.Common.{◌≡◌, ◌∙◌, ◌+◌, ◌≤◌, ◌<◌,
 use Rattle.rand_pcg.specs.Lcg.{Lcg}
 use Rattle.load.specs.Operations.{past}
 use Rattle.load.specs.Served.{served_next_of}
-use Rattle.load.specs.declared.served_load.ServedLoad.{ServedLoad}
+use Rattle.load.specs.declared.serve_load.ServeLoad.{ServeLoad}
 use Rattle.serve_load.specs.declared.caller_tally.CallerTally.{CallerTally}
 use Rattle.serve_load.specs.declared.words.CallEnd.{CallEnd}
 use Rattle.serve_load.specs.declared.words.CallEnd.TheVariants.{Done, Refused, WrongHit}
@@ -22,7 +22,7 @@ wrong_is Done h = absurd cc
 wrong_is Refused h = absurd cc
 wrong_is WrongHit h = refl
 
-module _ (load : ServedLoad) (caller : ℕ) (first : Lcg) (number refused : ℕ) (old now : Standing) (g : Lcg) (here : IsAt load caller first number refused old now g) where
+module _ (load : ServeLoad) (caller : ℕ) (first : Lcg) (number refused : ℕ) (old now : Standing) (g : Lcg) (here : IsAt load caller first number refused old now g) where
   suc_is : suc number ≡ number + 1
   suc_is = omega arith
 
@@ -68,7 +68,7 @@ module _ (load : ServedLoad) (caller : ℕ) (first : Lcg) (number refused : ℕ)
         });
       }
 
-module _ (load : ServedLoad) (number : ℕ) (g : Lcg) (words : List ℕ) (seen : List Deed) (one : IsOneOf load number g words seen) (counted : CallerTally) where
+module _ (load : ServeLoad) (number : ℕ) (g : Lcg) (words : List ℕ) (seen : List Deed) (one : IsOneOf load number g words seen) (counted : CallerTally) where
   -- a caller that began as one of the load's ended as one of them
   pub has_ended : IsEnded load number g (standing words seen) counted → HasEnded load number counted
   has_ended ended =
@@ -80,7 +80,7 @@ module _ (load : ServedLoad) (number : ℕ) (g : Lcg) (words : List ℕ) (seen :
   is_tally ended = record { caller = number; one_of = one.one_of; ended = ended }
 
 -- a caller that made nothing ended
-pub no_operations : (load : ServedLoad) (number : ℕ) → HasEnded load number (record { operations = 0; refused = 0; wrong_hits = 0 })
+pub no_operations : (load : ServeLoad) (number : ℕ) → HasEnded load number (record { operations = 0; refused = 0; wrong_hits = 0 })
 no_operations load number = record {
   some = omega arith;
   few_refused = omega arith;

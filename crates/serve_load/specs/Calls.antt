@@ -7,9 +7,9 @@ use Rattle.trace_file.specs.declared.act.Act.TheVariants as acts
 use Rattle.certificate_checker.specs.Deeds.{Deed}
 use Rattle.load.specs.Operations.{past}
 use Rattle.load.specs.Served.{served_next_of}
-use Rattle.load.specs.declared.served_load.ServedLoad.{ServedLoad}
-use Rattle.load.specs.declared.served_operation.ServedOperation.{ServedOperation}
-use Rattle.load.specs.declared.served_operation.ServedOperation.TheVariants.{Get, Put, Remove}
+use Rattle.load.specs.declared.serve_load.ServeLoad.{ServeLoad}
+use Rattle.load.specs.declared.serve_operation.ServeOperation.{ServeOperation}
+use Rattle.load.specs.declared.serve_operation.ServeOperation.TheVariants.{Get, Put, Remove}
 use Rattle.service_cache.specs.Seated.{put_of}
 use Rattle.service_cache.specs.Calls.{AddsLast}
 use Rattle.serve_load.specs.declared.caller_tally.CallerTally.{CallerTally}
@@ -28,7 +28,7 @@ generator_at first zero = first
 generator_at first (suc number) = past (past (generator_at first number))
 
 -- a caller's operation of this number
-abbrev pub operation_at : ServedLoad → Lcg → ℕ → ServedOperation
+abbrev pub operation_at : ServeLoad → Lcg → ℕ → ServeOperation
 operation_at load first number = served_next_of load (generator_at first number)
 
 -- what a caller has between two operations: a word for each of its keys, and the list of writes that it has seen
@@ -40,11 +40,11 @@ abbrev pub standing : List ℕ → List Deed → Standing
 standing words seen = record { words = words; seen = seen }
 
 -- a caller begins with keys that have no values, and has seen nothing
-abbrev pub begun : ServedLoad → Standing
+abbrev pub begun : ServeLoad → Standing
 begun load = standing (replicate load.keys 0) []
 
 -- what a caller's operation of this number puts for a key
-abbrev pub put_by : ServedLoad → ℕ → ℕ → ℕ → Deed
+abbrev pub put_by : ServeLoad → ℕ → ℕ → ℕ → Deed
 put_by load caller key number = put_of (key_of caller key) (value_of load.value_bytes key number) (expires_of load number)
 
 -- a caller's removal of a key
@@ -62,22 +62,22 @@ pub record Enters (key word : ℕ) (write : Deed) (old new : Standing) : Type 0 
   pub entered : AddsLast old.seen write new.seen
 
 -- a put of an operation with this number was stored
-abbrev pub Stores : ServedLoad → ℕ → ℕ → ℕ → Standing → Standing → Type 0
+abbrev pub Stores : ServeLoad → ℕ → ℕ → ℕ → Standing → Standing → Type 0
 Stores load caller key number old new = Enters key (number + 1) (put_by load caller key number) old new
 
 -- a put was refused, which leaves no value: it is the last write that was seen, or its key's removal is, or nothing more was seen
-pub record Forgets (load : ServedLoad) (caller key number : ℕ) (old new : Standing) : Type 0 where
+pub record Forgets (load : ServeLoad) (caller key number : ℕ) (old new : Standing) : Type 0 where
   pub word_is : Sets old.words new.words key 0
   pub seen : (new.seen ≡ old.seen) ⊎ (AddsLast old.seen (put_by load caller key number) new.seen ⊎ AddsLast old.seen (removal_by caller key) new.seen)
 
 -- a look-up went so: it changed no word, or it missed and the key was filled, if the load has leases
-abbrev pub Looks : ServedLoad → ℕ → ℕ → ℕ → CallEnd → Standing → Standing → Type 0
+abbrev pub Looks : ServeLoad → ℕ → ℕ → ℕ → CallEnd → Standing → Standing → Type 0
 Looks load caller key number Done old new = Keeps old new ⊎ ((load.leases ≢ 0) × Stores load caller key number old new)
 Looks load caller key number Refused old new = Keeps old new
 Looks load caller key number WrongHit old new = Keeps old new
 
 -- a put went so
-abbrev pub Puts : ServedLoad → ℕ → ℕ → ℕ → CallEnd → Standing → Standing → Type 0
+abbrev pub Puts : ServeLoad → ℕ → ℕ → ℕ → CallEnd → Standing → Standing → Type 0
 Puts load caller key number Done old new = Stores load caller key number old new
 Puts load caller key number Refused old new = Forgets load caller key number old new
 Puts load caller key number WrongHit old new = ⊥
@@ -89,7 +89,7 @@ Removes caller key Refused old new = Sets old.words new.words key 0 × (new.seen
 Removes caller key WrongHit old new = ⊥
 
 -- a caller's operation of this number went so, and left this
-abbrev pub Does : ServedLoad → ℕ → ServedOperation → ℕ → CallEnd → Standing → Standing → Type 0
+abbrev pub Does : ServeLoad → ℕ → ServeOperation → ℕ → CallEnd → Standing → Standing → Type 0
 Does load caller (Get key) number step old new = Looks load caller key number step old new
 Does load caller (Remove key) number step old new = Removes caller key step old new
 Does load caller (Put key) number step old new = Puts load caller key number step old new
@@ -107,14 +107,14 @@ refusals_of Refused = 1
 refusals_of WrongHit = 0
 
 -- an operation of this number was made, of which no hit was wrong; so many of those up to it were refused, and so many before
-pub record Passes (load : ServedLoad) (caller : ℕ) (operation : ServedOperation) (number before refused : ℕ) (old new : Standing) : Type 0 where
+pub record Passes (load : ServeLoad) (caller : ℕ) (operation : ServeOperation) (number before refused : ℕ) (old new : Standing) : Type 0 where
   pub step : CallEnd
   pub right : is_wrong step ≡ false
   pub does : Does load caller operation number step old new
   pub refusals : refused ≡ before + refusals_of step
 
 -- a caller made the first so many of its operations, one after the other, of which so many were refused, and no hit was wrong
-abbrev pub Makes : ServedLoad → ℕ → Lcg → ℕ → ℕ → Standing → Standing → Type 0
+abbrev pub Makes : ServeLoad → ℕ → Lcg → ℕ → ℕ → Standing → Standing → Type 0
 Makes load caller first zero refused old new = (refused ≡ 0) × (new ≡ old)
 Makes load caller first (suc number) refused old new =
     (before : ℕ) × (between : Standing)
@@ -122,19 +122,19 @@ Makes load caller first (suc number) refused old new =
     × Passes load caller (operation_at load first number) number before refused between new
 
 -- the caller has made its operations below this number, and this is its generator before the operation of the number
-pub record IsAt (load : ServedLoad) (caller : ℕ) (first : Lcg) (number refused : ℕ) (old now : Standing) (generator : Lcg) : Type 0 where
+pub record IsAt (load : ServeLoad) (caller : ℕ) (first : Lcg) (number refused : ℕ) (old now : Standing) (generator : Lcg) : Type 0 where
   pub at : generator ≡ generator_at first number
   pub made : Makes load caller first number refused old now
   pub few : refused ≤ number
 
 -- a caller counted that it made this many operations, of which no hit was wrong
-pub record EndsRight (load : ServedLoad) (caller : ℕ) (first : Lcg) (old : Standing) (counted : CallerTally) : Type 0 where
+pub record EndsRight (load : ServeLoad) (caller : ℕ) (first : Lcg) (old : Standing) (counted : CallerTally) : Type 0 where
   pub end : Standing
   pub made : Makes load caller first counted.operations counted.refused old end
   pub none : counted.wrong_hits ≡ 0
 
 -- a caller counted that it made this many operations, the last of which was a wrong hit
-pub record EndsWrong (load : ServedLoad) (caller : ℕ) (first : Lcg) (old : Standing) (counted : CallerTally) : Type 0 where
+pub record EndsWrong (load : ServeLoad) (caller : ℕ) (first : Lcg) (old : Standing) (counted : CallerTally) : Type 0 where
   pub number : ℕ
   pub before : Standing
   pub end : Standing
@@ -144,25 +144,25 @@ pub record EndsWrong (load : ServedLoad) (caller : ℕ) (first : Lcg) (old : Sta
   pub one : counted.wrong_hits ≡ 1
 
 -- a caller of a load ended with these counts
-pub record IsEnded (load : ServedLoad) (caller : ℕ) (first : Lcg) (old : Standing) (counted : CallerTally) : Type 0 where
+pub record IsEnded (load : ServeLoad) (caller : ℕ) (first : Lcg) (old : Standing) (counted : CallerTally) : Type 0 where
   pub some : counted.operations ≤ load.operations
   pub few_refused : counted.refused ≤ counted.operations
   pub one_wrong : counted.wrong_hits ≤ 1
   pub ends : EndsRight load caller first old counted ⊎ EndsWrong load caller first old counted
 
 -- a caller with this number, generator, words and list is one of a load's callers, and begins
-pub record IsOneOf (load : ServedLoad) (number : ℕ) (generator : Lcg) (words : List ℕ) (seen : List Deed) : Type 0 where
+pub record IsOneOf (load : ServeLoad) (number : ℕ) (generator : Lcg) (words : List ℕ) (seen : List Deed) : Type 0 where
   pub one_of : number < load.callers
   pub generator_is : generator ≡ first_generator load.seed number
   pub words_are : words ≡ replicate load.keys 0
   pub seen_is : seen ≡ []
 
 -- a load's caller with this number ended with these counts
-abbrev pub HasEnded : ServedLoad → ℕ → CallerTally → Type 0
+abbrev pub HasEnded : ServeLoad → ℕ → CallerTally → Type 0
 HasEnded load caller counted = IsEnded load caller (first_generator load.seed caller) (begun load) counted
 
 -- one of a load's callers ended with these counts
-pub record IsTally (load : ServedLoad) (counted : CallerTally) : Type 0 where
+pub record IsTally (load : ServeLoad) (counted : CallerTally) : Type 0 where
   pub caller : ℕ
   pub one_of : caller < load.callers
   pub ended : HasEnded load caller counted

@@ -3,7 +3,7 @@ use Rattle.std.specs.Prelude.{ℕ, ◌+◌, ◌/◌, List, [], ◌∷◌, ◌++�
 use Rattle.std.specs.List.{repeat}
 use Rattle.std.specs.Int.{w16, w32, to_be_bytes}
 use Rattle.record_pages.specs.Expiry.{never}
-use Rattle.load.specs.declared.served_load.ServedLoad.{ServedLoad}
+use Rattle.load.specs.declared.serve_load.ServeLoad.{ServeLoad}
 
 -- a key: its caller, its number, and four zeros
 abbrev pub key_of : ℕ → ℕ → List ℕ
@@ -22,9 +22,9 @@ abbrev pub value_of : ℕ → ℕ → ℕ → List ℕ
 value_of len key number = repeated (word_of key number) len
 
 -- the moment of a caller's operation: its number, if puts expire
-abbrev pub moment_of : ServedLoad → ℕ → ℕ
+abbrev pub moment_of : ServeLoad → ℕ → ℕ
 moment_of load number = if load.ttl == 0 then 0 else number
 
 -- the moment from which what a caller's operation put is expired: that of its operation ttl further on
-abbrev pub expires_of : ServedLoad → ℕ → ℕ
+abbrev pub expires_of : ServeLoad → ℕ → ℕ
 expires_of load number = if load.ttl == 0 then never else number + load.ttl

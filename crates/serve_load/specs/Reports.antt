@@ -2,7 +2,7 @@
 use Rattle.std.specs.Prelude.{◌≡◌, ◌≤◌, ◌*◌, ℕ, List, [], ◌∷◌, ◌++◌, codes}
 use Rattle.figures.specs.declared.form.Form.{Form}
 use Rattle.figures.specs.Figures.{Row, number, row, thousandths, with_rows}
-use Rattle.load.specs.declared.served_load.ServedLoad.{ServedLoad}
+use Rattle.load.specs.declared.serve_load.ServeLoad.{ServeLoad}
 use Rattle.serve_load.specs.declared.report.Report.{Report}
 use Rattle.serve_load.specs.declared.lane_end.LaneEnd.{LaneEnd}
 use Rattle.serve_load.specs.declared.sums.Sums.{Sums}
@@ -67,7 +67,7 @@ pub record IsReportOf (sums : Sums) (milliseconds : ℕ) (total : LaneEnd) (repo
 
 -- the callers made all operations of the load, or a hit was wrong and they made some; and operations, refusals and wrong hits are
 -- the sums of what this many of its callers counted at their end
-pub record IsMade (load : ServedLoad) (report : Report) : Type 0 where
+pub record IsMade (load : ServeLoad) (report : Report) : Type 0 where
   pub most : report.operations ≤ load.callers * load.operations
   pub all : report.wrong_hits ≡ 0 → report.operations ≡ load.callers * load.operations
   pub sums : AddUp (IsTally load) load.callers report.operations report.refused report.wrong_hits

@@ -3,7 +3,7 @@ use Rattle.std.specs.Prelude.{◌≡◌, ◌⊎◌, ◌<◌, ◌+◌, ℕ, List,
 use Rattle.std.specs.Io.KnownBytes.{Appends, Keeps}
 use Rattle.figures.specs.declared.form.Form.{Form}
 use Rattle.figures.specs.Figures.{form_of}
-use Rattle.load.specs.declared.served_load.ServedLoad.{ServedLoad}
+use Rattle.load.specs.declared.serve_load.ServeLoad.{ServeLoad}
 use Rattle.serve_load.specs.declared.report.Report.{Report}
 use Rattle.serve_load.specs.declared.serve_end.ServeEnd.{ServeEnd}
 use Rattle.serve_load.specs.declared.serve_end.ServeEnd.TheVariants as ends
@@ -12,7 +12,7 @@ use Rattle.serve_load.specs.Wanting.{RefusesSize}
 use Rattle.serve_load.specs.Reports.{IsMade, report_of}
 
 -- the text of a report on what the callers made was written, in the form that the load wants, and the load ended as its wrong hits say
-pub record IsTold (load : ServedLoad) (old new : Option (List ℕ)) (end : ServeEnd) : Type 0 where
+pub record IsTold (load : ServeLoad) (old new : Option (List ℕ)) (end : ServeEnd) : Type 0 where
   pub report : Report
   pub made : IsMade load report
   pub wrote : Appends old new (report_of (form_of load.json) report)
@@ -20,7 +20,7 @@ pub record IsTold (load : ServedLoad) (old new : Option (List ℕ)) (end : Serve
 
 -- what was written if a load ended so: a report if its callers ended, else nothing, and if a file, the output or the clock
 -- failed nothing is said
-abbrev pub WroteReport : ServedLoad → Option (List ℕ) → Option (List ℕ) → ServeEnd → Type 0
+abbrev pub WroteReport : ServeLoad → Option (List ℕ) → Option (List ℕ) → ServeEnd → Type 0
 WroteReport load old new ends.Right = IsTold load old new ends.Right
 WroteReport load old new ends.WrongHit = IsTold load old new ends.WrongHit
 WroteReport load old new ends.SharesExceed = Keeps old new
@@ -37,15 +37,15 @@ IsSaid form report old new end =
     ⊎ (end ≡ ends.FileFault)
 
 -- gets and removes exceed 100
-abbrev pub Exceeds : ServedLoad → Type 0
+abbrev pub Exceeds : ServeLoad → Type 0
 Exceeds load = 100 < load.gets + load.removes
 
 -- bytes of memory are given and no size
-abbrev pub LacksSize : ServedLoad → Type 0
+abbrev pub LacksSize : ServeLoad → Type 0
 LacksSize load = IsNone load.size × IsSome load.memory_bytes
 
 -- each refusal before anything is opened comes for its reason, and if none came, there was no reason for the first two
-abbrev pub IsRefusedFirst : ServedLoad → ServeEnd → Type 0
+abbrev pub IsRefusedFirst : ServeLoad → ServeEnd → Type 0
 IsRefusedFirst load ends.SharesExceed = Exceeds load
 IsRefusedFirst load ends.NoSize = (¬ Exceeds load) × LacksSize load
 IsRefusedFirst load (ends.Size fault) = (¬ Exceeds load) × (¬ LacksSize load) × RefusesSize load load.size fault
@@ -65,14 +65,14 @@ IsLate ends.NoSize = ⊥
 IsLate (ends.Size fault) = ⊥
 
 -- a load over devices that were there ended with this status
-pub record IsServedOver (load : ServedLoad) (old new : Option (List ℕ)) (status : ℕ) : Type 0 where
+pub record IsServedOver (load : ServeLoad) (old new : Option (List ℕ)) (status : ℕ) : Type 0 where
   pub end : ServeEnd
   pub status_is : status ≡ status_of end
   pub late : IsLate end
   pub wrote : WroteReport load old new end
 
 -- a load ended with this status
-pub record IsServed (load : ServedLoad) (old new : Option (List ℕ)) (status : ℕ) : Type 0 where
+pub record IsServed (load : ServeLoad) (old new : Option (List ℕ)) (status : ℕ) : Type 0 where
   pub end : ServeEnd
   pub status_is : status ≡ status_of end
   pub first : IsRefusedFirst load end

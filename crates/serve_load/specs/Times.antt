@@ -4,8 +4,8 @@ use Rattle.load.specs.declared.histogram.Quantiles.{Quantiles}
 use Rattle.load.specs.Cells.{longest}
 use Rattle.load.specs.Holding.{most_times}
 use Rattle.load.specs.Quantile.{IsQuantile, greatest}
-use Rattle.load.specs.declared.served_operation.ServedOperation.{ServedOperation}
-use Rattle.load.specs.declared.served_operation.ServedOperation.TheVariants.{Get, Put, Remove}
+use Rattle.load.specs.declared.serve_operation.ServeOperation.{ServeOperation}
+use Rattle.load.specs.declared.serve_operation.ServeOperation.TheVariants.{Get, Put, Remove}
 use Rattle.serve_load.specs.declared.call_times.CallTimes.{CallTimes}
 use Rattle.serve_load.specs.declared.call_times.TheConstants.{TIMED}
 
@@ -23,18 +23,18 @@ pub record HasOneMore (time : ℕ) (before times : List ℕ) : Type 0 where
 
 -- an operation that took so many nanoseconds adds them to those of its kind alone: a get to those of gets, a put to those of puts,
 -- a removal to none
-abbrev pub IsNoted : ServedOperation → ℕ → List ℕ → List ℕ → List ℕ → List ℕ → Type 0
+abbrev pub IsNoted : ServeOperation → ℕ → List ℕ → List ℕ → List ℕ → List ℕ → Type 0
 IsNoted (Get key) time gets_before gets puts_before puts = HasOneMore time gets_before gets × (puts ≡ puts_before)
 IsNoted (Put key) time gets_before gets puts_before puts = (gets ≡ gets_before) × HasOneMore time puts_before puts
 IsNoted (Remove key) time gets_before gets puts_before puts = (gets ≡ gets_before) × (puts ≡ puts_before)
 
 -- an operation adds one time, or none if the clock does not tell it
-abbrev pub IsNotedOnce : ServedOperation → List ℕ → List ℕ → List ℕ → List ℕ → Type 0
+abbrev pub IsNotedOnce : ServeOperation → List ℕ → List ℕ → List ℕ → List ℕ → Type 0
 IsNotedOnce operation gets_before gets puts_before puts =
     ((gets ≡ gets_before) × (puts ≡ puts_before)) ⊎ ((time : ℕ) × IsNoted operation time gets_before gets puts_before puts)
 
 -- the operation with this number adds no time, or is one of sixteen and adds one at most
-abbrev pub IsSampled : ℕ → ServedOperation → List ℕ → List ℕ → List ℕ → List ℕ → Type 0
+abbrev pub IsSampled : ℕ → ServeOperation → List ℕ → List ℕ → List ℕ → List ℕ → Type 0
 IsSampled number operation gets_before gets puts_before puts =
     ((gets ≡ gets_before) × (puts ≡ puts_before)) ⊎ ((number % TIMED ≡ 0) × IsNotedOnce operation gets_before gets puts_before puts)
 

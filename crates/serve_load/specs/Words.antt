@@ -4,19 +4,19 @@ use Rattle.std.specs.Prelude.{◌≡◌, ◌≢◌, ℕ, ◌+◌, ◌-◌, ◌<�
 use Rattle.service_lane.specs.declared.filled.Filled.{Filled}
 use Rattle.service_lane.specs.declared.filled.Filled.TheVariants.{Stored, Stale}
 use Rattle.service_cache.specs.declared.seat_fault.SeatPutFault.{SeatPutFault}
-use Rattle.load.specs.declared.served_load.ServedLoad.{ServedLoad}
+use Rattle.load.specs.declared.serve_load.ServeLoad.{ServeLoad}
 use Rattle.serve_load.specs.declared.words.CallEnd.{CallEnd}
 use Rattle.serve_load.specs.declared.words.CallEnd.TheVariants.{Done, Refused, WrongHit}
 use Rattle.serve_load.specs.Objects.{expires_of, value_of}
 
 -- a hit is right if the key has a value, the bytes are the value of the operation that put it, and it is not expired
-pub record IsRight (load : ServedLoad) (key known moment : ℕ) (bytes : List ℕ) : Type 0 where
+pub record IsRight (load : ServeLoad) (key known moment : ℕ) (bytes : List ℕ) : Type 0 where
   pub has : known ≢ 0
   pub bytes_are : bytes ≡ value_of load.value_bytes key (known - 1)
   pub live : moment < expires_of load (known - 1)
 
 -- a get that hit these bytes went so: it was done if they are right, and otherwise a wrong hit
-abbrev pub JudgesHit : ServedLoad → ℕ → ℕ → ℕ → List ℕ → CallEnd → Type 0
+abbrev pub JudgesHit : ServeLoad → ℕ → ℕ → ℕ → List ℕ → CallEnd → Type 0
 JudgesHit load key known moment bytes Done = IsRight load key known moment bytes
 JudgesHit load key known moment bytes Refused = ⊥
 JudgesHit load key known moment bytes WrongHit = ¬ IsRight load key known moment bytes

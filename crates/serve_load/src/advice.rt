@@ -2,11 +2,11 @@
 use crate::serve_end::ServeEnd;
 use crate::sized::least_memory;
 use cache_sizes::{MIN_FLASH_BYTES, SizeFault};
-use load::ServedLoad;
+use load::ServeLoad;
 use std::io::Write;
 
 /// Tells what to do about the end of a load, in a line, if there is something to do. What `err` refuses is not told, here and below.
-pub(crate) fn advise<E: Write>(err: &mut E, load: &ServedLoad, end: ServeEnd) {
+pub(crate) fn advise<E: Write>(err: &mut E, load: &ServeLoad, end: ServeEnd) {
     let _ = match end {
         ServeEnd::Right | ServeEnd::FileFault => Ok(()),
         ServeEnd::WrongHit => write!(
@@ -31,7 +31,7 @@ pub(crate) fn advise<E: Write>(err: &mut E, load: &ServedLoad, end: ServeEnd) {
 }
 
 /// Tells what to do about a size that no cache has.
-fn advise_on_size<E: Write>(err: &mut E, load: &ServedLoad, fault: SizeFault) {
+fn advise_on_size<E: Write>(err: &mut E, load: &ServeLoad, fault: SizeFault) {
     let size = load.size.unwrap_or(0);
     let value_bytes = u64::from(load.value_bytes);
     let callers = u64::from(load.callers);
@@ -54,7 +54,7 @@ fn ask_for<E: Write>(err: &mut E, option: &str, number: u64, wanted: &str) {
 }
 
 /// Tells how much memory a cache of a size takes, and which option to change. Memory that is not given is an eighth of the size.
-fn advise_on_memory<E: Write>(err: &mut E, load: &ServedLoad, size: u64) {
+fn advise_on_memory<E: Write>(err: &mut E, load: &ServeLoad, size: u64) {
     let Some(least) = least_memory(load, size) else {
         return;
     };

@@ -3,10 +3,10 @@ ghost use Rattle.serve_load.specs.Wanting.{RefusesSize};
 
 use crate::sized::sized_shape;
 use cache_sizes::SizeFault;
-use load::ServedLoad;
+use load::ServeLoad;
 use record_pages::Layout;
 
-/// What a load's cache is made of.
+/// The numbers of the cache of a load.
 #[derive(Clone, Copy, Debug, PartialEq, Eq)]
 pub struct CacheShape {
     /// The numbers of each shard.
@@ -26,7 +26,7 @@ impl CacheShape {
     /// is an eighth of it, an object has as many bytes as a key and a value of the load, and the threads are the callers.
     ///
     /// The refusals are those of `Shape::of`.
-    pub fn of(load: &ServedLoad) -> Result<CacheShape, SizeFault>
+    pub fn of(load: &ServeLoad) -> Result<CacheShape, SizeFault>
         ensures formed { IfOk result (λ shape. IsShapeOf load.now load.now.size shape) }
         ensures refused { IfErr result (λ fault. RefusesSize load.now load.now.size fault) }
     {

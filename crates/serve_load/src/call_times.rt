@@ -3,7 +3,7 @@ ghost use Rattle.std.specs.Prelude.{◌≡◌, IfOk, [], IsNone};
 ghost use Rattle.serve_load.specs.Times.{AreTold, IsJoined, IsNoted, IsNotedOnce};
 
 use crate::report::Timed;
-use load::{Histogram, ServedOperation};
+use load::{Histogram, ServeOperation};
 use std::alloc::{AllocError, Global};
 use std::time::{Clock, Instant};
 
@@ -33,7 +33,7 @@ impl CallTimes {
     pub(crate) fn note<R: Clock>(
         &mut self,
         rt: &R,
-        operation: ServedOperation,
+        operation: ServeOperation,
         start: &Option<Instant>,
     )
         ensures noted { IsNotedOnce operation self.old.gets self.new.gets self.old.puts self.new.puts }
@@ -50,14 +50,14 @@ impl CallTimes {
     }
 
     /// Adds the time that an operation took to those of its kind. Removals are not timed.
-    fn add(&mut self, operation: ServedOperation, nanoseconds: u64)
+    fn add(&mut self, operation: ServeOperation, nanoseconds: u64)
         ensures { IsNoted operation nanoseconds
             self.old.gets self.new.gets self.old.puts self.new.puts }
     {
         match operation {
-            ServedOperation::Get(_) => self.gets.add(nanoseconds),
-            ServedOperation::Put(_) => self.puts.add(nanoseconds),
-            ServedOperation::Remove(_) => {}
+            ServeOperation::Get(_) => self.gets.add(nanoseconds),
+            ServeOperation::Put(_) => self.puts.add(nanoseconds),
+            ServeOperation::Remove(_) => {}
         }
     }
 

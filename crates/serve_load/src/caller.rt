@@ -18,7 +18,7 @@ use crate::room::Room;
 use crate::tally::{Tally, Tallying};
 use crate::words::{CallEnd, step_of_fill, word_after_fill};
 use deed_book::{KeyLanes, Naming, Seat};
-use load::{ServedLoad, ServedOperation};
+use load::{ServeLoad, ServeOperation};
 use mover::Seen;
 use page_device::PageDevice;
 use policy_laws::EvictionPolicy;
@@ -47,7 +47,7 @@ impl<L: KeyLanes, J: Naming> Caller<L, J> {
     /// The caller with this number and this seat, whose keys have no values.
     pub(crate) fn new(
         alloc: Global,
-        load: &ServedLoad,
+        load: &ServeLoad,
         number: u16,
         seat: Seat<L, J>,
     ) -> Result<Caller<L, J>, AllocError>
@@ -79,7 +79,7 @@ impl<L: KeyLanes, J: Naming> Caller<L, J> {
         rt: &R,
         alloc: Global,
         cache: &ServiceCache<D, P, PAGE, L, J>,
-        load: &ServedLoad,
+        load: &ServeLoad,
         made: &AtomicU64,
         halted: &AtomicU64,
     ) -> Tally<M>
@@ -115,7 +115,7 @@ impl<L: KeyLanes, J: Naming> Caller<L, J> {
         rt: &R,
         alloc: Global,
         cache: &ServiceCache<D, P, PAGE, L, J>,
-        load: &ServedLoad,
+        load: &ServeLoad,
         made: &AtomicU64,
         halted: &AtomicU64,
         times: &mut CallTimes,
@@ -159,7 +159,7 @@ impl<L: KeyLanes, J: Naming> Caller<L, J> {
         rt: &R,
         alloc: Global,
         cache: &ServiceCache<D, P, PAGE, L, J>,
-        load: &ServedLoad,
+        load: &ServeLoad,
         number: u32,
         times: &mut CallTimes,
         found: &mut ValueBuffer,
@@ -178,7 +178,7 @@ impl<L: KeyLanes, J: Naming> Caller<L, J> {
         ensures times { IsSampled number (served_next_of load.now self.old.generator)
             times.old.gets times.new.gets times.old.puts times.new.puts }
     {
-        let operation = ServedOperation::next(&mut self.generator, load);
+        let operation = ServeOperation::next(&mut self.generator, load);
         let start = start_of(rt, operation, number);
         let step = self.make(rt, alloc, cache, load, operation, number, found);
         times.note(rt, operation, &start);
@@ -191,8 +191,8 @@ impl<L: KeyLanes, J: Naming> Caller<L, J> {
         rt: &R,
         alloc: Global,
         cache: &ServiceCache<D, P, PAGE, L, J>,
-        load: &ServedLoad,
-        operation: ServedOperation,
+        load: &ServeLoad,
+        operation: ServeOperation,
         number: u32,
         found: &mut ValueBuffer,
     ) -> CallEnd
@@ -208,7 +208,7 @@ impl<L: KeyLanes, J: Naming> Caller<L, J> {
         ensures keys { length self.new.words.items ≡ length self.old.words.items }
     {
         match operation {
-            ServedOperation::Get(key) => {
+            ServeOperation::Get(key) => {
                 found.set(&[]);
                 if load.leases == 0 {
                     self.get(rt, cache, load, key, number, found)
@@ -216,8 +216,8 @@ impl<L: KeyLanes, J: Naming> Caller<L, J> {
                     self.get_or_fill(rt, alloc, cache, load, key, number, found)
                 }
             }
-            ServedOperation::Remove(key) => self.remove(rt, cache, key),
-            ServedOperation::Put(key) => self.put(rt, alloc, cache, load, key, number),
+            ServeOperation::Remove(key) => self.remove(rt, cache, key),
+            ServeOperation::Put(key) => self.put(rt, alloc, cache, load, key, number),
         }
     }
 
@@ -226,7 +226,7 @@ impl<L: KeyLanes, J: Naming> Caller<L, J> {
         &mut self,
         rt: &R,
         cache: &ServiceCache<D, P, PAGE, L, J>,
-        load: &ServedLoad,
+        load: &ServeLoad,
         key: u32,
         number: u32,
         found: &mut ValueBuffer,
@@ -259,7 +259,7 @@ impl<L: KeyLanes, J: Naming> Caller<L, J> {
         rt: &R,
         alloc: Global,
         cache: &ServiceCache<D, P, PAGE, L, J>,
-        load: &ServedLoad,
+        load: &ServeLoad,
         key: u32,
         number: u32,
         found: &mut ValueBuffer,
@@ -295,7 +295,7 @@ impl<L: KeyLanes, J: Naming> Caller<L, J> {
         rt: &R,
         alloc: Global,
         cache: &ServiceCache<D, P, PAGE, L, J>,
-        load: &ServedLoad,
+        load: &ServeLoad,
         lease: Lease,
         key: u32,
         number: u32,
@@ -333,7 +333,7 @@ impl<L: KeyLanes, J: Naming> Caller<L, J> {
         rt: &R,
         alloc: Global,
         cache: &ServiceCache<D, P, PAGE, L, J>,
-        load: &ServedLoad,
+        load: &ServeLoad,
         key: u32,
         number: u32,
     ) -> CallEnd
@@ -390,7 +390,7 @@ impl<L: KeyLanes, J: Naming> Caller<L, J> {
     fn object(
         &mut self,
         alloc: Global,
-        load: &ServedLoad,
+        load: &ServeLoad,
         number_of_key: u32,
         number: u32,
     ) -> Result<(Key, Value), AllocError>
@@ -415,13 +415,13 @@ fn count(made: &AtomicU64, number: u32) {
 }
 
 /// When an operation with this number began, if it is one of those that are timed and the clock tells it. No removal is timed.
-fn start_of<R: Clock>(rt: &R, operation: ServedOperation, number: u32) -> Option<Instant>
+fn start_of<R: Clock>(rt: &R, operation: ServeOperation, number: u32) -> Option<Instant>
     ensures { IsSome result → number % TIMED ≡ 0 }
 {
     if number % TIMED != 0 {
         return None;
     }
-    if let ServedOperation::Remove(_) = operation {
+    if let ServeOperation::Remove(_) = operation {
         return None;
     }
     match Instant::now(rt) {

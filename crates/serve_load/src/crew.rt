@@ -9,7 +9,7 @@ use crate::tally::{Tally, Tallying};
 use crate::worker::work;
 use crossbeam_channel::Sender;
 use deed_book::{KeyLanes, Naming};
-use load::{ServedLoad, watch};
+use load::{ServeLoad, watch};
 use page_device::PageDevice;
 use policy_laws::EvictionPolicy;
 use service_cache::ServiceCache;
@@ -37,7 +37,7 @@ pub(crate) fn run_crew<
     rt: &R,
     alloc: Global,
     cache: &ServiceCache<D, P, PAGE, L, J>,
-    load: &ServedLoad,
+    load: &ServeLoad,
     mut callers: Vec<Caller<L, J>>,
     start: &Instant,
     to: &Sender<Tally<M>>,
@@ -122,7 +122,7 @@ fn milliseconds_since<R: Clock>(rt: &R, start: &Instant) -> io::Result<u64> {
 }
 
 /// All operations of a load.
-pub(crate) fn operations(load: &ServedLoad) -> u64
+pub(crate) fn operations(load: &ServeLoad) -> u64
     ensures { result ≡ load.now.callers * load.now.operations }
 {
     u64::from(load.callers) * u64::from(load.operations)

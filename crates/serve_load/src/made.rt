@@ -18,7 +18,7 @@ use crate::sums::{Sums, sums_of};
 use crate::tally::{Tally, Tallying};
 use crossbeam_channel::bounded;
 use deed_book::{KeyLanes, Naming, Seat};
-use load::ServedLoad;
+use load::ServeLoad;
 use page_device::PageDevice;
 use policy_laws::EvictionPolicy;
 use service_cache::ServiceCache;
@@ -43,7 +43,7 @@ pub(crate) fn make<
 >(
     rt: &R,
     alloc: Global,
-    load: &ServedLoad,
+    load: &ServeLoad,
     cache: &ServiceCache<D, P, PAGE, L, J>,
     err: &mut E,
 ) -> Result<Report, ServeOutcome>
@@ -83,7 +83,7 @@ pub(crate) fn make<
 /// The callers of a load, numbered from 0, each with a copy of this seat.
 fn callers_of<L: KeyLanes, J: Naming>(
     alloc: Global,
-    load: &ServedLoad,
+    load: &ServeLoad,
     seat: Seat<L, J>,
 ) -> Result<Vec<Caller<L, J>>, AllocError>
     requires { seat ≡ [] }

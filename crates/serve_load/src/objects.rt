@@ -2,7 +2,7 @@
 ghost use Rattle.std.specs.Prelude.{◌≡◌, ◌+◌, IfOk};
 ghost use Rattle.serve_load.specs.Objects.{expires_of, key_of, moment_of, word_of};
 
-use load::ServedLoad;
+use load::ServeLoad;
 use record_pages::{Key, NEVER};
 use std::alloc::{AllocError, Global};
 
@@ -39,14 +39,14 @@ pub(crate) fn word(key: u32, number: u32) -> [u8; 8]
 }
 
 /// The moment of a caller's operation with this number: the number itself, if puts expire.
-pub(crate) fn moment_of(load: &ServedLoad, number: u32) -> u64
+pub(crate) fn moment_of(load: &ServeLoad, number: u32) -> u64
     ensures { result ≡ moment_of load.now number }
 {
     if load.ttl == 0 { 0 } else { u64::from(number) }
 }
 
 /// The moment from which what a caller's operation with this number put is expired.
-pub(crate) fn expires_of(load: &ServedLoad, number: u32) -> u64
+pub(crate) fn expires_of(load: &ServeLoad, number: u32) -> u64
     ensures { result ≡ expires_of load.now number }
 {
     if load.ttl == 0 {

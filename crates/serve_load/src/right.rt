@@ -6,14 +6,14 @@ ghost use Rattle.serve_load.specs.Words.{IsRight};
 
 use crate::objects::{expires_of, word};
 use crate::words::CallEnd;
-use load::ServedLoad;
+use load::ServeLoad;
 use mover::Seen;
 use service_cache::SeatFault;
 
 /// How a look-up of a key went that gave this, and these bytes at a hit, for a caller that knew this word of the key, at this
 /// moment.
 pub(crate) fn judged(
-    load: &ServedLoad,
+    load: &ServeLoad,
     key: u32,
     known: u32,
     moment: u64,
@@ -37,7 +37,7 @@ pub(crate) fn judged(
 
 /// Whether a caller that knows this word of a key may hit these bytes at this moment: the word is that of an operation, the bytes
 /// are its value, and they are not expired.
-pub(crate) fn is_right(load: &ServedLoad, key: u32, known: u32, moment: u64, bytes: &[u8]) -> bool
+pub(crate) fn is_right(load: &ServeLoad, key: u32, known: u32, moment: u64, bytes: &[u8]) -> bool
     ensures { IsTrue result ↔ IsRight load.now key known moment bytes.now }
 {
     if known == 0 {
@@ -51,7 +51,7 @@ pub(crate) fn is_right(load: &ServedLoad, key: u32, known: u32, moment: u64, byt
 }
 
 /// Whether bytes are the value that the operation with this number puts for a key.
-fn is_value(load: &ServedLoad, key: u32, number: u32, bytes: &[u8]) -> bool
+fn is_value(load: &ServeLoad, key: u32, number: u32, bytes: &[u8]) -> bool
     ensures { IsTrue result ↔ (bytes.now ≡ value_of load.now.value_bytes key number) }
 {
     if bytes.len() != load.value_bytes as usize {

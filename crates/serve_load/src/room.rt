@@ -3,7 +3,7 @@ ghost use Rattle.std.specs.Prelude.{◌≡◌, IfOk, length};
 ghost use Rattle.serve_load.specs.Objects.{repeated, value_of};
 
 use crate::objects::word;
-use load::ServedLoad;
+use load::ServeLoad;
 use record_pages::Value;
 use std::alloc::{AllocError, Global};
 
@@ -26,7 +26,7 @@ impl Room {
     pub(crate) fn value(
         &mut self,
         alloc: Global,
-        load: &ServedLoad,
+        load: &ServeLoad,
         key: u32,
         number: u32,
     ) -> Result<Value, AllocError>

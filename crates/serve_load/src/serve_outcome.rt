@@ -4,7 +4,7 @@ ghost use Rattle.std.specs.Prelude.{◌≡◌};
 use crate::advice::advise;
 use crate::serve_cause::ServeCause;
 use crate::serve_end::ServeEnd;
-use load::ServedLoad;
+use load::ServeLoad;
 use std::io::Write;
 
 /// How a load ended, and what failed, if the system did.
@@ -33,7 +33,7 @@ impl ServeOutcome {
     }
 
     /// Writes the line of the end, if it has one, then what failed, and what to do. What `err` refuses is not told.
-    pub(crate) fn tell<E: Write>(&self, load: &ServedLoad, err: &mut E) {
+    pub(crate) fn tell<E: Write>(&self, load: &ServeLoad, err: &mut E) {
         if let Some(message) = self.end.message() {
             let _ = write!(err, "{message}\n");
         }

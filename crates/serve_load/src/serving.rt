@@ -20,7 +20,7 @@ use deed_book::{KeyLanes, NamedBook, Naming, NewBook};
 use figures::Form;
 use file_device::{FileDevice, LaneFileFault, lanes_in_files, lanes_in_memory, taken_places};
 use key_hash::RandomSeed;
-use load::{FileName, ServedLoad};
+use load::{FileName, ServeLoad};
 use page_device::PageDevice;
 use rriparoo::Rriparoo;
 use service_cache::{OpenServiceFault, ServiceCache};
@@ -55,7 +55,7 @@ pub fn serve_load<
     R: Threads + Wait + Sync + AllocGlobal + Files<File = File> + Clock + RandomSource,
     O: Write,
     E: Write + IsTerminal,
->(rt: &R, load: &ServedLoad, out: &mut O, err: &mut E) -> u8
+>(rt: &R, load: &ServeLoad, out: &mut O, err: &mut E) -> u8
     ensures { IsServed load.now (O.contents out.old) (O.contents out.new) result }
 {
     let _places = taken_places(rt);
@@ -71,7 +71,7 @@ pub fn serve_over<
     R: Threads + Wait + Sync + AllocGlobal + Clock + RandomSource,
     O: Write,
     E: Write + IsTerminal,
->(rt: &R, load: &ServedLoad, shape: &CacheShape, devices: Vec<D>, out: &mut O, err: &mut E) -> u8
+>(rt: &R, load: &ServeLoad, shape: &CacheShape, devices: Vec<D>, out: &mut O, err: &mut E) -> u8
     ensures { IsServedOver load.now (O.contents out.old) (O.contents out.new) result }
 {
     let ended = over(rt, load, shape, devices, out, err);
@@ -84,7 +84,7 @@ fn serve_to_end<
     R: Threads + Wait + Sync + AllocGlobal + Files<File = File> + Clock + RandomSource,
     O: Write,
     E: Write + IsTerminal,
->(rt: &R, load: &ServedLoad, out: &mut O, err: &mut E) -> ServeOutcome
+>(rt: &R, load: &ServeLoad, out: &mut O, err: &mut E) -> ServeOutcome
     ensures first { IsRefusedFirst load.now result.end }
     ensures wrote { WroteReport load.now (O.contents out.old) (O.contents out.new) result.end }
 {
@@ -136,7 +136,7 @@ fn over<
     E: Write + IsTerminal,
 >(
     rt: &R,
-    load: &ServedLoad,
+    load: &ServeLoad,
     shape: &CacheShape,
     devices: Vec<D>,
     out: &mut O,
@@ -163,7 +163,7 @@ fn sorted<
     E: Write + IsTerminal,
 >(
     rt: &R,
-    load: &ServedLoad,
+    load: &ServeLoad,
     shape: &CacheShape,
     devices: Vec<D>,
     seed: RandomSeed,
@@ -191,7 +191,7 @@ fn booked<
     E: Write + IsTerminal,
 >(
     rt: &R,
-    load: &ServedLoad,
+    load: &ServeLoad,
     shape: &CacheShape,
     devices: Vec<D>,
     seed: RandomSeed,
@@ -249,7 +249,7 @@ fn open<D: PageDevice<PAGE>, L: KeyLanes, J: Naming>(
 /// Writes a report in the form that a load wants, and answers how the load ended.
 fn write_report<O: Write>(
     alloc: Global,
-    load: &ServedLoad,
+    load: &ServeLoad,
     report: &Report,
     out: &mut O,
 ) -> ServeOutcome

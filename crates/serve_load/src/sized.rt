@@ -5,7 +5,7 @@ ghost use Rattle.serve_load.specs.Wanting.{IsSizedFor, wanted_by};
 
 use crate::objects::KEY_BYTES;
 use cache_sizes::{Shape, SizeFault, Wanted};
-use load::{ServedLoad, SizeSetting};
+use load::{ServeLoad, SizeSetting};
 use record_pages::Layout;
 
 /// The numbers of a cache of a size.
@@ -17,7 +17,7 @@ pub(crate) struct SizedShape {
 }
 
 /// The numbers of a cache for a load of this many bytes of flash.
-pub(crate) fn sized_shape(load: &ServedLoad, size: u64) -> Result<SizedShape, SizeFault>
+pub(crate) fn sized_shape(load: &ServeLoad, size: u64) -> Result<SizedShape, SizeFault>
     ensures sized { IfOk result (λ sized. IsSizedFor (wanted_by load.now size)
         load.now.layout sized.layout sized.shards) }
     ensures refused { IfErr result (λ fault.
@@ -37,7 +37,7 @@ pub(crate) fn sized_shape(load: &ServedLoad, size: u64) -> Result<SizedShape, Si
 }
 
 /// The least memory that a cache of a size takes, of a load whose other numbers such a cache can have.
-pub(crate) fn least_memory(load: &ServedLoad, size: u64) -> Option<u64> {
+pub(crate) fn least_memory(load: &ServeLoad, size: u64) -> Option<u64> {
     let mut plenty = wanted(load, size);
     plenty.memory_bytes = SizeSetting::MOST;
     let Ok(mut shape) = Shape::of(&plenty) else {
@@ -48,7 +48,7 @@ pub(crate) fn least_memory(load: &ServedLoad, size: u64) -> Option<u64> {
 }
 
 /// What a load wants of a cache of a size.
-fn wanted(load: &ServedLoad, size: u64) -> Wanted
+fn wanted(load: &ServeLoad, size: u64) -> Wanted
     ensures { result ≡ wanted_by load.now size }
 {
     Wanted {

@@ -6,7 +6,7 @@ ghost use Rattle.serve_load.specs.Times.{JoinsOf};
 use crate::call_times::CallTimes;
 use crate::tally::{Tally, Tallying};
 use crossbeam_channel::Receiver;
-use load::ServedLoad;
+use load::ServeLoad;
 use std::alloc::{AllocError, Global};
 use std::sync::Wait;
 
@@ -59,7 +59,7 @@ impl Sums {
 pub(crate) fn sums_of<M: Tallying, R: Wait>(
     rt: &R,
     alloc: Global,
-    load: &ServedLoad,
+    load: &ServeLoad,
     from: &Receiver<Tally<M>>,
 ) -> Result<Sums, AllocError>
     requires { M.most ≤ load.now.operations }

@@ -1,7 +1,7 @@
 //! Loads with fixed seeds, whose schedules differ and whose ends do not.
 use super::screen::Screen;
 use command_line::{Line, parse_line};
-use load::ServedLoad;
+use load::ServeLoad;
 use page_device::PageDevice;
 use serve_load::{CacheShape, serve_load, serve_over};
 use std::alloc::Global;
@@ -25,7 +25,7 @@ pub struct Ran {
 /// Runs a load.
 pub fn run_of<
     R: Threads + Wait + Sync + AllocGlobal + Files<File = fs::File> + Clock + RandomSource,
->(rt: &R, load: &ServedLoad) -> Ran {
+>(rt: &R, load: &ServeLoad) -> Ran {
     let mut out: Vec<u8> = Vec::new(rt.alloc());
     let mut screen = Screen {
         bytes: Vec::new(rt.alloc()),
@@ -43,7 +43,7 @@ pub fn run_of<
 fn run_over<
     D: PageDevice<4096> + Send,
     R: Threads + Wait + Sync + AllocGlobal + Clock + RandomSource,
->(rt: &R, load: &ServedLoad, shape: &CacheShape, devices: Vec<D>) -> Ran {
+>(rt: &R, load: &ServeLoad, shape: &CacheShape, devices: Vec<D>) -> Ran {
     let mut out: Vec<u8> = Vec::new(rt.alloc());
     let mut screen = Screen {
         bytes: Vec::new(rt.alloc()),
@@ -58,7 +58,7 @@ fn run_over<
 }
 
 /// The load that words ask for.
-pub fn load_of<'a>(alloc: Global, words: &'a [&'a str]) -> Option<ServedLoad> {
+pub fn load_of<'a>(alloc: Global, words: &'a [&'a str]) -> Option<ServeLoad> {
     match parse_line(alloc, words) {
         Ok(Line::Serve(load)) => Some(load),
         _ => None,

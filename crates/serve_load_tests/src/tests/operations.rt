@@ -1,14 +1,14 @@
 // The operations of loads by the words of PCG's reference generator, which its author's demonstration prints for the seed 42 and
 // the stream 54: a15c02b7, 7b47f409, ba1d3330, 83d2f293, bfa4784b, cbed606e. Modulo 100 the first is 83 and the second 97.
 use super::loads::load_of;
-use load::{ServedLoad, ServedOperation};
+use load::{ServeLoad, ServeOperation};
 use rand_core::utils::NextWord;
 use rand_pcg::Lcg64Xsh32;
 use std::alloc::Global;
 use std::test::Fail;
 
 /// The load of this many gets and removes on 1,000 keys.
-fn load_with(alloc: Global, gets: &'static str, removes: &'static str) -> Option<ServedLoad> {
+fn load_with(alloc: Global, gets: &'static str, removes: &'static str) -> Option<ServeLoad> {
     load_of(
         alloc,
         &["k", "serve-load", "--gets", gets, "--removes", removes],
@@ -16,22 +16,22 @@ fn load_with(alloc: Global, gets: &'static str, removes: &'static str) -> Option
 }
 
 /// The first operation of a load, and the word after those that were drawn for it.
-fn first_of(load: &ServedLoad) -> (ServedOperation, u32) {
+fn first_of(load: &ServeLoad) -> (ServeOperation, u32) {
     let mut generator = Lcg64Xsh32::new(42, 54);
-    let operation = ServedOperation::next(&mut generator, load);
+    let operation = ServeOperation::next(&mut generator, load);
     (operation, generator.next_word())
 }
 
 #[test]
 fn operations_are_those_of_the_words(rt: HostRuntime) -> Result<(), Fail> {
     let put = load_with(rt.alloc(), "82", "1").ok_or("a load")?;
-    assert_eq!(rt; first_of(&put), (ServedOperation::Put(97), 0xba1d_3330));
+    assert_eq!(rt; first_of(&put), (ServeOperation::Put(97), 0xba1d_3330));
     let removal = load_with(rt.alloc(), "83", "1").ok_or("a load")?;
     assert_eq!(rt;
         first_of(&removal),
-        (ServedOperation::Remove(97), 0xba1d_3330)
+        (ServeOperation::Remove(97), 0xba1d_3330)
     );
     let get = load_with(rt.alloc(), "84", "0").ok_or("a load")?;
-    assert_eq!(rt; first_of(&get), (ServedOperation::Get(97), 0xba1d_3330));
+    assert_eq!(rt; first_of(&get), (ServeOperation::Get(97), 0xba1d_3330));
     Ok(())
 }

@@ -1,11 +1,11 @@
 //! The options of a load: what each may be, and the load that they give.
 use command_line::{Line, LineFault, parse_line};
-use load::{SERVED_SETTINGS, ServedLoad, Setting};
+use load::{SERVE_SETTINGS, ServeLoad, Setting};
 use std::alloc::{AllocError, Global};
 use std::test::Fail;
 
 /// The number that a load has for a setting.
-fn number_of(load: &ServedLoad, setting: Setting) -> u32 {
+fn number_of(load: &ServeLoad, setting: Setting) -> u32 {
     match setting {
         Setting::Lanes => load.layout.lanes,
         Setting::Sets => load.layout.sets,
@@ -77,7 +77,7 @@ fn is_in_range(alloc: Global, setting: Setting) -> Result<bool, AllocError> {
 
 #[test]
 fn each_setting_takes_the_numbers_of_its_range(rt: HostRuntime) -> Result<(), Fail> {
-    for setting in &SERVED_SETTINGS {
+    for setting in &SERVE_SETTINGS {
         assert!(rt; is_in_range(rt.alloc(), *setting)?);
     }
     Ok(())
@@ -92,7 +92,7 @@ const DEFAULTS: [u32; 19] = [
 fn a_setting_that_is_not_given_is_its_default(rt: HostRuntime) {
     let line = parse_line(rt.alloc(), &["k", "serve-load"]);
     for place in 0..19usize {
-        assert!(rt; gives(&line, SERVED_SETTINGS[place], DEFAULTS[place]));
+        assert!(rt; gives(&line, SERVE_SETTINGS[place], DEFAULTS[place]));
     }
 }
 

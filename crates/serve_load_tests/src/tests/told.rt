@@ -1,11 +1,11 @@
 //! What a load tells of its operations: times of each kind that it made, and all as one object.
 use super::loads::{Ran, load_of, run_of};
-use load::ServedLoad;
+use load::ServeLoad;
 use std::alloc::Global;
 use std::test::Fail;
 
 /// A small load of this many gets and removes in a hundred operations; the others are puts.
-fn load_with(alloc: Global, gets: &'static str, removes: &'static str) -> Option<ServedLoad> {
+fn load_with(alloc: Global, gets: &'static str, removes: &'static str) -> Option<ServeLoad> {
     load_of(
         alloc,
         &[

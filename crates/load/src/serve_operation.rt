@@ -1,13 +1,13 @@
 // The operations of a load of a cache that serves, by random words.
 ghost use Rattle.std.specs.Prelude.{◌≡◌, ◌<◌};
 
-use crate::served_load::ServedLoad;
+use crate::serve_load::ServeLoad;
 use rand_core::utils::NextWord;
 use rand_pcg::Lcg64Xsh32;
 
 /// What a caller of a cache that serves does with the key of its own that has this number.
 #[derive(Clone, Copy, Debug, PartialEq, Eq)]
-pub enum ServedOperation {
+pub enum ServeOperation {
     /// It looks the key up.
     Get(u32),
     /// It removes the key.
@@ -16,12 +16,12 @@ pub enum ServedOperation {
     Put(u32),
 }
 
-impl ServedOperation {
+impl ServeOperation {
     ghost use Rattle.load.specs.Operations.{past};
     ghost use Rattle.load.specs.Served.{key_number_of, served_next_of};
 
     /// What a caller does next, by its generator's next words: one for the kind, one for the key.
-    pub fn next(generator: &mut Lcg64Xsh32, load: &ServedLoad) -> ServedOperation
+    pub fn next(generator: &mut Lcg64Xsh32, load: &ServeLoad) -> ServeOperation
         ensures operation { result ≡ served_next_of load.now generator.old }
         ensures generator { generator.new ≡ past (past generator.old) }
         ensures own { key_number_of result < load.now.keys }
@@ -29,11 +29,11 @@ impl ServedOperation {
         let kind = generator.next_word() % 100;
         let key = generator.next_word() % load.keys;
         if kind < load.gets {
-            ServedOperation::Get(key)
+            ServeOperation::Get(key)
         } else if kind < load.gets + load.removes {
-            ServedOperation::Remove(key)
+            ServeOperation::Remove(key)
         } else {
-            ServedOperation::Put(key)
+            ServeOperation::Put(key)
         }
     }
 }
