@@ -76,7 +76,7 @@ impl PackedNode {
         words::newer_of(self.second)
     }
 
-    /// Has another next node.
+    /// Sets the next node.
     pub fn set_next(&mut self, next: u32)
         requires { next < 2 ^ 21 }
         ensures { self.new ≡ record self.old { next = next } }
@@ -84,7 +84,7 @@ impl PackedNode {
         *self = PackedNode::new(Node { next, ..self.get() });
     }
 
-    /// Has another older node.
+    /// Sets the older node.
     pub fn set_older(&mut self, older: u32)
         requires { older < 2 ^ 21 }
         ensures { self.new ≡ record self.old { older = older } }
@@ -95,7 +95,7 @@ impl PackedNode {
         });
     }
 
-    /// Has another newer node.
+    /// Sets the newer node.
     pub fn set_newer(&mut self, newer: u32)
         requires { newer < 2 ^ 21 }
         ensures { self.new ≡ record self.old { newer = newer } }
@@ -106,7 +106,7 @@ impl PackedNode {
         });
     }
 
-    /// Has another item.
+    /// Sets the item.
     pub fn set_item(&mut self, item: PoolItem)
         requires { Fits item }
         ensures { self.new ≡ record self.old { item = item } }

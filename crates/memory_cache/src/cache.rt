@@ -168,7 +168,7 @@ ghost use Rattle.std.specs.Cmp.Lexicographic.{pointwise};
 ghost use Rattle.lru.specs.LruCache.{IsValid};
 ghost use Rattle.memory_cache.specs.Entries.{is_first};
 
-/// That no key stands twice, which is true of every such map. Its model hides that, and its length tells it.
+/// Ghost: reading the length brings the map's invariant, that no key stands twice, into scope.
 fn recall(objects: &LruCache<Key, TimedValue, RandomSeed>)
     ensures { IsValid (pointwise nat_eq) objects.now }
 {

@@ -123,7 +123,7 @@ impl<D: PageDevice<PAGE>, const PAGE: usize> ServiceLane<D, PAGE> {
         })
     }
 
-    /// How often what was done since it was opened.
+    /// Counts of what the lane has done since it was opened.
     pub fn counts(&self) -> Counts
         ensures { result ≡ self.now.counts }
     {

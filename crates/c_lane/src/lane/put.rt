@@ -17,8 +17,8 @@ use std::alloc::Global;
 
 impl<D: PageDevice<4096>> CLane<D> {
     /// Puts a value, and helps for the room that it took. It expires at the moment `expires`, or never if that is 2^64 - 1.
-    /// **A put that is refused leaves the older value of the key, and later gets hit it.** `WrongKey`, `TooLarge` and `NoMemory`
-    /// change nothing but counters and the next word of admission.
+    /// **A put that is refused keeps the older value of the key, and later look-ups return it.** `WrongKey`, `TooLarge` and
+    /// `NoMemory` change nothing but counters and the next word of admission.
     pub fn put(&mut self, alloc: Global, key: &[u8], value: &[u8], expires: u64) -> Status
         ensures wrong_key { (result ≡ Status.WrongKey) ↔ (IsKey key.now → ⊥) }
         ensures too_large { (result ≡ Status.TooLarge)

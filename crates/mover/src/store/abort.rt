@@ -21,7 +21,7 @@ impl<D: PageDevice<PAGE>, const PAGE: usize> Store<D, PAGE> {
         Aborted::Aborted
     }
 
-    // The move at this place among those in flight, which it is no more.
+    // Takes the move at this index out of flight.
     pub(super) fn take_flight(&mut self, at: usize) -> Flight
         requires { at < length self.old.flights }
         ensures was { slice_get self.old.flights at ≡ Some result }

@@ -18,8 +18,8 @@ use page_device::PageDevice;
 use record_pages::{Key, KeyFault, Pushed, PutFault, Value};
 
 impl<D: PageDevice<PAGE>, const PAGE: usize> ServiceLane<D, PAGE> {
-    /// Puts a value. **A put that is refused leaves the older value of the key, and later gets hit it: remove the key then**, if
-    /// that would be wrong.
+    /// Puts a value. **A put that is refused keeps the older value of the key, and later look-ups return it**: remove the
+    /// key then, if that would be wrong.
     ///
     /// The value expires at the moment `expires`, or never if that is `NEVER`. The word decides whether the pair that leaves
     /// memory for it enters the log. No call of the device is made.
