@@ -9,7 +9,7 @@ use Rattle.certificate_finder.specs.declared.best.Best.{Best}
 use Rattle.certificate_finder.specs.declared.best.Best.TheVariants.{Empty}
 use Rattle.certificate_finder.specs.declared.put.Put.{Put}
 use Rattle.certificate_finder.specs.declared.ranked.Ranked.{Ranked}
-use Rattle.certificate_finder.specs.declared.reads.Reading.{Reading}
+use Rattle.certificate_finder.specs.declared.readable.Readable.{Readable}
 use Rattle.certificate_finder.specs.declared.tree_shape.TreeShape.{TreeShape}
 use Rattle.certificate_finder.specs.declared.numbered_call.NumberedCall.{NumberedCall}
 use Rattle.certificate_finder.specs.Asking.{AreAsked, AreReadings, Asking, TellsHit}
@@ -28,14 +28,14 @@ pub are_asked : (steps : List NumberedCall) (xs ys : List Ranked) → Lists step
 are_asked steps xs ys had moved sorted = record { lists = lists_permuted steps Asking TellsHit (length steps) xs ys moved had; sorted = sorted }
 
 -- the hits below an index have their readings, and the puts below another one have entered the tree
-pub record ReadSoFar (steps : List NumberedCall) (puts : List Put) (leaves : List ℕ) (shape : TreeShape) (asked : List Ranked) (index taken : ℕ) (nodes : List Best) (readings : List Reading) : Type 0 where
+pub record ReadSoFar (steps : List NumberedCall) (puts : List Put) (leaves : List ℕ) (shape : TreeShape) (asked : List Ranked) (index taken : ℕ) (nodes : List Best) (readings : List Readable) : Type 0 where
   pub bound : taken ≤ length puts
   pub low : (k j : ℕ) (put : Put) (hit : Ranked) → k < taken → index ≤ j → slice_get puts k ≡ Some put → slice_get asked j ≡ Some hit → put_rank put ≤ hit.rank
   pub nodes_count : length nodes ≡ 2 * shape.width
   pub among : All (AreAmong puts) nodes
   pub tree : IsTree puts leaves shape taken nodes
   pub count : length readings ≡ length steps
-  pub done : (j : ℕ) (hit : Ranked) (step : NumberedCall) (reading : Reading) → j < index → slice_get asked j ≡ Some hit → slice_get steps hit.position ≡ Some step → slice_get readings hit.position ≡ Some reading → Says (GivesAt puts step) reading
+  pub done : (j : ℕ) (hit : Ranked) (step : NumberedCall) (reading : Readable) → j < index → slice_get asked j ≡ Some hit → slice_get steps hit.position ≡ Some step → slice_get readings hit.position ≡ Some reading → Says (GivesAt puts step) reading
 
 -- before the first hit no put has entered
 empty_at : (n k : ℕ) (best : Best) → slice_get (replicate n Empty) k ≡ Some best → best ≡ Empty
@@ -44,7 +44,7 @@ empty_at n k best at =
     let len : length (replicate n Empty) ≡ n = length-replicate n Empty in
     sym (get_or_from_slice_get (replicate n Empty) k best best at) ∙ get_or-replicate n k Empty best (omega arith)
 
-pub read_begins : (steps : List NumberedCall) (puts : List Put) (leaves : List ℕ) (shape : TreeShape) (asked : List Ranked) (nodes : List Best) (readings : List Reading) → nodes ≡ replicate (2 * shape.width) Empty → length readings ≡ length steps → ReadSoFar steps puts leaves shape asked 0 0 nodes readings
+pub read_begins : (steps : List NumberedCall) (puts : List Put) (leaves : List ℕ) (shape : TreeShape) (asked : List Ranked) (nodes : List Best) (readings : List Readable) → nodes ≡ replicate (2 * shape.width) Empty → length readings ≡ length steps → ReadSoFar steps puts leaves shape asked 0 0 nodes readings
 read_begins steps puts leaves shape asked nodes readings is count =
     let empty : (k : ℕ) (best : Best) → slice_get nodes k ≡ Some best → best ≡ Empty = λ k best at. empty_at (2 * shape.width) k best (ap (λ ns. slice_get ns k) (sym is) ∙ at) in
     record {
@@ -64,7 +64,7 @@ module _ (steps : List NumberedCall) (puts : List Put) (leaves : List ℕ) (shap
       let t = all_at (TellsOne steps Asking TellsHit) asked j hit are.lists.sound at in
       (t.step, ap (slice_get steps) t.told.is_at ∙ t.at, t.told.rank)
 
-  module _ (index taken : ℕ) (nodes : List Best) (readings : List Reading) (had : ReadSoFar steps puts leaves shape asked index taken nodes readings) (hit : Ranked) (at : slice_get asked index ≡ Some hit) (upto : ℕ) (split : IsSplit put_rank puts hit.rank upto) where
+  module _ (index taken : ℕ) (nodes : List Best) (readings : List Readable) (had : ReadSoFar steps puts leaves shape asked index taken nodes readings) (hit : Ranked) (at : slice_get asked index ≡ Some hit) (upto : ℕ) (split : IsSplit put_rank puts hit.rank upto) where
     -- the puts that had entered begin no later than this hit ends
     pub goes_up : taken ≤ upto
     goes_up = elim (cases_lt upto taken) [
@@ -77,7 +77,7 @@ module _ (steps : List NumberedCall) (puts : List Put) (leaves : List ℕ) (shap
           absurd (omega arith)
     ]
 
-    pub read_more : (step : NumberedCall) (reading : Reading) (new : List Best) → slice_get steps hit.position ≡ Some step → length new ≡ length nodes → All (AreAmong puts) new → IsTree puts leaves shape upto new → Says (GivesAt puts step) reading → ReadSoFar steps puts leaves shape asked (index + 1) upto new (set readings hit.position reading)
+    pub read_more : (step : NumberedCall) (reading : Readable) (new : List Best) → slice_get steps hit.position ≡ Some step → length new ≡ length nodes → All (AreAmong puts) new → IsTree puts leaves shape upto new → Says (GivesAt puts step) reading → ReadSoFar steps puts leaves shape asked (index + 1) upto new (set readings hit.position reading)
     read_more step reading new step_at len among tree says = record {
       bound = split.bound;
       low = λ k j put other less le put_at other_at.
@@ -100,7 +100,7 @@ module _ (steps : List NumberedCall) (puts : List Put) (leaves : List ℕ) (shap
       ];
     }
 
-  pub all_read : (index taken : ℕ) (nodes : List Best) (readings : List Reading) → ReadSoFar steps puts leaves shape asked index taken nodes readings → length asked ≤ index → AreReadings steps puts readings
+  pub all_read : (index taken : ℕ) (nodes : List Best) (readings : List Readable) → ReadSoFar steps puts leaves shape asked index taken nodes readings → length asked ≤ index → AreReadings steps puts readings
   all_read index taken nodes readings had all = record {
     count = had.count;
     each = λ p step reading at at_reading asks.

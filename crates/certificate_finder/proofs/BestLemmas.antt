@@ -7,7 +7,7 @@ use Rattle.record_pages.specs.Expiry.{is_live}
 use Rattle.certificate_finder.specs.declared.best.Best.{Best}
 use Rattle.certificate_finder.specs.declared.best.Best.TheVariants.{Empty, One, Two}
 use Rattle.certificate_finder.specs.declared.put.Put.{Put}
-use Rattle.certificate_finder.specs.declared.reads.Reading.{Reading}
+use Rattle.certificate_finder.specs.declared.readable.Readable.{Readable}
 use Rattle.certificate_finder.specs.Bests.{AreAmong, AreBoth, IsBestOf, IsLiveAt, IsWith, SaysLive}
 use Rattle.certificate_finder.specs.Putting.{expiry_at}
 use Rattle.certificate_finder.specs.Readings.{Says}
@@ -114,7 +114,7 @@ module _ (puts : List Put) (P : ℕ → Type 0) (moment : ℕ) (small : (k : ℕ
   abbrev Live : ℕ → Type 0
   Live k = P k × IsLiveAt puts moment k
 
-  live_alone : (first : ℕ) → IsBestOf puts P (One first) → (reading : Reading) → SaysLive puts moment (One first) reading → Says Live reading
+  live_alone : (first : ℕ) → IsBestOf puts P (One first) → (reading : Readable) → SaysLive puts moment (One first) reading → Says Live reading
   live_alone first is reading says = elim says [
     | inl live ↦ subst (λ r. Says Live r) (sym live.1) ((is.0, live.0), λ k p. is.1 k p.0)
     | inr dead ↦ subst (λ r. Says Live r) (sym dead.1) (λ k p. dead.0 (subst (λ j. IsLiveAt puts moment j) (is.1 k p.0) p.1))
@@ -127,7 +127,7 @@ module _ (puts : List Put) (P : ℕ → Type 0) (moment : ℕ) (small : (k : ℕ
     | inr other ↦ absurd (dead (live_later (expiry_at puts k) (expiry_at puts second) moment (is.next k p other) (small second) live))
   ]
 
-  live_both : (first second : ℕ) → AreBoth puts P first second → (reading : Reading) → SaysLive puts moment (Two first second) reading → Says Live reading
+  live_both : (first second : ℕ) → AreBoth puts P first second → (reading : Readable) → SaysLive puts moment (Two first second) reading → Says Live reading
   live_both first second is reading says = elim says [
     | inl live ↦ subst (λ r. Says Live r) (sym live.1) (record {
       one = first;
@@ -142,7 +142,7 @@ module _ (puts : List Put) (P : ℕ → Type 0) (moment : ℕ) (small : (k : ℕ
     ]
   ]
 
-  pub live_best : (best : Best) (reading : Reading) → IsBestOf puts P best → SaysLive puts moment best reading → Says (λ k. P k × IsLiveAt puts moment k) reading
+  pub live_best : (best : Best) (reading : Readable) → IsBestOf puts P best → SaysLive puts moment best reading → Says (λ k. P k × IsLiveAt puts moment k) reading
   live_best Empty reading is says = subst (λ r. Says Live r) (sym says) (λ k p. is k p.0)
   live_best (One first) reading is says = live_alone first is reading says
   live_best (Two first second) reading is says = live_both first second is reading says

@@ -12,7 +12,7 @@ use Rattle.certificate_finder.specs.declared.call_kind.CallKind.TheVariants as k
 use Rattle.certificate_finder.specs.declared.owner.Owner.{Owner}
 use Rattle.certificate_finder.specs.declared.owner.Owner.TheVariants as kinds_of_owner
 use Rattle.certificate_finder.specs.declared.put.Put.{Put}
-use Rattle.certificate_finder.specs.declared.reads.Reading.TheVariants as readings
+use Rattle.certificate_finder.specs.declared.readable.Readable.TheVariants as readings
 use Rattle.certificate_finder.specs.declared.numbered_call.NumberedCall.{NumberedCall}
 use Rattle.certificate_finder.specs.Lists.{TellsOne}
 use Rattle.certificate_finder.specs.Owning.{AreOwners, IsNoted, IsOwned, IsOwner, IsOwnerAt, IsRefused, IsUnsure, MayRead, ReadsLive, ReadsNoLive, ReadsOnly, ReadsSeveral}

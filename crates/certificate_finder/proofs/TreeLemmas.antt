@@ -8,7 +8,7 @@ use Rattle.certificate_checker.proofs.public_laws.Laying.{cases_before}
 use Rattle.certificate_finder.specs.declared.best.Best.{Best}
 use Rattle.certificate_finder.specs.declared.best.Best.TheVariants.{Empty}
 use Rattle.certificate_finder.specs.declared.put.Put.{Put}
-use Rattle.certificate_finder.specs.declared.reads.Reading.{Reading}
+use Rattle.certificate_finder.specs.declared.readable.Readable.{Readable}
 use Rattle.certificate_finder.specs.declared.tree_shape.TreeShape.{TreeShape}
 use Rattle.certificate_finder.specs.Bests.{IsBestOf, IsLiveAt, IsWith, SaysLive}
 use Rattle.certificate_finder.specs.Putting.{expiry_at}
@@ -171,7 +171,7 @@ module _ (puts : List Put) (leaves : List ℕ) (shape : TreeShape) (power : shap
   abbrev Reached : ℕ → ℕ → ℕ → Type 0
   Reached rows at index = IsReached puts leaves taken leaf moment shape.width rows at index
 
-  pub own_leaf : (own : Best) (reading : Reading) → slice_get nodes (shape.width + leaf) ≡ Some own → SaysLive puts moment own reading → Says (IsReached puts leaves taken leaf moment shape.width 0 (shape.width + leaf)) reading
+  pub own_leaf : (own : Best) (reading : Readable) → slice_get nodes (shape.width + leaf) ≡ Some own → SaysLive puts moment own reading → Says (IsReached puts leaves taken leaf moment shape.width 0 (shape.width + leaf)) reading
   own_leaf own reading at says =
       let row : IsInRow (shape.depth - 0) (shape.width + leaf) = over_in_row 0 shape.depth (shape.width + leaf) (omega arith) (leaf_in_row shape.width shape.depth leaf power inside) in
       let best = is.each 0 (shape.width + leaf) own (omega arith) row at in
@@ -192,7 +192,7 @@ module _ (puts : List Put) (leaves : List ℕ) (shape : TreeShape) (power : shap
     beside_row : at % 2 ≡ 0 → IsInRow (shape.depth - level) (at + 1)
     beside_row even = let a = at_row.low in let b = at_row.high in record { low = omega arith; high = omega arith }
 
-    beside_right : (beside : Best) (reading : Reading) → at % 2 ≡ 0 → slice_get nodes (at + 1) ≡ Some beside → SaysLive puts moment beside reading → Says Beside reading
+    beside_right : (beside : Best) (reading : Readable) → at % 2 ≡ 0 → slice_get nodes (at + 1) ≡ Some beside → SaysLive puts moment beside reading → Says Beside reading
     beside_right beside reading even there says =
         let best = is.each level (at + 1) beside (omega arith) (beside_row even) there in
         let P : ℕ → Type 0 = IsCounted leaves shape.width (λ rows k. k < taken) level (at + 1) in
@@ -201,7 +201,7 @@ module _ (puts : List Put) (leaves : List ℕ) (shape : TreeShape) (power : shap
         (λ k b. ((b.1, b.2), b.3))
         (live_best puts P moment small beside reading best says)
 
-    says_beside : (reading : Reading) → IsBeside puts nodes at moment reading → Says Beside reading
+    says_beside : (reading : Readable) → IsBeside puts nodes at moment reading → Says Beside reading
     says_beside reading beside = elim beside [
       | inl odd ↦ subst (λ r. Says Beside r) (sym odd.1) (λ k b. let o = odd.0 in let e = b.0 in omega arith)
       | inr even ↦ beside_right even.1.0 reading even.0 even.1.1 even.1.2
@@ -244,11 +244,11 @@ module _ (puts : List Put) (leaves : List ℕ) (shape : TreeShape) (power : shap
     ]
 
     -- a row up
-    pub reached_more : (found beside joined : Reading) → Says (IsReached puts leaves taken leaf moment shape.width level at) found → IsBeside puts nodes at moment beside → IsJoined found beside joined → Says (IsReached puts leaves taken leaf moment shape.width (level + 1) (at / 2)) joined
+    pub reached_more : (found beside joined : Readable) → Says (IsReached puts leaves taken leaf moment shape.width level at) found → IsBeside puts nodes at moment beside → IsJoined found beside joined → Says (IsReached puts leaves taken leaf moment shape.width (level + 1) (at / 2)) joined
     reached_more found beside joined had is_beside is_joined = says_same (λ k. Reached level at k ⊎ Beside k) (Reached (level + 1) (at / 2)) joined next_under under_next (says_joined (Reached level at) Beside found beside joined had (says_beside beside is_beside) is_joined)
 
   -- at the root all have been reached
-  pub all_reached : (at : ℕ) (found : Reading) → at ≡ node_over shape.depth (shape.width + leaf) → ((k : ℕ) → k < taken → slice_index leaves k < shape.width) → Says (IsReached puts leaves taken leaf moment shape.width shape.depth at) found → Says (IsFrom puts leaves taken leaf moment) found
+  pub all_reached : (at : ℕ) (found : Readable) → at ≡ node_over shape.depth (shape.width + leaf) → ((k : ℕ) → k < taken → slice_index leaves k < shape.width) → Says (IsReached puts leaves taken leaf moment shape.width shape.depth at) found → Says (IsFrom puts leaves taken leaf moment) found
   all_reached at found over lie says =
       let root : (place : ℕ) → place < shape.width → node_over shape.depth (shape.width + place) ≡ 1
       = λ place less. root_alone (node_over shape.depth (shape.width + place)) (subst (λ r. IsInRow r (node_over shape.depth (shape.width + place))) (let e : shape.depth - shape.depth ≡ 0 = omega arith in e) (over_in_row shape.depth shape.depth (shape.width + place) (omega arith) (leaf_in_row shape.width shape.depth place power less))) in

@@ -4,7 +4,7 @@ use Rattle.std.specs.List.Sorted.{IsNonDecreasingBy}
 use Rattle.certificate_finder.specs.declared.call_kind.CallKind.TheVariants as kinds
 use Rattle.certificate_finder.specs.declared.put.Put.{Put}
 use Rattle.certificate_finder.specs.declared.ranked.Ranked.{Ranked}
-use Rattle.certificate_finder.specs.declared.reads.Reading.{Reading}
+use Rattle.certificate_finder.specs.declared.readable.Readable.{Readable}
 use Rattle.certificate_finder.specs.declared.numbered_call.NumberedCall.{NumberedCall}
 use Rattle.certificate_finder.specs.Lists.{Lists}
 use Rattle.certificate_finder.specs.Putting.{GivesAt, value_rank}
@@ -25,6 +25,6 @@ pub record AreAsked (steps : List NumberedCall) (asked : List Ranked) : Type 0 w
   pub sorted : IsNonDecreasingBy (λ (hit : Ranked). hit.rank) asked
 
 -- for each hit which puts it can have read
-pub record AreReadings (steps : List NumberedCall) (puts : List Put) (readings : List Reading) : Type 0 where
+pub record AreReadings (steps : List NumberedCall) (puts : List Put) (readings : List Readable) : Type 0 where
   pub count : length readings ≡ length steps
-  pub each : (position : ℕ) (step : NumberedCall) (reading : Reading) → slice_get steps position ≡ Some step → slice_get readings position ≡ Some reading → Asking step → Says (GivesAt puts step) reading
+  pub each : (position : ℕ) (step : NumberedCall) (reading : Readable) → slice_get steps position ≡ Some step → slice_get readings position ≡ Some reading → Asking step → Says (GivesAt puts step) reading

@@ -4,8 +4,8 @@ use Rattle.record_pages.specs.Expiry.{is_live}
 use Rattle.certificate_finder.specs.declared.best.Best.{Best}
 use Rattle.certificate_finder.specs.declared.best.Best.TheVariants.{Empty, One, Two}
 use Rattle.certificate_finder.specs.declared.put.Put.{Put}
-use Rattle.certificate_finder.specs.declared.reads.Reading.{Reading}
-use Rattle.certificate_finder.specs.declared.reads.Reading.TheVariants as says
+use Rattle.certificate_finder.specs.declared.readable.Readable.{Readable}
+use Rattle.certificate_finder.specs.declared.readable.Readable.TheVariants as says
 use Rattle.certificate_finder.specs.Putting.{expiry_at}
 
 -- what it names are puts
@@ -44,7 +44,7 @@ abbrev pub IsLiveAt : List Put → ℕ → ℕ → Type 0
 IsLiveAt puts moment index = IsTrue (is_live (expiry_at puts index) moment)
 
 -- which of the two are live at a moment
-abbrev pub SaysLive : List Put → ℕ → Best → Reading → Type 0
+abbrev pub SaysLive : List Put → ℕ → Best → Readable → Type 0
 SaysLive puts moment Empty reading = reading ≡ says.Nothing
 SaysLive puts moment (One first) reading =
     (IsLiveAt puts moment first × (reading ≡ says.One first))

@@ -2,8 +2,8 @@
 use Rattle.std.specs.Prelude.{◌≡◌, ℕ, zero, suc, ◌+◌, ◌-◌, ◌*◌, ◌/◌, ◌%◌, ◌^◌, ◌<◌, ◌≤◌, ◌⊎◌, List, All, length, slice_get, slice_index, Some}
 use Rattle.certificate_finder.specs.declared.best.Best.{Best}
 use Rattle.certificate_finder.specs.declared.put.Put.{Put}
-use Rattle.certificate_finder.specs.declared.reads.Reading.{Reading}
-use Rattle.certificate_finder.specs.declared.reads.Reading.TheVariants.{Nothing}
+use Rattle.certificate_finder.specs.declared.readable.Readable.{Readable}
+use Rattle.certificate_finder.specs.declared.readable.Readable.TheVariants.{Nothing}
 use Rattle.certificate_finder.specs.declared.tree_shape.TreeShape.{TreeShape}
 use Rattle.certificate_finder.specs.Bests.{IsBestOf, IsLiveAt, SaysLive}
 
@@ -56,7 +56,7 @@ pub record IsFrom (puts : List Put) (leaves : List ℕ) (taken leaf moment index
   pub live : IsLiveAt puts moment index
 
 -- which puts of the node right of a left one are live at a moment
-abbrev pub IsBeside : List Put → List Best → ℕ → ℕ → Reading → Type 0
+abbrev pub IsBeside : List Put → List Best → ℕ → ℕ → Readable → Type 0
 IsBeside puts nodes at moment reading =
     ((at % 2 ≡ 1) × (reading ≡ Nothing))
     ⊎ ((at % 2 ≡ 0) × ((best : Best) × (slice_get nodes (at + 1) ≡ Some best) × SaysLive puts moment best reading))

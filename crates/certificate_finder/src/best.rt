@@ -2,7 +2,7 @@
 ghost use Rattle.std.specs.Prelude.{◌≡◌, ◌<◌, length};
 
 use crate::put::{Put, expiry};
-use crate::reads::Reading;
+use crate::readable::Readable;
 use record_pages::is_live;
 
 /// Of some puts, by their indexes, the two that expire last.
@@ -47,26 +47,26 @@ impl Best {
     }
 
     /// Which of them are live at a moment.
-    pub(crate) fn reading(self, puts: &[Put], moment: u64) -> Reading
+    pub(crate) fn reading(self, puts: &[Put], moment: u64) -> Readable
         requires { AreAmong puts.now self }
         ensures { SaysLive puts.now moment self result }
     {
         match self {
-            Best::Empty => Reading::Nothing,
+            Best::Empty => Readable::Nothing,
             Best::One(first) => {
                 if is_live(expiry(puts, first), moment) {
-                    Reading::One(first)
+                    Readable::One(first)
                 } else {
-                    Reading::Nothing
+                    Readable::Nothing
                 }
             }
             Best::Two(first, second) => {
                 if is_live(expiry(puts, second), moment) {
-                    Reading::Several
+                    Readable::Several
                 } else if is_live(expiry(puts, first), moment) {
-                    Reading::One(first)
+                    Readable::One(first)
                 } else {
-                    Reading::Nothing
+                    Readable::Nothing
                 }
             }
         }

@@ -9,7 +9,7 @@ use crate::numbered_call::{NumberedCall, step_at};
 use crate::owner::Owner;
 use crate::owning::{Owners, Owning};
 use crate::put::{Put, put_at};
-use crate::reads::Reading;
+use crate::readable::Readable;
 use std::alloc::{AllocError, Global};
 
 /// The owners of all calls, or the position of a hit that can have read no put.
@@ -17,7 +17,7 @@ pub(crate) fn owners_of(
     alloc: Global,
     steps: &[NumberedCall],
     puts: &[Put],
-    readings: &[Reading],
+    readings: &[Readable],
 ) -> Result<Owning, AllocError>
     requires few { length steps.now < 2 ^ 31 }
     requires fit { All IsFit steps.now }
@@ -67,7 +67,7 @@ fn note(
 }
 
 /// With which write the call at a position goes.
-fn owner_at(steps: &[NumberedCall], puts: &[Put], readings: &[Reading], position: usize) -> Owner
+fn owner_at(steps: &[NumberedCall], puts: &[Put], readings: &[Readable], position: usize) -> Owner
     requires fit { All IsFit steps.now }
     requires puts { ArePuts steps.now puts.now }
     requires readings { AreReadings steps.now puts.now readings.now }
@@ -79,17 +79,17 @@ fn owner_at(steps: &[NumberedCall], puts: &[Put], readings: &[Reading], position
         return Owner::Itself;
     }
     match reading_at(readings, position) {
-        Reading::Nothing => Owner::Nothing,
-        Reading::One(index) => {
+        Readable::Nothing => Owner::Nothing,
+        Readable::One(index) => {
             let put = put_at(puts, index as usize);
             Owner::Put(put.position)
         }
-        Reading::Several => Owner::Unsure,
+        Readable::Several => Owner::Unsure,
     }
 }
 
 /// The reading at an index.
-fn reading_at(readings: &[Reading], index: usize) -> Reading
+fn reading_at(readings: &[Readable], index: usize) -> Readable
     requires { index < length readings.now }
     ensures { slice_get readings.now index ≡ Some result }
 {

@@ -16,7 +16,7 @@ use crate::numbered_call::{NumberedCall, step_at};
 use crate::put::{Put, value_rank};
 use crate::puts::puts_upto;
 use crate::ranked::{Ranked, ranked_at};
-use crate::reads::Reading;
+use crate::readable::Readable;
 use crate::tree::{add_all, live_from};
 use crate::tree_shape::TreeShape;
 use std::alloc::{AllocError, Global};
@@ -29,7 +29,7 @@ pub(crate) fn readings_of(
     alloc: Global,
     steps: &[NumberedCall],
     puts: &[Put],
-) -> Result<Vec<Reading>, AllocError>
+) -> Result<Vec<Readable>, AllocError>
     requires few { length steps.now < 2 ^ 31 }
     requires few_puts { length puts.now < 2 ^ 31 }
     requires fit { All IsFit steps.now }
@@ -60,7 +60,7 @@ fn readings_by(
     ends: &[u128],
     leaves: &[u32],
     asked: &[Ranked],
-) -> Result<Vec<Reading>, AllocError>
+) -> Result<Vec<Readable>, AllocError>
     requires few_puts { length puts.now < 2 ^ 31 }
     requires fit { All IsFit steps.now }
     requires puts { AreInOrder puts.now }
@@ -72,7 +72,7 @@ fn readings_by(
     let shape = TreeShape::over(puts.len());
     let mut tree = vec![in alloc; Best::Empty; 2 * shape.width]?;
     let nodes = tree.as_mut_slice();
-    let mut readings = vec![in alloc; Reading::Nothing; steps.len()]?;
+    let mut readings = vec![in alloc; Readable::Nothing; steps.len()]?;
     let mut taken = 0;
     for index in 0..asked.len() {
         let hit = ranked_at(asked, index);
@@ -96,7 +96,7 @@ fn reading_of(
     taken: usize,
     upto: usize,
     hit: &NumberedCall,
-) -> Reading
+) -> Readable
     requires few { length puts.now < 2 ^ 31 }
     requires fit { IsFit hit.now }
     requires puts { AreInOrder puts.now }

@@ -8,7 +8,7 @@ ghost use Rattle.certificate_finder.specs.Trees.{AreLeaves, IsBeside, IsFrom, Is
 use crate::best::Best;
 use crate::numbers::number_at;
 use crate::put::Put;
-use crate::reads::Reading;
+use crate::readable::Readable;
 use crate::tree_shape::TreeShape;
 
 /// The node at an index.
@@ -67,14 +67,14 @@ pub(crate) fn add_all(
 }
 
 /// Which puts of the node right of a left one are live at a moment; none if it is a right one itself.
-fn live_beside(nodes: &[Best], puts: &[Put], at: usize, moment: u64) -> Reading
+fn live_beside(nodes: &[Best], puts: &[Put], at: usize, moment: u64) -> Readable
     requires even { length nodes.now % 2 ≡ 0 }
     requires within { at < length nodes.now }
     requires among { All (AreAmong puts.now) nodes.now }
     ensures { IsBeside puts.now nodes.now at moment result }
 {
     if at % 2 == 1 {
-        return Reading::Nothing;
+        return Readable::Nothing;
     }
     let beside = node_at(nodes, at + 1);
     beside.reading(puts, moment)
@@ -87,7 +87,7 @@ pub(crate) fn live_from(
     puts: &[Put],
     leaf: usize,
     moment: u64,
-) -> Reading
+) -> Readable
     requires few { length puts.now < 2 ^ 31 }
     requires shape { IsShape (length puts.now) shape }
     requires count { length nodes.now ≡ 2 * shape.width }

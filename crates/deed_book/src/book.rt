@@ -1,7 +1,7 @@
 // A book that begins.
 ghost use Rattle.std.specs.Prelude.{◌≡◌, ◌+◌, ◌<◌, []};
 
-use crate::lanes::{KeyLanes, Naming};
+use crate::lanes::{BookName, KeyLanes};
 use crate::register::Register;
 use crate::rule::{Empty, Law};
 use crate::seat::Seat;
@@ -11,12 +11,12 @@ use std::marker::{Model, PhantomData};
 
 /// A book with no write, which has no name yet.
 #[derive(Drop)]
-pub struct NewBook<L: KeyLanes> {
+pub struct UnnamedBook<L: KeyLanes> {
     seen: Seen<Written, u64, Law<L>>,
     pens: Pens,
 }
 
-impl<L: KeyLanes> Model for NewBook<L> {
+impl<L: KeyLanes> Model for UnnamedBook<L> {
     ghost use Rattle.logbook.specs.Pages.{Book, book_coded};
     ghost use Rattle.deed_book.specs.Registers.{HandsOut};
 
@@ -30,21 +30,21 @@ impl<L: KeyLanes> Model for NewBook<L> {
         b.pens.book b.pens.next b.pens.left };
 }
 
-impl<L: KeyLanes> NewBook<L> {
+impl<L: KeyLanes> UnnamedBook<L> {
     /// A book for this many lanes.
-    pub fn open(lanes: usize) -> NewBook<L>
+    pub fn open(lanes: usize) -> UnnamedBook<L>
         requires { lanes ≡ L.lanes }
     {
         let (seen, pens) = Seen::open_row::<(), Empty>(&(), Start::alone(), lanes);
-        NewBook { seen, pens }
+        UnnamedBook { seen, pens }
     }
 
-    /// The book under a name.
-    pub fn named<J: Naming>(self) -> NamedBook<L, J>
+    /// The book with a name.
+    pub fn with_name<J: BookName>(self) -> NamedBook<L, J>
         requires { self ≡ J.book }
         ensures { result ≡ 0 }
     {
-        let NewBook { seen, pens } = self;
+        let UnnamedBook { seen, pens } = self;
         NamedBook {
             given: 0,
             seen,
@@ -56,14 +56,14 @@ impl<L: KeyLanes> NewBook<L> {
 
 /// A book with no write, which hands out a register for each lane in turn, once. Contracts see it as how many it has handed out.
 #[derive(Drop)]
-pub struct NamedBook<L: KeyLanes, J: Naming> {
+pub struct NamedBook<L: KeyLanes, J: BookName> {
     given: usize,
     seen: Seen<Written, u64, Law<L>>,
     pens: Pens,
     of: PhantomData<J>,
 }
 
-impl<L: KeyLanes, J: Naming> Model for NamedBook<L, J> {
+impl<L: KeyLanes, J: BookName> Model for NamedBook<L, J> {
     ghost use Rattle.std.specs.Prelude.{ℕ};
     ghost use Rattle.deed_book.specs.Registers.{HandsOut};
 
@@ -75,7 +75,7 @@ impl<L: KeyLanes, J: Naming> Model for NamedBook<L, J> {
         b.pens.book b.pens.next b.pens.left };
 }
 
-impl<L: KeyLanes, J: Naming> NamedBook<L, J> {
+impl<L: KeyLanes, J: BookName> NamedBook<L, J> {
     /// A seat that has seen nothing.
     pub fn seat(&self) -> Seat<L, J>
         ensures { result ≡ [] }

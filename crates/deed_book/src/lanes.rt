@@ -37,12 +37,12 @@ impl KeyLanes for OneLane {
 }
 
 /// Which book it is. Each call of a program picks it.
-pub trait Naming {
+pub trait BookName {
     ghost use Rattle.logbook.specs.Pages.{Book};
 
     ghost book: { Book };
 }
 
-impl Naming for Brand {
+impl BookName for Brand {
     ghost book = { record { number = 0; log_name = 0; cells_name = 0 } };
 }

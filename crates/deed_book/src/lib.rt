@@ -10,8 +10,8 @@ mod rule;
 mod seat;
 mod written;
 
-pub use book::{NamedBook, NewBook};
-pub use lanes::{KeyLanes, Naming, OneLane};
+pub use book::{NamedBook, UnnamedBook};
+pub use lanes::{BookName, KeyLanes, OneLane};
 pub use offered_write::OfferedWrite;
 pub use register::{EntryFault, MAX_WRITES, Register};
 pub use seat::Seat;

@@ -7,7 +7,7 @@ ghost use Rattle.deed_book.specs.Parts.{part_of};
 ghost use Rattle.deed_book.specs.Registers.{Catches, EntersIn};
 ghost use Rattle.deed_book.specs.declared.register.EntryFault.{EntryFault};
 
-use crate::lanes::{KeyLanes, Naming};
+use crate::lanes::{BookName, KeyLanes};
 use crate::offered_write::{Asks, OfferedWrite, Putting, Removing};
 use crate::rule::{Enter, Law, Look, Nothing};
 use crate::seat::Seat;
@@ -35,7 +35,7 @@ pub enum EntryFault {
 /// A lane's register in a book: its number, and what it has seen of the list of all writes, in which each of its lane's is
 /// its own.
 #[derive(Drop)]
-pub struct Register<L: KeyLanes, J: Naming> {
+pub struct Register<L: KeyLanes, J: BookName> {
     number: usize,
     written: u64,
     head: Word<Written, u64, Law<L>>,
@@ -43,7 +43,7 @@ pub struct Register<L: KeyLanes, J: Naming> {
     of: PhantomData<J>,
 }
 
-impl<L: KeyLanes, J: Naming> Model for Register<L, J> {
+impl<L: KeyLanes, J: BookName> Model for Register<L, J> {
     ghost use Rattle.deed_book.specs.Registers.{Registered, IsRegister};
 
     ghost Value = { Registered };
@@ -54,7 +54,7 @@ impl<L: KeyLanes, J: Naming> Model for Register<L, J> {
         r.seen.names r.seen.log };
 }
 
-impl<L: KeyLanes, J: Naming> Register<L, J> {
+impl<L: KeyLanes, J: BookName> Register<L, J> {
     // The register of a lane that has entered nothing.
     pub(crate) fn begun(
         number: usize,

@@ -2,7 +2,7 @@
 ghost use Rattle.std.specs.Prelude.{◌≡◌};
 ghost use mathlib.Core.List.{IsPrefix};
 
-use crate::lanes::{KeyLanes, Naming};
+use crate::lanes::{BookName, KeyLanes};
 use crate::rule::Law;
 use crate::written::Written;
 use logbook::Seen;
@@ -12,12 +12,12 @@ use std::marker::{Model, PhantomData};
 ///
 /// Whoever hands another a seat, or a copy, hands on what they have seen.
 #[derive(Drop)]
-pub struct Seat<L: KeyLanes, J: Naming> {
+pub struct Seat<L: KeyLanes, J: BookName> {
     pub(crate) seen: Seen<Written, u64, Law<L>>,
     pub(crate) of: PhantomData<J>,
 }
 
-impl<L: KeyLanes, J: Naming> Model for Seat<L, J> {
+impl<L: KeyLanes, J: BookName> Model for Seat<L, J> {
     ghost use Rattle.std.specs.Prelude.{◌≡◌, List, []};
     ghost use Rattle.certificate_checker.specs.Deeds.{Deed};
 
@@ -28,7 +28,7 @@ impl<L: KeyLanes, J: Naming> Model for Seat<L, J> {
     ghost invariant = { λ s. (s.seen.book ≡ J.book) × (s.seen.names ≡ []) };
 }
 
-impl<L: KeyLanes, J: Naming> Seat<L, J> {
+impl<L: KeyLanes, J: BookName> Seat<L, J> {
     /// A copy.
     pub fn again(&self) -> Seat<L, J>
         ensures { result ≡ self.now }

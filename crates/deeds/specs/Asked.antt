@@ -4,8 +4,8 @@ use Rattle.record_pages.specs.declared.answer.Answer.{Answer}
 use Rattle.record_pages.specs.declared.answer.Answer.TheVariants.{Hit, Miss}
 use Rattle.record_pages.specs.declared.tier.Tier.TheVariants.{Memory, Log, Set}
 use Rattle.memory_cache.specs.declared.pair.Pair.{Pair}
-use Rattle.mover.specs.declared.seen.Seen.{Seen}
-use Rattle.mover.specs.declared.seen.Seen.TheVariants as seen
+use Rattle.mover.specs.declared.answer_kind.AnswerKind.{AnswerKind}
+use Rattle.mover.specs.declared.answer_kind.AnswerKind.TheVariants as seen
 use Rattle.mover.specs.Store.{StoreState}
 use Rattle.mover.specs.Lane.{lane_of}
 use Rattle.mover.specs.Laws.{IsInOrder}
@@ -32,7 +32,7 @@ pub record IsServed {D : Type 0} (honest : D → Bool) (held : D → ℕ → Opt
   pub lawful : IsTrue (honest s.store.device) → IsLawful s.deeds
 
 -- a get that found no value
-abbrev pub IsMiss : Seen → Type 0
+abbrev pub IsMiss : AnswerKind → Type 0
 IsMiss (seen.Hit tier) = ⊥
 IsMiss (seen.Miss cause) = Unit {0}
 

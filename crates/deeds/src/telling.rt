@@ -6,7 +6,7 @@ ghost use Rattle.trace_file.specs.Calls.{value_of};
 ghost use Rattle.trace_file.specs.Lent.{act_shown};
 ghost use Rattle.deeds.specs.Sound.{act_of};
 
-use mover::Seen;
+use mover::AnswerKind;
 use record_pages::{Answer, ValueBuffer};
 use trace_file::ActRef;
 
@@ -22,11 +22,11 @@ pub fn act_lent(answer: &Answer, moment: u64) -> ActRef<'_>
 }
 
 /// What a get of a moment does whose value, if it hit, is in the buffer.
-pub(crate) fn act_seen(seen: Seen, found: &ValueBuffer, moment: u64) -> ActRef<'_>
+pub(crate) fn act_seen(seen: AnswerKind, found: &ValueBuffer, moment: u64) -> ActRef<'_>
     ensures { act_shown result ≡ act_of moment (answer_of seen found.now) }
 {
     match seen {
-        Seen::Hit(_) => ActRef::Hit(found.bytes(), moment),
-        Seen::Miss(_) => ActRef::Miss,
+        AnswerKind::Hit(_) => ActRef::Hit(found.bytes(), moment),
+        AnswerKind::Miss(_) => ActRef::Miss,
     }
 }

@@ -4,7 +4,7 @@ use Rattle.std.specs.Prelude.{slice_set, slice_index_or}
 use Rattle.std.proofs.lemmas.Option.{get_or_from_slice_get}
 use Rattle.record_pages.specs.declared.layout.Layout.{Layout}
 use Rattle.trace_file.specs.declared.act.Act.{Act}
-use Rattle.history_recorder.specs.declared.called.Called.{Called}
+use Rattle.history_recorder.specs.declared.open_call.OpenCall.{OpenCall}
 use Rattle.history_recorder.specs.declared.event.Event.TheVariants as events
 use Rattle.history_recorder.specs.declared.operation.Operation.{Operation}
 use Rattle.history_recorder.specs.declared.operation.Operation.TheVariants as operations
@@ -47,7 +47,7 @@ noted_books layout books caller start operation reply (Some act) e =
     let place = length (lane_at books.lanes at) in
     rw e (ap (λ cs. record { number = books.number + 1; callers = cs; lanes = with_call books.lanes at (booked caller start (books.number + 1) operation act) }) (set-set books.callers caller phases.Idle (phases.Acted at place)))
 
-pub taken_books : (layout : Layout) (books between : Books) (caller : ℕ) (call : Called) (reply : Reply) → TakesCall books caller (Some call) between → IsReplyOf call.operation reply → after_noted between caller (lane_of layout call.operation) (noted_by caller call.start (books.number + 1) call.operation reply) ≡ after_event layout books (events.Act caller) reply
+pub taken_books : (layout : Layout) (books between : Books) (caller : ℕ) (call : OpenCall) (reply : Reply) → TakesCall books caller (Some call) between → IsReplyOf call.operation reply → after_noted between caller (lane_of layout call.operation) (noted_by caller call.start (books.number + 1) call.operation reply) ≡ after_event layout books (events.Act caller) reply
 taken_books layout books between caller call reply takes kind =
     let phase : slice_index_or books.callers caller phases.Idle ≡ phases.Began call.start call.operation = get_or_from_slice_get books.callers caller (phases.Began call.start call.operation) phases.Idle takes.0 in
     ap (λ bs. after_noted bs caller (lane_of layout call.operation) (noted_by caller call.start (books.number + 1) call.operation reply)) takes.1

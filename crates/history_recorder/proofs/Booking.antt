@@ -7,7 +7,7 @@ use Rattle.std.proofs.lemmas.Option.{get_or_from_slice_get}
 use Rattle.record_pages.specs.declared.layout.Layout.{Layout}
 use Rattle.trace_file.specs.declared.act.Act.{Act}
 use Rattle.recorded_lane.specs.declared.noted.Noted.{Noted}
-use Rattle.history_recorder.specs.declared.booked.Booked.{Booked}
+use Rattle.history_recorder.specs.declared.recorded_call.RecordedCall.{RecordedCall}
 use Rattle.history_recorder.specs.declared.event.Event.{Event}
 use Rattle.history_recorder.specs.declared.event.Event.TheVariants as events
 use Rattle.history_recorder.specs.declared.operation.Operation.{Operation}
@@ -26,13 +26,13 @@ later_phase n m rises phases.Idle h = tt
 later_phase n m rises (phases.Began start operation) h = omega (arith, h)
 later_phase n m rises (phases.Acted lane position) h = tt
 
-later_done : (n m : ℕ) → n ≤ m → (c : Booked) → IsDoneBy n c → IsDoneBy m c
+later_done : (n m : ℕ) → n ≤ m → (c : RecordedCall) → IsDoneBy n c → IsDoneBy m c
 later_done n m rises c done = (omega (arith, done.0), done.1)
 
-all_later : (n m : ℕ) → n ≤ m → (calls : List Booked) → All (IsDoneBy n) calls → All (IsDoneBy m) calls
+all_later : (n m : ℕ) → n ≤ m → (calls : List RecordedCall) → All (IsDoneBy n) calls → All (IsDoneBy m) calls
 all_later n m rises calls h = all_then (IsDoneBy n) (IsDoneBy m) calls (later_done n m rises) h
 
-done_ended : (n position : ℕ) (calls : List Booked) → All (IsDoneBy n) calls → All (IsDoneBy (n + 1)) (ended_at position (n + 1) calls)
+done_ended : (n position : ℕ) (calls : List RecordedCall) → All (IsDoneBy n) calls → All (IsDoneBy (n + 1)) (ended_at position (n + 1) calls)
 done_ended n position [] h = All-nil (IsDoneBy (n + 1))
 done_ended n zero (c ∷ calls) h =
     let below = (All-head (IsDoneBy n) c calls h).0 in
@@ -123,12 +123,12 @@ opening_kept lanes callers = record {
 -- ---- what the lanes recorded
 
 -- an end changes nothing else of a call
-end_alone : (position end : ℕ) (calls : List Booked) → noted_of (ended_at position end calls) ≡ noted_of calls
+end_alone : (position end : ℕ) (calls : List RecordedCall) → noted_of (ended_at position end calls) ≡ noted_of calls
 end_alone position end [] = refl
 end_alone zero end (c ∷ calls) = refl
 end_alone (suc position) end (c ∷ calls) = ap (λ ns. c.noted ∷ ns) (end_alone position end calls)
 
-ends_alone : (lanes : List (List Booked)) (lane position end : ℕ) → map noted_of (with_end lanes lane position end) ≡ map noted_of lanes
+ends_alone : (lanes : List (List RecordedCall)) (lane position end : ℕ) → map noted_of (with_end lanes lane position end) ≡ map noted_of lanes
 ends_alone [] lane position end = refl
 ends_alone (calls ∷ lanes) zero position end = ap (λ ns. ns ∷ map noted_of lanes) (end_alone position end calls)
 ends_alone (calls ∷ lanes) (suc lane) position end = ap (λ ns. noted_of calls ∷ ns) (ends_alone lanes lane position end)
@@ -148,14 +148,14 @@ end_records layout books caller replies.Ignored = refl
 end_records layout books caller reply = end_in_alone books caller (slice_index_or books.callers caller phases.Idle)
 
 -- the calls of a lane, as the books have them
-pub noted_at : (lanes : List (List Booked)) (lane : ℕ) (calls : List Noted) → slice_get (map noted_of lanes) lane ≡ Some calls → noted_of (lane_at lanes lane) ≡ calls
+pub noted_at : (lanes : List (List RecordedCall)) (lane : ℕ) (calls : List Noted) → slice_get (map noted_of lanes) lane ≡ Some calls → noted_of (lane_at lanes lane) ≡ calls
 noted_at lanes lane calls at =
     let had = map_has noted_of lanes lane calls at in
     ap noted_of (get_or_from_slice_get lanes lane had.0 [] had.1) ∙ had.2
 
-pub call_noted : (lanes : List (List Booked)) (lane : ℕ) (c : Booked) → map noted_of (with_call lanes lane c) ≡ slice_set (map noted_of lanes) lane (noted_of (lane_at lanes lane) ++ c.noted ∷ [])
+pub call_noted : (lanes : List (List RecordedCall)) (lane : ℕ) (c : RecordedCall) → map noted_of (with_call lanes lane c) ≡ slice_set (map noted_of lanes) lane (noted_of (lane_at lanes lane) ++ c.noted ∷ [])
 call_noted [] lane c = refl
-call_noted (calls ∷ lanes) zero c = ap (λ ns. ns ∷ map noted_of lanes) (map-append (λ (b : Booked). b.noted) calls (c ∷ []))
+call_noted (calls ∷ lanes) zero c = ap (λ ns. ns ∷ map noted_of lanes) (map-append (λ (b : RecordedCall). b.noted) calls (c ∷ []))
 call_noted (calls ∷ lanes) (suc lane) c = ap (λ ns. noted_of calls ∷ ns) (call_noted lanes lane c)
 
 -- an act records the call that its lane noted

@@ -13,20 +13,20 @@ use Rattle.certificate_checker.specs.Lanes.{calls_of, deeds_done, IsLane, AreApa
 use Rattle.mover.specs.Lane.{LaneState}
 use Rattle.recorded_lane.specs.declared.noted.Noted.{Noted}
 use Rattle.recorded_lane.specs.Lane.{IsOfLane, deeds_of}
-use Rattle.history_recorder.specs.declared.booked.Booked.{Booked}
+use Rattle.history_recorder.specs.declared.recorded_call.RecordedCall.{RecordedCall}
 use Rattle.history_recorder.specs.Books.{Books, IsDoneBy, noted_of, closed, dones}
 use Rattle.history_recorder.specs.Game.{IsGame, IsWellKept, AreHonest}
 use Rattle.history_recorder.proofs.public_laws.Indexing.{all_then, at_so, map_has, pairs_by_index, all_by_index, pairs_map, pairs_back, all_back}
 use Rattle.history_recorder.proofs.GameKept.{as_many, linked_at}
 
 -- the end of a call is no earlier than its point
-closes : (last : ℕ) (c : Booked) → c.noted.point ≤ last → IfSome c.end (λ e. c.noted.point ≤ e) → c.noted.point ≤ (closed last c).call.end
+closes : (last : ℕ) (c : RecordedCall) → c.noted.point ≤ last → IfSome c.end (λ e. c.noted.point ≤ e) → c.noted.point ≤ (closed last c).call.end
 closes last c below ended = from c.end ended where
   from : (o : Option ℕ) → IfSome o (λ e. c.noted.point ≤ e) → c.noted.point ≤ unwrap_or o last
   from None h = below
   from (Some e) h = h
 
-deeds_closed : (last : ℕ) (calls : List Booked) → deeds_done (map (closed last) calls) ≡ deeds_of (noted_of calls)
+deeds_closed : (last : ℕ) (calls : List RecordedCall) → deeds_done (map (closed last) calls) ≡ deeds_of (noted_of calls)
 deeds_closed last [] = refl
 deeds_closed last (c ∷ calls) = rw (deeds_closed last calls) refl
 
@@ -54,7 +54,7 @@ count_all (l ∷ ls) h =
 module _ {L : Type 0} (layout_of : L → Layout) (lane_is : L → ℕ) (honest : L → Bool) (calls_in : L → List Noted) (state : L → LaneState) (layout : Layout) (books : Books) (lanes : List L) (kept : IsGame layout_of lane_is honest calls_in state layout books lanes) where
   -- the recorded calls of each list of done calls, and its lane
   record Of (i : ℕ) (done : List Done) : Type 0 where
-    pub calls : List Booked
+    pub calls : List RecordedCall
     pub is : map (closed (books.number + 1)) calls ≡ done
     pub done_by : All (IsDoneBy books.number) calls
     pub lane : L
@@ -64,7 +64,7 @@ module _ {L : Type 0} (layout_of : L → Layout) (lane_is : L → ℕ) (honest :
 
   of : (i : ℕ) (done : List Done) → slice_get (dones books) i ≡ Some done → Of i done
   of i done at =
-      let had = map_has (λ (calls : List Booked). map (closed (books.number + 1)) calls) books.lanes i done at in
+      let had = map_has (λ (calls : List RecordedCall). map (closed (books.number + 1)) calls) books.lanes i done at in
       let within = slice_get_within books.lanes i had.0 had.1 in
       let many = as_many layout_of lane_is honest calls_in state layout books lanes kept in
       let all = kept.all in
@@ -81,7 +81,7 @@ module _ {L : Type 0} (layout_of : L → Layout) (lane_is : L → ℕ) (honest :
 
   rises : (i : ℕ) (done : List Done) → Of i done → PointsRise done
   rises i done o =
-      subst PointsRise o.is (pairs_map (λ (a b : Done). a.point < b.point) (closed (books.number + 1)) o.calls (pairs_back (λ (a b : Noted). a.point < b.point) (λ (c : Booked). c.noted) o.calls (subst (AllPairs (λ (a b : Noted). a.point < b.point)) (sym o.noted) o.well.points)))
+      subst PointsRise o.is (pairs_map (λ (a b : Done). a.point < b.point) (closed (books.number + 1)) o.calls (pairs_back (λ (a b : Noted). a.point < b.point) (λ (c : RecordedCall). c.noted) o.calls (subst (AllPairs (λ (a b : Noted). a.point < b.point)) (sym o.noted) o.well.points)))
 
   pub ends_rise : All PointsRise (dones books)
   ends_rise = all_by_index PointsRise (dones books) (λ i done at. rises i done (of i done at))
@@ -90,7 +90,7 @@ module _ {L : Type 0} (layout_of : L → Layout) (lane_is : L → ℕ) (honest :
   short i done o =
       let a = ap length o.is in
       let b = length-map o.calls (closed (books.number + 1)) in
-      let d = length-map o.calls (λ (c : Booked). c.noted) in
+      let d = length-map o.calls (λ (c : RecordedCall). c.noted) in
       let e = ap length o.noted in
       let few = o.well.few in
       omega (arith, a, b, d, e, few)
@@ -99,12 +99,12 @@ module _ {L : Type 0} (layout_of : L → Layout) (lane_is : L → ℕ) (honest :
   ends_few bounded =
       let each = all_by_index (λ (l : List Done). length l ≤ 16777216) (dones books) (λ i done at. short i done (of i done at)) in
       let total = count_all (dones books) each in
-      let lists = length-map books.lanes (λ (calls : List Booked). map (closed (books.number + 1)) calls) in
+      let lists = length-map books.lanes (λ (calls : List RecordedCall). map (closed (books.number + 1)) calls) in
       let many = as_many layout_of lane_is honest calls_in state layout books lanes kept in
       omega (arith, total, lists, many, bounded)
 
   keys : (i : ℕ) (done : List Done) → Of i done → All (λ (d : Done). IsOfLane layout i d.call.key) done
-  keys i done o = subst (All (λ (d : Done). IsOfLane layout i d.call.key)) o.is (All-map (λ (d : Done). IsOfLane layout i d.call.key) (closed (books.number + 1)) o.calls (all_back (λ (m : Noted). IsOfLane layout i m.key) (λ (c : Booked). c.noted) o.calls (subst (All (λ (m : Noted). IsOfLane layout i m.key)) (sym o.noted) o.well.its)))
+  keys i done o = subst (All (λ (d : Done). IsOfLane layout i d.call.key)) o.is (All-map (λ (d : Done). IsOfLane layout i d.call.key) (closed (books.number + 1)) o.calls (all_back (λ (m : Noted). IsOfLane layout i m.key) (λ (c : RecordedCall). c.noted) o.calls (subst (All (λ (m : Noted). IsOfLane layout i m.key)) (sym o.noted) o.well.its)))
 
   pub ends_apart : AllPairs AreApart (dones books)
   ends_apart = pairs_by_index AreApart (dones books) (λ i j one other less at there. apart layout i j one other less (keys i one (of i one at)) (keys j other (of j other there)))
@@ -115,8 +115,8 @@ module _ {L : Type 0} (layout_of : L → Layout) (lane_is : L → ℕ) (honest :
       let h = at_so (λ l. IsTrue (honest l)) lanes i o.lane honests o.here in
       record {
         points_rise = rises i done o;
-        started = subst (All (λ (d : Done). d.call.start < d.point)) o.is (All-map (λ (d : Done). d.call.start < d.point) (closed (n + 1)) o.calls (all_back (λ (m : Noted). m.start < m.point) (λ (c : Booked). c.noted) o.calls (subst (All (λ (m : Noted). m.start < m.point)) (sym o.noted) o.well.starts)));
-        ended = subst (All (λ (d : Done). d.point ≤ d.call.end)) o.is (All-map (λ (d : Done). d.point ≤ d.call.end) (closed (n + 1)) o.calls (all_then (IsDoneBy n) (λ (c : Booked). c.noted.point ≤ (closed (n + 1) c).call.end) o.calls (λ c by. closes (n + 1) c (let below = by.0 in omega (arith, below)) by.1) o.done_by));
+        started = subst (All (λ (d : Done). d.call.start < d.point)) o.is (All-map (λ (d : Done). d.call.start < d.point) (closed (n + 1)) o.calls (all_back (λ (m : Noted). m.start < m.point) (λ (c : RecordedCall). c.noted) o.calls (subst (All (λ (m : Noted). m.start < m.point)) (sym o.noted) o.well.starts)));
+        ended = subst (All (λ (d : Done). d.point ≤ d.call.end)) o.is (All-map (λ (d : Done). d.point ≤ d.call.end) (closed (n + 1)) o.calls (all_then (IsDoneBy n) (λ (c : RecordedCall). c.noted.point ≤ (closed (n + 1) c).call.end) o.calls (λ c by. closes (n + 1) c (let below = by.0 in omega (arith, below)) by.1) o.done_by));
         lawful = subst (λ ds. IsLawful (deeds_done ds)) o.is (subst IsLawful (sym (deeds_closed (n + 1) o.calls ∙ ap deeds_of o.noted)) (o.well.lawful h));
       }
 

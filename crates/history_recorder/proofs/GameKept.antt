@@ -10,7 +10,7 @@ use Rattle.record_pages.specs.declared.layout.Layout.{Layout}
 use Rattle.mover.specs.Lane.{LaneState}
 use Rattle.recorded_lane.specs.declared.noted.Noted.{Noted}
 use Rattle.recorded_lane.specs.Lane.{deeds_of, IsSound}
-use Rattle.history_recorder.specs.declared.booked.Booked.{Booked}
+use Rattle.history_recorder.specs.declared.recorded_call.RecordedCall.{RecordedCall}
 use Rattle.history_recorder.specs.Books.{Books, IsDoneBy, noted_of, lane_at}
 use Rattle.history_recorder.specs.World.{IsSoundWorld}
 use Rattle.history_recorder.specs.Game.{IsGame, IsWellKept, AreHonest, unboxed, world_of}
@@ -66,19 +66,19 @@ module _ {L : Type 0} (layout_of : L → Layout) (lane_is : L → ℕ) (honest :
   booked_of i l at = ap (λ ns. slice_get ns i) kept.linked ∙ slice_get-map calls_of lanes i ∙ ap (option_map calls_of) at
 
   -- the books have the calls that a lane recorded
-  pub linked_at : (i : ℕ) (calls : List Booked) (l : L) → slice_get books.lanes i ≡ Some calls → slice_get lanes i ≡ Some l → noted_of calls ≡ calls_of l
+  pub linked_at : (i : ℕ) (calls : List RecordedCall) (l : L) → slice_get books.lanes i ≡ Some calls → slice_get lanes i ≡ Some l → noted_of calls ≡ calls_of l
   linked_at i calls l there at = same_Some (noted_of calls) (calls_of l) (sym (slice_get-map noted_of books.lanes i ∙ ap (option_map noted_of) there) ∙ booked_of i l at)
 
   -- how many calls a lane recorded
   pub counted_at : (i : ℕ) (l : L) → slice_get lanes i ≡ Some l → length (lane_at books.lanes i) ≡ length (calls_of l)
-  counted_at i l at = sym (length-map (lane_at books.lanes i) (λ (b : Booked). b.noted)) ∙ ap length (noted_at books.lanes i (calls_of l) (booked_of i l at))
+  counted_at i l at = sym (length-map (lane_at books.lanes i) (λ (b : RecordedCall). b.noted)) ∙ ap length (noted_at books.lanes i (calls_of l) (booked_of i l at))
 
   -- no call of a lane was done above the number
   pub reached : (i : ℕ) (l : L) → slice_get lanes i ≡ Some l → All (λ (n : Noted). n.point ≤ books.number) (calls_of l)
   reached i l at =
       let had = map_has noted_of books.lanes i (calls_of l) (booked_of i l at) in
       let done = at_so (All (IsDoneBy books.number)) books.lanes i had.0 kept.booked.done had.1 in
-      subst (All (λ (n : Noted). n.point ≤ books.number)) had.2 (All-map (λ (n : Noted). n.point ≤ books.number) (λ (b : Booked). b.noted) had.0 (all_then (IsDoneBy books.number) (λ (b : Booked). b.noted.point ≤ books.number) had.0 (λ b so. so.0) done))
+      subst (All (λ (n : Noted). n.point ≤ books.number)) had.2 (All-map (λ (n : Noted). n.point ≤ books.number) (λ (b : RecordedCall). b.noted) had.0 (all_then (IsDoneBy books.number) (λ (b : RecordedCall). b.noted.point ≤ books.number) had.0 (λ b so. so.0) done))
 
   -- a background step records nothing
   pub still_linked : (i : ℕ) (l : L) (calls : List Noted) → slice_get lanes i ≡ Some l → calls ≡ calls_of l → map noted_of books.lanes ≡ set (map noted_of books.lanes) i calls

@@ -8,8 +8,8 @@ use Rattle.certificate_checker.specs.Deeds.{Deed}
 use Rattle.certificate_checker.specs.declared.done.Done.{Done}
 use Rattle.recorded_lane.specs.declared.noted.Noted.{Noted}
 use Rattle.recorded_lane.specs.Lane.{deed_noted}
-use Rattle.history_recorder.specs.declared.booked.Booked.{Booked}
-use Rattle.history_recorder.specs.declared.called.Called.{Called}
+use Rattle.history_recorder.specs.declared.recorded_call.RecordedCall.{RecordedCall}
+use Rattle.history_recorder.specs.declared.open_call.OpenCall.{OpenCall}
 use Rattle.history_recorder.specs.declared.event.Event.{Event}
 use Rattle.history_recorder.specs.declared.event.Event.TheVariants as events
 use Rattle.history_recorder.specs.declared.operation.Operation.{Operation}
@@ -24,41 +24,41 @@ use Rattle.history_recorder.specs.Operations.{key_of, lane_of, act_done, Answers
 pub record Books : Type 0 where
   pub number : ℕ
   pub callers : List Phase
-  pub lanes : List (List Booked)
+  pub lanes : List (List RecordedCall)
 
 -- nothing happened yet
 abbrev pub opening_books : ℕ → ℕ → Books
 opening_books lanes callers = record { number = 0; callers = replicate callers phases.Idle; lanes = replicate lanes [] }
 
 -- the calls of a lane as it recorded them
-abbrev pub noted_of : List Booked → List Noted
+abbrev pub noted_of : List RecordedCall → List Noted
 noted_of calls = map (λ c. c.noted) calls
 
 -- what a lane's calls did, in order
-abbrev pub deeds_booked : List Booked → List Deed
+abbrev pub deeds_booked : List RecordedCall → List Deed
 deeds_booked calls = map deed_noted (noted_of calls)
 
 -- the calls of a lane of a world
-abbrev pub lane_at : List (List Booked) → ℕ → List Booked
+abbrev pub lane_at : List (List RecordedCall) → ℕ → List RecordedCall
 lane_at lanes lane = slice_index_or lanes lane []
 
 -- the call of an operation that was done at a point, not ended yet
-abbrev pub booked : ℕ → ℕ → ℕ → Operation → Act → Booked
+abbrev pub booked : ℕ → ℕ → ℕ → Operation → Act → RecordedCall
 booked caller start point operation act =
     record { noted = record { caller = caller; start = start; point = point; key = key_of operation; act = act }; end = None }
 
 -- one lane with a call more
-abbrev pub with_call : List (List Booked) → ℕ → Booked → List (List Booked)
+abbrev pub with_call : List (List RecordedCall) → ℕ → RecordedCall → List (List RecordedCall)
 with_call lanes lane call = slice_set lanes lane (lane_at lanes lane ++ call ∷ [])
 
 -- the call at a position gets this end
-abbrev pub ended_at : ℕ → ℕ → List Booked → List Booked
+abbrev pub ended_at : ℕ → ℕ → List RecordedCall → List RecordedCall
 ended_at position end [] = []
 ended_at zero end (c ∷ calls) = record c { end = Some end } ∷ calls
 ended_at (suc position) end (c ∷ calls) = c ∷ ended_at position end calls
 
 -- one lane, whose call at a position gets this end
-abbrev pub with_end : List (List Booked) → ℕ → ℕ → ℕ → List (List Booked)
+abbrev pub with_end : List (List RecordedCall) → ℕ → ℕ → ℕ → List (List RecordedCall)
 with_end lanes lane position end = slice_set lanes lane (ended_at position end (lane_at lanes lane))
 
 -- the next number is drawn, and a caller is doing something else
@@ -96,7 +96,7 @@ books_after layout books (event ∷ events) (reply ∷ replies) = books_after la
 books_after layout books events replies = books
 
 -- a recorded call as it is done: one without an end gets this one
-abbrev pub closed : ℕ → Booked → Done
+abbrev pub closed : ℕ → RecordedCall → Done
 closed last c = record {
   call = record { caller = c.noted.caller; start = c.noted.start; end = unwrap_or c.end last; key = c.noted.key; act = c.noted.act };
   point = c.noted.point;
@@ -172,7 +172,7 @@ abbrev pub CanDraw : Books → Type 0
 CanDraw books = books.number < 2 ^ 63
 
 -- a call was taken from a caller that began one; if none was, nothing changed
-abbrev pub TakesCall : Books → ℕ → Option Called → Books → Type 0
+abbrev pub TakesCall : Books → ℕ → Option OpenCall → Books → Type 0
 TakesCall old caller (Some call) new =
     IsDoing old caller (phases.Began call.start call.operation) × (new ≡ record old { callers = slice_set old.callers caller phases.Idle })
 TakesCall old caller None new = ((start : ℕ) (operation : Operation) → ¬ IsDoing old caller (phases.Began start operation)) × (new ≡ old)
@@ -184,7 +184,7 @@ HasStarted number phases.Idle = Unit {0}
 HasStarted number (phases.Acted lane position) = Unit {0}
 
 -- a call was done by now, and no later than its end
-abbrev pub IsDoneBy : ℕ → Booked → Type 0
+abbrev pub IsDoneBy : ℕ → RecordedCall → Type 0
 IsDoneBy number c = (c.noted.point ≤ number) × IfSome c.end (λ e. c.noted.point ≤ e)
 
 -- what is true of books at each moment

@@ -3,7 +3,7 @@ use Rattle.std.specs.Prelude.{◌≡◌, ℕ, List, [], ◌∷◌, All, slice_ge
 use Rattle.record_pages.specs.declared.layout.Layout.{Layout}
 use Rattle.mover.specs.Lane.{LaneState}
 use Rattle.recorded_lane.specs.Lane.{IsSound}
-use Rattle.history_recorder.specs.declared.booked.Booked.{Booked}
+use Rattle.history_recorder.specs.declared.recorded_call.RecordedCall.{RecordedCall}
 use Rattle.history_recorder.specs.declared.event.Event.{Event}
 use Rattle.history_recorder.specs.declared.event.Event.TheVariants as events
 use Rattle.history_recorder.specs.declared.operation.Operation.{Operation}
@@ -56,7 +56,7 @@ IsRun size layout old events replies worlds = ⊥
 -- every lane of a world is sound after the calls that it recorded
 abbrev pub IsSoundWorld : World → Type 0
 IsSoundWorld w =
-    (lane : ℕ) (calls : List Booked) (state : LaneState)
+    (lane : ℕ) (calls : List RecordedCall) (state : LaneState)
     → slice_get w.books.lanes lane ≡ Some calls → slice_get w.states lane ≡ Some state → IsSound state (deeds_booked calls)
 
 -- a run of sound worlds

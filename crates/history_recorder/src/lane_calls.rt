@@ -2,8 +2,8 @@
 ghost use Rattle.std.specs.Prelude.{◌≡◌, ◌++◌, ◌∷◌, [], length, map, IfOk, OnOk, OnErr, None};
 ghost use Rattle.history_recorder.specs.Books.{ended_at, closed};
 
-use crate::booked::Booked;
 use crate::dones::Dones;
+use crate::recorded_call::RecordedCall;
 use recorded_lane::Noted;
 use std::alloc::{AllocError, Global};
 use std::marker::Model;
@@ -11,14 +11,14 @@ use std::marker::Model;
 /// The calls of a lane, in the order of its record.
 #[derive(Drop)]
 pub(crate) struct LaneCalls {
-    calls: Vec<Booked>,
+    calls: Vec<RecordedCall>,
 }
 
 impl Model for LaneCalls {
     ghost use Rattle.std.specs.Prelude.{List};
-    ghost use Rattle.history_recorder.specs.declared.booked.Booked.{Booked};
+    ghost use Rattle.history_recorder.specs.declared.recorded_call.RecordedCall.{RecordedCall};
 
-    ghost Value = { List Booked };
+    ghost Value = { List RecordedCall };
 
     ghost view = { λ list. list.calls.items };
 }
@@ -40,7 +40,7 @@ impl LaneCalls {
         ensures err { OnErr result (self.new ≡ self.old) }
     {
         let position = self.calls.len();
-        self.calls.push(Booked { noted, end: None })?;
+        self.calls.push(RecordedCall { noted, end: None })?;
         Ok(position)
     }
 

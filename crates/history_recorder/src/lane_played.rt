@@ -73,7 +73,7 @@ impl<D: PageDevice<PAGE>, const PAGE: usize> PlayedLane<PAGE> for RecordedLane<D
 }
 
 /// What is true of every lane. Its model hides that from whoever made or changed one, and its length tells it.
-pub(crate) fn recall<D: PageDevice<PAGE>, const PAGE: usize>(lane: &RecordedLane<D, PAGE>)
+pub(crate) fn know_recorded<D: PageDevice<PAGE>, const PAGE: usize>(lane: &RecordedLane<D, PAGE>)
     ensures { IsRecorded D.honest D.held lane.now }
 {
     let _count = lane.len();
@@ -96,7 +96,7 @@ fn act_get<D: PageDevice<PAGE>, const PAGE: usize>(
 {
     match recorded.get(caller, start, point, &key, moment) {
         Ok(answer) => {
-            recall(recorded);
+            know_recorded(recorded);
             let noted = Noted {
                 caller,
                 start,
@@ -110,7 +110,7 @@ fn act_get<D: PageDevice<PAGE>, const PAGE: usize>(
             })
         }
         Err(fault) => {
-            recall(recorded);
+            know_recorded(recorded);
             Ok(ActReply {
                 reply: Reply::Got(Err(fault)),
                 noted: None,
@@ -145,14 +145,14 @@ fn act_put<D: PageDevice<PAGE>, const PAGE: usize>(
     };
     match recorded.put(caller, start, point, key, value, word, expires) {
         Ok(pushed) => {
-            recall(recorded);
+            know_recorded(recorded);
             Ok(ActReply {
                 reply: Reply::Stored(Ok(pushed)),
                 noted: Some(noted),
             })
         }
         Err(fault) => {
-            recall(recorded);
+            know_recorded(recorded);
             Ok(ActReply {
                 reply: Reply::Stored(Err(fault)),
                 noted: None,
@@ -177,7 +177,7 @@ fn act_remove<D: PageDevice<PAGE>, const PAGE: usize>(
 {
     match recorded.remove(caller, start, point, &key) {
         Ok(()) => {
-            recall(recorded);
+            know_recorded(recorded);
             let noted = Noted {
                 caller,
                 start,
@@ -191,7 +191,7 @@ fn act_remove<D: PageDevice<PAGE>, const PAGE: usize>(
             }
         }
         Err(fault) => {
-            recall(recorded);
+            know_recorded(recorded);
             ActReply {
                 reply: Reply::Removed(Err(fault)),
                 noted: None,
@@ -208,7 +208,7 @@ fn play_flush<D: PageDevice<PAGE>, const PAGE: usize>(
     ensures { LaneSteps D.honest D.held PAGE (Event.Flush lane) recorded.old result recorded.new }
 {
     let flushed = recorded.flush_step();
-    recall(recorded);
+    know_recorded(recorded);
     Reply::Flushed(flushed)
 }
 
@@ -220,7 +220,7 @@ fn play_begin<D: PageDevice<PAGE>, const PAGE: usize>(
     ensures { LaneSteps D.honest D.held PAGE (Event.MoveBegin lane) recorded.old result recorded.new }
 {
     let begun = recorded.move_begin();
-    recall(recorded);
+    know_recorded(recorded);
     Reply::MoveBegun(begun)
 }
 
@@ -235,7 +235,7 @@ fn play_commit<D: PageDevice<PAGE>, const PAGE: usize>(
         recorded.new }
 {
     let committed = recorded.move_commit(plan, number);
-    recall(recorded);
+    know_recorded(recorded);
     Reply::Committed(committed)
 }
 
@@ -248,7 +248,7 @@ fn play_abort<D: PageDevice<PAGE>, const PAGE: usize>(
     ensures { LaneSteps D.honest D.held PAGE (Event.Abort lane number) recorded.old result recorded.new }
 {
     let aborted = recorded.move_abort(number);
-    recall(recorded);
+    know_recorded(recorded);
     Reply::Aborted(aborted)
 }
 

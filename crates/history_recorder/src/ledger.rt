@@ -4,9 +4,9 @@ ghost use Rattle.record_pages.specs.declared.layout.Layout.{Layout};
 ghost use Rattle.history_recorder.specs.declared.event.Event.{Event};
 ghost use Rattle.history_recorder.specs.Books.{opening_books, after_event, drawn, lane_at, with_call, with_end, dones, IsDoing, IsReplied, CanDraw, TakesCall, after_noted};
 
-use crate::called::Called;
 use crate::dones::Dones;
 use crate::lane_calls::LaneCalls;
+use crate::open_call::OpenCall;
 use crate::operation::Operation;
 use crate::phase::Phase;
 use crate::reply::Reply;
@@ -142,14 +142,14 @@ impl Ledger {
     }
 
     /// Takes the call of a caller that began one, which is idle then.
-    pub(crate) fn take(&mut self, caller: u16) -> Option<Called>
+    pub(crate) fn take(&mut self, caller: u16) -> Option<OpenCall>
         ensures { TakesCall self.old caller result self.new }
     {
         if !self.has_begun(caller) {
             return None;
         }
         match mem::replace(&mut self.callers[usize::from(caller)], Phase::Idle) {
-            Phase::Began(start, operation) => Some(Called { start, operation }),
+            Phase::Began(start, operation) => Some(OpenCall { start, operation }),
             _ => None,
         }
     }

@@ -2,8 +2,6 @@
 #![tactic(auto)]
 
 mod act_reply;
-mod booked;
-mod called;
 mod dones;
 mod event;
 mod game;
@@ -15,12 +13,14 @@ mod layout;
 mod ledger;
 mod merging;
 mod next_call;
+mod open_call;
 mod open_world_fault;
 mod operation;
 mod phase;
 mod played;
 mod played_lane;
 mod playing;
+mod recorded_call;
 mod replies;
 mod reply;
 mod world;

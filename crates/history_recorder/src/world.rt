@@ -4,7 +4,7 @@ ghost use Rattle.record_pages.specs.Asked.{HasNumbersOf, layout_pages};
 ghost use Rattle.record_pages.specs.Sizes.{IsPageSize};
 ghost use Rattle.mover.specs.Store.{IsTooSmall};
 
-use crate::lane_played::recall;
+use crate::lane_played::know_recorded;
 use crate::open_world_fault::OpenWorldFault;
 use page_device::{Boxed, PageDevice};
 use record_pages::{Config, Layout};
@@ -106,7 +106,7 @@ fn open_lanes<D: PageDevice<PAGE>, const PAGE: usize>(
     for device in devices {
         let boxed = Boxed::new(alloc, device)?;
         let lane = RecordedLane::with_layout(alloc, layout, number, boxed)?;
-        recall(&lane);
+        know_recorded(&lane);
         lanes.push(Box::new(alloc, lane)?)?;
         number += 1;
     }

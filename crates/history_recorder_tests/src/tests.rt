@@ -12,7 +12,7 @@ use rriparoo::Rriparoo;
 use set_hash::place;
 use std::alloc::{AllocError, Global};
 use std::test::Fail;
-use test_steps::{key, value};
+use test_devices::{key, value};
 use trace_file::{ActRef, History};
 
 // One lane of one set, with one object in memory and two segments of one page.

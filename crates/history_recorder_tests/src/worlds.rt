@@ -8,7 +8,7 @@ use policy_laws::{Choice, Plan};
 use record_pages::{Answer, Config, Field, NEVER, Prediction};
 use std::alloc::Global;
 use std::test::Fail;
-use test_steps::{key, value};
+use test_devices::{key, value};
 use trace_file::{ActRef, CallRef, Certificate, History};
 
 /// A call of a caller that begins.

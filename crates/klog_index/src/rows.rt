@@ -10,7 +10,7 @@ use crate::place::Place;
 use entry_pool::{EntryPool, Row};
 
 // What is true of every pool. Its model hides that, and its length tells it.
-fn recall(pool: &EntryPool)
+fn know_distinct(pool: &EntryPool)
     ensures { IsDistinct (numbers pool.now.rows) }
 {
     let _count = pool.len();
@@ -21,7 +21,7 @@ pub(crate) fn row_in(pool: &EntryPool, set: u32, place: Place) -> Option<Row>
     ensures found { result ≡ row_of (is_in set place) pool.now.rows }
     ensures apart { IsDistinct (numbers pool.now.rows) }
 {
-    recall(pool);
+    know_distinct(pool);
     pool.in_set(set).filter(|row| lies_at(row, place)).nth(0)
 }
 
@@ -30,7 +30,7 @@ pub(crate) fn row_at(pool: &EntryPool, place: Place) -> Option<Row>
     ensures found { result ≡ row_of (is_at place) pool.now.rows }
     ensures apart { IsDistinct (numbers pool.now.rows) }
 {
-    recall(pool);
+    know_distinct(pool);
     pool.by_age().filter(|row| lies_at(row, place)).nth(0)
 }
 
@@ -40,7 +40,7 @@ pub(crate) fn row_behind(pool: &EntryPool, mark: u32) -> Option<Row>
     ensures next { IsNext mark pool.now.rows result }
     ensures apart { IsDistinct (numbers pool.now.rows) }
 {
-    recall(pool);
+    know_distinct(pool);
     pool.next_older(mark)
 }
 
@@ -50,7 +50,7 @@ pub(crate) fn row_behind_in(pool: &EntryPool, set: u32, mark: u32) -> Option<Row
     ensures next { IsNext mark (in_set set pool.now.rows) result }
     ensures apart { IsDistinct (numbers pool.now.rows) }
 {
-    recall(pool);
+    know_distinct(pool);
     pool.next_in(set, mark)
 }
 

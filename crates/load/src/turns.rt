@@ -1,4 +1,4 @@
-// What the workers of loads have alike: the lanes in turn, and a rest if there is nothing to do.
+// A worker's lanes in turn, and its rest if there is nothing to do.
 ghost use Rattle.std.specs.Prelude.{◌≡◌, ◌<◌, ◌+◌, ◌%◌};
 
 use std::sync::Wait;
@@ -9,7 +9,7 @@ use std::time::Duration;
 const NAP: u64 = 50;
 
 /// The lane after this one, in turn: after the last one the first.
-pub fn lane_after(lane: u32, lanes: u32) -> u32
+pub(crate) fn lane_after(lane: u32, lanes: u32) -> u32
     requires { lane < lanes }
     ensures next { result ≡ (lane + 1) % lanes }
     ensures within { result < lanes }
@@ -18,7 +18,7 @@ pub fn lane_after(lane: u32, lanes: u32) -> u32
 }
 
 /// Rests for 50 microseconds at the most, as long as this many callers are running.
-pub fn rest<R: Wait>(rt: &R, running: &AtomicU64, callers: u64) {
+pub(crate) fn rest<R: Wait>(rt: &R, running: &AtomicU64, callers: u64) {
     running.park_timeout(
         rt,
         (callers & 0xffff_ffff) as u32,

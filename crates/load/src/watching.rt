@@ -17,7 +17,7 @@ const LATER: u32 = 10;
 /// Tells how many of all calls were made, as they are counted in `made`, at most twice a second, if `err` is a terminal,
 /// until no caller is running. Each line is written over the one before, and the last one stays. What `err` refuses is not
 /// told.
-pub fn watch<R: Wait + Clock, E: Write + IsTerminal>(
+pub(crate) fn watch<R: Wait + Clock, E: Write + IsTerminal>(
     rt: &R,
     all: u64,
     running: &AtomicU64,

@@ -4,3 +4,4 @@ pub mod Ends
 pub mod Runs
 pub mod Summaries
 pub mod Wholes
+pub mod Fitting

@@ -3,12 +3,11 @@ ghost use Rattle.std.specs.Prelude.{IfErr, IfOk};
 ghost use Rattle.load_run.specs.Devices.{AreDevicesFor};
 ghost use Rattle.load_run.specs.Ends.{IsUnopened};
 
-use crate::run_cause::RunCause;
 use crate::run_end::RunEnd;
 use crate::run_outcome::RunOutcome;
 use crate::shared::PAGE;
 use file_device::{FileDevice, LaneFileFault, lanes_in_files};
-use load::FileName;
+use load::{FileName, SystemFault};
 use record_pages::Layout;
 use std::alloc::Global;
 use std::fs::File;
@@ -30,7 +29,7 @@ pub fn in_files<R: Files<File = File>>(
     match lanes_in_files(rt, alloc, folder.as_str(), layout.lanes, layout.pages()) {
         Ok(devices) => Ok(devices),
         Err(LaneFileFault::OutOfMemory) => Err(RunOutcome::plain(RunEnd::OutOfMemory)),
-        Err(LaneFileFault::Unopened(path, fault)) => Err(RunOutcome::failed(RunCause::Device(
+        Err(LaneFileFault::Unopened(path, fault)) => Err(RunOutcome::system(SystemFault::Device(
             path, fault,
         ))),
     }

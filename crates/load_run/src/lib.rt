@@ -2,18 +2,17 @@
 #![tactic(auto)]
 
 mod caller;
-mod crew;
 mod hits;
 mod in_files;
 mod load_result;
 mod run;
 mod run_cause;
+mod run_crew;
 mod run_end;
 mod run_outcome;
 mod shared;
 mod summary;
 mod telling;
-mod worker;
 
 pub use hits::hits_of;
 pub use load_result::{LoadResult, make_history};

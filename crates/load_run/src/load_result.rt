@@ -3,10 +3,10 @@ ghost use Rattle.std.specs.Prelude.{◌≡◌, All, IfOk, IsTrue, count_by, leng
 ghost use Rattle.certificate_checker.specs.Acceptance.{IsAccepted};
 ghost use Rattle.load_run.specs.Wholes.{IsWhole, is_short};
 
-use crate::crew::run_crew;
-use crate::telling::tell_step;
+use crate::run_crew::RunCrew;
+use crate::telling::{operations, tell_step};
 use crossbeam_channel::{Receiver, bounded};
-use load::Load;
+use load::{Load, run_crew};
 use page_device::PageDevice;
 use policy_laws::EvictionPolicy;
 use shared_cache::{FinishFault, Finished, Pass, SharedCache};
@@ -70,7 +70,12 @@ pub fn make_history<
     let Ok((to, from)) = bounded::<Pass, _>(alloc, load.callers as usize) else {
         return Err(FinishFault::OutOfMemory);
     };
-    run_crew(rt, alloc, &cache, load, passes, &to, err);
+    let crew = RunCrew {
+        alloc,
+        cache: &cache,
+        load,
+    };
+    let _ended = run_crew(rt, &crew, passes, load.workers, operations(load), &to, err);
     let Ok(left) = take_left(rt, alloc, load, &from) else {
         return Err(FinishFault::OutOfMemory);
     };

@@ -20,7 +20,7 @@ use certificate_checker::check_with_hasher;
 use figures::Form;
 use file_device::{lanes_in_memory, taken_places};
 use key_hash::RandomSeed;
-use load::{FileName, Load};
+use load::{FileName, Load, SystemFault};
 use page_device::PageDevice;
 use shared_cache::FinishFault;
 use std::alloc::{AllocError, Global};
@@ -103,7 +103,7 @@ fn run_over<
 {
     let seed = match RandomSeed::draw(rt) {
         Ok(seed) => seed,
-        Err(error) => return RunOutcome::failed(RunCause::Random(error)),
+        Err(error) => return RunOutcome::system(SystemFault::Random(error)),
     };
     let made = match run_cache(rt, rt.alloc(), load, devices, err) {
         Ok(made) => made,
@@ -208,10 +208,10 @@ fn write_summary<O: Write>(alloc: Global, form: Form, summary: &Summary, out: &m
         return RunOutcome::plain(RunEnd::OutOfMemory);
     };
     if out.write_all(text.as_bytes()).is_err() {
-        return RunOutcome::failed(RunCause::Output);
+        return RunOutcome::system(SystemFault::Output);
     }
     if out.flush().is_err() {
-        return RunOutcome::failed(RunCause::Output);
+        return RunOutcome::system(SystemFault::Output);
     }
     RunOutcome::judged(summary)
 }

@@ -5,6 +5,7 @@ ghost use Rattle.load_run.specs.Ends.{IsRefusal, end_of_finish, end_of_verdict};
 use crate::run_cause::RunCause;
 use crate::run_end::RunEnd;
 use crate::summary::Summary;
+use load::SystemFault;
 use shared_cache::FinishFault;
 
 /// How a run ended, and what failed, if a file, the output or the system did.
@@ -41,6 +42,13 @@ impl RunOutcome {
             end: RunEnd::of_finish(fault),
             cause: Some(RunCause::Unfinished(fault)),
         }
+    }
+
+    /// A run under which this of the system failed.
+    pub fn system(fault: SystemFault) -> RunOutcome
+        ensures { result.end ≡ RunEnd.FileFault }
+    {
+        RunOutcome::failed(RunCause::System(fault))
     }
 
     /// A run of which this failed.

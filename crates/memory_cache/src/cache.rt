@@ -107,7 +107,7 @@ impl MemoryCache {
         ensures* raised { sem 𝓛 (EndsAs self.entry (after_get key.now self.old)) }
         ensures value { option_copied result ≡ value_in key.now self.old.pairs }
     {
-        recall(&self.objects);
+        know_valid(&self.objects);
         self.objects.get(KeyBytes(key))
     }
 
@@ -115,7 +115,7 @@ impl MemoryCache {
     pub fn raise(&mut self, key: &[u8])
         ensures { self.new ≡ after_get key.now self.old }
     {
-        recall(&self.objects);
+        know_valid(&self.objects);
         let _held = self.objects.promote(KeyBytes(key));
     }
 
@@ -133,7 +133,7 @@ impl MemoryCache {
         ensures err { OnErr result (self.new ≡ self.old) }
         ensures replaces { IsSome (value_in key self.old.pairs) → IsOk result }
     {
-        recall(&self.objects);
+        know_valid(&self.objects);
         match self.objects.push(key, value) {
             Ok(Some((key, value))) => Ok(unless_first(&self.objects, Pair { key, value })),
             Ok(None) => Ok(None),
@@ -158,7 +158,7 @@ impl MemoryCache {
         ensures value { result ≡ value_in key.now self.old.pairs }
         ensures after { self.new ≡ after_remove key.now self.old }
     {
-        recall(&self.objects);
+        know_valid(&self.objects);
         self.objects.pop(KeyBytes(key))
     }
 }
@@ -169,7 +169,7 @@ ghost use Rattle.lru.specs.LruCache.{IsValid};
 ghost use Rattle.memory_cache.specs.Entries.{is_first};
 
 /// Ghost: reading the length brings the map's invariant, that no key stands twice, into scope.
-fn recall(objects: &LruCache<Key, TimedValue, RandomSeed>)
+fn know_valid(objects: &LruCache<Key, TimedValue, RandomSeed>)
     ensures { IsValid (pointwise nat_eq) objects.now }
 {
     let _held = objects.len();

@@ -2,6 +2,7 @@
 #![tactic(auto)]
 
 mod aborted;
+mod answer_kind;
 mod begin;
 mod committed;
 mod fitting;
@@ -11,14 +12,14 @@ mod laws;
 mod located;
 mod mark;
 mod marks;
+mod memory_answer;
 mod moved_whole;
 mod moving;
 mod open_fault;
-mod recalled;
-mod seen;
 mod store;
 
 pub use aborted::Aborted;
+pub use answer_kind::AnswerKind;
 pub use begin::Begin;
 pub use committed::Committed;
 pub use laws::{
@@ -27,5 +28,4 @@ pub use laws::{
 };
 pub use moved_whole::MovedWhole;
 pub use open_fault::OpenFault;
-pub use seen::Seen;
 pub use store::Store;

@@ -3,7 +3,7 @@ ghost use Rattle.std.specs.Prelude.{◌≡◌, ℕ, List, true, IfOk, OnErr};
 ghost use Rattle.mover.specs.Get.{answer_of, is_hit};
 ghost use Rattle.mover.specs.Touch.{answer_at, has_value};
 
-use crate::seen::Seen;
+use crate::answer_kind::AnswerKind;
 use klog_index::Entry;
 use record_pages::{Answer, MissCause, Tier, Value, ValueBuffer};
 use std::alloc::{AllocError, Global};
@@ -23,15 +23,15 @@ pub(crate) enum Located {
 
 impl Located {
     /// The answer whose value, if there is one, is in a buffer of the caller's.
-    pub(crate) fn seen(&self) -> Seen
+    pub(crate) fn kind(&self) -> AnswerKind
         ensures answer { (buffer : List ℕ) → answer_of result buffer ≡ answer_at self.now buffer }
         ensures hit { is_hit result ≡ has_value self.now }
     {
         match self {
-            Located::Memory => Seen::Hit(Tier::Memory),
-            Located::Log(_) => Seen::Hit(Tier::Log),
-            Located::Set { .. } => Seen::Hit(Tier::Set),
-            Located::Miss(cause) => Seen::Miss(*cause),
+            Located::Memory => AnswerKind::Hit(Tier::Memory),
+            Located::Log(_) => AnswerKind::Hit(Tier::Log),
+            Located::Set { .. } => AnswerKind::Hit(Tier::Set),
+            Located::Miss(cause) => AnswerKind::Miss(*cause),
         }
     }
 

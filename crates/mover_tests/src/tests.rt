@@ -26,7 +26,7 @@ use rriparoo::Rriparoo;
 use std::alloc::{AllocError, Global};
 use std::process::Abort;
 use std::test::Fail;
-use test_steps::{Asked, PlannedDevice, StaleDevice, key, value};
+use test_devices::{DeviceCall, PlannedDevice, StaleDevice, key, value};
 
 // One lane of one set, with one object in memory and two segments of one page. Page 0 is the set's, pages 1 and 2 are the log's.
 const ONE_SET: Config = Config {
@@ -51,7 +51,7 @@ pub struct Row {
     refused: u32,
     tables: &'static [&'static [Step]],
     /// What the calls ask of the device, in this order, if that is told.
-    asked: Option<&'static [Asked]>,
+    asked: Option<&'static [DeviceCall]>,
 }
 
 // No call of a store of one set, over a device that refuses none and gives what was written.

@@ -4,8 +4,8 @@ ghost use Rattle.record_pages.specs.Sizes.{IsPageSize, max_log_records};
 ghost use Rattle.record_pages.specs.Recs.{fit};
 ghost use Rattle.record_pages.specs.PageText.{set_page_text, log_page_text, SpellsSetPage, SpellsLogPage};
 
+use crate::bytes_out::{put_log_header, put_records, put_set_header, zero_from};
 use crate::object::{MAX_SET_RECORDS, PAGE_OVERHEAD};
-use crate::put::{put_log_header, put_records, put_set_header, zero_from};
 use crate::record::Record;
 
 /// Whether the records fit together on a set page of `PAGE` bytes. A log page takes them too if there are at most

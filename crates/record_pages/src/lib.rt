@@ -4,6 +4,7 @@
 
 mod answer;
 mod buffer;
+mod bytes_out;
 mod config;
 mod encode;
 mod field;
@@ -20,7 +21,6 @@ mod object;
 mod page_body;
 mod prediction;
 mod pushed;
-mod put;
 mod put_fault;
 mod record;
 mod record_ref;

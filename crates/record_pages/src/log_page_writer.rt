@@ -7,9 +7,9 @@ ghost use Rattle.record_pages.specs.Lent.{record_shown};
 ghost use Rattle.record_pages.specs.PageText.{log_page_text, SpellsLogPage};
 ghost use Rattle.record_pages.specs.Making.{IsLogInTheMaking};
 
+use crate::bytes_out::{put, put_log_header, zero_from};
 use crate::object::MAX_LOG_RECORDS;
 use crate::page_body::PageBody;
-use crate::put::{put, put_log_header, zero_from};
 use crate::record_ref::RecordRef;
 use crate::records::Records;
 use std::marker::Model;

@@ -8,9 +8,9 @@ ghost use Rattle.record_pages.specs.Reading.{records_of};
 ghost use Rattle.record_pages.specs.Making.{IsInTheMaking};
 ghost use Rattle.record_pages.specs.declared.form.RecordForm.TheVariants.{Timed};
 
+use crate::bytes_out::put_record;
 use crate::form::RecordForm;
 use crate::object::PAGE_OVERHEAD;
-use crate::put::put_record;
 use crate::record_ref::RecordRef;
 use crate::records::{Records, record_there, records_in};
 use std::marker::Model;

@@ -5,9 +5,9 @@ ghost use Rattle.record_pages.specs.Recs.{Rec, IsRecord, fit};
 ghost use Rattle.record_pages.specs.Lent.{record_shown};
 ghost use Rattle.record_pages.specs.PageText.{set_page_text, SpellsSetPage};
 
+use crate::bytes_out::{put, put_set_header, zero_from};
 use crate::object::MAX_SET_RECORDS;
 use crate::page_body::PageBody;
-use crate::put::{put, put_set_header, zero_from};
 use crate::record_ref::RecordRef;
 use crate::records::Records;
 use std::marker::Model;

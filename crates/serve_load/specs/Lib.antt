@@ -12,3 +12,4 @@ pub mod Closing
 pub mod Reports
 pub mod Ends
 pub mod Serving
+pub mod Fitting

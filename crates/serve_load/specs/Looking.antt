@@ -2,8 +2,8 @@
 use Rattle.std.specs.Prelude.{◌≡◌, ◌⊎◌, ℕ, List, [], Bool, Result, Ok, Err, slice_index}
 use Rattle.record_pages.specs.declared.tier.Tier.{Tier}
 use Rattle.record_pages.specs.declared.answer.Answer.TheVariants as answers
-use Rattle.mover.specs.declared.seen.Seen.{Seen}
-use Rattle.mover.specs.declared.seen.Seen.TheVariants.{Hit, Miss}
+use Rattle.mover.specs.declared.answer_kind.AnswerKind.{AnswerKind}
+use Rattle.mover.specs.declared.answer_kind.AnswerKind.TheVariants.{Hit, Miss}
 use Rattle.certificate_checker.specs.Deeds.{Deed}
 use Rattle.service_cache.specs.declared.seat_fault.SeatFault.{SeatFault}
 use Rattle.service_cache.specs.Calls.{IsHit}
@@ -16,7 +16,7 @@ use Rattle.serve_load.specs.Objects.{key_of, moment_of}
 use Rattle.serve_load.specs.Words.{IsRight, JudgesHit}
 
 -- a look-up that gave this, and these bytes at a hit, went so: a hit is judged, a miss is done, and a refusal is refused
-abbrev pub Judges : ServeLoad → ℕ → ℕ → ℕ → Result Seen SeatFault → List ℕ → CallEnd → Type 0
+abbrev pub Judges : ServeLoad → ℕ → ℕ → ℕ → Result AnswerKind SeatFault → List ℕ → CallEnd → Type 0
 Judges load key known moment (Ok (Hit tier)) bytes step = JudgesHit load key known moment bytes step
 Judges load key known moment (Ok (Miss cause)) bytes step = step ≡ Done
 Judges load key known moment (Err fault) bytes step = step ≡ Refused

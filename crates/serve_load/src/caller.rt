@@ -17,9 +17,9 @@ use crate::right::judged;
 use crate::room::Room;
 use crate::tally::{Tally, Tallying};
 use crate::words::{CallEnd, step_of_fill, word_after_fill};
-use deed_book::{KeyLanes, Naming, Seat};
+use deed_book::{BookName, KeyLanes, Seat};
 use load::{ServeLoad, ServeOperation};
-use mover::Seen;
+use mover::AnswerKind;
 use page_device::PageDevice;
 use policy_laws::EvictionPolicy;
 use rand_pcg::Lcg64Xsh32;
@@ -35,7 +35,7 @@ use std::time::{Clock, Instant};
 /// A caller: its number, its seat, the generator of its random words, what it knows of its keys, a word for each, and room for
 /// its values.
 #[derive(Drop)]
-pub(crate) struct Caller<L: KeyLanes, J: Naming> {
+pub(crate) struct Caller<L: KeyLanes, J: BookName> {
     pub(crate) number: u16,
     pub(crate) seat: Seat<L, J>,
     pub(crate) generator: Lcg64Xsh32,
@@ -43,7 +43,7 @@ pub(crate) struct Caller<L: KeyLanes, J: Naming> {
     pub(crate) room: Room,
 }
 
-impl<L: KeyLanes, J: Naming> Caller<L, J> {
+impl<L: KeyLanes, J: BookName> Caller<L, J> {
     /// The caller with this number and this seat, whose keys have no values.
     pub(crate) fn new(
         alloc: Global,
@@ -85,7 +85,7 @@ impl<L: KeyLanes, J: Naming> Caller<L, J> {
     ) -> Tally<M>
         requires begun { IsOneOf load.now self.number self.generator self.words.items self.seat }
         requires most { load.now.operations ≤ M.most }
-        requires tallies { (counted : CallerTally) → IsTally load.now counted → M.is_tally counted }
+        requires tallies { (counted : CallerTally) → IsTally load.now counted → ∥ M.is_tally counted ∥₁ }
         ensures { HasEnded load.now self.number result.counted }
     {
         let Ok(mut times) = CallTimes::new(alloc) else {
@@ -283,7 +283,14 @@ impl<L: KeyLanes, J: Naming> Caller<L, J> {
         match cache.get_or_lease(rt, &mut self.seat, &name, moment, found) {
             Ok(LookedUp::Miss(_, lease)) => self.fill(rt, alloc, cache, load, lease, key, number),
             Ok(LookedUp::Hit(tier)) => {
-                judged(load, key, known, moment, Ok(Seen::Hit(tier)), found.bytes())
+                judged(
+                    load,
+                    key,
+                    known,
+                    moment,
+                    Ok(AnswerKind::Hit(tier)),
+                    found.bytes(),
+                )
             }
             Err(fault) => judged(load, key, known, moment, Err(fault), found.bytes()),
         }

@@ -4,7 +4,7 @@ ghost use Rattle.service_cache.specs.Serving.{lanes_of};
 ghost use Rattle.serve_load.specs.Totals.{IsTotal, joined};
 
 use crate::totals::sum_of;
-use deed_book::{KeyLanes, Naming};
+use deed_book::{BookName, KeyLanes};
 use page_device::PageDevice;
 use policy_laws::EvictionPolicy;
 use service_cache::ServiceCache;
@@ -52,7 +52,7 @@ pub(crate) fn lane_ends<
     P: EvictionPolicy + Drop,
     const PAGE: usize,
     L: KeyLanes,
-    J: Naming,
+    J: BookName,
     R: Wait,
 >(rt: &R, alloc: Global, cache: &ServiceCache<D, P, PAGE, L, J>) -> Result<Vec<LaneEnd>, AllocError>
     ensures { IfOk result (λ ends. length ends.items ≡ lanes_of cache.now) }

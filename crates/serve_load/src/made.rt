@@ -8,23 +8,24 @@ ghost use Rattle.serve_load.specs.Reports.{IsMade, IsReportOf};
 ghost use Rattle.serve_load.specs.Tallies.{upto};
 
 use crate::caller::Caller;
-use crate::crew::{operations, run_crew};
 use crate::lane_end::{LaneEnd, lane_ends, total_of};
 use crate::report::Report;
-use crate::serve_cause::ServeCause;
+use crate::serve_crew::{ServeCrew, operations};
 use crate::serve_end::ServeEnd;
 use crate::serve_outcome::ServeOutcome;
 use crate::sums::{Sums, sums_of};
 use crate::tally::{Tally, Tallying};
 use crossbeam_channel::bounded;
-use deed_book::{KeyLanes, Naming, Seat};
-use load::ServeLoad;
+use deed_book::{BookName, KeyLanes, Seat};
+use load::{ServeLoad, SystemFault, run_crew};
 use page_device::PageDevice;
 use policy_laws::EvictionPolicy;
 use service_cache::ServiceCache;
 use std::alloc::{AllocError, Global};
 use std::io::{IsTerminal, Write};
+use std::marker::PhantomData;
 use std::sync::Wait;
+use std::sync::atomic::AtomicU64;
 use std::thread::Threads;
 use std::time::{Clock, Instant};
 
@@ -36,7 +37,7 @@ pub(crate) fn make<
     P: EvictionPolicy + Drop + Sync,
     const PAGE: usize,
     L: KeyLanes + Send + Sync,
-    J: Naming + Send + Sync,
+    J: BookName + Send + Sync,
     M: Tallying + Send + Sync,
     R: Threads + Wait + Sync + Clock,
     E: Write + IsTerminal,
@@ -62,11 +63,18 @@ pub(crate) fn make<
     };
     let start = match Instant::now(rt) {
         Ok(start) => start,
-        Err(error) => return Err(ServeOutcome::failed(ServeCause::Clock(error))),
+        Err(error) => return Err(ServeOutcome::system(SystemFault::Clock(error))),
     };
-    let milliseconds = match run_crew(rt, alloc, cache, load, callers, &start, &to, err) {
-        Ok(milliseconds) => milliseconds,
-        Err(error) => return Err(ServeOutcome::failed(ServeCause::Clock(error))),
+    let crew = ServeCrew {
+        alloc,
+        cache,
+        load,
+        halted: AtomicU64::new(0),
+        of: PhantomData::<M>,
+    };
+    let ended = match run_crew(rt, &crew, callers, load.workers, operations(load), &to, err) {
+        Ok(ended) => ended,
+        Err(error) => return Err(ServeOutcome::system(SystemFault::Clock(error))),
     };
     let Ok(sums) = sums_of::<M, R>(rt, alloc, load, &from) else {
         return Err(ServeOutcome::plain(ServeEnd::OutOfMemory));
@@ -77,11 +85,16 @@ pub(crate) fn make<
     let Ok(ends) = lane_ends(rt, alloc, cache) else {
         return Err(ServeOutcome::plain(ServeEnd::OutOfMemory));
     };
-    Ok(report_of(&sums, milliseconds, &total_of(&ends)))
+    Ok(report_of(&sums, milliseconds_between(start, ended), &total_of(&ends)))
+}
+
+/// The milliseconds from one moment to another.
+fn milliseconds_between(start: Instant, end: Instant) -> u64 {
+    u64::try_from(end.duration_since(start).as_millis()).unwrap_or(u64::MAX)
 }
 
 /// The callers of a load, numbered from 0, each with a copy of this seat.
-fn callers_of<L: KeyLanes, J: Naming>(
+fn callers_of<L: KeyLanes, J: BookName>(
     alloc: Global,
     load: &ServeLoad,
     seat: Seat<L, J>,

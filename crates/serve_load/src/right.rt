@@ -7,7 +7,7 @@ ghost use Rattle.serve_load.specs.Words.{IsRight};
 use crate::objects::{expires_of, word};
 use crate::words::CallEnd;
 use load::ServeLoad;
-use mover::Seen;
+use mover::AnswerKind;
 use service_cache::SeatFault;
 
 /// How a look-up of a key went that gave this, and these bytes at a hit, for a caller that knew this word of the key, at this
@@ -17,20 +17,20 @@ pub(crate) fn judged(
     key: u32,
     known: u32,
     moment: u64,
-    seen: Result<Seen, SeatFault>,
+    seen: Result<AnswerKind, SeatFault>,
     bytes: &[u8],
 ) -> CallEnd
     ensures { Judges load.now key known moment seen bytes.now result }
 {
     match seen {
-        Ok(Seen::Hit(_)) => {
+        Ok(AnswerKind::Hit(_)) => {
             if is_right(load, key, known, moment, bytes) {
                 CallEnd::Done
             } else {
                 CallEnd::WrongHit
             }
         }
-        Ok(Seen::Miss(_)) => CallEnd::Done,
+        Ok(AnswerKind::Miss(_)) => CallEnd::Done,
         Err(_) => CallEnd::Refused,
     }
 }

@@ -4,7 +4,7 @@ ghost use Rattle.std.specs.Prelude.{◌≡◌};
 use crate::advice::advise;
 use crate::serve_cause::ServeCause;
 use crate::serve_end::ServeEnd;
-use load::ServeLoad;
+use load::{ServeLoad, SystemFault};
 use std::io::Write;
 
 /// How a load ended, and what failed, if the system did.
@@ -20,6 +20,13 @@ impl ServeOutcome {
         ensures { result.end ≡ end }
     {
         ServeOutcome { end, cause: None }
+    }
+
+    /// A load under which this of the system failed.
+    pub(crate) fn system(fault: SystemFault) -> ServeOutcome
+        ensures { result.end ≡ ServeEnd.FileFault }
+    {
+        ServeOutcome::failed(ServeCause::System(fault))
     }
 
     /// A load of which this failed.

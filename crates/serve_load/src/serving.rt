@@ -16,11 +16,11 @@ use crate::serve_cause::ServeCause;
 use crate::serve_end::ServeEnd;
 use crate::serve_outcome::ServeOutcome;
 use crate::tally::Tallying;
-use deed_book::{KeyLanes, NamedBook, Naming, NewBook};
+use deed_book::{BookName, KeyLanes, NamedBook, UnnamedBook};
 use figures::Form;
 use file_device::{FileDevice, LaneFileFault, lanes_in_files, lanes_in_memory, taken_places};
 use key_hash::RandomSeed;
-use load::{FileName, ServeLoad};
+use load::{FileName, ServeLoad, SystemFault};
 use page_device::PageDevice;
 use rriparoo::Rriparoo;
 use service_cache::{OpenServiceFault, ServiceCache};
@@ -122,7 +122,7 @@ fn in_files<R: Files<File = File>>(
     match lanes_in_files(rt, alloc, folder.as_str(), shape.lanes(), shape.pages()) {
         Ok(devices) => Ok(devices),
         Err(LaneFileFault::OutOfMemory) => Err(ServeOutcome::plain(ServeEnd::OutOfMemory)),
-        Err(LaneFileFault::Unopened(path, fault)) => Err(ServeOutcome::failed(ServeCause::Device(
+        Err(LaneFileFault::Unopened(path, fault)) => Err(ServeOutcome::system(SystemFault::Device(
             path, fault,
         ))),
     }
@@ -147,7 +147,7 @@ fn over<
 {
     let seed = match RandomSeed::draw(rt) {
         Ok(seed) => seed,
-        Err(error) => return ServeOutcome::failed(ServeCause::Random(error)),
+        Err(error) => return ServeOutcome::system(SystemFault::Random(error)),
     };
     match sorted::<Brand, D, R, E>(rt, load, shape, devices, seed, err) {
         Ok(report) => write_report(rt.alloc(), load, &report, out),
@@ -174,7 +174,7 @@ fn sorted<
     ensures made { IfOk result (λ report. IsMade load.now report) }
     ensures refused { IfErr result (λ ended. IsFailure ended.end) }
 {
-    let book = NewBook::<L>::open(devices.len());
+    let book = UnnamedBook::<L>::open(devices.len());
     match booked::<L, Brand, Brand, D, R, E>(rt, load, shape, devices, seed, book, err) {
         Ok(report) => Ok(report),
         Err(ended) => Err(ended),
@@ -184,7 +184,7 @@ fn sorted<
 /// Runs a load over devices, with a book for their lanes, and a type that says what its callers may count.
 fn booked<
     L: KeyLanes + Send + Sync,
-    J: Naming + Send + Sync,
+    J: BookName + Send + Sync,
     M: Tallying + Send + Sync,
     D: PageDevice<PAGE> + Send,
     R: Threads + Wait + Sync + AllocGlobal + Clock,
@@ -195,7 +195,7 @@ fn booked<
     shape: &CacheShape,
     devices: Vec<D>,
     seed: RandomSeed,
-    book: NewBook<L>,
+    book: UnnamedBook<L>,
     err: &mut E,
 ) -> Result<Report, ServeOutcome>
     requires sorted { SortsBy L.lanes L.lane_of seed (length devices.items) }
@@ -207,7 +207,7 @@ fn booked<
     ensures made { IfOk result (λ report. IsMade load.now report) }
     ensures refused { IfErr result (λ ended. IsFailure ended.end) }
 {
-    let cache = open(rt.alloc(), shape, devices, seed, book.named::<J>())?;
+    let cache = open(rt.alloc(), shape, devices, seed, book.with_name::<J>())?;
     match make::<D, Rriparoo, PAGE, L, J, M, R, E>(rt, rt.alloc(), load, &cache, err) {
         Ok(report) => Ok(report),
         Err(ended) => Err(ended),
@@ -217,7 +217,7 @@ fn booked<
 ghost use Rattle.serve_load.specs.Serving.{IsLate};
 
 /// A cache of a shape over its devices.
-fn open<D: PageDevice<PAGE>, L: KeyLanes, J: Naming>(
+fn open<D: PageDevice<PAGE>, L: KeyLanes, J: BookName>(
     alloc: Global,
     shape: &CacheShape,
     devices: Vec<D>,
@@ -260,10 +260,10 @@ fn write_report<O: Write>(
         return ServeOutcome::plain(ServeEnd::OutOfMemory);
     };
     if out.write_all(text.as_bytes()).is_err() {
-        return ServeOutcome::failed(ServeCause::Output);
+        return ServeOutcome::system(SystemFault::Output);
     }
     if out.flush().is_err() {
-        return ServeOutcome::failed(ServeCause::Output);
+        return ServeOutcome::system(SystemFault::Output);
     }
     ServeOutcome::plain(ServeEnd::of_wrong_hits(report.wrong_hits))
 }

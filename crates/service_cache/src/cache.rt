@@ -7,7 +7,7 @@ ghost use Rattle.service_cache.specs.Sorted.{AreAsSaid, SortsBy};
 use crate::open_service_fault::OpenServiceFault;
 use crate::opening::{Locked, lanes_over};
 use cache_sizes::MAX_SHARDS;
-use deed_book::{KeyLanes, NamedBook, Naming, Seat};
+use deed_book::{BookName, KeyLanes, NamedBook, Seat};
 use key_hash::RandomSeed;
 use page_device::{PageDevice, is_one_too_small};
 use policy_laws::EvictionPolicy;
@@ -32,7 +32,7 @@ pub struct ServiceCache<
     P: EvictionPolicy + Drop,
     const PAGE: usize,
     L: KeyLanes,
-    J: Naming,
+    J: BookName,
 > {
     layout: Layout,
     shards: u32,
@@ -43,8 +43,13 @@ pub struct ServiceCache<
     start: Seat<L, J>,
 }
 
-impl<D: PageDevice<PAGE>, P: EvictionPolicy + Drop, const PAGE: usize, L: KeyLanes, J: Naming> Model
-    for ServiceCache<D, P, PAGE, L, J> {
+impl<
+    D: PageDevice<PAGE>,
+    P: EvictionPolicy + Drop,
+    const PAGE: usize,
+    L: KeyLanes,
+    J: BookName,
+> Model for ServiceCache<D, P, PAGE, L, J> {
     ghost use Rattle.std.specs.Prelude.{◌≡◌, [], length};
     ghost use Rattle.service_cache.specs.Serving.{Shape, IsServing};
     ghost use Rattle.service_cache.specs.Sorted.{SortsBy};
@@ -62,7 +67,7 @@ impl<
     P: EvictionPolicy + Drop,
     const PAGE: usize,
     L: KeyLanes,
-    J: Naming,
+    J: BookName,
 > ServiceCache<D, P, PAGE, L, J> {
     /// A cache of this many shards of this configuration, with empty lanes, one over each device, whose moves go by
     /// this policy, and a book with no write. Its refusals are tested in the order of `OpenServiceFault`; devices,

@@ -23,8 +23,8 @@ ghost use Rattle.service_cache.specs.Held.{honest_in, failures_in, held_in, Look
 use crate::lane::SeatedLane;
 use crate::looked_up::LookedUp;
 use crate::seat_fault::{SeatFault, SeatPutFault};
-use deed_book::{KeyLanes, Naming, Seat};
-use mover::Seen;
+use deed_book::{BookName, KeyLanes, Seat};
+use mover::AnswerKind;
 use page_device::{Boxed, CountedPages, PageDevice};
 use policy_laws::EvictionPolicy;
 use rand_core::utils::NextWord;
@@ -37,12 +37,12 @@ use std::marker::Model;
 ///
 /// Its device is honest if the type of the lanes says so of its number.
 #[derive(Drop)]
-pub(crate) struct Guarded<D: PageDevice<PAGE>, const PAGE: usize, L: KeyLanes, J: Naming> {
+pub(crate) struct Guarded<D: PageDevice<PAGE>, const PAGE: usize, L: KeyLanes, J: BookName> {
     lane: SeatedLane<CountedPages<Boxed<D>>, PAGE, L, J>,
     words: Lcg64Xsh32,
 }
 
-impl<D: PageDevice<PAGE>, const PAGE: usize, L: KeyLanes, J: Naming> Model
+impl<D: PageDevice<PAGE>, const PAGE: usize, L: KeyLanes, J: BookName> Model
     for Guarded<D, PAGE, L, J> {
     ghost use Rattle.std.specs.Coded.{codes};
     ghost use Rattle.kset.specs.Sets.{sets_code};
@@ -57,7 +57,7 @@ impl<D: PageDevice<PAGE>, const PAGE: usize, L: KeyLanes, J: Naming> Model
     ghost invariant = { λ g. IsAsSaid L.is_honest D.honest (record { lane = g.lane; words = g.words }) };
 }
 
-impl<D: PageDevice<PAGE>, const PAGE: usize, L: KeyLanes, J: Naming> Guarded<D, PAGE, L, J> {
+impl<D: PageDevice<PAGE>, const PAGE: usize, L: KeyLanes, J: BookName> Guarded<D, PAGE, L, J> {
     ghost use Rattle.service_cache.specs.Held.{IsAsSaid};
 
     /// A lane with its register, and its generator of words.
@@ -92,7 +92,7 @@ impl<D: PageDevice<PAGE>, const PAGE: usize, L: KeyLanes, J: Naming> Guarded<D, 
         key: &[u8],
         moment: u64,
         found: &mut ValueBuffer,
-    ) -> Result<Seen, SeatFault>
+    ) -> Result<AnswerKind, SeatFault>
         requires { L.lane_of key.now ≡ self.old.lane.register.number }
         ensures live { IfOk result (λ seen. IsHit L.is_honest L.lane_of seat.new key.now moment
             (answer_of seen found.new)) }
@@ -133,8 +133,8 @@ impl<D: PageDevice<PAGE>, const PAGE: usize, L: KeyLanes, J: Naming> Guarded<D, 
         ensures words { self.new.words ≡ self.old.words }
     {
         match self.get(seat, key, moment, found)? {
-            Seen::Hit(tier) => Ok(LookedUp::Hit(tier)),
-            Seen::Miss(cause) => Ok(LookedUp::Miss(cause, self.lane.lease(key))),
+            AnswerKind::Hit(tier) => Ok(LookedUp::Hit(tier)),
+            AnswerKind::Miss(cause) => Ok(LookedUp::Miss(cause, self.lane.lease(key))),
         }
     }
 

@@ -2,7 +2,7 @@
 ghost use Rattle.std.specs.Prelude.{◌≡◌, ◌<◌, [], length};
 ghost use Rattle.klog.specs.Usage.{usage_of};
 
-use deed_book::{KeyLanes, Naming, Register, Seat};
+use deed_book::{BookName, KeyLanes, Register, Seat};
 use klog::LogUsage;
 use page_device::PageDevice;
 use record_pages::Layout;
@@ -17,12 +17,12 @@ mod tend;
 ///
 /// Each key of the lane has, by the lane's deeds, no value, or what it has by the list.
 #[derive(Drop)]
-pub struct SeatedLane<D: PageDevice<PAGE>, const PAGE: usize, L: KeyLanes, J: Naming> {
+pub struct SeatedLane<D: PageDevice<PAGE>, const PAGE: usize, L: KeyLanes, J: BookName> {
     lane: ServiceLane<D, PAGE>,
     register: Register<L, J>,
 }
 
-impl<D: PageDevice<PAGE>, const PAGE: usize, L: KeyLanes, J: Naming> Model
+impl<D: PageDevice<PAGE>, const PAGE: usize, L: KeyLanes, J: BookName> Model
     for SeatedLane<D, PAGE, L, J> {
     ghost use Rattle.std.specs.Coded.{codes};
     ghost use Rattle.kset.specs.Sets.{sets_code};
@@ -37,7 +37,7 @@ impl<D: PageDevice<PAGE>, const PAGE: usize, L: KeyLanes, J: Naming> Model
     ghost invariant = { λ s. IsSeated L.lane_of s.register s.lane.deeds };
 }
 
-impl<D: PageDevice<PAGE>, const PAGE: usize, L: KeyLanes, J: Naming> SeatedLane<D, PAGE, L, J> {
+impl<D: PageDevice<PAGE>, const PAGE: usize, L: KeyLanes, J: BookName> SeatedLane<D, PAGE, L, J> {
     ghost use Rattle.service_cache.specs.Seated.{IsSeated};
 
     /// A lane that was just opened, with a register that has seen nothing.

@@ -9,7 +9,7 @@ ghost use Rattle.service_cache.specs.Sorted.{AreAsSaid};
 use crate::guarded::Guarded;
 use crate::lane::SeatedLane;
 use crossbeam_utils::CachePadded;
-use deed_book::{KeyLanes, NamedBook, Naming, Register};
+use deed_book::{BookName, KeyLanes, NamedBook, Register};
 use key_hash::RandomSeed;
 use page_device::{Boxed, CountedPages, PageDevice};
 use record_pages::Layout;
@@ -23,7 +23,7 @@ pub(crate) type Locked<D, const PAGE: usize, L, J> = Mutex<CachePadded<Guarded<D
 
 /// An empty lane over each device, with the next register of the book, under its lock: the lanes have the numbers from 0 in the
 /// order of the devices.
-pub(crate) fn lanes_over<D: PageDevice<PAGE>, const PAGE: usize, L: KeyLanes, J: Naming>(
+pub(crate) fn lanes_over<D: PageDevice<PAGE>, const PAGE: usize, L: KeyLanes, J: BookName>(
     alloc: Global,
     layout: &Layout,
     lease_slots: u32,
@@ -55,7 +55,7 @@ pub(crate) fn lanes_over<D: PageDevice<PAGE>, const PAGE: usize, L: KeyLanes, J:
 
 /// What the lock of a new lane keeps: an empty lane over a device, with this register, and its generator of words. The cache's seed
 /// gives both what they are seeded with, by the number of the lane in the book.
-fn guarded_over<D: PageDevice<PAGE>, const PAGE: usize, L: KeyLanes, J: Naming>(
+fn guarded_over<D: PageDevice<PAGE>, const PAGE: usize, L: KeyLanes, J: BookName>(
     alloc: Global,
     layout: &Layout,
     lease_slots: u32,

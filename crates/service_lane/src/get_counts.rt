@@ -2,7 +2,7 @@
 ghost use Rattle.std.specs.Prelude.{◌≡◌, ℕ, List};
 ghost use Rattle.mover.specs.Get.{answer_of};
 
-use mover::Seen;
+use mover::AnswerKind;
 use record_pages::{MissCause, Tier};
 
 /// How gets were answered since the lane was opened, each number modulo 2^64.
@@ -43,12 +43,12 @@ impl GetCounts {
     }
 
     /// Counts an answer.
-    pub(crate) fn answered(&mut self, seen: Seen)
+    pub(crate) fn answered(&mut self, seen: AnswerKind)
         ensures { (value : List ℕ) → self.new ≡ with_answer (answer_of seen value) self.old }
     {
         match seen {
-            Seen::Hit(tier) => self.hit(tier),
-            Seen::Miss(cause) => self.missed(cause),
+            AnswerKind::Hit(tier) => self.hit(tier),
+            AnswerKind::Miss(cause) => self.missed(cause),
         }
     }
 

@@ -20,8 +20,8 @@ use Rattle.certificate_checker.specs.Laws.{LatestIsCurrent}
 use Rattle.certificate_checker.proofs.public_laws.LatestLemmas.{current-push}
 use Rattle.deeds.proofs.public_laws.Sounding.{put_gives, none_some}
 use Rattle.mover.specs.Get.{answer_of}
-use Rattle.mover.specs.declared.seen.Seen.{Seen}
-use Rattle.mover.specs.declared.seen.Seen.TheVariants.{Hit}
+use Rattle.mover.specs.declared.answer_kind.AnswerKind.{AnswerKind}
+use Rattle.mover.specs.declared.answer_kind.AnswerKind.TheVariants.{Hit}
 use Rattle.mover.proofs.public_laws.Showing.{some_same}
 use Rattle.service_lane.specs.Asked.{IsLiveHit}
 use Rattle.service_lane.specs.Leases.{LeaseSlots, hash_by, slot_of, slot_for, writes_for, with_write, one_more, most_writes, HoldsLease}
@@ -62,11 +62,11 @@ removed_is_not_live law before after key other moment more live =
     none_some (sym gone ∙ now)
 
 -- a hit in memory is live
-pub in_memory : {D : Type 0} (honest : D → Bool) (device : D) (deeds : List Deed) (key found : List ℕ) (moment : ℕ) (seen : Seen) → seen ≡ Hit Memory → IsLiveHit (IsTrue (honest device)) deeds key moment (answer_of seen found) → IsLive deeds key found moment
+pub in_memory : {D : Type 0} (honest : D → Bool) (device : D) (deeds : List Deed) (key found : List ℕ) (moment : ℕ) (seen : AnswerKind) → seen ≡ Hit Memory → IsLiveHit (IsTrue (honest device)) deeds key moment (answer_of seen found) → IsLive deeds key found moment
 in_memory honest device deeds key found moment seen is live = subst (λ s. IsLiveHit (IsTrue (honest device)) deeds key moment (answer_of s found)) is live
 
 -- and if all devices are honest each is
-pub in_any : {D : Type 0} (honest : D → Bool) (device : D) (deeds : List Deed) (key found : List ℕ) (moment : ℕ) (seen : Seen) (tier : Tier) → ((d : D) → IsTrue (honest d)) → seen ≡ Hit tier → IsLiveHit (IsTrue (honest device)) deeds key moment (answer_of seen found) → IsLive deeds key found moment
+pub in_any : {D : Type 0} (honest : D → Bool) (device : D) (deeds : List Deed) (key found : List ℕ) (moment : ℕ) (seen : AnswerKind) (tier : Tier) → ((d : D) → IsTrue (honest d)) → seen ≡ Hit tier → IsLiveHit (IsTrue (honest device)) deeds key moment (answer_of seen found) → IsLive deeds key found moment
 in_any honest device deeds key found moment seen Memory all is live = in_memory honest device deeds key found moment seen is live
 in_any honest device deeds key found moment seen Log all is live = subst (λ s. IsLiveHit (IsTrue (honest device)) deeds key moment (answer_of s found)) is live (all device)
 in_any honest device deeds key found moment seen Set all is live = subst (λ s. IsLiveHit (IsTrue (honest device)) deeds key moment (answer_of s found)) is live (all device)
@@ -101,7 +101,7 @@ lease_ended slots after key writes some leased written holds =
 -- ---- counters and upkeep
 
 -- the counters after a hit in a tier
-pub counted_hit : {D : Type 0} (old new : Serving D) (found : List ℕ) (seen : Seen) (tier : Tier) → seen ≡ Hit tier → new.counts ≡ counts_answer (answer_of seen found) old.counts → new.counts ≡ counts_answer (answer_of (Hit tier) found) old.counts
+pub counted_hit : {D : Type 0} (old new : Serving D) (found : List ℕ) (seen : AnswerKind) (tier : Tier) → seen ≡ Hit tier → new.counts ≡ counts_answer (answer_of seen found) old.counts → new.counts ≡ counts_answer (answer_of (Hit tier) found) old.counts
 counted_hit old new found seen tier is counts = subst (λ s. new.counts ≡ counts_answer (answer_of s found) old.counts) is counts
 
 -- a step that flushes has done a page

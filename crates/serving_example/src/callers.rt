@@ -1,7 +1,7 @@
 // The threads of the example.
 use crate::database::{Database, ROWS};
 use crate::rows::{RowCache, change, look_up};
-use deed_book::{KeyLanes, Naming};
+use deed_book::{BookName, KeyLanes};
 use std::alloc::Global;
 use std::sync::Wait;
 use std::sync::atomic::{AtomicU64, Ordering};
@@ -23,7 +23,7 @@ pub struct Made {
 }
 
 /// Looks rows up in an order of its own, and changes the row at every tenth.
-fn call<L: KeyLanes, J: Naming, R: Wait>(
+fn call<L: KeyLanes, J: BookName, R: Wait>(
     rt: &R,
     alloc: Global,
     cache: &RowCache<L, J>,
@@ -56,7 +56,7 @@ fn call<L: KeyLanes, J: Naming, R: Wait>(
 }
 
 /// What all callers made together; none if there was no memory for it.
-fn made_by_callers<L: KeyLanes + Send + Sync, J: Naming + Send + Sync, R: Threads + Wait + Sync>(
+fn made_by_callers<L: KeyLanes + Send + Sync, J: BookName + Send + Sync, R: Threads + Wait + Sync>(
     rt: &R,
     alloc: Global,
     cache: &RowCache<L, J>,
@@ -80,7 +80,7 @@ fn made_by_callers<L: KeyLanes + Send + Sync, J: Naming + Send + Sync, R: Thread
 }
 
 /// Does what is due in each lane, until the callers have ended.
-fn tend<L: KeyLanes, J: Naming, R: Wait>(rt: &R, cache: &RowCache<L, J>, ended: &AtomicU64) {
+fn tend<L: KeyLanes, J: BookName, R: Wait>(rt: &R, cache: &RowCache<L, J>, ended: &AtomicU64) {
     for _ in rt.forever() {
         if ended.load(Ordering::SeqCst) != 0 {
             return;
@@ -92,7 +92,7 @@ fn tend<L: KeyLanes, J: Naming, R: Wait>(rt: &R, cache: &RowCache<L, J>, ended: 
 }
 
 /// The same, beside a thread that tends the cache.
-pub fn made_by_all<L: KeyLanes + Send + Sync, J: Naming + Send + Sync, R: Threads + Wait + Sync>(
+pub fn made_by_all<L: KeyLanes + Send + Sync, J: BookName + Send + Sync, R: Threads + Wait + Sync>(
     rt: &R,
     alloc: Global,
     cache: &RowCache<L, J>,

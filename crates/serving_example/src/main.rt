@@ -11,7 +11,7 @@ ghost use Rattle.service_cache.specs.Sorted.{SortsBy};
 
 use callers::{Made, made_by_all};
 use database::Database;
-use deed_book::{KeyLanes, Naming, NewBook};
+use deed_book::{BookName, KeyLanes, UnnamedBook};
 use key_hash::RandomSeed;
 use page_device::MemoryDevice;
 use record_pages::Config;
@@ -60,22 +60,22 @@ fn made_over<L: KeyLanes + Send + Sync, R: Threads + Wait + Sync>(
 ) -> Option<Made>
     requires { SortsBy L.lanes L.lane_of seed (length devices.items) }
 {
-    let book = NewBook::<L>::open(devices.len());
+    let book = UnnamedBook::<L>::open(devices.len());
     made_with::<L, Brand, R>(rt, alloc, devices, seed, book)
 }
 
 /// Opens the cache with its book, of which `J` says which it is, and has all threads use it.
-fn made_with<L: KeyLanes + Send + Sync, J: Naming + Send + Sync, R: Threads + Wait + Sync>(
+fn made_with<L: KeyLanes + Send + Sync, J: BookName + Send + Sync, R: Threads + Wait + Sync>(
     rt: &R,
     alloc: Global,
     devices: Vec<MemoryDevice<256>>,
     seed: RandomSeed,
-    book: NewBook<L>,
+    book: UnnamedBook<L>,
 ) -> Option<Made>
     requires sorted { SortsBy L.lanes L.lane_of seed (length devices.items) }
     requires book { book ≡ J.book }
 {
-    let book = book.named::<J>();
+    let book = book.with_name::<J>();
     let cache = RowCache::<L, J>::open(
         alloc,
         &CONFIG,

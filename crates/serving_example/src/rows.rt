@@ -1,6 +1,6 @@
 // Rows of the database through the cache.
 use crate::database::Database;
-use deed_book::{KeyLanes, Naming, Seat};
+use deed_book::{BookName, KeyLanes, Seat};
 use page_device::MemoryDevice;
 use record_pages::{Key, NEVER, Value, ValueBuffer};
 use rriparoo::Rriparoo;
@@ -26,7 +26,7 @@ fn version_of(bytes: &[u8]) -> u64 {
 }
 
 /// Looks a row up: in the cache, and at a miss in the database, by which the cache is filled.
-pub fn look_up<L: KeyLanes, J: Naming, R: Wait>(
+pub fn look_up<L: KeyLanes, J: BookName, R: Wait>(
     rt: &R,
     alloc: Global,
     cache: &RowCache<L, J>,
@@ -48,7 +48,7 @@ pub fn look_up<L: KeyLanes, J: Naming, R: Wait>(
 
 /// Fills the cache with a row that was read, if no one wrote it since the miss. A refused fill leaves the row out of the
 /// cache, and does no harm.
-fn fill<L: KeyLanes, J: Naming, R: Wait>(
+fn fill<L: KeyLanes, J: BookName, R: Wait>(
     rt: &R,
     alloc: Global,
     cache: &RowCache<L, J>,
@@ -67,7 +67,7 @@ fn fill<L: KeyLanes, J: Naming, R: Wait>(
 }
 
 /// Changes a row: first in the database, and then it is removed from the cache.
-pub fn change<L: KeyLanes, J: Naming, R: Wait>(
+pub fn change<L: KeyLanes, J: BookName, R: Wait>(
     rt: &R,
     cache: &RowCache<L, J>,
     seat: &mut Seat<L, J>,

@@ -15,18 +15,18 @@ use Rattle.history_recorder.specs.Operations.{key_of}
 use Rattle.shared_cache.specs.declared.act_fault.ActFault.{ActFault}
 use Rattle.shared_cache.specs.declared.act_fault.ActFault.TheVariants.{HistoryLost, HistoryFull, ClockFull, OutOfMemory}
 use Rattle.shared_cache.specs.declared.act_answer.ActAnswer.{ActAnswer}
-use Rattle.shared_cache.specs.declared.asked.Asked.{Asked}
-use Rattle.shared_cache.specs.declared.asked.Asked.TheVariants as lent
+use Rattle.shared_cache.specs.declared.request.Request.{Request}
+use Rattle.shared_cache.specs.declared.request.Request.TheVariants as lent
 use Rattle.shared_cache.specs.Listed.{Listed}
 use Rattle.shared_cache.specs.declared.response.Response.{Response}
 use Rattle.shared_cache.specs.declared.response.Response.TheVariants as outcomes
 use Rattle.shared_cache.specs.Passes.{Ticket, former}
 
 -- the operation that a lent one asks for
-abbrev pub asked_shown : Asked → Operation
-asked_shown (lent.Get key moment) = asked.Get key.now moment
-asked_shown (lent.Put key value word expires) = asked.Put key value word expires
-asked_shown (lent.Remove key) = asked.Remove key.now
+abbrev pub request_shown : Request → Operation
+request_shown (lent.Get key moment) = asked.Get key.now moment
+request_shown (lent.Put key value word expires) = asked.Put key value word expires
+request_shown (lent.Remove key) = asked.Remove key.now
 
 -- what is recorded of an operation by what it gave
 abbrev pub act_by : Operation → Response → Act

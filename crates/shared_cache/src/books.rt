@@ -16,12 +16,11 @@ ghost use Rattle.trace_file.specs.Stored.{LiesIn, call_in};
 ghost use Rattle.shared_cache.specs.Listed.{listed_shown};
 ghost use Rattle.shared_cache.specs.Passes.{former, kept_with_end, most_bytes, with_end, IsTimely, new_ticket, most_lanes};
 ghost use Rattle.shared_cache.specs.Over.{IsOver};
-ghost use Rattle.shared_cache.specs.Acts.{Explains, IsActed, IsBook, IsFitting, IsUnacted, Stands, asked_shown};
+ghost use Rattle.shared_cache.specs.Acts.{Explains, IsActed, IsBook, IsFitting, IsUnacted, Stands, request_shown};
 ghost use Rattle.shared_cache.specs.Caches.{KeepsTie};
 
 use crate::act_answer::ActAnswer;
 use crate::act_fault::ActFault;
-use crate::asked::Asked;
 use crate::clock::{Clock, ClockSeat};
 use crate::clock_full::ClockFull;
 use crate::comparing::is_recorded_as;
@@ -30,6 +29,7 @@ use crate::listed_calls::ListedCalls;
 use crate::listed_entry::ListedEntry;
 use crate::listed_ref::ListedRef;
 use crate::performing::perform;
+use crate::request::Request;
 use page_device::{Boxed, PageDevice};
 use record_pages::{Config, Key, Layout, Value};
 use recorded_lane::{MAX_CALLS, NotedRef, RecordedLane, RecordedParts};
@@ -298,16 +298,16 @@ impl<D: PageDevice<PAGE>, const PAGE: usize> LaneBook<D, PAGE> {
         clock: &Clock,
         pass: &mut Pass,
         start: u64,
-        asked: Asked<'_>,
+        asked: Request<'_>,
     ) -> Result<ActAnswer, ActFault>
         requires clock { pass.old.sight.clock ≡ clock.now }
         requires start { start ≤ pass.old.sight.seen }
-        requires own { IsOfLane self.old.store.layout self.old.lane (key_of (asked_shown asked)) }
-        requires fits { IsFitting PAGE (asked_shown asked) }
+        requires own { IsOfLane self.old.store.layout self.old.lane (key_of (request_shown asked)) }
+        requires fits { IsFitting PAGE (request_shown asked) }
         ensures acts { IfOk result (λ acted. IsActed D.honest D.failures D.held PAGE
-            (asked_shown asked.entry) start self.old pass.old acted self.new pass.new) }
+            (request_shown asked.entry) start self.old pass.old acted self.new pass.new) }
         ensures refused { IfErr result (λ fault. IsUnacted D.honest D.failures D.held PAGE
-            (asked_shown asked.entry) self.old pass.old fault self.new pass.new) }
+            (request_shown asked.entry) self.old pass.old fault self.new pass.new) }
         ensures tie { KeepsTie pass.old pass.new }
     {
         self.check(pass)?;

@@ -5,7 +5,7 @@ ghost use Rattle.record_pages.specs.Sizes.{IsPageSize, object_size, room};
 ghost use Rattle.certificate_checker.specs.Acceptance.{IsAccepted};
 ghost use Rattle.history_recorder.specs.declared.operation.Operation.{Operation};
 ghost use Rattle.shared_cache.specs.declared.response.Response.{Response};
-ghost use Rattle.shared_cache.specs.Acts.{IsFitting, Suits, asked_shown};
+ghost use Rattle.shared_cache.specs.Acts.{IsFitting, Suits, request_shown};
 ghost use Rattle.shared_cache.specs.Blames.{Blames};
 ghost use Rattle.shared_cache.specs.Caches.{CanShare, ExplainsOpening, IsMade, KeepsTie, fault_in};
 ghost use Rattle.shared_cache.specs.Finished.{IsFinished, IsLeastMissing};
@@ -13,7 +13,6 @@ ghost use Rattle.shared_cache.specs.Passes.{Ticket, new_ticket};
 ghost use Rattle.shared_cache.specs.Stamps.{new_sight};
 
 use crate::act_fault::ActFault;
-use crate::asked::Asked;
 use crate::books::{LaneBook, Pass};
 use crate::call_fault::CallFault;
 use crate::claims::missing;
@@ -23,6 +22,7 @@ use crate::finish_fault::FinishFault;
 use crate::finished::Finished;
 use crate::open_cache_fault::OpenCacheFault;
 use crate::opening::{books_of, passes_of};
+use crate::request::Request;
 use crate::response::Response;
 use crossbeam_utils::CachePadded;
 use history_recorder::lay_out;
@@ -166,7 +166,7 @@ impl<D: PageDevice<PAGE>, P: EvictionPolicy + Drop, const PAGE: usize> SharedCac
         ensures small { result ≢ Err CallFault.TooLarge }
         ensures tie { KeepsTie pass.old pass.new }
     {
-        match self.call(rt, pass, Asked::Get(key, moment)) {
+        match self.call(rt, pass, Request::Get(key, moment)) {
             Ok(Response::Got(answer)) => Ok(answer),
             Ok(_) => unreachable!(),
             Err(fault) => Err(fault),
@@ -195,7 +195,7 @@ impl<D: PageDevice<PAGE>, P: EvictionPolicy + Drop, const PAGE: usize> SharedCac
         if is_too_large::<PAGE>(&key, &value) {
             return Err(CallFault::TooLarge);
         }
-        match self.call(rt, pass, Asked::Put(key, value, word, expires)) {
+        match self.call(rt, pass, Request::Put(key, value, word, expires)) {
             Ok(Response::Stored(pushed)) => Ok(pushed),
             Ok(_) => unreachable!(),
             Err(fault) => Err(fault),
@@ -212,7 +212,7 @@ impl<D: PageDevice<PAGE>, P: EvictionPolicy + Drop, const PAGE: usize> SharedCac
         ensures small { result ≢ Err CallFault.TooLarge }
         ensures tie { KeepsTie pass.old pass.new }
     {
-        match self.call(rt, pass, Asked::Remove(key)) {
+        match self.call(rt, pass, Request::Remove(key)) {
             Ok(Response::Removed) => Ok(()),
             Ok(_) => unreachable!(),
             Err(fault) => Err(fault),
@@ -266,13 +266,13 @@ impl<D: PageDevice<PAGE>, P: EvictionPolicy + Drop, const PAGE: usize> SharedCac
         &self,
         rt: &R,
         pass: &mut Pass,
-        asked: Asked<'_>,
+        asked: Request<'_>,
     ) -> Result<Response, CallFault>
         requires clock { pass.old.sight.clock ≡ self.now.clock }
-        requires fits { IsFitting PAGE (asked_shown asked) }
+        requires fits { IsFitting PAGE (request_shown asked) }
         ensures made { IfOk result (λ outcome.
-            IsMade self.now.layout (asked_shown asked.entry) pass.old outcome pass.new) }
-        ensures suits { IfOk result (Suits (asked_shown asked.entry)) }
+            IsMade self.now.layout (request_shown asked.entry) pass.old outcome pass.new) }
+        ensures suits { IfOk result (Suits (request_shown asked.entry)) }
         ensures refused { OnErr result (pass.new.calls ≡ pass.old.calls) }
         ensures full { result ≡ Err CallFault.ClockFull → pass.new.sight.seen + 1 ≡ 2 ^ 63 }
         ensures small { result ≢ Err CallFault.TooLarge }

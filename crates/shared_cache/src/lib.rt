@@ -4,7 +4,6 @@
 
 mod act_answer;
 mod act_fault;
-mod asked;
 mod books;
 mod cache;
 mod call_fault;
@@ -28,12 +27,12 @@ mod moved;
 mod open_cache_fault;
 mod opening;
 mod performing;
+mod request;
 mod response;
 mod settling;
 
 pub use act_answer::ActAnswer;
 pub use act_fault::ActFault;
-pub use asked::Asked;
 pub use books::{LaneBook, Pass};
 pub use cache::SharedCache;
 pub use call_fault::CallFault;
@@ -43,4 +42,5 @@ pub use finish_fault::FinishFault;
 pub use finished::Finished;
 pub use moved::Moved;
 pub use open_cache_fault::OpenCacheFault;
+pub use request::Request;
 pub use response::Response;

@@ -2,10 +2,10 @@
 ghost use Rattle.std.specs.Prelude.{◌≡◌, ◌<◌, ◌++◌, ◌∷◌, [], All, IfOk, IfErr, OnErr, length};
 ghost use Rattle.recorded_lane.specs.Lane.{IsOfLane, max_calls};
 ghost use Rattle.history_recorder.specs.Operations.{key_of};
-ghost use Rattle.shared_cache.specs.Acts.{ActGives, ActLeaves, IsFitting, asked_shown, made};
+ghost use Rattle.shared_cache.specs.Acts.{ActGives, ActLeaves, IsFitting, request_shown, made};
 
 use crate::act_fault::ActFault;
-use crate::asked::Asked;
+use crate::request::Request;
 use crate::response::Response;
 use page_device::{Boxed, PageDevice};
 use recorded_lane::RecordedLane;
@@ -16,36 +16,36 @@ pub(crate) fn perform<D: PageDevice<PAGE>, const PAGE: usize>(
     caller: u16,
     start: u64,
     point: u64,
-    asked: Asked<'_>,
+    asked: Request<'_>,
 ) -> Result<Response, ActFault>
     requires start { start < point }
     requires rises { All (λ n. n.point < point) lane.old.calls }
-    requires own { IsOfLane lane.old.store.layout lane.old.lane (key_of (asked_shown asked)) }
-    requires fits { IsFitting PAGE (asked_shown asked) }
+    requires own { IsOfLane lane.old.store.layout lane.old.lane (key_of (request_shown asked)) }
+    requires fits { IsFitting PAGE (request_shown asked) }
     requires room { length lane.old.calls < max_calls }
     ensures recorded { IfOk result (λ outcome. lane.new ≡ record lane.old {
       store = lane.new.store;
-      calls = lane.old.calls ++ made caller start point (asked_shown asked.entry) outcome ∷ [];
+      calls = lane.old.calls ++ made caller start point (request_shown asked.entry) outcome ∷ [];
     }) }
     ensures gives { IfOk result (λ outcome. ActGives D.honest D.failures D.held PAGE
-        (asked_shown asked.entry) lane.old.store outcome lane.new.store) }
+        (request_shown asked.entry) lane.old.store outcome lane.new.store) }
     ensures refused { IfErr result (λ fault. fault ≡ ActFault.OutOfMemory) }
     ensures unrecorded { OnErr result (lane.new ≡ record lane.old { store = lane.new.store }) }
     ensures leaves { OnErr result (ActLeaves D.honest D.failures D.held PAGE
-        (asked_shown asked.entry) lane.old.store lane.new.store) }
+        (request_shown asked.entry) lane.old.store lane.new.store) }
 {
     match asked {
-        Asked::Get(key, moment) => match lane.get(caller, start, point, key, moment) {
+        Request::Get(key, moment) => match lane.get(caller, start, point, key, moment) {
             Ok(answer) => Ok(Response::Got(answer)),
             Err(_) => Err(ActFault::OutOfMemory),
         },
-        Asked::Put(key, value, word, expires) => {
+        Request::Put(key, value, word, expires) => {
             match lane.put(caller, start, point, key, value, word, expires) {
                 Ok(pushed) => Ok(Response::Stored(pushed)),
                 Err(_) => Err(ActFault::OutOfMemory),
             }
         }
-        Asked::Remove(key) => match lane.remove(caller, start, point, key) {
+        Request::Remove(key) => match lane.remove(caller, start, point, key) {
             Ok(()) => Ok(Response::Removed),
             Err(_) => Err(ActFault::OutOfMemory),
         },

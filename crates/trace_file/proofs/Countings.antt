@@ -6,23 +6,23 @@ use Rattle.std.proofs.lemmas.List.{append-nil, length-append}
 use Rattle.std.proofs.lemmas.List.Elements.{All-nil}
 use Rattle.trace_file.specs.declared.call.Call.{Call}
 use Rattle.trace_file.specs.declared.header.Header.{Header}
-use Rattle.trace_file.specs.declared.stop.Stop.{Stop}
-use Rattle.trace_file.specs.declared.stop.Stop.TheVariants.{Short, Fault}
+use Rattle.trace_file.specs.declared.item_fault.ItemFault.{ItemFault}
+use Rattle.trace_file.specs.declared.item_fault.ItemFault.TheVariants.{Short, Fault}
 use Rattle.trace_file.specs.declared.trace.Trace.{Trace}
 use Rattle.trace_file.specs.declared.trace_fault.TraceFault.{TraceFault}
 use Rattle.trace_file.specs.declared.trace_fault.TraceFault.TheVariants.{TrailingBytes}
 use Rattle.trace_file.specs.Reading.{Place, Read, ◌>>=◌, call_at, position_at, header_at, many_at, end_at}
 use Rattle.trace_file.specs.Stream.{pair_of, in_front, TakesItems, FailsAs, counted_text, counted_at, IsCounted, standing, GoesOn, Opened, IsTaken, text_so_far}
-use Rattle.trace_file.specs.declared.taken.Taken.{Taken}
+use Rattle.trace_file.specs.declared.trace_so_far.TraceSoFar.{TraceSoFar}
 use Rattle.trace_file.proofs.ItemFormats.{header_format}
 use Rattle.trace_file.proofs.Takings.{bytes_from_All}
 use Rattle.trace_file.proofs.public_laws.TraceLaws.{behind_header}
 use Rattle.trace_file.specs.Text.{call_text, position_text, header_text, IsCallOf}
 
-abbrev last : List Call → List ℕ × Place → Result Trace Stop
+abbrev last : List Call → List ℕ × Place → Result Trace ItemFault
 last h x = end_at (pair_of h x.0) x.1
 
-abbrev behind_calls : Header → List ℕ → List Call × Place → Result Trace Stop
+abbrev behind_calls : Header → List ℕ → List Call × Place → Result Trace ItemFault
 behind_calls n ps c = many_at position_at (n.count - length ps) c.1 >>= λ q. end_at (pair_of c.0 (ps ++ q.0)) q.1
 
 calls_in_front : (n : Header) (h : List Call) (ps : List ℕ) (r : Read (List Call)) → (r >>= λ c. behind_calls n ps (h ++ c.0, c.1)) ≡ (in_front h r >>= behind_calls n ps)
@@ -156,7 +156,7 @@ fault_in_positions n h ps p f full fails known = counted_by_positions n h ps p f
 
 -- ---- the header
 
-abbrev taken_of : Option Header → List Call → List ℕ → Taken
+abbrev taken_of : Option Header → List Call → List ℕ → TraceSoFar
 taken_of header history certificate = record { header = header; history = history; certificate = certificate }
 
 opened_first : (n : Header) (p q : Place) → p.at ≡ 0 → All (λ byte. byte < 256) p.bytes → header_at p ≡ Ok (n, q) → Opened (taken_of None [] []) (taken_of (Some n) [] []) p n q
@@ -171,7 +171,7 @@ opened_first n p q at fits e =
       read = behind_header n p q e;
     }
 
-pub opened_now : (n : Header) (old : Taken) (p q : Place) → old.header ≡ None → IsTaken old.header old.history old.certificate → p.at ≡ length (text_so_far old.header old.history old.certificate)
+pub opened_now : (n : Header) (old : TraceSoFar) (p q : Place) → old.header ≡ None → IsTaken old.header old.history old.certificate → p.at ≡ length (text_so_far old.header old.history old.certificate)
     → All (λ byte. byte < 256) p.bytes → header_at p ≡ Ok (n, q) → Opened old (record old { header = Some n }) p n q
 opened_now n old p q none is at fits e =
     let h = old.history in

@@ -5,8 +5,8 @@ use Rattle.std.specs.Int.{Width, w16, w32, w64, byte_len, from_be_bytes, to_be_b
 use Rattle.std.proofs.lemmas.Bool.{cases_lt, ltb-false, le-ltb}
 use Rattle.std.proofs.lemmas.List.{append-nil, take_at, drop_at, take-append-drop, take-append-le, drop-append-le, length-append, length-take, get_or-drop, get_or-take, get_or_past}
 use Rattle.std.proofs.lemmas.Nat.{be_bytes_2, be_bytes_4, be_bytes_8, from_be_bytes-to_be_bytes_2, from_be_bytes-to_be_bytes_4, from_be_bytes-to_be_bytes_8}
-use Rattle.trace_file.specs.declared.stop.Stop.{Stop}
-use Rattle.trace_file.specs.declared.stop.Stop.TheVariants.{Short, Fault}
+use Rattle.trace_file.specs.declared.item_fault.ItemFault.{ItemFault}
+use Rattle.trace_file.specs.declared.item_fault.ItemFault.TheVariants.{Short, Fault}
 use Rattle.trace_file.specs.declared.trace_fault.TraceFault.{TraceFault}
 use Rattle.trace_file.specs.Outcome.{IsOfText}
 use Rattle.trace_file.specs.Reading.{Place, place, Read, ◌>>=◌, bytes_at, number_at, first_at, byte_at, many_at}
@@ -26,17 +26,17 @@ IsBytes-take n bytes h i =
     ]
 
 -- the value of a step that did not stop
-pub bind_ok : {A B : Type 0} (r : Result A Stop) (f : A → Result B Stop) (y : B) → (r >>= f) ≡ Ok y → (x : A) × (r ≡ Ok x) × (f x ≡ Ok y)
+pub bind_ok : {A B : Type 0} (r : Result A ItemFault) (f : A → Result B ItemFault) (y : B) → (r >>= f) ≡ Ok y → (x : A) × (r ≡ Ok x) × (f x ≡ Ok y)
 bind_ok (Ok x) f y e = (x, refl, e)
 bind_ok (Err d) f y e = absurd cc
 
 -- a test that did not stop
-pub guard_ok : {A : Type 0} (b : Bool) (d : Stop) (x y : A) → cond b (Err d) (Ok x) ≡ Ok y → (b ≡ false) × (x ≡ y)
+pub guard_ok : {A : Type 0} (b : Bool) (d : ItemFault) (x y : A) → cond b (Err d) (Ok x) ≡ Ok y → (b ≡ false) × (x ≡ y)
 guard_ok true d x y e = absurd cc
 guard_ok false d x y e = (refl, cc)
 
 -- a test that stops short meets no fault
-pub not_short : {A : Type 0} (b : Bool) (x : A) (f : TraceFault) → ◌≡◌ {A = Result A Stop} (cond b (Err Short) (Ok x)) (Err (Fault f)) → ⊥
+pub not_short : {A : Type 0} (b : Bool) (x : A) (f : TraceFault) → ◌≡◌ {A = Result A ItemFault} (cond b (Err Short) (Ok x)) (Err (Fault f)) → ⊥
 not_short true x f e = cc
 not_short false x f e = cc
 
@@ -45,19 +45,19 @@ not_last : {A : Type 0} (r : Read (List A)) (x : A) (f : TraceFault) → in_fron
 not_last (Ok others) x f e = absurd cc
 not_last (Err d) x f e = cc
 
-pub same_fault : {A : Type 0} (d f : TraceFault) → ◌≡◌ {A = Result A Stop} (Err (Fault d)) (Err (Fault f)) → d ≡ f
+pub same_fault : {A : Type 0} (d f : TraceFault) → ◌≡◌ {A = Result A ItemFault} (Err (Fault d)) (Err (Fault f)) → d ≡ f
 same_fault d f e = cc
 
 -- what stopped two steps
-pub data Stopped {A B : Type 0} (r : Result A Stop) (f : A → Result B Stop) (d : Stop) : Type 0 where
+pub data Stopped {A B : Type 0} (r : Result A ItemFault) (f : A → Result B ItemFault) (d : ItemFault) : Type 0 where
   at_first : r ≡ Err d → Stopped r f d
   at_second : (x : A) → r ≡ Ok x → f x ≡ Err d → Stopped r f d
 
-pub bind_err : {A B : Type 0} (r : Result A Stop) (f : A → Result B Stop) (d : Stop) → (r >>= f) ≡ Err d → Stopped r f d
+pub bind_err : {A B : Type 0} (r : Result A ItemFault) (f : A → Result B ItemFault) (d : ItemFault) → (r >>= f) ≡ Err d → Stopped r f d
 bind_err (Ok x) f d e = at_second x refl e
 bind_err (Err d') f d e = at_first cc
 
-pub ok_is : {A : Type 0} (x y : A) → ◌≡◌ {A = Result A Stop} (Ok x) (Ok y) → x ≡ y
+pub ok_is : {A : Type 0} (x y : A) → ◌≡◌ {A = Result A ItemFault} (Ok x) (Ok y) → x ≡ y
 ok_is x y e = cc
 
 -- the same place with more bytes after it

@@ -13,7 +13,7 @@ use Rattle.trace_file.specs.declared.call.Call.{Call}
 use Rattle.trace_file.specs.declared.header.Header.{Header}
 use Rattle.trace_file.specs.declared.kind.Kind.{Kind}
 use Rattle.trace_file.specs.declared.kind.Kind.TheVariants.{Put, Remove, Hit, Miss}
-use Rattle.trace_file.specs.declared.stop.Stop.TheVariants.{Fault}
+use Rattle.trace_file.specs.declared.item_fault.ItemFault.TheVariants.{Fault}
 use Rattle.trace_file.specs.declared.trace_fault.TraceFault.{TraceFault}
 use Rattle.trace_file.specs.declared.trace_fault.TraceFault.TheVariants.{BadMagic, TooMany, BadKind, BadKey, BadValue}
 use Rattle.trace_file.specs.declared.version.Version.{Version}

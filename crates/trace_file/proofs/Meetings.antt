@@ -10,8 +10,8 @@ use Rattle.trace_file.specs.declared.act.Act.TheVariants as acts
 use Rattle.trace_file.specs.declared.header.Header.{Header}
 use Rattle.trace_file.specs.declared.kind.Kind.{Kind}
 use Rattle.trace_file.specs.declared.kind.Kind.TheVariants.{Put, Remove, Hit, Miss}
-use Rattle.trace_file.specs.declared.stop.Stop.{Stop}
-use Rattle.trace_file.specs.declared.stop.Stop.TheVariants.{Fault}
+use Rattle.trace_file.specs.declared.item_fault.ItemFault.{ItemFault}
+use Rattle.trace_file.specs.declared.item_fault.ItemFault.TheVariants.{Fault}
 use Rattle.trace_file.specs.declared.trace_fault.TraceFault.{TraceFault}
 use Rattle.trace_file.specs.declared.trace_fault.TraceFault.TheVariants.{BadMagic, TooMany, BadKind, BadKey, BadValue, Truncated, TrailingBytes, ReadFault, OutOfMemory}
 use Rattle.trace_file.specs.declared.version.Version.{Version}
@@ -30,11 +30,11 @@ use Rattle.trace_file.proofs.ToldApart.{behind_trace, some_bytes}
 -- ---- two steps
 
 -- what stops the first step stops both
-stops : {A B : Type 0} (r : Result A Stop) (d : Stop) (f : A → Result B Stop) → r ≡ Err d → (r >>= f) ≡ Err d
+stops : {A B : Type 0} (r : Result A ItemFault) (d : ItemFault) (f : A → Result B ItemFault) → r ≡ Err d → (r >>= f) ≡ Err d
 stops r d f e = ap (λ s. s >>= f) e
 
 -- what the first step gives the second goes on from
-goes : {A B : Type 0} (r : Result A Stop) (x : A) (f : A → Result B Stop) → r ≡ Ok x → (r >>= f) ≡ f x
+goes : {A B : Type 0} (r : Result A ItemFault) (x : A) (f : A → Result B ItemFault) → r ≡ Ok x → (r >>= f) ≡ f x
 goes r x f e = ap (λ s. s >>= f) e
 
 -- ---- the magic and the count

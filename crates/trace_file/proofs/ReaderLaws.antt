@@ -8,9 +8,9 @@ use Rattle.trace_file.specs.declared.act.Act.{Act}
 use Rattle.trace_file.specs.declared.act.Act.TheVariants.{Put, Remove, Hit, Miss}
 use Rattle.trace_file.specs.declared.call.Call.{Call}
 use Rattle.trace_file.specs.declared.header.Header.{Header}
-use Rattle.trace_file.specs.declared.stop.Stop.{Stop}
-use Rattle.trace_file.specs.declared.stop.Stop.TheVariants.{Short, Fault}
-use Rattle.trace_file.specs.declared.taken.Taken.{Taken}
+use Rattle.trace_file.specs.declared.item_fault.ItemFault.{ItemFault}
+use Rattle.trace_file.specs.declared.item_fault.ItemFault.TheVariants.{Short, Fault}
+use Rattle.trace_file.specs.declared.trace_so_far.TraceSoFar.{TraceSoFar}
 use Rattle.trace_file.specs.declared.trace.Trace.{Trace}
 use Rattle.trace_file.specs.declared.trace_fault.TraceFault.{TraceFault}
 use Rattle.trace_file.specs.declared.trace_fault.TraceFault.TheVariants.{Truncated}
@@ -96,7 +96,7 @@ reader_of_nothing = record {
 
 -- ---- the end
 
-pub finishes : (taken : Taken) (at len : ℕ) (pending : List ℕ) (self : Result (List ℕ) TraceFault) → fed_of None (stream_of taken pending) ≡ self → IsReading taken at pending → len ≡ length pending
+pub finishes : (taken : TraceSoFar) (at len : ℕ) (pending : List ℕ) (self : Result (List ℕ) TraceFault) → fed_of None (stream_of taken pending) ≡ self → IsReading taken at pending → len ≡ length pending
     → at_end (at + len) (standing taken.header taken.history taken.certificate) ≡ finished self
 unfolding outcome_of
 finishes taken at len pending self view is len-is =
@@ -105,13 +105,13 @@ finishes taken at len pending self view is len-is =
     ∙ ap (at_end (length (stream_of taken pending))) (sym is.stands)
     ∙ ap finished view
 
-pub ended_ok : (n : ℕ) (r : Result Trace Stop) (t : Trace) → at_end n r ≡ Ok t → r ≡ Ok t
+pub ended_ok : (n : ℕ) (r : Result Trace ItemFault) (t : Trace) → at_end n r ≡ Ok t → r ≡ Ok t
 ended_ok n (Ok u) t e = cc
 ended_ok n (Err Short) t e = absurd cc
 ended_ok n (Err (Fault f)) t e = absurd cc
 
 -- what is handed out is the trace that was fed
-pub finishes_trace : (taken : Taken) (at len : ℕ) (pending : List ℕ) (self : Result (List ℕ) TraceFault) (t : Trace) → fed_of None (stream_of taken pending) ≡ self → IsReading taken at pending
+pub finishes_trace : (taken : TraceSoFar) (at len : ℕ) (pending : List ℕ) (self : Result (List ℕ) TraceFault) (t : Trace) → fed_of None (stream_of taken pending) ≡ self → IsReading taken at pending
     → Ok t ≡ at_end (at + len) (standing taken.header taken.history taken.certificate) → IfOk self (λ stream. IsTrace stream t.history t.certificate)
 finishes_trace taken at len pending self t view is e =
     let read : trace_at (place 0 (stream_of taken pending)) ≡ Ok t = is.stands ∙ ended_ok (at + len) (standing taken.header taken.history taken.certificate) t (sym e) in
@@ -123,7 +123,7 @@ cut_by true trace n f e = absurd cc
 cut_by false trace n f e = cc
 
 -- a stream that ends too early is cut at its end
-pub finishes_cut : (taken : Taken) (at len : ℕ) (pending : List ℕ) (self : Result (List ℕ) TraceFault) (f : TraceFault) → fed_of None (stream_of taken pending) ≡ self → IsReading taken at pending → len ≡ length pending
+pub finishes_cut : (taken : TraceSoFar) (at len : ℕ) (pending : List ℕ) (self : Result (List ℕ) TraceFault) (f : TraceFault) → fed_of None (stream_of taken pending) ≡ self → IsReading taken at pending → len ≡ length pending
     → Err f ≡ at_end (at + len) (standing taken.header taken.history taken.certificate) → IfOk self (λ stream. f ≡ Truncated (length stream))
 finishes_cut taken at len pending self f view is len-is e =
     let n : at + len ≡ length (stream_of taken pending) = omega (arith, is.at_is, length-append (text_so_far taken.header taken.history taken.certificate) pending) in
@@ -138,7 +138,7 @@ behind_by None h c at pending is at-is = ap (λ (i : ℕ). trace_at (place i pen
 behind_by (Some n) h c at pending is at-is = goes_on n h c pending is ∙ ap (λ (i : ℕ). read_behind (Some n) h c (place i pending)) (sym at-is)
 
 -- what is read of the whole stream is what is read after what was taken
-behind_is : (t : Taken) (at : ℕ) (pending : List ℕ) → StartsOn t at pending → trace_at (place 0 (stream_of t pending)) ≡ read_behind t.header t.history t.certificate (place at pending)
+behind_is : (t : TraceSoFar) (at : ℕ) (pending : List ℕ) → StartsOn t at pending → trace_at (place 0 (stream_of t pending)) ≡ read_behind t.header t.history t.certificate (place at pending)
 behind_is t at pending starts = behind_by t.header t.history t.certificate at pending starts.taken_is starts.at_is
 
 -- what is left is the end of what was there
@@ -154,12 +154,12 @@ tail_is front more rest pending same le =
     let four : drop (length front) (front ++ pending) ≡ pending = drop_at front pending (length front) refl in
     (omega (arith, total), one ∙ ap (drop (length more)) same ∙ two ∙ three ∙ ap (drop k) four)
 
-module _ {old : Taken} {at : ℕ} {pending : List ℕ} (starts : StartsOn old at pending) where
-  pub left_is : (new : Taken) (q : Place) → Advances old new (place at pending) q → (length q.bytes ≤ length pending) × (q.bytes ≡ drop (length pending - length q.bytes) pending)
+module _ {old : TraceSoFar} {at : ℕ} {pending : List ℕ} (starts : StartsOn old at pending) where
+  pub left_is : (new : TraceSoFar) (q : Place) → Advances old new (place at pending) q → (length q.bytes ≤ length pending) × (q.bytes ≡ drop (length pending - length q.bytes) pending)
   left_is new q step =
       tail_is (text_so_far old.header old.history old.certificate) (text_so_far new.header new.history new.certificate) q.bytes pending step.spelled (omega (arith, step.at, step.onward, starts.at_is))
 
-  pub advanced : (new : Taken) (q : Place) (kept : List ℕ) → Advances old new (place at pending) q → kept ≡ drop (length pending - length q.bytes) pending → Keeps old pending new q.at kept
+  pub advanced : (new : TraceSoFar) (q : Place) (kept : List ℕ) → Advances old new (place at pending) q → kept ≡ drop (length pending - length q.bytes) pending → Keeps old pending new q.at kept
   advanced new q kept step cut =
       let left : kept ≡ q.bytes = cut ∙ sym (left_is new q step).1 in
       let same : stream_of new kept ≡ stream_of old pending = ap (stream_of new) left ∙ step.spelled in
@@ -177,7 +177,7 @@ module _ {old : Taken} {at : ℕ} {pending : List ℕ} (starts : StartsOn old at
       ap met (trace_stays (place 0 (stream_of old pending)) f more (bytes_from_All (stream_of old pending) starts.are_bytes) e)
 
 -- a piece was put after the pending bytes
-pub starts_from : (t : Taken) (at : ℕ) (pending piece now : List ℕ) → at < 2 ^ 40 → IsReading t at pending → All (λ byte. byte < 256) piece → now ≡ pending ++ piece → StartsOn t at now
+pub starts_from : (t : TraceSoFar) (at : ℕ) (pending piece now : List ℕ) → at < 2 ^ 40 → IsReading t at pending → All (λ byte. byte < 256) piece → now ≡ pending ++ piece → StartsOn t at now
 starts_from t at pending piece now small is bytes grown =
     let text = text_so_far t.header t.history t.certificate in
     let same : text ++ now ≡ (text ++ pending) ++ piece = ap (λ (s : List ℕ). text ++ s) grown ∙ sym (append_assoc text pending piece) in
@@ -193,12 +193,12 @@ met_standing true trace = refl
 met_standing false trace = refl
 
 -- a stream whose standing is known has no fault
-pub no_fault : (t : Taken) (at : ℕ) (pending : List ℕ) → IsReading t at pending → first_fault_of (stream_of t pending) ≡ None
+pub no_fault : (t : TraceSoFar) (at : ℕ) (pending : List ℕ) → IsReading t at pending → first_fault_of (stream_of t pending) ≡ None
 unfolding first_fault_of
 no_fault t at pending is = ap met is.stands ∙ met_standing (whole t.header t.certificate) (pair_of t.history t.certificate)
 
 -- after a piece was taken
-pub no_fault_now : (self : Result (List ℕ) TraceFault) (old : Taken) (pending piece now : List ℕ) (t : Taken) (at : ℕ) (kept : List ℕ) → fed_of None (stream_of old pending) ≡ self → now ≡ pending ++ piece
+pub no_fault_now : (self : Result (List ℕ) TraceFault) (old : TraceSoFar) (pending piece now : List ℕ) (t : TraceSoFar) (at : ℕ) (kept : List ℕ) → fed_of None (stream_of old pending) ≡ self → now ≡ pending ++ piece
     → Keeps old now t at kept → IfOk self (λ stream. first_fault_of (stream ++ piece) ≡ None)
 no_fault_now self old pending piece now t at kept view grown keeps =
     let text = text_so_far old.header old.history old.certificate in

@@ -14,8 +14,8 @@ use Rattle.trace_file.specs.declared.call.Call.{Call}
 use Rattle.trace_file.specs.declared.header.Header.{Header}
 use Rattle.trace_file.specs.declared.kind.Kind.{Kind}
 use Rattle.trace_file.specs.declared.kind.Kind.TheVariants.{Put, Remove, Hit, Miss}
-use Rattle.trace_file.specs.declared.stop.Stop.{Stop}
-use Rattle.trace_file.specs.declared.stop.Stop.TheVariants.{Fault}
+use Rattle.trace_file.specs.declared.item_fault.ItemFault.{ItemFault}
+use Rattle.trace_file.specs.declared.item_fault.ItemFault.TheVariants.{Fault}
 use Rattle.trace_file.specs.declared.trace.Trace.{Trace}
 use Rattle.trace_file.specs.declared.trace_fault.TraceFault.{TraceFault}
 use Rattle.trace_file.specs.declared.trace_fault.TraceFault.TheVariants.{BadMagic, TooMany, BadKind, BadKey, BadValue, Truncated, TrailingBytes, ReadFault, OutOfMemory}
@@ -59,11 +59,11 @@ no_fault_in_positions (suc n) p f e =
     ]
 
 -- a value is no fault
-not_ok : {A : Type 0} (x : A) (f : TraceFault) → ◌≡◌ {A = Result A Stop} (Ok x) (Err (Fault f)) → ⊥
+not_ok : {A : Type 0} (x : A) (f : TraceFault) → ◌≡◌ {A = Result A ItemFault} (Ok x) (Err (Fault f)) → ⊥
 not_ok x f e = cc
 
 -- a test that met a fault
-guard_err : {A : Type 0} (b : Bool) (d f : TraceFault) (r : Result A Stop) → cond b (Err (Fault d)) r ≡ Err (Fault f) → ((b ≡ true) × (d ≡ f)) ⊎ (r ≡ Err (Fault f))
+guard_err : {A : Type 0} (b : Bool) (d f : TraceFault) (r : Result A ItemFault) → cond b (Err (Fault d)) r ≡ Err (Fault f) → ((b ≡ true) × (d ≡ f)) ⊎ (r ≡ Err (Fault f))
 guard_err true d f r e = inl (refl, same_fault d f e)
 guard_err false d f r e = inr e
 
@@ -420,7 +420,7 @@ module _ (bytes : List ℕ) (n : Header) (calls : List Call) (q : Place) (took :
   among (ReadFault at) s = absurd s
   among OutOfMemory s = absurd s
 
-end_err : (b : Bool) (t : Trace) (d f : TraceFault) → ◌≡◌ {A = Result Trace Stop} (cond b (Ok t) (Err (Fault d))) (Err (Fault f)) → (b ≡ false) × (d ≡ f)
+end_err : (b : Bool) (t : Trace) (d f : TraceFault) → ◌≡◌ {A = Result Trace ItemFault} (cond b (Ok t) (Err (Fault d))) (Err (Fault f)) → (b ≡ false) × (d ≡ f)
 end_err true t d f e = absurd cc
 end_err false t d f e = (refl, same_fault d f e)
 

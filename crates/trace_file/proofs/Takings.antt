@@ -4,7 +4,7 @@ use Rattle.std.proofs.lemmas.List.Elements.{All-append, All-from_recursion}
 use Rattle.std.specs.List.{flat_map}
 use Rattle.std.proofs.lemmas.List.{length-append, length_push, get_or_past, flat_map_more}
 use Rattle.std.proofs.lemmas.Bool.{cases_lt}
-use Rattle.trace_file.specs.declared.stop.Stop.TheVariants.{Short, Fault}
+use Rattle.trace_file.specs.declared.item_fault.ItemFault.TheVariants.{Short, Fault}
 use Rattle.trace_file.specs.declared.trace_fault.TraceFault.{TraceFault}
 use Rattle.trace_file.specs.Reading.{Place, Read, ◌>>=◌, many_at}
 use Rattle.trace_file.specs.Stream.{in_front, TakesItems, FailsAs}

@@ -3,8 +3,8 @@ use Rattle.std.proofs.Common.{◌≡◌, ◌≢◌, ℕ, ◌<◌, List, [], ◌�
 use Rattle.std.specs.Prelude.{◌↔◌}
 use Rattle.trace_file.specs.declared.call.Call.{Call}
 use Rattle.trace_file.specs.declared.header.Header.{Header}
-use Rattle.trace_file.specs.declared.stop.Stop.{Stop}
-use Rattle.trace_file.specs.declared.stop.Stop.TheVariants.{Short, Fault}
+use Rattle.trace_file.specs.declared.item_fault.ItemFault.{ItemFault}
+use Rattle.trace_file.specs.declared.item_fault.ItemFault.TheVariants.{Short, Fault}
 use Rattle.trace_file.specs.declared.trace.Trace.{Trace}
 use Rattle.trace_file.specs.declared.trace_fault.TraceFault.{TraceFault}
 use Rattle.trace_file.specs.declared.trace_fault.TraceFault.TheVariants.{Truncated, TrailingBytes}
@@ -57,7 +57,7 @@ exactly bytes t fits = (λ e. trace_takes 0 bytes t (bytes_from_All bytes fits) 
 
 pub one_pair : (bytes : List ℕ) (h g : List Call) (c d : List ℕ) → IsTrace bytes h c → IsTrace bytes g d → (h ≡ g) × (c ≡ d)
 one_pair bytes h g c d a b =
-    let same : ◌≡◌ {A = Result Trace Stop} (Ok (pair_of h c)) (Ok (pair_of g d)) = sym (read_as bytes h c a) ∙ read_as bytes g d b in
+    let same : ◌≡◌ {A = Result Trace ItemFault} (Ok (pair_of h c)) (Ok (pair_of g d)) = sym (read_as bytes h c a) ∙ read_as bytes g d b in
     let pairs : pair_of h c ≡ pair_of g d = cc in
     (ap (λ (t : Trace). t.history) pairs, ap (λ (t : Trace). t.certificate) pairs)
 
@@ -77,7 +77,7 @@ pub trailing : (version : Version) (h : List Call) (c more : List ℕ) → IsPai
 unfolding outcome_of
 trailing version h c more is some = ap (at_end (length (text_of version h c ++ more))) (behind_trace version h c more is (some_bytes more some))
 
-not_both : (t : Trace) (d : Stop) → ◌≡◌ {A = Result Trace Stop} (Ok t) (Err d) → ⊥
+not_both : (t : Trace) (d : ItemFault) → ◌≡◌ {A = Result Trace ItemFault} (Ok t) (Err d) → ⊥
 not_both t d e = cc
 
 pub no_front : (bytes more : List ℕ) (h g : List Call) (c d : List ℕ) → IsTrace bytes h c → IsTrace (bytes ++ more) g d → more ≡ []
@@ -97,7 +97,7 @@ no_trace bytes more f h c fits e is =
     let fault = trace_stays (place 0 bytes) f more (bytes_from_All bytes fits) (stopped_by (trace_at (place 0 bytes)) f e) in
     not_both (pair_of h c) (Fault f) (sym (read_as (bytes ++ more) h c is) ∙ fault)
 
-cut_by_cases : (bytes more : List ℕ) (h : List Call) (c : List ℕ) (r : Result Trace Stop) → trace_at (place 0 bytes) ≡ r → All (λ byte. byte < 256) bytes → IsTrace (bytes ++ more) h c → more ≢ []
+cut_by_cases : (bytes more : List ℕ) (h : List Call) (c : List ℕ) (r : Result Trace ItemFault) → trace_at (place 0 bytes) ≡ r → All (λ byte. byte < 256) bytes → IsTrace (bytes ++ more) h c → more ≢ []
     → at_end (length bytes) r ≡ Err (Truncated (length bytes))
 cut_by_cases bytes more h c (Ok t) e fits is some = absurd (some (no_front bytes more t.history h t.certificate c (trace_takes 0 bytes t (bytes_from_All bytes fits) e) is))
 cut_by_cases bytes more h c (Err Short) e fits is some = refl

@@ -9,8 +9,8 @@ use Rattle.trace_file.specs.declared.call.Call.{Call}
 use Rattle.trace_file.specs.declared.header.Header.{Header}
 use Rattle.trace_file.specs.declared.kind.Kind.{Kind}
 use Rattle.trace_file.specs.declared.kind.Kind.TheVariants.{Put, Remove, Hit, Miss}
-use Rattle.trace_file.specs.declared.stop.Stop.{Stop}
-use Rattle.trace_file.specs.declared.stop.Stop.TheVariants.{Short, Fault}
+use Rattle.trace_file.specs.declared.item_fault.ItemFault.{ItemFault}
+use Rattle.trace_file.specs.declared.item_fault.ItemFault.TheVariants.{Short, Fault}
 use Rattle.trace_file.specs.declared.trace.Trace.{Trace}
 use Rattle.trace_file.specs.declared.trace_fault.TraceFault.{TraceFault}
 use Rattle.trace_file.specs.declared.trace_fault.TraceFault.TheVariants.{BadMagic, TooMany, BadKind, BadKey, BadValue, Truncated, TrailingBytes}
@@ -28,10 +28,10 @@ place at bytes = record { at = at; bytes = bytes }
 
 -- what reading at a place gives: a value and the place after it, or why there is none
 abbrev pub Read : Type 0 → Type 0
-Read A = Result (A × Place) Stop
+Read A = Result (A × Place) ItemFault
 
 infixl 10 ◌>>=◌
-abbrev pub ◌>>=◌ : {A B : Type 0} → Result A Stop → (A → Result B Stop) → Result B Stop
+abbrev pub ◌>>=◌ : {A B : Type 0} → Result A ItemFault → (A → Result B ItemFault) → Result B ItemFault
 (Ok x) >>= f = f x
 (Err e) >>= f = Err e
 
@@ -147,11 +147,11 @@ many_at item (suc n) p = do
   Ok (first.0 ∷ others.0, others.1)
 
 -- the pair, if nothing stands after it
-unfoldable pub end_at : Trace → Place → Result Trace Stop
+unfoldable pub end_at : Trace → Place → Result Trace ItemFault
 end_at trace p = if length p.bytes == 0 then Ok trace else Err (Fault (TrailingBytes p.at))
 
 -- the whole trace
-unfoldable pub trace_at : Place → Result Trace Stop
+unfoldable pub trace_at : Place → Result Trace ItemFault
 trace_at p = do
   header ← header_at p
   calls ← many_at (call_at header.0.version) header.0.count header.1
@@ -159,7 +159,7 @@ trace_at p = do
   end_at (record { history = calls.0; certificate = positions.0 }) positions.1
 
 -- what a whole input of this length gives: the trace, or the first fault
-abbrev pub at_end : ℕ → Result Trace Stop → Result Trace TraceFault
+abbrev pub at_end : ℕ → Result Trace ItemFault → Result Trace TraceFault
 at_end len (Ok trace) = Ok trace
 at_end len (Err Short) = Err (Truncated len)
 at_end len (Err (Fault fault)) = Err fault
@@ -169,7 +169,7 @@ unfoldable pub outcome_of : List ℕ → Result Trace TraceFault
 outcome_of bytes = at_end (length bytes) (trace_at (place 0 bytes))
 
 -- the fault that reading has met
-abbrev pub met : Result Trace Stop → Option TraceFault
+abbrev pub met : Result Trace ItemFault → Option TraceFault
 met (Ok trace) = None
 met (Err Short) = None
 met (Err (Fault fault)) = Some fault

@@ -3,9 +3,9 @@ use Rattle.std.specs.Prelude.{◌≡◌, ◌≢◌, ℕ, ◌+◌, ◌-◌, ◌<�
 use Rattle.std.specs.List.{flat_map}
 use Rattle.trace_file.specs.declared.call.Call.{Call}
 use Rattle.trace_file.specs.declared.header.Header.{Header}
-use Rattle.trace_file.specs.declared.stop.Stop.{Stop}
-use Rattle.trace_file.specs.declared.stop.Stop.TheVariants.{Short, Fault}
-use Rattle.trace_file.specs.declared.taken.Taken.{Taken}
+use Rattle.trace_file.specs.declared.item_fault.ItemFault.{ItemFault}
+use Rattle.trace_file.specs.declared.item_fault.ItemFault.TheVariants.{Short, Fault}
+use Rattle.trace_file.specs.declared.trace_so_far.TraceSoFar.{TraceSoFar}
 use Rattle.trace_file.specs.declared.trace.Trace.{Trace}
 use Rattle.trace_file.specs.declared.trace_fault.TraceFault.{TraceFault}
 use Rattle.trace_file.specs.declared.trace_fault.TraceFault.TheVariants.{OutOfMemory}
@@ -21,7 +21,7 @@ unfoldable pub counted_text : Header → List Call → List ℕ → List ℕ
 counted_text header calls positions = header_text header ++ (flat_map (call_text header.version) calls ++ flat_map position_text positions)
 
 -- what is read after these of the calls and positions that the header counts
-unfoldable pub counted_at : Header → List Call → List ℕ → Place → Result Trace Stop
+unfoldable pub counted_at : Header → List Call → List ℕ → Place → Result Trace ItemFault
 counted_at header calls positions p = do
   more ← many_at (call_at header.version) (header.count - length calls) p
   others ← many_at position_at (header.count - length positions) more.1
@@ -53,7 +53,7 @@ pub record TakesItems {A : Type 0} (item : Place → Read A) (text : A → List 
   pub waits : length new < count → item q ≡ Err Short
 
 -- the fault that was met, want of memory aside
-abbrev pub FailsAs : {X : Type 0} → TraceFault → Result X Stop → Type 0
+abbrev pub FailsAs : {X : Type 0} → TraceFault → Result X ItemFault → Type 0
 FailsAs fault read = fault ≢ OutOfMemory → read ≡ Err (Fault fault)
 
 -- the text of what was taken: nothing before the header is whole
@@ -62,7 +62,7 @@ text_so_far None history certificate = []
 text_so_far (Some header) history certificate = counted_text header history certificate
 
 -- what is read after what was taken
-abbrev pub read_behind : Option Header → List Call → List ℕ → Place → Result Trace Stop
+abbrev pub read_behind : Option Header → List Call → List ℕ → Place → Result Trace ItemFault
 read_behind None history certificate p = trace_at p
 read_behind (Some header) history certificate p = counted_at header history certificate p
 
@@ -77,7 +77,7 @@ whole None certificate = false
 whole (Some header) certificate = length certificate == header.count
 
 -- what is known with no further byte: the pair, once it is whole
-abbrev pub standing : Option Header → List Call → List ℕ → Result Trace Stop
+abbrev pub standing : Option Header → List Call → List ℕ → Result Trace ItemFault
 standing header history certificate = if whole header certificate then Ok (pair_of history certificate) else Err Short
 
 -- taking went on from one place to another, and what is read from there on is the same
@@ -94,7 +94,7 @@ pub record Settles (header : Header) (old_calls : List Call) (old_positions : Li
   pub stands : counted_at header calls positions q ≡ standing (Some header) calls positions
 
 -- the header is taken, and what is read after it is what was read before
-pub record Opened (old new : Taken) (p : Place) (opened : Header) (q : Place) : Type 0 where
+pub record Opened (old new : TraceSoFar) (p : Place) (opened : Header) (q : Place) : Type 0 where
   pub header : new ≡ record old { header = Some opened }
   pub counted : IsCounted opened old.history old.certificate
   pub spelled : counted_text opened old.history old.certificate ++ q.bytes ≡ text_so_far old.header old.history old.certificate ++ p.bytes
@@ -103,12 +103,12 @@ pub record Opened (old new : Taken) (p : Place) (opened : Header) (q : Place) : 
   pub read : read_behind old.header old.history old.certificate p ≡ counted_at opened old.history old.certificate q
 
 -- the header was taken, or it is not yet whole
-abbrev pub Opens : Taken → Taken → Place → Option (Header × Place) → Type 0
+abbrev pub Opens : TraceSoFar → TraceSoFar → Place → Option (Header × Place) → Type 0
 Opens old new p None = (new ≡ old) × (old.header ≡ None) × (trace_at p ≡ Err Short)
 Opens old new p (Some x) = Opened old new p x.0 x.1
 
 -- as much as is whole was taken of the bytes at a place, and reading waits at another
-pub record Advances (old new : Taken) (p q : Place) : Type 0 where
+pub record Advances (old new : TraceSoFar) (p q : Place) : Type 0 where
   pub taken : IsTaken new.header new.history new.certificate
   pub spelled : text_so_far new.header new.history new.certificate ++ q.bytes ≡ text_so_far old.header old.history old.certificate ++ p.bytes
   pub at : q.at ≡ length (text_so_far new.header new.history new.certificate)
@@ -116,21 +116,21 @@ pub record Advances (old new : Taken) (p q : Place) : Type 0 where
   pub stands : read_behind old.header old.history old.certificate p ≡ standing new.header new.history new.certificate
 
 -- what a reader of pieces knows of the stream that was fed to it: what was taken, with its length, and the bytes after it
-pub record IsReading (taken : Taken) (at : ℕ) (pending : List ℕ) : Type 0 where
+pub record IsReading (taken : TraceSoFar) (at : ℕ) (pending : List ℕ) : Type 0 where
   pub taken_is : IsTaken taken.header taken.history taken.certificate
   pub at_is : at ≡ length (text_so_far taken.header taken.history taken.certificate)
   pub are_bytes : All (λ byte. byte < 256) (text_so_far taken.header taken.history taken.certificate ++ pending)
   pub stands : trace_at (place 0 (text_so_far taken.header taken.history taken.certificate ++ pending)) ≡ standing taken.header taken.history taken.certificate
 
 -- what taking of further bytes starts from
-pub record StartsOn (taken : Taken) (at : ℕ) (pending : List ℕ) : Type 0 where
+pub record StartsOn (taken : TraceSoFar) (at : ℕ) (pending : List ℕ) : Type 0 where
   pub small : at < 2 ^ 40
   pub taken_is : IsTaken taken.header taken.history taken.certificate
   pub at_is : at ≡ length (text_so_far taken.header taken.history taken.certificate)
   pub are_bytes : All (λ byte. byte < 256) (text_so_far taken.header taken.history taken.certificate ++ pending)
 
 -- the stream is the same, and now its standing is known
-pub record Keeps (old : Taken) (old_pending : List ℕ) (taken : Taken) (at : ℕ) (pending : List ℕ) : Type 0 where
+pub record Keeps (old : TraceSoFar) (old_pending : List ℕ) (taken : TraceSoFar) (at : ℕ) (pending : List ℕ) : Type 0 where
   pub small : at < 2 ^ 40
   pub reading : IsReading taken at pending
   pub same : text_so_far taken.header taken.history taken.certificate ++ pending ≡ text_so_far old.header old.history old.certificate ++ old_pending
@@ -140,12 +140,12 @@ abbrev pub FaultIn : List ℕ → TraceFault → Type 0
 FaultIn stream fault = fault ≢ OutOfMemory → (more : List ℕ) → first_fault_of (stream ++ more) ≡ Some fault
 
 -- what a reader of pieces keeps: its offset is below the length of the longest trace, and with no fault it knows its stream
-pub record IsReader (taken : Taken) (at : ℕ) (pending : List ℕ) (fault : Option TraceFault) : Type 0 where
+pub record IsReader (taken : TraceSoFar) (at : ℕ) (pending : List ℕ) (fault : Option TraceFault) : Type 0 where
   pub small : at < 2 ^ 40
   pub reading : fault ≡ None → IsReading taken at pending
 
 -- the stream that was fed
-abbrev pub stream_of : Taken → List ℕ → List ℕ
+abbrev pub stream_of : TraceSoFar → List ℕ → List ℕ
 stream_of taken pending = text_so_far taken.header taken.history taken.certificate ++ pending
 
 -- the stream that was fed, or the fault that was answered

@@ -1,7 +1,7 @@
 // A place in the bytes of a trace, and the fields that are read there.
 ghost use Rattle.std.specs.Prelude.{◌≡◌, ◌+◌, ◌<◌, ◌^◌, All, IfOk, length};
 
-use crate::stop::Stop;
+use crate::item_fault::ItemFault;
 
 /// A place in the bytes of a trace: its offset, and the bytes from it on.
 #[derive(Clone, Copy)]
@@ -26,12 +26,12 @@ impl<'a> Cursor<'a> {
     ghost use Rattle.trace_file.specs.Reading.{place, bytes_at, byte_at, number_at};
 
     /// The next `count` bytes.
-    pub(crate) fn bytes(self, count: usize) -> Result<(&'a [u8], Cursor<'a>), Stop>
+    pub(crate) fn bytes(self, count: usize) -> Result<(&'a [u8], Cursor<'a>), ItemFault>
         ensures read { Gives (λ x. (x.0.now, shown x.1)) result (bytes_at count (shown self.entry)) }
         ensures len { IfOk result (λ x. length x.0.now ≡ count) }
     {
         if self.bytes.len() < count {
-            return Err(Stop::Short);
+            return Err(ItemFault::Short);
         }
         let (front, rest) = self.bytes.split_at(count);
         let behind = Cursor {
@@ -43,11 +43,11 @@ impl<'a> Cursor<'a> {
 
     /// One byte.
     #[tactic(auto, unfolding(crate::specs::Reading::byte_at))]
-    pub(crate) fn byte(self) -> Result<(u8, Cursor<'a>), Stop>
+    pub(crate) fn byte(self) -> Result<(u8, Cursor<'a>), ItemFault>
         ensures { Gives (λ x. (x.0, shown x.1)) result (byte_at (shown self.entry)) }
     {
         match self.bytes {
-            [] => Err(Stop::Short),
+            [] => Err(ItemFault::Short),
             [first, rest @ ..] => {
                 let behind = Cursor {
                     at: self.at + 1,
@@ -60,7 +60,7 @@ impl<'a> Cursor<'a> {
 
     /// A number of two bytes.
     #[tactic(auto, unfolding(crate::specs::Reading::number_at))]
-    pub(crate) fn number16(self) -> Result<(u16, Cursor<'a>), Stop>
+    pub(crate) fn number16(self) -> Result<(u16, Cursor<'a>), ItemFault>
         ensures { Gives (λ x. (x.0, shown x.1)) result (number_at w16 (shown self.entry)) }
     {
         let (front, behind) = self.bytes(2)?;
@@ -69,7 +69,7 @@ impl<'a> Cursor<'a> {
 
     /// A number of four bytes.
     #[tactic(auto, unfolding(crate::specs::Reading::number_at))]
-    pub(crate) fn number32(self) -> Result<(u32, Cursor<'a>), Stop>
+    pub(crate) fn number32(self) -> Result<(u32, Cursor<'a>), ItemFault>
         ensures { Gives (λ x. (x.0, shown x.1)) result (number_at w32 (shown self.entry)) }
     {
         let (front, behind) = self.bytes(4)?;
@@ -79,7 +79,7 @@ impl<'a> Cursor<'a> {
 
     /// A number of eight bytes.
     #[tactic(auto, unfolding(crate::specs::Reading::number_at))]
-    pub(crate) fn number64(self) -> Result<(u64, Cursor<'a>), Stop>
+    pub(crate) fn number64(self) -> Result<(u64, Cursor<'a>), ItemFault>
         ensures { Gives (λ x. (x.0, shown x.1)) result (number_at w64 (shown self.entry)) }
     {
         let (front, behind) = self.bytes(8)?;

@@ -13,8 +13,8 @@ use crate::act_ref::ActRef;
 use crate::call_ref::CallRef;
 use crate::cursor::Cursor;
 use crate::header::Header;
+use crate::item_fault::ItemFault;
 use crate::kind::Kind;
-use crate::stop::Stop;
 use crate::trace_fault::TraceFault;
 use crate::version::Version;
 use record_pages::{NEVER, Value};
@@ -42,37 +42,37 @@ fn kind_of(byte: u8) -> Option<Kind>
 }
 
 #[tactic(auto, unfolding(crate::specs::Reading::kind_at))]
-fn kind(cursor: Cursor<'_>) -> Result<(Kind, Cursor<'_>), Stop>
+fn kind(cursor: Cursor<'_>) -> Result<(Kind, Cursor<'_>), ItemFault>
     ensures { Gives (λ x. (x.0, shown x.1)) result (kind_at (shown cursor.entry)) }
 {
     let (byte, behind) = cursor.byte()?;
     match kind_of(byte) {
         Some(kind) => Ok((kind, behind)),
-        None => Err(Stop::Fault(TraceFault::BadKind { at: cursor.at })),
+        None => Err(ItemFault::Fault(TraceFault::BadKind { at: cursor.at })),
     }
 }
 
 #[tactic(auto, unfolding(crate::specs::Reading::key_at))]
-fn key(cursor: Cursor<'_>) -> Result<(&[u8], Cursor<'_>), Stop>
+fn key(cursor: Cursor<'_>) -> Result<(&[u8], Cursor<'_>), ItemFault>
     ensures read { Gives (λ x. (x.0.now, shown x.1)) result (key_at (shown cursor.entry)) }
     ensures lawful { IfOk result (λ x. IsKey x.0.now) }
 {
     let (len, behind) = cursor.byte()?;
     if len == 0 {
-        return Err(Stop::Fault(TraceFault::BadKey { at: cursor.at }));
+        return Err(ItemFault::Fault(TraceFault::BadKey { at: cursor.at }));
     }
     let (key, behind) = behind.bytes(len as usize)?;
     Ok((key, behind))
 }
 
 #[tactic(auto, unfolding(crate::specs::Reading::value_at))]
-fn value(cursor: Cursor<'_>) -> Result<(&[u8], Cursor<'_>), Stop>
+fn value(cursor: Cursor<'_>) -> Result<(&[u8], Cursor<'_>), ItemFault>
     ensures read { Gives (λ x. (x.0.now, shown x.1)) result (value_at (shown cursor.entry)) }
     ensures lawful { IfOk result (λ x. IsValue x.0.now) }
 {
     let (len, behind) = cursor.number16()?;
     if len as usize > Value::MAX_LEN {
-        return Err(Stop::Fault(TraceFault::BadValue { at: cursor.at }));
+        return Err(ItemFault::Fault(TraceFault::BadValue { at: cursor.at }));
     }
     let (value, behind) = behind.bytes(len as usize)?;
     Ok((value, behind))
@@ -80,7 +80,7 @@ fn value(cursor: Cursor<'_>) -> Result<(&[u8], Cursor<'_>), Stop>
 
 /// The time that stands here, or what its lack means if the trace says no times.
 #[tactic(auto, unfolding(crate::specs::Reading::time_at))]
-fn time(version: Version, meant: u64, cursor: Cursor<'_>) -> Result<(u64, Cursor<'_>), Stop>
+fn time(version: Version, meant: u64, cursor: Cursor<'_>) -> Result<(u64, Cursor<'_>), ItemFault>
     ensures { Gives (λ x. (x.0, shown x.1)) result (time_at version meant (shown cursor.entry)) }
 {
     match version {
@@ -90,7 +90,11 @@ fn time(version: Version, meant: u64, cursor: Cursor<'_>) -> Result<(u64, Cursor
 }
 
 #[tactic(auto, unfolding(crate::specs::Reading::act_at))]
-fn act(version: Version, kind: Kind, cursor: Cursor<'_>) -> Result<(ActRef<'_>, Cursor<'_>), Stop>
+fn act(
+    version: Version,
+    kind: Kind,
+    cursor: Cursor<'_>,
+) -> Result<(ActRef<'_>, Cursor<'_>), ItemFault>
     ensures read { Gives (λ x. (act_shown x.0, shown x.1)) result (act_at version kind (shown cursor.entry)) }
     ensures lawful { IfOk result (λ x. IsValue (value_of (act_shown x.0))) }
 {
@@ -112,7 +116,10 @@ fn act(version: Version, kind: Kind, cursor: Cursor<'_>) -> Result<(ActRef<'_>, 
 
 /// The call that begins here.
 #[tactic(auto, unfolding(crate::specs::Reading::call_at))]
-pub(crate) fn call(version: Version, cursor: Cursor<'_>) -> Result<(CallRef<'_>, Cursor<'_>), Stop>
+pub(crate) fn call(
+    version: Version,
+    cursor: Cursor<'_>,
+) -> Result<(CallRef<'_>, Cursor<'_>), ItemFault>
     ensures read { Gives (λ x. (call_shown x.0, shown x.1)) result (call_at version (shown cursor.entry)) }
     ensures lawful { IfOk result (λ x. IsCall (call_shown x.0)) }
 {
@@ -138,7 +145,7 @@ fn first_difference(bytes: &[u8], others: &[u8; 8]) -> Option<usize>
 
 /// The form of a trace, by the eight bytes that it begins with.
 #[tactic(auto, unfolding(crate::specs::Reading::version_at))]
-fn version(cursor: Cursor<'_>) -> Result<(Version, Cursor<'_>), Stop>
+fn version(cursor: Cursor<'_>) -> Result<(Version, Cursor<'_>), ItemFault>
     ensures { Gives (λ x. (x.0, shown x.1)) result (version_at (shown cursor.entry)) }
 {
     let (bytes, behind) = cursor.bytes(8)?;
@@ -150,26 +157,26 @@ fn version(cursor: Cursor<'_>) -> Result<(Version, Cursor<'_>), Stop>
             None => Ok((Version::Timeless, behind)),
             Some(_) => {
                 let at = cursor.at + i as u64;
-                Err(Stop::Fault(TraceFault::BadMagic { at }))
+                Err(ItemFault::Fault(TraceFault::BadMagic { at }))
             }
         },
     }
 }
 
 #[tactic(auto, unfolding(crate::specs::Reading::count_at))]
-fn count(cursor: Cursor<'_>) -> Result<(u32, Cursor<'_>), Stop>
+fn count(cursor: Cursor<'_>) -> Result<(u32, Cursor<'_>), ItemFault>
     ensures { Gives (λ x. (x.0, shown x.1)) result (count_at (shown cursor.entry)) }
 {
     let (count, behind) = cursor.number32()?;
     if count > MOST_CALLS {
-        return Err(Stop::Fault(TraceFault::TooMany { at: cursor.at }));
+        return Err(ItemFault::Fault(TraceFault::TooMany { at: cursor.at }));
     }
     Ok((count, behind))
 }
 
 /// What stands before the calls: the form of the trace, and how many calls there are.
 #[tactic(auto, unfolding(crate::specs::Reading::header_at))]
-pub(crate) fn header(cursor: Cursor<'_>) -> Result<(Header, Cursor<'_>), Stop>
+pub(crate) fn header(cursor: Cursor<'_>) -> Result<(Header, Cursor<'_>), ItemFault>
     ensures { Gives (λ x. (x.0, shown x.1)) result (header_at (shown cursor.entry)) }
 {
     let (version, behind) = version(cursor)?;
@@ -178,7 +185,7 @@ pub(crate) fn header(cursor: Cursor<'_>) -> Result<(Header, Cursor<'_>), Stop>
 }
 
 /// The position that stands here.
-pub(crate) fn position(cursor: Cursor<'_>) -> Result<(u32, Cursor<'_>), Stop>
+pub(crate) fn position(cursor: Cursor<'_>) -> Result<(u32, Cursor<'_>), ItemFault>
     ensures { Gives (λ x. (x.0, shown x.1)) result (position_at (shown cursor.entry)) }
 {
     cursor.number32()

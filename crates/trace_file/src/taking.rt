@@ -11,11 +11,11 @@ use crate::certificate::Certificate;
 use crate::cursor::Cursor;
 use crate::header::Header;
 use crate::history::History;
+use crate::item_fault::ItemFault;
 use crate::items::{call, header, position};
-use crate::stop::Stop;
-use crate::taken::Taken;
 use crate::trace::Trace;
 use crate::trace_fault::TraceFault;
+use crate::trace_so_far::TraceSoFar;
 use std::alloc::Global;
 
 /// Takes the calls that are whole, up to as many as the header counts, and answers the place after them.
@@ -37,8 +37,8 @@ fn take_calls<'a>(
                 };
                 rest = behind;
             }
-            Err(Stop::Short) => return Ok(rest),
-            Err(Stop::Fault(fault)) => return Err(fault),
+            Err(ItemFault::Short) => return Ok(rest),
+            Err(ItemFault::Fault(fault)) => return Err(fault),
         }
     }
     Ok(rest)
@@ -63,8 +63,8 @@ fn take_positions<'a>(
                 };
                 rest = behind;
             }
-            Err(Stop::Short) => return Ok(rest),
-            Err(Stop::Fault(fault)) => return Err(fault),
+            Err(ItemFault::Short) => return Ok(rest),
+            Err(ItemFault::Fault(fault)) => return Err(fault),
         }
     }
     Ok(rest)
@@ -96,12 +96,12 @@ fn take_counted<'a>(
     Ok(rest)
 }
 
-impl Taken {
+impl TraceSoFar {
     /// Nothing was taken yet. It takes no memory.
-    pub(crate) fn new(alloc: Global) -> Taken
+    pub(crate) fn new(alloc: Global) -> TraceSoFar
         ensures { result ≡ record { header = None; history = []; certificate = [] } }
     {
-        Taken {
+        TraceSoFar {
             header: None,
             history: History::new(alloc),
             certificate: Certificate::new(alloc),
@@ -125,7 +125,7 @@ impl Taken {
         if !self.is_whole() {
             return Err(TraceFault::Truncated { at: fed });
         }
-        let Taken {
+        let TraceSoFar {
             header: _,
             history,
             certificate,
@@ -153,8 +153,8 @@ impl Taken {
                     self.header = Some(header);
                     Ok(Some((header, behind)))
                 }
-                Err(Stop::Short) => Ok(None),
-                Err(Stop::Fault(fault)) => Err(fault),
+                Err(ItemFault::Short) => Ok(None),
+                Err(ItemFault::Fault(fault)) => Err(fault),
             },
         }
     }

@@ -2,9 +2,9 @@
 ghost use Rattle.std.specs.Prelude.{◌≡◌, ◌≢◌, ◌++◌, ◌-◌, ◌+◌, ◌<◌, ◌≤◌, ◌^◌, [], Ok, Err, Some, None, List, ℕ, length, drop, IfOk, IfErr, OnOk, vec_len};
 
 use crate::cursor::Cursor;
-use crate::taken::Taken;
 use crate::trace::Trace;
 use crate::trace_fault::TraceFault;
+use crate::trace_so_far::TraceSoFar;
 use std::alloc::Global;
 use std::marker::Model;
 
@@ -18,7 +18,7 @@ pub(crate) const PIECE: usize = 4096;
 /// most one unfinished field or record.
 #[derive(Debug, Drop)]
 pub struct TraceReader {
-    taken: Taken,
+    taken: TraceSoFar,
     at: u64,
     pending: Vec<u8>,
     fault: Option<TraceFault>,
@@ -47,7 +47,7 @@ impl TraceReader {
         ensures { result ≡ Ok [] }
     {
         TraceReader {
-            taken: Taken::new(alloc),
+            taken: TraceSoFar::new(alloc),
             at: 0,
             pending: Vec::new(alloc),
             fault: None,
@@ -151,7 +151,7 @@ ghost use Rattle.trace_file.specs.Reading.{place, trace_at};
 ghost use Rattle.trace_file.specs.Stream.{IsReading, stream_of, StartsOn, FaultIn, Keeps};
 
 /// Takes as much as is whole of the pending bytes, and answers the offset of those that are left.
-fn advance(taken: &mut Taken, at: u64, pending: &mut Vec<u8>) -> Result<u64, TraceFault>
+fn advance(taken: &mut TraceSoFar, at: u64, pending: &mut Vec<u8>) -> Result<u64, TraceFault>
     requires { StartsOn taken.old at pending.old.items }
     ensures ok { IfOk result (λ at. Keeps taken.old pending.old.items taken.new at pending.new.items) }
     ensures err { IfErr result (λ fault. FaultIn (stream_of taken.old pending.old.items) fault) }

@@ -6,10 +6,10 @@ ghost use Rattle.c_lane.specs.Lane.{laws_of};
 ghost use Rattle.c_lane.specs.Getting.{Answers, AnswersOrLeases, RefusesGet, TellsAnswer};
 
 use super::CLane;
-use crate::copying::copied;
+use crate::copying::copy_front;
 use crate::hit::Hit;
 use crate::status::Status;
-use mover::Seen;
+use mover::AnswerKind;
 use page_device::PageDevice;
 use record_pages::ValueBuffer;
 
@@ -61,15 +61,15 @@ impl<D: PageDevice<4096>> CLane<D> {
 }
 
 // Tells what was seen, the value of a hit being in `found`.
-fn told(seen: Seen, found: &ValueBuffer, into: &mut [u8], hit: &mut Hit) -> Status
+fn told(seen: AnswerKind, found: &ValueBuffer, into: &mut [u8], hit: &mut Hit) -> Status
     ensures { TellsAnswer (answer_of seen found.now) into.old result into.new hit.new }
 {
     match seen {
-        Seen::Hit(tier) => {
+        AnswerKind::Hit(tier) => {
             *hit = Hit::of(found.bytes(), tier);
-            copied(found.bytes(), into)
+            copy_front(found.bytes(), into)
         }
-        Seen::Miss(cause) => {
+        AnswerKind::Miss(cause) => {
             *hit = Hit::none();
             Status::of_miss(cause)
         }

@@ -8,7 +8,7 @@ ghost use Rattle.deeds.specs.Sound.{act_of};
 use super::DeedStore;
 use crate::telling::{act_lent, act_seen};
 use memory_cache::found_is_held;
-use mover::{Seen, get_shows};
+use mover::{AnswerKind, get_shows};
 use page_device::PageDevice;
 use record_pages::{Answer, Key, ValueBuffer};
 use std::alloc::AllocError;
@@ -16,7 +16,7 @@ use std::alloc::AllocError;
 impl<D: PageDevice<PAGE>, const PAGE: usize> DeedStore<D, PAGE> {
     /// Looks the key of these bytes up, and writes the value of a hit into the buffer: at a miss that stays as it was. The
     /// answer is a deed.
-    pub fn get_into(&mut self, key: &[u8], moment: u64, found: &mut ValueBuffer) -> Seen
+    pub fn get_into(&mut self, key: &[u8], moment: u64, found: &mut ValueBuffer) -> AnswerKind
         ensures gets { StoreGets PAGE D.honest D.failures D.held key.now moment self.old.store
             (Ok (answer_of result found.new)) self.new.store }
         ensures deeds { self.new.deeds ≡ self.old.deeds

@@ -101,7 +101,7 @@ const FOLDER: Row = Row {
     ],
     ends: Ends::Refused(
         3,
-        b"file fault\nfolder.devices/lane-1.dev: it is no regular file\nname a folder with --device that exists and that no other run uses\n",
+        b"file fault\nfolder.devices/lane-1.dev: it is no regular file\nname a folder with --device that exists and that no other load uses\n",
     ),
 };
 
@@ -128,7 +128,7 @@ const USED: Row = Row {
     ],
     ends: Ends::Refused(
         3,
-        b"file fault\nused.devices/lane-0.dev: the file is in use\nname a folder with --device that exists and that no other run uses\n",
+        b"file fault\nused.devices/lane-0.dev: the file is in use\nname a folder with --device that exists and that no other load uses\n",
     ),
 };
 
@@ -157,7 +157,7 @@ const NO_FOLDER: Row = Row {
     ],
     ends: Ends::Refused(
         3,
-        b"file fault\nno such folder/lane-0.dev: the file can't be opened: No such file or directory (os error 2)\nname a folder with --device that exists and that no other run uses\n",
+        b"file fault\nno such folder/lane-0.dev: the file can't be opened: No such file or directory (os error 2)\nname a folder with --device that exists and that no other load uses\n",
     ),
 };
 

@@ -1,6 +1,6 @@
 //! The seed of a run's tables, which comes from the host.
 use super::runs::{Ends, Row, holds, is_removed};
-use test_steps::WithoutRandom;
+use test_devices::WithoutRandom;
 
 /// A run that draws no seed.
 const UNSEEDED: Row = Row {

@@ -11,9 +11,9 @@ ghost use Rattle.mover.specs.Touch.{answer_at, has_value, touched, CanTouch};
 
 use super::Store;
 use super::locate::locate_below;
+use crate::answer_kind::AnswerKind;
 use crate::located::Located;
-use crate::recalled::Recalled;
-use crate::seen::Seen;
+use crate::memory_answer::MemoryAnswer;
 use page_device::PageDevice;
 use record_pages::{Answer, Key, MissCause, Tier, ValueBuffer};
 use std::alloc::AllocError;
@@ -26,14 +26,14 @@ impl<D: PageDevice<PAGE>, const PAGE: usize> Store<D, PAGE> {
         ensures { StoreGets PAGE D.honest D.failures D.held key.now moment self.old result self.new }
     {
         let key = key.bytes();
-        match self.recall(key, moment) {
-            Recalled::Live(value) => {
+        match self.look_in_memory(key, moment) {
+            MemoryAnswer::Live(value) => {
                 let value = value.try_clone()?;
                 self.touch(key, &Located::Memory);
                 Ok(Answer::Hit(value, Tier::Memory))
             }
-            Recalled::Expired => Ok(Answer::Miss(MissCause::Expired)),
-            Recalled::Absent => match self.get_below(key, moment) {
+            MemoryAnswer::Expired => Ok(Answer::Miss(MissCause::Expired)),
+            MemoryAnswer::Absent => match self.get_below(key, moment) {
                 Ok(answer) => Ok(answer),
                 Err(refused) => Err(refused),
             },
@@ -43,24 +43,24 @@ impl<D: PageDevice<PAGE>, const PAGE: usize> Store<D, PAGE> {
     /// The value that the key with these bytes has at a moment, as `get` has it, into room of the caller's: a hit
     /// leaves the value in the buffer, and a miss leaves the buffer as it was. Bytes that are no key are absent. No
     /// memory is taken.
-    pub fn get_into(&mut self, key: &[u8], moment: u64, found: &mut ValueBuffer) -> Seen
+    pub fn get_into(&mut self, key: &[u8], moment: u64, found: &mut ValueBuffer) -> AnswerKind
         ensures gets { StoreGets PAGE D.honest D.failures D.held key.now moment self.old
             (Ok (answer_of result found.new)) self.new }
         ensures stays { OnFalse (is_hit result) (found.new ≡ found.old) }
     {
         let at = self.locate(key, moment, found);
         self.touch(key, &at);
-        at.seen()
+        at.kind()
     }
 
     // What memory has of a key.
-    fn recall(&self, key: &[u8], moment: u64) -> Recalled<'_>
+    fn look_in_memory(&self, key: &[u8], moment: u64) -> MemoryAnswer<'_>
         ensures { value_of result ≡ option_map (value_at moment) (value_in key.now self.now.memory.pairs) }
     {
         match self.memory.peek_bytes(key) {
-            None => Recalled::Absent,
-            Some(timed) if timed.is_live(moment) => Recalled::Live(&timed.value),
-            Some(_) => Recalled::Expired,
+            None => MemoryAnswer::Absent,
+            Some(timed) if timed.is_live(moment) => MemoryAnswer::Live(&timed.value),
+            Some(_) => MemoryAnswer::Expired,
         }
     }
 
@@ -72,13 +72,13 @@ impl<D: PageDevice<PAGE>, const PAGE: usize> Store<D, PAGE> {
         ensures can { CanTouch result self.new }
         ensures stays { OnFalse (has_value result) (found.new ≡ found.old) }
     {
-        match self.recall(key, moment) {
-            Recalled::Live(value) => {
+        match self.look_in_memory(key, moment) {
+            MemoryAnswer::Live(value) => {
                 found.set(value.bytes());
                 Located::Memory
             }
-            Recalled::Expired => Located::Miss(MissCause::Expired),
-            Recalled::Absent => {
+            MemoryAnswer::Expired => Located::Miss(MissCause::Expired),
+            MemoryAnswer::Absent => {
                 let placed = self.place_bytes(key);
                 let device = &mut self.device;
                 locate_below(&self.log, &self.sets, device, &placed, key, moment, found)

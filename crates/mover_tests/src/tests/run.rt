@@ -1,6 +1,6 @@
 //! Calls of a store, each with what it gives.
 use super::*;
-use mover::{Aborted, Begin, Committed, Seen};
+use mover::{Aborted, AnswerKind, Begin, Committed};
 use policy_laws::{Choice, Item, Job, Plan};
 use record_pages::{Answer, Key, MissCause, Prediction, PutFault, Tier, Value, ValueBuffer};
 
@@ -186,15 +186,15 @@ fn gets_into<D: PageDevice<PAGE>, const PAGE: usize>(
     is_seen(seen, wanted) && found.bytes() == held_then(wanted)
 }
 
-pub fn is_seen(seen: Seen, wanted: &Found) -> bool {
+pub fn is_seen(seen: AnswerKind, wanted: &Found) -> bool {
     match wanted {
-        Found::Memory(_) => seen == Seen::Hit(Tier::Memory),
-        Found::Log(_) => seen == Seen::Hit(Tier::Log),
-        Found::Set(_) => seen == Seen::Hit(Tier::Set),
-        Found::Absent => seen == Seen::Miss(MissCause::Absent),
-        Found::Fault => seen == Seen::Miss(MissCause::Fault),
-        Found::Damaged => seen == Seen::Miss(MissCause::Damaged),
-        Found::Expired => seen == Seen::Miss(MissCause::Expired),
+        Found::Memory(_) => seen == AnswerKind::Hit(Tier::Memory),
+        Found::Log(_) => seen == AnswerKind::Hit(Tier::Log),
+        Found::Set(_) => seen == AnswerKind::Hit(Tier::Set),
+        Found::Absent => seen == AnswerKind::Miss(MissCause::Absent),
+        Found::Fault => seen == AnswerKind::Miss(MissCause::Fault),
+        Found::Damaged => seen == AnswerKind::Miss(MissCause::Damaged),
+        Found::Expired => seen == AnswerKind::Miss(MissCause::Expired),
     }
 }
 

@@ -53,7 +53,7 @@ const ROWS: [Row; 6] = [
     Row {
         words: &["k", "serve-load", "--device", "no such folder"],
         status: 3,
-        line: b"file fault\nno such folder/lane-0.dev: the file can't be opened: No such file or directory (os error 2)\ncheck the folder that --device names: each lane has a file there\n",
+        line: b"file fault\nno such folder/lane-0.dev: the file can't be opened: No such file or directory (os error 2)\nname a folder with --device that exists and that no other load uses\n",
     },
 ];
 

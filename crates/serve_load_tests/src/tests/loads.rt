@@ -12,7 +12,7 @@ use std::sync::Wait;
 use std::test::Fail;
 use std::thread::Threads;
 use std::time::Clock;
-use test_steps::StaleDevice;
+use test_devices::StaleDevice;
 
 /// What a load ended with and wrote.
 #[derive(Drop)]

@@ -1,10 +1,10 @@
 //! The seed of a load's cache, which comes from the host.
 use super::loads::{Ran, load_of, run_of};
-use test_steps::WithoutRandom;
+use test_devices::WithoutRandom;
 
 /// What is reported if the host has no random numbers.
 const TOLD: &[u8] =
-    b"file fault\nno random numbers: permission denied\nthey are the seed of the cache: try again\n";
+    b"file fault\nno random numbers: permission denied\nthey are the seed of the tables: try again\n";
 
 /// Whether a load wrote no report, and told why.
 fn is_unserved(ran: &Ran) -> bool {

@@ -15,8 +15,8 @@ ghost use Rattle.service_cache.specs.Calls.{HasMissed, IsHit, looked_up, AddsLas
 use super::ServiceCache;
 use crate::looked_up::LookedUp;
 use crate::seat_fault::{SeatFault, SeatPutFault};
-use deed_book::{EntryFault, KeyLanes, Naming, Seat};
-use mover::Seen;
+use deed_book::{BookName, EntryFault, KeyLanes, Seat};
+use mover::AnswerKind;
 use page_device::PageDevice;
 use policy_laws::EvictionPolicy;
 use record_pages::{Key, Pushed, Value, ValueBuffer};
@@ -28,7 +28,7 @@ impl<
     P: EvictionPolicy + Drop,
     const PAGE: usize,
     L: KeyLanes,
-    J: Naming,
+    J: BookName,
 > ServiceCache<D, P, PAGE, L, J> {
     /// Looks a key up, by its bytes, in one hold of its lane; and the seat sees the list as it is. The value of a hit is in the
     /// buffer then; at a miss the buffer is as it was. No memory is taken.
@@ -47,7 +47,7 @@ impl<
         key: &[u8],
         moment: u64,
         found: &mut ValueBuffer,
-    ) -> Result<Seen, SeatFault>
+    ) -> Result<AnswerKind, SeatFault>
         ensures live { IfOk result (λ seen. IsHit L.is_honest L.lane_of seat.new key.now moment
             (answer_of seen found.new)) }
         ensures seen { IsPrefix seat.old seat.new }

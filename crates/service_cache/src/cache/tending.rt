@@ -3,7 +3,7 @@ ghost use Rattle.std.specs.Prelude.{◌<◌};
 ghost use Rattle.service_cache.specs.Serving.{lanes_of};
 
 use super::ServiceCache;
-use deed_book::{KeyLanes, Naming};
+use deed_book::{BookName, KeyLanes};
 use klog::LogUsage;
 use page_device::{DeviceCounts, PageDevice};
 use policy_laws::EvictionPolicy;
@@ -15,7 +15,7 @@ impl<
     P: EvictionPolicy + Drop,
     const PAGE: usize,
     L: KeyLanes,
-    J: Naming,
+    J: BookName,
 > ServiceCache<D, P, PAGE, L, J> {
     /// Does what is due in a lane, one step, in one hold of it. At most 33 pages are read and one is written.
     ///

@@ -11,13 +11,13 @@ ghost use Rattle.service_cache.specs.Refusals.{RefusesGet};
 
 use super::SeatedLane;
 use crate::seat_fault::SeatFault;
-use deed_book::{KeyLanes, Naming, Seat};
-use mover::Seen;
+use deed_book::{BookName, KeyLanes, Seat};
+use mover::AnswerKind;
 use page_device::PageDevice;
 use record_pages::ValueBuffer;
 use service_lane::Lease;
 
-impl<D: PageDevice<PAGE>, const PAGE: usize, L: KeyLanes, J: Naming> SeatedLane<D, PAGE, L, J> {
+impl<D: PageDevice<PAGE>, const PAGE: usize, L: KeyLanes, J: BookName> SeatedLane<D, PAGE, L, J> {
     /// Looks a key of the lane up, by its bytes, as `ServiceLane::get` does; and the seat sees the list as it is.
     ///
     /// A hit is the key's latest value not since removed in the list that the seat has seen then, live at the moment: in
@@ -28,7 +28,7 @@ impl<D: PageDevice<PAGE>, const PAGE: usize, L: KeyLanes, J: Naming> SeatedLane<
         key: &[u8],
         moment: u64,
         found: &mut ValueBuffer,
-    ) -> Result<Seen, SeatFault>
+    ) -> Result<AnswerKind, SeatFault>
         requires { L.lane_of key.now ≡ self.old.register.number }
         ensures live { IfOk result (λ seen. IsLiveHit (IsTrue (D.honest self.old.serving.store.device)) seat.new
             key.now moment (answer_of seen found.new)) }

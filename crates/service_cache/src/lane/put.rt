@@ -17,12 +17,12 @@ ghost use Rattle.service_cache.specs.declared.seat_fault.SeatPutFault.{SeatPutFa
 
 use super::SeatedLane;
 use crate::seat_fault::{SeatFault, SeatPutFault};
-use deed_book::{EntryFault, KeyLanes, Naming, OfferedWrite, Register, Seat};
+use deed_book::{BookName, EntryFault, KeyLanes, OfferedWrite, Register, Seat};
 use page_device::PageDevice;
 use record_pages::{Key, Pushed, Value};
 use service_lane::{Filled, KeyBuffer, Lease, ServiceLane};
 
-impl<D: PageDevice<PAGE>, const PAGE: usize, L: KeyLanes, J: Naming> SeatedLane<D, PAGE, L, J> {
+impl<D: PageDevice<PAGE>, const PAGE: usize, L: KeyLanes, J: BookName> SeatedLane<D, PAGE, L, J> {
     /// Puts a value of a key of the lane, which is entered in the list after all that the seat has seen.
     ///
     /// A put that is refused removes the key, so that no older value is hit: a cache may always forget. If the store refused
@@ -131,7 +131,7 @@ impl<D: PageDevice<PAGE>, const PAGE: usize, L: KeyLanes, J: Naming> SeatedLane<
 }
 
 // Enters a write of a key, or removes the key from the lane if the book refuses it.
-fn enter_or_remove<D: PageDevice<PAGE>, const PAGE: usize, L: KeyLanes, J: Naming>(
+fn enter_or_remove<D: PageDevice<PAGE>, const PAGE: usize, L: KeyLanes, J: BookName>(
     lane: &mut ServiceLane<D, PAGE>,
     register: &mut Register<L, J>,
     seat: &mut Seat<L, J>,

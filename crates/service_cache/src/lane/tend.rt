@@ -3,12 +3,12 @@ ghost use Rattle.std.specs.Prelude.{◌≡◌, is_some, false};
 ghost use Rattle.service_lane.specs.Upkeep.{Upkeeps, Helps, may_ask, due_in};
 
 use super::SeatedLane;
-use deed_book::{KeyLanes, Naming};
+use deed_book::{BookName, KeyLanes};
 use page_device::PageDevice;
 use policy_laws::EvictionPolicy;
 use service_lane::{Helped, UpkeepStep};
 
-impl<D: PageDevice<PAGE>, const PAGE: usize, L: KeyLanes, J: Naming> SeatedLane<D, PAGE, L, J> {
+impl<D: PageDevice<PAGE>, const PAGE: usize, L: KeyLanes, J: BookName> SeatedLane<D, PAGE, L, J> {
     /// Does what is due in the lane, one step, as `ServiceLane::upkeep_step` does.
     pub fn upkeep_step<P: EvictionPolicy>(&mut self, policy: &P) -> UpkeepStep
         ensures upkept { Upkeeps PAGE D.honest D.failures D.held (P.plan_of policy.now)

@@ -12,7 +12,7 @@ ghost use Rattle.service_lane.specs.Serving.{Gets};
 use super::ServiceLane;
 use crate::key_buffer::check_key;
 use crate::lease::Lease;
-use mover::Seen;
+use mover::AnswerKind;
 use page_device::PageDevice;
 use record_pages::{KeyFault, ValueBuffer};
 
@@ -28,7 +28,7 @@ impl<D: PageDevice<PAGE>, const PAGE: usize> ServiceLane<D, PAGE> {
         key: &[u8],
         moment: u64,
         found: &mut ValueBuffer,
-    ) -> Result<Seen, KeyFault>
+    ) -> Result<AnswerKind, KeyFault>
         ensures gets { IfOk result (λ seen. Gets PAGE D.honest D.failures D.held key.now moment
             (answer_of seen found.new) self.old self.new) }
         ensures untouched { IfOk result (λ seen. IsMiss seen → found.new ≡ found.old) }

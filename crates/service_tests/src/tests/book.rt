@@ -3,7 +3,7 @@ ghost use Rattle.std.specs.Prelude.{◌≡◌, IfSome};
 ghost use Rattle.trace_file.specs.declared.act.Act.{Act};
 ghost use Rattle.service_tests.specs.Standing.{Stands};
 
-use deed_book::{Naming, NewBook, OneLane, Register, Seat};
+use deed_book::{BookName, OneLane, Register, Seat, UnnamedBook};
 use record_pages::{Key, Value};
 use std::marker::Brand;
 use std::sync::{Mutex, Wait};
@@ -15,15 +15,15 @@ fn two_threads_enter(rt: HostRuntime) -> Result<(), Fail> {
     let alloc = rt.alloc();
     let here = Key::new(alloc, b"here")?;
     let new = Value::new(alloc, b"new")?;
-    let did = entered_by_two::<Brand, _>(&rt, NewBook::<OneLane>::open(1), &here, &new);
+    let did = entered_by_two::<Brand, _>(&rt, UnnamedBook::<OneLane>::open(1), &here, &new);
     assert!(rt; did);
     Ok(())
 }
 
 // Whether both threads entered their writes.
-fn entered_by_two<J: Naming + Send + Sync, R: Threads + Wait + Sync>(
+fn entered_by_two<J: BookName + Send + Sync, R: Threads + Wait + Sync>(
     rt: &R,
-    book: NewBook<OneLane>,
+    book: UnnamedBook<OneLane>,
     here: &Key,
     new: &Value,
 ) -> bool
@@ -33,9 +33,9 @@ fn entered_by_two<J: Naming + Send + Sync, R: Threads + Wait + Sync>(
 }
 
 // Two threads enter a put, after a look, and a removal of one key. If both did, who has seen what both have seen has seen both.
-fn enter_both<J: Naming + Send + Sync, R: Threads + Wait + Sync>(
+fn enter_both<J: BookName + Send + Sync, R: Threads + Wait + Sync>(
     rt: &R,
-    book: NewBook<OneLane>,
+    book: UnnamedBook<OneLane>,
     here: &Key,
     new: &Value,
 ) -> Option<Seat<OneLane, J>>
@@ -43,7 +43,7 @@ fn enter_both<J: Naming + Send + Sync, R: Threads + Wait + Sync>(
     ensures put { IfSome result (λ seat. Stands (record { key = here.now; act = Act.Put new.now 9 }) seat) }
     ensures removal { IfSome result (λ seat. Stands (record { key = here.now; act = Act.Remove }) seat) }
 {
-    let mut book = book.named::<J>();
+    let mut book = book.with_name::<J>();
     let seat = book.seat();
     let register = Mutex::new(book.register());
     let (put, removal) = join(
@@ -61,7 +61,7 @@ fn enter_both<J: Naming + Send + Sync, R: Threads + Wait + Sync>(
 }
 
 // Enters a put, after a look.
-fn put_in<J: Naming>(
+fn put_in<J: BookName>(
     rt: &impl Wait,
     register: &Mutex<Register<OneLane, J>>,
     mut seat: Seat<OneLane, J>,
@@ -83,7 +83,7 @@ fn put_in<J: Naming>(
 }
 
 // Enters a removal.
-fn remove_in<J: Naming>(
+fn remove_in<J: BookName>(
     rt: &impl Wait,
     register: &Mutex<Register<OneLane, J>>,
     mut seat: Seat<OneLane, J>,

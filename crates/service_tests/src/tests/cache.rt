@@ -11,7 +11,7 @@ mod trials;
 
 ghost use Rattle.std.specs.Prelude.{◌≡◌, IfOk, length};
 
-use deed_book::{KeyLanes, Naming, NewBook, Seat};
+use deed_book::{BookName, KeyLanes, Seat, UnnamedBook};
 use key_hash::RandomSeed;
 use page_device::{MemoryDevice, PageDevice};
 use record_pages::{Config, NEVER, Pushed, PutFault, ValueBuffer};
@@ -21,7 +21,7 @@ use service_lane::Filled;
 use std::alloc::Global;
 use std::sync::Wait;
 use std::test::Fail;
-use test_steps::{key, value};
+use test_devices::{key, value};
 
 type Cache<D, L, J> = ServiceCache<D, Rriparoo, 256, L, J>;
 

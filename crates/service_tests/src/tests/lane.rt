@@ -11,7 +11,7 @@ use record_pages::{Config, Field, NEVER, Pushed, PutFault};
 use service_lane::{Counts, Filled, LeaseCounts, OpenLaneFault, ServiceLane, Upkept};
 use std::alloc::Global;
 use std::test::Fail;
-use test_steps::{key, value};
+use test_devices::{key, value};
 
 // One lane of one set, with one object in memory and two segments of one page.
 const ONE_SET: Config = Config {

@@ -6,9 +6,9 @@ ghost use Rattle.service_lane.specs.Asked.{IsLiveHit};
 ghost use Rattle.service_cache.specs.Seated.{put_of};
 ghost use Rattle.service_tests.specs.Standing.{Stands};
 
-use deed_book::{Naming, NewBook, OneLane, Seat};
+use deed_book::{BookName, OneLane, Seat, UnnamedBook};
 use key_hash::RandomSeed;
-use mover::Seen;
+use mover::AnswerKind;
 use page_device::MemoryDevice;
 use record_pages::{Config, Key, NEVER, Tier, Value, ValueBuffer};
 use service_cache::SeatedLane;
@@ -42,9 +42,9 @@ struct Object {
 
 // What the last look-up gave, and the seat that it was made with.
 #[derive(Drop)]
-struct Last<J: Naming> {
+struct Last<J: BookName> {
     seat: Seat<OneLane, J>,
-    seen: Seen,
+    seen: AnswerKind,
     found: ValueBuffer,
 }
 
@@ -74,15 +74,21 @@ fn two_callers_of_one_lane(rt: HostRuntime) -> Result<(), Fail> {
         object_of(alloc, b"ax", b"one")?,
         object_of(alloc, b"by", b"two")?,
     );
-    let bytes = found_by_both::<Brand, _>(&rt, NewBook::<OneLane>::open(1), lane, first, second);
+    let bytes = found_by_both::<Brand, _>(
+        &rt,
+        UnnamedBook::<OneLane>::open(1),
+        lane,
+        first,
+        second,
+    );
     assert!(rt; bytes);
     Ok(())
 }
 
 // Whether who has seen what both threads have seen finds the value of the first in memory.
-fn found_by_both<J: Naming + Send + Sync, R: Threads + Wait + Sync>(
+fn found_by_both<J: BookName + Send + Sync, R: Threads + Wait + Sync>(
     rt: &R,
-    book: NewBook<OneLane>,
+    book: UnnamedBook<OneLane>,
     lane: ServiceLane<MemoryDevice<256>, 256>,
     first: Object,
     second: Object,
@@ -91,7 +97,7 @@ fn found_by_both<J: Naming + Send + Sync, R: Threads + Wait + Sync>(
     requires opened { lane.deeds ≡ [] }
 {
     match last_of_both::<J, R>(rt, book, lane, first, second) {
-        Some(last) => last.seen == Seen::Hit(Tier::Memory)
+        Some(last) => last.seen == AnswerKind::Hit(Tier::Memory)
             && last.found.bytes() == b"one".as_slice(),
         None => false,
     }
@@ -99,9 +105,9 @@ fn found_by_both<J: Naming + Send + Sync, R: Threads + Wait + Sync>(
 
 // Each thread puts its object. Whoever has seen what both have seen has seen both puts; and what they hit is their
 // key's latest value in what they have seen.
-fn last_of_both<J: Naming + Send + Sync, R: Threads + Wait + Sync>(
+fn last_of_both<J: BookName + Send + Sync, R: Threads + Wait + Sync>(
     rt: &R,
-    book: NewBook<OneLane>,
+    book: UnnamedBook<OneLane>,
     lane: ServiceLane<MemoryDevice<256>, 256>,
     first: Object,
     second: Object,
@@ -112,7 +118,7 @@ fn last_of_both<J: Naming + Send + Sync, R: Threads + Wait + Sync>(
     ensures second { IfSome result (λ last. Stands (put_of second.key second.value 18446744073709551615) last.seat) }
     ensures live { IfSome result (λ last. IsLiveHit (IsTrue true) last.seat (97 ∷ 120 ∷ []) 0 (answer_of last.seen last.found)) }
 {
-    let mut book = book.named::<J>();
+    let mut book = book.with_name::<J>();
     let seat = book.seat();
     let lane = Mutex::new(SeatedLane::new(lane, book.register()));
     let seat = seen_by_both(rt, &lane, seat, first, second)?;
@@ -120,7 +126,7 @@ fn last_of_both<J: Naming + Send + Sync, R: Threads + Wait + Sync>(
 }
 
 // Each thread puts its object. Who has seen what both have seen has seen both puts.
-fn seen_by_both<J: Naming + Send + Sync, R: Threads + Wait + Sync>(
+fn seen_by_both<J: BookName + Send + Sync, R: Threads + Wait + Sync>(
     rt: &R,
     lane: &Mutex<Lane<J>>,
     seat: Seat<OneLane, J>,
@@ -146,7 +152,7 @@ fn seen_by_both<J: Naming + Send + Sync, R: Threads + Wait + Sync>(
 }
 
 // Puts an object.
-fn put_in<J: Naming>(
+fn put_in<J: BookName>(
     rt: &impl Wait,
     lane: &Mutex<Lane<J>>,
     mut seat: Seat<OneLane, J>,
@@ -163,7 +169,7 @@ fn put_in<J: Naming>(
 }
 
 // Looks a key up.
-fn get_in<J: Naming>(
+fn get_in<J: BookName>(
     rt: &impl Wait,
     lane: &Mutex<Lane<J>>,
     mut seat: Seat<OneLane, J>,

@@ -9,7 +9,7 @@ use shared_cache::{Pass, SharedCache};
 use std::alloc::Global;
 use std::sync::Arc;
 use std::test::Fail;
-use test_steps::StaleDevice;
+use test_devices::StaleDevice;
 
 /// A cache whose devices and policy do what a test asks for.
 pub type Cache = SharedCache<TestDevice, TestPolicy, 256>;

@@ -5,7 +5,7 @@ use super::gate::Gate;
 use page_device::{DeviceFault, PageDevice};
 use std::alloc::Global;
 use std::sync::Arc;
-use test_steps::StaleDevice;
+use test_devices::StaleDevice;
 
 /// Pages in memory with a number, and how many of them were written that are no sets' pages, and that are. A read waits at
 /// the gate, if there is one, and fails if that was not opened in time.

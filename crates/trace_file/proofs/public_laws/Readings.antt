@@ -3,8 +3,8 @@ use Rattle.std.proofs.Common.{◌≡◌, ◌≢◌, ℕ, ◌≤◌, List, [], �
 use Rattle.std.specs.Prelude.{IfOk, IfSome}
 use Rattle.std.specs.Io.KnownBytes.{Consumes, IsAtEnd, Keeps}
 use Rattle.std.proofs.lemmas.List.{append-nil, length-append, take_at}
-use Rattle.trace_file.specs.declared.stop.Stop.{Stop}
-use Rattle.trace_file.specs.declared.stop.Stop.TheVariants.{Short, Fault}
+use Rattle.trace_file.specs.declared.item_fault.ItemFault.{ItemFault}
+use Rattle.trace_file.specs.declared.item_fault.ItemFault.TheVariants.{Short, Fault}
 use Rattle.trace_file.specs.declared.trace.Trace.{Trace}
 use Rattle.trace_file.specs.declared.trace_fault.TraceFault.{TraceFault}
 use Rattle.trace_file.specs.declared.trace_fault.TraceFault.TheVariants.{BadMagic, TooMany, BadKind, BadKey, BadValue, Truncated, TrailingBytes, ReadFault, OutOfMemory}
@@ -42,12 +42,12 @@ carried : (initial : Option (List ℕ)) (stream : List ℕ) (P : List ℕ → Ty
 carried None stream P same p = tt
 carried (Some bytes) stream P same p = subst P same p
 
-outcome_by : (n : ℕ) (r : Result Trace Stop) (f : TraceFault) → met r ≡ Some f → at_end n r ≡ Err f
+outcome_by : (n : ℕ) (r : Result Trace ItemFault) (f : TraceFault) → met r ≡ Some f → at_end n r ≡ Err f
 outcome_by n (Ok t) f e = absurd cc
 outcome_by n (Err Short) f e = absurd cc
 outcome_by n (Err (Fault g)) f e = cc
 
-pub stopped_by : (r : Result Trace Stop) (f : TraceFault) → met r ≡ Some f → r ≡ Err (Fault f)
+pub stopped_by : (r : Result Trace ItemFault) (f : TraceFault) → met r ≡ Some f → r ≡ Err (Fault f)
 stopped_by (Ok t) f e = absurd cc
 stopped_by (Err Short) f e = absurd cc
 stopped_by (Err (Fault g)) f e = cc

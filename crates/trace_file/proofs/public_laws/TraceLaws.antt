@@ -6,8 +6,8 @@ use Rattle.std.proofs.lemmas.List.{append-nil, nil_from_length, length-append}
 use Rattle.std.proofs.lemmas.List.Elements.{All-from_recursion, recursion_from_All}
 use Rattle.trace_file.specs.declared.call.Call.{Call}
 use Rattle.trace_file.specs.declared.header.Header.{Header}
-use Rattle.trace_file.specs.declared.stop.Stop.{Stop}
-use Rattle.trace_file.specs.declared.stop.Stop.TheVariants.{Fault}
+use Rattle.trace_file.specs.declared.item_fault.ItemFault.{ItemFault}
+use Rattle.trace_file.specs.declared.item_fault.ItemFault.TheVariants.{Fault}
 use Rattle.trace_file.specs.declared.trace.Trace.{Trace}
 use Rattle.trace_file.specs.declared.trace_fault.TraceFault.{TraceFault}
 use Rattle.trace_file.specs.declared.trace_fault.TraceFault.TheVariants.{TrailingBytes}
@@ -20,17 +20,17 @@ use Rattle.trace_file.specs.Text.{most_calls, call_text, position_text, header_o
 use Rattle.trace_file.proofs.Formats.{IsBytes, same_fault, bind_ok, bind_err, at_first, at_second, ok_is, longer, Takes-then, read-longer, many_before, many_format}
 use Rattle.trace_file.proofs.ItemFormats.{call_format, position_format, header_format}
 
-abbrev pub after_calls : ℕ → List Call × Place → Result Trace Stop
+abbrev pub after_calls : ℕ → List Call × Place → Result Trace ItemFault
 after_calls n calls = many_at position_at n calls.1 >>= λ positions. end_at (pair_of calls.0 positions.0) positions.1
 
-abbrev pub after_header : Header × Place → Result Trace Stop
+abbrev pub after_header : Header × Place → Result Trace ItemFault
 after_header h = many_at (call_at h.0.version) h.0.count h.1 >>= λ calls. after_calls h.0.count calls
 
 ended : (t u : Trace) (p : Place) → end_at t p ≡ Ok u → (p.bytes ≡ []) × (t ≡ u)
 unfolding end_at
 ended t u p e = ended_by (eqb (length p.bytes) 0) t u (TrailingBytes p.at) p.bytes (λ b. nil_from_length p.bytes (eqb-true _ _ b)) e
   where
-    ended_by : (b : Bool) (t u : Trace) (d : TraceFault) (bytes : List ℕ) → (b ≡ true → bytes ≡ []) → ◌≡◌ {A = Result Trace Stop} (cond b (Ok t) (Err (Fault d))) (Ok u) → (bytes ≡ []) × (t ≡ u)
+    ended_by : (b : Bool) (t u : Trace) (d : TraceFault) (bytes : List ℕ) → (b ≡ true → bytes ≡ []) → ◌≡◌ {A = Result Trace ItemFault} (cond b (Ok t) (Err (Fault d))) (Ok u) → (bytes ≡ []) × (t ≡ u)
     ended_by true t u d bytes nil e = (nil refl, ok_is t u e)
     ended_by false t u d bytes nil e = absurd cc
 
@@ -74,7 +74,7 @@ trace_takes at bytes t fits e =
     subst (λ (u : Trace). IsTrace bytes u.history u.certificate) end.1 (of_version v bytes b.0.0 c.0.0 is)
 
 -- what stops the header stops the whole
-pub stopped_at_header : (p : Place) (d : Stop) → header_at p ≡ Err d → trace_at p ≡ Err d
+pub stopped_at_header : (p : Place) (d : ItemFault) → header_at p ≡ Err d → trace_at p ≡ Err d
 unfolding trace_at
 stopped_at_header p d e = ap (λ (r : Read Header). r >>= after_header) e
 
@@ -177,7 +177,7 @@ end_stays t p f more e = by_test (eqb (length p.bytes) 0) (eqb (length (p.bytes 
     longer_still : eqb (length p.bytes) 0 ≡ false → eqb (length (p.bytes ++ more)) 0 ≡ false
     longer_still b = ne_eqb (length (p.bytes ++ more)) 0 (λ z. let some = eqb-false (length p.bytes) 0 b in omega (arith, some, z, length-append p.bytes more))
 
-    by_test : (b c : Bool) (d : TraceFault) → (b ≡ false → c ≡ false) → ◌≡◌ {A = Result Trace Stop} (cond b (Ok t) (Err (Fault d))) (Err (Fault f)) → ◌≡◌ {A = Result Trace Stop} (cond c (Ok t) (Err (Fault d))) (Err (Fault f))
+    by_test : (b c : Bool) (d : TraceFault) → (b ≡ false → c ≡ false) → ◌≡◌ {A = Result Trace ItemFault} (cond b (Ok t) (Err (Fault d))) (Err (Fault f)) → ◌≡◌ {A = Result Trace ItemFault} (cond c (Ok t) (Err (Fault d))) (Err (Fault f))
     by_test true c d still e = absurd cc
     by_test false c d still e = ap (λ (x : Bool). cond x (Ok t) (Err (Fault d))) (still refl) ∙ e
 
@@ -193,7 +193,7 @@ trace_stays p f more fits e =
   where
     positions_stay : (n : ℕ) (cs : List Call) (p : Place) (f : TraceFault) (more : List ℕ) → IsBytes p.bytes → after_calls n (cs, p) ≡ Err (Fault f) → after_calls n (cs, longer p more) ≡ Err (Fault f)
     positions_stay n cs p f more fits e =
-        let last : List ℕ × Place → Result Trace Stop = λ q. end_at (pair_of cs q.0) q.1 in
+        let last : List ℕ × Place → Result Trace ItemFault = λ q. end_at (pair_of cs q.0) q.1 in
         elim (bind_err (many_at position_at n p) last (Fault f) e) [
           | at_first e' ↦ ap (λ (r : Read (List ℕ)). r >>= last) ((many_format position_format n).stays p f more fits e')
           | at_second q e' g ↦ ap (λ (r : Read (List ℕ)). r >>= last) (read-longer (many_format position_format n) p q.0 q.1 more fits e') ∙ end_stays (pair_of cs q.0) q.1 f more g
@@ -210,7 +210,7 @@ trace_stays p f more fits e =
 
 -- ---- which faults there are
 
-end_by : (b : Bool) (t : Trace) (at : ℕ) (f : TraceFault) → ◌≡◌ {A = Result Trace Stop} (cond b (Ok t) (Err (Fault (TrailingBytes at)))) (Err (Fault f)) → IsOfText f
+end_by : (b : Bool) (t : Trace) (at : ℕ) (f : TraceFault) → ◌≡◌ {A = Result Trace ItemFault} (cond b (Ok t) (Err (Fault (TrailingBytes at)))) (Err (Fault f)) → IsOfText f
 end_by true t at f e = absurd cc
 end_by false t at f e = subst IsOfText (same_fault (TrailingBytes at) f e) tt
 

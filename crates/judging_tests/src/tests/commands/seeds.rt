@@ -1,7 +1,7 @@
 // Seeds, which come from the host.
 use super::files::{checked_input, judged_input};
 use std::alloc::AllocError;
-use test_steps::WithoutRandom;
+use test_devices::WithoutRandom;
 
 /// What is reported if the host has no random numbers.
 const TOLD: &str =

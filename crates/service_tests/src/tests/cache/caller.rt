@@ -2,7 +2,7 @@
 ghost use Rattle.std.specs.Prelude.{◌≤◌};
 
 use super::*;
-use mover::Seen;
+use mover::AnswerKind;
 use record_pages::{Key, MissCause, Tier, Value};
 
 /// How many keys a caller has, which no other one writes.
@@ -93,22 +93,22 @@ fn is_of(found: &ValueBuffer, version: Version) -> bool {
 }
 
 // One answer of a get.
-fn told(seen: Seen, found: &ValueBuffer, version: Version, moment: u64) -> Tally {
+fn told(seen: AnswerKind, found: &ValueBuffer, version: Version, moment: u64) -> Tally {
     let is_live = version.expires == NEVER || moment < version.expires;
     match seen {
-        Seen::Hit(_) if !is_live || !is_of(found, version) => Tally { wrong: 1, ..NONE },
-        Seen::Hit(Tier::Memory) => Tally { memory: 1, ..NONE },
-        Seen::Hit(Tier::Log) => Tally { log: 1, ..NONE },
-        Seen::Hit(Tier::Set) => Tally { set: 1, ..NONE },
-        Seen::Miss(MissCause::Absent) => Tally { absent: 1, ..NONE },
-        Seen::Miss(MissCause::Expired) if is_live => Tally { wrong: 1, ..NONE },
-        Seen::Miss(MissCause::Expired) => Tally { expired: 1, ..NONE },
-        Seen::Miss(_) => Tally { failed: 1, ..NONE },
+        AnswerKind::Hit(_) if !is_live || !is_of(found, version) => Tally { wrong: 1, ..NONE },
+        AnswerKind::Hit(Tier::Memory) => Tally { memory: 1, ..NONE },
+        AnswerKind::Hit(Tier::Log) => Tally { log: 1, ..NONE },
+        AnswerKind::Hit(Tier::Set) => Tally { set: 1, ..NONE },
+        AnswerKind::Miss(MissCause::Absent) => Tally { absent: 1, ..NONE },
+        AnswerKind::Miss(MissCause::Expired) if is_live => Tally { wrong: 1, ..NONE },
+        AnswerKind::Miss(MissCause::Expired) => Tally { expired: 1, ..NONE },
+        AnswerKind::Miss(_) => Tally { failed: 1, ..NONE },
     }
 }
 
 // Makes a get, and says how it went. A key that has no version must miss.
-fn get<D: PageDevice<256>, L: KeyLanes, J: Naming, R: Wait>(
+fn get<D: PageDevice<256>, L: KeyLanes, J: BookName, R: Wait>(
     rt: &R,
     cache: &Cache<D, L, J>,
     seat: &mut Seat<L, J>,
@@ -124,7 +124,7 @@ fn get<D: PageDevice<256>, L: KeyLanes, J: Naming, R: Wait>(
 }
 
 // Removes a key, which has no version then.
-fn removed<D: PageDevice<256>, L: KeyLanes, J: Naming, R: Wait>(
+fn removed<D: PageDevice<256>, L: KeyLanes, J: BookName, R: Wait>(
     rt: &R,
     cache: &Cache<D, L, J>,
     seat: &mut Seat<L, J>,
@@ -135,7 +135,7 @@ fn removed<D: PageDevice<256>, L: KeyLanes, J: Naming, R: Wait>(
 }
 
 // Puts a version; the key has none after a put that is refused.
-fn put<D: PageDevice<256>, L: KeyLanes, J: Naming, R: Wait>(
+fn put<D: PageDevice<256>, L: KeyLanes, J: BookName, R: Wait>(
     rt: &R,
     alloc: Global,
     cache: &Cache<D, L, J>,
@@ -168,7 +168,7 @@ fn version_at(number: u32, drawn: u64) -> Version {
 
 /// Makes this many calls: of ten five are gets, four puts and one a removal. The number of a call, from 1, is its
 /// moment.
-pub fn calls<D: PageDevice<256>, L: KeyLanes, J: Naming, R: Wait>(
+pub fn calls<D: PageDevice<256>, L: KeyLanes, J: BookName, R: Wait>(
     rt: &R,
     alloc: Global,
     cache: &Cache<D, L, J>,

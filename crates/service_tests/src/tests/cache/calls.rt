@@ -1,11 +1,11 @@
 //! Each call reaches the lane of its key.
 use super::trials::{ALONE, Outcome, Trial, is_held, try_one};
 use super::*;
-use mover::Seen;
+use mover::AnswerKind;
 use record_pages::{KeyFault, MissCause, Tier};
 
 // Whether a get finds these bytes in memory; or nothing, if there are none.
-fn finds<D: PageDevice<256>, L: KeyLanes, J: Naming, R: Wait>(
+fn finds<D: PageDevice<256>, L: KeyLanes, J: BookName, R: Wait>(
     rt: &R,
     cache: &Cache<D, L, J>,
     name: &[u8],
@@ -14,13 +14,13 @@ fn finds<D: PageDevice<256>, L: KeyLanes, J: Naming, R: Wait>(
     let mut found = ValueBuffer::empty();
     let seen = cache.get(rt, &mut cache.seat(), name, 0, &mut found);
     match bytes {
-        Some(bytes) => seen == Ok(Seen::Hit(Tier::Memory)) && found.bytes() == bytes,
-        None => seen == Ok(Seen::Miss(MissCause::Absent)),
+        Some(bytes) => seen == Ok(AnswerKind::Hit(Tier::Memory)) && found.bytes() == bytes,
+        None => seen == Ok(AnswerKind::Miss(MissCause::Absent)),
     }
 }
 
 /// Whether each of this many keys is found after its put, and not after its removal.
-pub fn each_is_found<D: PageDevice<256>, L: KeyLanes, J: Naming, R: Wait>(
+pub fn each_is_found<D: PageDevice<256>, L: KeyLanes, J: BookName, R: Wait>(
     rt: &R,
     alloc: Global,
     cache: &Cache<D, L, J>,
@@ -55,7 +55,7 @@ fn a_key_is_found_after_its_put_in_each_shard(rt: HostRuntime) -> Result<(), Fai
 }
 
 /// Whether a lease is good for one fill, whose value is found then.
-pub fn fills_once<D: PageDevice<256>, L: KeyLanes, J: Naming, R: Wait>(
+pub fn fills_once<D: PageDevice<256>, L: KeyLanes, J: BookName, R: Wait>(
     rt: &R,
     alloc: Global,
     cache: &Cache<D, L, J>,
@@ -85,7 +85,7 @@ fn a_miss_leases_its_key_for_one_fill(rt: HostRuntime) -> Result<(), Fail> {
 }
 
 // Puts and removes a key, so that its slot has seen two writes more.
-fn written<D: PageDevice<256>, L: KeyLanes, J: Naming, R: Wait>(
+fn written<D: PageDevice<256>, L: KeyLanes, J: BookName, R: Wait>(
     rt: &R,
     alloc: Global,
     cache: &Cache<D, L, J>,
@@ -98,7 +98,7 @@ fn written<D: PageDevice<256>, L: KeyLanes, J: Naming, R: Wait>(
 }
 
 // Looks a key up that is not there, then writes another key, and fills the first by the lease of the look-up.
-fn filled_after<D: PageDevice<256>, L: KeyLanes, J: Naming, R: Wait>(
+fn filled_after<D: PageDevice<256>, L: KeyLanes, J: BookName, R: Wait>(
     rt: &R,
     alloc: Global,
     cache: &Cache<D, L, J>,
@@ -118,7 +118,7 @@ fn filled_after<D: PageDevice<256>, L: KeyLanes, J: Naming, R: Wait>(
 
 /// Whether a lease is of its key's slot: it outlives writes of a key of another slot, also if its own slot has seen writes, and
 /// ends with one of its own key.
-pub fn leases_its_slot<D: PageDevice<256>, L: KeyLanes, J: Naming, R: Wait>(
+pub fn leases_its_slot<D: PageDevice<256>, L: KeyLanes, J: BookName, R: Wait>(
     rt: &R,
     alloc: Global,
     cache: &Cache<D, L, J>,
@@ -147,7 +147,7 @@ fn a_lease_is_of_the_slot_of_its_key(rt: HostRuntime) -> Result<(), Fail> {
 }
 
 /// Whether a put that is too large is refused so, and leaves no older value of its key.
-pub fn removes_at_large_puts<D: PageDevice<256>, L: KeyLanes, J: Naming, R: Wait>(
+pub fn removes_at_large_puts<D: PageDevice<256>, L: KeyLanes, J: BookName, R: Wait>(
     rt: &R,
     alloc: Global,
     cache: &Cache<D, L, J>,
@@ -168,7 +168,7 @@ fn a_refused_put_leaves_no_older_value(rt: HostRuntime) -> Result<(), Fail> {
 }
 
 // Whether each call by bytes refuses these bytes so.
-fn refuses<D: PageDevice<256>, L: KeyLanes, J: Naming, R: Wait>(
+fn refuses<D: PageDevice<256>, L: KeyLanes, J: BookName, R: Wait>(
     rt: &R,
     cache: &Cache<D, L, J>,
     bytes: &[u8],
@@ -183,7 +183,7 @@ fn refuses<D: PageDevice<256>, L: KeyLanes, J: Naming, R: Wait>(
 }
 
 /// Whether bytes that are no key's are refused, each for its reason.
-pub fn refuses_bytes<D: PageDevice<256>, L: KeyLanes, J: Naming, R: Wait>(
+pub fn refuses_bytes<D: PageDevice<256>, L: KeyLanes, J: BookName, R: Wait>(
     rt: &R,
     cache: &Cache<D, L, J>,
 ) -> bool {

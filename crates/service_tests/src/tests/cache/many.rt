@@ -13,7 +13,7 @@ const CALLS: u32 = 1_000;
 const STEPS: u32 = 8;
 
 // Does what is due in each lane.
-fn tend<D: PageDevice<256>, L: KeyLanes, J: Naming, R: Wait>(rt: &R, cache: &Cache<D, L, J>) {
+fn tend<D: PageDevice<256>, L: KeyLanes, J: BookName, R: Wait>(rt: &R, cache: &Cache<D, L, J>) {
     for lane in 0..cache.lanes() {
         for _ in 0..STEPS {
             let _step = cache.upkeep_step(rt, lane);
@@ -22,7 +22,7 @@ fn tend<D: PageDevice<256>, L: KeyLanes, J: Naming, R: Wait>(rt: &R, cache: &Cac
 }
 
 // Makes the calls of all callers, with upkeep after each if that is wanted.
-fn all_calls<D: PageDevice<256>, L: KeyLanes, J: Naming, R: Wait>(
+fn all_calls<D: PageDevice<256>, L: KeyLanes, J: BookName, R: Wait>(
     rt: &R,
     alloc: Global,
     cache: &Cache<D, L, J>,
@@ -59,7 +59,7 @@ fn gets_of(counts: &Counts) -> Tally {
     }
 }
 
-fn counted<D: PageDevice<256>, L: KeyLanes, J: Naming, R: Wait>(
+fn counted<D: PageDevice<256>, L: KeyLanes, J: BookName, R: Wait>(
     rt: &R,
     cache: &Cache<D, L, J>,
 ) -> Totals {
@@ -83,7 +83,7 @@ fn is_right(tally: Tally, all: &Totals) -> bool {
 }
 
 /// Whether no call is wrong or refused, all is counted, each tier is hit, and puts do all the upkeep.
-pub fn is_right_alone<D: PageDevice<256>, L: KeyLanes, J: Naming, R: Wait>(
+pub fn is_right_alone<D: PageDevice<256>, L: KeyLanes, J: BookName, R: Wait>(
     rt: &R,
     alloc: Global,
     cache: &Cache<D, L, J>,
@@ -101,7 +101,7 @@ fn no_hit_is_old_where_nobody_tends(rt: HostRuntime) -> Result<(), Fail> {
 }
 
 /// Whether no call is wrong or refused, all is counted, each tier is hit, and another hand does upkeep too.
-pub fn is_right_tended<D: PageDevice<256>, L: KeyLanes, J: Naming, R: Wait>(
+pub fn is_right_tended<D: PageDevice<256>, L: KeyLanes, J: BookName, R: Wait>(
     rt: &R,
     alloc: Global,
     cache: &Cache<D, L, J>,

@@ -9,7 +9,7 @@ ghost use Rattle.service_tests.specs.Standing.{Stands};
 
 use super::trials::{Trial, is_held};
 use super::*;
-use mover::Seen;
+use mover::AnswerKind;
 use record_pages::{Key, Tier, Value};
 use std::marker::Brand;
 use std::test::*;
@@ -32,9 +32,9 @@ struct Object {
 
 // What the last look-up gave, and the seat that it was made with.
 #[derive(Drop)]
-struct Last<L: KeyLanes, J: Naming> {
+struct Last<L: KeyLanes, J: BookName> {
     seat: Seat<L, J>,
-    seen: Seen,
+    seen: AnswerKind,
     found: ValueBuffer,
 }
 
@@ -57,7 +57,7 @@ fn two_callers_of_a_cache(rt: HostRuntime) -> Result<(), Fail> {
 }
 
 // Puts, looks up and removes keys that the other thread writes too: how many of these calls the book refused.
-fn refused_calls<D: PageDevice<256>, L: KeyLanes, J: Naming, R: Wait>(
+fn refused_calls<D: PageDevice<256>, L: KeyLanes, J: BookName, R: Wait>(
     rt: &R,
     alloc: Global,
     cache: &Cache<D, L, J>,
@@ -81,7 +81,7 @@ fn refused_calls<D: PageDevice<256>, L: KeyLanes, J: Naming, R: Wait>(
 }
 
 // Puts a value of a key: 1 if the book refuses that.
-fn put_refused<D: PageDevice<256>, L: KeyLanes, J: Naming, R: Wait>(
+fn put_refused<D: PageDevice<256>, L: KeyLanes, J: BookName, R: Wait>(
     rt: &R,
     alloc: Global,
     cache: &Cache<D, L, J>,
@@ -104,7 +104,7 @@ fn put_refused<D: PageDevice<256>, L: KeyLanes, J: Naming, R: Wait>(
 pub fn no_call_is_refused<
     D: PageDevice<256> + Send,
     L: KeyLanes + Send + Sync,
-    J: Naming + Send + Sync,
+    J: BookName + Send + Sync,
     R: Threads + Wait + Sync,
 >(rt: &R, alloc: Global, cache: &Cache<D, L, J>) -> bool {
     let (one, two) = join(
@@ -132,16 +132,16 @@ fn sorted<L: KeyLanes + Send + Sync, R: Threads + Wait + Sync>(
 ) -> Result<bool, Fail>
     requires { SortsBy L.lanes L.lane_of seed 4 }
 {
-    let book = NewBook::<L>::open(LANES as usize);
+    let book = UnnamedBook::<L>::open(LANES as usize);
     found_by_both::<L, Brand, R>(rt, alloc, seed, book, first, second)
 }
 
 // Whether who has seen what both threads have seen finds the value of the first in memory.
-fn found_by_both<L: KeyLanes + Send + Sync, J: Naming + Send + Sync, R: Threads + Wait + Sync>(
+fn found_by_both<L: KeyLanes + Send + Sync, J: BookName + Send + Sync, R: Threads + Wait + Sync>(
     rt: &R,
     alloc: Global,
     seed: RandomSeed,
-    book: NewBook<L>,
+    book: UnnamedBook<L>,
     first: Object,
     second: Object,
 ) -> Result<bool, Fail>
@@ -149,11 +149,11 @@ fn found_by_both<L: KeyLanes + Send + Sync, J: Naming + Send + Sync, R: Threads 
     requires book { book ≡ J.book }
 {
     let devices = so_many(alloc, LANES, PAGES)?;
-    let book = book.named::<J>();
+    let book = book.with_name::<J>();
     let cache = Over::<L, J>::open(alloc, &SMALL, 2, 8, devices, Rriparoo, seed, book)?;
     match last_of_both(rt, &cache, first, second) {
         Some(last) => Ok(
-            last.seen == Seen::Hit(Tier::Memory) && last.found.bytes() == b"one".as_slice(),
+            last.seen == AnswerKind::Hit(Tier::Memory) && last.found.bytes() == b"one".as_slice(),
         ),
         None => Ok(false),
     }
@@ -161,7 +161,7 @@ fn found_by_both<L: KeyLanes + Send + Sync, J: Naming + Send + Sync, R: Threads 
 
 // Each thread puts its object. Who has seen what both have seen has seen both puts; and what they hit is their key's latest value
 // in what they have seen.
-fn last_of_both<L: KeyLanes + Send + Sync, J: Naming + Send + Sync, R: Threads + Wait + Sync>(
+fn last_of_both<L: KeyLanes + Send + Sync, J: BookName + Send + Sync, R: Threads + Wait + Sync>(
     rt: &R,
     cache: &Over<L, J>,
     first: Object,
@@ -176,7 +176,7 @@ fn last_of_both<L: KeyLanes + Send + Sync, J: Naming + Send + Sync, R: Threads +
 }
 
 // Each thread puts its object. Who has seen what both have seen has seen both puts.
-fn seen_by_both<L: KeyLanes + Send + Sync, J: Naming + Send + Sync, R: Threads + Wait + Sync>(
+fn seen_by_both<L: KeyLanes + Send + Sync, J: BookName + Send + Sync, R: Threads + Wait + Sync>(
     rt: &R,
     cache: &Over<L, J>,
     first: Object,
@@ -200,7 +200,7 @@ fn seen_by_both<L: KeyLanes + Send + Sync, J: Naming + Send + Sync, R: Threads +
 }
 
 // Puts an object.
-fn put_in<L: KeyLanes, J: Naming, R: Wait>(
+fn put_in<L: KeyLanes, J: BookName, R: Wait>(
     rt: &R,
     cache: &Over<L, J>,
     object: Object,
@@ -215,7 +215,7 @@ fn put_in<L: KeyLanes, J: Naming, R: Wait>(
 }
 
 // Looks a key up.
-fn get_in<L: KeyLanes, J: Naming, R: Wait>(
+fn get_in<L: KeyLanes, J: BookName, R: Wait>(
     rt: &R,
     cache: &Over<L, J>,
     mut seat: Seat<L, J>,

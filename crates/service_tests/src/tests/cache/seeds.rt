@@ -22,7 +22,7 @@ const STRICT: Config = Config {
 };
 
 /// Which of 64 puts of new keys push out an object that is not admitted, a bit for each.
-pub fn declined<D: PageDevice<256>, L: KeyLanes, J: Naming, R: Wait>(
+pub fn declined<D: PageDevice<256>, L: KeyLanes, J: BookName, R: Wait>(
     rt: &R,
     alloc: Global,
     cache: &Cache<D, L, J>,
@@ -55,7 +55,7 @@ fn two_caches_admit_by_words_of_their_own(rt: HostRuntime) -> Result<(), Fail> {
 }
 
 // How many values are stored in each lane.
-fn stored<D: PageDevice<256>, L: KeyLanes, J: Naming, R: Wait>(
+fn stored<D: PageDevice<256>, L: KeyLanes, J: BookName, R: Wait>(
     rt: &R,
     cache: &Cache<D, L, J>,
 ) -> [u64; 4] {
@@ -77,7 +77,7 @@ fn first_other(one: &[u64; 4], two: &[u64; 4]) -> u64 {
 }
 
 /// The lanes of 16 keys, four bits for each: the lane whose count their put raised.
-pub fn lanes_of_keys<D: PageDevice<256>, L: KeyLanes, J: Naming, R: Wait>(
+pub fn lanes_of_keys<D: PageDevice<256>, L: KeyLanes, J: BookName, R: Wait>(
     rt: &R,
     alloc: Global,
     cache: &Cache<D, L, J>,
@@ -112,7 +112,7 @@ fn two_caches_place_keys_differently(rt: HostRuntime) -> Result<(), Fail> {
 const CALLS: u32 = 2_000;
 
 /// Whether objects entered the log, and whether sets were written, a bit for each.
-pub fn entered<D: PageDevice<256>, L: KeyLanes, J: Naming, R: Wait>(
+pub fn entered<D: PageDevice<256>, L: KeyLanes, J: BookName, R: Wait>(
     rt: &R,
     alloc: Global,
     cache: &Cache<D, L, J>,

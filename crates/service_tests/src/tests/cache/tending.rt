@@ -15,7 +15,7 @@ const ROUNDS: u8 = 8;
 const CALLS: u32 = 500;
 
 // How many steps of upkeep each lane has done, and how many pages its device has written.
-fn counted<D: PageDevice<256>, L: KeyLanes, J: Naming, R: Wait>(
+fn counted<D: PageDevice<256>, L: KeyLanes, J: BookName, R: Wait>(
     rt: &R,
     cache: &Cache<D, L, J>,
 ) -> [(u64, u64); 4] {
@@ -39,7 +39,7 @@ fn pages_of(did: Upkept) -> u64 {
 
 // Whether a step of upkeep in a lane is done exactly if one is due there, and is counted there and in no other, with the page that
 // it wrote; and whether it wrote one.
-fn is_its_own<D: PageDevice<256>, L: KeyLanes, J: Naming, R: Wait>(
+fn is_its_own<D: PageDevice<256>, L: KeyLanes, J: BookName, R: Wait>(
     rt: &R,
     cache: &Cache<D, L, J>,
     lane: u32,
@@ -63,7 +63,7 @@ fn is_its_own<D: PageDevice<256>, L: KeyLanes, J: Naming, R: Wait>(
 }
 
 // Tends each lane once; whether each step is that lane's own, and whether one wrote a page.
-fn tend_each<D: PageDevice<256>, L: KeyLanes, J: Naming, R: Wait>(
+fn tend_each<D: PageDevice<256>, L: KeyLanes, J: BookName, R: Wait>(
     rt: &R,
     cache: &Cache<D, L, J>,
 ) -> (bool, bool) {
@@ -79,7 +79,7 @@ fn tend_each<D: PageDevice<256>, L: KeyLanes, J: Naming, R: Wait>(
 }
 
 /// Whether steps of upkeep, and the pages that the devices have written, are counted for the lane that is named.
-pub fn tends_its_lane<D: PageDevice<256>, L: KeyLanes, J: Naming, R: Wait>(
+pub fn tends_its_lane<D: PageDevice<256>, L: KeyLanes, J: BookName, R: Wait>(
     rt: &R,
     alloc: Global,
     cache: &Cache<D, L, J>,
@@ -104,7 +104,7 @@ fn a_step_of_upkeep_is_of_its_lane(rt: HostRuntime) -> Result<(), Fail> {
 }
 
 /// Whether each lane of a cache of small lanes, filled by many calls, has the small lanes' numbers.
-pub fn has_its_numbers<D: PageDevice<256>, L: KeyLanes, J: Naming, R: Wait>(
+pub fn has_its_numbers<D: PageDevice<256>, L: KeyLanes, J: BookName, R: Wait>(
     rt: &R,
     alloc: Global,
     cache: &Cache<D, L, J>,

@@ -37,7 +37,7 @@ fn files<R: Files<File = File>>(rt: &R, alloc: Global) -> Result<Vec<FileDevice<
 fn all_calls<
     D: PageDevice<256> + Send,
     L: KeyLanes + Send + Sync,
-    J: Naming + Send + Sync,
+    J: BookName + Send + Sync,
     R: Threads + Wait + Sync,
 >(rt: &R, alloc: Global, cache: &Cache<D, L, J>) -> Option<Tally> {
     let made = map_indices(
@@ -57,7 +57,7 @@ fn all_calls<
 }
 
 // Does what is due in each lane, until the callers have ended.
-fn tend<D: PageDevice<256>, L: KeyLanes, J: Naming, R: Wait>(
+fn tend<D: PageDevice<256>, L: KeyLanes, J: BookName, R: Wait>(
     rt: &R,
     cache: &Cache<D, L, J>,
     ended: &AtomicU64,
@@ -76,7 +76,7 @@ fn tend<D: PageDevice<256>, L: KeyLanes, J: Naming, R: Wait>(
 fn tended_calls<
     D: PageDevice<256> + Send,
     L: KeyLanes + Send + Sync,
-    J: Naming + Send + Sync,
+    J: BookName + Send + Sync,
     R: Threads + Wait + Sync,
 >(rt: &R, alloc: Global, cache: &Cache<D, L, J>) -> Option<Tally> {
     let ended = AtomicU64::new(0);
@@ -103,7 +103,7 @@ fn is_right(made: Option<Tally>) -> bool {
 pub fn are_right<
     D: PageDevice<256> + Send,
     L: KeyLanes + Send + Sync,
-    J: Naming + Send + Sync,
+    J: BookName + Send + Sync,
     R: Threads + Wait + Sync,
 >(rt: &R, alloc: Global, cache: &Cache<D, L, J>) -> bool {
     is_right(all_calls(rt, alloc, cache))
@@ -113,7 +113,7 @@ pub fn are_right<
 pub fn are_right_tended<
     D: PageDevice<256> + Send,
     L: KeyLanes + Send + Sync,
-    J: Naming + Send + Sync,
+    J: BookName + Send + Sync,
     R: Threads + Wait + Sync,
 >(rt: &R, alloc: Global, cache: &Cache<D, L, J>) -> bool {
     is_right(tended_calls(rt, alloc, cache))

@@ -91,14 +91,14 @@ fn try_sorted<L: KeyLanes + Send + Sync, D: PageDevice<256> + Send, R: Threads +
     requires sorted { SortsBy L.lanes L.lane_of seed (length devices.items) }
     requires honest { AreAsSaid L.is_honest D.honest devices.items }
 {
-    let book = NewBook::<L>::open(devices.len());
+    let book = UnnamedBook::<L>::open(devices.len());
     try_booked::<L, Brand, D, R>(rt, alloc, numbers, devices, seed, book, trial)
 }
 
 // Opens the cache with its book.
 fn try_booked<
     L: KeyLanes + Send + Sync,
-    J: Naming + Send + Sync,
+    J: BookName + Send + Sync,
     D: PageDevice<256> + Send,
     R: Threads + Wait + Sync,
 >(
@@ -107,7 +107,7 @@ fn try_booked<
     numbers: &Numbers,
     devices: Vec<D>,
     seed: RandomSeed,
-    book: NewBook<L>,
+    book: UnnamedBook<L>,
     trial: Trial,
 ) -> Result<Outcome, Fail>
     requires sorted { SortsBy L.lanes L.lane_of seed (length devices.items) }
@@ -119,7 +119,7 @@ fn try_booked<
         shards,
         slots,
     } = numbers;
-    let book = book.named::<J>();
+    let book = book.with_name::<J>();
     match Cache::<D, L, J>::open(
         alloc, config, *shards, *slots, devices, Rriparoo, seed, book,
     ) {
@@ -132,7 +132,7 @@ fn try_booked<
 fn tried<
     D: PageDevice<256> + Send,
     L: KeyLanes + Send + Sync,
-    J: Naming + Send + Sync,
+    J: BookName + Send + Sync,
     R: Threads + Wait + Sync,
 >(rt: &R, alloc: Global, cache: &Cache<D, L, J>, trial: Trial) -> Result<Outcome, Fail> {
     match trial {
@@ -147,7 +147,7 @@ fn tried<
 fn holds<
     D: PageDevice<256> + Send,
     L: KeyLanes + Send + Sync,
-    J: Naming + Send + Sync,
+    J: BookName + Send + Sync,
     R: Threads + Wait + Sync,
 >(rt: &R, alloc: Global, cache: &Cache<D, L, J>, trial: Trial) -> Result<bool, Fail> {
     match trial {

@@ -6,11 +6,11 @@ ghost use Rattle.record_pages.specs.declared.tier.Tier.TheVariants.{Memory, Log,
 ghost use Rattle.klog.specs.declared.flushed.Flushed.{Flushed};
 ghost use Rattle.service_lane.specs.Upkeep.{IsPageDone};
 ghost use Rattle.service_lane.specs.declared.upkept.Upkept.{Upkept};
-ghost use Rattle.mover.specs.declared.seen.Seen.TheVariants.{Hit};
+ghost use Rattle.mover.specs.declared.answer_kind.AnswerKind.TheVariants.{Hit};
 ghost use Rattle.service_lane.specs.declared.filled.Filled.{Filled};
 
 use certificate_checker::latest_is_current;
-use mover::Seen;
+use mover::AnswerKind;
 use page_device::PageDevice;
 use policy_laws::EvictionPolicy;
 use record_pages::{Key, KeyFault, PutFault, Value, ValueBuffer};
@@ -26,7 +26,7 @@ pub fn a_hit_is_what_was_put<D: PageDevice<PAGE>, const PAGE: usize>(
     expires: u64,
     moment: u64,
     found: &mut ValueBuffer,
-) -> Result<Seen, PutFault>
+) -> Result<AnswerKind, PutFault>
     requires { name.now ≡ key }
     ensures memory { result ≡ Ok (Hit Memory) → found.new ≡ value }
     ensures flash { ((d : D) → IsTrue (D.honest d)) → (tier : Tier) →
@@ -51,7 +51,7 @@ pub fn an_expired_value_is_not_hit<D: PageDevice<PAGE>, const PAGE: usize>(
     expires: u64,
     moment: u64,
     found: &mut ValueBuffer,
-) -> Result<Seen, PutFault>
+) -> Result<AnswerKind, PutFault>
     requires name { name.now ≡ key }
     requires expired { is_live expires moment ≡ false }
     ensures memory { result ≢ Ok (Hit Memory) }
@@ -75,7 +75,7 @@ pub fn nothing_older_is_hit<D: PageDevice<PAGE>, const PAGE: usize>(
     value: Value,
     moment: u64,
     found: &mut ValueBuffer,
-) -> Option<Seen>
+) -> Option<AnswerKind>
     requires { name.now ≡ key }
     ensures memory { result ≢ Some (Hit Memory) }
     ensures flash { ((d : D) → IsTrue (D.honest d)) → (tier : Tier) → result ≢ Some (Hit tier) }
@@ -99,7 +99,7 @@ pub fn a_removed_key_is_not_hit<D: PageDevice<PAGE>, P: EvictionPolicy, const PA
     name: &[u8],
     moment: u64,
     found: &mut ValueBuffer,
-) -> Result<Seen, KeyFault>
+) -> Result<AnswerKind, KeyFault>
     ensures memory { result ≢ Ok (Hit Memory) }
     ensures flash { ((d : D) → IsTrue (D.honest d)) → (tier : Tier) → result ≢ Ok (Hit tier) }
 {
@@ -152,7 +152,7 @@ pub fn a_hit_is_counted_in_its_tier<D: PageDevice<PAGE>, const PAGE: usize>(
     name: &[u8],
     moment: u64,
     found: &mut ValueBuffer,
-) -> Result<Seen, KeyFault>
+) -> Result<AnswerKind, KeyFault>
     ensures log { result ≡ Ok (Hit Log) → lane.new.counts.gets.log_hits
         ≡ (lane.old.counts.gets.log_hits + 1) % 2 ^ 64 }
     ensures log_alone { result ≡ Ok (Hit Log) → lane.new.counts.gets.set_hits

@@ -1,6 +1,6 @@
 //! Calls of a lane, each with what it gives.
 use super::*;
-use mover::Seen;
+use mover::AnswerKind;
 use page_device::PageDevice;
 use record_pages::{KeyFault, MissCause, Tier, ValueBuffer};
 use rriparoo::Rriparoo;
@@ -171,11 +171,14 @@ fn is_found<D: PageDevice<PAGE>, const PAGE: usize>(
     let mut found = ValueBuffer::empty();
     let seen = lane.get(name, moment, &mut found);
     match wanted {
-        Found::Memory(bytes) => seen == Ok(Seen::Hit(Tier::Memory)) && found.bytes() == *bytes,
-        Found::Log(bytes) => seen == Ok(Seen::Hit(Tier::Log)) && found.bytes() == *bytes,
-        Found::Set(bytes) => seen == Ok(Seen::Hit(Tier::Set)) && found.bytes() == *bytes,
-        Found::Absent => seen == Ok(Seen::Miss(MissCause::Absent)) && found.bytes().is_empty(),
-        Found::Expired => seen == Ok(Seen::Miss(MissCause::Expired)) && found.bytes().is_empty(),
+        Found::Memory(bytes) => seen == Ok(AnswerKind::Hit(Tier::Memory))
+            && found.bytes() == *bytes,
+        Found::Log(bytes) => seen == Ok(AnswerKind::Hit(Tier::Log)) && found.bytes() == *bytes,
+        Found::Set(bytes) => seen == Ok(AnswerKind::Hit(Tier::Set)) && found.bytes() == *bytes,
+        Found::Absent => seen == Ok(AnswerKind::Miss(MissCause::Absent))
+            && found.bytes().is_empty(),
+        Found::Expired => seen == Ok(AnswerKind::Miss(MissCause::Expired))
+            && found.bytes().is_empty(),
     }
 }
 

@@ -1,6 +1,6 @@
 //! Which calls a log makes of its device: each page that it must read or write, once, in order, and no other.
 use super::*;
-use test_steps::{Asked, PlannedDevice};
+use test_devices::{DeviceCall, PlannedDevice};
 
 // One lane of one set, and two segments of two pages: pages 1 and 2 are the first segment's.
 const TWO_PAGES: Config = Config {
@@ -8,9 +8,9 @@ const TWO_PAGES: Config = Config {
     ..ONE_SET
 };
 
-const A: Seen = Seen::Value(&[1; 200]);
+const A: Wanted = Wanted::Value(&[1; 200]);
 
-const B: Seen = Seen::Value(&[2; 200]);
+const B: Wanted = Wanted::Value(&[2; 200]);
 
 const A_TAKEN: Kept = Kept {
     key: b"ax",
@@ -42,13 +42,13 @@ const STEPS: [Step; 22] = [
     Step::Flush(Flushed::Wrote),
     Step::Look(b"ax", A),
     Step::Look(b"bx", B),
-    Step::Look(b"cx", Seen::Absent),
+    Step::Look(b"cx", Wanted::Absent),
     Step::Take(&[B_TAKEN, A_TAKEN]),
     Step::Readmit(Some(Readmitted::Readmitted)),
     Step::Readmit(Some(Readmitted::Readmitted)),
     Step::Look(b"ax", A),
     Step::Strike(b"bx"),
-    Step::Look(b"bx", Seen::Absent),
+    Step::Look(b"bx", Wanted::Absent),
     Step::Free(true),
     Step::Strike(b"ax"),
     Step::Flush(Flushed::Sealed),
@@ -58,17 +58,17 @@ const STEPS: [Step; 22] = [
 
 // Two writes by flushing; a read by each look-up on the device; two by the taking, newest first; one by each readmission; and the
 // writes of two pages on which nothing is live.
-const PLAN: [Asked; 10] = [
-    Asked::Write(1),
-    Asked::Write(2),
-    Asked::Read(1),
-    Asked::Read(2),
-    Asked::Read(2),
-    Asked::Read(1),
-    Asked::Read(1),
-    Asked::Read(2),
-    Asked::Write(3),
-    Asked::Write(4),
+const PLAN: [DeviceCall; 10] = [
+    DeviceCall::Write(1),
+    DeviceCall::Write(2),
+    DeviceCall::Read(1),
+    DeviceCall::Read(2),
+    DeviceCall::Read(2),
+    DeviceCall::Read(1),
+    DeviceCall::Read(1),
+    DeviceCall::Read(2),
+    DeviceCall::Write(3),
+    DeviceCall::Write(4),
 ];
 
 // Three keys with one tag, of which two have a record: the newer one is read first, and if it has the key no other.
@@ -80,17 +80,17 @@ const ONE_TAG: [Step; 8] = [
     Step::Flush(Flushed::Wrote),
     Step::Look(b"b", B),
     Step::Look(b"a", A),
-    Step::Look(b"c", Seen::Absent),
+    Step::Look(b"c", Wanted::Absent),
 ];
 
-const ONE_TAG_PLAN: [Asked; 7] = [
-    Asked::Write(1),
-    Asked::Write(2),
-    Asked::Read(2),
-    Asked::Read(2),
-    Asked::Read(1),
-    Asked::Read(2),
-    Asked::Read(1),
+const ONE_TAG_PLAN: [DeviceCall; 7] = [
+    DeviceCall::Write(1),
+    DeviceCall::Write(2),
+    DeviceCall::Read(2),
+    DeviceCall::Read(2),
+    DeviceCall::Read(1),
+    DeviceCall::Read(2),
+    DeviceCall::Read(1),
 ];
 
 type Planned = PlannedDevice<MemoryDevice<256>>;
@@ -100,7 +100,7 @@ fn are_planned(
     rt: &impl Abort,
     alloc: Global,
     steps: &[Step],
-    plan: &'static [Asked],
+    plan: &'static [DeviceCall],
 ) -> Result<bool, Fail> {
     let device = PlannedDevice::new(MemoryDevice::new(alloc, 5)?, plan);
     let mut owner: Owner<Planned, 256> = log(alloc, TWO_PAGES, device)?;

@@ -2,7 +2,7 @@
 //! strikes let through and for each reading of a set that holds something, and no other.
 use super::step::WAS_HELD;
 use super::*;
-use test_steps::{Asked, PlannedDevice};
+use test_devices::{DeviceCall, PlannedDevice};
 
 const ONLY_AX: [Pair; 1] = [(b"ax", b"1")];
 
@@ -16,7 +16,7 @@ const STEPS: [Step; 19] = [
     Step::Locate(b"ax", LocatedInSet::Hit { slot: 0 }, b"1"),
     Step::Touch(b"ax", 0),
     Step::Locate(b"bx", LocatedInSet::Absent, WAS_HELD),
-    Step::Look(b"bx", Seen::Absent),
+    Step::Look(b"bx", Wanted::Absent),
     Step::Read(&[AX_HIT]),
     Step::Strike(b"ax"),
     MISSES_A,
@@ -30,14 +30,14 @@ const STEPS: [Step; 19] = [
 ];
 
 // The reading after the strike asks for the page, which may hold other records than the one that was struck.
-const PLAN: [Asked; 7] = [
-    Asked::Write(3),
-    Asked::Read(3),
-    Asked::Read(3),
-    Asked::Read(3),
-    Asked::Read(3),
-    Asked::Write(3),
-    Asked::Read(3),
+const PLAN: [DeviceCall; 7] = [
+    DeviceCall::Write(3),
+    DeviceCall::Read(3),
+    DeviceCall::Read(3),
+    DeviceCall::Read(3),
+    DeviceCall::Read(3),
+    DeviceCall::Write(3),
+    DeviceCall::Read(3),
 ];
 
 type Planned = PlannedDevice<MemoryDevice<256>>;

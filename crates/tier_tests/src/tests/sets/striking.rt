@@ -46,10 +46,10 @@ const THE_NINTH: [Step; 15] = [
     // A strike that is there, and one that the filter denies, add none.
     Step::Strike(b"ax"),
     Step::Strike(b"zz"),
-    Step::Look(b"jx", Seen::Value(b"1")),
+    Step::Look(b"jx", Wanted::Value(b"1")),
     Step::Read(&[I, J_HIT, K]),
     Step::Strike(b"ix"),
-    Step::Look(b"jx", Seen::Absent),
+    Step::Look(b"jx", Wanted::Absent),
 ];
 
 #[test]
@@ -72,9 +72,9 @@ const THE_NINTH_AFTER_A_STRANGER: [Step; 12] = [
     Step::Strike(b"ex"),
     Step::Strike(b"fx"),
     Step::Strike(b"gx"),
-    Step::Look(b"kx", Seen::Value(b"1")),
+    Step::Look(b"kx", Wanted::Value(b"1")),
     Step::Strike(b"hx"),
-    Step::Look(b"kx", Seen::Absent),
+    Step::Look(b"kx", Wanted::Absent),
 ];
 
 #[test]

@@ -9,7 +9,7 @@ pub returns : goal.returns
 returns c =
     let objects = c.self.inside.objects in
     let key = c.args.key.now in
-    let after = ap memory_of c.get.follows.holds-at-none ∙ get_after key objects c.recall.ensures.0 ∙ ap (after_get key) c.self.view_is in (
+    let after = ap memory_of c.get.follows.holds-at-none ∙ get_after key objects c.know_valid.ensures.0 ∙ ap (after_get key) c.self.view_is in (
       (refl, λ _. tt, after),
       record {
         raised = tt;

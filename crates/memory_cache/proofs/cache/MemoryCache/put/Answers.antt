@@ -14,7 +14,7 @@ use Rattle.record_pages.specs.declared.timed_value.TimedValue.{TimedValue}
 pub returns-clause-out : goal.returns-clause-out
 returns-clause-out c =
     let objects = c.self.inside.objects in
-    let valid = c.recall.ensures in
+    let valid = c.know_valid.ensures in
     let pair : Pair = record { key = c.args.key; value = c.args.value } in
     elim c.match-push.branch [
       | in-Ok-Some w ↦
@@ -34,7 +34,7 @@ returns-clause-out c =
 pub returns-clause-after : goal.returns-clause-after
 returns-clause-after c =
     let objects = c.self.inside.objects in
-    let valid = c.recall.ensures in
+    let valid = c.know_valid.ensures in
     let pair : Pair = record { key = c.args.key; value = c.args.value } in
     let after = put_after objects c.args.key c.args.value valid.0 valid.1 valid.2 ∙ ap (after_put pair) c.self.view_is in
     elim c.match-push.branch [

@@ -8,4 +8,4 @@ pub returns : goal.returns
 returns c =
     let objects = c.self.inside.objects in
     let key = c.args.key.now in
-    ap memory_of c.promote-held.ensures.entries ∙ get_after key objects c.recall.ensures.0 ∙ ap (after_get key) c.self.view_is
+    ap memory_of c.promote-held.ensures.entries ∙ get_after key objects c.know_valid.ensures.0 ∙ ap (after_get key) c.self.view_is

@@ -11,5 +11,5 @@ pub returns-clause-after : goal.returns-clause-after
 returns-clause-after c =
     let objects = c.self.inside.objects in
     ap memory_of c.pop.ensures.entries
-    ∙ ap (holding (memory_of objects)) (removed c.args.key.now objects.entries c.recall.ensures.0)
+    ∙ ap (holding (memory_of objects)) (removed c.args.key.now objects.entries c.know_valid.ensures.0)
     ∙ ap (after_remove c.args.key.now) c.self.view_is

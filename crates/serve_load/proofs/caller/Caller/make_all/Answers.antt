@@ -13,7 +13,7 @@ invariant_of-result g c = record {
   some = omega arith;
   few_refused = omega arith;
   one_wrong = omega arith;
-  is = ∣ c.requires.tallies none (is_tally c.args.load.now c.args.self.number c.args.self.generator c.args.self.words.items c.args.self.seat c.requires.begun none (no_operations c.args.load.now c.args.self.number)) ∣₁;
+  is = c.requires.tallies none (is_tally c.args.load.now c.args.self.number c.args.self.generator c.args.self.words.items c.args.self.seat c.requires.begun none (no_operations c.args.load.now c.args.self.number));
 }
 
 pub returns-in_default : goal.returns-in_default
@@ -26,7 +26,7 @@ invariant_of-result-2 g c =
       some = omega (arith, ended.some, c.requires.most);
       few_refused = ended.few_refused;
       one_wrong = ended.one_wrong;
-      is = ∣ c.requires.tallies c.make_each-counted.result (is_tally c.args.load.now c.args.self.number c.args.self.generator c.args.self.words.items c.args.self.seat c.requires.begun c.make_each-counted.result (has_ended c.args.load.now c.args.self.number c.args.self.generator c.args.self.words.items c.args.self.seat c.requires.begun c.make_each-counted.result ended)) ∣₁;
+      is = c.requires.tallies c.make_each-counted.result (is_tally c.args.load.now c.args.self.number c.args.self.generator c.args.self.words.items c.args.self.seat c.requires.begun c.make_each-counted.result (has_ended c.args.load.now c.args.self.number c.args.self.generator c.args.self.words.items c.args.self.seat c.requires.begun c.make_each-counted.result ended));
     }
 
 pub returns : goal.returns

@@ -3,7 +3,7 @@ use Rattle.std.proofs.Common.{◌∙◌, refl, subst}
 use Rattle.std.specs.Prelude.{IfOk}
 use Rattle.record_pages.specs.declared.tier.Tier.TheVariants.{Memory}
 use Rattle.mover.specs.Get.{answer_of}
-use Rattle.mover.specs.declared.seen.Seen.TheVariants.{Hit}
+use Rattle.mover.specs.declared.answer_kind.AnswerKind.TheVariants.{Hit}
 use Rattle.service_lane.specs.Serving.{Gets}
 use Rattle.service_tests.proofs.LaneRows.{removed_is_not_live, in_memory, in_any, upkept_adds_none}
 use Rattle.service_tests.proofs.tests.lane.rows.a_removed_key_is_not_hit.Goals as goal

@@ -1,7 +1,0 @@
--- The lane is one of the cache, and fewer lanes than all were idle.
-use Rattle.std.proofs.Common.{◌<◌}
-use Rattle.load_run.proofs.worker.work.Given as goal
-
-abbrev pub invariant-loop : goal.invariant-loop
-invariant-loop g l =
-    ((goal.iterator-loop g).can_next l.iterator' × (goal.iterator-loop g).is_finite l.iterator') × (l.lane < l.lanes) × (l.idle < l.lanes)

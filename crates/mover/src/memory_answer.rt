@@ -1,0 +1,13 @@
+// What memory has of a key.
+use record_pages::Value;
+
+/// What memory has of a key at a moment.
+#[derive(Clone, Copy, Debug)]
+pub(crate) enum MemoryAnswer<'a> {
+    /// This value, which is live.
+    Live(&'a Value),
+    /// A value that has expired.
+    Expired,
+    /// No value.
+    Absent,
+}
