@@ -107,6 +107,24 @@ fn told(seen: AnswerKind, found: &ValueBuffer, version: Version, moment: u64) ->
     }
 }
 
+// Looks a key up, at an even moment by the call that leases it at a miss.
+fn look_up<D: PageDevice<256>, L: KeyLanes, J: BookName, R: Wait>(
+    rt: &R,
+    cache: &Cache<D, L, J>,
+    seat: &mut Seat<L, J>,
+    name: &[u8; 2],
+    moment: u64,
+    found: &mut ValueBuffer,
+) -> Result<AnswerKind, SeatFault> {
+    if moment % 2 == 1 {
+        return cache.get(rt, seat, name, moment, found);
+    }
+    match cache.get_or_lease(rt, seat, name, moment, found)? {
+        LookedUp::Hit(tier) => Ok(AnswerKind::Hit(tier)),
+        LookedUp::Miss(cause, _) => Ok(AnswerKind::Miss(cause)),
+    }
+}
+
 // Makes a get, and says how it went. A key that has no version must miss.
 fn get<D: PageDevice<256>, L: KeyLanes, J: BookName, R: Wait>(
     rt: &R,
@@ -117,7 +135,7 @@ fn get<D: PageDevice<256>, L: KeyLanes, J: BookName, R: Wait>(
     moment: u64,
 ) -> Tally {
     let mut found = ValueBuffer::empty();
-    match cache.get(rt, seat, name, moment, &mut found) {
+    match look_up(rt, cache, seat, name, moment, &mut found) {
         Ok(seen) => told(seen, &found, version, moment),
         Err(_) => Tally { refused: 1, ..NONE },
     }
@@ -166,8 +184,8 @@ fn version_at(number: u32, drawn: u64) -> Version {
     Version { number, expires }
 }
 
-/// Makes this many calls: of ten five are gets, four puts and one a removal. The number of a call, from 1, is its
-/// moment.
+/// Makes this many calls: of ten five are gets, of which half lease at a miss, four puts and one a removal. The number of a
+/// call, from 1, is its moment.
 pub fn calls<D: PageDevice<256>, L: KeyLanes, J: BookName, R: Wait>(
     rt: &R,
     alloc: Global,
