@@ -5,9 +5,9 @@ use Rattle.record_pages.specs.declared.layout.Layout.{Layout}
 use Rattle.cache_sizes.specs.Shapes.{file_pages}
 use Rattle.page_device.specs.Counting.{no_device_counts}
 use Rattle.key_hash.specs.Hashing.{derived}
-use Rattle.mover.specs.Store.{opening}
 use Rattle.service_lane.specs.Counting.{no_counts}
 use Rattle.service_lane.specs.Leases.{no_writes}
+use Rattle.service_lane.specs.Serving.{opening_to_serve}
 use Rattle.service_lane.specs.Words.{words_for}
 use Rattle.c_lane.specs.declared.lane_shape.LaneShape.{LaneShape}
 use Rattle.c_lane.specs.declared.seed.Seed.{Seed}
@@ -22,7 +22,7 @@ pub record Opens {D : Type 0} (s : LaneShape) (seed : Seed) (number : ℕ) (devi
   pub layout : Layout
   pub numbers : HasNumbersOf layout (config_of s)
   pub serving : lane.serving ≡ record {
-    store = opening layout (record { device = device; counts = no_device_counts });
+    store = opening_to_serve layout (record { device = device; counts = no_device_counts });
     deeds = [];
     slots = no_writes (derived (seed_of seed) number) s.lease_slots;
     counts = no_counts;

@@ -18,8 +18,9 @@ pub use estimates::{
 };
 pub use limits::{
     MAX_ALL_LANES, MAX_LEASE_SLOTS, MAX_OBJECT_BYTES, MAX_ODD_SETS, MAX_SHARDS, MAX_THREADS,
-    MIN_FLASH_BYTES, MIN_LEASE_SLOTS, PAGE_BYTES,
+    MIN_FLASH_BYTES, MIN_LEASE_SLOTS, MIN_STRIKES, PAGE_BYTES,
 };
+pub use memory::strikes_of;
 pub use shape::Shape;
 pub use size_fault::SizeFault;
 pub use wanted::Wanted;

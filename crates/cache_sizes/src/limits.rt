@@ -27,5 +27,9 @@ pub const MAX_ODD_SETS: u32 = MAX_SETS - 1;
 /// The least slots for leases that `Shape::of` gives a lane: with fewer, many keys of a small lane would share one.
 pub const MIN_LEASE_SLOTS: u32 = 1024;
 
+/// The least number of strikes that a lane which serves has room for: a small lane has few sets, and each of eight strikes at
+/// most.
+pub const MIN_STRIKES: u32 = 64;
+
 /// The most slots for leases of a lane.
 pub const MAX_LEASE_SLOTS: u32 = 1_048_576;

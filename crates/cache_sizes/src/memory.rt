@@ -1,8 +1,8 @@
 // How many entries and slots a lane has in memory.
 ghost use Rattle.std.specs.Prelude.{◌≡◌, ◌≤◌};
-ghost use Rattle.cache_sizes.specs.Memory.{entries_of, lease_slots_of};
+ghost use Rattle.cache_sizes.specs.Memory.{entries_of, lease_slots_of, strikes_of};
 
-use crate::limits::{MAX_LEASE_SLOTS, MAX_OBJECT_BYTES, MIN_LEASE_SLOTS};
+use crate::limits::{MAX_LEASE_SLOTS, MAX_OBJECT_BYTES, MIN_LEASE_SLOTS, MIN_STRIKES};
 use crate::proportions::ENTRIES_FOR_4_RECORDS;
 use crate::records::log_records;
 use record_pages::{MAX_ENTRIES, MAX_SEGMENT_PAGES, MAX_SEGMENTS, MAX_SETS};
@@ -32,4 +32,15 @@ pub(crate) fn lease_slots_of(sets: u32) -> u32
     ensures most { result ≤ MAX_LEASE_SLOTS }
 {
     sets.max(MIN_LEASE_SLOTS)
+}
+
+/// The strikes that a lane which serves has room for, if it has this many sets: one a set, and no fewer than `MIN_STRIKES`.
+/// Most sets have none most of the time, and one for which there is no room makes the lane forget a set, which a cache may.
+#[tactic(auto, unfolding(crate::specs::Memory::strikes_of))]
+pub fn strikes_of(sets: u32) -> u32
+    requires { sets ≤ MAX_SETS }
+    ensures strikes { result ≡ strikes_of sets }
+    ensures most { result ≤ MAX_SETS }
+{
+    sets.max(MIN_STRIKES)
 }

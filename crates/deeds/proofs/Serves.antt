@@ -14,7 +14,7 @@ use Rattle.certificate_checker.specs.Deeds.{Deed}
 use Rattle.certificate_checker.specs.Current.{current}
 use Rattle.certificate_checker.specs.Latest.{IsLive}
 use Rattle.certificate_checker.proofs.public_laws.Growing.{lawful-push}
-use Rattle.mover.specs.Store.{StoreState, opening}
+use Rattle.mover.specs.Store.{StoreState, opening_with}
 use Rattle.mover.specs.Lane.{lane_of}
 use Rattle.mover.specs.Laws.{IsInOrder, StepsInOrder, OpeningShowsNothing, GetShows}
 use Rattle.mover.specs.Visible.{IsShown, TellsVisible}
@@ -71,9 +71,9 @@ module _ {D : Type 0} (size : ℕ) (honest : D → Bool) (failures : D → ℕ) 
 
 module _ {D : Type 0} (honest : D → Bool) (held : D → ℕ → Option (List ℕ)) where
   -- a store that was just opened
-  pub served_opened : (store : StoreState D) (layout : Layout) (device : D) → OpeningShowsNothing → store ≡ opening layout device → IsServed honest held (record { store = store; deeds = [] })
-  served_opened store layout device law told =
-      let first = law (held device) layout in
+  pub served_opened : (store : StoreState D) (strikes : ℕ) (layout : Layout) (device : D) → OpeningShowsNothing → store ≡ opening_with strikes layout device → IsServed honest held (record { store = store; deeds = [] })
+  served_opened store strikes layout device law told =
+      let first = law strikes (held device) layout in
       let order : IsInOrder (lane_of held store) = subst (λ (s : StoreState D). IsInOrder (lane_of held s)) (sym told) first.0 in
       let nothing : (p : Pair) → ¬ IsShown (lane_of held store) p = subst (λ (s : StoreState D). (p : Pair) → ¬ IsShown (lane_of held s) p) (sym told) first.1 in
       record {

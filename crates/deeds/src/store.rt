@@ -3,7 +3,7 @@ ghost use Rattle.std.specs.Prelude.{◌≡◌, ◌≤◌, [], length, IfOk};
 ghost use Rattle.klog.specs.Usage.{usage_of};
 ghost use Rattle.record_pages.specs.Asked.{layout_pages};
 ghost use Rattle.record_pages.specs.Sizes.{IsPageSize};
-ghost use Rattle.mover.specs.Store.{opening};
+ghost use Rattle.mover.specs.Store.{opening_with};
 
 use crate::trail::Trail;
 use key_hash::RandomSeed;
@@ -51,20 +51,23 @@ impl<D: PageDevice<PAGE>, const PAGE: usize> DeedStore<D, PAGE> {
     ghost use Rattle.deeds.specs.Asked.{IsServed};
 
     /// An empty store of this layout, of which nothing was asked, over a device that has the layout's pages; or `AllocError`,
-    /// with which the device is dropped. The table of its memory hashes by this seed.
+    /// with which the device is dropped. All its sets together have room for this many strikes. The table of its memory
+    /// hashes by the seed.
     pub fn with_layout(
         alloc: Global,
         layout: &Layout,
+        strikes: u32,
         device: D,
         seed: RandomSeed,
     ) -> Result<Self, AllocError>
         requires page_size { IsPageSize PAGE }
+        requires strikes { strikes ≤ 524288 }
         requires room { layout_pages layout.now ≤ D.page_count device }
         ensures { IfOk result (λ opened.
-            opened ≡ record { store = opening layout.now device; deeds = [] }) }
+            opened ≡ record { store = opening_with strikes layout.now device; deeds = [] }) }
     {
         opening_shows_nothing();
-        let store = Store::with_layout(alloc, layout, device, seed)?;
+        let store = Store::with_layout(alloc, layout, strikes, device, seed)?;
         Ok(DeedStore {
             store,
             trail: Trail::new(),

@@ -7,4 +7,9 @@ mod Sound
 mod Settled
 mod Marks
 mod FreshLaws
+mod ChainMoves
+mod StrikeMoves
+mod StrikeFresh
+mod StrikeSearch
+mod StrikeSets
 pub mod public_laws

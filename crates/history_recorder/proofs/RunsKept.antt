@@ -1,5 +1,5 @@
 -- Each event of a run keeps what is true of its world, and what is true at its end makes its history accepted.
-use Rattle.std.proofs.Common.{◌≡◌, ◌<◌, ◌≤◌, ◌+◌, ℕ, zero, suc, true, List, [], ◌∷◌, ◌++◌, length, set, map, replicate, Option, Some, None, sym, ap, ◌∙◌, refl, subst, arith}
+use Rattle.std.proofs.Common.{◌≡◌, ◌<◌, ◌≤◌, ◌+◌, ◌*◌, ℕ, zero, suc, true, List, [], ◌∷◌, ◌++◌, length, set, map, replicate, Option, Some, None, sym, ap, ◌∙◌, refl, subst, arith}
 use Rattle.std.specs.Prelude.{All, slice_get, slice_set, slice_index_or, option_map}
 use Rattle.std.proofs.lemmas.List.{map-set}
 use Rattle.std.proofs.lemmas.List.Elements.{All-nil, All-cons}
@@ -203,7 +203,7 @@ module _ (layout : Layout) where
   -- a lane that was just opened
   kept_first : (number : ℕ) (held : ℕ → Option (List ℕ)) → IsKeptLane layout number [] (opening_lane layout held)
   kept_first number held =
-      let law = opening_law held layout in (
+      let law = opening_law (8 * layout.sets) held layout in (
         record {
           starts = λ k d within. absurd (omega (arith, within));
           points = λ i j d less within. absurd (omega (arith, within));

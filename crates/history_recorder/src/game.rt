@@ -8,8 +8,7 @@ ghost use Rattle.history_recorder.specs.Game.{IsGame, AreHonest, Plays, HasPlaye
 use crate::event::Event;
 use crate::ledger::Ledger;
 use crate::played_lane::PlayedLane;
-use crate::replies::Replies;
-use crate::reply::Reply;
+use crate::reply::{Replies, Reply};
 use record_pages::Layout;
 use set_hash::place;
 use std::alloc::{AllocError, Global};

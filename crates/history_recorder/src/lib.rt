@@ -21,7 +21,6 @@ mod played;
 mod played_lane;
 mod playing;
 mod recorded_call;
-mod replies;
 mod reply;
 mod world;
 
@@ -37,6 +36,5 @@ pub use recorded_lane::{
     MAX_CALLS, Noted, NotedRef, RecordFault, RecordPutFault, RecordedLane, RecordedParts,
     accepted_in_turn,
 };
-pub use replies::Replies;
-pub use reply::Reply;
+pub use reply::{Replies, Reply};
 pub use world::World;

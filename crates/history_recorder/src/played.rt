@@ -1,5 +1,5 @@
 // What was played in a world.
-use crate::replies::Replies;
+use crate::reply::Replies;
 use trace_file::{Certificate, History};
 
 /// What was played in a world: a reply to each event, and the calls that its lanes recorded, laid out.

@@ -1,6 +1,6 @@
 use klog::Flushed;
 use mover::{Aborted, Begin, Committed};
-use record_pages::{Answer, Pushed};
+use record_pages::{Answer, ItemList, Pushed};
 use recorded_lane::{RecordFault, RecordPutFault};
 use std::alloc::AllocError;
 
@@ -29,3 +29,6 @@ pub enum Reply {
     /// Whether a move was given up.
     Aborted(Aborted),
 }
+
+/// Replies, one for each event of a list, in its order.
+pub type Replies = ItemList<Reply>;

@@ -1,4 +1,4 @@
-use crate::taken_records::TakenRecords;
+use crate::taken_record::TakenRecords;
 use klog_index::Entry;
 
 /// What a reading of a set's records gave.

@@ -19,7 +19,6 @@ mod segment_laws;
 mod set_taken;
 mod sources;
 mod taken_record;
-mod taken_records;
 
 pub use answer_laws::{
     count_tells_live, full_where_none_takes, look_finds_newest, oldest_tells_first,
@@ -41,5 +40,4 @@ pub use segment_laws::{
     sealing_flushes, segments_tell_live, strikes_kill, taken_die,
 };
 pub use set_taken::SetTaken;
-pub use taken_record::TakenRecord;
-pub use taken_records::TakenRecords;
+pub use taken_record::{TakenRecord, TakenRecords};

@@ -1,4 +1,4 @@
-use crate::taken_records::TakenRecords;
+use crate::taken_record::TakenRecords;
 
 /// What a taking of a set's records answers.
 #[derive(Debug, Drop)]

@@ -2,7 +2,7 @@
 ghost use Rattle.std.specs.Prelude.{◌≡◌, ◌<◌, ◌≤◌, ◌+◌, ◌^◌, ◌==◌};
 ghost use Rattle.klog.specs.Sources.{number_by};
 
-use crate::taken_records::TakenRecords;
+use crate::taken_record::TakenRecords;
 use klog_index::{Entry, EntryTest};
 use std::marker::Model;
 

@@ -1,6 +1,6 @@
 // A record that was taken from the log.
 use klog_index::Place;
-use record_pages::Record;
+use record_pages::{ItemList, Record};
 
 /// A live record of the log, as it was taken.
 #[derive(Debug, Drop, PartialEq, Eq)]
@@ -12,3 +12,6 @@ pub struct TakenRecord {
     /// The number of its segment. A later segment may have the same name in places.
     pub segment: u64,
 }
+
+/// The records that were taken of a set, newest first.
+pub type TakenRecords = ItemList<TakenRecord>;

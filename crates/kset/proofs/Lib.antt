@@ -1,4 +1,5 @@
 mod PageNotes
+mod TableLaws
 mod LookLaws
 mod LocateLaws
 mod RewriteLaws

@@ -1,9 +1,9 @@
 -- What shows in the sets after a call.
-use Rattle.std.specs.Prelude.{◌≡◌, ℕ, ◌==◌, ◌&&◌, not, nat_le, Bool, List, [], filter, Option, None, Result, Ok, Err, IsSomeAnd, if◌then◌else◌}
+use Rattle.std.specs.Prelude.{◌≡◌, ℕ, ◌==◌, ◌&&◌, not, Bool, List, [], filter, Option, None, Result, Ok, Err, IsSomeAnd, if◌then◌else◌}
 use Rattle.std.specs.List.{enumerate_from}
-use Rattle.std.specs.FinSet.{insert, len}
 use Rattle.std.specs.declared.alloc.AllocError.{AllocError}
 use Rattle.bloom.specs.Filter.{admits}
+use Rattle.entry_pool.specs.Struck.{can_strike}
 use Rattle.set_hash.specs.Fnv.{fnv1a}
 use Rattle.set_hash.specs.Place.{probes_of}
 use Rattle.record_pages.specs.Recs.{Rec}
@@ -19,18 +19,17 @@ use Rattle.kset.specs.Telling.{page_if_of}
 abbrev pub with_set : {X : Type 0} → (ℕ → X) → ℕ → X → ℕ → X
 with_set visible set shows = λ other. if other == set then shows else visible other
 
--- a strike of this hash is one too many: the filter admits it, and with it more than eight would be struck
-abbrev pub is_one_too_many : Notes → ℕ → Bool
-is_one_too_many notes hash =
-    admits notes.filter (probes_of hash) && not (nat_le (len (insert notes.strikes hash)) 8)
+-- A strike of this hash forgets the set: the filter admits it, and there is no room for it.
+abbrev pub is_forgetting : Bool → Notes → ℕ → Bool
+is_forgetting free notes hash = admits notes.filter (probes_of hash) && not (can_strike free notes.strikes hash)
 
 -- those of these records whose key has another hash
 abbrev pub without_hash : ℕ → List (ℕ × Rec) → List (ℕ × Rec)
 without_hash hash visible = filter (λ x. not (fnv1a x.1.key == hash)) visible
 
--- what still shows of these records once a hash is struck: nothing if it is one too many, otherwise all with other hashes
-abbrev pub after_strike : Notes → ℕ → List (ℕ × Rec) → List (ℕ × Rec)
-after_strike notes hash visible = if is_one_too_many notes hash then [] else without_hash hash visible
+-- what still shows of these records once a hash is struck: nothing if that forgets the set, otherwise all with other hashes
+abbrev pub after_strike : Bool → Notes → ℕ → List (ℕ × Rec) → List (ℕ × Rec)
+after_strike free notes hash visible = if is_forgetting free notes hash then [] else without_hash hash visible
 
 -- what shows in each set once one of them was read: nothing in that one if its page was lost, otherwise the same
 abbrev pub shown_after_reading : Result SetRead AllocError → ℕ → (ℕ → List (ℕ × Rec)) → ℕ → List (ℕ × Rec)

@@ -1,5 +1,5 @@
 -- Laws of the sets' definitions, for those who move records into sets.
-use Rattle.std.specs.Prelude.{◌≡◌, ◌≢◌, ◌<◌, ℕ, List, [], Option, Some, All, Result}
+use Rattle.std.specs.Prelude.{◌≡◌, ◌≢◌, ◌<◌, ℕ, Bool, List, [], Option, Some, All, Result}
 use Rattle.std.specs.declared.alloc.AllocError.{AllocError}
 use Rattle.page_device.specs.Frames.{pages_before}
 use Rattle.record_pages.specs.Recs.{Rec}
@@ -22,12 +22,12 @@ IsKeyOf lanes sets set key = (placed_of lanes sets (fnv1a key)).set ≡ set
 abbrev pub AreOfTheirSets : ℕ → ℕ → (ℕ → List (ℕ × Rec)) → Type 0
 AreOfTheirSets lanes sets visible = (set : ℕ) → All (λ x. IsKeyOf lanes sets set x.1.key) (visible set)
 
--- they stay of their sets under a strike in any set, a ninth one too
+-- they stay of their sets under a strike in any set, one for which there is no room too
 abbrev pub StrikesKeepSets : Type 0
 StrikesKeepSets =
-    (lanes sets set hash : ℕ) (notes : Notes) (visible : ℕ → List (ℕ × Rec))
+    (lanes sets set hash : ℕ) (free : Bool) (notes : Notes) (visible : ℕ → List (ℕ × Rec))
     → AreOfTheirSets lanes sets visible
-    → AreOfTheirSets lanes sets (with_set visible set (after_strike notes hash (visible set)))
+    → AreOfTheirSets lanes sets (with_set visible set (after_strike free notes hash (visible set)))
 
 -- when a set is read, whether or not its page is lost
 abbrev pub ReadingsKeepSets : Type 0
@@ -56,11 +56,11 @@ AreCurrent lanes sets current visible = (set : ℕ) → All (λ x. IsCurrent lan
 -- a strike of a key in its set keeps them current, whatever the key's current value becomes
 abbrev pub StrikesKeepCurrent : Type 0
 StrikesKeepCurrent =
-    (lanes sets : ℕ) (was is : List ℕ → Option TimedValue) (key : List ℕ) (set : ℕ) (notes : Notes) (visible : ℕ → List (ℕ × Rec))
+    (lanes sets : ℕ) (was is : List ℕ → Option TimedValue) (key : List ℕ) (set : ℕ) (free : Bool) (notes : Notes) (visible : ℕ → List (ℕ × Rec))
     → IsKeyOf lanes sets set key
     → ((other : List ℕ) → other ≢ key → is other ≡ was other)
     → AreCurrent lanes sets was visible
-    → AreCurrent lanes sets is (with_set visible set (after_strike notes (fnv1a key) (visible set)))
+    → AreCurrent lanes sets is (with_set visible set (after_strike free notes (fnv1a key) (visible set)))
 
 -- so does a reading of a set
 abbrev pub ReadingsKeepCurrent : Type 0

@@ -1,5 +1,6 @@
 pub mod Notes
 pub mod Sets
+pub mod Table
 pub mod Pages
 pub mod Shown
 pub mod Look

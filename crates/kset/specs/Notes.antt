@@ -1,12 +1,13 @@
 -- What memory notes of one set.
-use Rattle.std.specs.Prelude.{ℕ, ◌&&◌, not, Bool, nat_le, List, map, if◌then◌else◌, refl}
+use Rattle.std.specs.Prelude.{ℕ, ◌&&◌, not, Bool, List, map, if◌then◌else◌, refl}
 use Rattle.std.specs.Coded.{Coded, code_by, coded×, coded_ℕ}
 use Rattle.std.specs.Ordering.{nat_cmp}
-use Rattle.std.specs.FinSet.{FinSet, empty, contains, insert, len, code}
+use Rattle.std.specs.FinSet.{FinSet, empty, contains, insert, code}
 use Rattle.bloom.specs.Filter.{admits, filter_of}
 use Rattle.set_hash.specs.Fnv.{fnv1a}
 use Rattle.set_hash.specs.Place.{probes_of}
 use Rattle.record_pages.specs.Recs.{Rec}
+use Rattle.entry_pool.specs.Struck.{can_strike}
 
 -- the bits of its filter, the hashes that were struck since its page was written, and the slots that were hit since then
 pub record Notes : Type 0 where
@@ -28,12 +29,12 @@ no_notes = record { filter = empty; strikes = empty; hits = empty }
 abbrev pub lets_show : Notes → ℕ → Bool
 lets_show notes hash = admits notes.filter (probes_of hash) && not (contains notes.strikes hash)
 
--- A strike of a hash. If the filter admits it, it joins the strikes; they are up to eight, and one more forgets the
--- set.
-abbrev pub struck : Notes → ℕ → Notes
-struck notes hash =
+-- A strike of a hash, where a place of the lane's pool is free or not. If the filter admits the hash it joins the strikes;
+-- if there is no room for it the set is forgotten.
+abbrev pub struck : Bool → Notes → ℕ → Notes
+struck free notes hash =
     if not (admits notes.filter (probes_of hash)) then notes
-    else (if nat_le (len (insert notes.strikes hash)) 8 then record notes { strikes = insert notes.strikes hash }
+    else (if can_strike free notes.strikes hash then record notes { strikes = insert notes.strikes hash }
     else no_notes)
 
 -- the record in a slot was hit

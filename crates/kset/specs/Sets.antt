@@ -1,21 +1,24 @@
 -- The sets as memory sees them, and what the calls do to that.
-use Rattle.std.specs.Prelude.{◌≡◌, ◌<◌, ℕ, ◌+◌, ◌%◌, ◌^◌, List, length, replicate, slice_index_or, slice_set, refl}
+use Rattle.std.specs.Prelude.{◌≡◌, ◌<◌, ℕ, ◌+◌, ◌%◌, ◌^◌, Bool, nat_lt, List, [], ◌∷◌, length, replicate, slice_index_or, slice_set, refl}
 use Rattle.std.specs.Coded.{Coded, code_by, coded×, coded_ℕ, coded_list}
+use Rattle.std.specs.FinSet.{len}
 use Rattle.set_hash.specs.Place.{probes_of}
 use Rattle.set_hash.specs.declared.placed.Placed.{Placed}
 use Rattle.record_pages.specs.Recs.{Rec}
 use Rattle.kset.specs.Notes.{Notes, notes_code, no_notes, struck, with_hit, notes_of_page}
 
--- how many set pages this lane tried to write, modulo 2^64, and what is noted of each set
+-- how many set pages this lane tried to write, modulo 2^64, how many strikes there is room for in all sets together, and
+-- what is noted of each set
 pub record SetsState : Type 0 where
   pub writes : ℕ
+  pub places : ℕ
   pub notes : List Notes
 
--- the sets are stored as that number and that list
+-- the sets are stored as these numbers and that list
 abbrev pub sets_code : Coded SetsState
 sets_code =
-    code_by (ℕ × List Notes) (coded× coded_ℕ (coded_list notes_code)) (λ k. (k.writes, k.notes))
-    (λ p. record { writes = p.0; notes = p.1 }) (λ _. refl)
+    code_by (ℕ × (ℕ × List Notes)) (coded× coded_ℕ (coded× coded_ℕ (coded_list notes_code))) (λ k. (k.writes, (k.places, k.notes)))
+    (λ p. record { writes = p.0; places = p.1.0; notes = p.1.1 }) (λ _. refl)
 
 -- how many sets there are
 abbrev pub set_count : SetsState → ℕ
@@ -29,13 +32,22 @@ notes_of k set = slice_index_or k.notes set no_notes
 abbrev pub with_notes : SetsState → ℕ → Notes → SetsState
 with_notes k set notes = record k { notes = slice_set k.notes set notes }
 
--- this many sets, with no filter bit, and no page written so far
-abbrev pub opening_sets : ℕ → SetsState
-opening_sets sets = record { writes = 0; notes = replicate sets no_notes }
+-- this many sets, with room for this many strikes, no filter bit, and no page written so far
+abbrev pub opening_sets : ℕ → ℕ → SetsState
+opening_sets sets places = record { writes = 0; places = places; notes = replicate sets no_notes }
+
+-- how many hashes are struck in these sets together
+abbrev pub strikes_in : List Notes → ℕ
+strikes_in [] = 0
+strikes_in (n ∷ ns) = len n.strikes + strikes_in ns
+
+-- there is a place for one strike more
+abbrev pub has_place : SetsState → Bool
+has_place k = nat_lt (strikes_in k.notes) k.places
 
 -- a hash is struck in a set
 abbrev pub struck_in : SetsState → ℕ → ℕ → SetsState
-struck_in k set hash = with_notes k set (struck (notes_of k set) hash)
+struck_in k set hash = with_notes k set (struck (has_place k) (notes_of k set) hash)
 
 -- a set is forgotten: no filter bit, no strike, no hit
 abbrev pub forgotten : SetsState → ℕ → SetsState

@@ -8,9 +8,8 @@ mod page;
 mod rewritten;
 mod set_read;
 mod set_record;
-mod set_records;
+mod set_table;
 mod sets;
-mod strikes;
 
 pub use laws::{
     forgotten_show_nothing, frames_keep_sets, readings_keep_current, readings_keep_sets,
@@ -19,6 +18,5 @@ pub use laws::{
 pub use located_in_set::LocatedInSet;
 pub use rewritten::Rewritten;
 pub use set_read::SetRead;
-pub use set_record::SetRecord;
-pub use set_records::SetRecords;
+pub use set_record::{SetRecord, SetRecords};
 pub use sets::KSet;

@@ -1,32 +1,31 @@
-// What memory notes of one set.
+// What memory notes of one set, its strikes aside.
 ghost use Rattle.std.specs.Prelude.{◌≡◌, ◌<◌, ◌↔◌, IsTrue};
 ghost use Rattle.std.specs.FinSet as set;
-ghost use Rattle.bloom.specs.Filter.{with_bits};
+ghost use Rattle.bloom.specs.Filter.{admits, with_bits};
 ghost use Rattle.set_hash.specs.Place.{probes_of};
 ghost use Rattle.record_pages.specs.Sizes.{max_set_records};
-ghost use Rattle.kset.specs.Notes.{Notes, notes_code, no_notes, lets_show, struck, with_hit, notes_of_page};
+ghost use Rattle.kset.specs.Notes.{Notes, notes_code, no_notes, with_hit, notes_of_page};
 
-use crate::strikes::Strikes;
 use bloom::Filter;
 use record_pages::{Layout, Records};
 use rriparoo::HitBits;
 use set_hash::{Placed, place};
 use std::marker::Model;
 
-/// What memory notes of one set: its filter, its strikes and its hits.
+/// What memory notes of one set beside its strikes: its filter and its hits.
 #[derive(Debug, Drop)]
 pub(crate) struct SetNotes {
     filter: Filter,
-    strikes: Strikes,
     hits: HitBits,
 }
 
+/// The notes of a set in which nothing is struck.
 impl Model for SetNotes {
     ghost Value = { Notes };
 
     ghost coded = { notes_code };
 
-    ghost view = { λ n. record { filter = n.filter; strikes = n.strikes; hits = n.hits } };
+    ghost view = { λ n. record { filter = n.filter; strikes = set.empty; hits = n.hits } };
 }
 
 impl SetNotes {
@@ -36,7 +35,6 @@ impl SetNotes {
     {
         SetNotes {
             filter: Filter::empty(),
-            strikes: Strikes::empty(),
             hits: HitBits::empty(),
         }
     }
@@ -69,25 +67,12 @@ impl SetNotes {
         self.filter.is_empty()
     }
 
-    /// Whether a key of this place can be in the set.
-    pub(crate) fn lets_show(&self, placed: &Placed) -> bool
+    /// Whether the filter admits a key of this place.
+    pub(crate) fn may_hold(&self, placed: &Placed) -> bool
         requires { placed.now.probes ≡ probes_of placed.now.hash }
-        ensures { result ≡ lets_show self.now placed.now.hash }
+        ensures { result ≡ admits self.now.filter (probes_of placed.now.hash) }
     {
-        self.filter.may_hold(placed.probes) && !self.strikes.has(placed.hash)
-    }
-
-    /// Strikes a key.
-    pub(crate) fn strike(&mut self, placed: &Placed)
-        requires { placed.now.probes ≡ probes_of placed.now.hash }
-        ensures { self.new ≡ struck self.old placed.now.hash }
-    {
-        if !self.filter.may_hold(placed.probes) {
-            return;
-        }
-        if !self.strikes.add(placed.hash) {
-            *self = SetNotes::empty();
-        }
+        self.filter.may_hold(placed.probes)
     }
 
     /// Notes a hit.

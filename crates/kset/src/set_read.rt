@@ -1,4 +1,4 @@
-use crate::set_records::SetRecords;
+use crate::set_record::SetRecords;
 
 /// What a reading of a whole set answers.
 #[derive(Debug, Drop)]

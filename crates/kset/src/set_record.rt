@@ -1,5 +1,5 @@
 // A record of a set.
-use record_pages::Record;
+use record_pages::{ItemList, Record};
 
 /// A visible record of a set.
 #[derive(Debug, Drop, PartialEq, Eq)]
@@ -9,3 +9,6 @@ pub struct SetRecord {
     /// Whether it was hit since the page was written.
     pub hit: bool,
 }
+
+/// The visible records of a set, in page order.
+pub type SetRecords = ItemList<SetRecord>;

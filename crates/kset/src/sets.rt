@@ -1,9 +1,9 @@
 // The sets of a lane.
-ghost use Rattle.std.specs.Prelude.{◌≡◌, ◌≢◌, ◌<◌, ◌≤◌, ℕ, [], List, Option, IfOk, OnErr, length, false};
+ghost use Rattle.std.specs.Prelude.{◌≡◌, ◌≢◌, ◌<◌, ◌≤◌, ◌*◌, ℕ, [], List, Option, IfOk, OnErr, length, true, false};
 ghost use Rattle.record_pages.specs.Sizes.{IsPageSize, max_set_records};
 ghost use Rattle.set_hash.specs.Fnv.{fnv1a};
-ghost use Rattle.kset.specs.Notes.{lets_show};
-ghost use Rattle.kset.specs.Sets.{SetsState, sets_code, set_count, notes_of, opening_sets, struck_in, hit_in, forgotten, IsPlaceIn};
+ghost use Rattle.kset.specs.Notes.{lets_show, struck};
+ghost use Rattle.kset.specs.Sets.{SetsState, sets_code, set_count, notes_of, with_notes, opening_sets, has_place, struck_in, hit_in, forgotten, IsPlaceIn};
 ghost use Rattle.kset.specs.Pages.{AreSpelledOn};
 ghost use Rattle.kset.specs.Shown.{visible_in, visible_from, with_flags};
 ghost use Rattle.kset.specs.Locate.{SetLocates};
@@ -11,12 +11,11 @@ ghost use Rattle.kset.specs.After.{with_set, after_strike};
 ghost use Rattle.kset.specs.Calls.{SetLooks, SetReads, SetRewrites};
 
 use crate::located_in_set::LocatedInSet;
-use crate::notes::SetNotes;
 use crate::page::{page_of, tell};
 use crate::rewritten::Rewritten;
 use crate::set_read::SetRead;
-use crate::set_record::SetRecord;
-use crate::set_records::SetRecords;
+use crate::set_record::{SetRecord, SetRecords};
+use crate::set_table::SetTable;
 use page_device::PageDevice;
 use record_pages::{Key, Layout, Looked, Records, SetPageWriter, Value, ValueBuffer};
 use set_hash::{Placed, place};
@@ -30,8 +29,7 @@ use std::marker::Model;
 #[derive(Debug, Drop)]
 pub struct KSet<const PAGE: usize> {
     layout: Layout,
-    writes: u64,
-    sets: Vec<SetNotes>,
+    sets: SetTable,
 }
 
 impl<const PAGE: usize> Model for KSet<PAGE> {
@@ -39,28 +37,23 @@ impl<const PAGE: usize> Model for KSet<PAGE> {
 
     ghost coded = { sets_code };
 
-    ghost view = { λ k. record { writes = k.writes; notes = k.sets.items } };
-
-    ghost invariant = { λ k. length k.sets.items ≤ 65536 };
+    ghost view = { λ k. k.sets };
 }
 
 impl<const PAGE: usize> KSet<PAGE> {
-    /// The sets of a lane of this layout, all empty, or `AllocError` if memory was refused. All memory that
-    /// strikes, hits and filters need is taken here.
-    pub fn open(alloc: Global, layout: &Layout) -> Result<Self, AllocError>
-        ensures opening { IfOk result (λ k. k ≡ opening_sets layout.now.sets) }
+    /// The sets of a lane of this layout, all empty, with room for this many strikes in all; or `AllocError` if memory was
+    /// refused. All memory that strikes, hits and filters need is taken here: 48 bytes a set, and those of `StrikePool`.
+    pub fn open(alloc: Global, layout: &Layout, strikes: u32) -> Result<Self, AllocError>
+        requires strikes { strikes ≤ 524288 }
+        ensures opening { IfOk result (λ k. k ≡ opening_sets layout.now.sets strikes) }
         ensures shown { IfOk result (λ k.
             (held : ℕ → Option (List ℕ)) → (set : ℕ) → visible_in held k set ≡ []) }
         ensures spelled { IfOk result (λ k.
             (held : ℕ → Option (List ℕ)) → AreSpelledOn PAGE held k) }
     {
-        let mut sets = Vec::with_capacity(alloc, layout.sets as usize)?;
-        for _ in 0..layout.sets {
-            sets.push(SetNotes::empty())?;
-        }
+        let sets = SetTable::open(alloc, layout.sets, strikes)?;
         Ok(KSet {
             layout: *layout,
-            writes: 0,
             sets,
         })
     }
@@ -83,7 +76,7 @@ impl<const PAGE: usize> KSet<PAGE> {
         ensures { SetLocates PAGE D.page_count D.honest D.failures D.held placed.now
             key.now moment self.now device.old found.old result device.new found.new }
     {
-        if !self.notes(placed.set).lets_show(placed) {
+        if !self.sets.lets_show(placed.set, placed) {
             return LocatedInSet::Absent;
         }
         let mut bytes = [0u8; PAGE];
@@ -104,7 +97,7 @@ impl<const PAGE: usize> KSet<PAGE> {
         ensures spelled { (held : ℕ → Option (List ℕ)) → AreSpelledOn PAGE held self.old →
             AreSpelledOn PAGE held self.new }
     {
-        self.sets[set as usize].hit(slot);
+        self.sets.hit(set, slot);
     }
 
     /// The value of the first visible record of a key, if it is live at the moment: its slot is noted as hit.
@@ -140,21 +133,25 @@ impl<const PAGE: usize> KSet<PAGE> {
         }
     }
 
-    /// Strikes a key: if the filter admits it, its hash joins the strikes of the set. A hash that is there adds
-    /// none, and a ninth distinct one forgets the set.
+    /// Strikes a key: if the filter admits it, its hash joins the strikes of the set. A hash that is there adds none. A ninth
+    /// distinct one forgets the set, and so does one for which the lane has no room; with room for eight a set there is always
+    /// some.
     pub fn strike(&mut self, placed: &Placed)
         requires { IsPlaceIn self.old placed.now }
         ensures struck { self.new ≡ struck_in self.old placed.now.set placed.now.hash }
+        ensures ample { 8 * set_count self.old ≤ self.old.places →
+            self.new ≡ with_notes self.old placed.now.set
+            (struck true (notes_of self.old placed.now.set) placed.now.hash) }
         ensures sizes { set_count self.new ≡ set_count self.old }
         ensures hidden { lets_show (notes_of self.new placed.now.set) placed.now.hash ≡ false }
         ensures shown { (held : ℕ → Option (List ℕ)) → visible_in held self.new
             ≡ with_set (visible_in held self.old) placed.now.set
-            (after_strike (notes_of self.old placed.now.set) placed.now.hash
+            (after_strike (has_place self.old) (notes_of self.old placed.now.set) placed.now.hash
             (visible_in held self.old placed.now.set)) }
         ensures spelled { (held : ℕ → Option (List ℕ)) → AreSpelledOn PAGE held self.old →
             AreSpelledOn PAGE held self.new }
     {
-        self.sets[placed.set as usize].strike(placed);
+        self.sets.strike(placed);
     }
 
     /// Forgets a set: its filter, its strikes and its hits become empty.
@@ -167,7 +164,7 @@ impl<const PAGE: usize> KSet<PAGE> {
         ensures spelled { (held : ℕ → Option (List ℕ)) → AreSpelledOn PAGE held self.old →
             AreSpelledOn PAGE held self.new }
     {
-        self.sets[set as usize] = SetNotes::empty();
+        self.sets.forget(set);
     }
 
     /// The visible records of a set, in page order, each with whether it was hit: no more than a page holds, whatever
@@ -185,7 +182,7 @@ impl<const PAGE: usize> KSet<PAGE> {
         ensures { SetReads PAGE D.page_count D.honest D.failures D.held set self.old
             device.old result self.new device.new }
     {
-        if self.notes(set).is_empty() {
+        if self.sets.is_empty(set) {
             return Ok(SetRead::Records(SetRecords::new(alloc)));
         }
         let mut bytes = [0u8; PAGE];
@@ -195,7 +192,7 @@ impl<const PAGE: usize> KSet<PAGE> {
         let Some(page) = page_of(&bytes, set) else {
             return Ok(self.lose(set));
         };
-        let records = visible(alloc, &self.layout, self.notes(set), page.records())?;
+        let records = visible(alloc, &self.layout, &self.sets, set, page.records())?;
         Ok(SetRead::Records(records))
     }
 
@@ -214,14 +211,14 @@ impl<const PAGE: usize> KSet<PAGE> {
         ensures { SetRewrites PAGE D.page_count D.honest D.failures D.held set writer.now
             self.old device.old result self.new device.new }
     {
-        self.writes = self.writes.wrapping_add(1);
+        let number = self.sets.count_write();
         let mut bytes = [0u8; PAGE];
-        writer.text(set, self.writes, &mut bytes);
+        writer.text(set, number, &mut bytes);
         let Ok(()) = device.write(set, &bytes) else {
             self.forget(set);
             return Rewritten::Forgotten;
         };
-        self.sets[set as usize] = SetNotes::of_page(&self.layout, writer.records());
+        self.sets.note_page(&self.layout, set, writer.records());
         Rewritten::Written
     }
 
@@ -236,28 +233,22 @@ impl<const PAGE: usize> KSet<PAGE> {
         self.forget(lost);
         SetRead::PageLost
     }
-
-    // What is noted of a set.
-    fn notes(&self, set: u32) -> &SetNotes
-        requires { set < set_count self.now }
-        ensures { result.now ≡ notes_of self.now set }
-    {
-        &self.sets[set as usize]
-    }
 }
 
 // The visible ones of these records, each with whether its slot was hit.
 fn visible(
     alloc: Global,
     layout: &Layout,
-    notes: &SetNotes,
+    sets: &SetTable,
+    set: u32,
     mut records: Records<'_>,
 ) -> Result<SetRecords, AllocError>
-    requires { length records ≤ max_set_records }
+    requires few { length records ≤ max_set_records }
+    requires set { set < set_count sets.now }
     ensures visible { IfOk result (λ rs.
-        rs ≡ with_flags notes.now (visible_from notes.now 0 records.entry)) }
+        rs ≡ with_flags (notes_of sets.now set) (visible_from (notes_of sets.now set) 0 records.entry)) }
     ensures few { IfOk result (λ rs. length rs ≤ max_set_records) }
-    ensures short { OnErr result (visible_from notes.now 0 records.entry ≢ []) }
+    ensures short { OnErr result (visible_from (notes_of sets.now set) 0 records.entry ≢ []) }
 {
     let mut visible = SetRecords::new(alloc);
     for slot in 0..records.len() {
@@ -265,9 +256,9 @@ fn visible(
             unreachable!();
         };
         let placed = place(layout, lent.key);
-        if notes.lets_show(&placed) {
+        if sets.lets_show(set, &placed) {
             let stored = lent.to_record(alloc)?;
-            let hit = notes.was_hit(slot);
+            let hit = sets.was_hit(set, slot);
             visible.push(SetRecord { stored, hit })?;
         }
     }

@@ -4,7 +4,7 @@ use Rattle.set_hash.specs.declared.placed.Placed.{Placed}
 use Rattle.klog_index.specs.Entries.{has_tag, without}
 use Rattle.klog.specs.Log.{LogState, with_list}
 use Rattle.klog.specs.Shown.{live_on}
-use Rattle.kset.specs.Sets.{SetsState, notes_of, struck_in}
+use Rattle.kset.specs.Sets.{SetsState, notes_of, has_place, struck_in}
 use Rattle.kset.specs.Shown.{visible_in}
 use Rattle.kset.specs.After.{after_strike, with_set}
 use Rattle.mover.specs.Flight.{Flight, flight_struck}
@@ -29,7 +29,7 @@ pub lane_struck : {D : Type 0} (held : D → ℕ → Option (List ℕ)) (s : Sto
     k ≡ with_list s.log (without (has_tag at.set at.tag) s.log.entries) →
     live_on (held s.device) k ≡ filter (λ x. not (has_tag at.set at.tag x.0)) (live_on (held s.device) s.log) →
     q ≡ struck_in s.sets at.set at.hash →
-    visible_in (held s.device) q ≡ with_set (visible_in (held s.device) s.sets) at.set (after_strike (notes_of s.sets at.set) at.hash (visible_in (held s.device) s.sets at.set)) →
+    visible_in (held s.device) q ≡ with_set (visible_in (held s.device) s.sets) at.set (after_strike (has_place s.sets) (notes_of s.sets at.set) at.hash (visible_in (held s.device) s.sets at.set)) →
     fs ≡ map (flight_struck at.hash) s.flights →
     lane_of held (record s { log = k; sets = q; flights = fs }) ≡ struck_at at (lane_of held s)
 lane_struck held s at k q fs log live sets shown flights =

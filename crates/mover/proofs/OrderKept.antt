@@ -25,7 +25,7 @@ use Rattle.klog.specs.Append.{entering, entry_for, taker, is_full}
 use Rattle.klog.specs.Look.{live_lowered}
 use Rattle.klog.specs.Names.{flushed_number}
 use Rattle.klog.specs.Flush.{FlushGives, live_flushed, is_page_lost, is_on_page, without_next}
-use Rattle.kset.specs.Sets.{hit_in, notes_of}
+use Rattle.kset.specs.Sets.{hit_in, notes_of, has_place}
 use Rattle.kset.specs.Shown.{first_visible}
 use Rattle.kset.specs.Laws.{AreOfTheirSets}
 use Rattle.kset.proofs.public_laws.MovingLaws.{strikes_keep}
@@ -127,7 +127,7 @@ module _ (lane : LaneState) (was : IsInOrder lane) where
   struck_kept_order key =
       let at = place_in lane.log.shape key in
       in_order lane (struck key lane) refl (All-filter (λ (x : Entry × Rec). not (has_tag at.set at.tag x.0)) (IsRightly lane.log.shape) lane.live was.placed.log)
-      (strikes_keep lane.log.shape.lanes lane.log.shape.sets at.set at.hash (notes_of lane.sets at.set) lane.visible was.placed.sets)
+      (strikes_keep lane.log.shape.lanes lane.log.shape.sets at.set at.hash (has_place lane.sets) (notes_of lane.sets at.set) lane.visible was.placed.sets)
       (struck_placed at.hash lane.log.shape lane.flights was.placed.flight) (struck_marked at.hash lane.log.shape lane.flights was.marked)
 
   -- and a record that is to enter the log

@@ -1,5 +1,5 @@
 -- Laws of a lane's steps: which pairs each shows, and that each record stays if it belongs.
-use Rattle.std.specs.Prelude.{◌≡◌, ◌≤◌, ℕ, List, map, Option, Some, None, All}
+use Rattle.std.specs.Prelude.{◌≡◌, ◌≤◌, ◌*◌, ℕ, List, map, Option, Some, None, All}
 use Rattle.record_pages.specs.Recs.{Rec}
 use Rattle.record_pages.specs.declared.answer.Answer.{Answer}
 use Rattle.record_pages.specs.declared.layout.Layout.{Layout}
@@ -18,7 +18,7 @@ use Rattle.mover.specs.declared.committed.Committed.{Committed}
 use Rattle.mover.specs.declared.mark.Mark.{Mark}
 use Rattle.mover.specs.declared.moved_whole.MovedWhole.{MovedWhole}
 use Rattle.mover.specs.declared.moved_whole.MovedWhole.TheVariants as moved
-use Rattle.mover.specs.Store.{opening}
+use Rattle.mover.specs.Store.{opening_with}
 use Rattle.mover.specs.Flight.{Flight, AreFlights, records_of}
 use Rattle.mover.specs.Lane.{LaneState, lane_of}
 use Rattle.mover.specs.Visible.{IsShown, ShowsFrom, IsPlaced, TellsVisible}
@@ -46,9 +46,13 @@ pub record StepsInOrder (struck : Option (List ℕ)) (put : Option Pair) (old ne
   pub order : IsInOrder new
   pub shape : new.log.shape ≡ old.log.shape
 
--- the lane of a store that was just opened over a device that holds these pages
+-- the lane of a store that was just opened, with room for this many strikes, over a device that holds these pages
+abbrev pub opening_lane_with : ℕ → Layout → (ℕ → Option (List ℕ)) → LaneState
+opening_lane_with strikes layout pages = lane_of (λ (held : ℕ → Option (List ℕ)). held) (opening_with strikes layout pages)
+
+-- with room for eight strikes a set
 abbrev pub opening_lane : Layout → (ℕ → Option (List ℕ)) → LaneState
-opening_lane layout pages = lane_of (λ (held : ℕ → Option (List ℕ)). held) (opening layout pages)
+opening_lane layout pages = opening_lane_with (8 * layout.sets) layout pages
 
 -- a get shows nothing that was not shown, and a hit is the value of a visible pair that is live at its moment
 abbrev pub GetShows : Type 0
@@ -130,11 +134,12 @@ WholeMoveShows =
     → MoveGives size least plan_of old answer new
     → StepsInOrder None None old new
 
--- a lane that was just opened is in order and shows nothing, whatever the pages of its device hold
+-- a lane that was just opened is in order and shows nothing, however many strikes there is room for, and whatever the pages of
+-- its device hold
 abbrev pub OpeningShowsNothing : Type 0
 OpeningShowsNothing =
-    (pages : ℕ → Option (List ℕ)) (layout : Layout)
-    → IsInOrder (opening_lane layout pages) × ((p : Pair) → ¬ IsShown (opening_lane layout pages) p)
+    (strikes : ℕ) (pages : ℕ → Option (List ℕ)) (layout : Layout)
+    → IsInOrder (opening_lane_with strikes layout pages) × ((p : Pair) → ¬ IsShown (opening_lane_with strikes layout pages) p)
 
 -- a lane whose records lie where they belong, and whose moves in flight are its own, is in order; so each store's is
 abbrev pub StoresAreInOrder : Type 0

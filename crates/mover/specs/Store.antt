@@ -56,17 +56,21 @@ pub record IsStore {D : Type 0} (size : ℕ) (pages : D → ℕ) (honest : D →
 abbrev pub IsTooSmall : Config → ℕ → Type 0
 IsTooSmall c count = count < c.sets + c.segments * c.segment_pages
 
--- a store that was just opened: nothing in memory, in the log or in a set
-abbrev pub opening : {D : Type 0} → Layout → D → StoreState D
-opening layout device = record {
+-- a store that was just opened, with room for this many strikes: nothing in memory, in the log or in a set
+abbrev pub opening_with : {D : Type 0} → ℕ → Layout → D → StoreState D
+opening_with strikes layout device = record {
   layout = layout;
   device = device;
   memory = empty layout.memory;
   log = opening_log (shape_of layout);
-  sets = opening_sets layout.sets;
+  sets = opening_sets layout.sets strikes;
   flights = [];
   moves = 0;
 }
+
+-- with room for eight strikes a set, so that no set is forgotten for want of it
+abbrev pub opening : {D : Type 0} → Layout → D → StoreState D
+opening layout device = opening_with (8 * layout.sets) layout device
 
 -- a call that writes no page, and in which the device may have failed once
 pub record OnlyReads {D : Type 0} (honest : D → Bool) (failures : D → ℕ) (held : D → ℕ → Option (List ℕ)) (old : StoreState D) (failed : Bool) (new : StoreState D) : Type 0 where

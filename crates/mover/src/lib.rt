@@ -28,4 +28,4 @@ pub use laws::{
 };
 pub use moved_whole::MovedWhole;
 pub use open_fault::OpenFault;
-pub use store::Store;
+pub use store::{Store, strikes_for_all};

@@ -1,5 +1,5 @@
 // The store of a lane.
-ghost use Rattle.std.specs.Prelude.{◌≡◌, IfOk, OnOk, IfErr, length};
+ghost use Rattle.std.specs.Prelude.{◌≡◌, ◌≤◌, ◌*◌, IfOk, OnOk, IfErr, length};
 ghost use Rattle.record_pages.specs.Asked.{HasNumbersOf};
 ghost use Rattle.klog.specs.Usage.{usage_of};
 
@@ -76,7 +76,7 @@ impl<D: PageDevice<PAGE>, const PAGE: usize> Store<D, PAGE> {
     ghost use Rattle.record_pages.specs.Asked.{layout_pages};
     ghost use Rattle.record_pages.specs.Sizes.{IsPageSize};
     ghost use Rattle.mover.specs.declared.open_fault.OpenFault.{OpenFault};
-    ghost use Rattle.mover.specs.Store.{opening, IsStore};
+    ghost use Rattle.mover.specs.Store.{opening, opening_with, IsStore};
     ghost use Rattle.mover.specs.Opening.{CanServe, RefusesStore};
     ghost use Rattle.mover.specs.Lane.{lane_of};
     ghost use Rattle.mover.specs.Laws.{IsInOrder};
@@ -90,7 +90,8 @@ impl<D: PageDevice<PAGE>, const PAGE: usize> Store<D, PAGE> {
         ensures refused { IfErr result (RefusesStore PAGE config.now (D.page_count device)) }
     {
         let layout = Self::layout_for(config, &device)?;
-        let store = Self::with_layout(alloc, &layout, device, RandomSeed::fixed())?;
+        let strikes = strikes_for_all(&layout);
+        let store = Self::with_layout(alloc, &layout, strikes, device, RandomSeed::fixed())?;
         Ok(store)
     }
 
@@ -114,21 +115,24 @@ impl<D: PageDevice<PAGE>, const PAGE: usize> Store<D, PAGE> {
     }
 
     /// An empty store of this layout over a device that has its pages, or `AllocError`, with which the device is
-    /// dropped. Nothing is tested again. The table of its memory hashes by this seed: anyone who does not know it
-    /// cannot pick keys that collide there.
+    /// dropped. Nothing is tested again. All its sets together have room for this many strikes; one for which there is none
+    /// forgets its set. The table of its memory hashes by the seed: anyone who does not know it cannot pick keys that
+    /// collide there.
     pub fn with_layout(
         alloc: Global,
         layout: &Layout,
+        strikes: u32,
         device: D,
         seed: RandomSeed,
     ) -> Result<Self, AllocError>
         requires page_size { IsPageSize PAGE }
+        requires strikes { strikes ≤ 524288 }
         requires room { layout_pages layout.now ≤ D.page_count device }
-        ensures { IfOk result (λ s. s ≡ opening layout.now device) }
+        ensures { IfOk result (λ s. s ≡ opening_with strikes layout.now device) }
     {
         let memory = MemoryCache::with_seed(alloc, layout.memory, seed)?;
         let log = KLog::open(alloc, layout)?;
-        let sets = KSet::open(alloc, layout)?;
+        let sets = KSet::open(alloc, layout, strikes)?;
         let flights = Flights::open(alloc)?;
         Ok(Store {
             alloc,
@@ -182,4 +186,12 @@ impl<D: PageDevice<PAGE>, const PAGE: usize> Store<D, PAGE> {
     {
         self.device
     }
+}
+
+/// Room for as many strikes as all sets of a layout can have: eight a set, so that none is forgotten for want of room.
+pub fn strikes_for_all(layout: &Layout) -> u32
+    ensures strikes { result ≡ 8 * layout.now.sets }
+    ensures bounded { result ≤ 524288 }
+{
+    8 * layout.sets
 }

@@ -1,5 +1,5 @@
 // One kept item of a plan.
-use record_pages::Prediction;
+use record_pages::{ItemList, Prediction};
 
 /// An item that is kept, and the prediction that it is written with.
 #[derive(Clone, Copy, Debug, PartialEq, Eq)]
@@ -9,3 +9,6 @@ pub struct Choice {
     /// Its new prediction.
     pub prediction: Prediction,
 }
+
+/// The items that are kept, in the order in which they are written. All others are left out.
+pub type Plan = ItemList<Choice>;

@@ -5,9 +5,9 @@ ghost use Rattle.policy_laws.specs.Fifo.{fifo_candidate, fifo_plan};
 ghost use Rattle.policy_laws.specs.Laws.{IsLawful};
 
 use crate::candidate::Candidate;
+use crate::choice::Plan;
 use crate::item::Item;
 use crate::job::Job;
-use crate::plan::Plan;
 use crate::policy::EvictionPolicy;
 use crate::rank::Rank;
 use crate::ranking::plan_by_rank;

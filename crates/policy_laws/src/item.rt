@@ -1,5 +1,5 @@
 // One of the items between which a policy chooses.
-use record_pages::Prediction;
+use record_pages::{ItemList, Prediction};
 
 /// What a policy knows of an item: no key, no value.
 #[derive(Clone, Copy, Debug, PartialEq, Eq)]
@@ -13,3 +13,6 @@ pub struct Item {
     /// Whether it comes from the log. An old item comes from the set's page.
     pub fresh: bool,
 }
+
+/// The items of a job. The number of an item is its index here.
+pub type Items = ItemList<Item>;

@@ -1,5 +1,5 @@
 // The rewrite of one set.
-use crate::items::Items;
+use crate::item::Items;
 
 /// The rewrite of one set, of which a policy makes a plan.
 #[derive(Debug, Drop)]

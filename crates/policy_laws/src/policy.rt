@@ -4,8 +4,8 @@ ghost use Rattle.policy_laws.specs.declared.job.Job.{Job};
 ghost use Rattle.policy_laws.specs.declared.choice.Choice.{Choice};
 ghost use Rattle.policy_laws.specs.Laws.{IsLawful};
 
+use crate::choice::Plan;
 use crate::job::Job;
-use crate::plan::Plan;
 use std::alloc::{AllocError, Global};
 
 /// A policy that decides which items of a job are kept.

@@ -3,8 +3,7 @@ ghost use Rattle.std.specs.Prelude.{◌≡◌, ◌≢◌, IfOk, AllPairs};
 ghost use Rattle.policy_laws.specs.Rank.{KeepsByRank, by_rank, plan_by_rank as plan_of};
 
 use crate::candidate::Candidate;
-use crate::choice::Choice;
-use crate::plan::Plan;
+use crate::choice::{Choice, Plan};
 use record_pages::MAX_SET_RECORDS;
 use std::alloc::{AllocError, Global};
 

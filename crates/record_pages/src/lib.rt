@@ -1,5 +1,5 @@
 //! Keys, values, records, pages, the answers of a cache and its configuration: the words that all layers share. Also
-//! the room for a value, and laws of sets of numbers that are bits of words.
+//! lists of items, the room for a value, and laws of sets of numbers that are bits of words.
 #![tactic(auto)]
 
 mod answer;
@@ -10,6 +10,7 @@ mod encode;
 mod field;
 mod form;
 mod front;
+mod item_list;
 mod key;
 mod layout;
 mod limits;
@@ -37,6 +38,7 @@ pub use buffer::ValueBuffer;
 pub use config::{Config, ConfigFault};
 pub use encode::{encode_log_page, encode_set_page, fits};
 pub use field::Field;
+pub use item_list::ItemList;
 pub use key::{Key, KeyFault};
 pub use layout::Layout;
 pub use limits::{

@@ -21,7 +21,7 @@ use crate::record_put_fault::RecordPutFault;
 use crate::recorded_parts::RecordedParts;
 use deeds::{DeedStore, act_lent};
 use key_hash::RandomSeed;
-use mover::{OpenFault, Store};
+use mover::{OpenFault, Store, strikes_for_all};
 use page_device::PageDevice;
 use record_pages::{Answer, Config, Key, Layout, Pushed, Value, is_too_large};
 use std::alloc::{AllocError, Global};
@@ -104,7 +104,8 @@ impl<D: PageDevice<PAGE>, const PAGE: usize> RecordedLane<D, PAGE> {
           calls = [];
         }) }
     {
-        let store = DeedStore::with_layout(alloc, layout, device, RandomSeed::fixed())?;
+        let strikes = strikes_for_all(layout);
+        let store = DeedStore::with_layout(alloc, layout, strikes, device, RandomSeed::fixed())?;
         Ok(RecordedLane {
             store,
             lane,

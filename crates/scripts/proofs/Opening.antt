@@ -1,5 +1,5 @@
 -- A lane over a blank device is the empty lane of its configuration.
-use Rattle.std.proofs.Common.{◌≡◌, ℕ, zero, suc, false, List, [], ◌∷◌, replicate, slice_index_or, ◌+◌, Option, refl, ap, ◌∙◌}
+use Rattle.std.proofs.Common.{◌≡◌, ℕ, zero, suc, false, List, [], ◌∷◌, replicate, slice_index_or, ◌+◌, ◌*◌, Option, refl, ap, ◌∙◌}
 use Rattle.std.specs.Ordering.{nat_cmp}
 use Rattle.std.specs.FinSet.{contains-empty}
 use Rattle.record_pages.specs.Recs.{Rec}
@@ -28,15 +28,15 @@ nothing_noted (suc sets) zero = refl
 nothing_noted (suc sets) (suc set) = nothing_noted sets set
 
 -- if nothing was written nothing is visible
-nothing_visible : (held : ℕ → Option (List ℕ)) (sets set : ℕ) → visible_in held (opening_sets sets) set ≡ []
-nothing_visible held sets set =
-    ap (λ notes. visible_from notes 0 (page_records held (opening_sets sets) set)) (nothing_noted sets set)
-    ∙ none_visible 0 (page_records held (opening_sets sets) set)
+nothing_visible : (held : ℕ → Option (List ℕ)) (sets strikes set : ℕ) → visible_in held (opening_sets sets strikes) set ≡ []
+nothing_visible held sets strikes set =
+    ap (λ notes. visible_from notes 0 (page_records held (opening_sets sets strikes) set)) (nothing_noted sets set)
+    ∙ none_visible 0 (page_records held (opening_sets sets strikes) set)
 
-blank : (held : ℕ → Option (List ℕ)) (sets : ℕ) → visible_in held (opening_sets sets) ≡ (λ set. [])
-blank held sets = λ i set. nothing_visible held sets set i
+blank : (held : ℕ → Option (List ℕ)) (sets strikes : ℕ) → visible_in held (opening_sets sets strikes) ≡ (λ set. [])
+blank held sets strikes = λ i set. nothing_visible held sets strikes set i
 
 pub opens : (layout : Layout) (config : Config) (pages : Pages) → HasNumbersOf layout config → seen_of (record { store = opening layout pages; lane = 0; calls = [] }) ≡ opened_by config
 opens layout config pages has =
     rw (has.lanes, has.sets, has.memory, has.segments, has.segment_pages, has.entries, has.threshold, has.admit)
-    (ap (λ visible. record (opened_by config) { lane = record (opened_by config).lane { visible = visible } }) (blank (held_by pages) config.sets))
+    (ap (λ visible. record (opened_by config) { lane = record (opened_by config).lane { visible = visible } }) (blank (held_by pages) config.sets (8 * config.sets)))

@@ -8,10 +8,9 @@ use Rattle.key_hash.specs.declared.random_seed.RandomSeed.{RandomSeed}
 use Rattle.key_hash.specs.Hashing.{derived}
 use Rattle.rand_pcg.specs.Lcg.{Lcg}
 use Rattle.page_device.specs.Counting.{CountedDevice, no_device_counts}
-use Rattle.mover.specs.Store.{opening}
 use Rattle.service_lane.specs.Counting.{no_counts, counts_stale, with_given}
 use Rattle.service_lane.specs.Leases.{no_writes, writes_for}
-use Rattle.service_lane.specs.Serving.{Serving, Gets}
+use Rattle.service_lane.specs.Serving.{Serving, Gets, opening_to_serve}
 use Rattle.service_lane.specs.WithHelp.{FillsAndHelps}
 use Rattle.service_lane.specs.declared.filled.Filled.{Filled}
 use Rattle.service_lane.specs.declared.filled.Filled.TheVariants.{Stored, Stale}
@@ -45,7 +44,7 @@ IsAsSaid said honest held = IsTrue (said held.lane.register.number) → IsTrue (
 -- sorted by the cache's seed for the number
 abbrev pub new_lane : {D : Type 0} → Layout → ℕ → RandomSeed → ℕ → D → Serving (CountedDevice D)
 new_lane layout lease_slots seed number device = record {
-  store = opening layout (record { device = device; counts = no_device_counts });
+  store = opening_to_serve layout (record { device = device; counts = no_device_counts });
   deeds = [];
   slots = no_writes (derived seed number) lease_slots;
   counts = no_counts;

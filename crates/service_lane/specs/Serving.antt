@@ -10,7 +10,9 @@ use Rattle.deeds.specs.Sound.{act_of}
 use Rattle.record_pages.specs.declared.answer.Answer.{Answer}
 use Rattle.record_pages.specs.declared.config.Config.{Config}
 use Rattle.mover.specs.Opening.{RefusesStore}
-use Rattle.mover.specs.Store.{StoreState}
+use Rattle.mover.specs.Store.{StoreState, opening_with}
+use Rattle.record_pages.specs.declared.layout.Layout.{Layout}
+use Rattle.cache_sizes.specs.Memory.{strikes_of}
 use Rattle.certificate_checker.specs.Deeds.{Deed}
 use Rattle.service_lane.specs.declared.counts.Counts.{Counts}
 use Rattle.service_lane.specs.declared.filled.Filled.{Filled}
@@ -25,6 +27,10 @@ pub record Serving (D : Type 0) : Type 0 where
   pub deeds : List Deed
   pub slots : LeaseSlots
   pub counts : Counts
+
+-- a store that was just opened to serve: with room for as many strikes as a lane has that serves
+abbrev pub opening_to_serve : {D : Type 0} → Layout → D → StoreState D
+opening_to_serve layout device = opening_with (strikes_of layout.sets) layout device
 
 -- When each refusal to open a lane comes, over a device of this many pages: there is no slot; else those of a store.
 abbrev pub RefusesLane : ℕ → Config → ℕ → ℕ → OpenLaneFault → Type 0

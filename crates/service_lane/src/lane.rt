@@ -3,12 +3,12 @@ ghost use Rattle.std.specs.Prelude.{◌≡◌, ◌≤◌, [], length, IfOk, OnOk
 ghost use Rattle.klog.specs.Usage.{usage_of};
 ghost use Rattle.record_pages.specs.Asked.{HasNumbersOf, layout_pages};
 ghost use Rattle.record_pages.specs.Sizes.{IsPageSize};
-ghost use Rattle.mover.specs.Store.{opening};
 ghost use Rattle.mover.specs.Opening.{CanServe};
 
 use crate::counts::Counts;
 use crate::open_lane_fault::OpenLaneFault;
 use crate::slots::Slots;
+use cache_sizes::strikes_of;
 use deeds::DeedStore;
 use key_hash::RandomSeed;
 use klog::LogUsage;
@@ -59,10 +59,11 @@ impl<D: PageDevice<PAGE>, const PAGE: usize> ServiceLane<D, PAGE> {
     ghost use Rattle.service_lane.specs.Asked.{IsServed};
     ghost use Rattle.service_lane.specs.Counting.{no_counts};
     ghost use Rattle.service_lane.specs.Leases.{AreCounted, no_writes};
-    ghost use Rattle.service_lane.specs.Serving.{RefusesLane};
+    ghost use Rattle.service_lane.specs.Serving.{opening_to_serve, RefusesLane};
 
     /// An empty lane with this many slots for leases, over a device. Its refusals are tested in the order of
-    /// `OpenLaneFault`, those of the store in that of `Store::open`, and the device is dropped with each.
+    /// `OpenLaneFault`, those of the store in that of `Store::open`, and the device is dropped with each. Its sets have room
+    /// for as many strikes together as `cache_sizes::strikes_of` says; one for which there is none forgets its set.
     ///
     /// The seed is that of the table of the objects in memory, and that by which keys have their slots. Draw it at random if
     /// strangers pick keys: anyone who knows it can pick keys that collide there.
@@ -75,7 +76,7 @@ impl<D: PageDevice<PAGE>, const PAGE: usize> ServiceLane<D, PAGE> {
     ) -> Result<Self, OpenLaneFault>
         ensures opening { IfOk result (λ opened. HasNumbersOf opened.store.layout config.now
             × (opened ≡ record {
-              store = opening opened.store.layout device;
+              store = opening_to_serve opened.store.layout device;
               deeds = [];
               slots = no_writes seed lease_slots;
               counts = no_counts;
@@ -108,13 +109,14 @@ impl<D: PageDevice<PAGE>, const PAGE: usize> ServiceLane<D, PAGE> {
         requires slots { 1 ≤ lease_slots }
         requires room { layout_pages layout.now ≤ D.page_count device }
         ensures { IfOk result (λ lane. lane ≡ record {
-          store = opening layout.now device;
+          store = opening_to_serve layout.now device;
           deeds = [];
           slots = no_writes seed lease_slots;
           counts = no_counts;
         }) }
     {
-        let asked = DeedStore::with_layout(alloc, layout, device, seed)?;
+        let strikes = strikes_of(layout.sets);
+        let asked = DeedStore::with_layout(alloc, layout, strikes, device, seed)?;
         let slots = Slots::open(alloc, seed, lease_slots)?;
         Ok(ServiceLane {
             asked,

@@ -7,12 +7,12 @@ mod blank_device;
 mod made;
 mod planned_device;
 mod stale;
-mod wanted;
+mod wanted_look;
 mod without_random;
 
 pub use blank_device::BlankDevice;
 pub use made::{key, value};
 pub use planned_device::{DeviceCall, PlannedDevice};
 pub use stale::StaleDevice;
-pub use wanted::Wanted;
+pub use wanted_look::WantedLook;
 pub use without_random::WithoutRandom;

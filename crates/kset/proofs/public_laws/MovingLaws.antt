@@ -15,7 +15,7 @@ use Rattle.std.specs.Prelude.{Ok, Err}
 use Rattle.kset.specs.Sets.{notes_of}
 use Rattle.kset.specs.Pages.{AreSpelled, records_on}
 use Rattle.kset.specs.Shown.{visible_from}
-use Rattle.kset.specs.After.{with_set, is_one_too_many, without_hash, after_strike}
+use Rattle.kset.specs.After.{with_set, is_forgetting, without_hash, after_strike}
 use Rattle.kset.specs.Laws.{StrikesKeepSets, ReadingsKeepSets, RewritingsKeepSets, IsCurrent, StrikesKeepCurrent, ReadingsKeepCurrent, RewritingsKeepCurrent, FramesKeepSets}
 use Rattle.record_pages.specs.declared.timed_value.TimedValue.{TimedValue}
 
@@ -35,7 +35,7 @@ all_slots P rs all = λ n d h.
     subst (λ (x : ℕ × Rec). P x.1) (sym (get_or-enumerate_from 0 rs n d within)) (all n d.1 within)
 
 pub strikes_keep : StrikesKeepSets
-strikes_keep lanes sets set hash notes visible all = all_with P visible set (after_strike notes hash (visible set)) (λ other _. all other) (struck (is_one_too_many notes hash))
+strikes_keep lanes sets set hash free notes visible all = all_with P visible set (after_strike free notes hash (visible set)) (λ other _. all other) (struck (is_forgetting free notes hash))
   where
     P : ℕ → ℕ × Rec → Type 0
     P s x = (placed_of lanes sets (fnv1a x.1.key)).set ≡ s
@@ -61,8 +61,8 @@ other_key : (lanes sets : ℕ) (was is : List ℕ → Option TimedValue) (key : 
 other_key lanes sets was is key same set r current differs = record { now = same r.key differs ∙ current.now; its = current.its }
 
 pub strikes_keep_now : StrikesKeepCurrent
-strikes_keep_now lanes sets was is key set notes visible its same all =
-    all_with (λ s (x : ℕ × Rec). IsCurrent lanes sets is s x.1) visible set (after_strike notes (fnv1a key) (visible set)) elsewhere (struck (is_one_too_many notes (fnv1a key)))
+strikes_keep_now lanes sets was is key set free notes visible its same all =
+    all_with (λ s (x : ℕ × Rec). IsCurrent lanes sets is s x.1) visible set (after_strike free notes (fnv1a key) (visible set)) elsewhere (struck (is_forgetting free notes (fnv1a key)))
   where
     -- in another set no record has the key
     elsewhere : (other : ℕ) → other ≢ set → All (λ (x : ℕ × Rec). IsCurrent lanes sets is other x.1) (visible other)

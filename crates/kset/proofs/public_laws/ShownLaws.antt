@@ -2,8 +2,8 @@
 use Rattle.std.proofs.Common.{◌≡◌, ◌≢◌, ℕ, ◌<◌, Bool, true, false, ◌&&◌, ◌||◌, not, cond, eqb, zero, suc, List, [], ◌∷◌, filter, replicate, Option, None, Ok, ⊎_elim, refl, sym, ap, subst, ◌∙◌}
 use Rattle.std.proofs.lemmas.Bool.{cases_eq, eqb-true, eqb-false}
 use Rattle.std.proofs.lemmas.List.{length-set, get_or-set_other}
-use Rattle.std.specs.Prelude.{nat_le, nat_lt, slice_index_or}
-use Rattle.std.specs.FinSet.{contains, insert, len}
+use Rattle.std.specs.Prelude.{nat_lt, slice_index_or}
+use Rattle.std.specs.FinSet.{contains, insert}
 use Rattle.bloom.specs.Filter.{admits}
 use Rattle.record_pages.proofs.public_laws.PassingLaws.{contains-insert_nat}
 use Rattle.page_device.specs.Frames.{pages_before}
@@ -13,7 +13,8 @@ use Rattle.record_pages.specs.Recs.{Rec}
 use Rattle.kset.specs.declared.set_read.SetRead.{SetRead}
 use Rattle.kset.specs.declared.set_read.SetRead.TheVariants.{PageLost}
 use Rattle.kset.specs.Notes.{Notes, no_notes, lets_show, struck, with_hit}
-use Rattle.kset.specs.Sets.{SetsState, set_count, notes_of, with_notes, struck_in, forgotten, tried, hit_in}
+use Rattle.entry_pool.specs.Struck.{can_strike}
+use Rattle.kset.specs.Sets.{SetsState, set_count, notes_of, with_notes, has_place, struck_in, forgotten, tried, hit_in}
 use Rattle.kset.specs.Pages.{page_records, records_on}
 use Rattle.kset.specs.Shown.{is_visible, visible_from, visible_in}
 use Rattle.kset.specs.After.{with_set, without_hash, after_strike, shown_after_reading}
@@ -137,13 +138,13 @@ without_denied notes hash slot rs denied =
     _
 
 -- what shows by the notes of a set in which a hash is struck
-pub visible_from-struck : (notes : Notes) (hash slot : ℕ) (rs : List Rec) → visible_from (struck notes hash) slot rs ≡ after_strike notes hash (visible_from notes slot rs)
-visible_from-struck notes hash slot rs =
+pub visible_from-struck : (free : Bool) (notes : Notes) (hash slot : ℕ) (rs : List Rec) → visible_from (struck free notes hash) slot rs ≡ after_strike free notes hash (visible_from notes slot rs)
+visible_from-struck free notes hash slot rs =
     let added : Notes = record notes { strikes = insert notes.strikes hash } in
     elim (admits notes.filter (probes_of hash)) as (λ v. admits notes.filter (probes_of hash) ≡ v →
-    visible_from (cond (not v) notes (cond (nat_le (len (insert notes.strikes hash)) 8) added no_notes)) slot rs
-    ≡ cond (v && not (nat_le (len (insert notes.strikes hash)) 8)) [] (without_hash hash (visible_from notes slot rs))) [
-      | true ↦ λ _. elim (nat_le (len (insert notes.strikes hash)) 8) as (λ v.
+    visible_from (cond (not v) notes (cond (can_strike free notes.strikes hash) added no_notes)) slot rs
+    ≡ cond (v && not (can_strike free notes.strikes hash)) [] (without_hash hash (visible_from notes slot rs))) [
+      | true ↦ λ _. elim (can_strike free notes.strikes hash) as (λ v.
           visible_from (cond v added no_notes) slot rs ≡ cond (not v) [] (without_hash hash (visible_from notes slot rs))) [
             | true ↦ with_strike notes hash slot rs
             | false ↦ visible_from-empty no_notes refl slot rs
@@ -153,10 +154,10 @@ visible_from-struck notes hash slot rs =
 
 -- what shows when a hash is struck in a set
 pub shown-struck : (held : ℕ → Option (List ℕ)) (k : SetsState) (set hash : ℕ) → set < set_count k →
-    visible_in held (struck_in k set hash) ≡ with_set (visible_in held k) set (after_strike (notes_of k set) hash (visible_in held k set))
+    visible_in held (struck_in k set hash) ≡ with_set (visible_in held k) set (after_strike (has_place k) (notes_of k set) hash (visible_in held k set))
 shown-struck held k set hash within =
-    shown-with_notes held k set (struck (notes_of k set) hash) within
-    ∙ ap (with_set (visible_in held k) set) (visible_from-struck (notes_of k set) hash 0 (page_records held k set))
+    shown-with_notes held k set (struck (has_place k) (notes_of k set) hash) within
+    ∙ ap (with_set (visible_in held k) set) (visible_from-struck (has_place k) (notes_of k set) hash 0 (page_records held k set))
 
 -- if the page of a set was lost, that one shows nothing
 pub shown-lost : (was is : ℕ → Option (List ℕ)) (old new : SetsState) (set : ℕ) (read : SetRead) → set < set_count old → is ≡ was → read ≡ PageLost → new ≡ forgotten old set →

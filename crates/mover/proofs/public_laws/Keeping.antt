@@ -126,11 +126,11 @@ small_removed size old new key after small =
     subst (λ (m : MemoryList). All (IsSmall size) m.pairs) (sym after) (All-filter (λ p. not (bytes_eq key p.key)) (IsSmall size) old.pairs small)
 
 -- what a store is kept by at first: nothing is in its tiers
-pub opened : {D : Type 0} (size : ℕ) (pages : D → ℕ) (honest : D → Bool) (held : D → ℕ → Option (List ℕ)) (layout : Layout) (d : D) (m : MemoryList) (k : LogState) (q : SetsState) (fs : List Flight) → IsPageSize size → 1 ≤ layout.memory →
-    m ≡ empty layout.memory → k ≡ opening_log (shape_of layout) → q ≡ opening_sets layout.sets → fs ≡ [] → layout.sets + layout.segments * layout.segment_pages ≤ pages d →
+pub opened : {D : Type 0} (strikes size : ℕ) (pages : D → ℕ) (honest : D → Bool) (held : D → ℕ → Option (List ℕ)) (layout : Layout) (d : D) (m : MemoryList) (k : LogState) (q : SetsState) (fs : List Flight) → IsPageSize size → 1 ≤ layout.memory →
+    m ≡ empty layout.memory → k ≡ opening_log (shape_of layout) → q ≡ opening_sets layout.sets strikes → fs ≡ [] → layout.sets + layout.segments * layout.segment_pages ≤ pages d →
     ((on : ℕ → Option (List ℕ)) → IsSpelledOn size on k) → ((on : ℕ → Option (List ℕ)) → AreSpelledOn size on q) → ((on : ℕ → Option (List ℕ)) (set : ℕ) → visible_in on q set ≡ []) →
     IsStore size pages honest held (record { layout = layout; device = d; memory = m; log = k; sets = q; flights = fs; moves = 0 })
-opened size pages honest held layout d m k q fs page_size roomy memory log sets none fits log_spelled sets_spelled shown = record {
+opened strikes size pages honest held layout d m k q fs page_size roomy memory log sets none fits log_spelled sets_spelled shown = record {
   page_size = page_size;
   shape = ap (λ (x : LogState). x.shape) log;
   counted = ap set_count sets ∙ length-replicate layout.sets no_notes;

@@ -38,8 +38,8 @@ use Rattle.mover.specs.Put.{lane_appended, append_step, push_step, stored, put_s
 use Rattle.mover.specs.Flush.{LaneFlushes}
 use Rattle.klog.specs.Shown.{place_in, newest_with}
 use Rattle.kset.specs.Notes.{Notes}
-use Rattle.kset.specs.Sets.{hit_in, notes_of}
-use Rattle.kset.specs.After.{after_strike, without_hash, is_one_too_many}
+use Rattle.kset.specs.Sets.{hit_in, notes_of, has_place}
+use Rattle.kset.specs.After.{after_strike, without_hash, is_forgetting}
 use Rattle.mover.specs.Lane.{LaneState}
 use Rattle.mover.specs.Strike.{struck, removed}
 use Rattle.mover.specs.Visible.{pair_of, IsOnFlash, IsVisible, IsHeldInFlight, IsShown, IsLogPlaced, ShowsFrom, ShowsLive, TellsVisible}
@@ -112,9 +112,9 @@ without_key key pairs p h =
     (kept.0, λ same. not_true (bytes_eq key p.key) kept.1 ((bytes_decides key p.key).1 (sym same)))
 
 -- what is left of visible records once a hash is struck has another key
-struck_set : (notes : Notes) (key : List ℕ) (visible : List (ℕ × Rec)) (p : Pair) → Contains (map (λ (x : ℕ × Rec). pair_of x.1) (after_strike notes (fnv1a key) visible)) p →
+struck_set : (free : Bool) (notes : Notes) (key : List ℕ) (visible : List (ℕ × Rec)) (p : Pair) → Contains (map (λ (x : ℕ × Rec). pair_of x.1) (after_strike free notes (fnv1a key) visible)) p →
     Contains (map (λ (x : ℕ × Rec). pair_of x.1) visible) p × (p.key ≢ key)
-struck_set notes key visible p h = step (is_one_too_many notes (fnv1a key)) h
+struck_set free notes key visible p h = step (is_forgetting free notes (fnv1a key)) h
   where
     step : (b : Bool) → Contains (map (λ (x : ℕ × Rec). pair_of x.1) (cond b [] (without_hash (fnv1a key) visible))) p → Contains (map (λ (x : ℕ × Rec). pair_of x.1) visible) p × (p.key ≢ key)
     step true none = absurd (let found = in_map (λ (x : ℕ × Rec). pair_of x.1) [] p none in let lt = found.1.1 in omega (arith, lt))
@@ -142,10 +142,10 @@ struck_shows key lane p placed (inl live) =
 struck_shows key lane p placed (inr visible) = step (eqb (place_in lane.log.shape p.key).set (place_in lane.log.shape key).set) refl visible
   where
     step : (b : Bool) → eqb (place_in lane.log.shape p.key).set (place_in lane.log.shape key).set ≡ b →
-        Contains (map (λ (x : ℕ × Rec). pair_of x.1) (cond b (after_strike (notes_of lane.sets (place_in lane.log.shape key).set) (fnv1a key) (lane.visible (place_in lane.log.shape key).set)) (lane.visible (place_in lane.log.shape p.key).set))) p →
+        Contains (map (λ (x : ℕ × Rec). pair_of x.1) (cond b (after_strike (has_place lane.sets) (notes_of lane.sets (place_in lane.log.shape key).set) (fnv1a key) (lane.visible (place_in lane.log.shape key).set)) (lane.visible (place_in lane.log.shape p.key).set))) p →
         IsOnFlash lane p × (p.key ≢ key)
     step true same here =
-        let shown = struck_set (notes_of lane.sets (place_in lane.log.shape key).set) key (lane.visible (place_in lane.log.shape key).set) p here in
+        let shown = struck_set (has_place lane.sets) (notes_of lane.sets (place_in lane.log.shape key).set) key (lane.visible (place_in lane.log.shape key).set) p here in
         (inr (subst (λ n. Contains (map (λ (x : ℕ × Rec). pair_of x.1) (lane.visible n)) p) (sym (eqb-true _ _ same)) shown.0), shown.1)
     step false differs here =
         (inr here, λ same. eqb-false _ _ differs (ap (λ (k : List ℕ). (place_in lane.log.shape k).set) same))

@@ -34,7 +34,7 @@ use Rattle.mover.specs.declared.begin.Begin.{Begin}
 use Rattle.mover.specs.declared.begin.Begin.TheVariants as begin
 use Rattle.mover.specs.declared.moved_whole.MovedWhole.{MovedWhole}
 use Rattle.mover.specs.declared.moved_whole.MovedWhole.TheVariants as moved
-use Rattle.mover.specs.Laws.{AreMarked, AreCounted, IsInOrder, opening_lane, StepsInOrder, IsPlanned, IsPlannedFor, WholeMoveShows, OpeningShowsNothing, StoresAreInOrder}
+use Rattle.mover.specs.Laws.{AreMarked, AreCounted, IsInOrder, opening_lane_with, StepsInOrder, IsPlanned, IsPlannedFor, WholeMoveShows, OpeningShowsNothing, StoresAreInOrder}
 use Rattle.mover.proofs.public_laws.FlightLists.{held_found, found_last, fresh_number}
 use Rattle.mover.proofs.public_laws.Showing.{no_more, then}
 use Rattle.mover.proofs.MovingShows.{nothing, begins_by, begin_shows, committed_shows}
@@ -140,16 +140,16 @@ whole_move_law size least plan_of old new answer was counted = by_answer answer
     by_answer moved.Dropped planned gives = so rewritten.Written (unplanned moved.Dropped (begin_step size least old).reply gives.0 (λ is. cc)) gives.1
 
 -- no set shows anything at first
-sets_empty : (held : ℕ → Option (List ℕ)) (count set : ℕ) → visible_in held (opening_sets count) set ≡ []
-sets_empty held count set = shown-opening held (opening_sets count) count set refl
+sets_empty : (held : ℕ → Option (List ℕ)) (count strikes set : ℕ) → visible_in held (opening_sets count strikes) set ≡ []
+sets_empty held count strikes set = shown-opening held (opening_sets count strikes) count set refl
 
 pub opening_law : OpeningShowsNothing
-opening_law pages layout = (
+opening_law strikes pages layout = (
   record {
     placed = record {
       log = All-nil (λ (x : Entry × Rec). ((place_in (shape_of layout) x.1.key).set ≡ x.0.set) × ((place_in (shape_of layout) x.1.key).tag ≡ x.0.tag));
       sets = λ set.
-          subst (λ (xs : List (ℕ × Rec)). All (λ (x : ℕ × Rec). IsKeyOf layout.lanes layout.sets set x.1.key) xs) (sym (sets_empty pages layout.sets set))
+          subst (λ (xs : List (ℕ × Rec)). All (λ (x : ℕ × Rec). IsKeyOf layout.lanes layout.sets set x.1.key) xs) (sym (sets_empty pages layout.sets strikes set))
           (All-nil (λ (x : ℕ × Rec). IsKeyOf layout.lanes layout.sets set x.1.key));
       flight = All-nil (λ (f : Flight). AreOfSet (shape_of layout) f.moving);
     };
@@ -158,12 +158,12 @@ opening_law pages layout = (
   none,
 )
   where
-    none : (p : Pair) → ¬ IsShown (opening_lane layout pages) p
+    none : (p : Pair) → ¬ IsShown (opening_lane_with strikes layout pages) p
     none p (inl (inl memory)) = let lt = memory.1 in omega (arith, lt)
     none p (inl (inr (inl live))) = nothing (λ (x : Entry × Rec). pair_of x.1) p live
     none p (inl (inr (inr visible))) =
         nothing (λ (x : ℕ × Rec). pair_of x.1) p
-        (subst (λ (xs : List (ℕ × Rec)). Contains (map (λ (x : ℕ × Rec). pair_of x.1) xs) p) (sets_empty pages layout.sets (place_in (shape_of layout) p.key).set) visible)
+        (subst (λ (xs : List (ℕ × Rec)). Contains (map (λ (x : ℕ × Rec). pair_of x.1) xs) p) (sets_empty pages layout.sets strikes (place_in (shape_of layout) p.key).set) visible)
     none p (inr flying) = let lt = flying.flies.1 in omega (arith, lt)
 
 pub stores_law : StoresAreInOrder

@@ -273,7 +273,7 @@ fn are_known(job: &Job, wanted: &[Known]) -> bool {
         return false;
     }
     for number in 0..job.items.len() {
-        if !is_known(job.items.at(number), &wanted[number]) {
+        if !is_known(*job.items.at(number), &wanted[number]) {
             return false;
         }
     }

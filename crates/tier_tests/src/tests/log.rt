@@ -26,7 +26,7 @@ use record_pages::{Config, Key, Layout, Looked, Value};
 use std::alloc::{AllocError, Global};
 use std::process::Abort;
 use std::test::Fail;
-use test_devices::{BlankDevice, Wanted, key, value};
+use test_devices::{BlankDevice, WantedLook, key, value};
 
 type Fused = FuseDevice<MemoryDevice<256>>;
 

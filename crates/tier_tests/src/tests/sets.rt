@@ -21,7 +21,7 @@ use record_pages::{
 use std::alloc::{AllocError, Global};
 use std::process::Abort;
 use std::test::Fail;
-use test_devices::{BlankDevice, Wanted, key, value};
+use test_devices::{BlankDevice, WantedLook, key, value};
 
 type Fused = FuseDevice<MemoryDevice<256>>;
 
@@ -101,8 +101,8 @@ const WRITES: Step = Step::Rewrite(&PAIR, Rewritten::Written);
 
 const FORGETS: Step = Step::Rewrite(&PAIR, Rewritten::Forgotten);
 
-const FINDS_A: Step = Step::Look(b"ax", Wanted::Value(b"1"));
+const FINDS_A: Step = Step::Look(b"ax", WantedLook::Value(b"1"));
 
-const FINDS_B: Step = Step::Look(b"bx", Wanted::Value(b"2"));
+const FINDS_B: Step = Step::Look(b"bx", WantedLook::Value(b"2"));
 
-const MISSES_A: Step = Step::Look(b"ax", Wanted::Absent);
+const MISSES_A: Step = Step::Look(b"ax", WantedLook::Absent);

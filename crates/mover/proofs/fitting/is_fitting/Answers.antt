@@ -26,9 +26,9 @@ returns-then-item-len g c =
     let no : IsFitting job c.args.plan.now → ⊥ = λ fits.
     elim c.then-item-len.branch [
       | then-item-len-via-then-item-len w ↦
-          out_of_range job c.args.plan.now c.loop-number.number c.at-item.result c.at-item.ensures (omega (arith, as_many moving, c.len-in-loop-number.ensures, w.if-item-len.true)) fits
+          out_of_range job c.args.plan.now c.loop-number.number c.at.result.now c.at.ensures (omega (arith, as_many moving, c.len-in-loop-number.ensures, w.if-item-len.true)) fits
       | then-item-len-via-else-item-len+then-named-item w ↦
-          repeated job c.args.plan.now c.loop-number.number c.at-item.result c.loop-number.named c.loop-number.size c.at-item.ensures c.loop-number.invariant.0 w.if-named-item.true fits
+          repeated job c.args.plan.now c.loop-number.number c.at.result.now c.loop-number.named c.loop-number.size c.at.ensures c.loop-number.invariant.0 w.if-named-item.true fits
     ] in
     (λ is. absurd (false≢true is), λ fits. absurd (no fits))
 
@@ -36,9 +36,9 @@ pub returns-then-size : goal.returns-then-size
 returns-then-size g c =
     let moving = c.args.moving.now in
     let job = job_of g.row.PAGE moving in
-    let sized = c.size-size.ensures ∙ ap size c.lent.ensures.shown ∙ sym (item_size moving c.at-item.result.item c.record.result.now c.record.ensures) in (
+    let sized = c.size-size.ensures ∙ ap size c.lent.ensures.shown ∙ sym (item_size moving c.at.result.now.item c.record.result.now c.record.ensures) in (
       λ is. absurd (false≢true is),
-      λ fits. absurd (too_large job c.args.plan.now c.loop-number.number c.at-item.result c.loop-number.named c.loop-number.size c.at-item.ensures c.loop-number.invariant.0
+      λ fits. absurd (too_large job c.args.plan.now c.loop-number.number c.at.result.now c.loop-number.named c.loop-number.size c.at.ensures c.loop-number.invariant.0
           (subst (λ n. job.room < c.loop-number.size + n) sized c.if-size.true) fits),
     )
 
@@ -46,7 +46,7 @@ pub loop-number-preserved : goal.loop-number-preserved
 loop-number-preserved g c =
     let moving = c.args.moving.now in
     let job = job_of g.row.PAGE moving in
-    let item = c.at-item.result.item in
+    let item = c.at.result.now.item in
     let sized = c.size-size.ensures ∙ ap size c.lent.ensures.shown ∙ sym (item_size moving item c.record.result.now c.record.ensures) in
     let many = as_many moving in
     let long = c.loop-number.invariant.1 in
@@ -55,7 +55,7 @@ loop-number-preserved g c =
     let below : item < length c.loop-number.named = omega (arith, many, range, long, few) in
     let fits = c.if-size.false in (
       subst (λ n. IsTested job (take (c.loop-number.number + 1) c.args.plan.now) (set c.loop-number.named item true) (c.loop-number.size + n)) (sym sized)
-          (next_tested job c.args.plan.now c.loop-number.number c.at-item.result c.loop-number.named c.loop-number.size c.at-item.ensures c.loop-number.invariant.3 c.loop-number.invariant.0 range below c.if-named-item.false
+          (next_tested job c.args.plan.now c.loop-number.number c.at.result.now c.loop-number.named c.loop-number.size c.at.ensures c.loop-number.invariant.3 c.loop-number.invariant.0 range below c.if-named-item.false
           (subst (λ n. c.loop-number.size + n ≤ job.room) sized (omega (arith, fits)))),
       length-set c.loop-number.named item true ∙ long,
       omega (arith, fits),

@@ -93,7 +93,7 @@ fn is_plan(plan: &Plan, wanted: &[(usize, u8)]) -> bool {
         return false;
     }
     for index in 0..wanted.len() {
-        if !is_choice(plan.at(index), wanted[index]) {
+        if !is_choice(*plan.at(index), wanted[index]) {
             return false;
         }
     }
@@ -107,7 +107,7 @@ fn is_choice(choice: Choice, (item, number): (usize, u8)) -> bool {
 /// Whether a plan keeps the first items, this many, in their order.
 fn keeps_first(plan: &Plan, count: usize) -> bool {
     for index in 0..plan.len() {
-        if !is_choice(plan.at(index), (index, 6)) {
+        if !is_choice(*plan.at(index), (index, 6)) {
             return false;
         }
     }

@@ -8,9 +8,9 @@ const TWO_PAGES: Config = Config {
     ..ONE_SET
 };
 
-const A: Wanted = Wanted::Value(&[1; 200]);
+const A: WantedLook = WantedLook::Value(&[1; 200]);
 
-const B: Wanted = Wanted::Value(&[2; 200]);
+const B: WantedLook = WantedLook::Value(&[2; 200]);
 
 const A_TAKEN: Kept = Kept {
     key: b"ax",
@@ -42,13 +42,13 @@ const STEPS: [Step; 22] = [
     Step::Flush(Flushed::Wrote),
     Step::Look(b"ax", A),
     Step::Look(b"bx", B),
-    Step::Look(b"cx", Wanted::Absent),
+    Step::Look(b"cx", WantedLook::Absent),
     Step::Take(&[B_TAKEN, A_TAKEN]),
     Step::Readmit(Some(Readmitted::Readmitted)),
     Step::Readmit(Some(Readmitted::Readmitted)),
     Step::Look(b"ax", A),
     Step::Strike(b"bx"),
-    Step::Look(b"bx", Wanted::Absent),
+    Step::Look(b"bx", WantedLook::Absent),
     Step::Free(true),
     Step::Strike(b"ax"),
     Step::Flush(Flushed::Sealed),
@@ -80,7 +80,7 @@ const ONE_TAG: [Step; 8] = [
     Step::Flush(Flushed::Wrote),
     Step::Look(b"b", B),
     Step::Look(b"a", A),
-    Step::Look(b"c", Wanted::Absent),
+    Step::Look(b"c", WantedLook::Absent),
 ];
 
 const ONE_TAG_PLAN: [DeviceCall; 7] = [

@@ -4,18 +4,18 @@ use super::*;
 const FOUND_UNTIL_STRUCK: [Step; 16] = [
     Step::Append(b"ax", b"1", ADDED),
     Step::NoSegment,
-    Step::Look(b"ax", Wanted::Value(b"1")),
+    Step::Look(b"ax", WantedLook::Value(b"1")),
     // What has expired is no hit, and keeps its prediction.
     Step::LookLate(b"ax"),
     Step::Flush(Flushed::Sealed),
     Step::Flush(Flushed::Wrote),
     Step::Flush(Flushed::Nothing),
-    Step::Look(b"ax", Wanted::Value(b"1")),
+    Step::Look(b"ax", WantedLook::Value(b"1")),
     Step::LookLate(b"ax"),
     Step::First(TAG_OF_AX, FIRST, 4),
     Step::Free(false),
     Step::Strike(b"ax"),
-    Step::Look(b"ax", Wanted::Absent),
+    Step::Look(b"ax", WantedLook::Absent),
     Step::Empty,
     Step::Free(true),
     Step::NoSegment,
@@ -32,8 +32,8 @@ const NO_BUFFER_HAS_ROOM: [Step; 6] = [
     Step::Append(b"ax", &[1; 200], ADDED),
     Step::Append(b"bx", &[2; 200], ADDED),
     Step::Append(b"cx", &[3; 200], Some(Appended::Full)),
-    Step::Look(b"bx", Wanted::Value(&[2; 200])),
-    Step::Look(b"cx", Wanted::Absent),
+    Step::Look(b"bx", WantedLook::Value(&[2; 200])),
+    Step::Look(b"cx", WantedLook::Absent),
     // A smaller one still has room.
     Step::Append(b"cx", b"3", ADDED),
 ];
@@ -41,7 +41,7 @@ const NO_BUFFER_HAS_ROOM: [Step; 6] = [
 const THE_INDEX_IS_FULL: [Step; 3] = [
     Step::Append(b"ax", b"1", ADDED),
     Step::Append(b"bx", b"2", Some(Appended::IndexFull)),
-    Step::Look(b"bx", Wanted::Absent),
+    Step::Look(b"bx", WantedLook::Absent),
 ];
 
 // Room for one record.
@@ -64,9 +64,9 @@ const JUST_A_PAGES_ROOM: [Step; 6] = [
     Step::Append(b"ax", &[7; 225], None),
     Step::Append(b"ax", &[7; 224], ADDED),
     Step::Flush(Flushed::Sealed),
-    Step::Look(b"ax", Wanted::Value(&[7; 224])),
+    Step::Look(b"ax", WantedLook::Value(&[7; 224])),
     Step::Flush(Flushed::Wrote),
-    Step::Look(b"ax", Wanted::Value(&[7; 224])),
+    Step::Look(b"ax", WantedLook::Value(&[7; 224])),
 ];
 
 #[test]
@@ -80,15 +80,15 @@ const TWO_KEYS_OF_ONE_TAG: [Step; 14] = [
     Step::Append(b"b", b"2", ADDED),
     Step::Flush(Flushed::Sealed),
     Step::Flush(Flushed::Wrote),
-    Step::Look(b"a", Wanted::Value(b"1")),
-    Step::Look(b"b", Wanted::Value(b"2")),
+    Step::Look(b"a", WantedLook::Value(b"1")),
+    Step::Look(b"b", WantedLook::Value(b"2")),
     Step::Append(b"a", b"3", ADDED),
-    Step::Look(b"a", Wanted::Value(b"3")),
-    Step::Look(b"b", Wanted::Value(b"2")),
+    Step::Look(b"a", WantedLook::Value(b"3")),
+    Step::Look(b"b", WantedLook::Value(b"2")),
     Step::Count(3),
     Step::Strike(b"a"),
-    Step::Look(b"a", Wanted::Absent),
-    Step::Look(b"b", Wanted::Absent),
+    Step::Look(b"a", WantedLook::Absent),
+    Step::Look(b"b", WantedLook::Absent),
     Step::Count(0),
 ];
 

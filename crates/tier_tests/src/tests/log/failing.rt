@@ -37,7 +37,7 @@ const UNREAD: [Step; 10] = [
     ADDS_B,
     SEALS,
     WRITES,
-    Step::Look(b"ax", Wanted::Fault),
+    Step::Look(b"ax", WantedLook::Fault),
     TAKES_BOTH_UNREAD,
     READMITS,
     FINDS_A,
@@ -50,7 +50,7 @@ const UNREAD_FOR_GOOD: [Step; 10] = [
     ADDS_B,
     SEALS,
     WRITES,
-    Step::Look(b"ax", Wanted::Fault),
+    Step::Look(b"ax", WantedLook::Fault),
     Step::TakeLost,
     READMITS_NONE,
     MISSES_A,
@@ -96,7 +96,7 @@ const UNFOUND: [Step; 10] = [
     TAKES_BOTH,
     READMITS,
     FINDS_A,
-    Step::Look(b"bx", Wanted::Fault),
+    Step::Look(b"bx", WantedLook::Fault),
     Step::Count(2),
 ];
 
@@ -108,13 +108,13 @@ const SEALS: Step = Step::Flush(Flushed::Sealed);
 
 const WRITES: Step = Step::Flush(Flushed::Wrote);
 
-const FINDS_A: Step = Step::Look(b"ax", Wanted::Value(b"1"));
+const FINDS_A: Step = Step::Look(b"ax", WantedLook::Value(b"1"));
 
-const FINDS_B: Step = Step::Look(b"bx", Wanted::Value(b"2"));
+const FINDS_B: Step = Step::Look(b"bx", WantedLook::Value(b"2"));
 
-const MISSES_A: Step = Step::Look(b"ax", Wanted::Absent);
+const MISSES_A: Step = Step::Look(b"ax", WantedLook::Absent);
 
-const MISSES_B: Step = Step::Look(b"bx", Wanted::Absent);
+const MISSES_B: Step = Step::Look(b"bx", WantedLook::Absent);
 
 const READMITS: Step = Step::Readmit(Some(Readmitted::Readmitted));
 

@@ -7,7 +7,7 @@ use super::*;
 const TAKEN_FROM_MEMORY: [Step; 4] = [
     Step::Append(b"ax", b"1", ADDED),
     Step::Append(b"bx", b"2", ADDED),
-    Step::Look(b"ax", Wanted::Value(b"1")),
+    Step::Look(b"ax", WantedLook::Value(b"1")),
     Step::Take(&[
         Kept {
             key: b"bx",
@@ -83,9 +83,9 @@ const A_THIRD: [Step; 1] = [Step::Append(b"cx", b"3", ADDED)];
 
 const THE_THIRD_ALONE: [Step; 4] = [
     Step::Count(1),
-    Step::Look(b"ax", Wanted::Absent),
-    Step::Look(b"bx", Wanted::Absent),
-    Step::Look(b"cx", Wanted::Value(b"3")),
+    Step::Look(b"ax", WantedLook::Absent),
+    Step::Look(b"bx", WantedLook::Absent),
+    Step::Look(b"cx", WantedLook::Value(b"3")),
 ];
 
 const ALONE: Dropping = Dropping {
@@ -128,7 +128,7 @@ const IN_SEGMENT_4: [Step; 18] = [
 ];
 
 const STAYS: [Step; 2] = [
-    Step::Look(b"ax", Wanted::Value(b"5")),
+    Step::Look(b"ax", WantedLook::Value(b"5")),
     Step::Take(&[Kept {
         key: b"ax",
         value: b"5",
@@ -169,9 +169,9 @@ const LOSES_THE_SECOND_PAGE: [Step; 7] = [
     Step::Flush(Flushed::Wrote),
     Step::Flush(Flushed::PageLost),
     Step::Count(64),
-    Step::Look(&[64], Wanted::Absent),
-    Step::Look(&[63], Wanted::Value(&[63])),
-    Step::Look(&[0], Wanted::Value(&[0])),
+    Step::Look(&[64], WantedLook::Absent),
+    Step::Look(&[63], WantedLook::Value(&[63])),
+    Step::Look(&[0], WantedLook::Value(&[0])),
 ];
 
 // Appends 65 records, each of which has its number as its key and value, and says whether all entered.
@@ -237,7 +237,7 @@ const READMITTED_OR_LOST: [Step; 14] = [
     Step::Append(b"bx", &[2; 100], ADDED),
     Step::Flush(Flushed::Sealed),
     Step::Flush(Flushed::Wrote),
-    Step::Look(b"ax", Wanted::Value(&[1; 100])),
+    Step::Look(b"ax", WantedLook::Value(&[1; 100])),
     Step::Readmit(Some(Readmitted::Readmitted)),
     Step::Take(&[
         Kept {
@@ -258,12 +258,12 @@ const READMITTED_OR_LOST: [Step; 14] = [
             segment: 0,
         },
     ]),
-    Step::Look(b"ax", Wanted::Value(&[1; 100])),
+    Step::Look(b"ax", WantedLook::Value(&[1; 100])),
     // With 106 bytes in one buffer and 136 in the other none has room for 106 of 238: what is readmitted is dropped.
     Step::Append(b"cx", &[3; 130], ADDED),
     Step::Readmit(Some(Readmitted::Dropped)),
-    Step::Look(b"bx", Wanted::Absent),
-    Step::Look(b"ax", Wanted::Value(&[1; 100])),
+    Step::Look(b"bx", WantedLook::Absent),
+    Step::Look(b"ax", WantedLook::Value(&[1; 100])),
     Step::Readmit(None),
     Step::Free(true),
 ];
@@ -278,11 +278,11 @@ const READMITTED_FROM_A_LOST_PAGE: [Step; 9] = [
     Step::Append(b"bx", &[2; 100], ADDED),
     Step::Flush(Flushed::Sealed),
     Step::Flush(Flushed::Wrote),
-    Step::Look(b"ax", Wanted::Damaged),
+    Step::Look(b"ax", WantedLook::Damaged),
     Step::Count(2),
     Step::Readmit(Some(Readmitted::Damaged)),
     Step::Count(0),
-    Step::Look(b"bx", Wanted::Absent),
+    Step::Look(b"bx", WantedLook::Absent),
 ];
 
 const TAKEN_FROM_A_LOST_PAGE: [Step; 6] = [

@@ -16,9 +16,9 @@ const IN_BUFFERS_AND_ON_THE_PAGE: [Step; 23] = [
     Step::Locate(b"bx", SECOND, 6, b""),
     Step::Locate(b"ax", FIRST, 6, b"1"),
     Step::LocateLate(b"ax"),
-    Step::LocateNone(b"cx", Wanted::Absent),
-    Step::LocateNone(b"", Wanted::Absent),
-    Step::LocateNone(&TOO_LONG, Wanted::Absent),
+    Step::LocateNone(b"cx", WantedLook::Absent),
+    Step::LocateNone(b"", WantedLook::Absent),
+    Step::LocateNone(&TOO_LONG, WantedLook::Absent),
     Step::Touch(b"ax"),
     Step::Locate(b"ax", FIRST, 5, b"1"),
     Step::Locate(b"bx", SECOND, 6, b""),
@@ -26,12 +26,12 @@ const IN_BUFFERS_AND_ON_THE_PAGE: [Step; 23] = [
     Step::Locate(b"ax", FIRST, 5, b"1"),
     Step::Touch(b"ax"),
     Step::Flush(Flushed::Wrote),
-    Step::LocateNone(b"ax", Wanted::Fault),
+    Step::LocateNone(b"ax", WantedLook::Fault),
     Step::LocateLate(b"ax"),
     Step::Locate(b"ax", FIRST, 4, b"1"),
     Step::Touch(b"ax"),
     Step::First(TAG_OF_AX, FIRST, 3),
-    Step::Look(b"ax", Wanted::Value(b"1")),
+    Step::Look(b"ax", WantedLook::Value(b"1")),
     Step::Locate(b"ax", FIRST, 2, b"1"),
 ];
 
@@ -54,7 +54,7 @@ const LOST: [Step; 4] = [
     Step::Append(b"ax", b"1", ADDED),
     Step::Flush(Flushed::Sealed),
     Step::Flush(Flushed::Wrote),
-    Step::LocateNone(b"ax", Wanted::Damaged),
+    Step::LocateNone(b"ax", WantedLook::Damaged),
 ];
 
 #[test]
@@ -117,7 +117,7 @@ const EACH_ALONE: [Step; 45] = [
     Step::Flush(Flushed::Wrote),
     Step::Flush(Flushed::Wrote),
     Step::Touch(b"aaa"),
-    Step::Look(b"aab", Wanted::Value(FULL)),
+    Step::Look(b"aab", WantedLook::Value(FULL)),
     Step::Touch(b"ax"),
     Step::Touch(b"bx"),
     Step::Touch(b"bx"),
@@ -135,7 +135,7 @@ const EACH_ALONE: [Step; 45] = [
     // A newer record of the key is the one that is touched.
     Step::Append(b"aaa", b"7", ADDED),
     Step::Touch(b"aaa"),
-    Step::Look(b"aaa", Wanted::Value(b"7")),
+    Step::Look(b"aaa", WantedLook::Value(b"7")),
     Step::First(59164, FIRST, 5),
 ];
 

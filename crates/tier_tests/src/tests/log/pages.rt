@@ -17,17 +17,17 @@ const WRITE: Step = Step::Flush(Flushed::Wrote);
 
 const LOSE: Step = Step::Flush(Flushed::PageLost);
 
-const A: Step = Step::Look(b"ax", Wanted::Value(&[1; 200]));
+const A: Step = Step::Look(b"ax", WantedLook::Value(&[1; 200]));
 
-const B: Step = Step::Look(b"bx", Wanted::Value(&[2; 200]));
+const B: Step = Step::Look(b"bx", WantedLook::Value(&[2; 200]));
 
-const BAD_A: Step = Step::Look(b"ax", Wanted::Fault);
+const BAD_A: Step = Step::Look(b"ax", WantedLook::Fault);
 
-const BAD_B: Step = Step::Look(b"bx", Wanted::Fault);
+const BAD_B: Step = Step::Look(b"bx", WantedLook::Fault);
 
-const NO_A: Step = Step::Look(b"ax", Wanted::Absent);
+const NO_A: Step = Step::Look(b"ax", WantedLook::Absent);
 
-const NO_B: Step = Step::Look(b"bx", Wanted::Absent);
+const NO_B: Step = Step::Look(b"bx", WantedLook::Absent);
 
 const A_TAKEN: Kept = Kept {
     key: b"ax",

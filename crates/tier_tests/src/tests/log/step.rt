@@ -22,14 +22,14 @@ pub enum Step {
     /// A key, its value, and what becomes of the record.
     Append(&'static [u8], &'static [u8], Option<Appended>),
     /// A key, and what is seen of it.
-    Look(&'static [u8], Wanted),
+    Look(&'static [u8], WantedLook),
     /// A key whose record has expired at the moment when it expires, and at none before.
     LookLate(&'static [u8]),
     /// The bytes of a key that is located: the place and the prediction of its entry, which has the key's set and tag, and
     /// the value that is in the buffer then.
     Locate(&'static [u8], Place, u8, &'static [u8]),
     /// The bytes of a key of which no entry is located, and what is seen of it. The buffer stays as it was.
-    LocateNone(&'static [u8], Wanted),
+    LocateNone(&'static [u8], WantedLook),
     /// The bytes of a key whose record has expired at the moment when it expires. The buffer stays as it was.
     LocateLate(&'static [u8]),
     /// The bytes of a key whose entry is located and touched.
@@ -119,12 +119,12 @@ fn moves<D: PageDevice<PAGE>, const PAGE: usize>(owner: &mut Owner<D, PAGE>, ste
     }
 }
 
-fn is_seen(looked: Looked, wanted: &Wanted) -> bool {
+fn is_seen(looked: Looked, wanted: &WantedLook) -> bool {
     match (looked, wanted) {
-        (Looked::Hit(value), Wanted::Value(bytes)) => value.bytes() == *bytes,
-        (Looked::Absent, Wanted::Absent) => true,
-        (Looked::Fault, Wanted::Fault) => true,
-        (Looked::Damaged, Wanted::Damaged) => true,
+        (Looked::Hit(value), WantedLook::Value(bytes)) => value.bytes() == *bytes,
+        (Looked::Absent, WantedLook::Absent) => true,
+        (Looked::Fault, WantedLook::Fault) => true,
+        (Looked::Damaged, WantedLook::Damaged) => true,
         _ => false,
     }
 }
@@ -172,11 +172,11 @@ fn locate_none<D: PageDevice<PAGE>, const PAGE: usize>(
     Some(located)
 }
 
-fn is_missed(located: Option<LocatedInLog>, wanted: &Wanted) -> bool {
+fn is_missed(located: Option<LocatedInLog>, wanted: &WantedLook) -> bool {
     match (located, wanted) {
-        (Some(LocatedInLog::Absent), Wanted::Absent) => true,
-        (Some(LocatedInLog::Fault), Wanted::Fault) => true,
-        (Some(LocatedInLog::Damaged), Wanted::Damaged) => true,
+        (Some(LocatedInLog::Absent), WantedLook::Absent) => true,
+        (Some(LocatedInLog::Fault), WantedLook::Fault) => true,
+        (Some(LocatedInLog::Damaged), WantedLook::Damaged) => true,
         _ => false,
     }
 }

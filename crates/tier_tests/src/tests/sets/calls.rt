@@ -16,7 +16,7 @@ const STEPS: [Step; 19] = [
     Step::Locate(b"ax", LocatedInSet::Hit { slot: 0 }, b"1"),
     Step::Touch(b"ax", 0),
     Step::Locate(b"bx", LocatedInSet::Absent, WAS_HELD),
-    Step::Look(b"bx", Wanted::Absent),
+    Step::Look(b"bx", WantedLook::Absent),
     Step::Read(&[AX_HIT]),
     Step::Strike(b"ax"),
     MISSES_A,

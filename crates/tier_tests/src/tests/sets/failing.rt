@@ -12,11 +12,11 @@ const READS_A_HIT: Step = Step::Read(&[AX_HIT, BX]);
 
 const READS_B_HIT: Step = Step::Read(&[AX, BX_HIT]);
 
-const FAULT_OF_A: Step = Step::Look(b"ax", Wanted::Fault);
+const FAULT_OF_A: Step = Step::Look(b"ax", WantedLook::Fault);
 
-const FAULT_OF_B: Step = Step::Look(b"bx", Wanted::Fault);
+const FAULT_OF_B: Step = Step::Look(b"bx", WantedLook::Fault);
 
-const MISSES_B: Step = Step::Look(b"bx", Wanted::Absent);
+const MISSES_B: Step = Step::Look(b"bx", WantedLook::Absent);
 
 // What the calls give if one call of the device is refused, from the first to the sixth.
 const ALONE: [[Step; 6]; 6] = [
@@ -119,7 +119,7 @@ fn refused_memory_changes_nothing(rt: HostRuntime) -> Result<(), Fail> {
 
 const DAMAGED: [Step; 4] = [
     WRITES,
-    Step::Look(b"ax", Wanted::Damaged),
+    Step::Look(b"ax", WantedLook::Damaged),
     Step::ReadLost,
     MISSES_A,
 ];

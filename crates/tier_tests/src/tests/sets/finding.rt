@@ -9,7 +9,7 @@ const FOUND_UNTIL_STRUCK: [Step; 11] = [
     Step::LookLate(b"bx"),
     Step::Read(&[AX_HIT, BX]),
     Step::Strike(b"bx"),
-    Step::Look(b"bx", Wanted::Absent),
+    Step::Look(b"bx", WantedLook::Absent),
     Step::Read(&[AX_HIT]),
     Step::Forget,
     MISSES_A,
@@ -52,7 +52,7 @@ const SECOND: Listed = Listed {
 const THE_FIRST_OF_TWO: [Step; 6] = [
     Step::Rewrite(&TWO_OF_ONE_KEY, Rewritten::Written),
     Step::Locate(b"cd", LocatedInSet::Hit { slot: 1 }, b"2"),
-    Step::Look(b"cd", Wanted::Value(b"2")),
+    Step::Look(b"cd", WantedLook::Value(b"2")),
     Step::Read(&[AB, FIRST_HIT, SECOND]),
     // A rewriting clears the hits.
     Step::Rewrite(&TWO_OF_ONE_KEY, Rewritten::Written),
@@ -79,7 +79,7 @@ fn full(alloc: Global) -> Result<Vec<Pair>, Fail> {
     Ok(pairs)
 }
 
-const FINDS_THE_LAST: [Step; 1] = [Step::Look(b"b", Wanted::Value(b""))];
+const FINDS_THE_LAST: [Step; 1] = [Step::Look(b"b", WantedLook::Value(b""))];
 
 // Whether these are as many records as a set page may have, of which the last alone is hit.
 fn is_last_alone_hit(read: SetRead) -> bool {

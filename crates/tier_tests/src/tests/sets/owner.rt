@@ -31,24 +31,37 @@ impl<D: PageDevice<PAGE>, const PAGE: usize> Model for Owner<D, PAGE> {
 }
 
 impl<D: PageDevice<PAGE>, const PAGE: usize> Owner<D, PAGE> {
-    /// All sets empty, or nothing if the device is too small.
+    /// All sets empty, with room for eight strikes each, or nothing if the device is too small.
     pub(super) fn open(
         alloc: Global,
         layout: &Layout,
         device: D,
     ) -> Result<Option<Self>, AllocError> {
+        Self::open_with(alloc, layout, 8 * layout.sets, device)
+    }
+
+    /// The same with room for this many strikes.
+    pub(super) fn open_with(
+        alloc: Global,
+        layout: &Layout,
+        strikes: u32,
+        device: D,
+    ) -> Result<Option<Self>, AllocError>
+        requires { strikes ≤ 524288 }
+    {
         if device.pages() < layout.sets {
             return Ok(None);
         }
-        let owner = Self::over(alloc, layout, device)?;
+        let owner = Self::over(alloc, layout, strikes, device)?;
         Ok(Some(owner))
     }
 
     // All sets empty, over a device that is large enough.
-    fn over(alloc: Global, layout: &Layout, device: D) -> Result<Self, AllocError>
-        requires { layout.now.sets ≤ D.page_count device }
+    fn over(alloc: Global, layout: &Layout, strikes: u32, device: D) -> Result<Self, AllocError>
+        requires strikes { strikes ≤ 524288 }
+        requires room { layout.now.sets ≤ D.page_count device }
     {
-        let sets = KSet::open(alloc, layout)?;
+        let sets = KSet::open(alloc, layout, strikes)?;
         Ok(Owner {
             layout: *layout,
             device,

@@ -19,7 +19,7 @@ pub enum Step {
     /// The pairs to be written, and what becomes of the set.
     Rewrite(&'static [Pair], Rewritten),
     /// A key, and what is seen of it.
-    Look(&'static [u8], Wanted),
+    Look(&'static [u8], WantedLook),
     /// A key whose record has expired at the moment when it expires, and at none before.
     LookLate(&'static [u8]),
     /// The bytes of a key, what is located of them, and what is in the buffer then.
@@ -96,12 +96,12 @@ fn gives<D: PageDevice<PAGE>, const PAGE: usize>(
     }
 }
 
-fn is_seen(looked: Looked, wanted: &Wanted) -> bool {
+fn is_seen(looked: Looked, wanted: &WantedLook) -> bool {
     match (looked, wanted) {
-        (Looked::Hit(value), Wanted::Value(bytes)) => value.bytes() == *bytes,
-        (Looked::Absent, Wanted::Absent) => true,
-        (Looked::Fault, Wanted::Fault) => true,
-        (Looked::Damaged, Wanted::Damaged) => true,
+        (Looked::Hit(value), WantedLook::Value(bytes)) => value.bytes() == *bytes,
+        (Looked::Absent, WantedLook::Absent) => true,
+        (Looked::Fault, WantedLook::Fault) => true,
+        (Looked::Damaged, WantedLook::Damaged) => true,
         _ => false,
     }
 }

@@ -1,4 +1,4 @@
-//! Strikes: eight are held, and the ninth forgets the set.
+//! Strikes: eight a set are held, if there is room for them, and the next forgets its set.
 use super::*;
 
 const ELEVEN: [Pair; 11] = [
@@ -46,10 +46,10 @@ const THE_NINTH: [Step; 15] = [
     // A strike that is there, and one that the filter denies, add none.
     Step::Strike(b"ax"),
     Step::Strike(b"zz"),
-    Step::Look(b"jx", Wanted::Value(b"1")),
+    Step::Look(b"jx", WantedLook::Value(b"1")),
     Step::Read(&[I, J_HIT, K]),
     Step::Strike(b"ix"),
-    Step::Look(b"jx", Wanted::Absent),
+    Step::Look(b"jx", WantedLook::Absent),
 ];
 
 #[test]
@@ -72,9 +72,9 @@ const THE_NINTH_AFTER_A_STRANGER: [Step; 12] = [
     Step::Strike(b"ex"),
     Step::Strike(b"fx"),
     Step::Strike(b"gx"),
-    Step::Look(b"kx", Wanted::Value(b"1")),
+    Step::Look(b"kx", WantedLook::Value(b"1")),
     Step::Strike(b"hx"),
-    Step::Look(b"kx", Wanted::Absent),
+    Step::Look(b"kx", WantedLook::Absent),
 ];
 
 #[test]
@@ -86,4 +86,60 @@ fn a_strike_goes_by_the_filters_answer(rt: HostRuntime) -> Result<(), Fail> {
         &mut sound_sets(alloc)?,
         &THE_NINTH_AFTER_A_STRANGER,
     )
+}
+
+// The sets of ax and of bx differ, and each has both records. There is room for one strike in all.
+const WITH_ONE_PLACE: [Step; 16] = [
+    Step::WriteOf(b"ax", &PAIR),
+    Step::WriteOf(b"bx", &PAIR),
+    Step::Strike(b"ax"),
+    Step::ReadOf(b"ax", &[BX]),
+    // A strike that is there needs no room.
+    Step::Strike(b"ax"),
+    Step::ReadOf(b"ax", &[BX]),
+    Step::ReadOf(b"bx", &[AX, BX]),
+    // One for which there is no room forgets its set, and no other.
+    Step::Strike(b"bx"),
+    Step::ReadOf(b"bx", &[]),
+    Step::ReadOf(b"ax", &[BX]),
+    // A set that is written anew gives its place back.
+    Step::WriteOf(b"ax", &PAIR),
+    Step::WriteOf(b"bx", &PAIR),
+    Step::Strike(b"bx"),
+    Step::ReadOf(b"bx", &[AX]),
+    Step::Strike(b"ax"),
+    Step::ReadOf(b"ax", &[]),
+];
+
+// A set that is forgotten gives its place back.
+const AFTER_A_FORGETTING: [Step; 7] = [
+    Step::WriteOf(b"ax", &PAIR),
+    Step::WriteOf(b"bx", &PAIR),
+    Step::Strike(b"ax"),
+    Step::Forget,
+    Step::Strike(b"bx"),
+    Step::ReadOf(b"bx", &[AX]),
+    Step::ReadOf(b"ax", &[]),
+];
+
+// Five sets with room for one strike.
+fn one_place(alloc: Global) -> Result<Owner<MemoryDevice<256>, 256>, Fail> {
+    let layout = FIVE_SETS.check()?;
+    let device = MemoryDevice::new(alloc, 5)?;
+    let owner = Owner::open_with(alloc, &layout, 1, device)?.ok_or(
+        "a device that is large enough",
+    )?;
+    Ok(owner)
+}
+
+#[test]
+fn a_strike_without_room_forgets_its_set_alone(rt: HostRuntime) -> Result<(), Fail> {
+    let alloc = rt.alloc();
+    run(&rt, alloc, &mut one_place(alloc)?, &WITH_ONE_PLACE)
+}
+
+#[test]
+fn a_forgotten_set_gives_its_place_back(rt: HostRuntime) -> Result<(), Fail> {
+    let alloc = rt.alloc();
+    run(&rt, alloc, &mut one_place(alloc)?, &AFTER_A_FORGETTING)
 }

@@ -7,5 +7,5 @@ use Rattle.deeds.proofs.store.DeedStore.with_layout.Goals as goal
 pub invariant_of-result : goal.invariant_of-result
 invariant_of-result g c =
     let d = g.D.PageDevice in
-    let opened = served_opened d.honest d.held c.in_ok-store.store c.args.layout.now c.args.device c.opening_shows_nothing.ensures c.in_ok-store.ensures in
+    let opened = served_opened d.honest d.held c.in_ok-store.store c.args.strikes c.args.layout.now c.args.device c.opening_shows_nothing.ensures c.in_ok-store.ensures in
     subst (λ t. IsServed d.honest d.held (record { store = c.in_ok-store.store; deeds = t })) (sym c.new.ensures) opened

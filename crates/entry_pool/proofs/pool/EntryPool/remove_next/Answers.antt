@@ -1,10 +1,9 @@
 -- The node that the mark leads to goes out of its chains.
-use Rattle.std.proofs.Common.{◌≡◌, ◌∷◌, ℕ, Some, sym, ap, subst, ◌∙◌}
-use Rattle.entry_pool.specs.declared.links.Links.{Links}
+use Rattle.std.proofs.Common.{◌∷◌, ℕ, sym, ap, subst, ◌∙◌}
 use Rattle.entry_pool.specs.Chains.{none, IsIn, after_of}
 use Rattle.entry_pool.specs.Linked.{chains_of}
 use Rattle.entry_pool.specs.Rows.{Rows, in_set, with_rows, without_at}
-use Rattle.entry_pool.specs.Pool.{ages_of, bucket_of, IsBehind}
+use Rattle.entry_pool.specs.Pool.{bucket_of, IsBehind}
 use Rattle.entry_pool.proofs.Sound.{bucket-ages, can-take}
 use Rattle.entry_pool.proofs.Settled.{taken-sound, taken-rows}
 use Rattle.entry_pool.proofs.Marks.{bucket-rows, mark-in, NextNode, next-node}

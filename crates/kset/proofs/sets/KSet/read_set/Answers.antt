@@ -3,8 +3,7 @@ use Rattle.std.proofs.lemmas.Bool.{false≢true}
 use Rattle.std.specs.FinSet.{empty}
 use Rattle.page_device.specs.Frames.{pages_before}
 use Rattle.record_pages.specs.Recs.{Rec}
-use Rattle.kset.specs.Notes.{Notes}
-use Rattle.kset.specs.Sets.{notes_of, set_count}
+use Rattle.kset.specs.Sets.{SetsState, notes_of, set_count}
 use Rattle.kset.specs.Pages.{page_records}
 use Rattle.kset.specs.Shown.{with_flags, visible_from}
 use Rattle.kset.proofs.LookLaws.{reads_page, records_read, some_read, visible_from-empty}
@@ -15,7 +14,7 @@ pub returns-then-is_empty : goal.returns-then-is_empty
 returns-then-is_empty g c =
     let notes = notes_of c.args.self.now c.args.set in
     let records = page_records (g.D.PageDevice.held c.args.device.now) c.args.self.now c.args.set in
-    let none : notes.filter ≡ empty = sym (ap (λ (n : Notes). n.filter) c.notes.ensures) ∙ c.if-is_empty.ensures.0 refl in
+    let none : notes.filter ≡ empty = sym (ap (λ (k : SetsState). (notes_of k c.args.set).filter) c.self.view_is) ∙ c.if-is_empty.ensures.0 refl in
     record {
       reads = search rules;
       keeps = search rules;
@@ -31,7 +30,7 @@ pub returns-in_default : goal.returns-in_default
 returns-in_default g c =
     let d = g.D.PageDevice in
     let some : (notes_of c.args.self.now c.args.set).filter ≢ empty =
-    λ e. false≢true (c.if-is_empty.ensures.1 (ap (λ (n : Notes). n.filter) c.notes.ensures ∙ e)) in
+    λ e. false≢true (c.if-is_empty.ensures.1 (ap (λ (k : SetsState). (notes_of k c.args.set).filter) c.self.view_is ∙ e)) in
     record {
       reads = search rules;
       keeps = search rules;
@@ -52,7 +51,7 @@ returns-in_default-page_of g c =
     let count = set_count c.args.self.now in
     let lose = c.lose-in_default-page_of in
     let some : (notes_of c.args.self.now set).filter ≢ empty =
-    λ e. false≢true (c.if-is_empty.ensures.1 (ap (λ (n : Notes). n.filter) c.notes.ensures ∙ e)) in
+    λ e. false≢true (c.if-is_empty.ensures.1 (ap (λ (k : SetsState). (notes_of k c.args.set).filter) c.self.view_is ∙ e)) in
     record {
       reads = search rules;
       keeps = search rules;
@@ -73,7 +72,7 @@ returns g c =
     let count = set_count c.args.self.now in
     let notes = notes_of c.args.self.now set in
     let some : notes.filter ≢ empty =
-    λ e. false≢true (c.if-is_empty.ensures.1 (ap (λ (n : Notes). n.filter) c.notes.ensures ∙ e)) in
+    λ e. false≢true (c.if-is_empty.ensures.1 (ap (λ (k : SetsState). (notes_of k c.args.set).filter) c.self.view_is ∙ e)) in
     record {
       reads = search rules;
       keeps = search rules;
@@ -82,7 +81,7 @@ returns g c =
       gives = λ honest spelled.
           let r = reads_page g.row.PAGE count set held c.read.new.into c.requires.set (spelled set some) (c.in-Ok.ensures.known honest) in
           c.in_ok-records.ensures.visible
-          ∙ ap (λ (n : Notes). with_flags n (visible_from n 0 c.records.result)) c.notes-2.ensures
+          ∙ ap (λ (k : SetsState). with_flags (notes_of k set) (visible_from (notes_of k set) 0 c.records.result)) c.self.view_is
           ∙ ap (λ (rs : List Rec). with_flags notes (visible_from notes 0 rs))
           (c.records.ensures ∙ records_read g.row.PAGE set (pages_before count held set) c.read.new.into c.in-Some.page r c.in-Some.ensures.page);
       foreign = search rules;

@@ -8,7 +8,7 @@ use Rattle.mover.proofs.public_laws.FlightLists.{flights_struck}
 use Rattle.mover.proofs.Lanes.{lane_struck}
 use Rattle.mover.proofs.Flying.{struck_placed}
 use Rattle.kset.specs.Laws.{AreOfTheirSets}
-use Rattle.kset.specs.Sets.{notes_of}
+use Rattle.kset.specs.Sets.{notes_of, has_place}
 use Rattle.kset.specs.Shown.{visible_in}
 use Rattle.mover.proofs.store.Store.strike.Goals as goal
 
@@ -21,7 +21,7 @@ invariant_of-self g c =
     s.device c.strike.new.self c.strike-2.new.self c.strike.ensures.shape c.strike-2.ensures.sizes refl refl
     (λ honest. c.strike.ensures.spelled (d.held s.device)) (λ honest. c.strike-2.ensures.spelled (d.held s.device))
     (λ honest placed. subst (AreOfTheirSets s.log.shape.lanes s.log.shape.sets) (sym (c.strike-2.ensures.shown (d.held s.device)))
-    (c.strikes_keep_sets.ensures s.log.shape.lanes s.log.shape.sets c.args.placed.now.set c.args.placed.now.hash (notes_of s.sets c.args.placed.now.set) (visible_in (d.held s.device) s.sets) placed)) in
+    (c.strikes_keep_sets.ensures s.log.shape.lanes s.log.shape.sets c.args.placed.now.set c.args.placed.now.hash (has_place s.sets) (notes_of s.sets c.args.placed.now.set) (visible_in (d.held s.device) s.sets) placed)) in
     subst (λ (fs : List Flight). IsStore g.row.PAGE d.page_count d.honest d.held (record old { log = c.strike.new.self; sets = c.strike-2.new.self; flights = fs })) (sym c.strike-3.ensures)
     (kept_flights g.row.PAGE d.page_count d.honest d.held (record old { log = c.strike.new.self; sets = c.strike-2.new.self }) flash (map (flight_struck c.args.placed.now.hash) s.flights) s.moves flash.numbered
     (flights_struck c.strike.new.self.shape s.moves c.args.placed.now.hash s.flights flash.flights)

@@ -7,12 +7,12 @@ use Rattle.mover.proofs.store.commit.fill.Goals.{then-not-is_struck, else-not-is
 use Rattle.mover.proofs.store.commit.fill.Goals as goal
 
 pub record-record-requires : goal.record-record-requires
-record-record-requires g c = chosen_within g.row.PAGE c.args.flight.now.moving c.args.plan.now c.loop-number.number c.at-choice.result c.requires.fitting c.at-choice.ensures
+record-record-requires g c = chosen_within g.row.PAGE c.args.flight.now.moving c.args.plan.now c.loop-number.number c.at-choice.result.now c.requires.fitting c.at-choice.ensures
 
 pub push-requires : goal.push-requires
 push-requires g c =
     let flight = c.args.flight.now in
-    let choice = c.at-choice.result in
+    let choice = c.at-choice.result.now in
     let this = planned_as flight.moving choice c.record-record.result.now (record_shown c.new-anew.result) c.record-record.ensures c.new-anew.ensures.shown in
     let passes : not (is_struck flight choice.item) ≡ true = search rules in
     let small = c.requires.page_size in (
@@ -26,7 +26,7 @@ push-requires g c =
 pub loop-number-preserved : goal.loop-number-preserved
 loop-number-preserved g c =
     let flight = c.args.flight.now in
-    let choice = c.at-choice.result in
+    let choice = c.at-choice.result.now in
     elim c.if-not-is_struck.branch [
       | then-not-is_struck w ↦
           let this = planned_as flight.moving choice w.record-record.result.now (record_shown w.new-anew.result) w.record-record.ensures w.new-anew.ensures.shown in
