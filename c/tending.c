@@ -5,8 +5,16 @@
 #include <signal.h>
 #include <stdlib.h>
 
+/* A lock that spins for a while before its thread sleeps, where the C library has such a kind: a lane is held for a
+ * microsecond or less, and to wake a thread takes longer. None of these calls is refused. */
 void init_lock(pthread_mutex_t *lock) {
-    pthread_mutex_init(lock, NULL);
+    pthread_mutexattr_t kind;
+    pthread_mutexattr_init(&kind);
+#ifdef __GLIBC__
+    pthread_mutexattr_settype(&kind, PTHREAD_MUTEX_ADAPTIVE_NP);
+#endif
+    pthread_mutex_init(lock, &kind);
+    pthread_mutexattr_destroy(&kind);
 }
 
 kangaroo_status queue_open(due_queue *queue, uint32_t lane_count) {
