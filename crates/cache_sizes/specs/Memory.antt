@@ -4,7 +4,7 @@ use Rattle.std.specs.Int.{div_ceil}
 use Rattle.record_pages.specs.declared.limits.TheConstants.{MAX_ENTRIES, MAX_MEMORY}
 use Rattle.cache_sizes.specs.Records.{log_records}
 use Rattle.cache_sizes.specs.declared.limits.TheConstants.{MIN_LEASE_SLOTS, MIN_STRIKES}
-use Rattle.cache_sizes.specs.declared.proportions.TheConstants.{ENTRIES_FOR_4_RECORDS}
+use Rattle.cache_sizes.specs.declared.proportions.TheConstants.{ENTRIES_FOR_4_RECORDS, STRIKES_FOR_SET}
 use Rattle.cache_sizes.specs.declared.estimates.TheConstants.{ESTIMATED_SET_BYTES, ESTIMATED_ENTRY_BYTES, ESTIMATED_SEGMENT_PAGE_BYTES, ESTIMATED_LEASE_SLOT_BYTES, ESTIMATED_LANE_BYTES, ESTIMATED_OBJECT_BYTES}
 
 -- the entries of the log's index: one for each record in the segments and in two buffers, and a quarter more, since objects that
@@ -17,9 +17,9 @@ entries_of segments segment_pages object_bytes =
 unfoldable pub lease_slots_of : ℕ → ℕ
 lease_slots_of sets = max MIN_LEASE_SLOTS sets
 
--- the strikes that a lane which serves has room for: one a set, and no fewer than a small lane wants
+-- the strikes that a lane which serves has room for: four a set, and no fewer than a small lane wants
 unfoldable pub strikes_of : ℕ → ℕ
-strikes_of sets = max MIN_STRIKES sets
+strikes_of sets = max MIN_STRIKES (STRIKES_FOR_SET * sets)
 
 -- the bytes that a lane takes from the start: those of its sets, of its log's index and buffers, of its slots, and the rest
 unfoldable pub lane_bytes_of : ℕ → ℕ → ℕ → ℕ → ℕ

@@ -1,8 +1,8 @@
 // What the parts of a lane take of memory: estimates, which docs/BENCHMARKS.md holds against what was measured.
 
-/// An estimate of the bytes of memory of a set: 48 for its filter and hit bits, 12 for a strike, 5 for where its strikes
-/// begin and how many they are, and 4 for the head of its list in the log's index.
-pub const ESTIMATED_SET_BYTES: u64 = 69;
+/// An estimate of the bytes of memory of a set: 48 for its filter and hit bits, 48 for four strikes, 5 for where its
+/// strikes begin and how many they are, and 4 for the head of its list in the log's index.
+pub const ESTIMATED_SET_BYTES: u64 = 105;
 
 /// An estimate of the bytes of memory of an entry of the log's index: two words. Measured were 16.0.
 pub const ESTIMATED_ENTRY_BYTES: u64 = 16;

@@ -3,7 +3,7 @@ ghost use Rattle.std.specs.Prelude.{◌≡◌, ◌≤◌};
 ghost use Rattle.cache_sizes.specs.Memory.{entries_of, lease_slots_of, strikes_of};
 
 use crate::limits::{MAX_LEASE_SLOTS, MAX_OBJECT_BYTES, MIN_LEASE_SLOTS, MIN_STRIKES};
-use crate::proportions::ENTRIES_FOR_4_RECORDS;
+use crate::proportions::{ENTRIES_FOR_4_RECORDS, STRIKES_FOR_SET};
 use crate::records::log_records;
 use record_pages::{MAX_ENTRIES, MAX_SEGMENT_PAGES, MAX_SEGMENTS, MAX_SETS};
 
@@ -34,13 +34,14 @@ pub(crate) fn lease_slots_of(sets: u32) -> u32
     sets.max(MIN_LEASE_SLOTS)
 }
 
-/// The strikes that a lane which serves has room for, if it has this many sets: one a set, and no fewer than `MIN_STRIKES`.
-/// Most sets have none most of the time, and one for which there is no room makes the lane forget a set, which a cache may.
+/// The strikes that a lane which serves has room for, if it has this many sets: four a set, and no fewer than `MIN_STRIKES`.
+/// Objects on their way to a set, in memory and in the log, are some three, and each may replace one that lies there. A strike
+/// without room makes the lane forget a set, which a cache may.
 #[tactic(auto, unfolding(crate::specs::Memory::strikes_of))]
 pub fn strikes_of(sets: u32) -> u32
     requires { sets ≤ MAX_SETS }
     ensures strikes { result ≡ strikes_of sets }
-    ensures most { result ≤ MAX_SETS }
+    ensures most { result ≤ 262144 }
 {
-    sets.max(MIN_STRIKES)
+    (STRIKES_FOR_SET * sets).max(MIN_STRIKES)
 }

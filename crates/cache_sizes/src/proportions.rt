@@ -23,3 +23,7 @@ pub(crate) const ENTRIES_FOR_4_RECORDS: u64 = 5;
 // Objects for each 100 that the sets have room for: keys fall into sets by chance. With 93 some 4 keys of 100 find
 // their set full, with more these grow.
 pub(crate) const FULL_PERCENT: u64 = 93;
+
+// Strikes that a lane has room for, for each set: objects in memory and in the log are some three for each set, and each
+// may replace one that lies in its set.
+pub(crate) const STRIKES_FOR_SET: u32 = 4;
