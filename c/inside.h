@@ -114,8 +114,8 @@ void threads_stop(kangaroo_cache *cache);
 /* Makes a lock. On Linux one without attributes is a few words that are written: the C library has nothing to ask the
  * system for, so it does not refuse. */
 void init_lock(pthread_mutex_t *lock);
-/* Hands a lane to the threads if it is due; the lane's lock is held. */
-void hand_over_if_due(kangaroo_cache *cache, uint32_t number);
+/* Hands a lane that is due to the threads; the lane's lock is held. */
+void hand_over(kangaroo_cache *cache, uint32_t number);
 
 /* random.c: random bytes of the system. */
 outcome draw_random(void *to, size_t bytes);

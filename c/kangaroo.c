@@ -200,7 +200,7 @@ kangaroo_status kangaroo_lease_drop(kangaroo_cache *cache, kangaroo_lease *lease
 
 /* --------------------------------------------------------------------------------------------------- put and remove */
 
-typedef int32_t put_of_lane(kl_lane *, const uint8_t *, size_t, const uint8_t *, size_t, uint64_t);
+typedef int32_t put_of_lane(kl_lane *, const uint8_t *, size_t, const uint8_t *, size_t, uint64_t, uint32_t *);
 
 static kangaroo_status put_by(put_of_lane *put, kangaroo_cache *cache, const void *key, size_t key_length,
                               const void *value, size_t value_length, uint64_t expires) {
@@ -209,9 +209,10 @@ static kangaroo_status put_by(put_of_lane *put, kangaroo_cache *cache, const voi
     if (status != KANGAROO_OK) return status;
     if (!are_bytes(value, value_length)) return KANGAROO_WRONG_ARGUMENT;
     value_bytes taken = take_value(value, value_length);
+    uint32_t is_due = 0;
     hold held = hold_lane(cache, copy.place.lane);
-    int32_t answer = put(&held.lane->lane, copy.bytes, copy.length, taken.at, taken.length, expires);
-    hand_over_if_due(cache, copy.place.lane);
+    int32_t answer = put(&held.lane->lane, copy.bytes, copy.length, taken.at, taken.length, expires, &is_due);
+    if (is_due != 0) hand_over(cache, copy.place.lane);
     return release(&held, answer);
 }
 
@@ -240,10 +241,11 @@ kangaroo_status kangaroo_fill(kangaroo_cache *cache, kangaroo_lease *lease, cons
     if (lease == NULL || !are_bytes(value, value_length)) return KANGAROO_WRONG_ARGUMENT;
     if (!is_lease_of(lease, cache, &copy)) return refuse_lease(cache, lease);
     value_bytes taken = take_value(value, value_length);
+    uint32_t is_due = 0;
     hold held = hold_lane(cache, copy.place.lane);
     int32_t answer = kl_fill(&held.lane->lane, lease->opaque[LEASE_WRITES], copy.bytes, copy.length, taken.at,
-                             taken.length, expires);
-    hand_over_if_due(cache, copy.place.lane);
+                             taken.length, expires, &is_due);
+    if (is_due != 0) hand_over(cache, copy.place.lane);
     status = release(&held, answer);
     if (status >= 0) *lease = (kangaroo_lease){{0}};
     return status;

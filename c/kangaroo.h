@@ -160,7 +160,7 @@ typedef struct kangaroo_options {
     uint32_t threads;        /* threads that call at once: 0 (default) is one for each processor; at most 4,096 */
     uint32_t upkeep_threads; /* threads of the library's own for upkeep, 0 to 16; default 1; 0: upkeep is yours */
     uint32_t admit;          /* how many of 65,536 objects that leave memory go to flash: 0 to 65,536 (default) */
-    uint32_t threshold;      /* the fewest objects that move to a set together: 1 to 32; default 2 */
+    uint32_t threshold;      /* the fewest objects that move to a set together: 1 to 32; 0 (default): by object_bytes */
     uint32_t lease_slots;    /* lease slots of a lane: 0 (default) is worked out; 1 to 1,048,576 */
 
     /* The shape of the cache. All seven 0 (default): worked out from the fields above. Or all seven yours: then

@@ -113,9 +113,9 @@ void kl_place_of(const kl_seed *seed, uint32_t lanes, const uint8_t *key, size_t
  * kl_size_fault and writes nothing. */
 uint32_t kl_shape_of(const kl_wanted *wanted, kl_shape *to);
 
-/* If shape->lease_slots is 0, it becomes what kl_shape_of gives with as many sets. Answers the kl_shape_field that is
- * the first out of its range then, or KL_NO_FIELD. */
-uint32_t kl_complete_shape(kl_shape *shape);
+/* If shape->lease_slots is 0, it becomes what kl_shape_of gives with as many sets; if shape->threshold is 0, it becomes
+ * that for objects of so many bytes. Answers the kl_shape_field that is the first out of its range then, or KL_NO_FIELD. */
+uint32_t kl_complete_shape(kl_shape *shape, uint32_t object_bytes);
 
 /* Sizes of a shape: all zeros for one with a field out of its range. */
 void kl_sizes_of(const kl_shape *shape, uint32_t object_bytes, kl_sizes *to);
@@ -145,26 +145,23 @@ int32_t kl_get_or_lease(kl_lane *lane, const uint8_t *key, size_t key_length, ui
                         size_t into_length, kl_hit *hit, uint64_t *writes);
 
 /* KANGAROO_OK: stored. KANGAROO_WRONG_KEY, KANGAROO_TOO_LARGE or KANGAROO_NO_MEMORY: only counters have changed. It does
- * upkeep itself if the log is nearly full. */
+ * upkeep itself if the log is nearly full. *is_due becomes 1 if upkeep is due after it, else 0, whatever it answers. */
 int32_t kl_put(kl_lane *lane, const uint8_t *key, size_t key_length, const uint8_t *value, size_t value_length,
-               uint64_t expires);
+               uint64_t expires, uint32_t *is_due);
 
 /* The same, but at KANGAROO_TOO_LARGE and KANGAROO_NO_MEMORY the key is removed. */
 int32_t kl_put_or_remove(kl_lane *lane, const uint8_t *key, size_t key_length, const uint8_t *value,
-                         size_t value_length, uint64_t expires);
+                         size_t value_length, uint64_t expires, uint32_t *is_due);
 
-/* KANGAROO_OK: stored. KANGAROO_STALE: only a counter has changed. Refusals as of a put. */
+/* KANGAROO_OK: stored. KANGAROO_STALE: only a counter has changed. Refusals, and *is_due, as of a put. */
 int32_t kl_fill(kl_lane *lane, uint64_t writes, const uint8_t *key, size_t key_length, const uint8_t *value,
-                size_t value_length, uint64_t expires);
+                size_t value_length, uint64_t expires, uint32_t *is_due);
 
 /* KANGAROO_OK, or KANGAROO_WRONG_KEY. */
 int32_t kl_remove(kl_lane *lane, const uint8_t *key, size_t key_length);
 
 /* Does one step of upkeep, if one is due. */
 void kl_upkeep_step(kl_lane *lane, kl_step *to);
-
-/* Whether upkeep is due now: 0 or 1. */
-uint32_t kl_is_due(kl_lane *lane);
 
 void kl_count(kl_lane *lane, kl_counters *to);
 

@@ -31,7 +31,6 @@ kangaroo_status kangaroo_options_init(kangaroo_options *options, size_t size) {
     defaults.object_bytes = 100;
     defaults.upkeep_threads = 1;
     defaults.admit = 65536;
-    defaults.threshold = 2;
     write_struct(options, size, &defaults, sizeof defaults);
     return KANGAROO_OK;
 }
@@ -145,7 +144,7 @@ kangaroo_status resolve_options(kangaroo_options *options, kl_shape *shape, cons
     status = find_shape(options, shape, field);
     if (status != KANGAROO_OK) return status;
     take_fields(options, shape, KL_LEASE_SLOTS, KL_ADMIT);
-    uint32_t fault = kl_complete_shape(shape);
+    uint32_t fault = kl_complete_shape(shape, options->object_bytes);
     if (fault != KL_NO_FIELD) return wrong(field, shape_fields[fault <= KL_ADMIT ? fault : KL_SHARDS].name);
     give_fields(shape, options);
     return KANGAROO_OK;

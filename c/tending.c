@@ -34,11 +34,16 @@ void queue_close(due_queue *queue) {
     queue->numbers = NULL;
 }
 
-static void enter(due_queue *queue, uint32_t number) {
-    pthread_mutex_lock(&queue->lock);
+/* Puts a lane after the others, in a queue that is held. */
+static void append(due_queue *queue, uint32_t number) {
     uint64_t place = (uint64_t)queue->first + queue->count;
     queue->numbers[place % queue->room] = number;
     queue->count++;
+}
+
+static void enter(due_queue *queue, uint32_t number) {
+    pthread_mutex_lock(&queue->lock);
+    append(queue, number);
     pthread_cond_signal(&queue->is_wanted);
     pthread_mutex_unlock(&queue->lock);
 }
@@ -57,28 +62,52 @@ static bool next_due(due_queue *queue, uint32_t *number) {
     return is_found;
 }
 
-void hand_over_if_due(kangaroo_cache *cache, uint32_t number) {
+void hand_over(kangaroo_cache *cache, uint32_t number) {
     guarded_lane *lane = &cache->lanes[number];
-    if (cache->thread_count == 0 || lane->is_queued || kl_is_due(&lane->lane) == 0) return;
+    if (cache->thread_count == 0 || lane->is_queued) return;
     lane->is_queued = true;
     enter(&cache->due, number);
 }
 
-/* One step of a lane. A lane that was refused memory waits for its next put: to try again at once would not help. */
-static void tend(kangaroo_cache *cache, uint32_t number) {
+/* Puts a lane after the others that are due. False: no other is. */
+static bool give_way(due_queue *queue, uint32_t number) {
+    pthread_mutex_lock(&queue->lock);
+    bool is_given = queue->count != 0;
+    if (is_given) append(queue, number);
+    pthread_mutex_unlock(&queue->lock);
+    return is_given;
+}
+
+/* One step of a lane that is held. A lane that was refused memory waits for its next put: to try again at once would
+ * not help. */
+static void tend_held(kangaroo_cache *cache, uint32_t number) {
     guarded_lane *lane = &cache->lanes[number];
     kl_step step = {0};
-    pthread_mutex_lock(&lane->lock);
     kl_upkeep_step(&lane->lane, &step);
     lane->is_queued = step.is_due != 0 && step.did != KL_MEMORY_WAS_REFUSED;
     if (lane->is_queued) enter(&cache->due, number);
     pthread_mutex_unlock(&lane->lock);
 }
 
+/* Does one step of a lane. If a call holds it, the lane lets the others that are due go first. A thread that was held
+ * up as often as there are lanes waits: whoever holds them then may have been stopped by the system. */
+static void tend(kangaroo_cache *cache, uint32_t number, uint32_t *held_up) {
+    pthread_mutex_t *lock = &cache->lanes[number].lock;
+    if (pthread_mutex_trylock(lock) != 0) {
+        if (*held_up < cache->lane_count && give_way(&cache->due, number)) {
+            ++*held_up;
+            return;
+        }
+        pthread_mutex_lock(lock);
+    }
+    *held_up = 0;
+    tend_held(cache, number);
+}
+
 static void *tend_for_good(void *of) {
     kangaroo_cache *cache = of;
-    uint32_t number;
-    while (next_due(&cache->due, &number)) tend(cache, number);
+    uint32_t number, held_up = 0;
+    while (next_due(&cache->due, &number)) tend(cache, number, &held_up);
     return NULL;
 }
 

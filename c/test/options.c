@@ -65,7 +65,6 @@ static void shows_faults_of_what_is_wanted(void) {
     o.threads = 4097, expect_fault(o, "threads"), o = defaults();
     o.upkeep_threads = 17, expect_fault(o, "upkeep_threads"), o = defaults();
     o.admit = 65537, expect_fault(o, "admit"), o = defaults();
-    o.threshold = 0, expect_fault(o, "threshold"), o = defaults();
     o.threshold = 33, expect_fault(o, "threshold"), o = defaults();
     o.lease_slots = 1048577, expect_fault(o, "lease_slots"), o = defaults();
     o.reserved = 1, expect_fault(o, "reserved");
@@ -118,6 +117,21 @@ static void shows_slots_of_a_shape(void) {
     show("slots for leases of a shape of one's own: worked out where 0 are given");
 }
 
+/* The threshold for objects of so many bytes, where one is given. */
+static uint32_t threshold_with(uint32_t object_bytes, uint32_t given) {
+    kangaroo_options options = defaults();
+    options.object_bytes = object_bytes;
+    options.threshold = given;
+    expect_status(kangaroo_options_resolve(&options, NULL), KANGAROO_OK, "a threshold");
+    return options.threshold;
+}
+
+static void shows_thresholds(void) {
+    expect(threshold_with(100, 0) == 2 && threshold_with(1000, 0) == 1, "small objects move by twos, large ones alone");
+    expect(threshold_with(1000, 2) == 2 && threshold_with(100, 32) == 32, "a threshold that is given stays");
+    show("the threshold: by object_bytes where 0 is given");
+}
+
 int main(void) {
     expect_status(kangaroo_options_resolve(NULL, NULL), KANGAROO_WRONG_ARGUMENT, "no options");
     shows_resolved();
@@ -125,5 +139,6 @@ int main(void) {
     shows_faults_of_what_is_wanted();
     shows_faults_of_a_shape();
     shows_slots_of_a_shape();
+    shows_thresholds();
     return 0;
 }

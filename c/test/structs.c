@@ -28,7 +28,7 @@ static void shows_init(void) {
     expect_status(kangaroo_options_init(&any.known, sizeof any), KANGAROO_OK, "init of a newer version");
     expect(any.known.size == sizeof any && are(any.bytes, sizeof any.known, sizeof any, 0), "newer fields are 0");
     expect(any.known.flash_bytes == (uint64_t)1 << 30 && any.known.memory_bytes == 128u << 20, "the defaults");
-    expect(any.known.object_bytes == 100 && any.known.admit == 65536 && any.known.threshold == 2, "the defaults");
+    expect(any.known.object_bytes == 100 && any.known.admit == 65536 && any.known.threshold == 0, "the defaults");
     expect(any.known.upkeep_threads == 1 && any.known.flags == 0 && any.known.lanes == 0, "the defaults");
     show("options_init: sizes of version 1.0, and of a newer one");
 }

@@ -12,6 +12,7 @@ use Rattle.cache_sizes.specs.declared.wanted.Wanted.{Wanted}
 use Rattle.cache_sizes.specs.declared.size_fault.SizeFault.{SizeFault}
 use Rattle.cache_sizes.specs.declared.size_fault.SizeFault.TheVariants as faults
 use Rattle.cache_sizes.specs.Memory.{lease_slots_of}
+use Rattle.cache_sizes.specs.Records.{threshold_of}
 use Rattle.cache_sizes.specs.Shapes.{IsShapeFor, flash_bytes_of, file_pages_of, fixed_bytes_of, memory_bytes_of, objects_in_memory_of, objects_in_logs_of, objects_in_sets_of}
 use Rattle.c_lane.specs.declared.lane_shape.LaneShape.{LaneShape}
 use Rattle.c_lane.specs.declared.shape_field.ShapeField.{ShapeField}
@@ -101,9 +102,14 @@ pub record IsLayoutOf (s : LaneShape) (layout : Layout) : Type 0 where
   pub least_slots : 1 ≤ s.lease_slots
   pub most_slots : s.lease_slots ≤ MAX_LEASE_SLOTS
 
--- the shape with slots for leases: if it has none, as many as sizes would give a lane of its sets
-abbrev pub with_slots : LaneShape → LaneShape
-with_slots s = record s { lease_slots = if s.lease_slots == 0 then lease_slots_of s.sets else s.lease_slots }
+-- the number, or another one if it is 0
+abbrev pub or_else : ℕ → ℕ → ℕ
+or_else number other = if number == 0 then other else number
+
+-- the shape with slots for leases and with a threshold: if it has none, as many slots as sizes would give a lane of its sets, and
+-- the threshold for objects of this many bytes
+abbrev pub completed : ℕ → LaneShape → LaneShape
+completed object_bytes s = record s { lease_slots = or_else s.lease_slots (lease_slots_of s.sets); threshold = or_else s.threshold (threshold_of object_bytes) }
 
 -- the shape has the parts that C's has
 pub record HasPartsOf (shape : Shape) (s : LaneShape) : Type 0 where

@@ -21,6 +21,7 @@ pub use limits::{
     MIN_FLASH_BYTES, MIN_LEASE_SLOTS, MIN_STRIKES, PAGE_BYTES,
 };
 pub use memory::strikes_of;
+pub use records::threshold_of;
 pub use shape::Shape;
 pub use size_fault::SizeFault;
 pub use wanted::Wanted;

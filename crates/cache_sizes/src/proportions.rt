@@ -27,3 +27,10 @@ pub(crate) const FULL_PERCENT: u64 = 93;
 // Strikes that a lane has room for, for each set: objects in memory and in the log are some three for each set, and each
 // may replace one that lies in its set.
 pub(crate) const STRIKES_FOR_SET: u32 = 4;
+
+// Objects that move to a set together at the least, so that a page is not written for one of them.
+pub(crate) const USUAL_THRESHOLD: u32 = 2;
+
+// A set with room for fewer records than these has each object moved to it that comes: seldom does a second one of it lie in
+// the log.
+pub(crate) const FEW_RECORDS: u64 = 16;

@@ -1,5 +1,7 @@
 -- What an export does to the lane of a place, and the number that it answers.
-use Rattle.std.specs.Prelude.{◌≡◌, ℕ, ℤ, List, length, Option, Some, None, true, slice_get}
+use Rattle.std.specs.Prelude.{◌≡◌, ℕ, ℤ, List, length, Option, Some, None, true, slice_get, is_some}
+use Rattle.std.specs.Int.{from_bool}
+use Rattle.service_lane.specs.Upkeep.{due_in}
 use Rattle.c_lane.specs.declared.status.Status.{Status}
 use Rattle.c_lane.specs.declared.status.Status.TheVariants as statuses
 use Rattle.c_lane.specs.declared.lane_shape.LaneShape.{LaneShape}
@@ -34,6 +36,11 @@ pub record Tells (does : Status → PagesLane → PagesLane → Type 0) (number 
   pub status : Status
   pub number_is : number ≡ number_of status
   pub does_it : OnLanes (does status) old new
+
+-- a place has a lane, and the number is 1 if upkeep is due in it, else 0
+abbrev pub TellsDue : ℕ → Option KeptLane → Type 0
+TellsDue number (Some kept) = number ≡ from_bool (is_some (due_in kept.lane.serving))
+TellsDue number None = ⊥
 
 -- the number is that of the status of a judgement on these bytes
 pub record IsJudgedBy (bytes buffer : List ℕ) (number : ℤ) (into : List ℕ) (len : ℕ) : Type 0 where

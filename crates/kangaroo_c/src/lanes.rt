@@ -3,7 +3,7 @@ ghost use Rattle.std.specs.Prelude.{◌≡◌, None};
 ghost use Rattle.record_pages.specs.Bounded.{IsKey};
 ghost use Rattle.c_lane.specs.Getting.{Answers, AnswersOrLeases, RefusesGet};
 ghost use Rattle.c_lane.specs.Putting.{Puts, PutsOrRemoves, FillsOrNot, RemovesKey};
-ghost use Rattle.kangaroo_c.specs.Telling.{IsFull, Tells, TellsOpening, page_laws};
+ghost use Rattle.kangaroo_c.specs.Telling.{IsFull, Tells, TellsDue, TellsOpening, page_laws};
 
 use crate::handle::Handle;
 use crate::keeping::{open_in, put_back, take_lane};
@@ -88,7 +88,7 @@ pub extern "C" fn kl_get_or_lease(
     status.number()
 }
 
-/// Puts a value.
+/// Puts a value, and says whether upkeep is due after it: 1 or 0.
 #[unsafe(no_mangle)]
 pub extern "C" fn kl_put(
     alloc: Global,
@@ -96,18 +96,21 @@ pub extern "C" fn kl_put(
     key: &[u8],
     value: &[u8],
     expires: u64,
+    is_due: &mut u32,
 ) -> i32
     requires { IsFull lane.old.lane }
-    ensures { Tells (λ status old new. Puts page_laws key.now value.now expires old status new)
+    ensures put { Tells (λ status old new. Puts page_laws key.now value.now expires old status new)
         result lane.old.lane lane.new.lane }
+    ensures due { TellsDue is_due.new lane.new.lane }
 {
     let mut kept = take_lane(alloc, lane);
     let status = kept.lane.put(alloc, key, value, expires);
+    *is_due = u32::from(kept.lane.is_due());
     put_back(lane, kept);
     status.number()
 }
 
-/// Puts a value, or removes the key if the put is refused.
+/// Puts a value, or removes the key if the put is refused; and says whether upkeep is due after it: 1 or 0.
 #[unsafe(no_mangle)]
 pub extern "C" fn kl_put_or_remove(
     alloc: Global,
@@ -115,18 +118,21 @@ pub extern "C" fn kl_put_or_remove(
     key: &[u8],
     value: &[u8],
     expires: u64,
+    is_due: &mut u32,
 ) -> i32
     requires { IsFull lane.old.lane }
-    ensures { Tells (λ status old new. PutsOrRemoves page_laws key.now value.now expires old status new)
+    ensures put { Tells (λ status old new. PutsOrRemoves page_laws key.now value.now expires old status new)
         result lane.old.lane lane.new.lane }
+    ensures due { TellsDue is_due.new lane.new.lane }
 {
     let mut kept = take_lane(alloc, lane);
     let status = kept.lane.put_or_remove(alloc, key, value, expires);
+    *is_due = u32::from(kept.lane.is_due());
     put_back(lane, kept);
     status.number()
 }
 
-/// Puts a value by a lease.
+/// Puts a value by a lease, and says whether upkeep is due after it: 1 or 0.
 #[unsafe(no_mangle)]
 pub extern "C" fn kl_fill(
     alloc: Global,
@@ -135,13 +141,16 @@ pub extern "C" fn kl_fill(
     key: &[u8],
     value: &[u8],
     expires: u64,
+    is_due: &mut u32,
 ) -> i32
     requires { IsFull lane.old.lane }
-    ensures { Tells (λ status old new. FillsOrNot page_laws writes key.now value.now expires old status new)
+    ensures filled { Tells (λ status old new. FillsOrNot page_laws writes key.now value.now expires old status new)
         result lane.old.lane lane.new.lane }
+    ensures due { TellsDue is_due.new lane.new.lane }
 {
     let mut kept = take_lane(alloc, lane);
     let status = kept.lane.fill(alloc, writes, key, value, expires);
+    *is_due = u32::from(kept.lane.is_due());
     put_back(lane, kept);
     status.number()
 }

@@ -1,7 +1,7 @@
 // Sizes both ways, and where a key is.
 ghost use Rattle.std.specs.Prelude.{◌≡◌, ◌≤◌, None, Some};
 ghost use Rattle.c_lane.specs.Placing.{place_in};
-ghost use Rattle.c_lane.specs.Shapes.{SizesOf, with_slots};
+ghost use Rattle.c_lane.specs.Shapes.{SizesOf, completed};
 ghost use Rattle.kangaroo_c.specs.Sizing.{number_of_faulty, ShapeIsWritten};
 
 use c_lane::{KeyPlace, LaneShape, Seed, Sizes, WantedSizes, number_of_fault, place_of};
@@ -26,13 +26,14 @@ pub extern "C" fn kl_shape_of(wanted: &WantedSizes, to: &mut LaneShape) -> u32
     }
 }
 
-/// Gives a shape slots for leases, if it has 0. The number of the first field that is out of its range then, or 0.
+/// Gives a shape slots for leases and a threshold, if it has 0: that for objects of this many bytes. The number of the first field
+/// that is out of its range then, or 0.
 #[unsafe(no_mangle)]
-pub extern "C" fn kl_complete_shape(shape: &mut LaneShape) -> u32
-    ensures completed { shape.new ≡ with_slots shape.old }
+pub extern "C" fn kl_complete_shape(shape: &mut LaneShape, object_bytes: u32) -> u32
+    ensures completed { shape.new ≡ completed object_bytes shape.old }
     ensures number { result ≡ number_of_faulty shape.new }
 {
-    shape.give_slots();
+    shape.complete(object_bytes);
     match shape.check() {
         Ok(_) => 0,
         Err(field) => field.number(),

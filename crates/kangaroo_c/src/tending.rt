@@ -1,7 +1,5 @@
 // Upkeep of a lane, and its counters.
-ghost use Rattle.std.specs.Prelude.{◌≡◌, Some, None, is_some};
-ghost use Rattle.std.specs.Int.{from_bool};
-ghost use Rattle.service_lane.specs.Upkeep.{due_in};
+ghost use Rattle.std.specs.Prelude.{◌≡◌, Some, None};
 ghost use Rattle.c_lane.specs.Counting.{counters_of};
 ghost use Rattle.c_lane.specs.Tending.{Tends};
 ghost use Rattle.kangaroo_c.specs.Telling.{IsFull, OnLanes, page_laws};
@@ -31,17 +29,4 @@ pub extern "C" fn kl_count(alloc: Global, lane: &mut Handle, to: &mut Counters)
     let kept = take_lane(alloc, lane);
     *to = kept.lane.counters();
     put_back(lane, kept);
-}
-
-/// 1 if something is due, else 0. The lane stays as it is.
-#[unsafe(no_mangle)]
-pub extern "C" fn kl_is_due(alloc: Global, lane: &mut Handle) -> u32
-    requires { IsFull lane.old.lane }
-    ensures { OnLanes (λ old new. (result ≡ from_bool (is_some (due_in old.serving))) × (new ≡ old))
-        lane.old.lane lane.new.lane }
-{
-    let kept = take_lane(alloc, lane);
-    let is_due = kept.lane.is_due();
-    put_back(lane, kept);
-    u32::from(is_due)
 }

@@ -265,15 +265,36 @@ fn sizes_become_a_shape_and_a_shape_sizes(rt: HostRuntime) -> Result<(), Fail> {
     Ok(())
 }
 
-// The slots for leases of a shape with so many sets and so many slots, after `give_slots`.
+// The slots for leases of a shape with so many sets and so many slots, after `complete`.
 fn slots(sets: u32, lease_slots: u32) -> u32 {
     let mut shape = LaneShape {
         sets,
         lease_slots,
         ..SHAPE
     };
-    shape.give_slots();
+    shape.complete(100);
     shape.lease_slots
+}
+
+// The threshold of a shape with this one, for objects of so many bytes, after `complete`.
+fn threshold(object_bytes: u32, threshold: u32) -> u32 {
+    let mut shape = LaneShape { threshold, ..SHAPE };
+    shape.complete(object_bytes);
+    shape.threshold
+}
+
+#[test]
+fn a_shape_without_a_threshold_gets_that_of_its_objects(rt: HostRuntime) {
+    assert_eq!(rt;
+        (
+            threshold(100, 0),
+            threshold(240, 0),
+            threshold(241, 0),
+            threshold(2303, 0),
+            threshold(1000, 3)
+        ),
+        (2, 2, 1, 1, 3)
+    );
 }
 
 #[test]
