@@ -1,2 +1,4 @@
-mod Writing
+mod StepCounts
 mod Tending
+mod Writing
+pub mod public_laws

@@ -30,7 +30,9 @@ use Rattle.service_lane.specs.declared.due.Due.TheVariants as due
 use Rattle.service_lane.specs.Dueness.{can_flush, wants_move, due_of, is_near_end, is_nearly_filled, has_above}
 use Rattle.service_lane.specs.declared.upkept.Upkept.{Upkept}
 use Rattle.service_lane.specs.declared.upkept.Upkept.TheVariants as upkept
-use Rattle.service_lane.specs.Counting.{with_step}
+use Rattle.service_lane.specs.declared.counter.Counter.TheVariants as counter
+use Rattle.service_lane.specs.Counting.{counter_of_flush, counter_of_move}
+use Rattle.service_lane.proofs.StepCounts.{CountsStep, step_counted, work_of_flush, work_of_move}
 use Rattle.service_lane.specs.Serving.{Serving}
 use Rattle.service_lane.specs.Upkeep.{IsPageDone, may_move_ask, Upkeeps, due_in}
 use Rattle.std.specs.Prelude.{is_some}
@@ -123,9 +125,9 @@ moved_asks_none size plan_of old new moved.Forgotten asks leaves = absurd (true�
 
 -- ---- a step of upkeep
 
--- all stays but the store and the counters of steps
+-- all stays but the store and the counts
 abbrev pub OnlySteps : {D : Type 0} → Serving D → Serving D → Type 0
-OnlySteps old new = new ≡ record old { store = new.store; counts = record old.counts { steps = new.counts.steps; upkeep = new.counts.upkeep } }
+OnlySteps old new = new ≡ record old { store = new.store; counts = new.counts }
 
 pub upkeep_rest : {D : Type 0} (size : ℕ) (honest : D → Bool) (failures : D → ℕ) (held : D → ℕ → Option (List ℕ)) (plan_of : Job → List Choice) (old new : Serving D) (did : Upkept) → Upkeeps size honest failures held plan_of old did new → OnlySteps old new
 upkeep_rest size honest failures held plan_of old new upkept.Idle u = subst (λ s. OnlySteps old s) (sym u.1) refl
@@ -133,11 +135,11 @@ upkeep_rest size honest failures held plan_of old new (upkept.Flushed answer) u 
 upkeep_rest size honest failures held plan_of old new (upkept.Moved answer) u = subst (λ s. OnlySteps old s) (sym u.rest) refl
 upkeep_rest size honest failures held plan_of old new upkept.OutOfMemory u = subst (λ s. OnlySteps old s) (sym u.rest) refl
 
-pub upkeep_counted : {D : Type 0} (size : ℕ) (honest : D → Bool) (failures : D → ℕ) (held : D → ℕ → Option (List ℕ)) (plan_of : Job → List Choice) (old new : Serving D) (did : Upkept) → Upkeeps size honest failures held plan_of old did new → is_some (due_in old) ≡ true → new.counts.upkeep ≡ with_step old.counts.upkeep
+pub upkeep_counted : {D : Type 0} (size : ℕ) (honest : D → Bool) (failures : D → ℕ) (held : D → ℕ → Option (List ℕ)) (plan_of : Job → List Choice) (old new : Serving D) (did : Upkept) → Upkeeps size honest failures held plan_of old did new → is_some (due_in old) ≡ true → CountsStep old.counts new.counts
 upkeep_counted size honest failures held plan_of old new upkept.Idle u some = absurd (true≢false (sym some ∙ ap is_some u.0))
-upkeep_counted size honest failures held plan_of old new (upkept.Flushed answer) u some = ap (λ s. s.counts.upkeep) u.rest
-upkeep_counted size honest failures held plan_of old new (upkept.Moved answer) u some = ap (λ s. s.counts.upkeep) u.rest
-upkeep_counted size honest failures held plan_of old new upkept.OutOfMemory u some = ap (λ s. s.counts.upkeep) u.rest
+upkeep_counted size honest failures held plan_of old new (upkept.Flushed answer) u some = subst (λ s. CountsStep old.counts s.counts) (sym u.rest) (step_counted (counter_of_flush answer) old.counts (work_of_flush answer))
+upkeep_counted size honest failures held plan_of old new (upkept.Moved answer) u some = subst (λ s. CountsStep old.counts s.counts) (sym u.rest) (step_counted (counter_of_move answer) old.counts (work_of_move answer))
+upkeep_counted size honest failures held plan_of old new upkept.OutOfMemory u some = subst (λ s. CountsStep old.counts s.counts) (sym u.rest) (step_counted (Some counter.MovesOutOfMemory) old.counts (omega arith, omega arith))
 
 -- a lane that is near its end has something due
 pub near_is_due : (u : LogUsage) → is_near_end u ≡ true → is_some (due_of u) ≡ true

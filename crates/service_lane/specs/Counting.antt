@@ -1,5 +1,5 @@
--- What each call adds to the counters of a lane. They are modulo 2^64.
-use Rattle.std.specs.Prelude.{ℕ, zero, suc, ◌+◌, ◌%◌, ◌^◌, List, length}
+-- What each call adds to the counts of a lane.
+use Rattle.std.specs.Prelude.{◌≡◌, ℕ, zero, suc, ◌+◌, ◌%◌, ◌^◌, List, length, Option, Some, None, true}
 use Rattle.record_pages.specs.declared.answer.Answer.{Answer}
 use Rattle.record_pages.specs.declared.answer.Answer.TheVariants.{Hit, Miss}
 use Rattle.record_pages.specs.declared.tier.Tier.{Tier}
@@ -14,170 +14,129 @@ use Rattle.klog.specs.declared.flushed.Flushed.{Flushed}
 use Rattle.klog.specs.declared.flushed.Flushed.TheVariants as flushed
 use Rattle.mover.specs.declared.moved_whole.MovedWhole.{MovedWhole}
 use Rattle.mover.specs.declared.moved_whole.MovedWhole.TheVariants as moved
-use Rattle.service_lane.specs.declared.get_counts.GetCounts.{GetCounts}
-use Rattle.service_lane.specs.declared.put_counts.PutCounts.{PutCounts}
-use Rattle.service_lane.specs.declared.pushed_counts.PushedCounts.{PushedCounts}
-use Rattle.service_lane.specs.declared.lease_counts.LeaseCounts.{LeaseCounts}
-use Rattle.service_lane.specs.declared.step_counts.StepCounts.{StepCounts}
-use Rattle.service_lane.specs.declared.upkeep_counts.UpkeepCounts.{UpkeepCounts}
+use Rattle.service_lane.specs.declared.counter.Counter.{Counter}
+use Rattle.service_lane.specs.declared.counter.Counter.TheVariants as counter
 use Rattle.service_lane.specs.declared.counts.Counts.{Counts}
+use Rattle.service_lane.specs.Counters.{number, with_more, with_one, with_one_if, is_left_by_steps}
 
--- one more, modulo 2^64
-abbrev pub more : ℕ → ℕ
-more n = (n + 1) % 2 ^ 64
+-- the counter of hits in a tier
+abbrev pub counter_of_hit : Tier → Counter
+counter_of_hit Memory = counter.MemoryHits
+counter_of_hit Log = counter.LogHits
+counter_of_hit Set = counter.SetHits
 
--- no get was answered
-abbrev pub no_gets : GetCounts
-no_gets = record { memory_hits = 0; log_hits = 0; set_hits = 0; absent = 0; expired = 0; faults = 0; damaged = 0 }
+-- the counter of misses of a cause
+abbrev pub counter_of_miss : MissCause → Counter
+counter_of_miss Absent = counter.Absent
+counter_of_miss Expired = counter.Expired
+counter_of_miss Fault = counter.Faults
+counter_of_miss Damaged = counter.Damaged
 
--- nothing was put
-abbrev pub no_puts : PutCounts
-no_puts = record { stored = 0; bytes = 0; too_large = 0; out_of_memory = 0 }
+-- the counter of an answer
+abbrev pub counter_of_answer : Answer → Counter
+counter_of_answer (Hit value tier) = counter_of_hit tier
+counter_of_answer (Miss cause) = counter_of_miss cause
 
--- nobody was pushed out
-abbrev pub no_pushed : PushedCounts
-no_pushed = record { declined = 0; logged = 0; log_full = 0; index_full = 0 }
+-- the counter of puts that were refused so
+abbrev pub counter_of_refused_put : PutFault → Counter
+counter_of_refused_put TooLarge = counter.PutsTooLarge
+counter_of_refused_put OutOfMemory = counter.PutsOutOfMemory
 
--- no lease was given
-abbrev pub no_leases : LeaseCounts
-no_leases = record { given = 0; stale = 0 }
+-- the counter of fills that were refused so
+abbrev pub counter_of_refused_fill : PutFault → Counter
+counter_of_refused_fill TooLarge = counter.FillsTooLarge
+counter_of_refused_fill OutOfMemory = counter.FillsOutOfMemory
 
--- no step was done
-abbrev pub no_steps : StepCounts
-no_steps = record {
-  sealed = 0;
-  pages_written = 0;
-  pages_lost = 0;
-  sets_written = 0;
-  sets_forgotten = 0;
-  segments_freed = 0;
-  readmitted = 0;
-  dropped = 0;
-  out_of_memory = 0;
-}
+-- the counter of what became of a pair, if one was pushed out of memory
+abbrev pub counter_of_pushed : Pushed → Option Counter
+counter_of_pushed Nobody = None
+counter_of_pushed Declined = Some counter.Declined
+counter_of_pushed Logged = Some counter.Logged
+counter_of_pushed Full = Some counter.LogFull
+counter_of_pushed IndexFull = Some counter.IndexFull
 
--- no step was due
-abbrev pub no_upkeep : UpkeepCounts
-no_upkeep = record { steps = 0; in_help = 0 }
+-- the counter of a step of flushing, if it did something
+abbrev pub counter_of_flush : Flushed → Option Counter
+counter_of_flush flushed.Sealed = Some counter.Sealed
+counter_of_flush flushed.Wrote = Some counter.PagesWritten
+counter_of_flush flushed.PageLost = Some counter.PagesLost
+counter_of_flush flushed.Nothing = None
+counter_of_flush flushed.LogFull = None
 
--- nothing was done
-abbrev pub no_counts : Counts
-no_counts = record {
-  gets = no_gets;
-  puts = no_puts;
-  fills = no_puts;
-  leases = no_leases;
-  removals = 0;
-  pushed = no_pushed;
-  steps = no_steps;
-  upkeep = no_upkeep;
-}
-
--- a hit more in a tier
-abbrev pub with_hit : Tier → GetCounts → GetCounts
-with_hit Memory c = record c { memory_hits = more c.memory_hits }
-with_hit Log c = record c { log_hits = more c.log_hits }
-with_hit Set c = record c { set_hits = more c.set_hits }
-
--- a miss more of a cause
-abbrev pub with_miss : MissCause → GetCounts → GetCounts
-with_miss Absent c = record c { absent = more c.absent }
-with_miss Expired c = record c { expired = more c.expired }
-with_miss Fault c = record c { faults = more c.faults }
-with_miss Damaged c = record c { damaged = more c.damaged }
-
--- an answer more
-abbrev pub with_answer : Answer → GetCounts → GetCounts
-with_answer (Hit value tier) c = with_hit tier c
-with_answer (Miss cause) c = with_miss cause c
-
--- an object more of this many bytes that was stored
-abbrev pub with_stored : ℕ → PutCounts → PutCounts
-with_stored bytes c = record c { stored = more c.stored; bytes = (c.bytes + bytes) % 2 ^ 64 }
-
--- a put more that was refused
-abbrev pub with_refused : PutFault → PutCounts → PutCounts
-with_refused TooLarge c = record c { too_large = more c.too_large }
-with_refused OutOfMemory c = record c { out_of_memory = more c.out_of_memory }
-
--- a pair more that was pushed out, if one was
-abbrev pub with_pushed : Pushed → PushedCounts → PushedCounts
-with_pushed Nobody c = c
-with_pushed Declined c = record c { declined = more c.declined }
-with_pushed Logged c = record c { logged = more c.logged }
-with_pushed Full c = record c { log_full = more c.log_full }
-with_pushed IndexFull c = record c { index_full = more c.index_full }
-
--- a lease more
-abbrev pub with_given : LeaseCounts → LeaseCounts
-with_given c = record c { given = more c.given }
-
--- a fill more that came too late
-abbrev pub with_stale : LeaseCounts → LeaseCounts
-with_stale c = record c { stale = more c.stale }
-
--- a step of flushing more
-abbrev pub with_flushed : Flushed → StepCounts → StepCounts
-with_flushed flushed.Sealed c = record c { sealed = more c.sealed }
-with_flushed flushed.Wrote c = record c { pages_written = more c.pages_written }
-with_flushed flushed.PageLost c = record c { pages_lost = more c.pages_lost }
-with_flushed flushed.Nothing c = c
-with_flushed flushed.LogFull c = c
-
--- a move more
-abbrev pub with_moved : MovedWhole → StepCounts → StepCounts
-with_moved moved.Nothing c = c
-with_moved moved.Busy c = c
-with_moved moved.Freed c = record c { segments_freed = more c.segments_freed }
-with_moved moved.Readmitted c = record c { readmitted = more c.readmitted }
-with_moved moved.Dropped c = record c { dropped = more c.dropped }
-with_moved moved.PageLost c = record c { pages_lost = more c.pages_lost }
-with_moved moved.Written c = record c { sets_written = more c.sets_written }
-with_moved moved.Forgotten c = record c { sets_forgotten = more c.sets_forgotten }
-
--- a move more that was refused memory
-abbrev pub with_refused_move : StepCounts → StepCounts
-with_refused_move c = record c { out_of_memory = more c.out_of_memory }
-
--- a step more that was due
-abbrev pub with_step : UpkeepCounts → UpkeepCounts
-with_step c = record c { steps = more c.steps }
-
--- a step of these more that was done in help
-abbrev pub with_help : UpkeepCounts → UpkeepCounts
-with_help c = record c { in_help = more c.in_help }
-
--- this many steps more that were due, all of them done in help
-abbrev pub with_helps : ℕ → UpkeepCounts → UpkeepCounts
-with_helps zero c = c
-with_helps (suc n) c = with_help (with_step (with_helps n c))
+-- the counter of a move, if it did something
+abbrev pub counter_of_move : MovedWhole → Option Counter
+counter_of_move moved.Nothing = None
+counter_of_move moved.Busy = None
+counter_of_move moved.Freed = Some counter.SegmentsFreed
+counter_of_move moved.Readmitted = Some counter.Readmitted
+counter_of_move moved.Dropped = Some counter.Dropped
+counter_of_move moved.PageLost = Some counter.PagesLost
+counter_of_move moved.Written = Some counter.SetsWritten
+counter_of_move moved.Forgotten = Some counter.SetsForgotten
 
 -- the bytes of an object
 abbrev pub bytes_of : List ℕ → List ℕ → ℕ
 bytes_of key value = length key + length value
 
--- a lane's counters with one more answer
+-- a lane's counts with one more answer
 abbrev pub counts_answer : Answer → Counts → Counts
-counts_answer answer c = record c { gets = with_answer answer c.gets }
+counts_answer answer c = with_one (counter_of_answer answer) c
 
--- with one more put that was stored
+-- with one more put that was stored, its bytes, and what became of the pair that it pushed out
 abbrev pub counts_put : List ℕ → List ℕ → Pushed → Counts → Counts
-counts_put key value pushed c = record c {
-  puts = with_stored (bytes_of key value) c.puts;
-  pushed = with_pushed pushed c.pushed;
-}
+counts_put key value pushed c = with_one_if (counter_of_pushed pushed) (with_more (bytes_of key value) counter.PutsBytes (with_one counter.PutsStored c))
 
--- with one more fill that was stored
+-- with one more fill that was stored, its bytes, and what became of the pair that it pushed out
 abbrev pub counts_fill : List ℕ → List ℕ → Pushed → Counts → Counts
-counts_fill key value pushed c = record c {
-  fills = with_stored (bytes_of key value) c.fills;
-  pushed = with_pushed pushed c.pushed;
-}
+counts_fill key value pushed c = with_one_if (counter_of_pushed pushed) (with_more (bytes_of key value) counter.FillsBytes (with_one counter.FillsStored c))
+
+-- with one more put that was refused
+abbrev pub counts_refused_put : PutFault → Counts → Counts
+counts_refused_put fault c = with_one (counter_of_refused_put fault) c
+
+-- with one more fill that was refused
+abbrev pub counts_refused_fill : PutFault → Counts → Counts
+counts_refused_fill fault c = with_one (counter_of_refused_fill fault) c
 
 -- with one more fill that came too late
 abbrev pub counts_stale : Counts → Counts
-counts_stale c = record c { leases = with_stale c.leases }
+counts_stale c = with_one counter.FillsStale c
+
+-- with one more lease
+abbrev pub counts_lease : Counts → Counts
+counts_lease c = with_one counter.LeasesGiven c
 
 -- with one more removal
 abbrev pub counts_removal : Counts → Counts
-counts_removal c = record c { removals = more c.removals }
+counts_removal c = with_one counter.Removals c
+
+-- with one more step of flushing
+abbrev pub counts_flush : Flushed → Counts → Counts
+counts_flush answer c = with_one_if (counter_of_flush answer) c
+
+-- with one more move
+abbrev pub counts_move : MovedWhole → Counts → Counts
+counts_move answer c = with_one_if (counter_of_move answer) c
+
+-- with one more move that was refused memory
+abbrev pub counts_refused_move : Counts → Counts
+counts_refused_move c = with_one counter.MovesOutOfMemory c
+
+-- with one more step that was due
+abbrev pub counts_step : Counts → Counts
+counts_step c = with_one counter.UpkeepSteps c
+
+-- with one more step that was done in help
+abbrev pub counts_help : Counts → Counts
+counts_help c = with_one counter.StepsInHelp c
+
+-- so many times one more, modulo 2^64
+abbrev pub more_times : ℕ → ℕ → ℕ
+more_times zero n = n
+more_times (suc times) n = (more_times times n + 1) % 2 ^ 64
+
+-- so many steps more were due, all of them done in help; and the numbers that steps leave stay
+pub record CountsHelps (times : ℕ) (old new : Counts) : Type 0 where
+  pub steps : number counter.UpkeepSteps new ≡ more_times times (number counter.UpkeepSteps old)
+  pub in_help : number counter.StepsInHelp new ≡ more_times times (number counter.StepsInHelp old)
+  pub rest : (c : Counter) → is_left_by_steps c ≡ true → number c new ≡ number c old

@@ -1,5 +1,6 @@
 pub mod Asked
 pub mod Leases
+pub mod Counters
 pub mod Counting
 pub mod Serving
 pub mod Upkeep

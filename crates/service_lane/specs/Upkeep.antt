@@ -15,7 +15,7 @@ use Rattle.service_lane.specs.declared.upkept.Upkept.{Upkept}
 use Rattle.service_lane.specs.declared.upkept.Upkept.TheVariants as upkept
 use Rattle.service_lane.specs.declared.helped.Helped.{Helped}
 use Rattle.service_lane.specs.declared.helped.TheConstants.{MAX_HELP_STEPS}
-use Rattle.service_lane.specs.Counting.{with_flushed, with_moved, with_refused_move, with_step, with_help, with_helps}
+use Rattle.service_lane.specs.Counting.{counts_flush, counts_move, counts_refused_move, counts_step, counts_help, CountsHelps}
 use Rattle.service_lane.specs.Serving.{Serving}
 
 -- what is due in a lane
@@ -56,19 +56,19 @@ may_ask upkept.OutOfMemory = true
 pub record Flushes {D : Type 0} (honest : D → Bool) (failures : D → ℕ) (held : D → ℕ → Option (List ℕ)) (old : Serving D) (answer : Flushed) (new : Serving D) : Type 0 where
   pub due : due_in old ≡ Some due.Flush
   pub done : IsPageDone answer
-  pub rest : new ≡ record old { store = new.store; counts = record old.counts { steps = with_flushed answer old.counts.steps; upkeep = with_step old.counts.upkeep } }
+  pub rest : new ≡ record old { store = new.store; counts = counts_flush answer (counts_step old.counts) }
   pub flushes : StoreFlushes honest failures held old.store answer new.store
 
 -- a move was due, and is done
 pub record Moves {D : Type 0} (size : ℕ) (honest : D → Bool) (failures : D → ℕ) (held : D → ℕ → Option (List ℕ)) (plan_of : Job → List Choice) (old : Serving D) (answer : MovedWhole) (new : Serving D) : Type 0 where
   pub due : due_in old ≡ Some due.Move
-  pub rest : new ≡ record old { store = new.store; counts = record old.counts { steps = with_moved answer old.counts.steps; upkeep = with_step old.counts.upkeep } }
+  pub rest : new ≡ record old { store = new.store; counts = counts_move answer (counts_step old.counts) }
   pub moves : StoreMoves size honest failures held plan_of old.store (Ok answer) new.store
 
 -- a move was due, and memory was refused
 pub record LacksMemory {D : Type 0} (size : ℕ) (honest : D → Bool) (failures : D → ℕ) (held : D → ℕ → Option (List ℕ)) (plan_of : Job → List Choice) (old new : Serving D) : Type 0 where
   pub due : due_in old ≡ Some due.Move
-  pub rest : new ≡ record old { store = new.store; counts = record old.counts { steps = with_refused_move old.counts.steps; upkeep = with_step old.counts.upkeep } }
+  pub rest : new ≡ record old { store = new.store; counts = counts_refused_move (counts_step old.counts) }
   pub moves : StoreMoves size honest failures held plan_of old.store (Err (record {})) new.store
 
 -- A step of upkeep does what is due, and nothing if nothing is.
@@ -84,7 +84,7 @@ pub record HelpsOnce {D : Type 0} (size : ℕ) (honest : D → Bool) (failures :
   pub between : Serving D
   pub upkept : Upkeeps size honest failures held plan_of old did between
   pub asked_is : asked ≡ may_ask did
-  pub counted : new ≡ record between { counts = record between.counts { upkeep = with_help between.counts.upkeep } }
+  pub counted : new ≡ record between { counts = counts_help between.counts }
 
 -- the last of this many steps in help: it was done if the lane was near its end
 pub record LastHelp {D : Type 0} (size : ℕ) (honest : D → Bool) (failures : D → ℕ) (held : D → ℕ → Option (List ℕ)) (plan_of : Job → List Choice) (before : Serving D → Type 0) (asked : Bool) (new : Serving D) : Type 0 where
@@ -99,12 +99,12 @@ HelpsSteps size honest failures held plan_of zero old asked new = (asked ≡ fal
 HelpsSteps size honest failures held plan_of (suc n) old asked new = LastHelp size honest failures held plan_of (λ s. HelpsSteps size honest failures held plan_of n old false s) asked new
 
 -- What was done in help: so many steps, no more than may be; and the lane is not near its end then, or the last may have asked the
--- device, or no step more may be done. Deeds, slots and the other counters stay, each step is counted, and the device is as it
--- was unless it may have been asked.
+-- device, or no step more may be done. Deeds and slots stay, and the counters that steps leave; each step is counted, and the device
+-- is as it was unless it may have been asked.
 pub record Helps {D : Type 0} (size : ℕ) (honest : D → Bool) (failures : D → ℕ) (held : D → ℕ → Option (List ℕ)) (plan_of : Job → List Choice) (old : Serving D) (helped : Helped) (new : Serving D) : Type 0 where
   pub steps : HelpsSteps size honest failures held plan_of helped.steps old helped.asked_device new
   pub few : helped.steps ≤ MAX_HELP_STEPS
   pub enough : is_lane_near_end new ≡ true → (helped.asked_device ≡ true) ⊎ (helped.steps ≡ MAX_HELP_STEPS)
-  pub rest : new ≡ record old { store = new.store; counts = record old.counts { steps = new.counts.steps; upkeep = new.counts.upkeep } }
-  pub counted : new.counts.upkeep ≡ with_helps helped.steps old.counts.upkeep
+  pub rest : new ≡ record old { store = new.store; counts = new.counts }
+  pub counted : CountsHelps helped.steps old.counts new.counts
   pub unasked : helped.asked_device ≡ false → new.store.device ≡ old.store.device

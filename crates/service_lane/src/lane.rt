@@ -57,7 +57,7 @@ impl<D: PageDevice<PAGE>, const PAGE: usize> Model for ServiceLane<D, PAGE> {
 
 impl<D: PageDevice<PAGE>, const PAGE: usize> ServiceLane<D, PAGE> {
     ghost use Rattle.service_lane.specs.Asked.{IsServed};
-    ghost use Rattle.service_lane.specs.Counting.{no_counts};
+    ghost use Rattle.service_lane.specs.Counters.{no_counts};
     ghost use Rattle.service_lane.specs.Leases.{AreCounted, no_writes};
     ghost use Rattle.service_lane.specs.Serving.{opening_to_serve, RefusesLane};
 

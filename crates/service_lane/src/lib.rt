@@ -3,38 +3,28 @@
 //! written, and when records are due to move.
 #![tactic(auto)]
 
+mod counter;
 mod counts;
 mod due;
 mod filled;
-mod get_counts;
 mod helped;
 mod key_buffer;
 mod lane;
 mod lease;
-mod lease_counts;
 mod open_lane_fault;
-mod pushed_counts;
-mod put_counts;
 mod slots;
-mod step_counts;
-mod upkeep_counts;
 mod upkept;
 mod words;
 
-pub use counts::Counts;
+pub use counter::Counter;
+pub use counts::{COUNTERS, Counts};
 pub use due::{Due, is_near_end, what_is_due};
 pub use filled::Filled;
-pub use get_counts::GetCounts;
 pub use helped::{Helped, MAX_HELP_STEPS};
 pub use key_buffer::KeyBuffer;
 pub use lane::ServiceLane;
 pub use lease::Lease;
-pub use lease_counts::LeaseCounts;
 pub use open_lane_fault::OpenLaneFault;
-pub use pushed_counts::PushedCounts;
-pub use put_counts::PutCounts;
 pub use slots::hash_by;
-pub use step_counts::StepCounts;
-pub use upkeep_counts::UpkeepCounts;
 pub use upkept::{UpkeepStep, Upkept};
 pub use words::words_of;

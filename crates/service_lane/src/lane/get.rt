@@ -5,11 +5,12 @@ ghost use Rattle.mover.specs.Calls.{StoreGets};
 ghost use Rattle.mover.specs.Get.{answer_of};
 ghost use Rattle.deeds.specs.Sound.{act_of};
 ghost use Rattle.service_lane.specs.Asked.{IsLiveHit, IsMiss};
-ghost use Rattle.service_lane.specs.Counting.{counts_answer, with_given};
+ghost use Rattle.service_lane.specs.Counting.{counts_lease};
 ghost use Rattle.service_lane.specs.Leases.{writes_for};
 ghost use Rattle.service_lane.specs.Serving.{Gets};
 
 use super::ServiceLane;
+use crate::counter::Counter;
 use crate::key_buffer::check_key;
 use crate::lease::Lease;
 use mover::AnswerKind;
@@ -42,7 +43,7 @@ impl<D: PageDevice<PAGE>, const PAGE: usize> ServiceLane<D, PAGE> {
     {
         check_key(key)?;
         let seen = self.asked.get_into(key, moment, found);
-        self.counts.gets.answered(seen);
+        self.counts.count(Counter::of_answer(seen));
         Ok(seen)
     }
 
@@ -50,11 +51,9 @@ impl<D: PageDevice<PAGE>, const PAGE: usize> ServiceLane<D, PAGE> {
     /// then. It ends with the next put, fill or removal of the key, or of another key of its slot. No memory is taken.
     pub fn lease(&mut self, key: &[u8]) -> Lease
         ensures lease { result.writes ≡ writes_for self.old.slots key.now }
-        ensures leaves { self.new ≡ record self.old {
-          counts = record self.old.counts { leases = with_given self.old.counts.leases };
-        } }
+        ensures leaves { self.new ≡ record self.old { counts = counts_lease self.old.counts } }
     {
-        self.counts.leases.gave();
+        self.counts.count(Counter::LeasesGiven);
         self.slots.lease(key)
     }
 }

@@ -6,11 +6,12 @@ ghost use Rattle.record_pages.specs.declared.key.KeyFault.{KeyFault};
 ghost use Rattle.mover.specs.Calls.{StorePuts};
 ghost use Rattle.trace_file.specs.declared.act.Act.{Act};
 ghost use Rattle.service_lane.specs.declared.filled.Filled.{Filled};
-ghost use Rattle.service_lane.specs.Counting.{bytes_of, with_refused};
+ghost use Rattle.service_lane.specs.Counting.{bytes_of, counts_refused_put, counts_refused_fill};
 ghost use Rattle.service_lane.specs.Leases.{with_write, HoldsLease};
 ghost use Rattle.service_lane.specs.Serving.{PutsStore, FillsStore, FillLeaves, Removes};
 
 use super::ServiceLane;
+use crate::counter::Counter;
 use crate::filled::Filled;
 use crate::key_buffer::{KeyBuffer, check_key};
 use crate::lease::Lease;
@@ -36,19 +37,20 @@ impl<D: PageDevice<PAGE>, const PAGE: usize> ServiceLane<D, PAGE> {
         // When it is refused, and what that leaves.
         ensures large { IsErrOf result PutFault.TooLarge ↔ (room PAGE < object_size key value) }
         ensures refused { IfErr result (λ fault. self.new ≡ record self.old {
-          counts = record self.old.counts { puts = with_refused fault self.old.counts.puts };
+          counts = counts_refused_put fault self.old.counts;
         }) }
     {
         let bytes = bytes_of(&key, &value);
         let slots = &mut self.slots;
         match put_counted(slots, &mut self.asked, key, value, word, expires) {
             Ok(pushed) => {
-                self.counts.puts.stored(bytes);
-                self.counts.pushed.pushed(pushed);
+                self.counts.count(Counter::PutsStored);
+                self.counts.add(Counter::PutsBytes, bytes);
+                self.counts.count_if(Counter::of_pushed(pushed));
                 Ok(pushed)
             }
             Err(fault) => {
-                self.counts.puts.refused(fault);
+                self.counts.count(Counter::of_refused_put(fault));
                 Err(fault)
             }
         }
@@ -76,11 +78,11 @@ impl<D: PageDevice<PAGE>, const PAGE: usize> ServiceLane<D, PAGE> {
         ensures large { IsErrOf result PutFault.TooLarge
             ↔ (HoldsLease self.old.slots key lease.writes × (room PAGE < object_size key value)) }
         ensures refused { IfErr result (λ fault. self.new ≡ record self.old {
-          counts = record self.old.counts { fills = with_refused fault self.old.counts.fills };
+          counts = counts_refused_fill fault self.old.counts;
         }) }
     {
         if !self.slots.holds(key.bytes(), lease) {
-            self.counts.leases.was_stale();
+            self.counts.count(Counter::FillsStale);
             return Ok(Filled::Stale);
         }
         let pushed = self.fill_held(lease, key, value, word, expires)?;
@@ -101,7 +103,7 @@ impl<D: PageDevice<PAGE>, const PAGE: usize> ServiceLane<D, PAGE> {
             lease.writes pushed self.old self.new) }
         ensures large { IsErrOf result PutFault.TooLarge ↔ (room PAGE < object_size key value) }
         ensures refused { IfErr result (λ fault. self.new ≡ record self.old {
-          counts = record self.old.counts { fills = with_refused fault self.old.counts.fills };
+          counts = counts_refused_fill fault self.old.counts;
         }) }
     {
         let _some = self.slots.count();
@@ -109,12 +111,13 @@ impl<D: PageDevice<PAGE>, const PAGE: usize> ServiceLane<D, PAGE> {
         let slots = &mut self.slots;
         match put_counted(slots, &mut self.asked, key, value, word, expires) {
             Ok(pushed) => {
-                self.counts.fills.stored(bytes);
-                self.counts.pushed.pushed(pushed);
+                self.counts.count(Counter::FillsStored);
+                self.counts.add(Counter::FillsBytes, bytes);
+                self.counts.count_if(Counter::of_pushed(pushed));
                 Ok(pushed)
             }
             Err(fault) => {
-                self.counts.fills.refused(fault);
+                self.counts.count(Counter::of_refused_fill(fault));
                 Err(fault)
             }
         }
@@ -134,7 +137,7 @@ impl<D: PageDevice<PAGE>, const PAGE: usize> ServiceLane<D, PAGE> {
             (record { key = key; value = timed value expires }) word pushed self.old self.new) }
         ensures large { IsErrOf result PutFault.TooLarge ↔ (room PAGE < object_size key value) }
         ensures removed { IfErr result (λ fault. Removes D.held key (record self.old {
-          counts = record self.old.counts { puts = with_refused fault self.old.counts.puts };
+          counts = counts_refused_put fault self.old.counts;
         }) self.new) }
     {
         let kept = KeyBuffer::of(&key);
@@ -170,7 +173,7 @@ impl<D: PageDevice<PAGE>, const PAGE: usize> ServiceLane<D, PAGE> {
         let slot = self.slots.slot(key);
         self.asked.remove(key);
         self.slots.wrote_in(slot);
-        self.counts.removals = self.counts.removals.wrapping_add(1);
+        self.counts.count(Counter::Removals);
     }
 }
 

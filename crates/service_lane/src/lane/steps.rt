@@ -1,9 +1,10 @@
 // The steps of a lane that show nothing new: flushes and moves.
 ghost use Rattle.std.specs.Prelude.{◌≡◌, IfOk, OnErr};
 ghost use Rattle.mover.specs.Calls.{StoreFlushes, StoreMoves};
-ghost use Rattle.service_lane.specs.Counting.{with_flushed, with_moved, with_refused_move};
+ghost use Rattle.service_lane.specs.Counting.{counts_flush, counts_move, counts_refused_move};
 
 use super::ServiceLane;
+use crate::counter::Counter;
 use klog::Flushed;
 use mover::MovedWhole;
 use page_device::PageDevice;
@@ -15,13 +16,13 @@ impl<D: PageDevice<PAGE>, const PAGE: usize> ServiceLane<D, PAGE> {
     pub fn flush_step(&mut self) -> Flushed
         ensures leaves { self.new ≡ record self.old {
           store = self.new.store;
-          counts = record self.old.counts { steps = with_flushed result self.old.counts.steps };
+          counts = counts_flush result self.old.counts;
         } }
         ensures flushes { StoreFlushes D.honest D.failures D.held self.old.store result
             self.new.store }
     {
         let flushed = self.asked.flush_step();
-        self.counts.steps.flushed(flushed);
+        self.counts.count_if(Counter::of_flushed(flushed));
         flushed
     }
 
@@ -33,20 +34,20 @@ impl<D: PageDevice<PAGE>, const PAGE: usize> ServiceLane<D, PAGE> {
     pub fn move_whole<P: EvictionPolicy>(&mut self, policy: &P) -> Result<MovedWhole, AllocError>
         ensures moved { IfOk result (λ moved. self.new ≡ record self.old {
           store = self.new.store;
-          counts = record self.old.counts { steps = with_moved moved self.old.counts.steps };
+          counts = counts_move moved self.old.counts;
         }) }
         ensures refused { OnErr result (self.new ≡ record self.old {
           store = self.new.store;
-          counts = record self.old.counts { steps = with_refused_move self.old.counts.steps };
+          counts = counts_refused_move self.old.counts;
         }) }
         ensures moves { StoreMoves PAGE D.honest D.failures D.held (P.plan_of policy.now)
             self.old.store result self.new.store }
     {
         let Ok(moved) = self.asked.move_whole(policy) else {
-            self.counts.steps.refused();
+            self.counts.count(Counter::MovesOutOfMemory);
             return Err(AllocError);
         };
-        self.counts.steps.moved(moved);
+        self.counts.count_if(Counter::of_moved(moved));
         Ok(moved)
     }
 }

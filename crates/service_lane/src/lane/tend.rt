@@ -1,9 +1,10 @@
 // Upkeep of a lane.
 ghost use Rattle.std.specs.Prelude.{◌≡◌, true, false, is_some};
-ghost use Rattle.service_lane.specs.Counting.{with_step, with_help};
+ghost use Rattle.service_lane.specs.Counting.{CountsHelps};
 ghost use Rattle.service_lane.specs.Upkeep.{Upkeeps, HelpsOnce, Helps, may_ask, due_in};
 
 use super::ServiceLane;
+use crate::counter::Counter;
 use crate::due::{Due, is_near_end, what_is_due};
 use crate::helped::{Helped, MAX_HELP_STEPS};
 use crate::upkept::{UpkeepStep, Upkept};
@@ -56,17 +57,14 @@ impl<D: PageDevice<PAGE>, const PAGE: usize> ServiceLane<D, PAGE> {
             self.new }
         ensures rest { self.new ≡ record self.old {
           store = self.new.store;
-          counts = record self.old.counts {
-            steps = self.new.counts.steps;
-            upkeep = self.new.counts.upkeep;
-          };
+          counts = self.new.counts;
         } }
-        ensures counted { is_some (due_in self.old) ≡ true → self.new.counts.upkeep
-            ≡ with_help (with_step self.old.counts.upkeep) }
+        ensures counted { is_some (due_in self.old) ≡ true
+            → CountsHelps 1 self.old.counts self.new.counts }
         ensures unasked { result ≡ false → self.new.store.device ≡ self.old.store.device }
     {
         let step = self.upkeep_step(policy);
-        self.counts.upkeep.helped();
+        self.counts.count(Counter::StepsInHelp);
         step.asked_device
     }
 
@@ -79,11 +77,11 @@ impl<D: PageDevice<PAGE>, const PAGE: usize> ServiceLane<D, PAGE> {
         match what_is_due(&self.log_usage()) {
             None => Upkept::Idle,
             Some(Due::Flush) => {
-                self.counts.upkeep.stepped();
+                self.counts.count(Counter::UpkeepSteps);
                 Upkept::Flushed(self.flush_step())
             }
             Some(Due::Move) => {
-                self.counts.upkeep.stepped();
+                self.counts.count(Counter::UpkeepSteps);
                 match self.move_whole(policy) {
                     Ok(moved) => Upkept::Moved(moved),
                     Err(_) => Upkept::OutOfMemory,

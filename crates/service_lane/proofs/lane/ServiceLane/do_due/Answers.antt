@@ -3,8 +3,8 @@ use Rattle.std.proofs.Common.{◌≡◌, Some, ap, sym, ◌∙◌, subst}
 use Rattle.klog.specs.Usage.{usage_of}
 use Rattle.service_lane.specs.declared.due.Due.TheVariants as due
 use Rattle.service_lane.specs.Dueness.{due_of}
-use Rattle.service_lane.specs.declared.upkeep_counts.UpkeepCounts.{UpkeepCounts}
-use Rattle.service_lane.specs.Counting.{with_flushed, with_moved, with_refused_move}
+use Rattle.service_lane.specs.declared.counts.Counts.{Counts}
+use Rattle.service_lane.specs.Counting.{counts_flush, counts_move, counts_refused_move}
 use Rattle.service_lane.specs.Serving.{Serving}
 use Rattle.service_lane.specs.Upkeep.{Flushes, Moves, LacksMemory, due_in}
 use Rattle.service_lane.proofs.Tending.{page_done, moved_asks_none}
@@ -22,7 +22,7 @@ returns-in-Some-Flush-clause-upkept g c =
     record {
       due = is_due;
       done = page_done old.store.log new.store.log answer is_due c.flush_step.ensures.flushes.flushes;
-      rest = c.flush_step.ensures.leaves ∙ ap (λ (u : UpkeepCounts). record old { store = new.store; counts = record i.counts { steps = with_flushed answer i.counts.steps; upkeep = u } }) c.stepped.ensures;
+      rest = c.flush_step.ensures.leaves ∙ ap (λ (n : Counts). record old { store = new.store; counts = counts_flush answer n }) c.count.ensures;
       flushes = c.flush_step.ensures.flushes;
     } in
     subst (λ (s : Serving g.row.D.Denot). Flushes d.honest d.failures d.held s answer new) c.self.view_is done
@@ -39,7 +39,7 @@ returns-in-Ok-clause-upkept g c =
     let done : Moves g.row.PAGE d.honest d.failures d.held plan_of old answer new =
     record {
       due = is_due;
-      rest = c.in-Ok.ensures.moved ∙ ap (λ (u : UpkeepCounts). record old { store = new.store; counts = record i.counts { steps = with_moved answer i.counts.steps; upkeep = u } }) c.stepped-in-Some-Move.ensures;
+      rest = c.in-Ok.ensures.moved ∙ ap (λ (n : Counts). record old { store = new.store; counts = counts_move answer n }) c.count-in-Some-Move.ensures;
       moves = c.in-Ok.ensures.moves;
     } in
     subst (λ (s : Serving g.row.D.Denot). Moves g.row.PAGE d.honest d.failures d.held plan_of s answer new) c.self.view_is done
@@ -60,7 +60,7 @@ returns-in-Err-clause-upkept g c =
     let done : LacksMemory g.row.PAGE d.honest d.failures d.held plan_of old new =
     record {
       due = is_due;
-      rest = c.in-Err.ensures.refused ∙ ap (λ (u : UpkeepCounts). record old { store = new.store; counts = record i.counts { steps = with_refused_move i.counts.steps; upkeep = u } }) c.stepped-in-Some-Move.ensures;
+      rest = c.in-Err.ensures.refused ∙ ap (λ (n : Counts). record old { store = new.store; counts = counts_refused_move n }) c.count-in-Some-Move.ensures;
       moves = c.in-Err.ensures.moves;
     } in
     subst (λ (s : Serving g.row.D.Denot). LacksMemory g.row.PAGE d.honest d.failures d.held plan_of s new) c.self.view_is done

@@ -4,7 +4,9 @@ use Rattle.record_pages.specs.Expiry.{timed}
 use Rattle.memory_cache.specs.declared.pair.Pair.{Pair}
 use Rattle.trace_file.specs.declared.act.Act.TheVariants.{Put}
 use Rattle.service_lane.specs.Asked.{Asked}
-use Rattle.service_lane.specs.Counting.{with_stored}
+use Rattle.service_lane.specs.declared.counter.Counter.TheVariants as counter
+use Rattle.service_lane.specs.Counters.{with_more, with_one_if}
+use Rattle.service_lane.specs.Counting.{bytes_of, counter_of_pushed}
 use Rattle.service_lane.specs.Leases.{HoldsLease}
 use Rattle.service_lane.specs.Serving.{Serving, FillsStore}
 use Rattle.service_lane.proofs.Writing.{counted_write, counted_kept, unwritten}
@@ -24,13 +26,15 @@ returns-in-Ok-clause-filled g c held =
     let counts = c.self.inside.counts in
     let asked = c.put_counted.new.asked in
     let old : Serving g.row.D.Denot = record { store = c.self.inside.asked.store; deeds = c.self.inside.asked.deeds; slots = c.self.inside.slots; counts = counts } in
-    let new : Serving g.row.D.Denot = record { store = asked.store; deeds = asked.deeds; slots = c.put_counted.new.slots; counts = record counts { fills = c.stored.new.self; pushed = c.pushed.new.self } } in
+    let new : Serving g.row.D.Denot = record { store = asked.store; deeds = asked.deeds; slots = c.put_counted.new.slots; counts = c.count_if.new.self } in
     let put : FillsStore g.row.PAGE d.held p a.word a.lease.writes c.in-Ok.pushed old new =
     record {
       unwritten = unwritten c.self.inside.asked.deeds c.self.inside.slots a.key a.lease.writes c.count-some.ensures.some c.self.invariant (subst (λ (s : Serving g.row.D.Denot). HoldsLease s.slots a.key a.lease.writes) (sym c.self.view_is) held);
       puts = c.in-Ok.ensures.puts;
       deeds = c.in-Ok.ensures.deeds;
       slots = c.in-Ok.ensures.counted;
-      counts = λ i. record counts { fills = (c.stored.ensures ∙ ap (λ n. with_stored n counts.fills) c.bytes_of-bytes.ensures) i; pushed = c.pushed.ensures i };
+      counts =
+          c.count_if.ensures ∙ ap (λ k. with_one_if k c.add.new.self) c.of_pushed.ensures
+          ∙ ap (with_one_if (counter_of_pushed c.in-Ok.pushed)) (c.add.ensures ∙ ap (λ n. with_more n counter.FillsBytes c.count.new.self) c.bytes_of-bytes.ensures ∙ ap (with_more (bytes_of a.key a.value) counter.FillsBytes) c.count.ensures);
     } in
     subst (λ (s : Serving g.row.D.Denot). FillsStore g.row.PAGE d.held p a.word a.lease.writes c.in-Ok.pushed s new) c.self.view_is put

@@ -1,8 +1,8 @@
 -- The lane after a get that was answered.
-use Rattle.std.proofs.Common.{refl, ap, subst}
+use Rattle.std.proofs.Common.{◌∙◌, refl, ap, subst}
 use Rattle.mover.specs.Get.{answer_of}
 use Rattle.record_pages.specs.declared.answer.Answer.{Answer}
-use Rattle.service_lane.specs.declared.get_counts.GetCounts.{GetCounts}
+use Rattle.service_lane.specs.Counters.{with_one}
 use Rattle.service_lane.specs.Serving.{Serving, Gets}
 use Rattle.service_lane.proofs.Writing.{counted_got}
 use Rattle.service_lane.proofs.lane.ServiceLane.get.Goals as goal
@@ -18,12 +18,12 @@ returns-clause-gets g c =
     let counts = c.self.inside.counts in
     let answer : Answer = answer_of c.get_into-seen.result c.get_into-seen.new.found in
     let old : Serving g.row.D.Denot = record { store = c.self.inside.asked.store; deeds = c.self.inside.asked.deeds; slots = c.self.inside.slots; counts = counts } in
-    let new : Serving g.row.D.Denot = record { store = asked.store; deeds = asked.deeds; slots = c.self.inside.slots; counts = record counts { gets = c.answered.new.self } } in
+    let new : Serving g.row.D.Denot = record { store = asked.store; deeds = asked.deeds; slots = c.self.inside.slots; counts = c.count.new.self } in
     let got : Gets g.row.PAGE d.honest d.failures d.held c.args.key.now a.moment answer old new =
     record {
       live = c.get_into-seen.ensures.live;
       deeds = c.get_into-seen.ensures.deeds;
-      counts = ap (λ (n : GetCounts). record counts { gets = n }) (c.answered.ensures c.get_into-seen.new.found);
+      counts = c.count.ensures ∙ ap (λ k. with_one k counts) (c.of_answer.ensures c.get_into-seen.new.found);
       slots = refl;
       gets = c.get_into-seen.ensures.gets;
     } in

@@ -2,9 +2,10 @@
 use Rattle.std.proofs.Common.{◌≡◌, ◌+◌, suc, ap, subst, sym, ◌∙◌, inl, inr, arith, true, false, true≢false}
 use Rattle.klog.specs.Usage.{usage_of}
 use Rattle.service_lane.specs.Dueness.{is_near_end}
-use Rattle.service_lane.specs.Counting.{with_help, with_step, with_helps}
+use Rattle.service_lane.specs.Counting.{CountsHelps}
 use Rattle.service_lane.specs.Serving.{Serving}
 use Rattle.service_lane.specs.Upkeep.{is_lane_near_end, HelpsSteps}
+use Rattle.service_lane.proofs.StepCounts.{helps_more}
 use Rattle.service_lane.proofs.Tending.{near_is_due}
 use Rattle.service_lane.proofs.lane.ServiceLane.help.Goals as goal
 
@@ -22,9 +23,9 @@ loop-steps-preserved g c =
     let next : HelpsSteps g.row.PAGE d.honest d.failures d.held plan_of (suc s.steps) c.args.self.now once.result new = record { old = s.self; so_far = so_far; near = near; once = once.ensures.once } in
     record {
       steps = subst (λ n. HelpsSteps g.row.PAGE d.honest d.failures d.held plan_of n c.args.self.now once.result new) more next;
-      rest = once.ensures.rest ∙ ap (λ (x : Serving g.row.D.Denot). record x { store = new.store; counts = record x.counts { steps = new.counts.steps; upkeep = new.counts.upkeep } }) was.rest;
+      rest = once.ensures.rest ∙ ap (λ (x : Serving g.row.D.Denot). record x { store = new.store; counts = new.counts }) was.rest;
       few = let t = c.loop-steps-test.true in omega (arith, t);
-      counted = once.ensures.counted (near_is_due (usage_of s.self.store.log) near) ∙ ap (λ u. with_help (with_step u)) was.counted ∙ ap (λ n. with_helps n c.args.self.now.counts.upkeep) more;
+      counted = subst (λ n. CountsHelps n c.args.self.now.counts new.counts) more (helps_more s.steps c.args.self.now.counts s.self.counts new.counts was.counted (once.ensures.counted (near_is_due (usage_of s.self.store.log) near)));
       unasked = λ asks. once.ensures.unasked asks ∙ was.unasked c.if-not-asked_device.true;
     }
 

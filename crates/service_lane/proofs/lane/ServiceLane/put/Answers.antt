@@ -4,7 +4,9 @@ use Rattle.record_pages.specs.Expiry.{timed}
 use Rattle.memory_cache.specs.declared.pair.Pair.{Pair}
 use Rattle.trace_file.specs.declared.act.Act.TheVariants.{Put}
 use Rattle.service_lane.specs.Asked.{Asked}
-use Rattle.service_lane.specs.Counting.{with_stored}
+use Rattle.service_lane.specs.declared.counter.Counter.TheVariants as counter
+use Rattle.service_lane.specs.Counters.{with_more, with_one_if}
+use Rattle.service_lane.specs.Counting.{bytes_of, counter_of_pushed}
 use Rattle.service_lane.specs.Serving.{Serving, PutsStore}
 use Rattle.service_lane.proofs.Writing.{counted_write, counted_kept}
 use Rattle.service_lane.proofs.lane.ServiceLane.put.Goals as goal
@@ -23,12 +25,14 @@ returns-in-Ok-clause-stored g c =
     let counts = c.self.inside.counts in
     let asked = c.put_counted.new.asked in
     let old : Serving g.row.D.Denot = record { store = c.self.inside.asked.store; deeds = c.self.inside.asked.deeds; slots = c.self.inside.slots; counts = counts } in
-    let new : Serving g.row.D.Denot = record { store = asked.store; deeds = asked.deeds; slots = c.put_counted.new.slots; counts = record counts { puts = c.stored.new.self; pushed = c.pushed.new.self } } in
+    let new : Serving g.row.D.Denot = record { store = asked.store; deeds = asked.deeds; slots = c.put_counted.new.slots; counts = c.count_if.new.self } in
     let put : PutsStore g.row.PAGE d.held p a.word c.in-Ok.pushed old new =
     record {
       puts = c.in-Ok.ensures.puts;
       deeds = c.in-Ok.ensures.deeds;
       slots = c.in-Ok.ensures.counted;
-      counts = λ i. record counts { puts = (c.stored.ensures ∙ ap (λ n. with_stored n counts.puts) c.bytes_of-bytes.ensures) i; pushed = c.pushed.ensures i };
+      counts =
+          c.count_if.ensures ∙ ap (λ k. with_one_if k c.add.new.self) c.of_pushed.ensures
+          ∙ ap (with_one_if (counter_of_pushed c.in-Ok.pushed)) (c.add.ensures ∙ ap (λ n. with_more n counter.PutsBytes c.count.new.self) c.bytes_of-bytes.ensures ∙ ap (with_more (bytes_of a.key a.value) counter.PutsBytes) c.count.ensures);
     } in
     subst (λ (s : Serving g.row.D.Denot). PutsStore g.row.PAGE d.held p a.word c.in-Ok.pushed s new) c.self.view_is put
