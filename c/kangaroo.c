@@ -290,9 +290,6 @@ kangaroo_status kangaroo_upkeep(kangaroo_cache *cache, uint32_t steps, uint32_t 
     return status;
 }
 
-/* The counters of a cache begin with those of a lane, in the same order (layout.c). The others are counted here. */
-enum { LANE_COUNTERS = sizeof(kl_counters) / sizeof(uint64_t) };
-
 /* What a lane counts, and what is counted of it here, at one moment. */
 static kl_counters count_held(kangaroo_cache *cache, uint32_t number, answer_counts *answers) {
     kl_counters counted;
@@ -304,14 +301,14 @@ static kl_counters count_held(kangaroo_cache *cache, uint32_t number, answer_cou
     return counted;
 }
 
+/* The counters of a cache begin with those of a lane, in the same order (layout.c, names.c). The others are counted
+ * here. */
 static void add_lane(kangaroo_cache *cache, uint32_t number, kangaroo_counters *to) {
     answer_counts answers;
-    uint64_t sums[LANE_COUNTERS], numbers[LANE_COUNTERS];
-    kl_counters counted = count_held(cache, number, &answers);
-    memcpy(numbers, &counted, sizeof numbers);
-    memcpy(sums, to, sizeof sums);
-    for (size_t i = 0; i < LANE_COUNTERS; i++) sums[i] += numbers[i];
-    memcpy(to, sums, sizeof sums);
+    kl_counters sums, counted = count_held(cache, number, &answers);
+    memcpy(&sums, to, sizeof sums);
+    for (size_t i = 0; i < KL_COUNTERS; i++) sums.numbers[i] += counted.numbers[i];
+    memcpy(to, &sums, sizeof sums);
     to->short_buffers += answers.short_buffers;
     to->put_too_large += answers.put_too_large;
     to->put_no_memory += answers.put_no_memory;

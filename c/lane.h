@@ -83,22 +83,10 @@ typedef struct kl_step {
     uint32_t asked_device, is_due;
 } kl_step;
 
-/* Counts of one lane since it was opened, modulo 2^64, and at the end numbers of the present. */
+/* The numbers of one lane, in the order of the fields of kangaroo_counters up to segments_now. */
+enum { KL_COUNTERS = 31 };
 typedef struct kl_counters {
-    uint64_t memory_hits, log_hits, set_hits;
-    uint64_t absent, expired, unreadable, damaged;
-    uint64_t puts;
-    uint64_t removes;
-    uint64_t leases_given, fills_stored, fills_stale;
-    uint64_t declined, logged, log_full, index_full;
-    uint64_t log_pages_written, set_pages_written, pages_read;
-    uint64_t log_pages_lost, sets_forgotten;
-    uint64_t readmitted, dropped;
-    uint64_t segments_freed;
-    uint64_t upkeep_steps, put_steps;
-    uint64_t upkeep_no_memory;
-    uint64_t bytes_put;
-    uint64_t memory_objects_now, log_objects_now, segments_now;
+    uint64_t numbers[KL_COUNTERS];
 } kl_counters;
 
 /* Which of some lanes has a key, and 32 bits of its hash that tell leases of different keys apart. */

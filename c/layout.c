@@ -70,41 +70,8 @@ FIELD(kl_place, lane, 0, 4);
 FIELD(kl_place, word, 4, 4);
 WHOLE(kl_place, 8, 4);
 
-/* Counters, c_lane/src/counters.rt. The counters of a cache begin with them, in the same order. */
-#define COUNTER(field, index) \
-    FIELD(kl_counters, field, 8 * (index), 8); \
-    FIELD(kangaroo_counters, field, 8 * (index), 8)
-COUNTER(memory_hits, 0);
-COUNTER(log_hits, 1);
-COUNTER(set_hits, 2);
-COUNTER(absent, 3);
-COUNTER(expired, 4);
-COUNTER(unreadable, 5);
-COUNTER(damaged, 6);
-COUNTER(puts, 7);
-COUNTER(removes, 8);
-COUNTER(leases_given, 9);
-COUNTER(fills_stored, 10);
-COUNTER(fills_stale, 11);
-COUNTER(declined, 12);
-COUNTER(logged, 13);
-COUNTER(log_full, 14);
-COUNTER(index_full, 15);
-COUNTER(log_pages_written, 16);
-COUNTER(set_pages_written, 17);
-COUNTER(pages_read, 18);
-COUNTER(log_pages_lost, 19);
-COUNTER(sets_forgotten, 20);
-COUNTER(readmitted, 21);
-COUNTER(dropped, 22);
-COUNTER(segments_freed, 23);
-COUNTER(upkeep_steps, 24);
-COUNTER(put_steps, 25);
-COUNTER(upkeep_no_memory, 26);
-COUNTER(bytes_put, 27);
-COUNTER(memory_objects_now, 28);
-COUNTER(log_objects_now, 29);
-COUNTER(segments_now, 30);
+/* Counters, c_lane/src/counters.rt. The counters of a cache begin with them, in the same order (names.c). */
+FIELD(kl_counters, numbers, 0, 31 * 8);
 WHOLE(kl_counters, 31 * 8, 8);
 _Static_assert(offsetof(kangaroo_counters, short_buffers) == sizeof(kl_counters), "then come those that C counts");
 

@@ -38,17 +38,34 @@ uint32_t kangaroo_version(void) {
     return KANGAROO_VERSION;
 }
 
-static const char *const counter_names[] = {
-    "memory_hits", "log_hits", "set_hits", "absent", "expired", "unreadable", "damaged", "puts", "removes",
-    "leases_given", "fills_stored", "fills_stale", "declined", "logged", "log_full", "index_full", "log_pages_written",
-    "set_pages_written", "pages_read", "log_pages_lost", "sets_forgotten", "readmitted", "dropped", "segments_freed",
-    "upkeep_steps", "put_steps", "upkeep_no_memory", "bytes_put", "memory_objects_now", "log_objects_now",
-    "segments_now", "short_buffers", "put_too_large", "put_no_memory", "leases_dropped", "fills_wrong_lease",
-};
+/* The counters in their order: first those that a lane counts, in the order of counters_with in
+ * crates/c_lane/specs/Counting.antt, and then those that are counted in C. */
+#define COUNTERS \
+    COUNTER(memory_hits) COUNTER(log_hits) COUNTER(set_hits) COUNTER(absent) COUNTER(expired) COUNTER(unreadable) \
+    COUNTER(damaged) COUNTER(puts) COUNTER(removes) COUNTER(leases_given) COUNTER(fills_stored) COUNTER(fills_stale) \
+    COUNTER(declined) COUNTER(logged) COUNTER(log_full) COUNTER(index_full) COUNTER(log_pages_written) \
+    COUNTER(set_pages_written) COUNTER(pages_read) COUNTER(log_pages_lost) COUNTER(sets_forgotten) \
+    COUNTER(readmitted) COUNTER(dropped) COUNTER(segments_freed) COUNTER(upkeep_steps) COUNTER(put_steps) \
+    COUNTER(upkeep_no_memory) COUNTER(bytes_put) COUNTER(memory_objects_now) COUNTER(log_objects_now) \
+    COUNTER(segments_now) COUNTER(short_buffers) COUNTER(put_too_large) COUNTER(put_no_memory) \
+    COUNTER(leases_dropped) COUNTER(fills_wrong_lease)
 
-enum { COUNTERS = sizeof counter_names / sizeof counter_names[0] };
-_Static_assert(COUNTERS * sizeof(uint64_t) == sizeof(kangaroo_counters), "each counter has a name");
+#define COUNTER(name) #name,
+static const char *const counter_names[] = {COUNTERS};
+#undef COUNTER
+
+/* Each is a uint64_t of kangaroo_counters, which stands there in this order. */
+#define COUNTER(name) PLACE_OF_##name,
+enum { COUNTERS COUNTER_COUNT };
+#undef COUNTER
+#define COUNTER(name) \
+    _Static_assert(offsetof(kangaroo_counters, name) == PLACE_OF_##name * sizeof(uint64_t) && \
+                       sizeof(((kangaroo_counters *)0)->name) == sizeof(uint64_t), \
+                   #name);
+COUNTERS
+#undef COUNTER
+_Static_assert(COUNTER_COUNT * sizeof(uint64_t) == sizeof(kangaroo_counters), "each counter has a name");
 
 const char *kangaroo_counter_name(size_t index) {
-    return index < COUNTERS ? counter_names[index] : NULL;
+    return index < COUNTER_COUNT ? counter_names[index] : NULL;
 }

@@ -4,7 +4,7 @@ use Rattle.record_pages.specs.declared.answer.Answer.{Answer}
 use Rattle.record_pages.specs.declared.answer.Answer.TheVariants.{Hit, Miss}
 use Rattle.record_pages.specs.declared.miss_cause.MissCause.{MissCause}
 use Rattle.record_pages.specs.declared.miss_cause.MissCause.TheVariants.{Absent, Expired, Fault, Damaged}
-use Rattle.service_lane.specs.Counting.{with_given}
+use Rattle.service_lane.specs.Counting.{counts_lease}
 use Rattle.service_lane.specs.Leases.{writes_for}
 use Rattle.std.specs.Prelude.{length, nat_le}
 use Rattle.c_lane.specs.declared.hit.Hit.{Hit as Told}
@@ -29,7 +29,7 @@ miss_is_miss Damaged is = absurd (cc)
 module _ {D : Type 0} (laws : Laws D) (key : List ℕ) (moment : ℕ) (buffer : List ℕ) (old : LaneState D) (status : Status) (mid : LaneState D) (into : List ℕ) (hit : Told) (writes : ℕ) where
   -- a get that missed, and the lease after it
   pub leased : (new : LaneState D) (lease : ℕ) → Answers laws key moment buffer old status mid into hit → is_miss_status status ≡ true →
-      new.serving ≡ record mid.serving { counts = record mid.serving.counts { leases = with_given mid.serving.counts.leases } } → lease ≡ writes_for mid.serving.slots key → new.words ≡ mid.words →
+      new.serving ≡ record mid.serving { counts = counts_lease mid.serving.counts } → lease ≡ writes_for mid.serving.slots key → new.words ≡ mid.words →
       AnswersOrLeases laws key moment buffer writes old status new into hit lease
   leased new lease answers misses given lease_is words_stay = by_answer answers.answer answers.gets answers.tells
     where

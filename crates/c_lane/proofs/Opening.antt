@@ -5,7 +5,7 @@ use Rattle.key_hash.specs.declared.random_seed.RandomSeed.{RandomSeed}
 use Rattle.key_hash.specs.Hashing.{derived}
 use Rattle.page_device.specs.Counting.{CountedDevice, no_device_counts}
 use Rattle.rand_pcg.specs.Lcg.{Lcg}
-use Rattle.service_lane.specs.Counting.{no_counts}
+use Rattle.service_lane.specs.Counters.{no_counts}
 use Rattle.service_lane.specs.Leases.{no_writes}
 use Rattle.service_lane.specs.Serving.{Serving, opening_to_serve}
 use Rattle.c_lane.specs.declared.lane_shape.LaneShape.{LaneShape}

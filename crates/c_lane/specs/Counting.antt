@@ -1,46 +1,53 @@
--- The counters of a lane as C has them.
-use Rattle.std.specs.Prelude.{ℕ, ◌+◌, ◌-◌, ◌%◌, ◌^◌, length}
+-- The counters of a lane as C reads them.
+use Rattle.std.specs.Prelude.{ℕ, ◌+◌, ◌-◌, ◌%◌, ◌^◌, [], ◌∷◌, length}
 use Rattle.klog.specs.declared.log_usage.LogUsage.{LogUsage}
 use Rattle.klog.specs.Usage.{usage_of}
 use Rattle.page_device.specs.declared.device_counts.DeviceCounts.{DeviceCounts}
+use Rattle.service_lane.specs.declared.counter.Counter.TheVariants as counter
 use Rattle.service_lane.specs.declared.counts.Counts.{Counts}
+use Rattle.service_lane.specs.Counters.{number}
 use Rattle.c_lane.specs.declared.counters.Counters.{Counters}
 use Rattle.c_lane.specs.Lane.{LaneState}
 
--- the counters, by what the lane counts, what its device counts, how full its log is, and how many objects are in memory
+-- The counters, by what the lane counts, what its device counts, how full its log is, and how many objects are in memory. Their order
+-- is that of the names in C: hits by tier; misses by cause, of which `unreadable` are those by a fault; puts; removals; leases; fills;
+-- pairs that left memory; pages of the log and of sets that were written; pages that were read; what was lost; what moves did; steps of
+-- upkeep, those in help aside; those in help; moves that were refused memory; bytes; and what there is now.
 abbrev pub counters_with : Counts → DeviceCounts → LogUsage → ℕ → Counters
 counters_with counts device usage memory_objects = record {
-  memory_hits = counts.gets.memory_hits;
-  log_hits = counts.gets.log_hits;
-  set_hits = counts.gets.set_hits;
-  absent = counts.gets.absent;
-  expired = counts.gets.expired;
-  unreadable = counts.gets.faults;
-  damaged = counts.gets.damaged;
-  puts = counts.puts.stored;
-  removes = counts.removals;
-  leases_given = counts.leases.given;
-  fills_stored = counts.fills.stored;
-  fills_stale = counts.leases.stale;
-  declined = counts.pushed.declined;
-  logged = counts.pushed.logged;
-  log_full = counts.pushed.log_full;
-  index_full = counts.pushed.index_full;
-  log_pages_written = counts.steps.pages_written;
-  set_pages_written = counts.steps.sets_written;
-  pages_read = device.pages_read;
-  log_pages_lost = counts.steps.pages_lost;
-  sets_forgotten = counts.steps.sets_forgotten;
-  readmitted = counts.steps.readmitted;
-  dropped = counts.steps.dropped;
-  segments_freed = counts.steps.segments_freed;
-  upkeep_steps = (counts.upkeep.steps + (2 ^ 64 - counts.upkeep.in_help)) % 2 ^ 64;
-  put_steps = counts.upkeep.in_help;
-  upkeep_no_memory = counts.steps.out_of_memory;
-  bytes_put = (counts.puts.bytes + counts.fills.bytes) % 2 ^ 64;
-  memory_objects_now = memory_objects;
-  log_objects_now = usage.live;
-  segments_now = usage.segments - usage.free_segments;
+  numbers =
+      number counter.MemoryHits counts
+      ∷ number counter.LogHits counts
+      ∷ number counter.SetHits counts
+      ∷ number counter.Absent counts
+      ∷ number counter.Expired counts
+      ∷ number counter.Faults counts
+      ∷ number counter.Damaged counts
+      ∷ number counter.PutsStored counts
+      ∷ number counter.Removals counts
+      ∷ number counter.LeasesGiven counts
+      ∷ number counter.FillsStored counts
+      ∷ number counter.FillsStale counts
+      ∷ number counter.Declined counts
+      ∷ number counter.Logged counts
+      ∷ number counter.LogFull counts
+      ∷ number counter.IndexFull counts
+      ∷ number counter.PagesWritten counts
+      ∷ number counter.SetsWritten counts
+      ∷ device.pages_read
+      ∷ number counter.PagesLost counts
+      ∷ number counter.SetsForgotten counts
+      ∷ number counter.Readmitted counts
+      ∷ number counter.Dropped counts
+      ∷ number counter.SegmentsFreed counts
+      ∷ (number counter.UpkeepSteps counts + (2 ^ 64 - number counter.StepsInHelp counts)) % 2 ^ 64
+      ∷ number counter.StepsInHelp counts
+      ∷ number counter.MovesOutOfMemory counts
+      ∷ (number counter.PutsBytes counts + number counter.FillsBytes counts) % 2 ^ 64
+      ∷ memory_objects
+      ∷ usage.live
+      ∷ (usage.segments - usage.free_segments)
+      ∷ [];
 }
 
 -- the counters of a lane

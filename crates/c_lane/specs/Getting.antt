@@ -6,7 +6,7 @@ use Rattle.record_pages.specs.declared.tier.Tier.{Tier}
 use Rattle.record_pages.specs.declared.tier.Tier.TheVariants.{Memory, Log, Set}
 use Rattle.service_lane.specs.Serving.{Serving, Gets}
 use Rattle.service_lane.specs.Leases.{writes_for}
-use Rattle.service_lane.specs.Counting.{with_given}
+use Rattle.service_lane.specs.Counting.{counts_lease}
 use Rattle.c_lane.specs.declared.hit.Hit.{Hit as Told}
 use Rattle.c_lane.specs.declared.status.Status.{Status}
 use Rattle.c_lane.specs.declared.status.Status.TheVariants as statuses
@@ -65,7 +65,7 @@ pub record Answers {D : Type 0} (laws : Laws D) (key : List ℕ) (moment : ℕ) 
 abbrev pub LeasedAfter : {D : Type 0} → Answer → List ℕ → ℕ → Serving (CountedDevice D) → Serving (CountedDevice D) → ℕ → Type 0
 LeasedAfter (Hit value tier) key writes between new lease = (new ≡ between) × (lease ≡ writes)
 LeasedAfter (Miss cause) key writes between new lease =
-    (new ≡ record between { counts = record between.counts { leases = with_given between.counts.leases } }) × (lease ≡ writes_for between.slots key)
+    (new ≡ record between { counts = counts_lease between.counts }) × (lease ≡ writes_for between.slots key)
 
 -- A get that leases its key at a miss.
 pub record AnswersOrLeases {D : Type 0} (laws : Laws D) (key : List ℕ) (moment : ℕ) (buffer : List ℕ) (writes : ℕ) (old : LaneState D) (status : Status) (new : LaneState D) (into : List ℕ) (hit : Told) (lease : ℕ) : Type 0 where

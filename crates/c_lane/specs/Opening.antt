@@ -5,7 +5,7 @@ use Rattle.record_pages.specs.declared.layout.Layout.{Layout}
 use Rattle.cache_sizes.specs.Shapes.{file_pages}
 use Rattle.page_device.specs.Counting.{no_device_counts}
 use Rattle.key_hash.specs.Hashing.{derived}
-use Rattle.service_lane.specs.Counting.{no_counts}
+use Rattle.service_lane.specs.Counters.{no_counts}
 use Rattle.service_lane.specs.Leases.{no_writes}
 use Rattle.service_lane.specs.Serving.{opening_to_serve}
 use Rattle.service_lane.specs.Words.{words_for}

@@ -6,7 +6,7 @@ use Rattle.record_pages.specs.declared.pushed.Pushed.{Pushed}
 use Rattle.record_pages.specs.declared.put_fault.PutFault.TheVariants.{OutOfMemory}
 use Rattle.memory_cache.specs.declared.pair.Pair.{Pair}
 use Rattle.rriparoo.specs.Rriparoo.{rriparoo_plan}
-use Rattle.service_lane.specs.Counting.{with_refused, counts_stale}
+use Rattle.service_lane.specs.Counting.{counts_refused_put, counts_refused_fill, counts_stale}
 use Rattle.service_lane.specs.Leases.{HoldsLease}
 use Rattle.service_lane.specs.Serving.{Removes}
 use Rattle.service_lane.specs.WithHelp.{PutsAndHelps, FillsAndHelps}
@@ -28,7 +28,7 @@ pub record Stores {D : Type 0} (laws : Laws D) (key value : List ℕ) (expires :
 -- the lane refused a put for want of memory: that is counted, and a word was drawn
 abbrev pub without_put : {D : Type 0} → LaneState D → LaneState D
 without_put old = record {
-  serving = record old.serving { counts = record old.serving.counts { puts = with_refused OutOfMemory old.serving.counts.puts } };
+  serving = record old.serving { counts = counts_refused_put OutOfMemory old.serving.counts };
   words = next_words old.words;
 }
 
@@ -76,7 +76,7 @@ pub record IsStale {D : Type 0} (writes : ℕ) (key : List ℕ) (old new : LaneS
 -- the lane refused a fill for want of memory: that is counted, and a word was drawn
 abbrev pub without_fill : {D : Type 0} → LaneState D → LaneState D
 without_fill old = record {
-  serving = record old.serving { counts = record old.serving.counts { fills = with_refused OutOfMemory old.serving.counts.fills } };
+  serving = record old.serving { counts = counts_refused_fill OutOfMemory old.serving.counts };
   words = next_words old.words;
 }
 

@@ -17,7 +17,7 @@ mod status;
 mod step;
 mod wanted;
 
-pub use counters::Counters;
+pub use counters::{Counters, LANE_COUNTERS};
 pub use hit::Hit;
 pub use judging::judge_trace;
 pub use key_place::{KeyPlace, place_of};
