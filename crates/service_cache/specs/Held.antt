@@ -8,7 +8,8 @@ use Rattle.key_hash.specs.declared.random_seed.RandomSeed.{RandomSeed}
 use Rattle.key_hash.specs.Hashing.{derived}
 use Rattle.rand_pcg.specs.Lcg.{Lcg}
 use Rattle.page_device.specs.Counting.{CountedDevice, no_device_counts}
-use Rattle.service_lane.specs.Counting.{no_counts, counts_stale, with_given}
+use Rattle.service_lane.specs.Counters.{no_counts}
+use Rattle.service_lane.specs.Counting.{counts_stale, counts_lease}
 use Rattle.service_lane.specs.Leases.{no_writes, writes_for}
 use Rattle.service_lane.specs.Serving.{Serving, Gets, opening_to_serve}
 use Rattle.service_lane.specs.WithHelp.{FillsAndHelps}
@@ -54,7 +55,7 @@ new_lane layout lease_slots seed number device = record {
 abbrev pub LeasesAfter : {D : Type 0} → LookedUp → List ℕ → Serving D → Serving D → Type 0
 LeasesAfter (Hit tier) key between new = new ≡ between
 LeasesAfter (Miss cause lease) key between new =
-    (new ≡ record between { counts = record between.counts { leases = with_given between.counts.leases } }) × (lease.writes ≡ writes_for between.slots key)
+    (new ≡ record between { counts = counts_lease between.counts }) × (lease.writes ≡ writes_for between.slots key)
 
 -- A look-up that leases its key at a miss: the lane answered so, with this in the buffer, and leased the key at a miss.
 pub record LooksUp {D : Type 0} (size : ℕ) (honest : D → Bool) (failures : D → ℕ) (held : D → ℕ → Option (List ℕ)) (key : List ℕ) (moment : ℕ) (looked : LookedUp) (found : List ℕ) (old new : Serving D) : Type 0 where

@@ -5,7 +5,7 @@ use Rattle.record_pages.specs.declared.pushed.Pushed.{Pushed}
 use Rattle.trace_file.specs.declared.act.Act.TheVariants.{Put}
 use Rattle.certificate_checker.specs.Deeds.{Deed}
 use Rattle.certificate_checker.specs.Current.{current}
-use Rattle.service_lane.specs.Counting.{with_refused}
+use Rattle.service_lane.specs.Counting.{counts_refused_put, counts_refused_fill}
 use Rattle.service_lane.specs.Serving.{Serving, FillsStore, Removes}
 use Rattle.service_lane.specs.declared.filled.Filled.{Filled}
 use Rattle.service_lane.specs.declared.filled.Filled.TheVariants.{Stored, Stale}
@@ -43,7 +43,7 @@ IsForgotten held key old seat_old new seat_new =
 abbrev pub PutLeaves : {D : Type 0} → (D → ℕ → Option (List ℕ)) → (List ℕ → ℕ) → List ℕ → List ℕ → ℕ → SeatPutFault → Seated D → List Deed → Seated D → List Deed → Type 0
 PutLeaves held lane_of key value expires (put_refusals.Put fault) old seat_old new seat_new =
     EntersIn lane_of old.register seat_old (put_of key value expires) new.register seat_new
-    × Removes held key (record old.serving { counts = record old.serving.counts { puts = with_refused fault old.serving.counts.puts } }) new.serving
+    × Removes held key (record old.serving { counts = counts_refused_put fault old.serving.counts }) new.serving
 PutLeaves held lane_of key value expires (put_refusals.Book fault) old seat_old new seat_new = IsForgotten held key old seat_old new seat_new
 
 -- What a removal leaves that was refused. If the book refused it, the key is removed.
@@ -75,6 +75,6 @@ pub record FillsAndRemoves {D : Type 0} (size : ℕ) (held : D → ℕ → Optio
 -- What a fill leaves that was refused. If the book refused it, its key is removed.
 abbrev pub FillRefusalLeaves : {D : Type 0} → ℕ → (D → ℕ → Option (List ℕ)) → List ℕ → List ℕ → ℕ → ℕ → ℕ → SeatPutFault → Seated D → List Deed → Seated D → List Deed → Type 0
 FillRefusalLeaves size held key value expires word writes (put_refusals.Put fault) old seat_old new seat_new =
-    (new ≡ record old { serving = record old.serving { counts = record old.serving.counts { fills = with_refused fault old.serving.counts.fills } } }) × (seat_new ≡ seat_old)
+    (new ≡ record old { serving = record old.serving { counts = counts_refused_fill fault old.serving.counts } }) × (seat_new ≡ seat_old)
 FillRefusalLeaves size held key value expires word writes (put_refusals.Book fault) old seat_old new seat_new =
     FillsAndRemoves size held key value expires word writes old.serving new.serving × (new.register ≡ old.register) × (seat_new ≡ seat_old)

@@ -4,7 +4,7 @@ ghost use mathlib.Core.List.{IsPrefix};
 ghost use Rattle.record_pages.specs.Bounded.{IsKey};
 ghost use Rattle.mover.specs.Get.{answer_of};
 ghost use Rattle.service_lane.specs.Asked.{IsLiveHit, IsMiss};
-ghost use Rattle.service_lane.specs.Counting.{with_given};
+ghost use Rattle.service_lane.specs.Counting.{counts_lease};
 ghost use Rattle.service_lane.specs.Leases.{writes_for};
 ghost use Rattle.service_lane.specs.Serving.{Gets};
 ghost use Rattle.service_cache.specs.Refusals.{RefusesGet};
@@ -54,11 +54,7 @@ impl<D: PageDevice<PAGE>, const PAGE: usize, L: KeyLanes, J: BookName> SeatedLan
     pub fn lease(&mut self, key: &[u8]) -> Lease
         ensures lease { result.writes ≡ writes_for self.old.serving.slots key.now }
         ensures leaves { self.new ≡ record self.old {
-          serving = record self.old.serving {
-            counts = record self.old.serving.counts {
-              leases = with_given self.old.serving.counts.leases;
-            };
-          };
+          serving = record self.old.serving { counts = counts_lease self.old.serving.counts };
         } }
     {
         self.lane.lease(key)
