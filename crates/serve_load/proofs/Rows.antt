@@ -4,14 +4,10 @@ use Rattle.std.proofs.lemmas.List.Sums.{fold-append}
 use Rattle.figures.specs.declared.form.Form.{Form}
 use Rattle.figures.specs.Figures.{Row, number, row, with_row, with_rows}
 
--- three rows after those that are told give the fourth text, and four the fifth
+-- four rows after those that are told
 pub fourth : (form : Form) (t0 t1 t2 t3 t4 : List ℕ) (a b d e : Row) → t1 ≡ with_row form t0 a → t2 ≡ with_row form t1 b → t3 ≡ with_row form t2 d → t4 ≡ with_row form t3 e → t4 ≡ with_rows form t0 (a ∷ b ∷ d ∷ e ∷ [])
 fourth form t0 t1 t2 t3 t4 a b d e p q r s =
     s ∙ ap (λ t. with_row form t e) (r ∙ ap (λ t. with_row form t d) (q ∙ ap (λ t. with_row form t b) p))
-
-pub fifth : (form : Form) (t0 t1 t2 t3 t4 t5 : List ℕ) (a b d e f : Row) → t1 ≡ with_row form t0 a → t2 ≡ with_row form t1 b → t3 ≡ with_row form t2 d → t4 ≡ with_row form t3 e → t5 ≡ with_row form t4 f → t5 ≡ with_rows form t0 (a ∷ b ∷ d ∷ e ∷ f ∷ [])
-fifth form t0 t1 t2 t3 t4 t5 a b d e f p q r s u =
-    u ∙ ap (λ t. with_row form t f) (fourth form t0 t1 t2 t3 t4 a b d e p q r s)
 
 -- rows after rows
 pub then_rows : (form : Form) (t0 t1 t2 : List ℕ) (a b : List Row) → t1 ≡ with_rows form t0 a → t2 ≡ with_rows form t1 b → t2 ≡ with_rows form t0 (a ++ b)

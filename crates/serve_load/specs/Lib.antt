@@ -6,6 +6,7 @@ pub mod Tallies
 pub mod Wanting
 pub mod Shapes
 pub mod Totals
+pub mod Telling
 pub mod Times
 pub mod Rows
 pub mod Closing

@@ -8,7 +8,7 @@ use Rattle.serve_load.specs.declared.lane_end.LaneEnd.{LaneEnd}
 use Rattle.serve_load.specs.declared.sums.Sums.{Sums}
 use Rattle.serve_load.specs.Calls.{IsTally}
 use Rattle.serve_load.specs.Closing.{closed}
-use Rattle.serve_load.specs.Rows.{fill_rows, get_latency_rows, hit_rows, miss_rows, move_rows, page_rows, pushed_rows, put_latency_rows, put_rows, rate_of, ratio_rows, upkeep_rows}
+use Rattle.serve_load.specs.Rows.{count_rows, get_latency_rows, put_latency_rows, rate_of, ratio_rows}
 use Rattle.serve_load.specs.Tallies.{AddUp}
 use Rattle.serve_load.specs.Times.{AreTold}
 
@@ -20,34 +20,22 @@ run_rows r =
     ∷ row (codes "operations-a-second") (number (rate_of r.operations r.milliseconds))
     ∷ []
 
--- removals, what is left at the end, and what the callers found
+-- what is left at the end, and what the callers found
 abbrev pub last_rows : Report → List Row
 last_rows r =
-    row (codes "removals") (number r.counts.removals)
-    ∷ row (codes "memory-objects") (number r.memory_objects)
+    row (codes "memory-objects") (number r.memory_objects)
     ∷ row (codes "log-records") (number r.log_records)
     ∷ row (codes "refused") (number r.refused)
     ∷ row (codes "wrong-hits") (number r.wrong_hits)
     ∷ []
 
--- how many operations, in what time, and how gets were answered
+-- how many operations, in what time, and how many gets were answered
 abbrev pub call_rows : Report → List Row
-call_rows r =
-    run_rows r
-    ++ (ratio_rows r.counts.gets ++ (get_latency_rows r.timed.gets ++ (put_latency_rows r.timed.puts ++ (hit_rows r.counts.gets ++ miss_rows r.counts.gets))))
-
--- what was stored, and what was pushed out of memory for it
-abbrev pub store_rows : Report → List Row
-store_rows r = put_rows r.counts.puts ++ (fill_rows r.counts.fills r.counts.leases ++ pushed_rows r.counts.pushed)
-
--- what upkeep did, what is left, and what the callers found
-abbrev pub work_rows : Report → List Row
-work_rows r =
-    page_rows r.counts.steps ++ (move_rows r.counts.steps ++ (upkeep_rows r.counts.upkeep ++ last_rows r))
+call_rows r = run_rows r ++ (ratio_rows r.counts ++ (get_latency_rows r.timed.gets ++ put_latency_rows r.timed.puts))
 
 -- all rows
 abbrev pub rows_of : Report → List Row
-rows_of r = call_rows r ++ (store_rows r ++ work_rows r)
+rows_of r = call_rows r ++ (count_rows r.counts ++ last_rows r)
 
 -- all rows, and the end
 unfoldable pub report_of : Form → Report → List ℕ

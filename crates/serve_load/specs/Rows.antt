@@ -2,37 +2,37 @@
 use Rattle.std.specs.Prelude.{ℕ, ◌+◌, ◌*◌, ◌/◌, List, [], ◌∷◌, codes, max}
 use Rattle.figures.specs.Figures.{Row, number, row, thousandths}
 use Rattle.load.specs.declared.histogram.Quantiles.{Quantiles}
-use Rattle.service_lane.specs.declared.get_counts.GetCounts.{GetCounts}
-use Rattle.service_lane.specs.declared.put_counts.PutCounts.{PutCounts}
-use Rattle.service_lane.specs.declared.pushed_counts.PushedCounts.{PushedCounts}
-use Rattle.service_lane.specs.declared.lease_counts.LeaseCounts.{LeaseCounts}
-use Rattle.service_lane.specs.declared.step_counts.StepCounts.{StepCounts}
-use Rattle.service_lane.specs.declared.upkeep_counts.UpkeepCounts.{UpkeepCounts}
-use Rattle.serve_load.specs.Totals.{together}
+use Rattle.service_lane.specs.declared.counter.Counter.TheVariants as counter
+use Rattle.service_lane.specs.declared.counts.Counts.{Counts}
+use Rattle.service_lane.specs.Counters.{number as number_in}
+use Rattle.serve_load.specs.Totals.{added}
 
 -- operations a second: of a load that took no millisecond as of one that took one
 abbrev pub rate_of : ℕ → ℕ → ℕ
 rate_of operations milliseconds = operations * 1000 / max milliseconds 1
 
 -- hits of all tiers
-abbrev pub hits_of : GetCounts → ℕ
-hits_of c = c.memory_hits + c.log_hits + c.set_hits
+abbrev pub hits_of : Counts → ℕ
+hits_of c = number_in counter.MemoryHits c + number_in counter.LogHits c + number_in counter.SetHits c
 
 -- hits and misses
-abbrev pub gets_of : GetCounts → ℕ
-gets_of c = hits_of c + (c.absent + c.expired) + (c.faults + c.damaged)
+abbrev pub gets_of : Counts → ℕ
+gets_of c =
+    hits_of c + (number_in counter.Absent c + number_in counter.Expired c) + (number_in counter.Faults c + number_in counter.Damaged c)
 
 -- the share of hits among gets, in thousandths; of no gets as of one miss
-abbrev pub ratio_of : GetCounts → ℕ
+abbrev pub ratio_of : Counts → ℕ
 ratio_of c = hits_of c * 1000 / max (gets_of c) 1
 
 -- hits and misses, as counters go
-abbrev pub answered_of : GetCounts → ℕ
-answered_of c = together (together (together (together c.memory_hits c.log_hits) c.set_hits) (together c.absent c.expired)) (together c.faults c.damaged)
+abbrev pub answered_of : Counts → ℕ
+answered_of c =
+    let hits = added (added (number_in counter.MemoryHits c) (number_in counter.LogHits c)) (number_in counter.SetHits c) in
+    added (added hits (added (number_in counter.Absent c) (number_in counter.Expired c))) (added (number_in counter.Faults c) (number_in counter.Damaged c))
 
 -- how many gets were answered, and the share of hits among them
-abbrev pub ratio_rows : GetCounts → List Row
-ratio_rows gets = row (codes "gets") (number (answered_of gets)) ∷ row (codes "hit-ratio") (thousandths (ratio_of gets)) ∷ []
+abbrev pub ratio_rows : Counts → List Row
+ratio_rows c = row (codes "gets") (number (answered_of c)) ∷ row (codes "hit-ratio") (thousandths (ratio_of c)) ∷ []
 
 -- how long gets took
 abbrev pub get_latency_rows : Quantiles → List Row
@@ -52,71 +52,39 @@ put_latency_rows times =
     ∷ row (codes "put-max-ns") (number times.most)
     ∷ []
 
--- how gets hit
-abbrev pub hit_rows : GetCounts → List Row
-hit_rows gets =
-    row (codes "hits-memory") (number gets.memory_hits)
-    ∷ row (codes "hits-log") (number gets.log_hits)
-    ∷ row (codes "hits-set") (number gets.set_hits)
-    ∷ []
-
--- how gets missed
-abbrev pub miss_rows : GetCounts → List Row
-miss_rows gets =
-    row (codes "misses-absent") (number gets.absent)
-    ∷ row (codes "misses-expired") (number gets.expired)
-    ∷ row (codes "misses-fault") (number gets.faults)
-    ∷ row (codes "misses-damaged") (number gets.damaged)
-    ∷ []
-
--- how puts were answered
-abbrev pub put_rows : PutCounts → List Row
-put_rows puts =
-    row (codes "puts-stored") (number puts.stored)
-    ∷ row (codes "puts-bytes") (number puts.bytes)
-    ∷ row (codes "puts-refused") (number (together puts.out_of_memory puts.too_large))
-    ∷ []
-
--- how many leases were given, and how fills were answered
-abbrev pub fill_rows : PutCounts → LeaseCounts → List Row
-fill_rows fills leases =
-    row (codes "leases") (number leases.given)
-    ∷ row (codes "fills-stored") (number fills.stored)
-    ∷ row (codes "fills-bytes") (number fills.bytes)
-    ∷ row (codes "fills-refused") (number (together fills.out_of_memory fills.too_large))
-    ∷ row (codes "fills-stale") (number leases.stale)
-    ∷ []
-
--- what became of the pairs that were pushed out of memory
-abbrev pub pushed_rows : PushedCounts → List Row
-pushed_rows pushed =
-    row (codes "pushed-declined") (number pushed.declined)
-    ∷ row (codes "pushed-logged") (number pushed.logged)
-    ∷ row (codes "pushed-log-full") (number pushed.log_full)
-    ∷ row (codes "pushed-index-full") (number pushed.index_full)
-    ∷ []
-
--- which pages were written, and which were not
-abbrev pub page_rows : StepCounts → List Row
-page_rows steps =
-    row (codes "pages-written") (number steps.pages_written)
-    ∷ row (codes "pages-lost") (number steps.pages_lost)
-    ∷ row (codes "sets-written") (number steps.sets_written)
-    ∷ row (codes "sets-forgotten") (number steps.sets_forgotten)
-    ∷ []
-
--- what moves did besides
-abbrev pub move_rows : StepCounts → List Row
-move_rows steps =
-    row (codes "segments-freed") (number steps.segments_freed)
-    ∷ row (codes "moves-readmitted") (number steps.readmitted)
-    ∷ row (codes "moves-dropped") (number steps.dropped)
-    ∷ row (codes "moves-refused") (number steps.out_of_memory)
-    ∷ []
-
--- how many steps of upkeep were done
-abbrev pub upkeep_rows : UpkeepCounts → List Row
-upkeep_rows upkeep =
-    row (codes "upkeep-steps") (number upkeep.steps)
-    ∷ row (codes "upkeep-in-help") (number upkeep.in_help)
+-- what lanes count: how gets hit and missed, how puts were answered, how many leases were given and how fills were answered, what
+-- became of the pairs that were pushed out of memory, which pages were written and which were not, what moves did besides, how many
+-- steps of upkeep were done, and how many removals there were
+abbrev pub count_rows : Counts → List Row
+count_rows c =
+    row (codes "hits-memory") (number (number_in counter.MemoryHits c))
+    ∷ row (codes "hits-log") (number (number_in counter.LogHits c))
+    ∷ row (codes "hits-set") (number (number_in counter.SetHits c))
+    ∷ row (codes "misses-absent") (number (number_in counter.Absent c))
+    ∷ row (codes "misses-expired") (number (number_in counter.Expired c))
+    ∷ row (codes "misses-fault") (number (number_in counter.Faults c))
+    ∷ row (codes "misses-damaged") (number (number_in counter.Damaged c))
+    ∷ row (codes "puts-stored") (number (number_in counter.PutsStored c))
+    ∷ row (codes "puts-bytes") (number (number_in counter.PutsBytes c))
+    ∷ row (codes "puts-refused") (number (added (number_in counter.PutsOutOfMemory c) (number_in counter.PutsTooLarge c)))
+    ∷ row (codes "leases") (number (number_in counter.LeasesGiven c))
+    ∷ row (codes "fills-stored") (number (number_in counter.FillsStored c))
+    ∷ row (codes "fills-bytes") (number (number_in counter.FillsBytes c))
+    ∷ row (codes "fills-refused") (number (added (number_in counter.FillsOutOfMemory c) (number_in counter.FillsTooLarge c)))
+    ∷ row (codes "fills-stale") (number (number_in counter.FillsStale c))
+    ∷ row (codes "pushed-declined") (number (number_in counter.Declined c))
+    ∷ row (codes "pushed-logged") (number (number_in counter.Logged c))
+    ∷ row (codes "pushed-log-full") (number (number_in counter.LogFull c))
+    ∷ row (codes "pushed-index-full") (number (number_in counter.IndexFull c))
+    ∷ row (codes "pages-written") (number (number_in counter.PagesWritten c))
+    ∷ row (codes "pages-lost") (number (number_in counter.PagesLost c))
+    ∷ row (codes "sets-written") (number (number_in counter.SetsWritten c))
+    ∷ row (codes "sets-forgotten") (number (number_in counter.SetsForgotten c))
+    ∷ row (codes "segments-freed") (number (number_in counter.SegmentsFreed c))
+    ∷ row (codes "moves-readmitted") (number (number_in counter.Readmitted c))
+    ∷ row (codes "moves-dropped") (number (number_in counter.Dropped c))
+    ∷ row (codes "moves-refused") (number (number_in counter.MovesOutOfMemory c))
+    ∷ row (codes "upkeep-steps") (number (number_in counter.UpkeepSteps c))
+    ∷ row (codes "upkeep-in-help") (number (number_in counter.StepsInHelp c))
+    ∷ row (codes "removals") (number (number_in counter.Removals c))
     ∷ []

@@ -3,7 +3,6 @@ ghost use Rattle.std.specs.Prelude.{◌≡◌, ◌<◌, ◌+◌, IfOk, length};
 ghost use Rattle.service_cache.specs.Serving.{lanes_of};
 ghost use Rattle.serve_load.specs.Totals.{IsTotal, joined};
 
-use crate::totals::sum_of;
 use deed_book::{BookName, KeyLanes};
 use page_device::PageDevice;
 use policy_laws::EvictionPolicy;
@@ -28,7 +27,7 @@ fn joined(one: &LaneEnd, other: &LaneEnd) -> LaneEnd
     ensures { result ≡ joined one.now other.now }
 {
     LaneEnd {
-        counts: sum_of(&one.counts, &other.counts),
+        counts: one.counts.together(&other.counts),
         memory_objects: one.memory_objects.wrapping_add(other.memory_objects),
         log_records: one.log_records.wrapping_add(other.log_records),
     }

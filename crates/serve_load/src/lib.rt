@@ -7,6 +7,7 @@ mod cache_shape;
 mod call_times;
 mod caller;
 mod caller_tally;
+mod count_rows;
 mod lane_end;
 mod made;
 mod objects;
@@ -21,7 +22,6 @@ mod serving;
 mod sized;
 mod sums;
 mod tally;
-mod totals;
 mod words;
 
 pub use cache_shape::CacheShape;

@@ -2,83 +2,81 @@
 use figures::Form;
 use load::Quantiles;
 use serve_load::{Report, Timed};
-use service_lane::{
-    Counts, GetCounts, LeaseCounts, PushedCounts, PutCounts, StepCounts, UpkeepCounts,
-};
+use service_lane::{Counter, Counts};
 use std::test::Fail;
 
-/// A report in which each number is another one.
-const REPORT: Report = Report {
-    operations: 4500,
-    refused: 44,
-    wrong_hits: 1,
-    milliseconds: 2007,
-    timed: Timed {
-        gets: Quantiles {
-            p50: 51,
-            p99: 52,
-            p999: 53,
-            most: 54,
+/// The numbers of a report in which each row has another one.
+const NUMBERS: [(Counter, u64); 33] = [
+    (Counter::MemoryHits, 1),
+    (Counter::LogHits, 2),
+    (Counter::SetHits, 3),
+    (Counter::Absent, 4),
+    (Counter::Expired, 5),
+    (Counter::Faults, 6),
+    (Counter::Damaged, 7),
+    (Counter::PutsStored, 8),
+    (Counter::PutsBytes, 9),
+    (Counter::PutsTooLarge, 4),
+    (Counter::PutsOutOfMemory, 6),
+    (Counter::LeasesGiven, 11),
+    (Counter::FillsStored, 12),
+    (Counter::FillsBytes, 13),
+    (Counter::FillsTooLarge, 5),
+    (Counter::FillsOutOfMemory, 9),
+    (Counter::FillsStale, 15),
+    (Counter::Declined, 16),
+    (Counter::Logged, 17),
+    (Counter::LogFull, 18),
+    (Counter::IndexFull, 19),
+    (Counter::Sealed, 20),
+    (Counter::PagesWritten, 21),
+    (Counter::PagesLost, 22),
+    (Counter::SetsWritten, 23),
+    (Counter::SetsForgotten, 24),
+    (Counter::SegmentsFreed, 25),
+    (Counter::Readmitted, 26),
+    (Counter::Dropped, 27),
+    (Counter::MovesOutOfMemory, 28),
+    (Counter::UpkeepSteps, 29),
+    (Counter::StepsInHelp, 30),
+    (Counter::Removals, 33),
+];
+
+/// A report with these counts.
+fn report_with(counts: Counts) -> Report {
+    Report {
+        operations: 4500,
+        refused: 44,
+        wrong_hits: 1,
+        milliseconds: 2007,
+        timed: Timed {
+            gets: Quantiles {
+                p50: 51,
+                p99: 52,
+                p999: 53,
+                most: 54,
+            },
+            puts: Quantiles {
+                p50: 61,
+                p99: 62,
+                p999: 63,
+                most: 64,
+            },
         },
-        puts: Quantiles {
-            p50: 61,
-            p99: 62,
-            p999: 63,
-            most: 64,
-        },
-    },
-    counts: Counts {
-        gets: GetCounts {
-            memory_hits: 1,
-            log_hits: 2,
-            set_hits: 3,
-            absent: 4,
-            expired: 5,
-            faults: 6,
-            damaged: 7,
-        },
-        puts: PutCounts {
-            stored: 8,
-            bytes: 9,
-            too_large: 0,
-            out_of_memory: 10,
-        },
-        fills: PutCounts {
-            stored: 12,
-            bytes: 13,
-            too_large: 0,
-            out_of_memory: 14,
-        },
-        leases: LeaseCounts {
-            given: 11,
-            stale: 15,
-        },
-        removals: 33,
-        pushed: PushedCounts {
-            declined: 16,
-            logged: 17,
-            log_full: 18,
-            index_full: 19,
-        },
-        steps: StepCounts {
-            sealed: 20,
-            pages_written: 21,
-            pages_lost: 22,
-            sets_written: 23,
-            sets_forgotten: 24,
-            segments_freed: 25,
-            readmitted: 26,
-            dropped: 27,
-            out_of_memory: 28,
-        },
-        upkeep: UpkeepCounts {
-            steps: 29,
-            in_help: 30,
-        },
-    },
-    memory_objects: 31,
-    log_records: 32,
-};
+        counts,
+        memory_objects: 31,
+        log_records: 32,
+    }
+}
+
+/// A report with these numbers.
+fn report() -> Report {
+    let mut counts = Counts::none();
+    for (counter, number) in &NUMBERS {
+        counts.add(*counter, *number);
+    }
+    report_with(counts)
+}
 
 /// Its text: 4,500 operations in 2.007 seconds are 2,242 a second, and 6 hits of 28 gets are 0.2142 of them.
 const TEXT: &str = "operations 4500
@@ -137,21 +135,14 @@ const OBJECT: &str =
 
 #[test]
 fn a_report_has_a_line_for_each_number(rt: HostRuntime) -> Result<(), Fail> {
-    assert_eq!(rt; REPORT.text(rt.alloc(), Form::Lines)?.as_str(), TEXT);
+    assert_eq!(rt; report().text(rt.alloc(), Form::Lines)?.as_str(), TEXT);
     Ok(())
 }
 
 #[test]
 fn a_report_has_a_member_for_each_number(rt: HostRuntime) -> Result<(), Fail> {
-    assert_eq!(rt; REPORT.text(rt.alloc(), Form::Json)?.as_str(), OBJECT);
+    assert_eq!(rt; report().text(rt.alloc(), Form::Json)?.as_str(), OBJECT);
     Ok(())
-}
-
-/// A report in which gets were answered so.
-fn report_of_gets(gets: GetCounts) -> Report {
-    let mut report = REPORT;
-    report.counts.gets = gets;
-    report
 }
 
 /// Hits and misses, and the row of their ratio.
@@ -193,15 +184,10 @@ const RATIOS: [Ratio; 5] = [
 #[test]
 fn a_ratio_is_rounded_down_to_three_places(rt: HostRuntime) -> Result<(), Fail> {
     for ratio in &RATIOS {
-        let report = report_of_gets(GetCounts {
-            memory_hits: 0,
-            log_hits: ratio.hits,
-            set_hits: 0,
-            absent: ratio.misses,
-            expired: 0,
-            faults: 0,
-            damaged: 0,
-        });
+        let mut counts = Counts::none();
+        counts.add(Counter::LogHits, ratio.hits);
+        counts.add(Counter::Absent, ratio.misses);
+        let report = report_with(counts);
         assert!(rt;
             report
                 .text(rt.alloc(), Form::Lines)?
