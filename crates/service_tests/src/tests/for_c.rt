@@ -96,20 +96,68 @@ const EACH_STATUS: [Step; 33] = [
     Step::Miss(b"ax", 0, Status::Absent),
 ];
 
+// Where numbers stand: each at the place of its field in `kangaroo_counters`.
+const MEMORY_HITS: usize = 0;
+
+const LOG_HITS: usize = 1;
+
+const ABSENT: usize = 3;
+
+const EXPIRED: usize = 4;
+
+const PUTS: usize = 7;
+
+const REMOVES: usize = 8;
+
+const LEASES_GIVEN: usize = 9;
+
+const FILLS_STORED: usize = 10;
+
+const FILLS_STALE: usize = 11;
+
+const LOGGED: usize = 13;
+
+const BYTES_PUT: usize = 27;
+
+const MEMORY_OBJECTS_NOW: usize = 28;
+
+const LOG_OBJECTS_NOW: usize = 29;
+
 #[test]
 fn each_status_comes_and_is_counted(rt: HostRuntime) -> Result<(), Fail> {
     let (stray, counts) = after(rt.alloc(), &EACH_STATUS)?;
     assert_eq!(rt; stray, None);
     assert_eq!(rt;
-        (counts.memory_hits, counts.absent, counts.expired),
+        (
+            counts.numbers[MEMORY_HITS],
+            counts.numbers[ABSENT],
+            counts.numbers[EXPIRED]
+        ),
         (6, 7, 1)
     );
-    assert_eq!(rt; (counts.puts, counts.removes, counts.bytes_put), (3, 3, 16));
     assert_eq!(rt;
-        (counts.leases_given, counts.fills_stored, counts.fills_stale),
+        (
+            counts.numbers[PUTS],
+            counts.numbers[REMOVES],
+            counts.numbers[BYTES_PUT]
+        ),
+        (3, 3, 16)
+    );
+    assert_eq!(rt;
+        (
+            counts.numbers[LEASES_GIVEN],
+            counts.numbers[FILLS_STORED],
+            counts.numbers[FILLS_STALE]
+        ),
         (2, 1, 2)
     );
-    assert_eq!(rt; (counts.memory_objects_now, counts.log_objects_now), (0, 0));
+    assert_eq!(rt;
+        (
+            counts.numbers[MEMORY_OBJECTS_NOW],
+            counts.numbers[LOG_OBJECTS_NOW]
+        ),
+        (0, 0)
+    );
     Ok(())
 }
 
@@ -133,8 +181,14 @@ const EACH_TIER: [Step; 12] = [
 fn what_leaves_memory_is_hit_in_the_log(rt: HostRuntime) -> Result<(), Fail> {
     let (stray, counts) = after(rt.alloc(), &EACH_TIER)?;
     assert_eq!(rt; stray, None);
-    assert_eq!(rt; (counts.memory_hits, counts.log_hits), (1, 3));
-    assert_eq!(rt; (counts.logged, counts.memory_objects_now), (4, 1));
+    assert_eq!(rt;
+        (counts.numbers[MEMORY_HITS], counts.numbers[LOG_HITS]),
+        (1, 3)
+    );
+    assert_eq!(rt;
+        (counts.numbers[LOGGED], counts.numbers[MEMORY_OBJECTS_NOW]),
+        (4, 1)
+    );
     Ok(())
 }
 

@@ -8,7 +8,7 @@ use klog::Flushed;
 use mover::{MovedWhole, OpenFault};
 use page_device::MemoryDevice;
 use record_pages::{Config, Field, NEVER, Pushed, PutFault};
-use service_lane::{Counts, Filled, LeaseCounts, OpenLaneFault, ServiceLane, Upkept};
+use service_lane::{Counter, Counts, Filled, OpenLaneFault, ServiceLane, Upkept};
 use std::alloc::Global;
 use std::test::Fail;
 use test_devices::{key, value};
@@ -78,25 +78,36 @@ fn a_value_is_a_hit_in_each_tier_and_each_call_is_counted(rt: HostRuntime) -> Re
     let (stray, counts) = after(rt.alloc(), 1, &EACH_TIER)?;
     assert_eq!(rt; stray, None);
     let hits = (
-        counts.gets.memory_hits,
-        counts.gets.log_hits,
-        counts.gets.set_hits,
+        counts.of(Counter::MemoryHits),
+        counts.of(Counter::LogHits),
+        counts.of(Counter::SetHits),
     );
     assert_eq!(rt; hits, (1, 2, 1));
     assert_eq!(rt;
-        (counts.gets.absent, counts.gets.expired, counts.removals),
+        (
+            counts.of(Counter::Absent),
+            counts.of(Counter::Expired),
+            counts.of(Counter::Removals)
+        ),
         (2, 2, 1)
     );
     assert_eq!(rt;
-        (counts.puts.stored, counts.puts.bytes, counts.pushed.logged),
+        (
+            counts.of(Counter::PutsStored),
+            counts.of(Counter::PutsBytes),
+            counts.of(Counter::Logged)
+        ),
         (2, 6, 1)
     );
-    let steps = counts.steps;
     assert_eq!(rt;
-        (steps.sealed, steps.pages_written, steps.sets_written),
+        (
+            counts.of(Counter::Sealed),
+            counts.of(Counter::PagesWritten),
+            counts.of(Counter::SetsWritten)
+        ),
         (1, 1, 1)
     );
-    assert_eq!(rt; steps.segments_freed, 1);
+    assert_eq!(rt; counts.of(Counter::SegmentsFreed), 1);
     Ok(())
 }
 
@@ -122,9 +133,19 @@ const LEASES: [Step; 14] = [
 fn a_lease_ends_with_the_next_write_of_its_slot(rt: HostRuntime) -> Result<(), Fail> {
     let (stray, counts) = after(rt.alloc(), 1, &LEASES)?;
     assert_eq!(rt; stray, None);
-    assert_eq!(rt; counts.leases, LeaseCounts { given: 4, stale: 4 });
     assert_eq!(rt;
-        (counts.fills.stored, counts.fills.bytes, counts.puts.stored),
+        (
+            counts.of(Counter::LeasesGiven),
+            counts.of(Counter::FillsStale)
+        ),
+        (4, 4)
+    );
+    assert_eq!(rt;
+        (
+            counts.of(Counter::FillsStored),
+            counts.of(Counter::FillsBytes),
+            counts.of(Counter::PutsStored)
+        ),
         (1, 3, 2)
     );
     Ok(())
@@ -164,7 +185,11 @@ fn a_refused_put_leaves_the_older_value_or_removes_it(rt: HostRuntime) -> Result
     let (stray, counts) = after(rt.alloc(), 1, &REFUSED)?;
     assert_eq!(rt; stray, None);
     assert_eq!(rt;
-        (counts.puts.stored, counts.puts.too_large, counts.removals),
+        (
+            counts.of(Counter::PutsStored),
+            counts.of(Counter::PutsTooLarge),
+            counts.of(Counter::Removals)
+        ),
         (2, 2, 1)
     );
     Ok(())
@@ -207,16 +232,22 @@ const TENDED: [Step; 13] = [
 fn a_lane_is_tended_where_something_is_due(rt: HostRuntime) -> Result<(), Fail> {
     let (stray, counts) = after(rt.alloc(), 1, &TENDED)?;
     assert_eq!(rt; stray, None);
-    assert_eq!(rt; (counts.upkeep.steps, counts.upkeep.in_help), (4, 1));
     assert_eq!(rt;
         (
-            counts.steps.pages_written,
-            counts.steps.sets_written,
-            counts.steps.segments_freed
+            counts.of(Counter::UpkeepSteps),
+            counts.of(Counter::StepsInHelp)
+        ),
+        (4, 1)
+    );
+    assert_eq!(rt;
+        (
+            counts.of(Counter::PagesWritten),
+            counts.of(Counter::SetsWritten),
+            counts.of(Counter::SegmentsFreed)
         ),
         (2, 1, 1)
     );
-    assert_eq!(rt; counts.steps.sealed, 0);
+    assert_eq!(rt; counts.of(Counter::Sealed), 0);
     Ok(())
 }
 
@@ -235,8 +266,38 @@ const UNTENDED: [Step; 7] = [
 fn an_object_is_lost_and_counted_where_nobody_tends(rt: HostRuntime) -> Result<(), Fail> {
     let (stray, counts) = after(rt.alloc(), 1, &UNTENDED)?;
     assert_eq!(rt; stray, None);
-    assert_eq!(rt; (counts.pushed.logged, counts.pushed.log_full), (4, 1));
-    assert_eq!(rt; (counts.puts.stored, counts.upkeep.steps), (6, 0));
+    assert_eq!(rt;
+        (counts.of(Counter::Logged), counts.of(Counter::LogFull)),
+        (4, 1)
+    );
+    assert_eq!(rt;
+        (
+            counts.of(Counter::PutsStored),
+            counts.of(Counter::UpkeepSteps)
+        ),
+        (6, 0)
+    );
+    Ok(())
+}
+
+#[test]
+fn counts_are_added_counter_by_counter(rt: HostRuntime) -> Result<(), Fail> {
+    let mut one = Counts::none();
+    one.add(Counter::MemoryHits, 3);
+    one.add(Counter::Removals, 5);
+    let mut other = Counts::none();
+    other.add(Counter::Removals, u64::MAX);
+    other.add(Counter::StepsInHelp, 7);
+    let both = one.together(&other);
+    assert_eq!(rt;
+        (both.of(Counter::MemoryHits), both.of(Counter::LogHits)),
+        (3, 0)
+    );
+    assert_eq!(rt;
+        (both.of(Counter::Removals), both.of(Counter::StepsInHelp)),
+        (4, 7)
+    );
+    assert_ne!(rt; both, one);
     Ok(())
 }
 

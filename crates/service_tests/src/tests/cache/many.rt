@@ -2,7 +2,7 @@
 use super::caller::{NONE, Tally, calls, sum};
 use super::trials::{Trial, is_held};
 use super::*;
-use service_lane::Counts;
+use service_lane::{Counter, Counts};
 
 // How many callers make their calls, and how many each of them makes.
 const CALLERS: u8 = 100;
@@ -49,12 +49,14 @@ struct Totals {
 // The gets that a lane has counted.
 fn gets_of(counts: &Counts) -> Tally {
     Tally {
-        memory: counts.gets.memory_hits,
-        log: counts.gets.log_hits,
-        set: counts.gets.set_hits,
-        absent: counts.gets.absent,
-        expired: counts.gets.expired,
-        failed: counts.gets.faults.wrapping_add(counts.gets.damaged),
+        memory: counts.of(Counter::MemoryHits),
+        log: counts.of(Counter::LogHits),
+        set: counts.of(Counter::SetHits),
+        absent: counts.of(Counter::Absent),
+        expired: counts.of(Counter::Expired),
+        failed: counts
+            .of(Counter::Faults)
+            .wrapping_add(counts.of(Counter::Damaged)),
         ..NONE
     }
 }
@@ -71,8 +73,8 @@ fn counted<D: PageDevice<256>, L: KeyLanes, J: BookName, R: Wait>(
     for lane in 0..cache.lanes() {
         let counts = cache.counts(rt, lane);
         all.gets = sum(all.gets, gets_of(&counts));
-        all.in_help = all.in_help.wrapping_add(counts.upkeep.in_help);
-        all.steps = all.steps.wrapping_add(counts.upkeep.steps);
+        all.in_help = all.in_help.wrapping_add(counts.of(Counter::StepsInHelp));
+        all.steps = all.steps.wrapping_add(counts.of(Counter::UpkeepSteps));
     }
     all
 }

@@ -2,6 +2,7 @@
 use super::caller::calls;
 use super::trials::{ALONE, Outcome, Trial, try_one};
 use super::*;
+use service_lane::Counter;
 
 // Four lanes in which all is small.
 const FOUR: Config = Config { lanes: 4, ..SMALL };
@@ -61,7 +62,7 @@ fn stored<D: PageDevice<256>, L: KeyLanes, J: BookName, R: Wait>(
 ) -> [u64; 4] {
     let mut stored = [0; 4];
     for lane in 0..cache.lanes().min(4) {
-        stored[lane as usize] = cache.counts(rt, lane).puts.stored;
+        stored[lane as usize] = cache.counts(rt, lane).of(Counter::PutsStored);
     }
     stored
 }
@@ -122,7 +123,10 @@ pub fn entered<D: PageDevice<256>, L: KeyLanes, J: BookName, R: Wait>(
         return 0;
     }
     let counts = cache.counts(rt, 0);
-    let (logged, written) = (counts.pushed.logged > 0, counts.steps.sets_written > 0);
+    let (logged, written) = (
+        counts.of(Counter::Logged) > 0,
+        counts.of(Counter::SetsWritten) > 0,
+    );
     u64::from(logged) << 1 | u64::from(written)
 }
 

@@ -7,7 +7,7 @@ use super::trials::{Trial, is_held};
 use super::*;
 use klog::Flushed;
 use mover::MovedWhole;
-use service_lane::{Upkept, what_is_due};
+use service_lane::{Counter, Upkept, what_is_due};
 
 // How often each lane is tended once, and how many calls are made before each time: so many bring about that upkeep is due.
 const ROUNDS: u8 = 8;
@@ -22,7 +22,7 @@ fn counted<D: PageDevice<256>, L: KeyLanes, J: BookName, R: Wait>(
     let mut counted = [(0, 0); 4];
     for lane in 0..cache.lanes().min(4) {
         counted[lane as usize] = (
-            cache.counts(rt, lane).upkeep.steps,
+            cache.counts(rt, lane).of(Counter::UpkeepSteps),
             cache.device_counts(rt, lane).pages_written,
         );
     }

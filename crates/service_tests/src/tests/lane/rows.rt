@@ -4,6 +4,8 @@ ghost use Rattle.record_pages.specs.Expiry.{is_live};
 ghost use Rattle.record_pages.specs.declared.tier.Tier.{Tier};
 ghost use Rattle.record_pages.specs.declared.tier.Tier.TheVariants.{Memory, Log, Set};
 ghost use Rattle.klog.specs.declared.flushed.Flushed.{Flushed};
+ghost use Rattle.service_lane.specs.Counters.{number};
+ghost use Rattle.service_lane.specs.declared.counter.Counter.TheVariants as counter;
 ghost use Rattle.service_lane.specs.Upkeep.{IsPageDone};
 ghost use Rattle.service_lane.specs.declared.upkept.Upkept.{Upkept};
 ghost use Rattle.mover.specs.declared.answer_kind.AnswerKind.TheVariants.{Hit};
@@ -153,14 +155,14 @@ pub fn a_hit_is_counted_in_its_tier<D: PageDevice<PAGE>, const PAGE: usize>(
     moment: u64,
     found: &mut ValueBuffer,
 ) -> Result<AnswerKind, KeyFault>
-    ensures log { result ≡ Ok (Hit Log) → lane.new.counts.gets.log_hits
-        ≡ (lane.old.counts.gets.log_hits + 1) % 2 ^ 64 }
-    ensures log_alone { result ≡ Ok (Hit Log) → lane.new.counts.gets.set_hits
-        ≡ lane.old.counts.gets.set_hits }
-    ensures set { result ≡ Ok (Hit Set) → lane.new.counts.gets.set_hits
-        ≡ (lane.old.counts.gets.set_hits + 1) % 2 ^ 64 }
-    ensures set_alone { result ≡ Ok (Hit Set) → lane.new.counts.gets.log_hits
-        ≡ lane.old.counts.gets.log_hits }
+    ensures log { result ≡ Ok (Hit Log) → number counter.LogHits lane.new.counts
+        ≡ (number counter.LogHits lane.old.counts + 1) % 2 ^ 64 }
+    ensures log_alone { result ≡ Ok (Hit Log) → number counter.SetHits lane.new.counts
+        ≡ number counter.SetHits lane.old.counts }
+    ensures set { result ≡ Ok (Hit Set) → number counter.SetHits lane.new.counts
+        ≡ (number counter.SetHits lane.old.counts + 1) % 2 ^ 64 }
+    ensures set_alone { result ≡ Ok (Hit Set) → number counter.LogHits lane.new.counts
+        ≡ number counter.LogHits lane.old.counts }
 {
     match lane.get(name, moment, found) {
         Ok(seen) => Ok(seen),
