@@ -1,6 +1,7 @@
 -- Entries that are left if others are dropped.
 use Rattle.std.proofs.Common.{◌≡◌, ℕ, Bool, true, false, cond, not, eqb, List, [], ◌∷◌, length, map, filter, Option, Some, All, Contains, slice_get, refl, sym, ap, subst, ◌∙◌, arith}
 use Rattle.std.specs.Prelude.{◌≢◌, find, IsSomeAnd, None, IsTrue, Result, Ok, Err}
+use Rattle.std.specs.Option.{option_map}
 use Rattle.std.specs.declared.alloc.AllocError.{AllocError}
 use Rattle.std.proofs.lemmas.Bool.{and_parts, eq-eqb, eqb-true, false≢true}
 use Rattle.std.proofs.lemmas.List.{length-map}
@@ -206,6 +207,52 @@ is_its_hit live key moment x old looked.Expired new after there h wanted is = gr
 is_its_hit live key moment x old looked.Absent new after there h wanted is = grind (arith, is)
 is_its_hit live key moment x old looked.Fault new after there h wanted is = grind (arith, is)
 is_its_hit live key moment x old looked.Damaged new after there h wanted is = absurd h
+
+-- what a look after a page was written answers, is of the records that were live before
+module _ (live : List (Entry × Rec)) (key : List ℕ) (moment : ℕ) where
+  -- what the newest record of the key has at the moment
+  abbrev pub at_moment : Entry × Rec → Option (List ℕ)
+  at_moment x = value_at moment x.1.value
+
+  -- an answer that is given
+  abbrev pub Answers : Looked → Looked → Type 0
+  Answers a wanted = ◌≡◌ {A = Result (Option Looked) AllocError} (Ok (Some a)) (Ok (Some wanted))
+
+  hit_of : (o : Option (Entry × Rec)) (value : List ℕ) (old new : LogState) (after : List (Entry × Rec)) → IsSomeAnd o (GivesRecord live moment value old new after) → option_map at_moment o ≡ Some (Some value)
+  hit_of None value old new after h = absurd h
+  hit_of (Some x) value old new after h = ap Some h.its
+
+  expired_of : (o : Option (Entry × Rec)) → IsSomeAnd o (λ x. at_moment x ≡ None) → option_map at_moment o ≡ Some None
+  expired_of None h = absurd h
+  expired_of (Some x) h = ap Some h
+
+  pub tells_hit : (old : LogState) (a : Looked) (new : LogState) (after : List (Entry × Rec)) → LogLookGives live key moment old a new after → (value : List ℕ) → Answers a (looked.Hit value) → option_map at_moment (newest_with live key) ≡ Some (Some value)
+  tells_hit old (looked.Hit v) new after h value is = let same : v ≡ value = cc in hit_of (newest_with live key) v old new after h ∙ ap (λ (x : List ℕ). Some (Some x)) same
+  tells_hit old looked.Expired new after h value is = absurd cc
+  tells_hit old looked.Absent new after h value is = absurd cc
+  tells_hit old looked.Fault new after h value is = absurd cc
+  tells_hit old looked.Damaged new after h value is = absurd h
+
+  pub tells_expired : (old : LogState) (a : Looked) (new : LogState) (after : List (Entry × Rec)) → LogLookGives live key moment old a new after → Answers a looked.Expired → option_map at_moment (newest_with live key) ≡ Some None
+  tells_expired old (looked.Hit v) new after h is = absurd cc
+  tells_expired old looked.Expired new after h is = expired_of (newest_with live key) h.0
+  tells_expired old looked.Absent new after h is = absurd cc
+  tells_expired old looked.Fault new after h is = absurd cc
+  tells_expired old looked.Damaged new after h is = absurd h
+
+  pub tells_absent : (old : LogState) (a : Looked) (new : LogState) (after : List (Entry × Rec)) → LogLookGives live key moment old a new after → Answers a looked.Absent → newest_with live key ≡ None
+  tells_absent old (looked.Hit v) new after h is = absurd cc
+  tells_absent old looked.Expired new after h is = absurd cc
+  tells_absent old looked.Absent new after h is = h.0
+  tells_absent old looked.Fault new after h is = absurd cc
+  tells_absent old looked.Damaged new after h is = absurd h
+
+  pub tells_whole : (old : LogState) (a : Looked) (new : LogState) (after : List (Entry × Rec)) → LogLookGives live key moment old a new after → Answers a looked.Damaged → ⊥
+  tells_whole old (looked.Hit v) new after h is = absurd cc
+  tells_whole old looked.Expired new after h is = absurd cc
+  tells_whole old looked.Absent new after h is = absurd cc
+  tells_whole old looked.Fault new after h is = absurd cc
+  tells_whole old looked.Damaged new after h is = h
 
 -- what a look answers of a record that the buffers tell of
 pub answer_by : (o : Option (List ℕ)) (old : LogState) (set : ℕ) (e : Entry) (new : LogState) (nc : Type 0) (a : Looked) → GivesAt o old set e new nc a → (a ≡ looked_by o) × nc

@@ -159,6 +159,12 @@ fn on_sound(rt: &impl Abort, alloc: Global, steps: &[Step]) -> Result<(), Fail> 
     on(rt, alloc, &ONE_SET, NONE_REFUSED, steps)
 }
 
+// The filled segment is the one that is flushed next.
+const SEAL: Step = Step::Flush(Flushed::Sealed);
+
+// A page is written.
+const WRITE: Step = Step::Flush(Flushed::Wrote);
+
 const ADDED: Option<Appended> = Some(Appended::Appended);
 
 // The tag of the key "ax", the high 16 bits of its hash.

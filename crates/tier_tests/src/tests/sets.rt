@@ -40,12 +40,47 @@ const ONE_SET: Config = Config {
 // One lane of five sets: ax lies in set 3, bx in set 0.
 const FIVE_SETS: Config = Config { sets: 5, ..ONE_SET };
 
-fn device(alloc: Global) -> Result<MemoryDevice<256>, AllocError> {
-    MemoryDevice::new(alloc, 3)
+/// Which call of a device is refused: one alone, or that and all later ones. Alone with number 0 none is.
+#[derive(Clone, Copy)]
+enum Refused {
+    Alone(u32),
+    From(u32),
 }
 
-fn layout() -> Result<Layout, Fail> {
-    match ONE_SET.check() {
+const NONE_REFUSED: Refused = Refused::Alone(0);
+
+/// For how many strikes there is room in all sets together.
+#[derive(Clone, Copy)]
+enum Room {
+    EightForEach,
+    One,
+}
+
+/// The sets that a test opens.
+#[derive(Clone, Copy)]
+struct Opened {
+    config: Config,
+    room: Room,
+    refused: Refused,
+}
+
+const SOUND: Opened = Opened {
+    config: ONE_SET,
+    room: Room::EightForEach,
+    refused: NONE_REFUSED,
+};
+
+// A device of five pages that refuses these calls.
+fn device(alloc: Global, refused: Refused) -> Result<Fused, AllocError> {
+    let pages = MemoryDevice::new(alloc, 5)?;
+    Ok(match refused {
+        Refused::Alone(call) => FuseDevice::one(pages, call),
+        Refused::From(call) => FuseDevice::from(pages, call),
+    })
+}
+
+fn layout(config: &Config) -> Result<Layout, Fail> {
+    match config.check() {
         Ok(layout) => Ok(layout),
         Err(_) => Err("a sound configuration".into()),
     }
@@ -53,27 +88,62 @@ fn layout() -> Result<Layout, Fail> {
 
 fn sets<D: PageDevice<PAGE>, const PAGE: usize>(
     alloc: Global,
+    config: &Config,
     device: D,
 ) -> Result<Owner<D, PAGE>, Fail> {
-    match Owner::open(alloc, &layout()?, device) {
+    match Owner::open(alloc, &layout(config)?, device) {
         Ok(Some(owner)) => Ok(owner),
         Ok(None) => Err("a device that is large enough".into()),
         Err(fault) => Err(fault.into()),
     }
 }
 
-// The sets on a device that refuses no call; an opening that lacks memory is tried once more.
-fn sound_sets(alloc: Global) -> Result<Owner<Fused, 256>, Fail> {
-    let layout = layout()?;
-    match open(alloc, &layout) {
-        Ok(Some(owner)) => Ok(owner),
-        Ok(None) => Err("a device that is large enough".into()),
-        Err(_) => sets(alloc, FuseDevice::one(device(alloc)?, 0)),
+// Sets over a device that refuses calls, or what they lack.
+fn open(
+    alloc: Global,
+    layout: &Layout,
+    room: Room,
+    device: Fused,
+) -> Result<Option<Owner<Fused, 256>>, AllocError> {
+    match room {
+        Room::EightForEach => Owner::open(alloc, layout, device),
+        Room::One => Owner::open_with(alloc, layout, 1, device),
     }
 }
 
-fn open(alloc: Global, layout: &Layout) -> Result<Option<Owner<Fused, 256>>, AllocError> {
-    Owner::open(alloc, layout, FuseDevice::one(device(alloc)?, 0))
+// The same; an opening that lacks memory is tried once more. It alone opens sets of this kind: who calls it is cheap to prove.
+fn refusing_sets(alloc: Global, opened: &Opened) -> Result<Owner<Fused, 256>, Fail> {
+    let layout = layout(&opened.config)?;
+    let first = open(alloc, &layout, opened.room, device(alloc, opened.refused)?);
+    let owner = match first {
+        Ok(owner) => owner,
+        Err(_) => open(alloc, &layout, opened.room, device(alloc, opened.refused)?)?,
+    };
+    match owner {
+        Some(owner) => Ok(owner),
+        None => Err("a device that is large enough".into()),
+    }
+}
+
+// Makes these calls of such sets.
+fn on(rt: &impl Abort, alloc: Global, opened: &Opened, steps: &[Step]) -> Result<(), Fail> {
+    run(rt, alloc, &mut refusing_sets(alloc, opened)?, steps)
+}
+
+// Makes these calls of one set over a device that refuses calls.
+fn on_refusing(
+    rt: &impl Abort,
+    alloc: Global,
+    refused: Refused,
+    steps: &[Step],
+) -> Result<(), Fail> {
+    on(rt, alloc, &Opened { refused, ..SOUND }, steps)
+}
+
+// Makes these calls of one set over a device of which each page is read as zeros.
+fn on_blank(rt: &impl Abort, alloc: Global, steps: &[Step]) -> Result<(), Fail> {
+    let mut owner: Owner<BlankDevice, 256> = sets(alloc, &ONE_SET, BlankDevice(1))?;
+    run(rt, alloc, &mut owner, steps)
 }
 
 // A key and its value.

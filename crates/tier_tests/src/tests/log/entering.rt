@@ -7,8 +7,8 @@ const FOUND_UNTIL_STRUCK: [Step; 16] = [
     Step::Look(b"ax", WantedLook::Value(b"1")),
     // What has expired is no hit, and keeps its prediction.
     Step::LookLate(b"ax"),
-    Step::Flush(Flushed::Sealed),
-    Step::Flush(Flushed::Wrote),
+    SEAL,
+    WRITE,
     Step::Flush(Flushed::Nothing),
     Step::Look(b"ax", WantedLook::Value(b"1")),
     Step::LookLate(b"ax"),
@@ -63,9 +63,9 @@ fn a_record_past_the_last_entry_is_refused(rt: HostRuntime) -> Result<(), Fail> 
 const JUST_A_PAGES_ROOM: [Step; 6] = [
     Step::Append(b"ax", &[7; 225], None),
     Step::Append(b"ax", &[7; 224], ADDED),
-    Step::Flush(Flushed::Sealed),
+    SEAL,
     Step::Look(b"ax", WantedLook::Value(&[7; 224])),
-    Step::Flush(Flushed::Wrote),
+    WRITE,
     Step::Look(b"ax", WantedLook::Value(&[7; 224])),
 ];
 
@@ -78,8 +78,8 @@ fn a_record_of_just_a_pages_room_is_found_after_a_flush(rt: HostRuntime) -> Resu
 const TWO_KEYS_OF_ONE_TAG: [Step; 14] = [
     Step::Append(b"a", b"1", ADDED),
     Step::Append(b"b", b"2", ADDED),
-    Step::Flush(Flushed::Sealed),
-    Step::Flush(Flushed::Wrote),
+    SEAL,
+    WRITE,
     Step::Look(b"a", WantedLook::Value(b"1")),
     Step::Look(b"b", WantedLook::Value(b"2")),
     Step::Append(b"a", b"3", ADDED),

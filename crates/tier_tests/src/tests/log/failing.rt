@@ -6,8 +6,8 @@ use super::*;
 const WHOLE: [Step; 10] = [
     ADDS_A,
     ADDS_B,
-    SEALS,
-    WRITES,
+    SEAL,
+    WRITE,
     FINDS_A,
     TAKES_BOTH,
     READMITS,
@@ -20,7 +20,7 @@ const WHOLE: [Step; 10] = [
 const UNWRITTEN: [Step; 11] = [
     ADDS_A,
     ADDS_B,
-    SEALS,
+    SEAL,
     Step::Flush(Flushed::PageLost),
     MISSES_A,
     Step::Empty,
@@ -35,8 +35,8 @@ const UNWRITTEN: [Step; 11] = [
 const UNREAD: [Step; 10] = [
     ADDS_A,
     ADDS_B,
-    SEALS,
-    WRITES,
+    SEAL,
+    WRITE,
     Step::Look(b"ax", WantedLook::Fault),
     TAKES_BOTH_UNREAD,
     READMITS,
@@ -48,8 +48,8 @@ const UNREAD: [Step; 10] = [
 const UNREAD_FOR_GOOD: [Step; 10] = [
     ADDS_A,
     ADDS_B,
-    SEALS,
-    WRITES,
+    SEAL,
+    WRITE,
     Step::Look(b"ax", WantedLook::Fault),
     Step::TakeLost,
     READMITS_NONE,
@@ -62,8 +62,8 @@ const UNREAD_FOR_GOOD: [Step; 10] = [
 const UNTAKEN: [Step; 10] = [
     ADDS_A,
     ADDS_B,
-    SEALS,
-    WRITES,
+    SEAL,
+    WRITE,
     FINDS_A,
     Step::TakeLost,
     READMITS_NONE,
@@ -76,8 +76,8 @@ const UNTAKEN: [Step; 10] = [
 const UNMOVED: [Step; 10] = [
     ADDS_A,
     ADDS_B,
-    SEALS,
-    WRITES,
+    SEAL,
+    WRITE,
     FINDS_A,
     TAKES_BOTH,
     Step::Readmit(Some(Readmitted::Fault)),
@@ -90,8 +90,8 @@ const UNMOVED: [Step; 10] = [
 const UNFOUND: [Step; 10] = [
     ADDS_A,
     ADDS_B,
-    SEALS,
-    WRITES,
+    SEAL,
+    WRITE,
     FINDS_A,
     TAKES_BOTH,
     READMITS,
@@ -103,10 +103,6 @@ const UNFOUND: [Step; 10] = [
 const ADDS_A: Step = Step::Append(b"ax", b"1", ADDED);
 
 const ADDS_B: Step = Step::Append(b"bx", b"2", ADDED);
-
-const SEALS: Step = Step::Flush(Flushed::Sealed);
-
-const WRITES: Step = Step::Flush(Flushed::Wrote);
 
 const FINDS_A: Step = Step::Look(b"ax", WantedLook::Value(b"1"));
 

@@ -100,28 +100,24 @@ fn what_was_taken_is_dropped_alone(rt: HostRuntime) -> Result<(), Fail> {
 }
 
 // Segments 0 to 3 come and go, and then the name of segment 0 comes again.
-const IN_SEGMENT_0: [Step; 3] = [
-    Step::Append(b"ax", b"1", ADDED),
-    Step::Flush(Flushed::Sealed),
-    Step::Flush(Flushed::Wrote),
-];
+const IN_SEGMENT_0: [Step; 3] = [Step::Append(b"ax", b"1", ADDED), SEAL, WRITE];
 
 const IN_SEGMENT_4: [Step; 18] = [
     Step::Strike(b"ax"),
     Step::Free(true),
     Step::Append(b"ax", b"2", ADDED),
-    Step::Flush(Flushed::Sealed),
-    Step::Flush(Flushed::Wrote),
+    SEAL,
+    WRITE,
     Step::Strike(b"ax"),
     Step::Free(true),
     Step::Append(b"ax", b"3", ADDED),
-    Step::Flush(Flushed::Sealed),
-    Step::Flush(Flushed::Wrote),
+    SEAL,
+    WRITE,
     Step::Strike(b"ax"),
     Step::Free(true),
     Step::Append(b"ax", b"4", ADDED),
-    Step::Flush(Flushed::Sealed),
-    Step::Flush(Flushed::Wrote),
+    SEAL,
+    WRITE,
     Step::Strike(b"ax"),
     Step::Free(true),
     Step::Append(b"ax", b"5", ADDED),
@@ -165,8 +161,8 @@ const TWO_PAGES: Config = Config {
 
 // The second page is lost, and with it one record.
 const LOSES_THE_SECOND_PAGE: [Step; 7] = [
-    Step::Flush(Flushed::Sealed),
-    Step::Flush(Flushed::Wrote),
+    SEAL,
+    WRITE,
     Step::Flush(Flushed::PageLost),
     Step::Count(64),
     Step::Look(&[64], WantedLook::Absent),
@@ -215,6 +211,16 @@ fn gives_the_newest(alloc: Global, owner: &mut Owner<Wide, 4096>) -> Result<bool
     Ok(fills(alloc, owner)? && are_the_newest(take(alloc, owner)?))
 }
 
+// Fills two pages, takes the newest records, and loses the second page.
+fn fills_two_pages(
+    rt: &impl Abort,
+    alloc: Global,
+    owner: &mut Owner<Wide, 4096>,
+) -> Result<(), Fail> {
+    assert!(rt; gives_the_newest(alloc, owner)?);
+    run(rt, alloc, owner, &LOSES_THE_SECOND_PAGE)
+}
+
 // A log of segments of two pages, on a device whose second call is refused.
 fn wide_log(alloc: Global) -> Result<Owner<Wide, 4096>, Fail> {
     log(
@@ -226,17 +232,14 @@ fn wide_log(alloc: Global) -> Result<Owner<Wide, 4096>, Fail> {
 
 #[test]
 fn a_page_has_64_records_and_a_taking_32(rt: HostRuntime) -> Result<(), Fail> {
-    let alloc = rt.alloc();
-    let mut owner = wide_log(alloc)?;
-    assert!(rt; gives_the_newest(alloc, &mut owner)?);
-    run(&rt, alloc, &mut owner, &LOSES_THE_SECOND_PAGE)
+    fills_two_pages(&rt, rt.alloc(), &mut wide_log(rt.alloc())?)
 }
 
 const READMITTED_OR_LOST: [Step; 14] = [
     Step::Append(b"ax", &[1; 100], ADDED),
     Step::Append(b"bx", &[2; 100], ADDED),
-    Step::Flush(Flushed::Sealed),
-    Step::Flush(Flushed::Wrote),
+    SEAL,
+    WRITE,
     Step::Look(b"ax", WantedLook::Value(&[1; 100])),
     Step::Readmit(Some(Readmitted::Readmitted)),
     Step::Take(&[
@@ -276,8 +279,8 @@ fn a_readmitted_record_is_the_newest_or_it_is_lost(rt: HostRuntime) -> Result<()
 const READMITTED_FROM_A_LOST_PAGE: [Step; 9] = [
     Step::Append(b"ax", &[1; 100], ADDED),
     Step::Append(b"bx", &[2; 100], ADDED),
-    Step::Flush(Flushed::Sealed),
-    Step::Flush(Flushed::Wrote),
+    SEAL,
+    WRITE,
     Step::Look(b"ax", WantedLook::Damaged),
     Step::Count(2),
     Step::Readmit(Some(Readmitted::Damaged)),
@@ -288,8 +291,8 @@ const READMITTED_FROM_A_LOST_PAGE: [Step; 9] = [
 const TAKEN_FROM_A_LOST_PAGE: [Step; 6] = [
     Step::Append(b"ax", &[1; 100], ADDED),
     Step::Append(b"bx", &[2; 100], ADDED),
-    Step::Flush(Flushed::Sealed),
-    Step::Flush(Flushed::Wrote),
+    SEAL,
+    WRITE,
     Step::TakeLost,
     Step::Take(&[]),
 ];

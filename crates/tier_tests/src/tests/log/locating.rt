@@ -8,28 +8,40 @@ const TOO_LONG: [u8; 256] = [b'a'; 256];
 
 const SECOND: Place = Place { slot: 1, ..FIRST };
 
+const TOUCH_A: Step = Step::Touch(b"ax");
+
+const TOUCH_B: Step = Step::Touch(b"bx");
+
+const LATE_A: Step = Step::LocateLate(b"ax");
+
+const NEW_A: Step = Step::Locate(b"ax", FIRST, 6, b"1");
+
+const NEW_B: Step = Step::Locate(b"bx", SECOND, 6, b"");
+
+const TOUCHED_A: Step = Step::Locate(b"ax", FIRST, 5, b"1");
+
 // The second call of the device is refused, which is the first search on the page.
 const IN_BUFFERS_AND_ON_THE_PAGE: [Step; 23] = [
     Step::Append(b"ax", b"1", ADDED),
     Step::Append(b"bx", b"", ADDED),
-    Step::Locate(b"ax", FIRST, 6, b"1"),
-    Step::Locate(b"bx", SECOND, 6, b""),
-    Step::Locate(b"ax", FIRST, 6, b"1"),
-    Step::LocateLate(b"ax"),
+    NEW_A,
+    NEW_B,
+    NEW_A,
+    LATE_A,
     Step::LocateNone(b"cx", WantedLook::Absent),
     Step::LocateNone(b"", WantedLook::Absent),
     Step::LocateNone(&TOO_LONG, WantedLook::Absent),
-    Step::Touch(b"ax"),
-    Step::Locate(b"ax", FIRST, 5, b"1"),
-    Step::Locate(b"bx", SECOND, 6, b""),
-    Step::Flush(Flushed::Sealed),
-    Step::Locate(b"ax", FIRST, 5, b"1"),
-    Step::Touch(b"ax"),
-    Step::Flush(Flushed::Wrote),
+    TOUCH_A,
+    TOUCHED_A,
+    NEW_B,
+    SEAL,
+    TOUCHED_A,
+    TOUCH_A,
+    WRITE,
     Step::LocateNone(b"ax", WantedLook::Fault),
-    Step::LocateLate(b"ax"),
+    LATE_A,
     Step::Locate(b"ax", FIRST, 4, b"1"),
-    Step::Touch(b"ax"),
+    TOUCH_A,
     Step::First(TAG_OF_AX, FIRST, 3),
     Step::Look(b"ax", WantedLook::Value(b"1")),
     Step::Locate(b"ax", FIRST, 2, b"1"),
@@ -52,8 +64,8 @@ fn a_located_value_is_in_the_buffer(rt: HostRuntime) -> Result<(), Fail> {
 
 const LOST: [Step; 4] = [
     Step::Append(b"ax", b"1", ADDED),
-    Step::Flush(Flushed::Sealed),
-    Step::Flush(Flushed::Wrote),
+    SEAL,
+    WRITE,
     Step::LocateNone(b"ax", WantedLook::Damaged),
 ];
 
@@ -87,54 +99,68 @@ const THIRD_THERE: Place = Place {
 
 const FULL: &[u8] = &[3; 200];
 
+const TOUCH_AAD: Step = Step::Touch(b"aad");
+
+const TOUCH_AAA: Step = Step::Touch(b"aaa");
+
+const AAC: Step = Step::Locate(b"aac", SECOND, 5, b"2");
+
+const AAA: Step = Step::Locate(b"aaa", FIRST, 6, b"1");
+
+const AAD: Step = Step::Locate(b"aad", NEXT_SEGMENT, 4, b"4");
+
+const AX: Step = Step::Locate(b"ax", SECOND_THERE, 6, b"5");
+
+const BX: Step = Step::Locate(b"bx", THIRD_THERE, 6, b"6");
+
 // `aaa` and `aac` have one tag and set 0, `aab` and `aad` that tag and set 1, and `ax` and `bx` other tags, sets 0 and 1.
 const EACH_ALONE: [Step; 45] = [
     Step::Append(b"aaa", b"1", ADDED),
     Step::Append(b"aac", b"2", ADDED),
     Step::Append(b"aab", FULL, ADDED),
-    Step::Flush(Flushed::Sealed),
+    SEAL,
     Step::Append(b"aad", b"4", ADDED),
     Step::Append(b"ax", b"5", ADDED),
     Step::Append(b"bx", b"6", ADDED),
     Step::Touch(b"aac"),
-    Step::Locate(b"aaa", FIRST, 6, b"1"),
-    Step::Locate(b"aac", SECOND, 5, b"2"),
+    AAA,
+    AAC,
     Step::Locate(b"aab", NEXT_PAGE, 6, FULL),
     Step::Locate(b"aad", NEXT_SEGMENT, 6, b"4"),
-    Step::Locate(b"ax", SECOND_THERE, 6, b"5"),
-    Step::Locate(b"bx", THIRD_THERE, 6, b"6"),
+    AX,
+    BX,
     // Touched on the other page, and in the other segment.
     Step::Touch(b"aab"),
-    Step::Touch(b"aad"),
-    Step::Touch(b"aad"),
-    Step::Locate(b"aaa", FIRST, 6, b"1"),
-    Step::Locate(b"aac", SECOND, 5, b"2"),
+    TOUCH_AAD,
+    TOUCH_AAD,
+    AAA,
+    AAC,
     Step::Locate(b"aab", NEXT_PAGE, 5, FULL),
-    Step::Locate(b"aad", NEXT_SEGMENT, 4, b"4"),
-    Step::Locate(b"ax", SECOND_THERE, 6, b"5"),
-    Step::Locate(b"bx", THIRD_THERE, 6, b"6"),
+    AAD,
+    AX,
+    BX,
     // The same with the first segment on the device; a look is a touch, and a prediction is not below 0.
-    Step::Flush(Flushed::Wrote),
-    Step::Flush(Flushed::Wrote),
-    Step::Touch(b"aaa"),
+    WRITE,
+    WRITE,
+    TOUCH_AAA,
     Step::Look(b"aab", WantedLook::Value(FULL)),
-    Step::Touch(b"ax"),
-    Step::Touch(b"bx"),
-    Step::Touch(b"bx"),
-    Step::Touch(b"bx"),
-    Step::Touch(b"bx"),
-    Step::Touch(b"bx"),
-    Step::Touch(b"bx"),
-    Step::Touch(b"bx"),
+    TOUCH_A,
+    TOUCH_B,
+    TOUCH_B,
+    TOUCH_B,
+    TOUCH_B,
+    TOUCH_B,
+    TOUCH_B,
+    TOUCH_B,
     Step::Locate(b"aaa", FIRST, 5, b"1"),
-    Step::Locate(b"aac", SECOND, 5, b"2"),
+    AAC,
     Step::Locate(b"aab", NEXT_PAGE, 4, FULL),
-    Step::Locate(b"aad", NEXT_SEGMENT, 4, b"4"),
+    AAD,
     Step::Locate(b"ax", SECOND_THERE, 5, b"5"),
     Step::Locate(b"bx", THIRD_THERE, 0, b"6"),
     // A newer record of the key is the one that is touched.
     Step::Append(b"aaa", b"7", ADDED),
-    Step::Touch(b"aaa"),
+    TOUCH_AAA,
     Step::Look(b"aaa", WantedLook::Value(b"7")),
     Step::First(59164, FIRST, 5),
 ];

@@ -11,10 +11,6 @@ const ADD_A: Step = Step::Append(b"ax", &[1; 200], ADDED);
 
 const ADD_B: Step = Step::Append(b"bx", &[2; 200], ADDED);
 
-const SEAL: Step = Step::Flush(Flushed::Sealed);
-
-const WRITE: Step = Step::Flush(Flushed::Wrote);
-
 const LOSE: Step = Step::Flush(Flushed::PageLost);
 
 const A: Step = Step::Look(b"ax", WantedLook::Value(&[1; 200]));

@@ -29,8 +29,8 @@ const ONE_BY_ONE: [Step; 21] = [
     Step::Append(b"cx", b"3", ADDED),
     Step::Oldest(&[], Told::NoSegment),
     Step::Oldest(&[0, 1], Told::NoSegment),
-    Step::Flush(Flushed::Sealed),
-    Step::Flush(Flushed::Wrote),
+    SEAL,
+    WRITE,
     Step::Oldest(&[], Told::First(0, 0)),
     Step::Oldest(&[0], Told::First(1, 1)),
     Step::Oldest(&[1], Told::First(0, 0)),
@@ -55,11 +55,11 @@ fn entries_of_some_sets_are_passed_over(rt: HostRuntime) -> Result<(), Fail> {
 // An entry of a younger segment is not told of, if all of the oldest one are passed over.
 const IN_TWO_SEGMENTS: [Step; 8] = [
     Step::Append(b"ax", b"1", ADDED),
-    Step::Flush(Flushed::Sealed),
-    Step::Flush(Flushed::Wrote),
+    SEAL,
+    WRITE,
     Step::Append(b"bx", b"2", ADDED),
-    Step::Flush(Flushed::Sealed),
-    Step::Flush(Flushed::Wrote),
+    SEAL,
+    WRITE,
     Step::Oldest(&[0], Told::Passed),
     Step::Oldest(&[1], Told::First(0, 0)),
 ];

@@ -5,6 +5,7 @@ use super::passing::{Told, told_by};
 use super::retried::{EXPIRES, append, look, look_at, strike, take};
 use super::*;
 use record_pages::ValueBuffer;
+use set_hash::Placed;
 
 /// A record that a taking gives.
 #[derive(Clone, Copy)]
@@ -144,15 +145,19 @@ fn is_located<D: PageDevice<PAGE>, const PAGE: usize>(
 {
     let mut found = ValueBuffer::empty();
     found.set(WAS_HELD);
-    let LocatedInLog::Hit(entry) = owner.locate(key, EXPIRES - 1, &mut found) else {
+    let located = owner.locate(key, EXPIRES - 1, &mut found);
+    is_at(located, &owner.placed(key), place, prediction) && found.bytes() == held
+}
+
+// Whether an entry of this set and tag is located, with this place and prediction.
+fn is_at(located: LocatedInLog, placed: &Placed, place: Place, prediction: u8) -> bool {
+    let LocatedInLog::Hit(entry) = located else {
         return false;
     };
-    let placed = owner.placed(key);
     entry.set == placed.set
         && entry.tag == placed.tag
         && entry.place == place
         && entry.prediction.get() == prediction
-        && found.bytes() == held
 }
 
 // What is located of the bytes of a key at a moment, or nothing if the buffer does not stay as it was.

@@ -42,15 +42,21 @@ const PLAN: [DeviceCall; 7] = [
 
 type Planned = PlannedDevice<MemoryDevice<256>>;
 
+// Whether the calls of the steps are just the planned ones.
+fn are_planned(
+    rt: &impl Abort,
+    alloc: Global,
+    steps: &[Step],
+    plan: &'static [DeviceCall],
+) -> Result<bool, Fail> {
+    let device = PlannedDevice::new(MemoryDevice::new(alloc, 5)?, plan);
+    let mut owner: Owner<Planned, 256> = sets(alloc, &FIVE_SETS, device)?;
+    run(rt, alloc, &mut owner, steps)?;
+    Ok(owner.device().is_as_planned())
+}
+
 #[test]
 fn each_page_is_asked_for_once_and_no_other(rt: HostRuntime) -> Result<(), Fail> {
-    let alloc = rt.alloc();
-    let layout = FIVE_SETS.check()?;
-    let device: Planned = PlannedDevice::new(MemoryDevice::new(alloc, 5)?, &PLAN);
-    let mut owner: Owner<Planned, 256> = Owner::open(alloc, &layout, device)?.ok_or(
-        "a device that is large enough",
-    )?;
-    run(&rt, alloc, &mut owner, &STEPS)?;
-    assert!(rt; owner.device().is_as_planned());
+    assert!(rt; are_planned(&rt, rt.alloc(), &STEPS, &PLAN)?);
     Ok(())
 }

@@ -22,9 +22,7 @@ const FOUND_UNTIL_STRUCK: [Step; 11] = [
 fn written_records_are_found_until_they_are_struck_or_forgotten(
     rt: HostRuntime,
 ) -> Result<(), Fail> {
-    let alloc = rt.alloc();
-    let mut owner: Owner<Fused, 256> = sets(alloc, FuseDevice::one(device(alloc)?, 6))?;
-    run(&rt, alloc, &mut owner, &FOUND_UNTIL_STRUCK)
+    on_refusing(&rt, rt.alloc(), Refused::Alone(6), &FOUND_UNTIL_STRUCK)
 }
 
 const TWO_OF_ONE_KEY: [Pair; 3] = [(b"ab", b"1"), (b"cd", b"2"), (b"cd", b"3")];
@@ -61,8 +59,7 @@ const THE_FIRST_OF_TWO: [Step; 6] = [
 
 #[test]
 fn the_first_of_two_records_with_a_key_is_found(rt: HostRuntime) -> Result<(), Fail> {
-    let alloc = rt.alloc();
-    run(&rt, alloc, &mut sound_sets(alloc)?, &THE_FIRST_OF_TWO)
+    on(&rt, rt.alloc(), &SOUND, &THE_FIRST_OF_TWO)
 }
 
 type Wide = MemoryDevice<4096>;
@@ -97,23 +94,24 @@ fn is_last_alone_hit(read: SetRead) -> bool {
     true
 }
 
-// What is read of a set of these pairs, after these calls.
-fn read_behind(
+// Whether the last alone of as many records as a set page may have is hit, once it was found.
+fn hits_the_last(
     rt: &impl Abort,
     alloc: Global,
-    pairs: &[Pair],
-    steps: &[Step],
-) -> Result<SetRead, Fail> {
-    let mut owner: Owner<Wide, 4096> = sets(alloc, MemoryDevice::new(alloc, 3)?)?;
-    rewrite(alloc, &mut owner, pairs)?;
-    run(rt, alloc, &mut owner, steps)?;
-    read(alloc, &mut owner)
+    owner: &mut Owner<Wide, 4096>,
+) -> Result<bool, Fail> {
+    rewrite(alloc, owner, &full(alloc)?)?;
+    run(rt, alloc, owner, &FINDS_THE_LAST)?;
+    Ok(is_last_alone_hit(read(alloc, owner)?))
+}
+
+fn wide_sets(alloc: Global) -> Result<Owner<Wide, 4096>, Fail> {
+    sets(alloc, &ONE_SET, MemoryDevice::new(alloc, 3)?)
 }
 
 #[test]
 fn the_last_of_128_slots_is_hit(rt: HostRuntime) -> Result<(), Fail> {
-    let pairs = full(rt.alloc())?;
-    let read = read_behind(&rt, rt.alloc(), &pairs, &FINDS_THE_LAST)?;
-    assert!(rt; is_last_alone_hit(read));
+    let is_hit = hits_the_last(&rt, rt.alloc(), &mut wide_sets(rt.alloc())?)?;
+    assert!(rt; is_hit);
     Ok(())
 }

@@ -32,18 +32,14 @@ const ON_THE_PAGE: [Step; 14] = [
 
 #[test]
 fn a_hit_is_in_the_buffer_and_a_miss_leaves_it(rt: HostRuntime) -> Result<(), Fail> {
-    let alloc = rt.alloc();
-    let mut owner: Owner<Fused, 256> = sets(alloc, FuseDevice::one(device(alloc)?, 2))?;
-    run(&rt, alloc, &mut owner, &ON_THE_PAGE)
+    on_refusing(&rt, rt.alloc(), Refused::Alone(2), &ON_THE_PAGE)
 }
 
 const LOST: [Step; 2] = [WRITES, Step::Locate(b"ax", Damaged, WAS_HELD)];
 
 #[test]
 fn a_lost_page_leaves_the_buffer(rt: HostRuntime) -> Result<(), Fail> {
-    let alloc = rt.alloc();
-    let mut owner: Owner<BlankDevice, 256> = sets(alloc, BlankDevice(1))?;
-    run(&rt, alloc, &mut owner, &LOST)
+    on_blank(&rt, rt.alloc(), &LOST)
 }
 
 // The sets of ax and of bx differ, and each has both records.
@@ -64,12 +60,9 @@ const IN_TWO_SETS: [Step; 12] = [
 
 #[test]
 fn a_touch_notes_its_slot_of_its_set(rt: HostRuntime) -> Result<(), Fail> {
-    let alloc = rt.alloc();
-    let layout = FIVE_SETS.check()?;
-    let mut owner: Owner<MemoryDevice<256>, 256> = Owner::open(
-        alloc,
-        &layout,
-        MemoryDevice::new(alloc, 5)?,
-    )?.ok_or("a device that is large enough")?;
-    run(&rt, alloc, &mut owner, &IN_TWO_SETS)
+    let opened = Opened {
+        config: FIVE_SETS,
+        ..SOUND
+    };
+    on(&rt, rt.alloc(), &opened, &IN_TWO_SETS)
 }

@@ -65,26 +65,28 @@ fn gives<D: PageDevice<PAGE>, const PAGE: usize>(
     requires { IsPageSize PAGE }
 {
     match step {
-        Step::Rewrite(pairs, wanted) => Ok(rewrite(alloc, owner, pairs)? == *wanted),
         Step::Look(key, wanted) => Ok(is_seen(look(alloc, owner, key)?, wanted)),
         Step::LookLate(key) => Ok(is_expired(look_at(alloc, owner, key, EXPIRES)?)),
-        Step::Locate(key, wanted, held) => {
-            Ok(is_located(owner, key, EXPIRES - 1, *wanted, held))
-        }
-        Step::LocateLate(key) => Ok(is_located(
-            owner,
-            key,
-            EXPIRES,
-            LocatedInSet::Expired,
-            WAS_HELD,
-        )),
-        Step::Touch(key, slot) => Ok(touches(owner, key, *slot)),
-        Step::WriteOf(key, pairs) => Ok(
-            rewrite_of(alloc, owner, key, pairs)? == Rewritten::Written,
-        ),
         Step::Read(wanted) => Ok(are_listed(read(alloc, owner)?, wanted)),
         Step::ReadOf(key, wanted) => Ok(are_listed(read_of(alloc, owner, key)?, wanted)),
         Step::ReadLost => Ok(is_lost(read(alloc, owner)?)),
+        other => changes(alloc, owner, other),
+    }
+}
+
+// The same of the calls that write a set or strike a key.
+fn changes<D: PageDevice<PAGE>, const PAGE: usize>(
+    alloc: Global,
+    owner: &mut Owner<D, PAGE>,
+    step: &Step,
+) -> Result<bool, Fail>
+    requires { IsPageSize PAGE }
+{
+    match step {
+        Step::Rewrite(pairs, wanted) => Ok(rewrite(alloc, owner, pairs)? == *wanted),
+        Step::WriteOf(key, pairs) => Ok(
+            rewrite_of(alloc, owner, key, pairs)? == Rewritten::Written,
+        ),
         Step::Strike(key) => {
             strike(alloc, owner, key)?;
             Ok(true)
@@ -93,6 +95,21 @@ fn gives<D: PageDevice<PAGE>, const PAGE: usize>(
             forget(alloc, owner)?;
             Ok(true)
         }
+        other => Ok(notes(owner, other)),
+    }
+}
+
+// The same of the calls that take no memory.
+fn notes<D: PageDevice<PAGE>, const PAGE: usize>(owner: &mut Owner<D, PAGE>, step: &Step) -> bool
+    requires { IsPageSize PAGE }
+{
+    match step {
+        Step::Locate(key, wanted, held) => is_located(owner, key, EXPIRES - 1, *wanted, held),
+        Step::LocateLate(key) => {
+            is_located(owner, key, EXPIRES, LocatedInSet::Expired, WAS_HELD)
+        }
+        Step::Touch(key, slot) => touches(owner, key, *slot),
+        _ => false,
     }
 }
 

@@ -33,18 +33,36 @@ const K: Listed = Listed {
     hit: false,
 };
 
+const STRIKE_A: Step = Step::Strike(b"ax");
+
+const STRIKE_B: Step = Step::Strike(b"bx");
+
+const STRIKE_C: Step = Step::Strike(b"cx");
+
+const STRIKE_D: Step = Step::Strike(b"dx");
+
+const STRIKE_E: Step = Step::Strike(b"ex");
+
+const STRIKE_F: Step = Step::Strike(b"fx");
+
+const STRIKE_G: Step = Step::Strike(b"gx");
+
+const STRIKE_H: Step = Step::Strike(b"hx");
+
+const WRITE_ELEVEN: Step = Step::Rewrite(&ELEVEN, Rewritten::Written);
+
 const THE_NINTH: [Step; 15] = [
-    Step::Rewrite(&ELEVEN, Rewritten::Written),
-    Step::Strike(b"ax"),
-    Step::Strike(b"bx"),
-    Step::Strike(b"cx"),
-    Step::Strike(b"dx"),
-    Step::Strike(b"ex"),
-    Step::Strike(b"fx"),
-    Step::Strike(b"gx"),
-    Step::Strike(b"hx"),
+    WRITE_ELEVEN,
+    STRIKE_A,
+    STRIKE_B,
+    STRIKE_C,
+    STRIKE_D,
+    STRIKE_E,
+    STRIKE_F,
+    STRIKE_G,
+    STRIKE_H,
     // A strike that is there, and one that the filter denies, add none.
-    Step::Strike(b"ax"),
+    STRIKE_A,
     Step::Strike(b"zz"),
     Step::Look(b"jx", WantedLook::Value(b"1")),
     Step::Read(&[I, J_HIT, K]),
@@ -54,8 +72,7 @@ const THE_NINTH: [Step; 15] = [
 
 #[test]
 fn the_ninth_strike_forgets_the_set(rt: HostRuntime) -> Result<(), Fail> {
-    let alloc = rt.alloc();
-    run(&rt, alloc, &mut sound_sets(alloc)?, &THE_NINTH)
+    on(&rt, rt.alloc(), &SOUND, &THE_NINTH)
 }
 
 // Two bytes that are none of the eleven keys, but pass the filter of all: so a strike of them counts, as the filter says
@@ -63,83 +80,82 @@ fn the_ninth_strike_forgets_the_set(rt: HostRuntime) -> Result<(), Fail> {
 const STRANGER: &[u8] = &[0, 2];
 
 const THE_NINTH_AFTER_A_STRANGER: [Step; 12] = [
-    Step::Rewrite(&ELEVEN, Rewritten::Written),
+    WRITE_ELEVEN,
     Step::Strike(STRANGER),
-    Step::Strike(b"ax"),
-    Step::Strike(b"bx"),
-    Step::Strike(b"cx"),
-    Step::Strike(b"dx"),
-    Step::Strike(b"ex"),
-    Step::Strike(b"fx"),
-    Step::Strike(b"gx"),
+    STRIKE_A,
+    STRIKE_B,
+    STRIKE_C,
+    STRIKE_D,
+    STRIKE_E,
+    STRIKE_F,
+    STRIKE_G,
     Step::Look(b"kx", WantedLook::Value(b"1")),
-    Step::Strike(b"hx"),
+    STRIKE_H,
     Step::Look(b"kx", WantedLook::Absent),
 ];
 
 #[test]
 fn a_strike_goes_by_the_filters_answer(rt: HostRuntime) -> Result<(), Fail> {
-    let alloc = rt.alloc();
-    run(
-        &rt,
-        alloc,
-        &mut sound_sets(alloc)?,
-        &THE_NINTH_AFTER_A_STRANGER,
-    )
+    on(&rt, rt.alloc(), &SOUND, &THE_NINTH_AFTER_A_STRANGER)
 }
+
+const WRITE_A: Step = Step::WriteOf(b"ax", &PAIR);
+
+const WRITE_B: Step = Step::WriteOf(b"bx", &PAIR);
+
+const ONLY_B_IN_A: Step = Step::ReadOf(b"ax", &[BX]);
+
+const ONLY_A_IN_B: Step = Step::ReadOf(b"bx", &[AX]);
+
+const NONE_IN_A: Step = Step::ReadOf(b"ax", &[]);
 
 // The sets of ax and of bx differ, and each has both records. There is room for one strike in all.
 const WITH_ONE_PLACE: [Step; 16] = [
-    Step::WriteOf(b"ax", &PAIR),
-    Step::WriteOf(b"bx", &PAIR),
-    Step::Strike(b"ax"),
-    Step::ReadOf(b"ax", &[BX]),
+    WRITE_A,
+    WRITE_B,
+    STRIKE_A,
+    ONLY_B_IN_A,
     // A strike that is there needs no room.
-    Step::Strike(b"ax"),
-    Step::ReadOf(b"ax", &[BX]),
+    STRIKE_A,
+    ONLY_B_IN_A,
     Step::ReadOf(b"bx", &[AX, BX]),
     // One for which there is no room forgets its set, and no other.
-    Step::Strike(b"bx"),
+    STRIKE_B,
     Step::ReadOf(b"bx", &[]),
-    Step::ReadOf(b"ax", &[BX]),
+    ONLY_B_IN_A,
     // A set that is written anew gives its place back.
-    Step::WriteOf(b"ax", &PAIR),
-    Step::WriteOf(b"bx", &PAIR),
-    Step::Strike(b"bx"),
-    Step::ReadOf(b"bx", &[AX]),
-    Step::Strike(b"ax"),
-    Step::ReadOf(b"ax", &[]),
+    WRITE_A,
+    WRITE_B,
+    STRIKE_B,
+    ONLY_A_IN_B,
+    STRIKE_A,
+    NONE_IN_A,
 ];
 
 // A set that is forgotten gives its place back.
 const AFTER_A_FORGETTING: [Step; 7] = [
-    Step::WriteOf(b"ax", &PAIR),
-    Step::WriteOf(b"bx", &PAIR),
-    Step::Strike(b"ax"),
+    WRITE_A,
+    WRITE_B,
+    STRIKE_A,
     Step::Forget,
-    Step::Strike(b"bx"),
-    Step::ReadOf(b"bx", &[AX]),
-    Step::ReadOf(b"ax", &[]),
+    STRIKE_B,
+    ONLY_A_IN_B,
+    NONE_IN_A,
 ];
 
 // Five sets with room for one strike.
-fn one_place(alloc: Global) -> Result<Owner<MemoryDevice<256>, 256>, Fail> {
-    let layout = FIVE_SETS.check()?;
-    let device = MemoryDevice::new(alloc, 5)?;
-    let owner = Owner::open_with(alloc, &layout, 1, device)?.ok_or(
-        "a device that is large enough",
-    )?;
-    Ok(owner)
-}
+const ONE_PLACE: Opened = Opened {
+    config: FIVE_SETS,
+    room: Room::One,
+    refused: NONE_REFUSED,
+};
 
 #[test]
 fn a_strike_without_room_forgets_its_set_alone(rt: HostRuntime) -> Result<(), Fail> {
-    let alloc = rt.alloc();
-    run(&rt, alloc, &mut one_place(alloc)?, &WITH_ONE_PLACE)
+    on(&rt, rt.alloc(), &ONE_PLACE, &WITH_ONE_PLACE)
 }
 
 #[test]
 fn a_forgotten_set_gives_its_place_back(rt: HostRuntime) -> Result<(), Fail> {
-    let alloc = rt.alloc();
-    run(&rt, alloc, &mut one_place(alloc)?, &AFTER_A_FORGETTING)
+    on(&rt, rt.alloc(), &ONE_PLACE, &AFTER_A_FORGETTING)
 }
