@@ -297,8 +297,17 @@ static void exchange(worker *me) {
     }
 }
 
+/* The text protocol ends a key at a blank, so a replayed key may have none. */
+static void check_key(const request *asked) {
+    for (uint32_t i = 0; i < asked->key_length; i++)
+        if ((unsigned char)asked->key[i] <= ' ' || asked->key[i] == 127)
+            refuse_words("the key %.*s cannot be sent to a server: its byte %u is a blank or a control character",
+                         (int)asked->key_length, asked->key, i + 1);
+}
+
 void ask_server(worker *me, uint64_t from) {
     connection *to = me->to;
+    if (me->of->requests.replayed != NULL) check_key(&me->next);
     entry *made = &to->entries[to->queued++];
     *made = (entry){me->next, false, from};
     add_count(me->counted, OPERATIONS, 1);

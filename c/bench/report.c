@@ -163,9 +163,8 @@ static double flash(const figures *of) { return (double)of->flash_bytes; }
 static void print_counts(const report *of) {
     const figures *parts[] = {&of->warmup, &of->measured, &of->all};
     for (int i = 0; i < COUNTS; i++) {
-        bool is_shown = i == OPERATIONS || i == GETS || i == FILLS_STALE || i == PUTS || i == FILLS || i == REMOVALS ||
-                        i == TOO_LARGE || i == NO_MEMORY;
-        if (!is_shown || of->all.counts[i] == 0) continue;
+        bool has_own_row = (i >= HITS_MEMORY && i <= HITS_SERVER) || i == BYTES_STORED;
+        if (has_own_row || of->all.counts[i] == 0) continue;
         double numbers[3];
         for (int j = 0; j < 3; j++) numbers[j] = (double)parts[j]->counts[i];
         if (of->has_warmup) print_row(count_names[i], 0, 3, numbers);
@@ -219,7 +218,8 @@ static void print_heading(const report *of) {
                cache->upkeep_threads);
     if (options->replay != NULL) printf("replay of %s", options->replay);
     else printf("%" PRIu64 " keys of %u bytes, %s, values %s", options->keys, options->key_bytes, keys, values);
-    printf(", %s, %u threads\n\n", options->is_plain ? "plain" : "look-aside", options->threads);
+    printf(", %s, %u thread%s\n\n", options->is_plain ? "plain" : "look-aside", options->threads,
+           options->threads == 1 ? "" : "s");
     if (of->has_warmup) printf("%-24s %16s %16s %16s\n", "", "warm-up", "after it", "all");
 }
 

@@ -69,6 +69,15 @@ void check_hit(const worker *me, const char *operation, const request *asked, co
 /* ---------------------------------------------------------------------------------------------------------- a worker
  */
 
+/* Waits until a moment, or until the run is to stop. */
+static void wait_until(uint64_t moment) {
+    const uint64_t look_again = second_ns / 10;
+    for (uint64_t now = now_ns(); now < moment && !is_stopped(); now = now_ns()) {
+        struct timespec until = timespec_of(moment - now < look_again ? moment : now + look_again);
+        clock_nanosleep(CLOCK_MONOTONIC, TIMER_ABSTIME, &until, NULL);
+    }
+}
+
 /* Waits until the next call is due. When it was due, or 0 if no rate is set, or if the worker waited: then the call
  * counts from its start, and not from a wake-up that came late. */
 static uint64_t wait_until_due(worker *me) {
@@ -77,10 +86,7 @@ static uint64_t wait_until_due(worker *me) {
     uint64_t due = (uint64_t)me->due, now = now_ns();
     me->due += (double)second_ns * options->threads / options->rate;
     if (due <= now) return due;
-    struct timespec until = timespec_of(due < me->of->deadline ? due : me->of->deadline);
-    int cause;
-    do cause = clock_nanosleep(CLOCK_MONOTONIC, TIMER_ABSTIME, &until, NULL);
-    while (cause == EINTR && !is_stopped());
+    wait_until(due < me->of->deadline ? due : me->of->deadline);
     me->now = now_ns();
     return 0;
 }
@@ -93,6 +99,7 @@ static void *work(void *given) {
     prctl(PR_SET_TIMERSLACK, 1ul); /* a wait ends when it is due, and not 50 us later */
     me->now = now_ns();
     me->due = (double)me->now;
+    if (of->options->rate > 0) me->due += (double)(me - of->workers) * (double)second_ns / of->options->rate;
     while (has_more(me)) {
         uint64_t from = wait_until_due(me);
         if (!has_more(me)) break;

@@ -213,6 +213,17 @@ def test_series(bench):
 
 # ------------------------------------------------------------------------------------------------------------ traces
 
+def count_acts(form, path):
+    """How many gets, puts and removals a trace asks for."""
+    counts = {"gets": 0, "puts": 0, "removals": 0}
+    names = {"get": "gets", "set": "puts", "delete": "removals"}
+    with open(path) as file:
+        for row in csv.reader(file):
+            if row[0] != "key":
+                counts[names[row[5 if form == "twitter" else 1].lower()]] += 1 if form == "twitter" else int(row[3])
+    return counts
+
+
 def test_traces(bench):
     lines = 100000 if QUICK else 1000000
     paths = {form: bench.path(form + ".csv") for form in ("kvcache", "twitter")}
@@ -221,17 +232,18 @@ def test_traces(bench):
         with open(path, "w") as file:
             makers.append(subprocess.Popen([sys.executable, os.path.join(ROOT, "bench/make_cache_trace.py"), form, str(lines), "20000"], stdout=file))
     expect(all([maker.wait() == 0 for maker in makers]), "make_cache_trace.py")
-    with open(paths["kvcache"]) as file:
-        calls = {"kvcache": sum(int(row["op_count"]) for row in csv.DictReader(file)), "twitter": lines}
     for form, path in paths.items():
+        acts = count_acts(form, path)
+        calls = sum(acts.values())
         for words in ([], ["--threads", "2"], ["--pattern", "plain"]):
             report = bench.read_cache("--replay", path, *words)
-            check_report(report, calls[form])
+            check_report(report, calls)
             check_counters(report)
+            expect({name: report["all"][name] for name in acts} == acts, f"gets, puts and removals are those of the trace: {acts}")
         report = bench.read_cache("--replay", path, "--warmup", "1000", "--operations", "5K")
         check_report(report, 5000, 1000)
         rivals = bench.read("rivals", "--replay", path, *SMALL[:-1], "--warmup", "1000")
-        expect(all(design["all"]["operations"] == calls[form] for design in rivals["designs"]), "rivals replay it too")
+        expect(all(design["all"][name] == acts[name] for design in rivals["designs"] for name in acts), "rivals replay it too")
     check_report(bench.read_cache("--replay", "-", given="3,GET,10,4,5\n3,SET,20,1,5"), 5)
     show(f"traces of both forms, {lines} lines each, with 1 and 2 threads, through kangaroo-bench and rivals")
 
@@ -291,6 +303,8 @@ def test_server(bench):
         expect(kept["all"]["hits"] > emptied["all"]["hits"], "--keep leaves what the server holds")
         traced = "".join(f"{i // 9},key{i % 50},6,{i % 50 * 40},1,{'delete' if i % 20 == 0 else 'get'},0\n" for i in range(2000))
         check_report(bench.read("kangaroo-bench", "--memcached", server.path, "--replay", "-", given=traced), 2000)
+        bench.refused(2, "the key a b cannot be sent to a server: its byte 2", "kangaroo-bench", "--memcached", server.path,
+                      "--replay", "-", given="1,a b,3,2,3,get,0\n")
     with liar(bench, "full") as server:
         report = bench.read("kangaroo-bench", "--memcached", server.path, "--keys", "1K", "--operations", "1K")
         expect(report["all"]["no_memory"] == 1000 and report["all"]["hits"] == 0, "a server without memory")
