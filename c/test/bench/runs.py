@@ -183,9 +183,10 @@ def test_runs(bench):
 
 
 def test_sameness(bench):
-    words = ["--keys", "20K", "--operations", "50K", "--upkeep-threads", "0", "--sizes", "fixed:0"]
-    first, second, other = (bench.read_cache(*words, "--seed", seed)["all"] for seed in "112")
-    expect(first["fills"] == second["fills"] and first["fills"] != other["fills"], "the same seed makes the same run, another another")
+    words = ["--keys", "20K", "--operations", "50K", "--pattern", "plain", "--mix", "60:30:10", "--sizes", "uniform:0:300"]
+    parts = [bench.read_cache(*words, "--seed", seed)["all"] for seed in "112"]
+    first, second, other = ([part[name] for name in ("gets", "puts", "removals", "bytes_stored")] for part in parts)
+    expect(first == second != other, "the same seed makes the same requests, and another seed others")
     long_lived = bench.read_cache("--keys", "100", "--operations", "2K", "--rate", "1000", "--seed", "7")["all"]
     short_lived = bench.read_cache("--keys", "100", "--operations", "2K", "--rate", "1000", "--seed", "7", "--expiry", "1")["all"]
     expect(1.9 < long_lived["seconds"] < 4, f"2,000 operations at 1,000 a second took {long_lived['seconds']} s")
