@@ -1,5 +1,5 @@
-/* kangaroo-bench: measures a cache, or a server that speaks memcached's text protocol, under a load. --help says how.
- */
+/* kangaroo-bench: measures a cache, or a server that speaks memcached's text protocol, under a load. --help says
+ * how. */
 #define _GNU_SOURCE
 #include "report.h"
 #include "series.h"
@@ -37,9 +37,7 @@ static kangaroo_sizes resolve(kangaroo_options *of) {
     if (status == KANGAROO_WRONG_OPTIONS && field != NULL) {
         const char *word = word_of_field(field);
         refuse_words("%s does not fit the other options: %s. Of the shape's seven words give all or none; --memory has "
-                     "to be enough "
-                     "for the index of --flash",
-                     word, right_value(word));
+                     "to be enough for the index of --flash", word, right_value(word));
     }
     if (status == KANGAROO_OK) status = kangaroo_sizes_of(of, &made, sizeof made);
     if (status != KANGAROO_OK) refuse_system("the options: %s", kangaroo_strerror(status));

@@ -92,8 +92,7 @@ void end_connection(connection *of) {
     free(of);
 }
 
-/* ---------------------------------------------------------------------------------------------------- bytes in and out
- */
+/* ------------------------------------------------------------------------------------------------- bytes in and out */
 
 /* Sends and receives what can be, after at least one of both can. */
 static void move_bytes(connection *of) {
@@ -142,8 +141,7 @@ static _Noreturn void refuse_answer(const connection *of, const char *line, size
     refuse_system("%s answered %.*s", of->server, (int)(length < 200 ? length : 200), line);
 }
 
-/* ---------------------------------------------------------------------------------------------------------- requests
- */
+/* --------------------------------------------------------------------------------------------------------- requests */
 
 static void add_bytes(connection *of, const void *bytes, size_t length) {
     memcpy(of->out + of->out_length, bytes, length);
@@ -197,8 +195,7 @@ static void queue_fill(worker *me, const request *missed) {
     made->from = 0;
 }
 
-/* ----------------------------------------------------------------------------------------------------------- answers
- */
+/* ---------------------------------------------------------------------------------------------------------- answers */
 
 static void count_answer(worker *me, const entry *of, latency_name name) {
     me->now = now_ns();

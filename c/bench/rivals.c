@@ -152,8 +152,7 @@ static void insert_in_log(rival *of, uint64_t number, uint32_t bytes) {
 
 static const design log_structured = {"log-structured", HITS_LOG, log_has, insert_in_log, remove_from_log};
 
-/* ----------------------------------------------------------------------------------------------------------- a rival
- */
+/* ---------------------------------------------------------------------------------------------------------- a rival */
 
 /* Sets memory aside for the index or the filters, and leaves the rest for objects. */
 static void share_memory(rival *of) {
@@ -256,8 +255,7 @@ static void serve(rival *of, const request *asked) {
     }
 }
 
-/* -------------------------------------------------------------------------------------------------------------- runs
- */
+/* ------------------------------------------------------------------------------------------------------------- runs */
 
 /* Serves so many requests, or all if the number is 0. */
 static void serve_some(rival *of, stream *from, uint64_t operations) {

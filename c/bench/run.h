@@ -58,7 +58,6 @@ typedef struct worker {
     uint64_t left;  /* operations that it is still to make in this phase */
     uint64_t now;   /* nanoseconds, when its last call ended */
     double due;     /* nanoseconds, when its next call is due, if the rate is limited */
-    bool is_done;   /* the trace has ended */
 } worker;
 
 struct run {
@@ -105,8 +104,8 @@ typedef void every_second(run *of, void *given);
 void make_workers(run *of);
 void end_workers(run *of);
 /* Runs the workers until each has made its part of so many operations, or for so many seconds, or to the end of the
- * trace; 0 is no limit. Calls `each` once a second. Nanoseconds that it took. */
-uint64_t run_phase(run *of, uint64_t operations, uint64_t seconds, every_second *each, void *given);
+ * trace; 0 is no limit. Calls `each` once a second. */
+void run_phase(run *of, uint64_t operations, uint64_t seconds, every_second *each, void *given);
 /* Has the workers stop soon, as at the end of a phase. A signal handler may call it. */
 void stop_soon(void);
 bool is_stopped(void);

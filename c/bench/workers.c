@@ -66,8 +66,7 @@ void check_hit(const worker *me, const char *operation, const request *asked, co
     report_wrong_hit(operation, &of_length, found, length);
 }
 
-/* ---------------------------------------------------------------------------------------------------------- a worker
- */
+/* --------------------------------------------------------------------------------------------------------- a worker */
 
 /* Waits until a moment, or until the run is to stop. */
 static void wait_until(uint64_t moment) {
@@ -103,10 +102,7 @@ static void *work(void *given) {
     while (has_more(me)) {
         uint64_t from = wait_until_due(me);
         if (!has_more(me)) break;
-        if (!next_request(&me->requests, (me->now - of->began) / 1000000, &me->next)) {
-            me->is_done = true;
-            break;
-        }
+        if (!next_request(&me->requests, (me->now - of->began) / 1000000, &me->next)) break;
         me->left--;
         if (me->to != NULL) ask_server(me, from);
         else ask_cache(me, from);
@@ -154,15 +150,16 @@ static void wait_for_workers(run *of, every_second *each, void *given) {
     while (of->running > 0) {
         struct timespec until = timespec_of(tick);
         if (pthread_cond_timedwait(&of->ended, &of->lock, &until) != ETIMEDOUT) continue;
-        tick += second_ns;
         pthread_mutex_unlock(&of->lock);
-        if (each != NULL) each(of, given);
+        each(of, given);
+        tick += second_ns;
+        if (tick < now_ns()) tick = now_ns() + second_ns;
         pthread_mutex_lock(&of->lock);
     }
     pthread_mutex_unlock(&of->lock);
 }
 
-uint64_t run_phase(run *of, uint64_t operations, uint64_t seconds, every_second *each, void *given) {
+void run_phase(run *of, uint64_t operations, uint64_t seconds, every_second *each, void *given) {
     uint32_t threads = of->options->threads;
     pthread_t *running = take_memory(threads, sizeof *running);
     uint64_t from = now_ns();
@@ -177,5 +174,4 @@ uint64_t run_phase(run *of, uint64_t operations, uint64_t seconds, every_second 
     wait_for_workers(of, each, given);
     for (uint32_t i = 0; i < threads; i++) pthread_join(running[i], NULL);
     free(running);
-    return now_ns() - from;
 }

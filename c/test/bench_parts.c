@@ -3,6 +3,7 @@
 #include "test.h"
 #include "histogram.h"
 #include "keys.h"
+#include "lru.h"
 #include "sizes.h"
 #include "traces.h"
 #include "words.h"
@@ -10,8 +11,7 @@
 
 enum { DRAWN = 2000000, KEYS = 10000 };
 
-/* ----------------------------------------------------------------------------------------------------------- streams
- */
+/* ---------------------------------------------------------------------------------------------------------- streams */
 
 static uint64_t *count_ranks(const distribution *of, uint64_t seed) {
     uint64_t *counts = take_memory(of->keys, sizeof *counts);
@@ -144,8 +144,7 @@ static void test_values(void) {
     show("each byte that is changed in a value is found, and so are other keys' values and values cut short");
 }
 
-/* --------------------------------------------------------------------------------------------------------- histogram
- */
+/* -------------------------------------------------------------------------------------------------------- histogram */
 
 static void test_buckets(void) {
     expect(bucket_of(0) == 0 && bucket_of(2047) == 2047 && bucket_of(2048) == 2048, "the first buckets");
@@ -185,8 +184,57 @@ static void test_percentiles(void) {
     show("percentiles of %d values in two merged parts are those of the sorted values", VALUES);
 }
 
-/* ---------------------------------------------------------------------------------------------------- words and lines
- */
+/* ------------------------------------------------------------------------------------------------------------ a list */
+
+/* Numbers of keys, the oldest first: what a list must hold. */
+typedef struct plain_list {
+    uint64_t numbers[64];
+    uint32_t held;
+} plain_list;
+
+static bool take_out(plain_list *of, uint64_t number) {
+    uint32_t place = 0;
+    while (place < of->held && of->numbers[place] != number) place++;
+    if (place == of->held) return false;
+    of->held--;
+    memmove(of->numbers + place, of->numbers + place + 1, (of->held - place) * sizeof *of->numbers);
+    return true;
+}
+
+/* One step: an object is touched or removed if it is held, and added otherwise; the oldest leaves if there are many. */
+static void step_lists(lru *of, plain_list *plain, uint64_t number, bool removes) {
+    lru_object *found = find_object(of, number);
+    bool is_held = take_out(plain, number);
+    expect((found != NULL) == is_held, "held as in the plain list");
+    if (found != NULL && removes) {
+        remove_object(of, found);
+        return;
+    }
+    if (found != NULL) touch_object(of, found);
+    else add_object(of, &(lru_object){.number = number, .cost = 3});
+    plain->numbers[plain->held++] = number;
+    if (plain->held < 60) return;
+    lru_object oldest = take_oldest(of);
+    expect(oldest.number == plain->numbers[0] && take_out(plain, oldest.number), "the oldest is that of the plain list");
+}
+
+static void test_list(void) {
+    enum { STEPS = 300000, MANY = 5000 };
+    lru of = new_lru();
+    plain_list plain = {.held = 0};
+    chance drawn = {5};
+    for (int i = 0; i < STEPS; i++) {
+        step_lists(&of, &plain, next_below(&drawn, 100), next_below(&drawn, 4) == 0);
+        expect(of.held == plain.held && of.used == 3 * of.held, "as many as in the plain list");
+    }
+    while (of.held > 0) (void)take_oldest(&of);
+    for (uint64_t i = 0; i < MANY; i++) add_object(&of, &(lru_object){.number = number_of_rank(i), .cost = 1});
+    for (uint64_t i = 0; i < MANY; i++) expect(take_oldest(&of).number == number_of_rank(i), "a queue of many");
+    end_lru(&of);
+    show("the list of rivals is a plain list's in %d steps, and a queue of %d", STEPS, MANY);
+}
+
+/* -------------------------------------------------------------------------------------------------- words and lines */
 
 static void test_words(void) {
     uint64_t number;
@@ -258,6 +306,7 @@ int main(void) {
     test_values();
     test_buckets();
     test_percentiles();
+    test_list();
     test_words();
     test_lines();
     return 0;

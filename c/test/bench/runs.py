@@ -158,8 +158,17 @@ def check_report(report, operations=None, warmup=0):
         expect(curve == sorted(curve) and curve[-1] == row["most"], f"the curve of {name} rises to the most")
 
 
+def check_fills(report):
+    """A look-aside load fills after each miss."""
+    part = report["all"]
+    misses = part["gets"] - part["hits"]
+    expect(part["fills"] + part["fills_stale"] + part["no_memory"] == misses and part["puts"] == 0, "a fill after each miss, and no put")
+
+
 def check_counters(report):
     counters, part = report["counters"], report["all"]
+    if report["load"]["pattern"] == "lookaside" and "replay" not in report["load"]:
+        check_fills(report)
     expect(counters["memory_hits"] == part["hits_memory"] and counters["set_hits"] == part["hits_set"], "hits are those that the cache counted")
     expect(counters["puts"] == part["puts"] and counters["fills_stored"] == part["fills"], "puts and fills are those that the cache counted")
     expect(counters["bytes_put"] == part["bytes_stored"], "bytes stored are those that the cache counted")
@@ -299,6 +308,8 @@ def test_server(bench):
             report = bench.read("kangaroo-bench", "--memcached", server.path, "--keys", "1K", "--operations", "5K", "--warmup", "1K", *words)
             check_report(report, 5000, 1000)
             expect(report["all"]["hits_server"] > 0, "hits of the server")
+            if "plain" not in words:
+                check_fills(report)
         kept = bench.read("kangaroo-bench", "--memcached", server.path, "--keys", "1K", "--operations", "1K", "--keep")
         emptied = bench.read("kangaroo-bench", "--memcached", server.path, "--keys", "1K", "--operations", "1K")
         expect(kept["all"]["hits"] > emptied["all"]["hits"], "--keep leaves what the server holds")
@@ -358,8 +369,11 @@ def test_rivals(bench):
     expect(0.9 < log["write_amplification"] < 1.4, f"a log writes each object once: {log['write_amplification']}")
     half = bench.read("rivals", *words, "--admit", "50")["designs"][0]["measured"]
     expect(half["write_amplification"] < 0.7 * sets["write_amplification"] and half["hit_ratio"] < sets["hit_ratio"], "half of the objects")
-    poor = bench.read("rivals", *words, "--index-bits", "400")["designs"][1]["measured"]
-    expect(poor["hit_ratio"] < log["hit_ratio"], "a log whose index has not the memory for all of the flash")
+    even = [*words, "--distribution", "uniform"]
+    for design in bench.read("rivals", *even)["designs"]:
+        expect(0.25 < design["measured"]["hit_ratio"] < 0.42, "of 100,000 keys 4 MiB hold some 32,000 objects of 132 bytes")
+    poor = bench.read("rivals", *even, "--index-bits", "400")["designs"][1]["measured"]
+    expect(0.05 < poor["hit_ratio"] < 0.12, "an index of 360 KB, at 400 bits an object, holds 7,200 of 100,000")
     back = bench.read("rivals", *words, "--bring-back")["designs"][0]["measured"]
     expect(back["hits_memory"] > sets["hits_memory"], "hits that are brought back to memory")
     check_part(bench.read("rivals", *words, "--pattern", "plain", "--mix", "50:30:20")["designs"][0]["all"], 400000)
