@@ -6,7 +6,7 @@ usage: liar.py SOCKET LIE
 It ends with its standard input. At its 200th hit it tells its lie once: none, byte (a byte of
 a value is another one), other (the value of another key), short (a value lacks its last byte), key (the answer names
 another key), end (it ends the connection), noise (a line that is no answer). From the start on: full (no value is stored
-for want of memory).
+for want of memory). It says that it has written 10 bytes to flash for each value that it stored.
 """
 import os
 import socketserver
@@ -30,7 +30,7 @@ class Liar(socketserver.StreamRequestHandler):
                 self.server.values.clear()
                 self.answer("OK")
             elif words[0] == "stats":
-                self.answer("STAT extstore_bytes_written 8192\r\nEND")
+                self.answer(f"STAT pid 1\r\nSTAT extstore_bytes_written {10 * self.server.puts}\r\nEND")
             else:
                 self.answer("ERROR")
             if self.server.is_over:
@@ -45,6 +45,8 @@ class Liar(socketserver.StreamRequestHandler):
             self.answer("SERVER_ERROR out of memory storing object")
             return
         self.server.values[words[1]] = value
+        with self.server.lock:
+            self.server.puts += 1
         self.answer("STORED")
 
     def get(self, key):
@@ -76,7 +78,8 @@ class Server(socketserver.ThreadingMixIn, socketserver.UnixStreamServer):
 
 def main():
     with Server(sys.argv[1], Liar) as server:
-        server.lie, server.values, server.hits, server.is_over, server.lock = sys.argv[2], {}, 0, False, threading.Lock()
+        server.lie, server.values, server.hits, server.puts = sys.argv[2], {}, 0, 0
+        server.is_over, server.lock = False, threading.Lock()
         threading.Thread(target=server.serve_forever, daemon=True).start()
         sys.stdin.read()
     os.unlink(sys.argv[1])

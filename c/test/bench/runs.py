@@ -310,6 +310,8 @@ def test_server(bench):
             expect(report["all"]["hits_server"] > 0, "hits of the server")
             if "plain" not in words:
                 check_fills(report)
+            part = report["all"]
+            expect(part["flash_bytes_written"] == 10 * (part["fills"] + part["puts"]), "bytes that the server says it has written")
         kept = bench.read("kangaroo-bench", "--memcached", server.path, "--keys", "1K", "--operations", "1K", "--keep")
         emptied = bench.read("kangaroo-bench", "--memcached", server.path, "--keys", "1K", "--operations", "1K")
         expect(kept["all"]["hits"] > emptied["all"]["hits"], "--keep leaves what the server holds")
@@ -343,9 +345,12 @@ def test_memcached(bench):
 def test_wrong_hits(bench):
     for lie in ("byte", "other", "short", "key"):
         with liar(bench, lie) as server:
-            for words in (["--pipeline", "1"],):
-                bench.refused(1, "a wrong hit by a get of the key" if lie != "key" else "answered with the key", "kangaroo-bench",
-                              "--memcached", server.path, "--keys", "1K", "--operations", "5K", *words)
+            bench.refused(1, "a wrong hit by a get of the key" if lie != "key" else "answered with the key", "kangaroo-bench",
+                          "--memcached", server.path, "--keys", "1K", "--operations", "5K")
+    with liar(bench, "none") as server:
+        bench.read("kangaroo-bench", "--memcached", server.path, "--keys", "1K", "--operations", "1K", "--sizes", "fixed:100")
+        bench.refused(1, "a wrong hit by a get of the key", "kangaroo-bench", "--memcached", server.path, "--keys", "1K",
+                      "--operations", "1K", "--sizes", "fixed:90", "--keep")
     for words in (["--threads", "1"], ["--threads", "2"], ["--pattern", "plain", "--threads", "2"]):
         command = ["--folder", bench.cache, *SMALL, "--keys", "10K", "--operations", "50K", *words]
         done = bench.run("kangaroo-bench-lies", *command)
@@ -374,6 +379,11 @@ def test_rivals(bench):
         expect(0.25 < design["measured"]["hit_ratio"] < 0.42, "of 100,000 keys 4 MiB hold some 32,000 objects of 132 bytes")
     poor = bench.read("rivals", *even, "--index-bits", "400")["designs"][1]["measured"]
     expect(0.05 < poor["hit_ratio"] < 0.12, "an index of 360 KB, at 400 bits an object, holds 7,200 of 100,000")
+    puts = "--keys 5K --flash 4M --memory 64K --warmup 200K --operations 100K --pattern plain --mix 50:50:0".split()
+    for design in bench.read("rivals", *puts)["designs"]:
+        expect(design["measured"]["hit_ratio"] > 0.999, "a newer value takes the place of the older: so all keys have room")
+    for design in bench.read("rivals", *puts, "--distribution", "uniform", "--admit", "50")["designs"]:
+        expect(0.45 < design["measured"]["hit_ratio"] < 0.6, "half of the newer values are declined, and the older ones are gone")
     back = bench.read("rivals", *words, "--bring-back")["designs"][0]["measured"]
     expect(back["hits_memory"] > sets["hits_memory"], "hits that are brought back to memory")
     check_part(bench.read("rivals", *words, "--pattern", "plain", "--mix", "50:30:20")["designs"][0]["all"], 400000)
