@@ -8,7 +8,6 @@ a value is another one), other (the value of another key), short (a value lacks 
 another key), end (it ends the connection), noise (a line that is no answer). From the start on: full (no value is stored
 for want of memory). It says that it has written 10 bytes to flash for each value that it stored.
 """
-import os
 import socketserver
 import sys
 import threading
@@ -82,7 +81,6 @@ def main():
         server.is_over, server.lock = False, threading.Lock()
         threading.Thread(target=server.serve_forever, daemon=True).start()
         sys.stdin.read()
-    os.unlink(sys.argv[1])
 
 
 main()

@@ -277,18 +277,22 @@ def test_bad_traces(bench):
 # ------------------------------------------------------------------------------------------------------------ servers
 
 class Server:
-    """A server on a socket in the folder."""
+    """A server on a socket in the folder, or on a port of this machine if the name is a number."""
 
     def __init__(self, bench, words, name):
-        self.path = bench.path(name)
-        self.process = subprocess.Popen([word.replace("SOCKET", self.path) for word in words], stdin=subprocess.PIPE,
-                                        stdout=subprocess.DEVNULL, stderr=subprocess.DEVNULL)
+        self.port = int(name) if name.isdigit() else 0
+        self.path = f"127.0.0.1:{self.port}" if self.port else bench.path(name)
+        words = [word.replace("SOCKET", self.path).replace("PORT", str(self.port)) for word in words]
+        self.process = subprocess.Popen(words, stdin=subprocess.PIPE, stdout=subprocess.DEVNULL, stderr=subprocess.DEVNULL)
+
+    def listens(self):
+        with socket.socket(socket.AF_INET if self.port else socket.AF_UNIX) as tried:
+            return tried.connect_ex(("127.0.0.1", self.port) if self.port else self.path) == 0
 
     def __enter__(self):
         for _ in range(200):
-            with socket.socket(socket.AF_UNIX) as tried:
-                if tried.connect_ex(self.path) == 0:
-                    return self
+            if self.listens():
+                return self
             time.sleep(0.05)
         raise Failed("a server that listens")
 
@@ -296,6 +300,8 @@ class Server:
         self.process.stdin.close()
         self.process.terminate()
         self.process.wait()
+        if os.path.exists(self.path):
+            os.unlink(self.path)
 
 
 def liar(bench, lie):
@@ -328,6 +334,12 @@ def test_server(bench):
     show("a server: look-aside and plain, pipelines, a trace, no memory; an answer that is none, and a lost connection, end with status 3")
 
 
+def free_port():
+    with socket.socket() as tried:
+        tried.bind(("127.0.0.1", 0))
+        return str(tried.getsockname()[1])
+
+
 def test_memcached(bench):
     if shutil.which("memcached") is None:
         show("no memcached here: it was not tried")
@@ -339,7 +351,9 @@ def test_memcached(bench):
             report = bench.read("kangaroo-bench", *words, *more, "--server-process", str(server.process.pid))
             check_report(report, 20000)
             expect(report["memory"]["own_at_end"] > 0, "the memory of the server")
-    show("memcached itself, with pipelines of 64 and 3")
+    with Server(bench, ["memcached", *user, "-l", "127.0.0.1", "-p", "PORT", "-U", "0", "-t", "1"], free_port()) as server:
+        check_report(bench.read("kangaroo-bench", "--memcached", server.path, "--keys", "5K", "--operations", "5K", "--pipeline", "9"), 5000)
+    show("memcached itself, by a socket's path and by a port, with pipelines")
 
 
 def test_wrong_hits(bench):
