@@ -279,7 +279,8 @@ static const char driver_help[] =
     "checks\n"
     "each hit's bytes against its key. It prints the report at the end.\n\n"
     "  kangaroo-bench --folder /flash --flash 64G --memory 4G --keys 1G --distribution zipf:0.9 --threads 8 \\\n"
-    "      --warmup 600s --seconds 60 --series run.csv --json > run.json\n";
+    "      --warmup 600s --seconds 60 --series run.csv --json > run.json\n"
+    "  zstdcat cluster.zst | kangaroo-bench --folder /flash --flash 64G --memory 4G --replay -\n";
 static const char rivals_help[] =
     "usage: rivals (--operations N | --replay FILE) [OPTION]..\n\n"
     "Simulates two other designs on the stream that kangaroo-bench makes of the same words with one thread: hit ratio, "
