@@ -296,7 +296,9 @@ static const char rivals_help[] =
     "Simplified: an object on flash takes 12 bytes beside key and value, and a page has room for 4,078. Pages, not "
     "blocks\n"
     "of the device, are counted. Filters are free of false hits. Nothing expires. A removal, or a newer value that\n"
-    "is not admitted, costs the set-associative cache a page if the set has the key. FIFO is by object.\n";
+    "is not admitted, costs the set-associative cache a page if the set has the key. FIFO is by object.\n\n"
+    "The program itself takes memory of up to a third of --flash, and with --replay three quarters: sizes may be "
+    "small.\n";
 
 static _Noreturn void print_help(program who) {
     fputs(who == THE_DRIVER ? driver_help : rivals_help, stdout);
