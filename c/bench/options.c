@@ -275,30 +275,27 @@ static bool has_rows(program who, word_group group) {
 static const char driver_help[] =
     "usage: kangaroo-bench --folder FOLDER (--seconds N | --operations N | --replay FILE) [OPTION]..\n"
     "       kangaroo-bench --memcached SERVER (--seconds N | --operations N | --replay FILE) [OPTION]..\n\n"
-    "Measures a cache under a load: operations a second, hit ratio, bytes written to flash, memory, latencies. It "
-    "checks\n"
-    "each hit's bytes against its key. It prints the report at the end.\n\n"
+    "Measures a cache under a load: operations a second, hit ratio, bytes written to flash, memory, latencies.\n"
+    "It checks each hit's bytes against its key. It prints the report at the end.\n\n"
     "  kangaroo-bench --folder /flash --flash 64G --memory 4G --keys 1G --distribution zipf:0.9 --threads 8 \\\n"
     "      --warmup 600s --seconds 60 --series run.csv --json > run.json\n"
     "  zstdcat cluster.zst | kangaroo-bench --folder /flash --flash 64G --memory 4G --replay -\n";
 static const char rivals_help[] =
     "usage: rivals (--operations N | --replay FILE) [OPTION]..\n\n"
-    "Simulates two other designs on the stream that kangaroo-bench makes of the same words with one thread: hit ratio, "
-    "and\n"
-    "bytes written to flash for each byte stored. No device is touched.\n\n"
-    "  set-associative   a memory cache (the least recently used leaves), and what leaves it goes at once to a page "
-    "of\n"
-    "                    4,096 bytes by the key's hash, where the oldest objects make room: each object costs a page\n"
-    "  log-structured    the same memory cache, and what leaves it goes to the end of a log of pages, the oldest\n"
-    "                    objects leave; its index in memory takes --index-bits an object, so with little memory it "
-    "can\n"
-    "                    use only a part of the flash. The index takes at most 90 of 100 bytes of memory\n\n"
-    "Simplified: an object on flash takes 12 bytes beside key and value, and a page has room for 4,078. Pages, not "
-    "blocks\n"
-    "of the device, are counted. Filters are free of false hits. Nothing expires. A removal, or a newer value that\n"
-    "is not admitted, costs the set-associative cache a page if the set has the key. FIFO is by object.\n\n"
-    "The program itself takes memory of up to a third of --flash, and with --replay three quarters: sizes may be "
-    "small.\n";
+    "Simulates two other designs on the stream that kangaroo-bench makes of the same words with one thread:\n"
+    "hit ratio, and bytes written to flash for each byte stored. No device is touched.\n\n"
+    "  set-associative   a memory cache (the least recently used leaves), and what leaves it goes at once to a\n"
+    "                    page of 4,096 bytes by the key's hash, where the oldest objects make room: each object\n"
+    "                    costs a page\n"
+    "  log-structured    the same memory cache, and what leaves it goes to the end of a log of pages, which the\n"
+    "                    oldest objects leave; its index in memory takes --index-bits an object, so with little\n"
+    "                    memory it can use only a part of the flash. The index takes at most 90 of 100 bytes\n\n"
+    "Simplified: an object on flash takes 12 bytes beside key and value, and a page has room for 4,078. Pages\n"
+    "are counted, and not blocks of the device. Filters are free of false hits. Nothing expires. A removal, or\n"
+    "a newer value that is not admitted, costs the set-associative cache a page if the set has the key. FIFO\n"
+    "is by object.\n\n"
+    "The program itself takes memory of up to a third of --flash, and with --replay three quarters: sizes may\n"
+    "be small.\n";
 
 static _Noreturn void print_help(program who) {
     fputs(who == THE_DRIVER ? driver_help : rivals_help, stdout);
