@@ -342,8 +342,8 @@ fn a_shape_without_a_threshold_gets_that_of_its_objects(rt: HostRuntime) {
     assert_eq!(rt;
         (
             threshold(100, 0),
-            threshold(240, 0),
-            threshold(241, 0),
+            threshold(242, 0),
+            threshold(243, 0),
             threshold(2303, 0),
             threshold(1000, 3)
         ),
