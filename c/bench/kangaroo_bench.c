@@ -123,7 +123,7 @@ static void measure(const bench_options *options, room *in, report *to) {
 }
 
 int main(int count, char **words) {
-    bench_options options = read_options(THE_DRIVER, count, words);
+    bench_options options = parse_options(THE_DRIVER, count, words);
     char *command = command_of(count, words);
     report made = {.command = command, .options = &options};
     if (options.server == NULL) made.sizes = resolve(&options.cache);

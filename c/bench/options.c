@@ -374,7 +374,7 @@ static void check_rivals(const bench_options *of) {
         refuse_words("--replay - means nothing here: each design reads the trace from its start; give a file");
 }
 
-bench_options read_options(program who, int count, char **words) {
+bench_options parse_options(program who, int count, char **words) {
     bench_options read = {.keys = 1000000,
                           .drawn = {.kind = IS_ZIPF, .exponent = 0.9},
                           .key_bytes = 16,

@@ -59,7 +59,7 @@ typedef struct bench_options {
 
 /* Reads a program's words. Prints the help and ends with status 0 if it is asked for; refuses words that are wrong,
  * that are missing, or that mean nothing beside another. */
-bench_options read_options(program who, int count, char **words);
+bench_options parse_options(program who, int count, char **words);
 /* The word that sets a field of kangaroo_options, by the name that the library gives it. */
 const char *word_of_field(const char *field);
 /* What a right value of this word is. */

@@ -340,7 +340,7 @@ static void print_text(const outcome *outcomes, int count) {
 
 int main(int count, char **words) {
     program_name = "rivals";
-    bench_options options = read_options(THE_RIVALS, count, words);
+    bench_options options = parse_options(THE_RIVALS, count, words);
     const design *designs[] = {&set_associative, &log_structured};
     outcome outcomes[2];
     for (int i = 0; i < 2; i++) outcomes[i] = simulate(designs[i], &options);
