@@ -2,7 +2,7 @@
  *
  * First one thread: nanoseconds of a get by the tier that has the value, of a get of nothing, of a put and of a
  * removal. Then operations a second of 1, 2 and 4 threads: gets alone, and 70 gets, 28 puts and 2 removals of 100. Then
- * the process's own memory before and behind ten times as many operations. */
+ * the process's own memory before and after ten times as many operations. */
 #define _GNU_SOURCE
 #include "kangaroo.h"
 #include <inttypes.h>
@@ -202,7 +202,7 @@ static void bench_memory(bench *of) {
     of->operations *= 10;
     run_threads(of, THREADS_MOST, 30);
     stop_unless(kangaroo_counters_read(of->cache, &counters, sizeof counters) == KANGAROO_OK, "counters");
-    printf("own memory       %ld KiB before and %ld behind %ld operations\n", before, own_memory(), of->operations);
+    printf("own memory       %ld KiB before and %ld after %ld operations\n", before, own_memory(), of->operations);
     for (size_t i = 0; kangaroo_counter_name(i) != NULL; i++)
         printf("  %-20s %" PRIu64 "\n", kangaroo_counter_name(i), ((const uint64_t *)&counters)[i]);
 }
