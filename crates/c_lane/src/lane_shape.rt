@@ -2,7 +2,7 @@
 ghost use Rattle.std.specs.Prelude.{◌≡◌, Some, MatchResult};
 
 use crate::shape_field::ShapeField;
-use cache_sizes::{MAX_LEASE_SLOTS, MAX_SHARDS, MIN_LEASE_SLOTS, Shape, threshold_of};
+use cache_sizes::{MAX_LEASE_SLOTS, MAX_SHARDS, Shape, lease_slots_of, threshold_of};
 use record_pages::{Config, Field, Layout};
 
 /// The shape of a cache, and the two numbers that say what enters and leaves its log.
@@ -36,12 +36,11 @@ impl LaneShape {
 
     /// Gives the shape slots for leases, if it has 0: as many as sizes would give a lane of its sets. And gives it a threshold,
     /// if it has 0: that for objects of this many bytes.
-    #[tactic(auto, unfolding(cache_sizes::specs::Memory::lease_slots_of))]
     pub fn complete(&mut self, object_bytes: u32)
         ensures { self.new ≡ completed object_bytes self.old }
     {
         if self.lease_slots == 0 {
-            self.lease_slots = self.sets.max(MIN_LEASE_SLOTS);
+            self.lease_slots = lease_slots_of(self.sets);
         }
         if self.threshold == 0 {
             self.threshold = threshold_of(object_bytes);

@@ -4,20 +4,20 @@ use Rattle.std.specs.Int.{div_ceil}
 use Rattle.record_pages.specs.declared.limits.TheConstants.{MAX_ENTRIES, MAX_MEMORY}
 use Rattle.cache_sizes.specs.Records.{log_records}
 use Rattle.cache_sizes.specs.declared.limits.TheConstants.{MIN_LEASE_SLOTS, MIN_STRIKES}
-use Rattle.cache_sizes.specs.declared.proportions.TheConstants.{ENTRIES_FOR_4_RECORDS, STRIKES_FOR_SET}
+use Rattle.cache_sizes.specs.declared.proportions.TheConstants.{ENTRIES_FOR_8_RECORDS, SETS_FOR_LEASE_SLOT, STRIKES_FOR_SET}
 use Rattle.cache_sizes.specs.declared.estimates.TheConstants.{ESTIMATED_SET_BYTES, ESTIMATED_ENTRY_BYTES, ESTIMATED_SEGMENT_PAGE_BYTES, ESTIMATED_LEASE_SLOT_BYTES, ESTIMATED_LANE_BYTES, ESTIMATED_OBJECT_BYTES}
 
--- the entries of the log's index: one for each record in the segments and in two buffers, and a quarter more, since objects that
+-- the entries of the log's index: one for each record in the segments and in two buffers, and an eighth more, since objects that
 -- are smaller than the typical one lie closer
 unfoldable pub entries_of : ℕ → ℕ → ℕ → ℕ
 entries_of segments segment_pages object_bytes =
-    min (div_ceil (ENTRIES_FOR_4_RECORDS * ((segments + 2) * segment_pages * log_records object_bytes)) 4) MAX_ENTRIES
+    min (div_ceil (ENTRIES_FOR_8_RECORDS * ((segments + 2) * segment_pages * log_records object_bytes)) 8) MAX_ENTRIES
 
--- the slots for leases: as many as sets, so that their number grows with that of the keys, and no fewer than a small lane wants
+-- the slots for leases: one for four sets, so that their number grows with that of the keys, and no fewer than a small lane wants
 unfoldable pub lease_slots_of : ℕ → ℕ
-lease_slots_of sets = max MIN_LEASE_SLOTS sets
+lease_slots_of sets = max MIN_LEASE_SLOTS (sets / SETS_FOR_LEASE_SLOT)
 
--- the strikes that a lane which serves has room for: four a set, and no fewer than a small lane wants
+-- the strikes that a lane which serves has room for: two a set, and no fewer than a small lane wants
 unfoldable pub strikes_of : ℕ → ℕ
 strikes_of sets = max MIN_STRIKES (STRIKES_FOR_SET * sets)
 

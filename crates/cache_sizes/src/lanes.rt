@@ -27,8 +27,9 @@ pub(crate) fn lanes_wanted(pages: u64, threads: u32) -> u32
     ensures most { result ≤ MAX_ALL_LANES }
     ensures wide { result * LEAST_LANE_PAGES ≤ max LEAST_LANE_PAGES pages }
 {
-    let for_threads = u64::from(LANES_FOR_THREAD * threads).min((pages / LEAST_LANE_PAGES).max(1));
-    lanes_for_sets(pages).max(for_threads) as u32
+    let for_threads = (LANES_FOR_THREAD * threads).min(MAX_ALL_LANES);
+    let wide = u64::from(for_threads).min((pages / LEAST_LANE_PAGES).max(1));
+    lanes_for_sets(pages).max(wide) as u32
 }
 
 // The shards of this many lanes.

@@ -20,7 +20,7 @@ pub use limits::{
     MAX_ALL_LANES, MAX_LEASE_SLOTS, MAX_OBJECT_BYTES, MAX_ODD_SETS, MAX_SHARDS, MAX_THREADS,
     MIN_FLASH_BYTES, MIN_LEASE_SLOTS, MIN_STRIKES, PAGE_BYTES,
 };
-pub use memory::strikes_of;
+pub use memory::{lease_slots_of, strikes_of};
 pub use records::threshold_of;
 pub use shape::Shape;
 pub use size_fault::SizeFault;

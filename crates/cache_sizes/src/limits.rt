@@ -1,6 +1,5 @@
 // The limits of what is wanted, and of what a shape has beside the numbers of a configuration. Those have their limits
 // in `record_pages`.
-use crate::proportions::LANES_FOR_THREAD;
 use record_pages::{Key, MAX_LANES, MAX_SETS, Value};
 
 /// Bytes of a page, the unit in which flash is read and written.
@@ -13,7 +12,7 @@ pub const MIN_FLASH_BYTES: u64 = 3 * PAGE_BYTES;
 pub const MAX_OBJECT_BYTES: u32 = (Key::MAX_LEN + Value::MAX_LEN) as u32;
 
 /// The most threads: with four lanes for each they have all the lanes that there may be.
-pub const MAX_THREADS: u32 = MAX_ALL_LANES / LANES_FOR_THREAD;
+pub const MAX_THREADS: u32 = MAX_ALL_LANES / 4;
 
 /// The most shards: they have some 4 TiB of flash.
 pub const MAX_SHARDS: u32 = 1024;

@@ -43,12 +43,12 @@ const ROWS: [Row; 6] = [
             "1000",
         ],
         status: 2,
-        line: b"--memory-bytes is too small for a cache of this --size\n--memory-bytes 1000 for --size 1048576: the least is 117601 bytes; give that or more, or a smaller --size\n",
+        line: b"--memory-bytes is too small for a cache of this --size\n--memory-bytes 1000 for --size 1048576: the least is 61689 bytes; give that or more, or a smaller --size\n",
     },
     Row {
-        words: &["k", "serve-load", "--size", "524288"],
+        words: &["k", "serve-load", "--size", "262144"],
         status: 2,
-        line: b"--memory-bytes is too small for a cache of this --size\nwithout --memory-bytes it is an eighth of --size 524288, 65536 bytes: give --memory-bytes 100823 or more\n",
+        line: b"--memory-bytes is too small for a cache of this --size\nwithout --memory-bytes it is an eighth of --size 262144, 32768 bytes: give --memory-bytes 41603 or more\n",
     },
     Row {
         words: &["k", "serve-load", "--device", "no such folder"],

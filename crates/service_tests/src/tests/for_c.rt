@@ -302,7 +302,7 @@ fn sizes_become_a_shape_and_a_shape_sizes(rt: HostRuntime) -> Result<(), Fail> {
         flash_bytes: 1 << 30,
         memory_bytes: 128 << 20,
         object_bytes: 100,
-        threads: 4,
+        threads: 1,
     };
     let mut shape = SHAPE;
     assert!(rt; wanted.write_shape(&mut shape).is_ok());
@@ -352,10 +352,10 @@ fn a_shape_without_a_threshold_gets_that_of_its_objects(rt: HostRuntime) {
 }
 
 #[test]
-fn a_shape_without_slots_gets_as_many_as_sets(rt: HostRuntime) {
+fn a_shape_without_slots_gets_one_for_four_sets(rt: HostRuntime) {
     assert_eq!(rt;
-        (slots(1, 0), slots(1025, 0), slots(1025, 7)),
-        (1024, 1025, 7)
+        (slots(1, 0), slots(4099, 0), slots(4100, 0), slots(4100, 7)),
+        (1024, 1024, 1025, 7)
     );
 }
 

@@ -35,8 +35,8 @@ fn memory_bytes(wanted: &Wanted) -> u64
 
 #[test]
 fn the_least_flash_has_a_layout(rt: HostRuntime) {
-    let wanted = wanted((12_288, 85_216, 2303, 1));
+    let wanted = wanted((12_288, 36_040, 2303, 1));
     assert!(rt; layout(&wanted).is_some());
     assert_eq!(rt; file_bytes(&wanted), 12_288);
-    assert_eq!(rt; memory_bytes(&wanted), 85_216);
+    assert_eq!(rt; memory_bytes(&wanted), 36_040);
 }

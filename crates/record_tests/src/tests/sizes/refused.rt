@@ -23,11 +23,11 @@ const REFUSED: [(Sizes, SizeFault); 16] = [
     ((12_288, 1_000_000, 100, 4097), SizeFault::TooManyThreads),
     // A byte of memory less than the least for these.
     (
-        (12_884_901_888, 466_335_791, 100, 8),
+        (12_884_901_888, 363_369_855, 100, 8),
         SizeFault::MemoryTooSmall,
     ),
     // And for the least flash.
-    ((12_288, 85_215, 2303, 1), SizeFault::MemoryTooSmall),
+    ((12_288, 36_039, 2303, 1), SizeFault::MemoryTooSmall),
     // Of several faults the first.
     ((0, 0, 0, 0), SizeFault::FlashTooSmall),
     ((u64::MAX, 0, 0, 0), SizeFault::FlashTooLarge),
@@ -46,8 +46,8 @@ const JUST_ACCEPTED: [Sizes; 8] = [
     (12_288, 1_000_000, 2303, 1),
     (12_288, 1_000_000, 100, 1),
     (12_288, 1_000_000, 100, 4096),
-    (12_884_901_888, 547_026_048, 100, 8),
-    (12_288, 85_216, 2303, 1),
+    (12_884_901_888, 363_369_856, 100, 8),
+    (12_288, 36_040, 2303, 1),
 ];
 
 #[test]
