@@ -92,7 +92,7 @@ static const word_row rows[] = {
     {"--cache-threads", "N", OF_CACHE, THE_DRIVER, A_COUNT32, AT(cache.threads), 1, 4096, "threads",
      "callers that the cache is laid out for, 1 to 4096; --threads if not given"},
     {"--threshold", "N", OF_CACHE, THE_DRIVER, A_COUNT32, AT(cache.threshold), 1, 32, "threshold",
-     "the fewest objects that move to a set together, 1 to 32; 2 if not given"},
+     "the fewest objects that move to a set together, 1 to 32; worked out from --object-bytes if not given"},
     {"--admit", "PERCENT", OF_CACHE, BOTH, A_NUMBER, AT(admit), 0, 100, "admit",
      "how many of 100 objects that leave memory go to flash; 100 if not given"},
     {"--upkeep-threads", "N", OF_CACHE, THE_DRIVER, A_COUNT32, AT(cache.upkeep_threads), 0, 16, "upkeep_threads",

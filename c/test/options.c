@@ -112,7 +112,7 @@ static uint32_t slots_with(uint32_t sets, uint32_t given) {
 }
 
 static void shows_slots_of_a_shape(void) {
-    expect(slots_with(1, 0) == 1024 && slots_with(1025, 0) == 1025, "as many slots as sets, 1,024 at least");
+    expect(slots_with(4099, 0) == 1024 && slots_with(4100, 0) == 1025, "a slot for four sets, 1,024 at least");
     expect(slots_with(1025, 1) == 1 && slots_with(1, 1048576) == 1048576, "slots that are given stay");
     show("slots for leases of a shape of one's own: worked out where 0 are given");
 }

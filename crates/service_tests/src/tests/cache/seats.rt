@@ -56,7 +56,7 @@ fn two_callers_of_a_cache(rt: HostRuntime) -> Result<(), Fail> {
     Ok(())
 }
 
-// Puts, looks up and removes keys that the other thread writes too: how many of these calls the book refused.
+// Puts, looks up and removes keys of one to four bytes that the other thread writes too: how many of these calls the book refused.
 fn refused_calls<D: PageDevice<256>, L: KeyLanes, J: BookName, R: Wait>(
     rt: &R,
     alloc: Global,
@@ -66,13 +66,14 @@ fn refused_calls<D: PageDevice<256>, L: KeyLanes, J: BookName, R: Wait>(
     let mut found = ValueBuffer::empty();
     let mut refused: u32 = 0;
     for number in 0..CALLS {
-        let name = [b'k', (number % 8) as u8];
-        refused = refused.wrapping_add(put_refused(rt, alloc, cache, &mut seat, &name));
-        if let Err(SeatFault::Book(_)) = cache.get(rt, &mut seat, &name, 0, &mut found) {
+        let letters = [b'k', (number % 8) as u8, b'l', b'm'];
+        let name = &letters[..1 + (number % 4) as usize];
+        refused = refused.wrapping_add(put_refused(rt, alloc, cache, &mut seat, name));
+        if let Err(SeatFault::Book(_)) = cache.get(rt, &mut seat, name, 0, &mut found) {
             refused = refused.wrapping_add(1);
         }
-        if number % 16 == 0
-            && let Err(SeatFault::Book(_)) = cache.remove(rt, &mut seat, &name)
+        if number % 5 == 0
+            && let Err(SeatFault::Book(_)) = cache.remove(rt, &mut seat, name)
         {
             refused = refused.wrapping_add(1);
         }
