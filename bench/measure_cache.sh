@@ -1,0 +1,108 @@
+#!/bin/sh
+# measure_cache.sh PART FOLDER OUT: the runs that docs/BENCHMARKS.md shows of a cache under a load, as JSON in the folder OUT.
+#
+# PART   quality   hit ratio, bytes written to flash and memory, beside two simulated designs: some 20 runs of 20 million calls;
+#                  they need no idle machine
+#        speed     calls a second and latencies at 1, 2 and 4 threads: needs an idle machine with four processors
+#        server    the same stream to memcached, with and without extstore, which must be installed: needs an idle machine
+#        plots     draws five pictures from what the other parts left in OUT
+# FOLDER has room for files of up to 1 GiB; the programs are those of `make -C c kangaroo-bench`.
+set -e
+part=$1
+folder=$2
+out=$3
+[ -n "$out" ] || { sed -n '2,9s/^# \{0,1\}//p' "$0" >&2; exit 2; }
+here=$(CDPATH= cd -P "$(dirname "$0")" && pwd)
+programs=$here/../c/out
+mkdir -p "$folder/cache" "$out"
+
+# NAME WORD..: a run of the cache. The words are kangaroo-bench's.
+cache() {
+    name=$1
+    shift
+    echo "$name" >&2
+    "$programs/kangaroo-bench" --folder "$folder/cache" --sparse --json "$@" >"$out/$name.json"
+}
+
+# NAME WORD..: the two other designs on the same stream.
+rivals() {
+    name=$1
+    shift
+    echo "$name" >&2
+    "$programs/rivals" --json "$@" >"$out/$name.json"
+}
+
+# 8 million keys of which a fifth fits on flash; the second half of the calls counts.
+stream="--flash 256M --keys 8M --distribution zipf:0.9 --sizes uniform:50:150 --warmup 12M --operations 12M"
+
+quality() {
+    for memory in 12M 16M 24M 32M 48M; do
+        cache "memory-$memory" $stream --memory "$memory"
+        rivals "rivals-$memory" $stream --memory "$memory"
+    done
+    for threshold in 1 3 4; do cache "threshold-$threshold" $stream --memory 24M --threshold "$threshold"; done
+    for admit in 50 75 90; do cache "admit-$admit" $stream --memory 24M --admit "$admit"; done
+    cache over-time $stream --memory 24M --series "$out/over-time.csv"
+    for size in 34 84 284 984 1984; do
+        sized="--flash 256M --memory 24M --keys 2M --distribution zipf:0.9 --sizes fixed:$size --warmup 6M --operations 6M"
+        cache "size-$size" $sized
+        rivals "rivals-size-$size" $sized
+    done
+}
+
+speed() {
+    for threads in 1 2 4; do
+        for keys in uniform zipf:0.9; do
+            cache "in-memory-${keys%%:*}-$threads" --flash 256M --memory 64M --keys 100K --distribution "$keys" \
+                --cache-threads 4 --threads "$threads" --warmup 2M --seconds 8
+        done
+        cache "on-flash-$threads" --flash 256M --memory 24M --keys 8M --distribution zipf:0.9 --sizes uniform:50:150 \
+            --cache-threads 4 --threads "$threads" --warmup 12M --seconds 8
+    done
+}
+
+# MEMORY WORD..: starts memcached with so many MiB.
+start_server() {
+    memory=$1
+    shift
+    memcached -u nobody -m "$memory" -t 4 -c 64 -s "$folder/memcached" -a 0777 "$@" &
+    server=$!
+    sleep 1
+}
+
+server() {
+    load="--keys 10M --distribution zipf:0.99 --sizes fixed:100 --warmup 12M --operations 6M --threads 4"
+    cache beside-server $load --flash 1G --memory 64M
+    start_server 1024
+    cache_of_server memcached $load
+    start_server 64 -o "ext_path=$folder/extstore:1G,ext_item_size=64"
+    cache_of_server extstore $load
+}
+
+cache_of_server() {
+    name=$1
+    shift
+    echo "$name" >&2
+    "$programs/kangaroo-bench" --memcached "$folder/memcached" --pipeline 16 --server-process "$server" --json "$@" >"$out/$name.json" || echo "$name: status $?" >&2
+    kill "$server"
+    wait "$server" || true
+}
+
+plots() {
+    draw() { "${PYTHON:-/usr/bin/python3}" "$here/plot.py" "$@"; }
+    cd "$out"
+    draw hit-ratio-over-time hit-ratio-over-time.svg over-time.csv
+    draw hit-ratio-by-memory hit-ratio-by-memory.svg memory-*.json rivals-*M.json
+    draw write-amplification write-amplification.svg threshold-*.json admit-*.json memory-24M.json
+    draw latency latency.svg "in memory, 4 threads"=in-memory-zipf-4.json "8 million keys, 4 threads"=on-flash-4.json
+    draw throughput throughput.svg "in memory, alike"=in-memory-uniform-1.json "in memory, alike"=in-memory-uniform-2.json \
+        "in memory, alike"=in-memory-uniform-4.json "in memory, Zipf"=in-memory-zipf-1.json "in memory, Zipf"=in-memory-zipf-2.json \
+        "in memory, Zipf"=in-memory-zipf-4.json "8 million keys, Zipf"=on-flash-1.json "8 million keys, Zipf"=on-flash-2.json \
+        "8 million keys, Zipf"=on-flash-4.json
+}
+
+case $part in
+    quality | speed | server | plots) "$part" ;;
+    *) echo "measure_cache.sh: $part is no part: quality, speed, server or plots" >&2; exit 2 ;;
+esac
+rm -rf "$folder/cache" "$folder/memcached" "$folder/extstore"
