@@ -1,0 +1,130 @@
+-- The meta commands that name a key, and their flags.
+use Rattle.std.specs.Prelude.{ℕ, ◌+◌, ◌-◌, ◌^◌, Bool, true, false, ◌&&◌, ◌||◌, not, List, [], ◌∷◌, ◌++◌, length, drop, ◌==◌, nat_le, nat_lt, if◌then◌else◌, Option, Some, None, option_and_then, option_map, ok_or, Result, Ok, Err, codes, slice_index_or}
+use Rattle.std.specs.List.{list_any}
+use Rattle.memcached_text.specs.declared.line_fault.LineFault.{LineFault}
+use Rattle.memcached_text.specs.declared.line_fault.LineFault.TheVariants.{Unknown, BadFormat, TooManyFlags, DuplicateFlag, BadFlag, BadOrDuplicateFlag, BadToken, OpaqueTooLong, BadModeToken, BadInitial, BadMetaDelta, BadSetMode, BadArithmeticMode}
+use Rattle.memcached_text.specs.declared.refusal.Refusal.{Refusal}
+use Rattle.memcached_text.specs.declared.verb.MetaCommand.{MetaCommand}
+use Rattle.memcached_text.specs.declared.verb.MetaCommand.TheVariants.{Get, Set, Delete, Arithmetic, Debug}
+use Rattle.memcached_text.specs.Words.{word_at, after_word, is_key}
+use Rattle.memcached_text.specs.Numbers.{number_below, exptime_of}
+use Rattle.memcached_text.specs.Asked.{Asked, AskMeta, MetaAsking}
+
+-- the letter of a flag is its first byte, and its token what follows
+abbrev pub letter_of : List ℕ → ℕ
+letter_of flag = slice_index_or flag 0 0
+
+abbrev pub token_of : List ℕ → List ℕ
+token_of flag = drop 1 flag
+
+-- a letter is one of these
+abbrev pub is_among : ℕ → List ℕ → Bool
+is_among letter letters = list_any (λ other. other == letter) letters
+
+-- one of the flags has this letter
+abbrev pub has_letter : ℕ → List (List ℕ) → Bool
+has_letter letter flags = list_any (λ flag. letter_of flag == letter) flags
+
+-- a fault, if there is no such number or moment
+abbrev pub unless : {A : Type 0} → Option A → LineFault → Option LineFault
+unless (Some x) fault = None
+unless None fault = Some fault
+
+-- the fault of a flag whose token is a number: N, T and R have a moment, F 32 bits, C, J and D 64 bits
+unfoldable pub number_fault : ℕ → List ℕ → Option LineFault
+number_fault letter token =
+    if is_among letter (codes "NTR") then unless (exptime_of token) BadToken
+    else (if letter == 70 then unless (number_below (2 ^ 32) token) BadToken
+    else (if letter == 67 then unless (number_below (2 ^ 64) token) BadToken
+    else (if letter == 74 then unless (number_below (2 ^ 64) token) BadInitial
+    else (if letter == 68 then unless (number_below (2 ^ 64) token) BadMetaDelta
+    else Some BadFlag))))
+
+-- the fault of a flag by itself: O has an opaque token, M one byte
+unfoldable pub flag_fault : List ℕ → Option LineFault
+flag_fault flag =
+    if is_among (letter_of flag) (codes "bPLlhkstcfuvqI") then None
+    else (if letter_of flag == 79 then (if nat_lt 32 (length flag) then Some OpaqueTooLong else None)
+    else (if letter_of flag == 77 then (if length flag == 2 then None else Some BadModeToken)
+    else number_fault (letter_of flag) (token_of flag)))
+
+-- the fault of a flag after these
+unfoldable pub fault_after : List (List ℕ) → List ℕ → Option LineFault
+fault_after before flag = if has_letter (letter_of flag) before then Some DuplicateFlag else flag_fault flag
+
+-- the first of two faults
+abbrev pub first_of : Option LineFault → Option LineFault → Option LineFault
+first_of (Some fault) other = Some fault
+first_of None other = other
+
+-- the fault of the first flag that has one
+abbrev pub first_fault : List (List ℕ) → List (List ℕ) → Option LineFault
+first_fault before [] = None
+first_fault before (flag ∷ rest) = first_of (fault_after before flag) (first_fault (before ++ flag ∷ []) rest)
+
+-- the fault of a command's flags, as the command says it
+abbrev pub fault_for : MetaCommand → LineFault → LineFault
+fault_for Get fault = fault
+fault_for Set fault = fault
+fault_for Delete fault = BadOrDuplicateFlag
+fault_for Arithmetic fault = BadOrDuplicateFlag
+fault_for Debug fault = BadFormat
+
+-- the flag M, with a mode that is none of these
+abbrev pub is_mode_outside : List ℕ → List ℕ → Bool
+is_mode_outside modes flag = (letter_of flag == 77) && not (is_among (slice_index_or flag 1 0) modes)
+
+-- the fault of the mode that flags name; only ms and ma look at it
+unfoldable pub mode_fault : MetaCommand → List (List ℕ) → Option LineFault
+mode_fault Get flags = None
+mode_fault Set flags = if list_any (is_mode_outside (codes "SREAP")) flags then Some BadSetMode else None
+mode_fault Delete flags = None
+mode_fault Arithmetic flags = if list_any (is_mode_outside (codes "I+D-")) flags then Some BadArithmeticMode else None
+mode_fault Debug flags = None
+
+-- the fault of a command's flags
+unfoldable pub flags_fault : MetaCommand → List (List ℕ) → Option LineFault
+flags_fault command flags = first_of (option_map (fault_for command) (first_fault [] flags)) (mode_fault command flags)
+
+-- a refusal that is answered
+abbrev pub loud : LineFault → Refusal
+loud fault = record { fault = fault; noreply = false; skipped = 0 }
+
+-- the request, unless its flags have a fault; then a data block that belongs to it is passed over
+abbrev pub unless_fault : Option LineFault → ℕ → MetaAsking → Result Asked Refusal
+unless_fault None skipped asking = Ok (AskMeta asking)
+unless_fault (Some fault) skipped asking = Err (record { fault = fault; noreply = false; skipped = skipped })
+
+-- COMMAND KEY FLAG.. for all but ms
+abbrev pub keyed_of : MetaCommand → List (List ℕ) → List ℕ → Result Asked Refusal
+keyed_of command words line =
+    unless_fault (flags_fault command (drop 2 words)) 0 (record { command = command; key = word_at words 1; length = 0; flags = after_word (after_word line) })
+
+-- ms KEY LENGTH FLAG.., by the length
+abbrev pub sized_of : Option ℕ → List (List ℕ) → List ℕ → Result Asked Refusal
+sized_of None words line = Err (loud BadFormat)
+sized_of (Some length) words line =
+    unless_fault (flags_fault Set (drop 3 words)) (length + 2) (record { command = Set; key = word_at words 1; length = length; flags = after_word (after_word (after_word line)) })
+
+abbrev pub asking_of : MetaCommand → List (List ℕ) → List ℕ → Result Asked Refusal
+asking_of Get words line = keyed_of Get words line
+asking_of Set words line = sized_of (number_below (2 ^ 31 - 2) (word_at words 2)) words line
+asking_of Delete words line = keyed_of Delete words line
+asking_of Arithmetic words line = keyed_of Arithmetic words line
+asking_of Debug words line = keyed_of Debug words line
+
+-- the words of a command's line before its flags
+abbrev pub first_flag : MetaCommand → ℕ
+first_flag Get = 2
+first_flag Set = 3
+first_flag Delete = 2
+first_flag Arithmetic = 2
+first_flag Debug = 2
+
+-- a meta command's line, which has at most 19 words
+unfoldable pub meta_request_of : MetaCommand → List (List ℕ) → List ℕ → Result Asked Refusal
+meta_request_of command words line =
+    if nat_lt (length words) 2 then Err (loud Unknown)
+    else (if not (is_key (word_at words 1)) || nat_lt (length words) (first_flag command) then Err (loud BadFormat)
+    else (if nat_lt 19 (length words) then Err (loud TooManyFlags)
+    else asking_of command words line))

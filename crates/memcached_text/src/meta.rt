@@ -1,0 +1,269 @@
+// The meta commands that name a key, and their flags.
+ghost use Rattle.std.specs.Prelude.{◌≡◌, ◌+◌, ◌<◌, ◌≤◌, ◌^◌, ◌&&◌, ◌||◌, not, nat_le, nat_lt, ◌==◌, map, drop, length, slice_index_or, []};
+ghost use Rattle.std.specs.List.{list_any};
+ghost use Rattle.memcached_text.specs.Words.{after_word, is_key};
+ghost use Rattle.memcached_text.specs.Meta.{letter_of, is_among, has_letter, token_of, number_fault, flag_fault, fault_after, first_fault, is_mode_outside, mode_fault, flags_fault, fault_for, unless, first_flag, asking_of, keyed_of, sized_of, unless_fault, meta_request_of};
+ghost use Rattle.memcached_text.specs.Asked.{shown_or_refused};
+
+use crate::line_fault::LineFault;
+use crate::numbers::{data_len, expiry, number, small_number};
+use crate::refusal::Refusal;
+use crate::request::{MetaRequest, Request};
+use crate::verb::MetaCommand;
+use crate::words::{after_word, is_key};
+
+/// The most words of a meta command's line.
+const MAX_META_WORDS: usize = 19;
+
+/// The most bytes of an opaque token, with its letter.
+const MAX_OPAQUE_LEN: usize = 32;
+
+/// The flags that are taken whatever follows their letter: base64, proxy hints, what to return, quiet, stale.
+const PLAIN_FLAGS: &[u8] = b"bPLlhkstcfuvqI";
+
+/// The letter of a flag, 0 if there is none.
+fn letter(flag: &[u8]) -> u8
+    ensures { result ≡ letter_of flag.now }
+{
+    if flag.is_empty() { 0 } else { flag[0] }
+}
+
+/// Whether a letter is one of these.
+fn is_among(letter: u8, letters: &[u8]) -> bool
+    ensures { result ≡ is_among letter letters.now }
+{
+    letters.iter().any(|other| *other == letter)
+}
+
+/// Whether one of the flags has a letter.
+fn has_letter(flags: &[&[u8]], letter_wanted: u8) -> bool
+    ensures { result ≡ has_letter letter_wanted (map (λ w. w.now) flags.now) }
+{
+    flags.iter().any(|flag| letter(flag) == letter_wanted)
+}
+
+/// The token of a flag: what follows its letter.
+fn token<'a>(flag: &'a [u8]) -> &'a [u8]
+    ensures { result.now ≡ token_of flag.now }
+{
+    if flag.is_empty() { flag } else { &flag[1..] }
+}
+
+/// A fault, if there is no such number.
+fn unless<T: Drop>(found: Option<T>, fault: LineFault) -> Option<LineFault>
+    ensures { result ≡ unless found fault }
+{
+    match found {
+        Some(_) => None,
+        None => Some(fault),
+    }
+}
+
+/// The fault of a flag whose token is a number.
+#[tactic(auto, unfolding(crate::specs::Meta::number_fault))]
+fn number_fault(letter: u8, token: &[u8]) -> Option<LineFault>
+    ensures { result ≡ number_fault letter token.now }
+{
+    if is_among(letter, b"NTR") {
+        unless(expiry(token), LineFault::BadToken)
+    } else if letter == b'F' {
+        unless(small_number(token), LineFault::BadToken)
+    } else if letter == b'C' {
+        unless(number(token), LineFault::BadToken)
+    } else if letter == b'J' {
+        unless(number(token), LineFault::BadInitial)
+    } else if letter == b'D' {
+        unless(number(token), LineFault::BadMetaDelta)
+    } else {
+        Some(LineFault::BadFlag)
+    }
+}
+
+/// The fault of a flag by itself.
+#[tactic(auto, unfolding(crate::specs::Meta::flag_fault))]
+fn flag_fault(flag: &[u8]) -> Option<LineFault>
+    ensures { result ≡ flag_fault flag.now }
+{
+    let letter = letter(flag);
+    if is_among(letter, PLAIN_FLAGS) {
+        None
+    } else if letter == b'O' {
+        if flag.len() > MAX_OPAQUE_LEN {
+            Some(LineFault::OpaqueTooLong)
+        } else {
+            None
+        }
+    } else if letter == b'M' {
+        if flag.len() == 2 {
+            None
+        } else {
+            Some(LineFault::BadModeToken)
+        }
+    } else {
+        number_fault(letter, token(flag))
+    }
+}
+
+/// The fault of a flag after these.
+#[tactic(auto, unfolding(crate::specs::Meta::fault_after))]
+fn fault_after(before: &[&[u8]], flag: &[u8]) -> Option<LineFault>
+    ensures { result ≡ fault_after (map (λ w. w.now) before.now) flag.now }
+{
+    if has_letter(before, letter(flag)) {
+        Some(LineFault::DuplicateFlag)
+    } else {
+        flag_fault(flag)
+    }
+}
+
+/// The fault of the first flag that has one.
+fn first_fault(flags: &[&[u8]]) -> Option<LineFault>
+    ensures { result ≡ first_fault [] (map (λ w. w.now) flags.now) }
+{
+    for at in 0..flags.len() {
+        if let Some(fault) = fault_after(&flags[..at], flags[at]) {
+            return Some(fault);
+        }
+    }
+    None
+}
+
+/// Whether a flag is `M` with a mode that is none of these.
+fn is_mode_outside(modes: &[u8], flag: &[u8]) -> bool
+    ensures { result ≡ is_mode_outside modes.now flag.now }
+{
+    letter(flag) == b'M' && !is_among(letter(token(flag)), modes)
+}
+
+/// Whether a flag names a mode that is none of these.
+fn has_mode_outside(modes: &[u8], flags: &[&[u8]]) -> bool
+    ensures { result ≡ list_any (is_mode_outside modes.now) (map (λ w. w.now) flags.now) }
+{
+    flags.iter().any(|flag| is_mode_outside(modes, flag))
+}
+
+/// The fault of the mode that flags name.
+#[tactic(auto, unfolding(crate::specs::Meta::mode_fault))]
+fn mode_fault(command: MetaCommand, flags: &[&[u8]]) -> Option<LineFault>
+    ensures { result ≡ mode_fault command (map (λ w. w.now) flags.now) }
+{
+    match command {
+        MetaCommand::Set => {
+            if has_mode_outside(b"SREAP", flags) {
+                Some(LineFault::BadSetMode)
+            } else {
+                None
+            }
+        }
+        MetaCommand::Arithmetic => {
+            if has_mode_outside(b"I+D-", flags) {
+                Some(LineFault::BadArithmeticMode)
+            } else {
+                None
+            }
+        }
+        MetaCommand::Get => None,
+        MetaCommand::Delete => None,
+        MetaCommand::Debug => None,
+    }
+}
+
+/// A fault of flags, as the command says it.
+fn fault_for(command: MetaCommand, fault: LineFault) -> LineFault
+    ensures { result ≡ fault_for command fault }
+{
+    match command {
+        MetaCommand::Get => fault,
+        MetaCommand::Set => fault,
+        MetaCommand::Delete => LineFault::BadOrDuplicateFlag,
+        MetaCommand::Arithmetic => LineFault::BadOrDuplicateFlag,
+        MetaCommand::Debug => LineFault::BadFormat,
+    }
+}
+
+/// The fault of a command's flags.
+#[tactic(auto, unfolding(crate::specs::Meta::flags_fault))]
+fn flags_fault(command: MetaCommand, flags: &[&[u8]]) -> Option<LineFault>
+    ensures { result ≡ flags_fault command (map (λ w. w.now) flags.now) }
+{
+    match first_fault(flags) {
+        Some(fault) => Some(fault_for(command, fault)),
+        None => mode_fault(command, flags),
+    }
+}
+
+/// How many words stand before a command's flags.
+fn first_flag(command: MetaCommand) -> usize
+    ensures value { result ≡ first_flag command }
+    ensures range { (2 ≤ result) × (result ≤ 3) }
+{
+    match command {
+        MetaCommand::Set => 3,
+        MetaCommand::Get => 2,
+        MetaCommand::Delete => 2,
+        MetaCommand::Arithmetic => 2,
+        MetaCommand::Debug => 2,
+    }
+}
+
+/// `COMMAND KEY FLAG..` for all but `ms`.
+fn keyed_request<'a>(command: MetaCommand, words: &[&'a [u8]], line: &'a [u8]) -> Result<Request<'a>, Refusal>
+    requires { 2 ≤ length words.now }
+    ensures { shown_or_refused result ≡ keyed_of command (map (λ w. w.now) words.now) line.now }
+{
+    match flags_fault(command, &words[2..]) {
+        None => Ok(Request::Meta(MetaRequest {
+            command,
+            key: words[1],
+            length: 0,
+            flags: after_word(after_word(line)),
+        })),
+        Some(fault) => Err(Refusal::loud(fault)),
+    }
+}
+
+/// `ms KEY LENGTH FLAG..`. If its flags have a fault, its data block is to be passed over.
+fn sized_request<'a>(words: &[&'a [u8]], line: &'a [u8]) -> Result<Request<'a>, Refusal>
+    requires { 3 ≤ length words.now }
+    ensures { shown_or_refused result ≡ asking_of MetaCommand.Set (map (λ w. w.now) words.now) line.now }
+{
+    let Some(length) = data_len(words[2]) else {
+        return Err(Refusal::loud(LineFault::BadFormat));
+    };
+    match flags_fault(MetaCommand::Set, &words[3..]) {
+        None => Ok(Request::Meta(MetaRequest {
+            command: MetaCommand::Set,
+            key: words[1],
+            length,
+            flags: after_word(after_word(after_word(line))),
+        })),
+        Some(fault) => Err(Refusal {
+            fault,
+            noreply: false,
+            skipped: length + 2,
+        }),
+    }
+}
+
+/// The request of a meta command's line, with the line's words.
+#[tactic(auto, unfolding(crate::specs::Meta::meta_request_of))]
+pub(crate) fn meta_request<'a>(command: MetaCommand, words: &[&'a [u8]], line: &'a [u8]) -> Result<Request<'a>, Refusal>
+    ensures { shown_or_refused result ≡ meta_request_of command (map (λ w. w.now) words.now) line.now }
+{
+    if words.len() < 2 {
+        return Err(Refusal::loud(LineFault::Unknown));
+    }
+    if !is_key(words[1]) || words.len() < first_flag(command) {
+        return Err(Refusal::loud(LineFault::BadFormat));
+    }
+    if words.len() > MAX_META_WORDS {
+        return Err(Refusal::loud(LineFault::TooManyFlags));
+    }
+    match command {
+        MetaCommand::Set => sized_request(words, line),
+        MetaCommand::Get => keyed_request(command, words, line),
+        MetaCommand::Delete => keyed_request(command, words, line),
+        MetaCommand::Arithmetic => keyed_request(command, words, line),
+        MetaCommand::Debug => keyed_request(command, words, line),
+    }
+}

@@ -1,0 +1,140 @@
+// A line and what it asks for.
+ghost use Rattle.std.specs.Prelude.{◌≡◌, ◌-◌, ◌&&◌, not, map, length, slice_index_or, [], true, false};
+ghost use Rattle.memcached_text.specs.Words.{word_at, is_noreply};
+ghost use Rattle.memcached_text.specs.Requests.{classic_of, request_by, request_of, may_be_quiet, is_unknown, is_last_noreply, or_refusal};
+ghost use Rattle.memcached_text.specs.Asked.{shown_or_fault, shown_or_refused};
+ghost use Rattle.memcached_text.specs.Verbs.{meta_of, verb_of};
+
+use crate::classic::{
+    delete_request, delta_request, flush_request, get_and_touch_request, get_request,
+    shutdown_request, store_request, touch_request, verbosity_request,
+};
+use crate::line_fault::LineFault;
+use crate::meta::meta_request;
+use crate::refusal::Refusal;
+use crate::request::Request;
+use crate::verb::{Verb, named_meta, named_verb};
+use crate::words::{is_noreply, words_in};
+
+/// Whether a command's line may end in `noreply`.
+fn may_be_quiet(verb: Verb) -> bool
+    ensures { result ≡ may_be_quiet verb }
+{
+    match verb {
+        Verb::Store(_) => true,
+        Verb::Delete => true,
+        Verb::Count(_) => true,
+        Verb::Touch => true,
+        Verb::FlushAll => true,
+        Verb::Verbosity => true,
+        _ => false,
+    }
+}
+
+/// Whether a fault is `Unknown`.
+fn is_unknown(fault: LineFault) -> bool
+    ensures { result ≡ is_unknown fault }
+{
+    match fault {
+        LineFault::Unknown => true,
+        _ => false,
+    }
+}
+
+/// Whether the last word is `noreply`.
+fn is_last_noreply(words: &[&[u8]]) -> bool
+    ensures { result ≡ is_last_noreply (map (λ w. w.now) words.now) }
+{
+    !words.is_empty() && is_noreply(words[words.len() - 1])
+}
+
+/// The word at a place, empty if there is none.
+fn word_at<'a>(words: &[&'a [u8]], at: usize) -> &'a [u8]
+    ensures { result.now ≡ word_at (map (λ w. w.now) words.now) at }
+{
+    if at < words.len() { words[at] } else { &[] }
+}
+
+/// What the words of a classic command ask for.
+#[tactic(auto, unfolding(crate::specs::Requests::classic_of))]
+fn classic_request<'a>(verb: Verb, words: &[&'a [u8]]) -> Result<Request<'a>, LineFault>
+    ensures { shown_or_fault result ≡ classic_of verb (map (λ w. w.now) words.now) }
+{
+    match verb {
+        Verb::Get => get_request(false, words),
+        Verb::Gets => get_request(true, words),
+        Verb::GetAndTouch => get_and_touch_request(false, words),
+        Verb::GetsAndTouch => get_and_touch_request(true, words),
+        Verb::Store(mode) => store_request(mode, words),
+        Verb::Delete => delete_request(words),
+        Verb::Count(direction) => delta_request(direction, words),
+        Verb::Touch => touch_request(words),
+        Verb::FlushAll => flush_request(words),
+        Verb::Stats => Ok(Request::Stats {
+            argument: word_at(words, 1),
+        }),
+        Verb::Version => Ok(Request::Version),
+        Verb::Verbosity => verbosity_request(words),
+        Verb::Quit => Ok(Request::Quit),
+        Verb::Shutdown => shutdown_request(words),
+        Verb::MetaNoop => Ok(Request::MetaNoop),
+    }
+}
+
+/// What a classic command's line asks for. Its refusal is not answered if the line says `noreply`.
+fn classic_line<'a>(verb: Verb, words: &[&'a [u8]]) -> Result<Request<'a>, Refusal>
+    ensures { shown_or_refused result ≡ or_refusal verb (map (λ w. w.now) words.now) (classic_of verb (map (λ w. w.now) words.now)) }
+{
+    match classic_request(verb, words) {
+        Ok(request) => Ok(request),
+        Err(fault) => Err(Refusal {
+            fault,
+            noreply: may_be_quiet(verb) && !is_unknown(fault) && is_last_noreply(words),
+            skipped: 0,
+        }),
+    }
+}
+
+/// What a line asks for, given without its end, or why it is refused, with the answer that memcached gives.
+///
+/// Words stand between spaces, and the first 24 are looked at. A number has at most 20 digits. The keys of
+/// `get`, `gets`, `gat` and `gats` are no part of the request. It takes no memory.
+#[tactic(auto, unfolding(crate::specs::Requests::request_of))]
+pub fn parse<'a>(line: &'a [u8]) -> Result<Request<'a>, Refusal>
+    ensures { shown_or_refused result ≡ request_of line.now }
+{
+    let words = words_in(line);
+    request_of_words(&words, line)
+}
+
+/// The same, with the line's words.
+fn request_of_words<'a>(words: &[&'a [u8]], line: &'a [u8]) -> Result<Request<'a>, Refusal>
+    ensures { shown_or_refused result ≡ request_by (meta_of (word_at (map (λ w. w.now) words.now) 0)) (verb_of (word_at (map (λ w. w.now) words.now) 0)) (map (λ w. w.now) words.now) line.now }
+{
+    let name = word_at(words, 0);
+    match named_meta(name) {
+        Some(command) => meta_request(command, words, line),
+        None => match named_verb(name) {
+            Some(verb) => classic_line(verb, words),
+            None => Err(Refusal::loud(LineFault::Unknown)),
+        },
+    }
+}
+
+#[cfg(test)]
+mod tests {
+    use super::*;
+
+    #[test]
+    fn reads_a_set(rt: HostRuntime) {
+        match parse(b"set key 5 -1 10 noreply") {
+            Ok(Request::Store(store)) => {
+                assert_eq!(rt; store.length, 10);
+                assert!(rt; store.noreply);
+            }
+            _ => assert!(rt; false),
+        }
+        assert!(rt; matches!(parse(b"ms key 2 T0 c F1 c"), Err(Refusal { fault: LineFault::DuplicateFlag, noreply: false, skipped: 4 })));
+        assert!(rt; matches!(parse(b"delete k 5 noreply"), Err(Refusal { fault: LineFault::BadDelete, noreply: true, skipped: 0 })));
+    }
+}
