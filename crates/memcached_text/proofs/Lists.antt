@@ -1,8 +1,10 @@
 -- Lists that the library's lemmas leave out: a test of some element of a mapped list, and the place that a search gave.
-use Rattle.std.proofs.Common.{◌≡◌, ℕ, ◌<◌, ◌≤◌, ◌||◌, ltb, cond, ◌-◌, not, take, drop, Bool, true, false, List, [], ◌∷◌, length, map, Option, Some, None, refl, sym, ap, ◌∙◌, arith, inl, inr}
-use Rattle.std.specs.List.{list_any, position_or_len, prefix_len}
+use Rattle.std.proofs.Common.{◌≡◌, ℕ, ◌<◌, ◌≤◌, ◌||◌, ltb, cond, ◌-◌, not, take, drop, Bool, true, false, List, [], ◌∷◌, ◌++◌, ◌+◌, get_or, length, map, Option, Some, None, refl, sym, ap, ◌∙◌, arith, inl, inr}
+use Rattle.std.specs.List.{list_any, position_or_len, prefix_len, concat}
 use Rattle.std.proofs.lemmas.Bool.{cases_Bool}
 use Rattle.std.proofs.lemmas.Grind.{common_steps}
+use Rattle.std.proofs.lemmas.List.{map-append, take_more, length-map, get_or-map}
+use Rattle.std.proofs.lemmas.List.Folds.{concat-append}
 use Rattle.std.proofs.lemmas.List.Sums.{prefix_len-le-length}
 use borrow.Author.Tests.{ltb-false}
 
@@ -41,3 +43,19 @@ dropped_none xs test r is none =
 
 pub few_taken : {A : Type 0} (n : ℕ) (xs : List A) → length (take n xs) ≤ n
 few_taken n xs = grind (arith, common_steps)
+
+-- one piece more is appended
+pub piece_more : {A : Type 0} (h : A → List ℕ) (xs : List A) (i : ℕ) (d : A) (start now new piece : List ℕ) → i < length xs → now ≡ start ++ concat (map h (take i xs)) → new ≡ now ++ piece → piece ≡ h (get_or xs i d) → new ≡ start ++ concat (map h (take (i + 1) xs))
+piece_more h xs i d start now new piece less so_far more is =
+    let taken = take_more xs i d less in
+    let mapped = map-append h (take i xs) (get_or xs i d ∷ []) in
+    let joined = concat-append (map h (take i xs)) (h (get_or xs i d) ∷ []) in
+    let whole : concat (map h (take (i + 1) xs)) ≡ concat (map h (take i xs)) ++ (h (get_or xs i d) ++ []) = ap (λ ys. concat (map h ys)) taken ∙ ap concat mapped ∙ joined in
+    rw whole (grind (arith, common_steps))
+
+-- the same, if the pieces are texts of other lists
+pub text_more : {A : Type 0} (text : List ℕ → List ℕ) (h : A → List ℕ) (xs : List A) (i : ℕ) (d : A) (start now new piece : List ℕ) → i < length xs → now ≡ start ++ concat (map text (take i (map h xs))) → new ≡ now ++ piece → piece ≡ text (h (get_or xs i d)) → new ≡ start ++ concat (map text (take (i + 1) (map h xs)))
+text_more text h xs i d start now new piece less so_far more is =
+    let same = length-map xs h in
+    let at = get_or-map h xs i d [] less in
+    piece_more text (map h xs) i [] start now new piece (omega (arith, same, less)) so_far more (is ∙ ap text (sym at))

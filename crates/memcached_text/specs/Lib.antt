@@ -5,3 +5,5 @@ pub mod Asked
 pub mod Classic
 pub mod Meta
 pub mod Requests
+pub mod Texts
+pub mod Answers

@@ -4,22 +4,31 @@
 //! become requests, and answers become bytes.
 #![tactic(auto)]
 
+mod answer;
 mod classic;
 mod exptime;
 mod line_fault;
 mod meta;
+mod meta_answer;
 mod numbers;
 mod parsing;
 mod refusal;
+mod reply;
 mod request;
 mod store_mode;
 mod verb;
 mod words;
+mod writing;
 
+pub use answer::{Answer, ValueFound};
 pub use exptime::Exptime;
 pub use line_fault::LineFault;
+pub use meta_answer::{MetaAnswer, MetaFields, MetaMarks, MetaStatus, Ttl};
 pub use parsing::parse;
 pub use refusal::Refusal;
+pub use reply::Reply;
 pub use request::{Delta, MetaRequest, Request, Store};
 pub use store_mode::StoreMode;
 pub use verb::{Direction, MetaCommand};
+pub use words::MAX_KEY_LEN;
+pub use writing::append_answer;

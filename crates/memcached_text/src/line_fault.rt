@@ -1,65 +1,75 @@
 // Why a line is refused.
+ghost use Rattle.std.specs.Prelude.{◌≡◌};
+ghost use Rattle.memcached_text.specs.Texts.{fault_text};
 
-use thiserror::Error;
-
-/// Why a line is refused. Its text is the line that memcached answers, without the line's end.
-#[derive(Clone, Copy, Debug, PartialEq, Eq, Error)]
+/// Why a line is refused.
+#[derive(Clone, Copy, Debug, PartialEq, Eq)]
 pub enum LineFault {
     /// The command is not known, or has too few or too many words.
-    #[error("ERROR")]
     Unknown,
     /// A key has more than 250 bytes, or a number is none.
-    #[error("CLIENT_ERROR bad command line format")]
     BadFormat,
     /// A `delete` with words after the key that it does not have.
-    #[error("CLIENT_ERROR bad command line format.  Usage: delete <key> [noreply]")]
     BadDelete,
     /// The word for the expiry is no number of 32 bits with a sign.
-    #[error("CLIENT_ERROR invalid exptime argument")]
     BadExptime,
     /// The word for the amount is no number of 64 bits.
-    #[error("CLIENT_ERROR invalid numeric delta argument")]
     BadDelta,
     /// A `shutdown` that is not `shutdown` or `shutdown graceful`.
-    #[error("CLIENT_ERROR invalid shutdown mode")]
     BadShutdown,
     /// A data block is not followed by its line's end.
-    #[error("CLIENT_ERROR bad data chunk")]
     BadData,
     /// A line has more than 2,048 bytes.
-    #[error("CLIENT_ERROR line too long")]
     LineTooLong,
     /// A meta command has more than 19 words.
-    #[error("CLIENT_ERROR options flags are too long")]
     TooManyFlags,
     /// A flag of a meta command stands twice.
-    #[error("CLIENT_ERROR duplicate flag")]
     DuplicateFlag,
     /// A flag of a meta command is not known.
-    #[error("CLIENT_ERROR invalid flag")]
     BadFlag,
-    /// One of both, for `md` and `ma`, or a token that is none.
-    #[error("CLIENT_ERROR invalid or duplicate flag")]
+    /// A flag of `md` or `ma` stands twice, is not known, or has a token that it can't have.
     BadOrDuplicateFlag,
     /// The token of a flag is no number in its range.
-    #[error("CLIENT_ERROR bad token in command line format")]
     BadToken,
-    /// The opaque token has more than 32 bytes with its letter.
-    #[error("CLIENT_ERROR opaque token too long")]
+    /// The flag `O` has more than 32 bytes.
     OpaqueTooLong,
     /// The token of the flag `M` has not one byte.
-    #[error("CLIENT_ERROR incorrect length for M token")]
     BadModeToken,
-    /// The first value that `ma` is to store is no number of 64 bits.
-    #[error("CLIENT_ERROR invalid numeric initial value")]
+    /// The token of the flag `J` is no number of 64 bits.
     BadInitial,
-    /// The amount of `ma` is no number of 64 bits.
-    #[error("CLIENT_ERROR invalid numeric delta value")]
+    /// The token of the flag `D` is no number of 64 bits.
     BadMetaDelta,
     /// The mode of `ms` is none.
-    #[error("CLIENT_ERROR invalid mode for ms M token")]
     BadSetMode,
     /// The mode of `ma` is none.
-    #[error("CLIENT_ERROR invalid mode for ma M token")]
     BadArithmeticMode,
+}
+
+impl LineFault {
+    /// The line that memcached answers, without its end.
+    pub fn text(self) -> &'static str
+        ensures { result.now ≡ fault_text self }
+    {
+        match self {
+            LineFault::Unknown => "ERROR",
+            LineFault::BadFormat => "CLIENT_ERROR bad command line format",
+            LineFault::BadDelete => "CLIENT_ERROR bad command line format.  Usage: delete <key> [noreply]",
+            LineFault::BadExptime => "CLIENT_ERROR invalid exptime argument",
+            LineFault::BadDelta => "CLIENT_ERROR invalid numeric delta argument",
+            LineFault::BadShutdown => "CLIENT_ERROR invalid shutdown mode",
+            LineFault::BadData => "CLIENT_ERROR bad data chunk",
+            LineFault::LineTooLong => "CLIENT_ERROR line too long",
+            LineFault::TooManyFlags => "CLIENT_ERROR options flags are too long",
+            LineFault::DuplicateFlag => "CLIENT_ERROR duplicate flag",
+            LineFault::BadFlag => "CLIENT_ERROR invalid flag",
+            LineFault::BadOrDuplicateFlag => "CLIENT_ERROR invalid or duplicate flag",
+            LineFault::BadToken => "CLIENT_ERROR bad token in command line format",
+            LineFault::OpaqueTooLong => "CLIENT_ERROR opaque token too long",
+            LineFault::BadModeToken => "CLIENT_ERROR incorrect length for M token",
+            LineFault::BadInitial => "CLIENT_ERROR invalid numeric initial value",
+            LineFault::BadMetaDelta => "CLIENT_ERROR invalid numeric delta value",
+            LineFault::BadSetMode => "CLIENT_ERROR invalid mode for ms M token",
+            LineFault::BadArithmeticMode => "CLIENT_ERROR invalid mode for ma M token",
+        }
+    }
 }

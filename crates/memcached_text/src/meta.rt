@@ -22,7 +22,7 @@ const MAX_OPAQUE_LEN: usize = 32;
 const PLAIN_FLAGS: &[u8] = b"bPLlhkstcfuvqI";
 
 /// The letter of a flag, 0 if there is none.
-fn letter(flag: &[u8]) -> u8
+pub(crate) fn letter(flag: &[u8]) -> u8
     ensures { result ≡ letter_of flag.now }
 {
     if flag.is_empty() { 0 } else { flag[0] }

@@ -1,0 +1,244 @@
+// Answers to bytes.
+ghost use Rattle.std.specs.Prelude.{◌≡◌, ◌++◌, ◌∷◌, [], OnOk, OnErr, map, length, codes, decimal, take, vec_len, List, ℕ};
+ghost use Rattle.std.specs.List.{concat};
+ghost use Rattle.memcached_text.specs.Answers.{value_text, number_text, ttl_text, hit_text, said, flag_text, flags_text, marks_text, status_text, block_text, meta_text, line_text, answer_text};
+
+use crate::answer::{Answer, ValueFound};
+use crate::meta::letter;
+use crate::meta_answer::{MetaAnswer, MetaFields, MetaMarks, MetaStatus, Ttl};
+use crate::words::words_in;
+use itoa::Buffer;
+use std::alloc::AllocError;
+
+/// Appends pieces of bytes. If memory is refused, nothing is appended.
+fn append_all(out: &mut Vec<u8>, pieces: &[&[u8]]) -> Result<(), AllocError>
+    ensures ok { OnOk result (out.new.items ≡ out.old.items ++ concat (map (λ p. p.now) pieces.now)) }
+    ensures err { OnErr result (out.new.items ≡ out.old.items) }
+{
+    let start = out.len();
+    for piece in pieces {
+        let Ok(()) = out.extend_from_slice(piece) else {
+            out.truncate(start);
+            return Err(AllocError);
+        };
+    }
+    Ok(())
+}
+
+/// Appends a value that was found, with its data block.
+fn append_value(out: &mut Vec<u8>, found: &ValueFound<'_>) -> Result<(), AllocError>
+    ensures ok { OnOk result (out.new.items ≡ out.old.items ++ value_text found.now.key.now found.now.flags found.now.cas found.now.data.now) }
+    ensures err { OnErr result (out.new.items ≡ out.old.items) }
+{
+    let mut flags_digits = Buffer::new();
+    let flags = flags_digits.format(found.flags).as_bytes();
+    let mut length_digits = Buffer::new();
+    let length = length_digits.format(found.data.len()).as_bytes();
+    match found.cas {
+        None => append_all(out, &[b"VALUE ", found.key, b" ", flags, b" ", length, b"\r\n", found.data, b"\r\n"]),
+        Some(cas) => {
+            let mut cas_digits = Buffer::new();
+            let cas = cas_digits.format(cas).as_bytes();
+            append_all(out, &[b"VALUE ", found.key, b" ", flags, b" ", length, b" ", cas, b"\r\n", found.data, b"\r\n"])
+        }
+    }
+}
+
+/// Appends a letter with a number, if there is one.
+fn append_number(out: &mut Vec<u8>, letter_text: &[u8], number: Option<u64>) -> Result<(), AllocError>
+    ensures ok { OnOk result (out.new.items ≡ out.old.items ++ number_text letter_text.now number) }
+    ensures err { OnErr result (out.new.items ≡ out.old.items) }
+{
+    match number {
+        None => Ok(()),
+        Some(number) => {
+            let mut digits = Buffer::new();
+            append_all(out, &[letter_text, digits.format(number).as_bytes()])
+        }
+    }
+}
+
+/// Appends how long an item lives.
+fn append_ttl(out: &mut Vec<u8>, ttl: Option<Ttl>) -> Result<(), AllocError>
+    ensures ok { OnOk result (out.new.items ≡ out.old.items ++ ttl_text ttl) }
+    ensures err { OnErr result (out.new.items ≡ out.old.items) }
+{
+    match ttl {
+        None => Ok(()),
+        Some(Ttl::Unlimited) => append_all(out, &[b" t-1"]),
+        Some(Ttl::Seconds(seconds)) => append_number(out, b" t", Some(u64::from(seconds))),
+    }
+}
+
+/// Appends whether an item was hit before.
+fn append_hit(out: &mut Vec<u8>, was_hit: Option<bool>) -> Result<(), AllocError>
+    ensures ok { OnOk result (out.new.items ≡ out.old.items ++ hit_text was_hit) }
+    ensures err { OnErr result (out.new.items ≡ out.old.items) }
+{
+    match was_hit {
+        None => Ok(()),
+        Some(false) => append_all(out, &[b" h0"]),
+        Some(true) => append_all(out, &[b" h1"]),
+    }
+}
+
+/// A text, if it is to be said.
+fn said<'a>(is_said: bool, text: &'a [u8]) -> &'a [u8]
+    ensures { result.now ≡ said is_said text.now }
+{
+    if is_said { text } else { &[] }
+}
+
+/// A number in 64 bits.
+fn wide(number: Option<u32>) -> Option<u64>
+    ensures { result ≡ number }
+{
+    match number {
+        None => None,
+        Some(number) => Some(u64::from(number)),
+    }
+}
+
+/// Appends what a flag of the request asks to be returned.
+#[tactic(auto, unfolding(crate::specs::Answers::flag_text))]
+fn append_flag(out: &mut Vec<u8>, fields: &MetaFields<'_>, flag: &[u8]) -> Result<(), AllocError>
+    ensures ok { OnOk result (out.new.items ≡ out.old.items ++ flag_text fields.now flag.now) }
+    ensures err { OnErr result (out.new.items ≡ out.old.items) }
+{
+    let letter = letter(flag);
+    if letter == b'k' {
+        append_all(out, &[b" k", fields.key, said(fields.is_base64, b" b")])
+    } else if letter == b'O' {
+        append_all(out, &[b" ", flag])
+    } else if letter == b'c' {
+        append_number(out, b" c", fields.cas)
+    } else if letter == b'f' {
+        append_number(out, b" f", wide(fields.flags))
+    } else if letter == b's' {
+        append_number(out, b" s", wide(fields.size))
+    } else if letter == b'l' {
+        append_number(out, b" l", wide(fields.last_used))
+    } else if letter == b't' {
+        append_ttl(out, fields.ttl)
+    } else if letter == b'h' {
+        append_hit(out, fields.was_hit)
+    } else {
+        Ok(())
+    }
+}
+
+/// Appends what these flags ask to be returned. If memory is refused, nothing is appended.
+fn append_flags(out: &mut Vec<u8>, fields: &MetaFields<'_>, flags: &[&[u8]]) -> Result<(), AllocError>
+    ensures ok { OnOk result (out.new.items ≡ out.old.items ++ concat (map (flag_text fields.now) (map (λ f. f.now) flags.now))) }
+    ensures err { OnErr result (out.new.items ≡ out.old.items) }
+{
+    let start = out.len();
+    for flag in flags {
+        let Ok(()) = append_flag(out, fields, flag) else {
+            out.truncate(start);
+            return Err(AllocError);
+        };
+    }
+    Ok(())
+}
+
+/// Appends how a command went.
+fn append_status(out: &mut Vec<u8>, status: &MetaStatus<'_>) -> Result<(), AllocError>
+    ensures ok { OnOk result (out.new.items ≡ out.old.items ++ status_text status.now) }
+    ensures err { OnErr result (out.new.items ≡ out.old.items) }
+{
+    match status {
+        MetaStatus::Header => append_all(out, &[b"HD"]),
+        MetaStatus::Value(block) => append_number(out, b"VA ", Some(block.len() as u64)),
+        MetaStatus::Miss => append_all(out, &[b"EN"]),
+        MetaStatus::NotFound => append_all(out, &[b"NF"]),
+        MetaStatus::NotStored => append_all(out, &[b"NS"]),
+        MetaStatus::Exists => append_all(out, &[b"EX"]),
+    }
+}
+
+/// Appends what is said unasked, and the line's end.
+fn append_marks(out: &mut Vec<u8>, marks: &MetaMarks) -> Result<(), AllocError>
+    ensures ok { OnOk result (out.new.items ≡ out.old.items ++ marks_text marks.now ++ codes "\r\n") }
+    ensures err { OnErr result (out.new.items ≡ out.old.items) }
+{
+    append_all(
+        out,
+        &[
+            said(marks.is_awaited, b" Z"),
+            said(marks.is_stale, b" X"),
+            said(marks.has_won, b" W"),
+            b"\r\n",
+        ],
+    )
+}
+
+/// Appends the data block, if there is one.
+fn append_block(out: &mut Vec<u8>, status: &MetaStatus<'_>) -> Result<(), AllocError>
+    ensures ok { OnOk result (out.new.items ≡ out.old.items ++ block_text status.now) }
+    ensures err { OnErr result (out.new.items ≡ out.old.items) }
+{
+    match status {
+        MetaStatus::Value(block) => append_all(out, &[block, b"\r\n"]),
+        MetaStatus::Header => Ok(()),
+        MetaStatus::Miss => Ok(()),
+        MetaStatus::NotFound => Ok(()),
+        MetaStatus::NotStored => Ok(()),
+        MetaStatus::Exists => Ok(()),
+    }
+}
+
+/// Appends the answer to a meta command. If memory is refused, what was there stays at the front.
+fn append_parts(out: &mut Vec<u8>, answer: &MetaAnswer<'_>) -> Result<(), AllocError>
+    ensures ok { OnOk result (out.new.items ≡ out.old.items ++ meta_text answer.now) }
+    ensures err { OnErr result (take (vec_len out.old) out.new.items ≡ out.old.items) }
+{
+    let flags = words_in(answer.flags);
+    append_status(out, &answer.status)?;
+    append_flags(out, &answer.fields, &flags)?;
+    append_marks(out, &answer.marks)?;
+    append_block(out, &answer.status)?;
+    Ok(())
+}
+
+/// Appends the answer to a meta command. If memory is refused, nothing is appended.
+fn append_meta(out: &mut Vec<u8>, answer: &MetaAnswer<'_>) -> Result<(), AllocError>
+    ensures ok { OnOk result (out.new.items ≡ out.old.items ++ meta_text answer.now) }
+    ensures err { OnErr result (out.new.items ≡ out.old.items) }
+{
+    let start = out.len();
+    match append_parts(out, answer) {
+        Ok(()) => Ok(()),
+        Err(refused) => {
+            out.truncate(start);
+            Err(refused)
+        }
+    }
+}
+
+/// Appends a line of fixed words.
+fn append_line(out: &mut Vec<u8>, words: &[u8]) -> Result<(), AllocError>
+    ensures ok { OnOk result (out.new.items ≡ out.old.items ++ line_text words.now) }
+    ensures err { OnErr result (out.new.items ≡ out.old.items) }
+{
+    append_all(out, &[words, b"\r\n"])
+}
+
+/// Appends the bytes of an answer. If memory is refused, nothing is appended.
+pub fn append_answer(out: &mut Vec<u8>, answer: &Answer<'_>) -> Result<(), AllocError>
+    ensures ok { OnOk result (out.new.items ≡ out.old.items ++ answer_text answer.now) }
+    ensures err { OnErr result (out.new.items ≡ out.old.items) }
+{
+    match answer {
+        Answer::Value(found) => append_value(out, found),
+        Answer::Reply(reply) => append_line(out, reply.text().as_bytes()),
+        Answer::Refused(fault) => append_line(out, fault.text().as_bytes()),
+        Answer::Number(number) => {
+            let mut digits = Buffer::new();
+            append_line(out, digits.format(*number).as_bytes())
+        }
+        Answer::Version(version) => append_all(out, &[b"VERSION ", version, b"\r\n"]),
+        Answer::Stat { name, value } => append_all(out, &[b"STAT ", name, b" ", value, b"\r\n"]),
+        Answer::Meta(answer) => append_meta(out, answer),
+    }
+}
