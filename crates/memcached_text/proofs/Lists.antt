@@ -34,12 +34,15 @@ dropped_some xs test r n is some =
     let place = found_at r (position_or_len test xs) (length xs) n is some in
     rest_dropped xs n ∙ ap (λ k. drop k xs) place
 
-pub dropped_none : (xs : List ℕ) (test : ℕ → Bool) (r : Option ℕ) → r ≡ cond (ltb (position_or_len test xs) (length xs)) (Some (position_or_len test xs)) None → r ≡ None → take (length xs - length xs) (drop (length xs) xs) ≡ drop (position_or_len test xs) xs
-dropped_none xs test r is none =
+pub none_found : (test : ℕ → Bool) (xs : List ℕ) (r : Option ℕ) → r ≡ cond (ltb (position_or_len test xs) (length xs)) (Some (position_or_len test xs)) None → r ≡ None → length xs ≡ position_or_len test xs
+none_found test xs r is none =
     let end = ltb-false _ _ (found_none r (position_or_len test xs) (length xs) is none) in
     let most = prefix_len-le-length (λ x. not (test x)) xs in
-    let all : length xs ≡ position_or_len test xs = omega (arith, end, most) in
-    rest_dropped xs (length xs) ∙ ap (λ k. drop k xs) all
+    omega (arith, end, most)
+
+pub dropped_none : (xs : List ℕ) (test : ℕ → Bool) (r : Option ℕ) → r ≡ cond (ltb (position_or_len test xs) (length xs)) (Some (position_or_len test xs)) None → r ≡ None → take (length xs - length xs) (drop (length xs) xs) ≡ drop (position_or_len test xs) xs
+dropped_none xs test r is none =
+    rest_dropped xs (length xs) ∙ ap (λ k. drop k xs) (none_found test xs r is none)
 
 pub few_taken : {A : Type 0} (n : ℕ) (xs : List A) → length (take n xs) ≤ n
 few_taken n xs = grind (arith, common_steps)

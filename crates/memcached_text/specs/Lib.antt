@@ -7,3 +7,5 @@ pub mod Meta
 pub mod Requests
 pub mod Texts
 pub mod Answers
+pub mod Steps
+pub mod StepsShown
