@@ -1,2 +1,5 @@
 pub mod Taken
 pub mod Lists
+pub mod StepLaws
+pub mod StepProgress
+pub mod Streams

@@ -25,7 +25,7 @@ found_none r place len is none = elim (cases_Bool (ltb place len)) [
   | inr more ↦ more
 ]
 
-rest_dropped : (xs : List ℕ) (n : ℕ) → take (length xs - n) (drop n xs) ≡ drop n xs
+pub rest_dropped : (xs : List ℕ) (n : ℕ) → take (length xs - n) (drop n xs) ≡ drop n xs
 rest_dropped xs n = grind (arith, common_steps)
 
 -- what is left from such a place on

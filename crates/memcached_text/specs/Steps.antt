@@ -186,3 +186,28 @@ after_passing most passed bytes = shifted passed.count (decided most passed.stat
 -- one step of a reader that takes data blocks of at most so many bytes
 unfoldable pub step_of : ℕ → ReaderState → List ℕ → Outcome
 step_of most state bytes = after_passing most (passing state bytes) bytes
+
+abbrev pub is_more : Told → Bool
+is_more TellMore = true
+is_more (TellRequest asked) = false
+is_more (TellData asked block) = false
+is_more (TellTooLarge asked) = false
+is_more (TellKey key exptime cas) = false
+is_more TellKeysEnd = false
+is_more (TellRefused refusal) = false
+is_more TellBinary = false
+
+-- what is given, as a list: nothing, or one event
+abbrev pub given_list : Told → List Told
+given_list told = if is_more told then [] else told ∷ []
+
+-- the events of a stream, at most so many
+unfoldable pub events_in : ℕ → ℕ → ReaderState → List ℕ → List Told
+events_in zero most state bytes = []
+events_in (suc n) most state bytes =
+    let o = step_of most state bytes in
+    if is_more o.told then [] else o.told ∷ events_in n most o.state (drop o.taken bytes)
+
+-- all events of a stream of bytes, which a reader takes from a state on; each takes a byte or more
+unfoldable pub events_of : ℕ → ReaderState → List ℕ → List Told
+events_of most state bytes = events_in (suc (length bytes)) most state bytes

@@ -1,0 +1,21 @@
+use Rattle.std.proofs.Common.{◌+◌, ◌≤◌, ◌∙◌, ap, length, drop, arith}
+use Rattle.std.proofs.lemmas.List.{length-drop}
+use Rattle.memcached_text.specs.Steps.{outcome, event_shown, decided}
+use Rattle.memcached_text.specs.StepsShown.{outcome_shown, passing_shown}
+use Rattle.memcached_text.proofs.Lists.{rest_dropped}
+use Rattle.memcached_text.proofs.Streams.{steady, step_made}
+use Rattle.memcached_text.proofs.request_reader.RequestReader.take.Goals as goal
+
+pub returns-clause-steady : goal.returns-clause-steady
+returns-clause-steady c = λ more.
+    let most = c.args.self.now.max_data_len in
+    let bytes = c.args.bytes.now in
+    let passed = c.pass-passed.result in
+    let given = c.decide-given.result in
+    let rest = rest_dropped bytes passed.count in
+    let left = length-drop passed.count bytes in
+    let within : given.taken ≤ length (drop passed.count bytes) = rw rest at c.decide-given.ensures.within in
+    let front = c.pass-passed.ensures.within in
+    steady most c.args.self.now.state bytes more (outcome (passed.count + given.taken) (event_shown given.event) given.state)
+    (step_made most c.args.self.now.state bytes (passing_shown passed) (outcome_shown given) c.pass-passed.ensures.exact (c.decide-given.ensures.exact ∙ ap (decided most passed.state) rest))
+    (omega (arith, within, left, front))
