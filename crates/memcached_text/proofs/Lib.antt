@@ -2,4 +2,5 @@ pub mod Taken
 pub mod Lists
 pub mod StepLaws
 pub mod StepProgress
+pub mod StepBounds
 pub mod Streams

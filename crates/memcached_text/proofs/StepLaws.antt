@@ -21,7 +21,7 @@ use Rattle.memcached_text.specs.Words.{after_word, after_spaces, from_space, is_
 use Rattle.memcached_text.specs.Steps.{Outcome, outcome, Passing, Told, TellMore, is_more, is_feed, is_end, without_return, block_step, meta_step, asked_step, whole_step, long_step, line_by, line_step, last_key, key_or, key_by, key_step, passing, pass_line, decided, step_of, shifted, after_passing, given_list, events_in, events_of}
 
 -- tests of numbers
-le_true : {a b : ℕ} → nat_le a b ≡ true → a ≤ b
+pub le_true : {a b : ℕ} → nat_le a b ≡ true → a ≤ b
 le_true h = grind (arith, nat_tests)
 
 pub le_false_lt : {a b : ℕ} → nat_le a b ≡ false → b < a
@@ -37,7 +37,7 @@ not_less : (a b : ℕ) → b ≤ a → nat_lt a b ≡ false
 not_less a b less = grind (arith, nat_tests)
 
 -- searches in longer lists
-place_some : (p : ℕ → Bool) (xs : List ℕ) (i : ℕ) → position p xs ≡ Some i → (position_or_len p xs ≡ i) × (i < length xs)
+pub place_some : (p : ℕ → Bool) (xs : List ℕ) (i : ℕ) → position p xs ≡ Some i → (position_or_len p xs ≡ i) × (i < length xs)
 place_some p xs i is = elim (cases_Bool (nat_lt (position_or_len p xs) (length xs))) [
   | inl holds ↦
       let e : Some (position_or_len p xs) ≡ Some i = rw holds at is in
@@ -69,6 +69,9 @@ place_kept p xs ys i is =
     let grown = prefix_len-append (λ x. not (p x)) xs ys in
     let same : position_or_len p (xs ++ ys) ≡ position_or_len p xs = rw apart at grown in
     place_at p (xs ++ ys) i (same ∙ at.0) (omega (arith, longer, at.1))
+
+pub front_few : (n : ℕ) (xs : List ℕ) → length (take n xs) ≤ n
+front_few n xs = grind (arith, common_steps)
 
 front_within : (n : ℕ) (xs : List ℕ) → length (take n xs) ≤ length xs
 front_within n xs = grind (arith, common_steps)
@@ -279,7 +282,7 @@ then first second = record { count = first.count + second.count; state = second.
 all_dropped : (xs : List ℕ) → drop (length xs) xs ≡ []
 all_dropped xs = grind (arith, common_steps)
 
-abbrev passed_at : ℕ → ReaderState → Passing
+abbrev pub passed_at : ℕ → ReaderState → Passing
 passed_at count state = record { count = count; state = state }
 
 line_passed : (bytes more : List ℕ) (place other : Option ℕ) → position is_feed bytes ≡ place → position is_feed more ≡ other → pass_line (bytes ++ more) (position is_feed (bytes ++ more)) ≡ then (pass_line bytes place) (passing (pass_line bytes place).state (drop (pass_line bytes place).count bytes ++ more))

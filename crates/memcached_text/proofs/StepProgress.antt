@@ -190,7 +190,7 @@ decided_takes most Closed bytes given = nothing_given given
 abbrev pub Stays : Outcome → ReaderState → Type 0
 Stays o state = is_more o.told ≡ true → o ≡ nothing state
 
-something : {A : Type 0} → false ≡ true → A
+pub something : {A : Type 0} → false ≡ true → A
 something e = cc
 
 block_stays : (most past : ℕ) (asked : Asked) (len : ℕ) (noreply : Bool) (rest : List ℕ) → Stays (block_step most past asked len noreply rest) Line
@@ -229,7 +229,7 @@ whole_stays most past line rest (Ok AskMetaNoop) none = something none
 whole_stays most past line rest (Ok (AskMeta meta)) none = meta_stays most past (AskMeta meta) meta.command meta.length rest none
 whole_stays most past line rest (Err refusal) none = something none
 
-long_gives : (line : List ℕ) (asked : Result Asked Refusal) → is_more (long_step line asked).told ≡ false
+pub long_gives : (line : List ℕ) (asked : Result Asked Refusal) → is_more (long_step line asked).told ≡ false
 long_gives line (Ok (AskGet cas)) = refl
 long_gives line (Ok (AskGetAndTouch exptime cas)) = refl
 long_gives line (Ok (AskStore store)) = refl
@@ -265,13 +265,13 @@ line_stays most (b ∷ bs) none = elim (cases_Bool (eqb b 128)) [
       rw (not_empty (length bs), other) (line_by_stays most (b ∷ bs) (position is_feed (take 2049 (b ∷ bs))) by)
 ]
 
-key_or_gives : (exptime : Option Exptime) (cas : Bool) (past : ℕ) (refused : ReaderState) (word : List ℕ) → is_more (key_or exptime cas past refused word).told ≡ false
+pub key_or_gives : (exptime : Option Exptime) (cas : Bool) (past : ℕ) (refused : ReaderState) (word : List ℕ) → is_more (key_or exptime cas past refused word).told ≡ false
 key_or_gives exptime cas past refused word = elim (cases_Bool (is_key word)) [
   | inl key ↦ rw key refl
   | inr other ↦ rw other refl
 ]
 
-last_key_gives : (exptime : Option Exptime) (cas : Bool) (past : ℕ) (word : List ℕ) → is_more (last_key exptime cas past word).told ≡ false
+pub last_key_gives : (exptime : Option Exptime) (cas : Bool) (past : ℕ) (word : List ℕ) → is_more (last_key exptime cas past word).told ≡ false
 last_key_gives exptime cas past word = elim (cases_Bool (length word == 0)) [
   | inl none ↦ rw none refl
   | inr more ↦ rw more (key_or_gives exptime cas past Line word)

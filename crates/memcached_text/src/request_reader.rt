@@ -4,7 +4,7 @@ ghost use Rattle.std.specs.List.{position_or_len};
 ghost use Rattle.memcached_text.specs.Asked.{shown, shown_or_refused};
 ghost use Rattle.memcached_text.specs.Requests.{request_of};
 ghost use Rattle.memcached_text.specs.Words.{after_word, is_key};
-ghost use Rattle.memcached_text.specs.Steps.{Outcome, outcome, nothing, is_feed, is_end, without_return, block_step, keys_step, meta_step, asked_step, whole_step, long_step, line_by, line_step, key_or, last_key, key_by, key_step, too_long, passing, decided, step_of, events_of, given_list, event_shown, TellRequest, TellRefused};
+ghost use Rattle.memcached_text.specs.Steps.{Outcome, outcome, nothing, is_feed, is_end, without_return, block_step, keys_step, meta_step, asked_step, whole_step, long_step, line_by, line_step, key_or, last_key, key_by, key_step, too_long, passing, decided, step_of, events_of, given_list, event_shown, TellMore, TellRequest, TellRefused};
 ghost use Rattle.memcached_text.specs.StepsShown.{outcome_shown, passing_shown};
 
 use crate::event::{Event, Step};
@@ -435,6 +435,9 @@ impl RequestReader {
         ensures exact { outcome result.taken (event_shown result.event) self.new.state ≡ step_of self.old.max_data_len self.old.state bytes.now }
         ensures limit { self.new.max_data_len ≡ self.old.max_data_len }
         ensures within { result.taken ≤ length bytes.now }
+
+        // If nothing is whole, few bytes are left untaken: a line of 2,048 bytes, a data block, and their ends but for one byte.
+        ensures few { event_shown result.event ≡ TellMore → length bytes.now ≤ result.taken + (2050 + self.old.max_data_len) }
 
         // However the stream is cut, its events are the same: these, and then those of the rest with what follows it.
         ensures steady { (more : List ℕ) → events_of self.old.max_data_len self.old.state (bytes.now ++ more)
