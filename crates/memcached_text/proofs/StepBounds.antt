@@ -22,15 +22,15 @@ block_few : (most past : ℕ) (asked : Asked) (len : ℕ) (noreply : Bool) (rest
 block_few most past asked len noreply rest none = elim (cases_Bool (nat_lt most len)) [
   | inl large ↦ let never : false ≡ true = rw large at none in something never
   | inr fits ↦ elim (cases_Bool (nat_lt (length rest) (len + 2))) [
-      | inl short ↦
-          let small = ltb-false _ _ fits in
-          let less = ltb-true _ _ short in
-          omega (arith, small, less)
-      | inr there ↦ elim (cases_Bool ((slice_index_or rest len 0 == 13) && (slice_index_or rest (len + 1) 0 == 10))) [
-          | inl ended ↦ let never : false ≡ true = rw (fits, there, ended) at none in something never
-          | inr open_end ↦ let never : false ≡ true = rw (fits, there, open_end) at none in something never
-        ]
+    | inl short ↦
+        let small = ltb-false _ _ fits in
+        let less = ltb-true _ _ short in
+        omega (arith, small, less)
+    | inr there ↦ elim (cases_Bool ((slice_index_or rest len 0 == 13) && (slice_index_or rest (len + 1) 0 == 10))) [
+      | inl ended ↦ let never : false ≡ true = rw (fits, there, ended) at none in something never
+      | inr open_end ↦ let never : false ≡ true = rw (fits, there, open_end) at none in something never
     ]
+  ]
 ]
 
 meta_few : (most past : ℕ) (asked : Asked) (command : MetaCommand) (len : ℕ) (rest : List ℕ) → is_more (meta_step most past asked command len rest).told ≡ true → length rest ≤ most + 1

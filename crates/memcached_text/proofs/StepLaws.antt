@@ -102,16 +102,16 @@ pub block_more : (most past : ℕ) (asked : Asked) (len : ℕ) (noreply : Bool) 
 block_more most past asked len noreply rest more given = elim (cases_Bool (nat_lt most len)) [
   | inl large ↦ rw large refl
   | inr fits ↦ elim (cases_Bool (nat_lt (length rest) (len + 2))) [
-      | inl short ↦ let never : true ≡ false = rw (fits, short) at given in cc
-      | inr there ↦
-          let enough : len + 2 ≤ length rest = ltb-false _ _ there in
-          let longer = length-append rest more in
-          let there_too : nat_lt (length (rest ++ more)) (len + 2) ≡ false = not_less _ _ (omega (arith, enough, longer)) in
-          let first = get_or_append_left rest more 0 len (omega (arith, enough)) in
-          let second = get_or_append_left rest more 0 (len + 1) (omega (arith, enough)) in
-          let block = take-append-le len rest more (omega (arith, enough)) in
-          rw (fits, there, there_too, first, second, block) refl
-    ]
+    | inl short ↦ let never : true ≡ false = rw (fits, short) at given in cc
+    | inr there ↦
+        let enough : len + 2 ≤ length rest = ltb-false _ _ there in
+        let longer = length-append rest more in
+        let there_too : nat_lt (length (rest ++ more)) (len + 2) ≡ false = not_less _ _ (omega (arith, enough, longer)) in
+        let first = get_or_append_left rest more 0 len (omega (arith, enough)) in
+        let second = get_or_append_left rest more 0 (len + 1) (omega (arith, enough)) in
+        let block = take-append-le len rest more (omega (arith, enough)) in
+        rw (fits, there, there_too, first, second, block) refl
+  ]
 ]
 
 meta_more : (most past : ℕ) (asked : Asked) (command : MetaCommand) (len : ℕ) (rest more : List ℕ) → is_more (meta_step most past asked command len rest).told ≡ false → meta_step most past asked command len (rest ++ more) ≡ meta_step most past asked command len rest
@@ -395,6 +395,6 @@ step_kept most state bytes more given =
     let some = some_given most k.state rest given in
     step_shift most state bytes more
     ∙ ap (shifted k.count) (
-        ap (λ p. after_passing most p (rest ++ more)) (settled state bytes more some)
-        ∙ ap (λ n. outcome n (decided most k.state (rest ++ more)).told (decided most k.state (rest ++ more)).state) (zero-add (decided most k.state (rest ++ more)).taken)
-        ∙ decided_more most k.state rest more given)
+    ap (λ p. after_passing most p (rest ++ more)) (settled state bytes more some)
+    ∙ ap (λ n. outcome n (decided most k.state (rest ++ more)).told (decided most k.state (rest ++ more)).state) (zero-add (decided most k.state (rest ++ more)).taken)
+    ∙ decided_more most k.state rest more given)

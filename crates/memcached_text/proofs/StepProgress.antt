@@ -69,12 +69,12 @@ block_takes : (most past : ℕ) (asked : Asked) (len : ℕ) (noreply : Bool) (re
 block_takes most past asked len noreply rest some given = elim (cases_Bool (nat_lt most len)) [
   | inl large ↦ rw large some
   | inr fits ↦ elim (cases_Bool (nat_lt (length rest) (len + 2))) [
-      | inl short ↦ let never : true ≡ false = rw (fits, short) at given in nothing_given never
-      | inr there ↦ elim (cases_Bool ((slice_index_or rest len 0 == 13) && (slice_index_or rest (len + 1) 0 == 10))) [
-          | inl ended ↦ rw (fits, there, ended) (omega (arith, some))
-          | inr open_end ↦ rw (fits, there, open_end) (omega (arith, some))
-        ]
+    | inl short ↦ let never : true ≡ false = rw (fits, short) at given in nothing_given never
+    | inr there ↦ elim (cases_Bool ((slice_index_or rest len 0 == 13) && (slice_index_or rest (len + 1) 0 == 10))) [
+      | inl ended ↦ rw (fits, there, ended) (omega (arith, some))
+      | inr open_end ↦ rw (fits, there, open_end) (omega (arith, some))
     ]
+  ]
 ]
 
 meta_takes : (most past : ℕ) (asked : Asked) (command : MetaCommand) (len : ℕ) (rest : List ℕ) → 1 ≤ past → Takes (meta_step most past asked command len rest)
@@ -197,12 +197,12 @@ block_stays : (most past : ℕ) (asked : Asked) (len : ℕ) (noreply : Bool) (re
 block_stays most past asked len noreply rest none = elim (cases_Bool (nat_lt most len)) [
   | inl large ↦ let never : false ≡ true = rw large at none in something never
   | inr fits ↦ elim (cases_Bool (nat_lt (length rest) (len + 2))) [
-      | inl short ↦ rw (fits, short) refl
-      | inr there ↦ elim (cases_Bool ((slice_index_or rest len 0 == 13) && (slice_index_or rest (len + 1) 0 == 10))) [
-          | inl ended ↦ let never : false ≡ true = rw (fits, there, ended) at none in something never
-          | inr open_end ↦ let never : false ≡ true = rw (fits, there, open_end) at none in something never
-        ]
+    | inl short ↦ rw (fits, short) refl
+    | inr there ↦ elim (cases_Bool ((slice_index_or rest len 0 == 13) && (slice_index_or rest (len + 1) 0 == 10))) [
+      | inl ended ↦ let never : false ≡ true = rw (fits, there, ended) at none in something never
+      | inr open_end ↦ let never : false ≡ true = rw (fits, there, open_end) at none in something never
     ]
+  ]
 ]
 
 meta_stays : (most past : ℕ) (asked : Asked) (command : MetaCommand) (len : ℕ) (rest : List ℕ) → Stays (meta_step most past asked command len rest) Line

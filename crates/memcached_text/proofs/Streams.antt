@@ -49,9 +49,9 @@ counted most (suc n) zero state bytes less other = absurd (omega (arith, other))
 counted most (suc n) (suc m) state bytes less other =
     let step = step_of most state bytes in
     let rest : is_more step.told ≡ false → events_in n most step.state (drop step.taken bytes) ≡ events_in m most step.state (drop step.taken bytes) =
-        λ given.
-        let fewer = fewer_left step.taken bytes (step_takes most state bytes given) (step_some most state bytes given) in
-        counted most n m step.state (drop step.taken bytes) (omega (arith, fewer, less)) (omega (arith, fewer, other)) in
+    λ given.
+    let fewer = fewer_left step.taken bytes (step_takes most state bytes given) (step_some most state bytes given) in
+    counted most n m step.state (drop step.taken bytes) (omega (arith, fewer, less)) (omega (arith, fewer, other)) in
     events_step n most state bytes ∙ same_by n m most step bytes rest ∙ sym (events_step m most state bytes)
 
 -- a step that gives nothing, or what is after it, has the same events
@@ -67,9 +67,9 @@ later most state bytes more =
     let shorter = length-drop k.count bytes in
     let joined : drop (k.count + step.taken) (bytes ++ more) ≡ drop step.taken left = sym (drop-drop step.taken k.count (bytes ++ more)) ∙ ap (drop step.taken) (drop-append-le k.count bytes more within) in
     let rest : is_more step.told ≡ false → events_in (length (bytes ++ more)) most step.state (drop step.taken left) ≡ events_in (length left) most step.state (drop step.taken left) =
-        λ given.
-        let fewer = fewer_left step.taken left (step_takes most k.state left given) (step_some most k.state left given) in
-        counted most (length (bytes ++ more)) (length left) step.state (drop step.taken left) (omega (arith, fewer, whole, part, shorter)) fewer in
+    λ given.
+    let fewer = fewer_left step.taken left (step_takes most k.state left given) (step_some most k.state left given) in
+    counted most (length (bytes ++ more)) (length left) step.state (drop step.taken left) (omega (arith, fewer, whole, part, shorter)) fewer in
     events_step (length (bytes ++ more)) most state (bytes ++ more)
     ∙ ap (λ o. events_by (length (bytes ++ more)) most o (bytes ++ more)) (step_shift most state bytes more)
     ∙ ap (λ after. cond (is_more step.told) [] (step.told ∷ events_in (length (bytes ++ more)) most step.state after)) joined

@@ -42,17 +42,17 @@ cas_of Cas words = number_below (2 ^ 64) (word_at words 5)
 unfoldable pub storing_of : StoreMode → List (List ℕ) → Option Storing
 storing_of mode words =
     if is_key (word_at words 1) then
-        option_and_then (λ flags. option_and_then (λ exptime. option_and_then (λ length. option_map (λ cas.
-        record {
-          mode = mode;
-          key = word_at words 1;
-          flags = flags;
-          exptime = exptime;
-          length = length;
-          cas = cas;
-          noreply = ends_noreply words (fewest_of mode);
-        })
-        (cas_of mode words)) (number_below (2 ^ 31 - 2) (word_at words 4))) (exptime_of (word_at words 3))) (number_below (2 ^ 32) (word_at words 2))
+    option_and_then (λ flags. option_and_then (λ exptime. option_and_then (λ length. option_map (λ cas.
+    record {
+      mode = mode;
+      key = word_at words 1;
+      flags = flags;
+      exptime = exptime;
+      length = length;
+      cas = cas;
+      noreply = ends_noreply words (fewest_of mode);
+    })
+    (cas_of mode words)) (number_below (2 ^ 31 - 2) (word_at words 4))) (exptime_of (word_at words 3))) (number_below (2 ^ 32) (word_at words 2))
     else None
 
 -- COMMAND KEY FLAGS EXPTIME LENGTH [CAS] [noreply]
@@ -66,8 +66,8 @@ unfoldable pub delete_noreply : List (List ℕ) → Option Bool
 delete_noreply words =
     if length words == 2 then Some false
     else (if length words == 3 then
-        (if bytes_eq (word_at words 2) (codes "0") then Some false
-        else (if is_noreply (word_at words 2) then Some true else None))
+    (if bytes_eq (word_at words 2) (codes "0") then Some false
+    else (if is_noreply (word_at words 2) then Some true else None))
     else (if bytes_eq (word_at words 2) (codes "0") && is_noreply (word_at words 3) then Some true else None))
 
 -- the removal of a key, if the words after it can stand there

@@ -1,12 +1,13 @@
 -- The meta commands that name a key, and their flags.
 use Rattle.std.specs.Prelude.{ℕ, ◌+◌, ◌-◌, ◌^◌, Bool, true, false, ◌&&◌, ◌||◌, not, List, [], ◌∷◌, ◌++◌, length, drop, ◌==◌, nat_le, nat_lt, if◌then◌else◌, Option, Some, None, option_and_then, option_map, ok_or, Result, Ok, Err, codes, slice_index_or}
-use Rattle.std.specs.List.{list_any}
+use Rattle.std.specs.List.{list_any, find}
+use Rattle.memcached_text.specs.declared.exptime.Exptime.{Exptime}
 use Rattle.memcached_text.specs.declared.line_fault.LineFault.{LineFault}
 use Rattle.memcached_text.specs.declared.line_fault.LineFault.TheVariants.{Unknown, BadFormat, TooManyFlags, DuplicateFlag, BadFlag, BadOrDuplicateFlag, BadToken, OpaqueTooLong, BadModeToken, BadInitial, BadMetaDelta, BadSetMode, BadArithmeticMode}
 use Rattle.memcached_text.specs.declared.refusal.Refusal.{Refusal}
 use Rattle.memcached_text.specs.declared.verb.MetaCommand.{MetaCommand}
 use Rattle.memcached_text.specs.declared.verb.MetaCommand.TheVariants.{Get, Set, Delete, Arithmetic, Debug}
-use Rattle.memcached_text.specs.Words.{word_at, after_word, is_key}
+use Rattle.memcached_text.specs.Words.{words_of, word_at, after_word, is_key}
 use Rattle.memcached_text.specs.Numbers.{number_below, exptime_of}
 use Rattle.memcached_text.specs.Asked.{Asked, AskMeta, MetaAsking}
 
@@ -24,6 +25,20 @@ is_among letter letters = list_any (λ other. other == letter) letters
 -- one of the flags has this letter
 abbrev pub has_letter : ℕ → List (List ℕ) → Bool
 has_letter letter flags = list_any (λ flag. letter_of flag == letter) flags
+
+-- the flag with a letter, if there is one
+abbrev pub flag_at : ℕ → List (List ℕ) → Option (List ℕ)
+flag_at letter flags = find (λ flag. letter_of flag == letter) flags
+
+-- the token of the flag with a letter, and the number or the moment that it writes
+abbrev pub token_at : ℕ → List ℕ → Option (List ℕ)
+token_at letter flags = option_map token_of (flag_at letter (words_of flags))
+
+unfoldable pub number_at : ℕ → List ℕ → Option ℕ
+number_at letter flags = option_and_then (number_below (2 ^ 64)) (token_at letter flags)
+
+unfoldable pub exptime_at : ℕ → List ℕ → Option Exptime
+exptime_at letter flags = option_and_then exptime_of (token_at letter flags)
 
 -- a fault, if there is no such number or moment
 abbrev pub unless : {A : Type 0} → Option A → LineFault → Option LineFault

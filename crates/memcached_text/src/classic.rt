@@ -62,7 +62,10 @@ fn cas_unique(mode: StoreMode, words: &[&[u8]]) -> Option<u64>
 
 /// What a line stores: `COMMAND KEY FLAGS EXPTIME LENGTH [CAS] [noreply]`.
 #[tactic(auto, unfolding(crate::specs::Classic::store_of, crate::specs::Classic::storing_of))]
-pub(crate) fn store_request<'a>(mode: StoreMode, words: &[&'a [u8]]) -> Result<Request<'a>, LineFault>
+pub(crate) fn store_request<'a>(
+    mode: StoreMode,
+    words: &[&'a [u8]],
+) -> Result<Request<'a>, LineFault>
     ensures { shown_or_fault result ≡ store_of mode (map (λ w. w.now) words.now) }
 {
     let fewest = fewest_words(mode);
@@ -126,7 +129,10 @@ pub(crate) fn delete_request<'a>(words: &[&'a [u8]]) -> Result<Request<'a>, Line
     match delete_end(words) {
         Some(noreply) => {
             if is_key(words[1]) {
-                Ok(Request::Delete { key: words[1], noreply })
+                Ok(Request::Delete {
+                    key: words[1],
+                    noreply,
+                })
             } else {
                 Err(LineFault::BadFormat)
             }
@@ -137,7 +143,10 @@ pub(crate) fn delete_request<'a>(words: &[&'a [u8]]) -> Result<Request<'a>, Line
 
 /// `incr KEY AMOUNT [noreply]` and `decr KEY AMOUNT [noreply]`.
 #[tactic(auto, unfolding(crate::specs::Classic::delta_of))]
-pub(crate) fn delta_request<'a>(direction: Direction, words: &[&'a [u8]]) -> Result<Request<'a>, LineFault>
+pub(crate) fn delta_request<'a>(
+    direction: Direction,
+    words: &[&'a [u8]],
+) -> Result<Request<'a>, LineFault>
     ensures { shown_or_fault result ≡ delta_of direction (map (λ w. w.now) words.now) }
 {
     if !has_words(words, 3, 4) {
@@ -259,7 +268,10 @@ pub(crate) fn get_request<'a>(with_cas: bool, words: &[&'a [u8]]) -> Result<Requ
 
 /// `gat EXPTIME KEY..` and `gats EXPTIME KEY..`.
 #[tactic(auto, unfolding(crate::specs::Classic::get_and_touch_of))]
-pub(crate) fn get_and_touch_request<'a>(with_cas: bool, words: &[&'a [u8]]) -> Result<Request<'a>, LineFault>
+pub(crate) fn get_and_touch_request<'a>(
+    with_cas: bool,
+    words: &[&'a [u8]],
+) -> Result<Request<'a>, LineFault>
     ensures { shown_or_fault result ≡ get_and_touch_of with_cas (map (λ w. w.now) words.now) }
 {
     if words.len() < 3 {

@@ -12,7 +12,10 @@ pub enum Event<'a> {
     /// A request with no data block. After `Get` and `GetAndTouch` come their keys.
     Request(Request<'a>),
     /// `Store`, or `ms`, with its data block.
-    Data { request: Request<'a>, data: &'a [u8] },
+    Data {
+        request: Request<'a>,
+        data: &'a [u8],
+    },
     /// The same, but its data block is longer than the reader takes. It is passed over.
     TooLarge(Request<'a>),
     /// One key of `Get`, or of `GetAndTouch` if there is an expiry.

@@ -53,7 +53,8 @@ impl LineFault {
         match self {
             LineFault::Unknown => "ERROR",
             LineFault::BadFormat => "CLIENT_ERROR bad command line format",
-            LineFault::BadDelete => "CLIENT_ERROR bad command line format.  Usage: delete <key> [noreply]",
+            LineFault::BadDelete =>
+                "CLIENT_ERROR bad command line format.  Usage: delete <key> [noreply]",
             LineFault::BadExptime => "CLIENT_ERROR invalid exptime argument",
             LineFault::BadDelta => "CLIENT_ERROR invalid numeric delta argument",
             LineFault::BadShutdown => "CLIENT_ERROR invalid shutdown mode",

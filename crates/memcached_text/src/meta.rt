@@ -1,16 +1,17 @@
 // The meta commands that name a key, and their flags.
-ghost use Rattle.std.specs.Prelude.{◌≡◌, ◌+◌, ◌<◌, ◌≤◌, ◌^◌, ◌&&◌, ◌||◌, not, nat_le, nat_lt, ◌==◌, map, drop, length, slice_index_or, []};
+ghost use Rattle.std.specs.Prelude.{◌≡◌, ◌+◌, ◌<◌, ◌≤◌, ◌^◌, ◌&&◌, ◌||◌, not, nat_le, nat_lt, ◌==◌, map, option_map, drop, length, slice_index_or, []};
 ghost use Rattle.std.specs.List.{list_any};
 ghost use Rattle.memcached_text.specs.Words.{after_word, is_key};
-ghost use Rattle.memcached_text.specs.Meta.{letter_of, is_among, has_letter, token_of, number_fault, flag_fault, fault_after, first_fault, is_mode_outside, mode_fault, flags_fault, fault_for, unless, first_flag, asking_of, keyed_of, sized_of, unless_fault, meta_request_of};
+ghost use Rattle.memcached_text.specs.Meta.{letter_of, is_among, has_letter, token_of, number_fault, flag_fault, fault_after, flag_at, token_at, number_at, exptime_at, first_fault, is_mode_outside, mode_fault, flags_fault, fault_for, unless, first_flag, asking_of, keyed_of, sized_of, unless_fault, meta_request_of};
 ghost use Rattle.memcached_text.specs.Asked.{shown_or_refused};
 
+use crate::exptime::Exptime;
 use crate::line_fault::LineFault;
 use crate::numbers::{data_len, expiry, number, small_number};
 use crate::refusal::Refusal;
 use crate::request::{MetaRequest, Request};
 use crate::verb::MetaCommand;
-use crate::words::{after_word, is_key};
+use crate::words::{after_word, is_key, words_in};
 
 /// The most words of a meta command's line.
 const MAX_META_WORDS: usize = 19;
@@ -47,6 +48,53 @@ fn token<'a>(flag: &'a [u8]) -> &'a [u8]
     ensures { result.now ≡ token_of flag.now }
 {
     if flag.is_empty() { flag } else { &flag[1..] }
+}
+
+/// The flag with a letter, if there is one.
+fn find_flag<'a>(flags: &[&'a [u8]], wanted: u8) -> Option<&'a [u8]>
+    ensures { option_map (λ f. f.now) result ≡ flag_at wanted (map (λ f. f.now) flags.now) }
+{
+    for flag in flags {
+        if letter(flag) == wanted {
+            return Some(flag);
+        }
+    }
+    None
+}
+
+impl<'a> MetaRequest<'a> {
+    /// The token of the flag with a letter: what follows the letter. There is none if the line has no such flag.
+    pub fn flag(&self, letter: u8) -> Option<&'a [u8]>
+        ensures { option_map (λ t. t.now) result ≡ token_at letter self.now.flags.now }
+    {
+        let words = words_in(self.flags);
+        match find_flag(&words, letter) {
+            Some(flag) => Some(token(flag)),
+            None => None,
+        }
+    }
+
+    /// The number of 64 bits that the flag with a letter has: `C`, `D`, `F` and `J`.
+    #[tactic(auto, unfolding(crate::specs::Meta::number_at))]
+    pub fn number(&self, letter: u8) -> Option<u64>
+        ensures { result ≡ number_at letter self.now.flags.now }
+    {
+        match self.flag(letter) {
+            Some(token) => number(token),
+            None => None,
+        }
+    }
+
+    /// The expiry that the flag with a letter has: `N`, `R` and `T`.
+    #[tactic(auto, unfolding(crate::specs::Meta::exptime_at))]
+    pub fn exptime(&self, letter: u8) -> Option<Exptime>
+        ensures { result ≡ exptime_at letter self.now.flags.now }
+    {
+        match self.flag(letter) {
+            Some(token) => expiry(token),
+            None => None,
+        }
+    }
 }
 
 /// A fault, if there is no such number.
@@ -207,7 +255,11 @@ fn first_flag(command: MetaCommand) -> usize
 }
 
 /// `COMMAND KEY FLAG..` for all but `ms`.
-fn keyed_request<'a>(command: MetaCommand, words: &[&'a [u8]], line: &'a [u8]) -> Result<Request<'a>, Refusal>
+fn keyed_request<'a>(
+    command: MetaCommand,
+    words: &[&'a [u8]],
+    line: &'a [u8],
+) -> Result<Request<'a>, Refusal>
     requires { 2 ≤ length words.now }
     ensures { shown_or_refused result ≡ keyed_of command (map (λ w. w.now) words.now) line.now }
 {
@@ -247,7 +299,11 @@ fn sized_request<'a>(words: &[&'a [u8]], line: &'a [u8]) -> Result<Request<'a>, 
 
 /// The request of a meta command's line, with the line's words.
 #[tactic(auto, unfolding(crate::specs::Meta::meta_request_of))]
-pub(crate) fn meta_request<'a>(command: MetaCommand, words: &[&'a [u8]], line: &'a [u8]) -> Result<Request<'a>, Refusal>
+pub(crate) fn meta_request<'a>(
+    command: MetaCommand,
+    words: &[&'a [u8]],
+    line: &'a [u8],
+) -> Result<Request<'a>, Refusal>
     ensures { shown_or_refused result ≡ meta_request_of command (map (λ w. w.now) words.now) line.now }
 {
     if words.len() < 2 {

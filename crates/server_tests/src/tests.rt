@@ -1,0 +1,4 @@
+mod answers;
+mod refusals;
+mod requests;
+mod streams;

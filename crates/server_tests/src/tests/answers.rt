@@ -1,0 +1,127 @@
+// The bytes of answers.
+use memcached_text::{
+    Answer, LineFault, MetaAnswer, MetaFields, MetaMarks, MetaStatus, Reply, Ttl, ValueFound,
+    append_answer,
+};
+use std::test::Fail;
+
+/// What can be returned of an item, all of it.
+const FIELDS: MetaFields<'static> = MetaFields {
+    key: b"foo",
+    is_base64: false,
+    cas: Some(12),
+    flags: Some(3),
+    size: Some(2),
+    ttl: Some(Ttl::Seconds(77)),
+    was_hit: Some(true),
+    last_used: Some(5),
+};
+
+/// Nothing is said unasked.
+const NO_MARKS: MetaMarks = MetaMarks {
+    is_awaited: false,
+    is_stale: false,
+    has_won: false,
+};
+
+#[test]
+fn values_have_their_lengths(rt: HostRuntime) -> Result<(), Fail> {
+    let mut out = Vec::new(rt.alloc());
+    let mut found = ValueFound {
+        key: b"k",
+        flags: 4294967295,
+        cas: None,
+        data: b"ab\r\nc",
+    };
+    append_answer(&mut out, &Answer::Value(found))?;
+    found.cas = Some(9);
+    found.data = b"";
+    append_answer(&mut out, &Answer::Value(found))?;
+    append_answer(&mut out, &Answer::Reply(Reply::End))?;
+    assert_eq!(rt;
+        out.as_slice(),
+        b"VALUE k 4294967295 5\r\nab\r\nc\r\nVALUE k 4294967295 0 9\r\n\r\nEND\r\n".as_slice()
+    );
+    Ok(())
+}
+
+#[test]
+fn lines_have_their_ends(rt: HostRuntime) -> Result<(), Fail> {
+    let mut out = Vec::new(rt.alloc());
+    append_answer(&mut out, &Answer::Reply(Reply::Stored))?;
+    append_answer(&mut out, &Answer::Reply(Reply::NotStored))?;
+    append_answer(&mut out, &Answer::Reply(Reply::TooLarge))?;
+    append_answer(&mut out, &Answer::Refused(LineFault::BadData))?;
+    append_answer(&mut out, &Answer::Number(18446744073709551615))?;
+    append_answer(&mut out, &Answer::Version(b"1.6"))?;
+    append_answer(
+        &mut out,
+        &Answer::Stat {
+            name: b"pid",
+            value: b"1",
+        },
+    )?;
+    let wanted =
+        b"STORED\r\nNOT_STORED\r\nSERVER_ERROR object too large for cache\r\nCLIENT_ERROR bad data chunk\r\n18446744073709551615\r\nVERSION 1.6\r\nSTAT pid 1\r\n";
+    assert_eq!(rt; out.as_slice(), wanted.as_slice());
+    Ok(())
+}
+
+#[test]
+fn meta_flags_are_returned_in_the_order_asked(rt: HostRuntime) -> Result<(), Fail> {
+    let mut out = Vec::new(rt.alloc());
+    let mut answer = MetaAnswer {
+        status: MetaStatus::Value(b"hi"),
+        flags: b"v s k Oq1 t f c h l q",
+        fields: FIELDS,
+        marks: NO_MARKS,
+    };
+    append_answer(&mut out, &Answer::Meta(answer))?;
+    answer.flags = b"t c";
+    answer.fields.ttl = Some(Ttl::Unlimited);
+    answer.status = MetaStatus::Header;
+    answer.marks.is_stale = true;
+    answer.marks.has_won = true;
+    append_answer(&mut out, &Answer::Meta(answer))?;
+    assert_eq!(rt;
+        out.as_slice(),
+        b"VA 2 s2 kfoo Oq1 t77 f3 c12 h1 l5\r\nhi\r\nHD t-1 c12 X W\r\n".as_slice()
+    );
+    Ok(())
+}
+
+#[test]
+fn what_an_item_does_not_have_is_not_returned(rt: HostRuntime) -> Result<(), Fail> {
+    let mut out = Vec::new(rt.alloc());
+    let mut answer = MetaAnswer {
+        status: MetaStatus::Miss,
+        flags: b"t k c O5 s f h l",
+        fields: MetaFields {
+            key: b"Zm9v",
+            is_base64: true,
+            cas: None,
+            flags: None,
+            size: None,
+            ttl: None,
+            was_hit: None,
+            last_used: None,
+        },
+        marks: NO_MARKS,
+    };
+    append_answer(&mut out, &Answer::Meta(answer))?;
+    answer.flags = b"";
+    answer.marks.is_awaited = true;
+    answer.status = MetaStatus::NotFound;
+    append_answer(&mut out, &Answer::Meta(answer))?;
+    answer.marks = NO_MARKS;
+    answer.status = MetaStatus::NotStored;
+    append_answer(&mut out, &Answer::Meta(answer))?;
+    answer.status = MetaStatus::Exists;
+    append_answer(&mut out, &Answer::Meta(answer))?;
+    append_answer(&mut out, &Answer::Reply(Reply::MetaNoop))?;
+    assert_eq!(rt;
+        out.as_slice(),
+        b"EN kZm9v b O5\r\nNF Z\r\nNS\r\nEX\r\nMN\r\n".as_slice()
+    );
+    Ok(())
+}
