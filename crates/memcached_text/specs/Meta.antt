@@ -110,23 +110,27 @@ abbrev pub unless_fault : Option LineFault → ℕ → MetaAsking → Result Ask
 unless_fault None skipped asking = Ok (AskMeta asking)
 unless_fault (Some fault) skipped asking = Err (record { fault = fault; noreply = false; skipped = skipped })
 
--- COMMAND KEY FLAG.. for all but ms
+-- COMMAND KEY FLAG.. for all but ms, by the text of the flags
 abbrev pub keyed_of : MetaCommand → List (List ℕ) → List ℕ → Result Asked Refusal
-keyed_of command words line =
-    unless_fault (flags_fault command (drop 2 words)) 0 (record { command = command; key = word_at words 1; length = 0; flags = after_word (after_word line) })
+keyed_of command words flags =
+    unless_fault (flags_fault command (words_of flags)) 0 (record { command = command; key = word_at words 1; length = 0; flags = flags })
 
--- ms KEY LENGTH FLAG.., by the length
+-- ms KEY LENGTH FLAG.., by the length and the text of the flags
 abbrev pub sized_of : Option ℕ → List (List ℕ) → List ℕ → Result Asked Refusal
-sized_of None words line = Err (loud BadFormat)
-sized_of (Some length) words line =
-    unless_fault (flags_fault Set (drop 3 words)) (length + 2) (record { command = Set; key = word_at words 1; length = length; flags = after_word (after_word (after_word line)) })
+sized_of None words flags = Err (loud BadFormat)
+sized_of (Some length) words flags =
+    unless_fault (flags_fault Set (words_of flags)) (length + 2) (record { command = Set; key = word_at words 1; length = length; flags = flags })
 
+unfoldable pub set_of : List (List ℕ) → List ℕ → Result Asked Refusal
+set_of words flags = sized_of (number_below (2 ^ 31 - 2) (word_at words 2)) words flags
+
+-- the flags are what is after the command, the key and, for ms, the length
 abbrev pub asking_of : MetaCommand → List (List ℕ) → List ℕ → Result Asked Refusal
-asking_of Get words line = keyed_of Get words line
-asking_of Set words line = sized_of (number_below (2 ^ 31 - 2) (word_at words 2)) words line
-asking_of Delete words line = keyed_of Delete words line
-asking_of Arithmetic words line = keyed_of Arithmetic words line
-asking_of Debug words line = keyed_of Debug words line
+asking_of Get words line = keyed_of Get words (after_word (after_word line))
+asking_of Set words line = set_of words (after_word (after_word (after_word line)))
+asking_of Delete words line = keyed_of Delete words (after_word (after_word line))
+asking_of Arithmetic words line = keyed_of Arithmetic words (after_word (after_word line))
+asking_of Debug words line = keyed_of Debug words (after_word (after_word line))
 
 -- the words of a command's line before its flags
 abbrev pub first_flag : MetaCommand → ℕ

@@ -2,7 +2,7 @@
 ghost use Rattle.std.specs.Prelude.{◌≡◌, ◌+◌, ◌<◌, ◌≤◌, ◌^◌, ◌&&◌, ◌||◌, not, nat_le, nat_lt, ◌==◌, map, option_map, drop, length, slice_index_or, []};
 ghost use Rattle.std.specs.List.{list_any};
 ghost use Rattle.memcached_text.specs.Words.{after_word, is_key};
-ghost use Rattle.memcached_text.specs.Meta.{letter_of, is_among, has_letter, token_of, number_fault, flag_fault, fault_after, flag_at, token_at, number_at, exptime_at, first_fault, is_mode_outside, mode_fault, flags_fault, fault_for, unless, first_flag, asking_of, keyed_of, sized_of, unless_fault, meta_request_of};
+ghost use Rattle.memcached_text.specs.Meta.{letter_of, is_among, has_letter, token_of, number_fault, flag_fault, fault_after, flag_at, token_at, number_at, exptime_at, first_fault, is_mode_outside, mode_fault, flags_fault, fault_for, unless, first_flag, asking_of, keyed_of, set_of, unless_fault, meta_request_of};
 ghost use Rattle.memcached_text.specs.Asked.{shown_or_refused};
 
 use crate::exptime::Exptime;
@@ -254,40 +254,41 @@ fn first_flag(command: MetaCommand) -> usize
     }
 }
 
-/// `COMMAND KEY FLAG..` for all but `ms`.
+/// `COMMAND KEY FLAG..` for all but `ms`, by the text of the flags.
 fn keyed_request<'a>(
     command: MetaCommand,
     words: &[&'a [u8]],
-    line: &'a [u8],
+    flags: &'a [u8],
 ) -> Result<Request<'a>, Refusal>
     requires { 2 ≤ length words.now }
-    ensures { shown_or_refused result ≡ keyed_of command (map (λ w. w.now) words.now) line.now }
+    ensures { shown_or_refused result ≡ keyed_of command (map (λ w. w.now) words.now) flags.now }
 {
-    match flags_fault(command, &words[2..]) {
+    match flags_fault(command, &words_in(flags)) {
         None => Ok(Request::Meta(MetaRequest {
             command,
             key: words[1],
             length: 0,
-            flags: after_word(after_word(line)),
+            flags,
         })),
         Some(fault) => Err(Refusal::loud(fault)),
     }
 }
 
-/// `ms KEY LENGTH FLAG..`. If its flags have a fault, its data block is to be passed over.
-fn sized_request<'a>(words: &[&'a [u8]], line: &'a [u8]) -> Result<Request<'a>, Refusal>
+/// `ms KEY LENGTH FLAG..`, by the text of the flags. If they have a fault, the data block is to be passed over.
+#[tactic(auto, unfolding(crate::specs::Meta::set_of))]
+fn sized_request<'a>(words: &[&'a [u8]], flags: &'a [u8]) -> Result<Request<'a>, Refusal>
     requires { 3 ≤ length words.now }
-    ensures { shown_or_refused result ≡ asking_of MetaCommand.Set (map (λ w. w.now) words.now) line.now }
+    ensures { shown_or_refused result ≡ set_of (map (λ w. w.now) words.now) flags.now }
 {
     let Some(length) = data_len(words[2]) else {
         return Err(Refusal::loud(LineFault::BadFormat));
     };
-    match flags_fault(MetaCommand::Set, &words[3..]) {
+    match flags_fault(MetaCommand::Set, &words_in(flags)) {
         None => Ok(Request::Meta(MetaRequest {
             command: MetaCommand::Set,
             key: words[1],
             length,
-            flags: after_word(after_word(after_word(line))),
+            flags,
         })),
         Some(fault) => Err(Refusal {
             fault,
@@ -315,11 +316,12 @@ pub(crate) fn meta_request<'a>(
     if words.len() > MAX_META_WORDS {
         return Err(Refusal::loud(LineFault::TooManyFlags));
     }
+    let after_key = after_word(after_word(line));
     match command {
-        MetaCommand::Set => sized_request(words, line),
-        MetaCommand::Get => keyed_request(command, words, line),
-        MetaCommand::Delete => keyed_request(command, words, line),
-        MetaCommand::Arithmetic => keyed_request(command, words, line),
-        MetaCommand::Debug => keyed_request(command, words, line),
+        MetaCommand::Set => sized_request(words, after_word(after_key)),
+        MetaCommand::Get => keyed_request(command, words, after_key),
+        MetaCommand::Delete => keyed_request(command, words, after_key),
+        MetaCommand::Arithmetic => keyed_request(command, words, after_key),
+        MetaCommand::Debug => keyed_request(command, words, after_key),
     }
 }

@@ -5,18 +5,6 @@ use memcached_text::{
 };
 use std::test::Fail;
 
-/// What can be returned of an item, all of it.
-const FIELDS: MetaFields<'static> = MetaFields {
-    key: b"foo",
-    is_base64: false,
-    cas: Some(12),
-    flags: Some(3),
-    size: Some(2),
-    ttl: Some(Ttl::Seconds(77)),
-    was_hit: Some(true),
-    last_used: Some(5),
-};
-
 /// Nothing is said unasked.
 const NO_MARKS: MetaMarks = MetaMarks {
     is_awaited: false,
@@ -24,19 +12,21 @@ const NO_MARKS: MetaMarks = MetaMarks {
     has_won: false,
 };
 
+/// A value that was found, with the largest flags.
+fn found<'a>(key: &'a [u8], cas: Option<u64>, data: &'a [u8]) -> Answer<'a> {
+    Answer::Value(ValueFound {
+        key,
+        flags: 4294967295,
+        cas,
+        data,
+    })
+}
+
 #[test]
 fn values_have_their_lengths(rt: HostRuntime) -> Result<(), Fail> {
     let mut out = Vec::new(rt.alloc());
-    let mut found = ValueFound {
-        key: b"k",
-        flags: 4294967295,
-        cas: None,
-        data: b"ab\r\nc",
-    };
-    append_answer(&mut out, &Answer::Value(found))?;
-    found.cas = Some(9);
-    found.data = b"";
-    append_answer(&mut out, &Answer::Value(found))?;
+    append_answer(&mut out, &found(b"k", None, b"ab\r\nc"))?;
+    append_answer(&mut out, &found(b"k", Some(9), b""))?;
     append_answer(&mut out, &Answer::Reply(Reply::End))?;
     assert_eq!(rt;
         out.as_slice(),
@@ -67,22 +57,72 @@ fn lines_have_their_ends(rt: HostRuntime) -> Result<(), Fail> {
     Ok(())
 }
 
+/// An answer to a meta command, with all that can be returned of an item.
+fn full<'a>(status: MetaStatus<'a>, flags: &'a [u8], ttl: Ttl, marks: MetaMarks) -> Answer<'a> {
+    let fields = MetaFields {
+        key: b"foo",
+        is_base64: false,
+        cas: Some(12),
+        flags: Some(3),
+        size: Some(2),
+        ttl: Some(ttl),
+        was_hit: Some(true),
+        last_used: Some(5),
+    };
+    Answer::Meta(MetaAnswer {
+        status,
+        flags,
+        fields,
+        marks,
+    })
+}
+
+/// An answer to a meta command, with nothing of an item.
+fn bare<'a>(status: MetaStatus<'a>, flags: &'a [u8], is_awaited: bool) -> Answer<'a> {
+    let fields = MetaFields {
+        key: b"Zm9v",
+        is_base64: true,
+        cas: None,
+        flags: None,
+        size: None,
+        ttl: None,
+        was_hit: None,
+        last_used: None,
+    };
+    let marks = MetaMarks {
+        is_awaited,
+        is_stale: false,
+        has_won: false,
+    };
+    Answer::Meta(MetaAnswer {
+        status,
+        flags,
+        fields,
+        marks,
+    })
+}
+
 #[test]
 fn meta_flags_are_returned_in_the_order_asked(rt: HostRuntime) -> Result<(), Fail> {
     let mut out = Vec::new(rt.alloc());
-    let mut answer = MetaAnswer {
-        status: MetaStatus::Value(b"hi"),
-        flags: b"v s k Oq1 t f c h l q",
-        fields: FIELDS,
-        marks: NO_MARKS,
+    let marks = MetaMarks {
+        is_awaited: false,
+        is_stale: true,
+        has_won: true,
     };
-    append_answer(&mut out, &Answer::Meta(answer))?;
-    answer.flags = b"t c";
-    answer.fields.ttl = Some(Ttl::Unlimited);
-    answer.status = MetaStatus::Header;
-    answer.marks.is_stale = true;
-    answer.marks.has_won = true;
-    append_answer(&mut out, &Answer::Meta(answer))?;
+    append_answer(
+        &mut out,
+        &full(
+            MetaStatus::Value(b"hi"),
+            b"v s k Oq1 t f c h l q",
+            Ttl::Seconds(77),
+            NO_MARKS,
+        ),
+    )?;
+    append_answer(
+        &mut out,
+        &full(MetaStatus::Header, b"t c", Ttl::Unlimited, marks),
+    )?;
     assert_eq!(rt;
         out.as_slice(),
         b"VA 2 s2 kfoo Oq1 t77 f3 c12 h1 l5\r\nhi\r\nHD t-1 c12 X W\r\n".as_slice()
@@ -93,31 +133,13 @@ fn meta_flags_are_returned_in_the_order_asked(rt: HostRuntime) -> Result<(), Fai
 #[test]
 fn what_an_item_does_not_have_is_not_returned(rt: HostRuntime) -> Result<(), Fail> {
     let mut out = Vec::new(rt.alloc());
-    let mut answer = MetaAnswer {
-        status: MetaStatus::Miss,
-        flags: b"t k c O5 s f h l",
-        fields: MetaFields {
-            key: b"Zm9v",
-            is_base64: true,
-            cas: None,
-            flags: None,
-            size: None,
-            ttl: None,
-            was_hit: None,
-            last_used: None,
-        },
-        marks: NO_MARKS,
-    };
-    append_answer(&mut out, &Answer::Meta(answer))?;
-    answer.flags = b"";
-    answer.marks.is_awaited = true;
-    answer.status = MetaStatus::NotFound;
-    append_answer(&mut out, &Answer::Meta(answer))?;
-    answer.marks = NO_MARKS;
-    answer.status = MetaStatus::NotStored;
-    append_answer(&mut out, &Answer::Meta(answer))?;
-    answer.status = MetaStatus::Exists;
-    append_answer(&mut out, &Answer::Meta(answer))?;
+    append_answer(
+        &mut out,
+        &bare(MetaStatus::Miss, b"t k c O5 s f h l", false),
+    )?;
+    append_answer(&mut out, &bare(MetaStatus::NotFound, b"", true))?;
+    append_answer(&mut out, &bare(MetaStatus::NotStored, b"", false))?;
+    append_answer(&mut out, &bare(MetaStatus::Exists, b"", false))?;
     append_answer(&mut out, &Answer::Reply(Reply::MetaNoop))?;
     assert_eq!(rt;
         out.as_slice(),
