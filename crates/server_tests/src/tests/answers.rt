@@ -3,14 +3,26 @@ use memcached_text::{
     Answer, LineFault, MetaAnswer, MetaFields, MetaMarks, MetaStatus, Reply, Ttl, ValueFound,
     append_answer,
 };
+use std::alloc::{AllocError, Global};
 use std::test::Fail;
 
-/// Nothing is said unasked.
-const NO_MARKS: MetaMarks = MetaMarks {
-    is_awaited: false,
-    is_stale: false,
-    has_won: false,
-};
+/// The bytes of answers.
+fn bytes_of(alloc: Global, answers: &[Answer<'_>]) -> Result<Vec<u8>, AllocError> {
+    let mut out = Vec::new(alloc);
+    for answer in answers {
+        append_answer(&mut out, answer)?;
+    }
+    Ok(out)
+}
+
+/// What is said of an item unasked.
+fn marks(is_awaited: bool, is_stale: bool, has_won: bool) -> MetaMarks {
+    MetaMarks {
+        is_awaited,
+        is_stale,
+        has_won,
+    }
+}
 
 /// A value that was found, with the largest flags.
 fn found<'a>(key: &'a [u8], cas: Option<u64>, data: &'a [u8]) -> Answer<'a> {
@@ -24,10 +36,14 @@ fn found<'a>(key: &'a [u8], cas: Option<u64>, data: &'a [u8]) -> Answer<'a> {
 
 #[test]
 fn values_have_their_lengths(rt: HostRuntime) -> Result<(), Fail> {
-    let mut out = Vec::new(rt.alloc());
-    append_answer(&mut out, &found(b"k", None, b"ab\r\nc"))?;
-    append_answer(&mut out, &found(b"k", Some(9), b""))?;
-    append_answer(&mut out, &Answer::Reply(Reply::End))?;
+    let out = bytes_of(
+        rt.alloc(),
+        &[
+            found(b"k", None, b"ab\r\nc"),
+            found(b"k", Some(9), b""),
+            Answer::Reply(Reply::End),
+        ],
+    )?;
     assert_eq!(rt;
         out.as_slice(),
         b"VALUE k 4294967295 5\r\nab\r\nc\r\nVALUE k 4294967295 0 9\r\n\r\nEND\r\n".as_slice()
@@ -37,19 +53,20 @@ fn values_have_their_lengths(rt: HostRuntime) -> Result<(), Fail> {
 
 #[test]
 fn lines_have_their_ends(rt: HostRuntime) -> Result<(), Fail> {
-    let mut out = Vec::new(rt.alloc());
-    append_answer(&mut out, &Answer::Reply(Reply::Stored))?;
-    append_answer(&mut out, &Answer::Reply(Reply::NotStored))?;
-    append_answer(&mut out, &Answer::Reply(Reply::TooLarge))?;
-    append_answer(&mut out, &Answer::Refused(LineFault::BadData))?;
-    append_answer(&mut out, &Answer::Number(18446744073709551615))?;
-    append_answer(&mut out, &Answer::Version(b"1.6"))?;
-    append_answer(
-        &mut out,
-        &Answer::Stat {
-            name: b"pid",
-            value: b"1",
-        },
+    let out = bytes_of(
+        rt.alloc(),
+        &[
+            Answer::Reply(Reply::Stored),
+            Answer::Reply(Reply::NotStored),
+            Answer::Reply(Reply::TooLarge),
+            Answer::Refused(LineFault::BadData),
+            Answer::Number(18446744073709551615),
+            Answer::Version(b"1.6"),
+            Answer::Stat {
+                name: b"pid",
+                value: b"1",
+            },
+        ],
     )?;
     let wanted =
         b"STORED\r\nNOT_STORED\r\nSERVER_ERROR object too large for cache\r\nCLIENT_ERROR bad data chunk\r\n18446744073709551615\r\nVERSION 1.6\r\nSTAT pid 1\r\n";
@@ -78,7 +95,7 @@ fn full<'a>(status: MetaStatus<'a>, flags: &'a [u8], ttl: Ttl, marks: MetaMarks)
 }
 
 /// An answer to a meta command, with nothing of an item.
-fn bare<'a>(status: MetaStatus<'a>, flags: &'a [u8], is_awaited: bool) -> Answer<'a> {
+fn bare<'a>(status: MetaStatus<'a>, flags: &'a [u8], marks: MetaMarks) -> Answer<'a> {
     let fields = MetaFields {
         key: b"Zm9v",
         is_base64: true,
@@ -88,11 +105,6 @@ fn bare<'a>(status: MetaStatus<'a>, flags: &'a [u8], is_awaited: bool) -> Answer
         ttl: None,
         was_hit: None,
         last_used: None,
-    };
-    let marks = MetaMarks {
-        is_awaited,
-        is_stale: false,
-        has_won: false,
     };
     Answer::Meta(MetaAnswer {
         status,
@@ -104,24 +116,22 @@ fn bare<'a>(status: MetaStatus<'a>, flags: &'a [u8], is_awaited: bool) -> Answer
 
 #[test]
 fn meta_flags_are_returned_in_the_order_asked(rt: HostRuntime) -> Result<(), Fail> {
-    let mut out = Vec::new(rt.alloc());
-    let marks = MetaMarks {
-        is_awaited: false,
-        is_stale: true,
-        has_won: true,
-    };
-    append_answer(
-        &mut out,
-        &full(
-            MetaStatus::Value(b"hi"),
-            b"v s k Oq1 t f c h l q",
-            Ttl::Seconds(77),
-            NO_MARKS,
-        ),
-    )?;
-    append_answer(
-        &mut out,
-        &full(MetaStatus::Header, b"t c", Ttl::Unlimited, marks),
+    let out = bytes_of(
+        rt.alloc(),
+        &[
+            full(
+                MetaStatus::Value(b"hi"),
+                b"v s k Oq1 t f c h l q",
+                Ttl::Seconds(77),
+                marks(false, false, false),
+            ),
+            full(
+                MetaStatus::Header,
+                b"t c",
+                Ttl::Unlimited,
+                marks(false, true, true),
+            ),
+        ],
     )?;
     assert_eq!(rt;
         out.as_slice(),
@@ -132,15 +142,20 @@ fn meta_flags_are_returned_in_the_order_asked(rt: HostRuntime) -> Result<(), Fai
 
 #[test]
 fn what_an_item_does_not_have_is_not_returned(rt: HostRuntime) -> Result<(), Fail> {
-    let mut out = Vec::new(rt.alloc());
-    append_answer(
-        &mut out,
-        &bare(MetaStatus::Miss, b"t k c O5 s f h l", false),
+    let out = bytes_of(
+        rt.alloc(),
+        &[
+            bare(
+                MetaStatus::Miss,
+                b"t k c O5 s f h l",
+                marks(false, false, false),
+            ),
+            bare(MetaStatus::NotFound, b"", marks(true, false, false)),
+            bare(MetaStatus::NotStored, b"", marks(false, false, false)),
+            bare(MetaStatus::Exists, b"", marks(false, false, false)),
+            Answer::Reply(Reply::MetaNoop),
+        ],
     )?;
-    append_answer(&mut out, &bare(MetaStatus::NotFound, b"", true))?;
-    append_answer(&mut out, &bare(MetaStatus::NotStored, b"", false))?;
-    append_answer(&mut out, &bare(MetaStatus::Exists, b"", false))?;
-    append_answer(&mut out, &Answer::Reply(Reply::MetaNoop))?;
     assert_eq!(rt;
         out.as_slice(),
         b"EN kZm9v b O5\r\nNF Z\r\nNS\r\nEX\r\nMN\r\n".as_slice()

@@ -1,191 +1,101 @@
 // What lines ask for.
-use memcached_text::{
-    Direction, Exptime, MetaCommand, MetaRequest, Request, Store, StoreMode, parse,
-};
+use memcached_text::{MetaRequest, Request, parse};
+use std::alloc::{AllocError, Global};
 use std::process::Abort;
+use std::test::Fail;
 
-/// What a line stores.
-fn stored<'a>(rt: &impl Abort, line: &'a [u8]) -> Store<'a> {
-    match parse(line) {
-        Ok(Request::Store(store)) => store,
-        _ => panic!(rt; "the line stores nothing"),
+/// What each of these lines asks for, or its refusal, a line each.
+fn asked(alloc: Global, lines: &[u8]) -> Result<String, AllocError> {
+    let mut told = String::new(alloc);
+    for line in lines.split(|b| *b == b'\n') {
+        told.push_str(&format!(in alloc; "{:?}\n", parse(line))?)?;
     }
+    Ok(told)
 }
 
 #[test]
-fn a_storing_line_has_its_numbers_in_order(rt: HostRuntime) {
-    let store = stored(&rt, b"set key 1 2 3");
-    assert_eq!(rt; store.mode, StoreMode::Set);
-    assert_eq!(rt; store.key, b"key".as_slice());
-    assert_eq!(rt; store.flags, 1);
-    assert_eq!(rt; store.exptime, Exptime::At(2));
-    assert_eq!(rt; store.length, 3);
-    assert_eq!(rt; store.cas, 0);
-    assert!(rt; !store.noreply);
+fn storing_lines_have_their_numbers_in_order(rt: HostRuntime) -> Result<(), Fail> {
+    let lines =
+        b"set key 1 2 3\ncas k 7 0 5 18446744073709551615 noreply\nadd k 0 -1 1 noreply\nreplace k 0 -0 1 x\nappend k 0 9 1\n prepend   k 4294967295  -2147483648 2147483645 ";
+    let told = "\
+        Ok(Store(Store { mode: Set, key: [107, 101, 121], flags: 1, exptime: At(2), length: 3, cas: 0, noreply: false }))\n\
+        Ok(Store(Store { mode: Cas, key: [107], flags: 7, exptime: Never, length: 5, cas: 18446744073709551615, noreply: true }))\n\
+        Ok(Store(Store { mode: Add, key: [107], flags: 0, exptime: Past, length: 1, cas: 0, noreply: true }))\n\
+        Ok(Store(Store { mode: Replace, key: [107], flags: 0, exptime: Never, length: 1, cas: 0, noreply: false }))\n\
+        Ok(Store(Store { mode: Append, key: [107], flags: 0, exptime: At(9), length: 1, cas: 0, noreply: false }))\n\
+        Ok(Store(Store { mode: Prepend, key: [107], flags: 4294967295, exptime: Past, length: 2147483645, cas: 0, noreply: false }))\n";
+    assert_eq!(rt; asked(rt.alloc(), lines)?.as_str(), told);
+    Ok(())
 }
 
 #[test]
-fn a_cas_line_has_its_unique_number_after_the_length(rt: HostRuntime) {
-    let store = stored(&rt, b"cas k 7 0 5 18446744073709551615 noreply");
-    assert_eq!(rt; store.mode, StoreMode::Cas);
-    assert_eq!(rt; store.flags, 7);
-    assert_eq!(rt; store.exptime, Exptime::Never);
-    assert_eq!(rt; store.cas, 18446744073709551615);
-    assert!(rt; store.noreply);
+fn lines_with_keys_ask_for_what_they_name(rt: HostRuntime) -> Result<(), Fail> {
+    let lines =
+        b"get a b\ngets a\ngat 9 a\ngats 0 a\ndelete k\ndelete k 0 noreply\ntouch k -5 noreply\nincr n 10\ndecr m 18446744073709551615 noreply";
+    let told = "\
+        Ok(Get { with_cas: false })\n\
+        Ok(Get { with_cas: true })\n\
+        Ok(GetAndTouch { exptime: At(9), with_cas: false })\n\
+        Ok(GetAndTouch { exptime: Never, with_cas: true })\n\
+        Ok(Delete { key: [107], noreply: false })\n\
+        Ok(Delete { key: [107], noreply: true })\n\
+        Ok(Touch { key: [107], exptime: Past, noreply: true })\n\
+        Ok(Delta(Delta { direction: Up, key: [110], amount: 10, noreply: false }))\n\
+        Ok(Delta(Delta { direction: Down, key: [109], amount: 18446744073709551615, noreply: true }))\n";
+    assert_eq!(rt; asked(rt.alloc(), lines)?.as_str(), told);
+    Ok(())
 }
 
 #[test]
-fn each_mode_has_its_name(rt: HostRuntime) {
-    assert_eq!(rt; stored(&rt, b"add k 0 -1 1 noreply").mode, StoreMode::Add);
-    assert_eq!(rt;
-        stored(&rt, b"replace k 0 -1 1 noreply").mode,
-        StoreMode::Replace
-    );
-    assert_eq!(rt;
-        stored(&rt, b"append k 0 -1 1 noreply").mode,
-        StoreMode::Append
-    );
-    let last = stored(&rt, b" prepend   k 4294967295  -1 2147483645  other");
-    assert_eq!(rt; last.mode, StoreMode::Prepend);
-    assert_eq!(rt; last.flags, 4294967295);
-    assert_eq!(rt; last.exptime, Exptime::Past);
-    assert_eq!(rt; last.length, 2147483645);
-    assert!(rt; !last.noreply);
+fn lines_of_the_server_ask_for_what_they_name(rt: HostRuntime) -> Result<(), Fail> {
+    let lines =
+        b"flush_all\nflush_all noreply\nflush_all 30 noreply\nstats\nstats ab\nversion\nverbosity 2 noreply\nquit\nshutdown\nshutdown graceful\nmn";
+    let told = "\
+        Ok(FlushAll { delay: 0, noreply: false })\n\
+        Ok(FlushAll { delay: 0, noreply: true })\n\
+        Ok(FlushAll { delay: 30, noreply: true })\n\
+        Ok(Stats { argument: [] })\n\
+        Ok(Stats { argument: [97, 98] })\n\
+        Ok(Version)\n\
+        Ok(Verbosity { level: 2, noreply: true })\n\
+        Ok(Quit)\n\
+        Ok(Shutdown { graceful: false })\n\
+        Ok(Shutdown { graceful: true })\n\
+        Ok(MetaNoop)\n";
+    assert_eq!(rt; asked(rt.alloc(), lines)?.as_str(), told);
+    Ok(())
 }
 
 #[test]
-fn lines_with_keys_ask_for_what_they_name(rt: HostRuntime) {
-    assert!(rt; matches!(parse(b"get a b"), Ok(Request::Get { with_cas: false })));
-    assert!(rt; matches!(parse(b"gets a"), Ok(Request::Get { with_cas: true })));
-    assert!(rt;
-        matches!(
-            parse(b"gat 9 a"),
-            Ok(Request::GetAndTouch {
-                exptime: Exptime::At(9),
-                with_cas: false
-            })
-        )
-    );
-    assert!(rt;
-        matches!(
-            parse(b"gats 0 a"),
-            Ok(Request::GetAndTouch {
-                exptime: Exptime::Never,
-                with_cas: true
-            })
-        )
-    );
-    assert!(rt;
-        matches!(
-            parse(b"delete k"),
-            Ok(Request::Delete {
-                key: b"k",
-                noreply: false
-            })
-        )
-    );
-    assert!(rt;
-        matches!(
-            parse(b"delete k 0 noreply"),
-            Ok(Request::Delete {
-                key: b"k",
-                noreply: true
-            })
-        )
-    );
-    assert!(rt;
-        matches!(
-            parse(b"touch k -5 noreply"),
-            Ok(Request::Touch {
-                key: b"k",
-                exptime: Exptime::Past,
-                noreply: true
-            })
-        )
-    );
+fn meta_lines_have_a_key_and_flags(rt: HostRuntime) -> Result<(), Fail> {
+    let lines = b"mg k v  t\nms k 5 q\nmd k \nma k MD\nme k";
+    let told = "\
+        Ok(Meta(MetaRequest { command: Get, key: [107], length: 0, flags: [118, 32, 32, 116] }))\n\
+        Ok(Meta(MetaRequest { command: Set, key: [107], length: 5, flags: [113] }))\n\
+        Ok(Meta(MetaRequest { command: Delete, key: [107], length: 0, flags: [] }))\n\
+        Ok(Meta(MetaRequest { command: Arithmetic, key: [107], length: 0, flags: [77, 68] }))\n\
+        Ok(Meta(MetaRequest { command: Debug, key: [107], length: 0, flags: [] }))\n";
+    assert_eq!(rt; asked(rt.alloc(), lines)?.as_str(), told);
+    Ok(())
 }
 
 #[test]
-fn incr_and_decr_have_an_amount(rt: HostRuntime) {
-    match (
-        parse(b"incr n 10"),
-        parse(b"decr m 18446744073709551615 noreply"),
-    ) {
-        (Ok(Request::Delta(up)), Ok(Request::Delta(down))) => {
-            assert_eq!(rt; up.direction, Direction::Up);
-            assert_eq!(rt; up.amount, 10);
-            assert!(rt; !up.noreply);
-            assert_eq!(rt; down.direction, Direction::Down);
-            assert_eq!(rt; down.key, b"m".as_slice());
-            assert_eq!(rt; down.amount, 18446744073709551615);
-            assert!(rt; down.noreply);
-        }
-        _ => assert!(rt; false),
-    }
-}
-
-#[test]
-fn lines_of_the_server_ask_for_what_they_name(rt: HostRuntime) {
-    assert!(rt;
-        matches!(
-            parse(b"flush_all"),
-            Ok(Request::FlushAll {
-                delay: 0,
-                noreply: false
-            })
-        )
-    );
-    assert!(rt;
-        matches!(
-            parse(b"flush_all noreply"),
-            Ok(Request::FlushAll {
-                delay: 0,
-                noreply: true
-            })
-        )
-    );
-    assert!(rt;
-        matches!(
-            parse(b"flush_all 30 noreply"),
-            Ok(Request::FlushAll {
-                delay: 30,
-                noreply: true
-            })
-        )
-    );
-    assert!(rt; matches!(parse(b"stats"), Ok(Request::Stats { argument: b"" })));
-    assert!(rt;
-        matches!(
-            parse(b"stats settings"),
-            Ok(Request::Stats {
-                argument: b"settings"
-            })
-        )
-    );
-    assert!(rt; matches!(parse(b"version"), Ok(Request::Version)));
-    assert!(rt;
-        matches!(
-            parse(b"verbosity 2 noreply"),
-            Ok(Request::Verbosity {
-                level: 2,
-                noreply: true
-            })
-        )
-    );
-    assert!(rt; matches!(parse(b"quit"), Ok(Request::Quit)));
-    assert!(rt;
-        matches!(
-            parse(b"shutdown"),
-            Ok(Request::Shutdown { graceful: false })
-        )
-    );
-    assert!(rt;
-        matches!(
-            parse(b"shutdown graceful"),
-            Ok(Request::Shutdown { graceful: true })
-        )
-    );
-    assert!(rt; matches!(parse(b"mn"), Ok(Request::MetaNoop)));
+fn refusals_say_whether_they_are_answered_and_what_they_pass_over(
+    rt: HostRuntime,
+) -> Result<(), Fail> {
+    let lines =
+        b"incr k x noreply\nset k x 0 1 noreply\nincr k x\nshutdown noreply\ntouch k 1 2 3 noreply\nms k 10 !\nms k x !\nset k x 0 10";
+    let told = "\
+        Err(Refusal { fault: BadDelta, noreply: true, skipped: 0 })\n\
+        Err(Refusal { fault: BadFormat, noreply: true, skipped: 0 })\n\
+        Err(Refusal { fault: BadDelta, noreply: false, skipped: 0 })\n\
+        Err(Refusal { fault: BadShutdown, noreply: false, skipped: 0 })\n\
+        Err(Refusal { fault: Unknown, noreply: false, skipped: 0 })\n\
+        Err(Refusal { fault: BadFlag, noreply: false, skipped: 12 })\n\
+        Err(Refusal { fault: BadFormat, noreply: false, skipped: 0 })\n\
+        Err(Refusal { fault: BadFormat, noreply: false, skipped: 0 })\n";
+    assert_eq!(rt; asked(rt.alloc(), lines)?.as_str(), told);
+    Ok(())
 }
 
 /// The meta command of a line.
@@ -197,28 +107,19 @@ fn meta<'a>(rt: &impl Abort, line: &'a [u8]) -> MetaRequest<'a> {
 }
 
 #[test]
-fn meta_flags_are_looked_up_by_letter(rt: HostRuntime) {
+fn meta_flags_are_looked_up_by_letter(rt: HostRuntime) -> Result<(), Fail> {
     let set = meta(&rt, b"ms key 5 T60  F7 C99 I Oabc MA q");
-    assert_eq!(rt; set.command, MetaCommand::Set);
-    assert_eq!(rt; set.key, b"key".as_slice());
-    assert_eq!(rt; set.length, 5);
-    assert_eq!(rt; set.exptime(b'T'), Some(Exptime::At(60)));
-    assert_eq!(rt; set.number(b'F'), Some(7));
-    assert_eq!(rt; set.number(b'C'), Some(99));
-    assert!(rt; matches!(set.flag(b'O'), Some(b"abc")));
-    assert!(rt; matches!(set.flag(b'M'), Some(b"A")));
-    assert!(rt; matches!(set.flag(b'q'), Some(b"")));
-    assert!(rt; set.flag(b'v').is_none());
-}
-
-#[test]
-fn each_meta_command_has_its_name(rt: HostRuntime) {
-    assert_eq!(rt; meta(&rt, b"mg k v").command, MetaCommand::Get);
-    assert_eq!(rt; meta(&rt, b"md k q").command, MetaCommand::Delete);
-    assert_eq!(rt;
-        meta(&rt, b"ma k N0 J13 D2 MD").command,
-        MetaCommand::Arithmetic
+    let found = (
+        set.exptime(b'T'),
+        set.number(b'F'),
+        set.flag(b'O'),
+        set.flag(b'q'),
+        set.flag(b'v'),
     );
-    assert_eq!(rt; meta(&rt, b"me k").command, MetaCommand::Debug);
-    assert_eq!(rt; meta(&rt, b"mg k s v t f").flags, b"s v t f".as_slice());
+    let told = format!(in rt.alloc(); "{found:?}")?;
+    assert_eq!(rt;
+        told.as_str(),
+        "(Some(At(60)), Some(7), Some([97, 98, 99]), Some([]), None)"
+    );
+    Ok(())
 }

@@ -3,115 +3,148 @@ use memcached_text::{Event, RequestReader};
 use std::alloc::{AllocError, Global};
 use std::test::Fail;
 
-/// The most steps of a stream.
-const MAX_STEPS: usize = 40;
+/// The most steps that are taken after a piece.
+const MAX_STEPS: usize = 20;
 
-/// Notes one event, as a line.
-fn note(notes: &mut Vec<u8>, event: &Event<'_>) -> Result<(), AllocError> {
-    match event {
-        Event::More => Ok(()),
-        Event::Request(_) => notes.extend_from_slice(b"request\n"),
-        Event::Data { data, .. } => note_bytes(notes, b"data ", data),
-        Event::TooLarge(_) => notes.extend_from_slice(b"too large\n"),
-        Event::Key { key, .. } => note_bytes(notes, b"key ", key),
-        Event::KeysEnd => notes.extend_from_slice(b"end\n"),
-        Event::Refused(refusal) => note_bytes(notes, b"", refusal.fault.text().as_bytes()),
-        Event::Binary => notes.extend_from_slice(b"binary\n"),
-    }
+/// Tells one event, as a line.
+fn tell(alloc: Global, told: &mut String, event: &Event<'_>) -> Result<(), AllocError> {
+    told.push_str(&format!(in alloc; "{event:?}\n")?)
 }
 
-/// Notes a word and bytes, as a line.
-fn note_bytes(notes: &mut Vec<u8>, word: &[u8], bytes: &[u8]) -> Result<(), AllocError> {
-    notes.extend_from_slice(word)?;
-    notes.extend_from_slice(bytes)?;
-    notes.extend_from_slice(b"\n")
-}
-
-/// Takes all steps that bytes give, and answers what is left of the bytes.
-fn take_steps<'a>(
+/// Takes all steps that bytes give until nothing is whole, and answers how many bytes are left.
+fn take_steps(
+    alloc: Global,
     reader: &mut RequestReader,
-    bytes: &'a [u8],
-    notes: &mut Vec<u8>,
-) -> Result<&'a [u8], AllocError> {
+    bytes: &[u8],
+    told: &mut String,
+) -> Result<usize, AllocError> {
     let mut rest = bytes;
     for _ in 0..MAX_STEPS {
         let step = reader.take(rest);
         rest = &rest[step.taken..];
-        note(notes, &step.event)?;
+        if let Event::More = step.event {
+            break;
+        }
+        tell(alloc, told, &step.event)?;
     }
-    Ok(rest)
+    Ok(rest.len())
 }
 
-/// The notes of a stream that comes in pieces of so many bytes.
-fn notes_of(alloc: Global, stream: &[u8], piece: usize) -> Result<Vec<u8>, AllocError> {
-    let mut notes = Vec::new(alloc);
+/// The events of a stream that comes in pieces of so many bytes, of which data blocks of 10 bytes are taken.
+fn events_of(alloc: Global, stream: &[u8], piece: usize) -> Result<String, AllocError> {
+    let mut told = String::new(alloc);
     let mut reader = RequestReader::new(10);
-    let mut taken = 0;
-    for end in 0..stream.len() {
-        if taken <= end && (end + 1 == stream.len() || end % piece.max(1) == 0) {
-            let left = take_steps(&mut reader, &stream[taken..end + 1], &mut notes)?.len();
-            taken = (end + 1).saturating_sub(left);
+    let mut left = 0;
+    for end in 0..stream.len() + 1 {
+        if left <= end && (end == stream.len() || end % piece.max(1) == 0) {
+            left = end - take_steps(alloc, &mut reader, &stream[left..end], &mut told)?.min(end);
         }
     }
-    Ok(notes)
+    Ok(told)
 }
 
-const STREAM: &[u8] =
-    b"set k 0 0 3\r\na\nb\r\nget a  bc \r\n get d\nset k 0 0 11\r\n12345678901\r\nms k 2 S\r\nxy\r\nmn\r\nset k 0 0 2\r\nabcdfoo\r\ngets\r\nquit\r\n";
+/// Whether a stream has these events in pieces of any length up to this one.
+fn has_events(
+    alloc: Global,
+    stream: &[u8],
+    longest: usize,
+    told: &str,
+) -> Result<bool, AllocError> {
+    for piece in 1..longest {
+        if events_of(alloc, stream, piece)?.as_str() != told {
+            return Ok(false);
+        }
+    }
+    Ok(true)
+}
 
-const NOTES: &[u8] =
-    b"data a\nb\nrequest\nkey a\nkey bc\nend\nrequest\nkey d\nend\ntoo large\nCLIENT_ERROR invalid flag\nrequest\nCLIENT_ERROR bad data chunk\nERROR\nERROR\nrequest\n";
+/// So many bytes between these.
+fn padded(
+    alloc: Global,
+    front: &[u8],
+    byte: u8,
+    count: usize,
+    back: &[u8],
+) -> Result<Vec<u8>, AllocError> {
+    let mut stream = Vec::from_slice(alloc, front)?;
+    for _ in 0..count {
+        stream.push(byte)?;
+    }
+    stream.extend_from_slice(back)?;
+    Ok(stream)
+}
 
 #[test]
 fn a_stream_gives_the_same_however_it_is_cut(rt: HostRuntime) -> Result<(), Fail> {
-    for piece in 1..9usize {
-        assert_eq!(rt; notes_of(rt.alloc(), STREAM, piece)?.as_slice(), NOTES);
-    }
-    assert_eq!(rt; notes_of(rt.alloc(), STREAM, 1000)?.as_slice(), NOTES);
+    let stream =
+        b"set k 0 0 3\r\na\nb\r\nget a  bc \r\n gats 5 d\nset k 0 0 11\r\n12345678901\r\nms k 2 S\r\nxy\r\nmn\r\nset k 0 0 2\r\nabcdfoo\r\ngets\r\nquit\r\n";
+    let told = "\
+        Data { request: Store(Store { mode: Set, key: [107], flags: 0, exptime: Never, length: 3, cas: 0, noreply: false }), data: [97, 10, 98] }\n\
+        Request(Get { with_cas: false })\n\
+        Key { key: [97], exptime: None, with_cas: false }\n\
+        Key { key: [98, 99], exptime: None, with_cas: false }\n\
+        KeysEnd\n\
+        Request(GetAndTouch { exptime: At(5), with_cas: true })\n\
+        Key { key: [100], exptime: Some(At(5)), with_cas: true }\n\
+        KeysEnd\n\
+        TooLarge(Store(Store { mode: Set, key: [107], flags: 0, exptime: Never, length: 11, cas: 0, noreply: false }))\n\
+        Refused(Refusal { fault: BadFlag, noreply: false, skipped: 4 })\n\
+        Request(MetaNoop)\n\
+        Refused(Refusal { fault: BadData, noreply: false, skipped: 0 })\n\
+        Refused(Refusal { fault: Unknown, noreply: false, skipped: 0 })\n\
+        Refused(Refusal { fault: Unknown, noreply: false, skipped: 0 })\n\
+        Request(Quit)\n";
+    assert!(rt; has_events(rt.alloc(), stream, 40, told)?);
+    assert_eq!(rt; events_of(rt.alloc(), stream, 1000)?.as_str(), told);
     Ok(())
 }
 
 #[test]
 fn the_binary_protocol_has_an_event_of_its_own(rt: HostRuntime) -> Result<(), Fail> {
-    assert_eq!(rt;
-        notes_of(rt.alloc(), b"mn\r\n\x80\x0b\x00\nget a\r\n", 1)?.as_slice(),
-        b"request\nbinary\n".as_slice()
-    );
+    let told = "Request(MetaNoop)\nBinary\n";
+    assert!(rt; has_events(rt.alloc(), b"mn\r\n\x80\x0b\x00\nget a\r\n", 9, told)?);
     Ok(())
 }
 
 #[test]
 fn a_long_line_of_keys_is_given_key_by_key(rt: HostRuntime) -> Result<(), Fail> {
-    let mut stream = [b' '; 2400];
-    stream[..5].copy_from_slice(b"get a");
-    stream[2060..2064].copy_from_slice(b"bc d");
-    stream[2100] = b'k';
-    stream[2390..].copy_from_slice(b" e\r\nversio");
-    stream[2101..2351].copy_from_slice(&[b'k'; 250]);
-    assert_eq!(rt;
-        notes_of(rt.alloc(), &stream, 7)?.as_slice(),
-        b"request\nkey a\nkey bc\nkey d\nCLIENT_ERROR bad command line format\n".as_slice()
-    );
-    stream[2100] = b' ';
-    let notes = notes_of(rt.alloc(), &stream, 100)?;
-    assert_eq!(rt; notes.len(), 292);
-    assert!(rt; notes.ends_with(b"\nkey e\nend\n"));
+    let stream = padded(rt.alloc(), b"get a", b' ', 2100, b"bc d\r\nmn\r\n")?;
+    let told = "\
+        Request(Get { with_cas: false })\n\
+        Key { key: [97], exptime: None, with_cas: false }\n\
+        Key { key: [98, 99], exptime: None, with_cas: false }\n\
+        Key { key: [100], exptime: None, with_cas: false }\n\
+        KeysEnd\n\
+        Request(MetaNoop)\n";
+    assert_eq!(rt; events_of(rt.alloc(), &stream, 700)?.as_str(), told);
+    Ok(())
+}
+
+#[test]
+fn a_key_of_251_bytes_refuses_the_rest_of_its_line(rt: HostRuntime) -> Result<(), Fail> {
+    let stream = padded(rt.alloc(), b"get a ", b'k', 251, b" e\r\nmn\r\n")?;
+    let told = "\
+        Request(Get { with_cas: false })\n\
+        Key { key: [97], exptime: None, with_cas: false }\n\
+        Refused(Refusal { fault: BadFormat, noreply: false, skipped: 0 })\n\
+        Request(MetaNoop)\n";
+    assert!(rt; has_events(rt.alloc(), &stream, 6, told)?);
     Ok(())
 }
 
 #[test]
 fn another_line_has_at_most_2048_bytes(rt: HostRuntime) -> Result<(), Fail> {
-    let mut stream = [b' '; 2060];
-    stream[..7].copy_from_slice(b"version");
-    stream[2048..2055].copy_from_slice(b"\nmn\r\nmn");
-    assert_eq!(rt;
-        notes_of(rt.alloc(), &stream, 10)?.as_slice(),
-        b"request\nrequest\n".as_slice()
+    let longest = padded(rt.alloc(), b"version", b' ', 2040, b"\r\nmn\r\n")?;
+    assert!(rt;
+        has_events(
+            rt.alloc(),
+            &longest,
+            3,
+            "Request(Version)\nRequest(MetaNoop)\n"
+        )?
     );
-    stream[2048] = b' ';
-    assert_eq!(rt;
-        notes_of(rt.alloc(), &stream, 10)?.as_slice(),
-        b"CLIENT_ERROR line too long\n".as_slice()
-    );
+    let longer = padded(rt.alloc(), b"version", b' ', 2041, b"\r\nmn\r\n")?;
+    let told = "Refused(Refusal { fault: LineTooLong, noreply: false, skipped: 0 })\n";
+    assert_eq!(rt; events_of(rt.alloc(), &longer, 700)?.as_str(), told);
     Ok(())
 }
