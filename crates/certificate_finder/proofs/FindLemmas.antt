@@ -21,7 +21,7 @@ use Rattle.certificate_finder.specs.declared.numbered_call.NumberedCall.{Numbere
 use Rattle.certificate_finder.specs.declared.zone.Zone.{Zone}
 use Rattle.certificate_finder.specs.Excluding.{AreExcludedAt, ExcludesStep, IsExcludedStep}
 use Rattle.certificate_finder.specs.Lists.{TellsOne}
-use Rattle.certificate_finder.specs.Owning.{AreOwners, IsUnsure, MayRead, ReadsLive, ReadsOnly}
+use Rattle.certificate_finder.specs.Owning.{AreSureOwners, IsUnsure, MayRead, ReadsLive, ReadsOnly}
 use Rattle.certificate_finder.specs.Putting.{IsOver}
 use Rattle.certificate_finder.specs.Reads.{CouldRead, HasBegun, HasSeveral, StandsBetween, StandsFor}
 use Rattle.certificate_finder.specs.Steps.{AreSteps, IsStep, IsWriting, kind_of}
@@ -309,7 +309,7 @@ module _ (history : List Call) (steps : List NumberedCall) (are : AreSteps histo
 
   -- ---- two writes that are crossed
 
-  pub goes_with : (owners unsure : List ℕ) (write q : ℕ) (s : NumberedCall) → AreOwners steps (length steps) owners unsure → slice_get steps q ≡ Some s → Goes owners write q → GoesWith history write q
+  pub goes_with : (owners unsure : List ℕ) (write q : ℕ) (s : NumberedCall) → AreSureOwners steps (length steps) owners unsure → slice_get steps q ≡ Some s → Goes owners write q → GoesWith history write q
   goes_with owners unsure write q s own at goes = elim goes [
     | inl same ↦ inl same
     | inr owned ↦ elim (own.owned q s write at owned) [
@@ -330,7 +330,7 @@ module _ (history : List Call) (steps : List NumberedCall) (are : AreSteps histo
     ]
   ]
 
-  module _ (owners unsure : List ℕ) (own : AreOwners steps (length steps) owners unsure) (zones : List Zone) (zs : AreZones steps owners zones) where
+  module _ (owners unsure : List ℕ) (own : AreSureOwners steps (length steps) owners unsure) (zones : List Zone) (zs : AreZones steps owners zones) where
     is_side : (one other : Zone) (key : List ℕ) (v : Call) → (tells : TellsOne steps Writing (TellsZone steps owners) one) → (others : TellsOne steps Writing (TellsZone steps owners) other) → slice_get history tells.position ≡ Some v → v.key ≡ key → one.end < other.start → IsSide history key (record { write = one.write; early = one.early; late = one.late }) (record { write = other.write; early = other.early; late = other.late })
     is_side one other key v tells others at same less =
         let here : one.write ≡ tells.position = tells.told.write in
@@ -362,15 +362,3 @@ module _ (history : List Call) (steps : List NumberedCall) (are : AreSteps histo
           first = is_side one other v.0.key v.0 t o v.1 refl crossing.forth;
           second = is_side other one v.0.key w.0 o t w.1 key crossing.back;
         }
-
-  -- ---- owners are positions
-
-  pub owners_within : (owners unsure : List ℕ) → AreOwners steps (length steps) owners unsure → All (λ owner. owner < length steps) owners
-  owners_within owners unsure own = all_from_at (λ owner. owner < length steps) owners (λ p owner at.
-      let within = slice_get_within owners p owner at in
-      let count = own.count in
-      let s = found_at steps p (omega arith) in
-      elim (own.owned p s.0 owner s.1 at) [
-        | inl alone ↦ let same = alone.0 in omega arith
-        | inr hit ↦ slice_get_within steps owner hit.1.put hit.1.at
-      ])

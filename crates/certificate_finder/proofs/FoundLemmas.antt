@@ -10,7 +10,7 @@ use Rattle.certificate_finder.specs.declared.found.Found.TheVariants.{Rejected}
 use Rattle.certificate_finder.specs.declared.numbered_call.NumberedCall.{NumberedCall}
 use Rattle.certificate_finder.specs.declared.zone.Zone.{Zone}
 use Rattle.certificate_finder.specs.Finding.{IsFound}
-use Rattle.certificate_finder.specs.Owning.{AreOwners}
+use Rattle.certificate_finder.specs.Owning.{AreOwners, AreSureOwners}
 use Rattle.certificate_finder.specs.Steps.{AreSteps}
 use Rattle.certificate_finder.specs.Zones.{AreCrossing, AreZones, crossed_by}
 use Rattle.certificate_finder.proofs.EndLemmas.{found_at}
@@ -18,8 +18,18 @@ use Rattle.certificate_finder.proofs.FindLemmas.{are_crossed}
 use Rattle.certificate_finder.proofs.Listing.{all_from_at}
 
 -- owners are positions
-pub owners_in : (steps : List NumberedCall) (owners unsure : List ℕ) → AreOwners steps (length steps) owners unsure → All (λ owner. owner < length steps) owners
-owners_in steps owners unsure own = all_from_at (λ owner. owner < length steps) owners (λ p owner at.
+pub owners_in : (steps : List NumberedCall) (owners : List ℕ) → AreOwners steps owners → All (λ owner. owner < length steps) owners
+owners_in steps owners own = all_from_at (λ owner. owner < length steps) owners (λ p owner at.
+    let within = slice_get_within owners p owner at in
+    let count = own.count in
+    let s = found_at steps p (omega arith) in
+    elim (own.owned p s.0 owner s.1 at) [
+      | inl alone ↦ let same = alone.0 in omega arith
+      | inr hit ↦ slice_get_within steps owner hit.1.put hit.1.at
+    ])
+
+pub sure_owners_in : (steps : List NumberedCall) (owners unsure : List ℕ) → AreSureOwners steps (length steps) owners unsure → All (λ owner. owner < length steps) owners
+sure_owners_in steps owners unsure own = all_from_at (λ owner. owner < length steps) owners (λ p owner at.
     let within = slice_get_within owners p owner at in
     let count = own.count in
     let s = found_at steps p (omega arith) in
@@ -29,7 +39,7 @@ owners_in steps owners unsure own = all_from_at (λ owner. owner < length steps)
     ])
 
 -- two zones that are crossed are a reason
-pub found_crossed : (history : List Call) (steps : List NumberedCall) (owners unsure : List ℕ) (zones : List Zone) (crossing : Crossing) → AreSteps history steps → AreOwners steps (length steps) owners unsure → AreZones steps owners zones → AreCrossing zones crossing → IsFound history (Rejected (crossed_by crossing))
+pub found_crossed : (history : List Call) (steps : List NumberedCall) (owners unsure : List ℕ) (zones : List Zone) (crossing : Crossing) → AreSteps history steps → AreSureOwners steps (length steps) owners unsure → AreZones steps owners zones → AreCrossing zones crossing → IsFound history (Rejected (crossed_by crossing))
 found_crossed history steps owners unsure zones crossing are own zs crossed = record {
   accepted = tt;
   rejected = are_crossed history steps are owners unsure own zones zs crossing.one crossing.other crossed;
@@ -49,6 +59,19 @@ none_left unsure lent same none =
     let l : length lent ≡ 0 = grind (arith, nat_tests) in
     sym same ∙ nil_from_length lent l
 
--- no hit is unsure if the list of them is empty
-pub sure : (steps : List NumberedCall) (owners unsure lent : List ℕ) → lent ≡ unsure → true ≡ eqb (length lent) 0 → AreOwners steps (length steps) owners unsure → AreOwners steps (length steps) owners []
-sure steps owners unsure lent same none own = subst (λ u. AreOwners steps (length steps) owners u) (none_left unsure lent same none) own
+-- sure owners are owners, if there is one for each hit
+pub owners_of_sure : (steps : List NumberedCall) (owners : List ℕ) → AreSureOwners steps (length steps) owners [] → AreOwners steps owners
+owners_of_sure steps owners own = record {
+  count = own.count;
+  owned = λ p step owner at owner_at. elim (own.owned p step owner at owner_at) [
+    | inl alone ↦ inl (alone.0, λ hit.
+        let none = own.all p (slice_get_within steps p step at) (record { step = step; at = at; kind = hit; several = alone.1 hit }) in
+        let less : none.0 < 0 = none.1 in
+        omega arith)
+    | inr only ↦ inr (only.0, record { put = only.1.put; at = only.1.at; reads = only.1.reads })
+  ];
+}
+
+-- each hit is sure if the list of the others is empty
+pub sure : (steps : List NumberedCall) (owners unsure lent : List ℕ) → lent ≡ unsure → true ≡ eqb (length lent) 0 → AreSureOwners steps (length steps) owners unsure → AreOwners steps owners
+sure steps owners unsure lent same none own = owners_of_sure steps owners (subst (λ u. AreSureOwners steps (length steps) owners u) (none_left unsure lent same none) own)

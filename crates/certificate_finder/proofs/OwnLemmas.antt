@@ -15,7 +15,7 @@ use Rattle.certificate_finder.specs.declared.put.Put.{Put}
 use Rattle.certificate_finder.specs.declared.readable.Readable.TheVariants as readings
 use Rattle.certificate_finder.specs.declared.numbered_call.NumberedCall.{NumberedCall}
 use Rattle.certificate_finder.specs.Lists.{TellsOne}
-use Rattle.certificate_finder.specs.Owning.{AreOwners, IsNoted, IsOwned, IsOwner, IsOwnerAt, IsRefused, IsUnsure, MayRead, ReadsLive, ReadsNoLive, ReadsOnly, ReadsSeveral}
+use Rattle.certificate_finder.specs.Owning.{AreSureOwners, IsNoted, IsSurelyOwned, IsOwner, IsOwnerAt, IsRefused, IsUnsure, MayRead, ReadsLive, ReadsNoLive, ReadsOnly, ReadsSeveral}
 use Rattle.certificate_finder.specs.Putting.{ArePuts, CanRead, EndsOver, GivesAt, Putting, TellsPut}
 use Rattle.certificate_finder.specs.Readings.{Says}
 use Rattle.certificate_finder.specs.Steps.{IsFit}
@@ -125,7 +125,7 @@ module _ (steps : List NumberedCall) (puts : List Put) (are : ArePuts steps puts
 
 -- ---- one call more has its owner
 
-pub owners_begin : (steps : List NumberedCall) → AreOwners steps 0 [] []
+pub owners_begin : (steps : List NumberedCall) → AreSureOwners steps 0 [] []
 owners_begin steps = record {
   count = refl;
   owned = λ p step owner at none. absurd (let within = slice_get_within {A = ℕ} [] p owner none in omega arith);
@@ -135,18 +135,18 @@ owners_begin steps = record {
   below = All-nil (λ p. p < 0);
 }
 
-module _ (steps : List NumberedCall) (upto : ℕ) (owners unsure : List ℕ) (had : AreOwners steps upto owners unsure) (step : NumberedCall) (at : slice_get steps upto ≡ Some step) where
-  owned_more : (owner : ℕ) → IsOwned steps upto step owner → (p : ℕ) (s : NumberedCall) (o : ℕ) → slice_get steps p ≡ Some s → slice_get (owners ++ owner ∷ []) p ≡ Some o → IsOwned steps p s o
+module _ (steps : List NumberedCall) (upto : ℕ) (owners unsure : List ℕ) (had : AreSureOwners steps upto owners unsure) (step : NumberedCall) (at : slice_get steps upto ≡ Some step) where
+  owned_more : (owner : ℕ) → IsSurelyOwned steps upto step owner → (p : ℕ) (s : NumberedCall) (o : ℕ) → slice_get steps p ≡ Some s → slice_get (owners ++ owner ∷ []) p ≡ Some o → IsSurelyOwned steps p s o
   owned_more owner is p s o at_s at_o = elim (cases_eq p upto) [
     | inl same ↦
         let e = at_push owners owner o p at_o (same ∙ sym had.count) in
         let t = same_at steps upto p step s (sym same) at at_s in
-        subst (λ x. IsOwned steps p s x) e (subst (λ u. IsOwned steps p u owner) t (subst (λ q. IsOwned steps q step owner) (sym same) is))
+        subst (λ x. IsSurelyOwned steps p s x) e (subst (λ u. IsSurelyOwned steps p u owner) t (subst (λ q. IsSurelyOwned steps q step owner) (sym same) is))
     | inr other ↦ had.owned p s o at_s (at_front owners owner o p at_o (λ last. other (last ∙ had.count)))
   ]
 
   -- a call that is sure of its owner
-  pub owner_more : (owner : ℕ) → IsOwned steps upto step owner → ¬ IsUnsure steps upto → AreOwners steps (upto + 1) (owners ++ owner ∷ []) unsure
+  pub owner_more : (owner : ℕ) → IsSurelyOwned steps upto step owner → ¬ IsUnsure steps upto → AreSureOwners steps (upto + 1) (owners ++ owner ∷ []) unsure
   owner_more owner is sure = record {
     count = let l = length_push owners owner in let c = had.count in omega arith;
     owned = owned_more owner is;
@@ -159,7 +159,7 @@ module _ (steps : List NumberedCall) (upto : ℕ) (owners unsure : List ℕ) (ha
     below = All-weaker (λ p. p < upto) (λ p. p < upto + 1) (λ p h. omega arith) unsure had.below;
   }
 
-  pub unsure_more : (step.kind ≡ kinds.Hit) → ReadsSeveral steps step → AreOwners steps (upto + 1) (owners ++ upto ∷ []) (unsure ++ upto ∷ [])
+  pub unsure_more : (step.kind ≡ kinds.Hit) → ReadsSeveral steps step → AreSureOwners steps (upto + 1) (owners ++ upto ∷ []) (unsure ++ upto ∷ [])
   unsure_more hit several = record {
     count = let l = length_push owners upto in let c = had.count in omega arith;
     owned = owned_more upto (inl (refl, λ _. several));
@@ -173,27 +173,27 @@ module _ (steps : List NumberedCall) (upto : ℕ) (owners unsure : List ℕ) (ha
   }
 
   -- no hit is sure
-  pub itself_more : ¬ (step.kind ≡ kinds.Hit) → AreOwners steps (upto + 1) (owners ++ upto ∷ []) unsure
+  pub itself_more : ¬ (step.kind ≡ kinds.Hit) → AreSureOwners steps (upto + 1) (owners ++ upto ∷ []) unsure
   itself_more no_hit = owner_more upto (inl (refl, λ hit. absurd (no_hit hit))) (λ one. no_hit (ap (λ (s : NumberedCall). s.kind) (same_at steps upto upto step one.step refl at one.at) ∙ one.kind))
 
   -- a hit that may have read one put alone is sure
-  pub put_more : (owner : ℕ) → (step.kind ≡ kinds.Hit) → ReadsOnly steps step owner → AreOwners steps (upto + 1) (owners ++ owner ∷ []) unsure
+  pub put_more : (owner : ℕ) → (step.kind ≡ kinds.Hit) → ReadsOnly steps step owner → AreSureOwners steps (upto + 1) (owners ++ owner ∷ []) unsure
   put_more owner hit only = owner_more owner (inr (hit, only)) (λ one.
       let two : ReadsSeveral steps step = subst (λ s. ReadsSeveral steps s) (same_at steps upto upto one.step step refl one.at at) one.several in
       two.apart (only.only two.one two.first two.one_at two.holds_one ∙ sym (only.only two.other two.second two.other_at two.holds_other)))
 
 -- ---- an owner is noted
 
-noted_is : (steps : List NumberedCall) (upto : ℕ) (owners unsure new new_unsure : List ℕ) (step : NumberedCall) (owner : Owner) → AreOwners steps upto owners unsure → slice_get steps upto ≡ Some step → IsOwner steps step owner → IsNoted upto owner owners new unsure new_unsure true → AreOwners steps (upto + 1) new new_unsure
+noted_is : (steps : List NumberedCall) (upto : ℕ) (owners unsure new new_unsure : List ℕ) (step : NumberedCall) (owner : Owner) → AreSureOwners steps upto owners unsure → slice_get steps upto ≡ Some step → IsOwner steps step owner → IsNoted upto owner owners new unsure new_unsure true → AreSureOwners steps (upto + 1) new new_unsure
 noted_is steps upto owners unsure new new_unsure step kinds_of_owner.Itself had at is noted =
-    subst (λ o. AreOwners steps (upto + 1) o new_unsure) (sym noted.1) (subst (λ u. AreOwners steps (upto + 1) (owners ++ upto ∷ []) u) (sym noted.2) (itself_more steps upto owners unsure had step at is))
+    subst (λ o. AreSureOwners steps (upto + 1) o new_unsure) (sym noted.1) (subst (λ u. AreSureOwners steps (upto + 1) (owners ++ upto ∷ []) u) (sym noted.2) (itself_more steps upto owners unsure had step at is))
 noted_is steps upto owners unsure new new_unsure step (kinds_of_owner.Put put) had at is noted =
-    subst (λ o. AreOwners steps (upto + 1) o new_unsure) (sym noted.1) (subst (λ u. AreOwners steps (upto + 1) (owners ++ put ∷ []) u) (sym noted.2) (put_more steps upto owners unsure had step at put is.0 is.1))
+    subst (λ o. AreSureOwners steps (upto + 1) o new_unsure) (sym noted.1) (subst (λ u. AreSureOwners steps (upto + 1) (owners ++ put ∷ []) u) (sym noted.2) (put_more steps upto owners unsure had step at put is.0 is.1))
 noted_is steps upto owners unsure new new_unsure step kinds_of_owner.Unsure had at is noted =
-    subst (λ o. AreOwners steps (upto + 1) o new_unsure) (sym noted.1) (subst (λ u. AreOwners steps (upto + 1) (owners ++ upto ∷ []) u) (sym noted.2) (unsure_more steps upto owners unsure had step at is.0 is.1))
+    subst (λ o. AreSureOwners steps (upto + 1) o new_unsure) (sym noted.1) (subst (λ u. AreSureOwners steps (upto + 1) (owners ++ upto ∷ []) u) (sym noted.2) (unsure_more steps upto owners unsure had step at is.0 is.1))
 noted_is steps upto owners unsure new new_unsure step kinds_of_owner.Nothing had at is noted = let h : true ≡ false = noted in cc
 
-pub noted_more : (steps : List NumberedCall) (upto : ℕ) (owners unsure new new_unsure : List ℕ) (owner : Owner) → AreOwners steps upto owners unsure → IsOwnerAt steps upto owner → IsNoted upto owner owners new unsure new_unsure true → AreOwners steps (upto + 1) new new_unsure
+pub noted_more : (steps : List NumberedCall) (upto : ℕ) (owners unsure new new_unsure : List ℕ) (owner : Owner) → AreSureOwners steps upto owners unsure → IsOwnerAt steps upto owner → IsNoted upto owner owners new unsure new_unsure true → AreSureOwners steps (upto + 1) new new_unsure
 noted_more steps upto owners unsure new new_unsure owner had is noted = noted_is steps upto owners unsure new new_unsure is.step owner had is.at is.is noted
 
 refused_is : (steps : List NumberedCall) (upto : ℕ) (owners unsure new new_unsure : List ℕ) (step : NumberedCall) (owner : Owner) → slice_get steps upto ≡ Some step → IsOwner steps step owner → IsNoted upto owner owners new unsure new_unsure false → IsRefused steps upto

@@ -21,7 +21,7 @@ use Rattle.certificate_finder.specs.declared.witness.Witness.TheVariants as witn
 use Rattle.certificate_finder.specs.declared.zone.Zone.{Zone}
 use Rattle.certificate_finder.specs.Finding.{AreUndecided, IsOfListed}
 use Rattle.certificate_finder.specs.Lists.{IsTold}
-use Rattle.certificate_finder.specs.Owning.{AreOwners, IsUnsure}
+use Rattle.certificate_finder.specs.Owning.{AreSureOwners, IsUnsure}
 use Rattle.certificate_finder.specs.Reads.{CouldRead, HasBegun, HasSeveral, LivesFor, StandsBetween}
 use Rattle.certificate_finder.specs.Steps.{AreSteps, IsWriting, kind_of}
 use Rattle.certificate_finder.specs.Witnesses.{AreCrossed, GoesWith, IsExcluded, IsSide, IsWitness, ReadsNone}
@@ -58,7 +58,7 @@ none_read history hit put puts none could =
     let live = subst (λ m. IsTrue (is_live has.expires m)) moment (live_of history hit put could.lives has) in
     not_this history none.call has.put_call none.value none.moment has.expires put has.put_at put_is begun live stands listed.0 listed.2 excluded
 
-module _ (history : List Call) (steps : List NumberedCall) (are : AreSteps history steps) (owners unsure : List ℕ) (own : AreOwners steps (length steps) owners unsure) where
+module _ (history : List Call) (steps : List NumberedCall) (are : AreSteps history steps) (owners unsure : List ℕ) (own : AreSureOwners steps (length steps) owners unsure) where
   -- ---- a hit that is not listed reads a put
 
   owner_of : (p : ℕ) (step : NumberedCall) → slice_get steps p ≡ Some step → (owner : ℕ) × (slice_get owners p ≡ Some owner)

@@ -80,7 +80,7 @@ joined history steps are p q s t c at_s at_t at_c some other key =
     let alike = are.alike p q a.0 c s t a.1 at_c at_s at_t in
     of_one history p q a.0 c a.1 at_c (alike.keys.0 key) (miss_of a.0 s a.2 some) other
 
-module _ (history : List Call) (steps : List NumberedCall) (are : AreSteps history steps) (owners : List ℕ) (own : AreOwners steps (length steps) owners []) (zones : List Zone) (zs : AreZones steps owners zones) (places : List ℕ) (pl : ArePlaces (length steps) zones (length zones) places) (line : List Ranked) (is : IsLine steps owners places (length zones) line) where
+module _ (history : List Call) (steps : List NumberedCall) (are : AreSteps history steps) (owners : List ℕ) (own : AreOwners steps owners) (zones : List Zone) (zs : AreZones steps owners zones) (places : List ℕ) (pl : ArePlaces (length steps) zones (length zones) places) (line : List Ranked) (is : IsLine steps owners places (length zones) line) where
   pub line_order : IsOrder history (positions_in line)
   line_order = order_permuted history (positions_in is.listed) (positions_in line) (IsPermutation-map (λ (r : Ranked). r.position) is.listed line is.moved) (position_order history (length steps) (positions_in is.listed) are.count is.positions)
 
@@ -314,7 +314,7 @@ pub zones_in : (steps : List NumberedCall) (owners : List ℕ) (zones : List Zon
 zones_in steps owners zones zs = All-weaker (TellsOne steps Writing (TellsZone steps owners)) (λ (zone : Zone). zone.write < length steps) (λ z one. let e : z.write ≡ one.position = one.told.write in let within = slice_get_within steps one.position one.step one.at in omega arith) zones zs.lists.sound
 
 -- the whole way from zones to a certificate
-pub accepted_by_spots : (history : List Call) (steps : List NumberedCall) (are : AreSteps history steps) (owners : List ℕ) (own : AreOwners steps (length steps) owners []) (zones : List Zone) (zs : AreZones steps owners zones) (placed places : List ℕ) → placed ≡ places → ArePlaces (length steps) zones (length zones) places → (line turns : List Ranked) → turns ≡ line → IsLine steps owners placed (length zones) line → (spots spotted : List Ranked) → spotted ≡ spots → AllPairs FollowOn zones → All (λ (call : Call). call.start ≤ call.end) history → (InLine history steps (positions_in turns) → AreSpots history turns spots) → (certificate : List ℕ) → certificate ≡ positions_in spotted → IsAccepted history certificate
+pub accepted_by_spots : (history : List Call) (steps : List NumberedCall) (are : AreSteps history steps) (owners : List ℕ) (own : AreOwners steps owners) (zones : List Zone) (zs : AreZones steps owners zones) (placed places : List ℕ) → placed ≡ places → ArePlaces (length steps) zones (length zones) places → (line turns : List Ranked) → turns ≡ line → IsLine steps owners placed (length zones) line → (spots spotted : List Ranked) → spotted ≡ spots → AllPairs FollowOn zones → All (λ (call : Call). call.start ≤ call.end) history → (InLine history steps (positions_in turns) → AreSpots history turns spots) → (certificate : List ℕ) → certificate ≡ positions_in spotted → IsAccepted history certificate
 accepted_by_spots history steps are owners own zones zs placed places same_places pl line turns same_turns is spots spotted same_spots follow intervals make certificate written =
     let pl' : ArePlaces (length steps) zones (length zones) placed = subst (λ p. ArePlaces (length steps) zones (length zones) p) (sym same_places) pl in
     let inline : InLine history steps (positions_in line) = record { neighbours = line_neighbours history steps are owners own zones zs placed pl' line is; grouped = line_grouped history steps are owners own zones zs placed pl' line is } in

@@ -1,5 +1,5 @@
 -- Each call after the write that it goes with, and the zones one after the other.
-use Rattle.std.proofs.Common.{◌≡◌, ◌≢◌, ℕ, ◌+◌, ◌*◌, ◌^◌, ◌<◌, ◌≤◌, ◌⊎◌, false, Some, List, [], length, get_or, refl, sym, ap, ◌∙◌, subst, arith, inl, inr}
+use Rattle.std.proofs.Common.{◌≡◌, ◌≢◌, ℕ, ◌+◌, ◌*◌, ◌^◌, ◌<◌, ◌≤◌, ◌⊎◌, false, Some, List, length, get_or, refl, sym, ap, ◌∙◌, subst, arith, inl, inr}
 use Rattle.std.specs.Prelude.{All, AllPairs, slice_get, IsTrue}
 use Rattle.std.specs.Option.{option_map_or}
 use Rattle.std.proofs.lemmas.Bool.{cases_lt}
@@ -14,7 +14,7 @@ use Rattle.certificate_finder.specs.declared.call_kind.CallKind.TheVariants as k
 use Rattle.certificate_finder.specs.declared.numbered_call.NumberedCall.{NumberedCall}
 use Rattle.certificate_finder.specs.declared.zone.Zone.{Zone}
 use Rattle.certificate_finder.specs.Lining.{ArePlaces, place_at, turn_at, turn_of}
-use Rattle.certificate_finder.specs.Owning.{AreOwners, ReadsOnly}
+use Rattle.certificate_finder.specs.Owning.{AreOwners, ReadsAt}
 use Rattle.certificate_finder.specs.Spots.{AreOfOne, is_miss}
 use Rattle.certificate_finder.specs.Steps.{AreSteps, IsFit, IsWriting, kind_of}
 use Rattle.certificate_finder.specs.Turns.{AreTurns, end_at, start_at}
@@ -91,7 +91,7 @@ pub record IsPlaced (steps : List NumberedCall) (owners places : List ℕ) (zone
   pub goes : Goes owners (get_or owners p 0) p
   pub one_key : owner.key ≡ step.key
 
-module _ (history : List Call) (steps : List NumberedCall) (are : AreSteps history steps) (owners : List ℕ) (own : AreOwners steps (length steps) owners []) (zones : List Zone) (zs : AreZones steps owners zones) (places : List ℕ) (pl : ArePlaces (length steps) zones (length zones) places) where
+module _ (history : List Call) (steps : List NumberedCall) (are : AreSteps history steps) (owners : List ℕ) (own : AreOwners steps owners) (zones : List Zone) (zs : AreZones steps owners zones) (places : List ℕ) (pl : ArePlaces (length steps) zones (length zones) places) where
   -- the owner of a call that is there
   owner_of : (p : ℕ) (step : NumberedCall) → slice_get steps p ≡ Some step → slice_get owners p ≡ Some (get_or owners p 0)
   owner_of p step at =
@@ -100,13 +100,10 @@ module _ (history : List Call) (steps : List NumberedCall) (are : AreSteps histo
       let o = found_at owners p (omega arith) in
       o.1 ∙ ap Some (sym (get_or_from_slice_get owners p o.0 0 o.1))
 
-  -- a hit has read one put alone
-  pub hit_reads : (p : ℕ) (step : NumberedCall) → slice_get steps p ≡ Some step → step.kind ≡ kinds.Hit → ReadsOnly steps step (get_or owners p 0)
+  -- the put that a hit goes with
+  pub hit_reads : (p : ℕ) (step : NumberedCall) → slice_get steps p ≡ Some step → step.kind ≡ kinds.Hit → ReadsAt steps step (get_or owners p 0)
   hit_reads p step at hit = elim (own.owned p step (get_or owners p 0) at (owner_of p step at)) [
-    | inl alone ↦
-        let none = own.all p (slice_get_within steps p step at) (record { step = step; at = at; kind = hit; several = alone.1 hit }) in
-        let less : none.0 < 0 = none.1 in
-        absurd (omega arith)
+    | inl alone ↦ absurd (alone.1 hit)
     | inr only ↦ only.1
   ]
 

@@ -22,6 +22,12 @@ pub record ReadsLive (steps : List NumberedCall) (hit put : NumberedCall) : Type
   pub may : MayRead steps hit put
   pub live : IsTrue (is_live put.time hit.time)
 
+-- a hit may have read the put at a position
+pub record ReadsAt (steps : List NumberedCall) (hit : NumberedCall) (position : ℕ) : Type 0 where
+  pub put : NumberedCall
+  pub at : slice_get steps position ≡ Some put
+  pub reads : ReadsLive steps hit put
+
 -- a hit may have read the put at a position, and no other one
 pub record ReadsOnly (steps : List NumberedCall) (hit : NumberedCall) (position : ℕ) : Type 0 where
   pub put : NumberedCall
@@ -60,9 +66,18 @@ IsOwner steps step owner.Nothing = (step.kind ≡ kinds.Hit) × ReadsNoLive step
 abbrev pub GoesAlone : List NumberedCall → NumberedCall → Type 0
 GoesAlone steps step = (step.kind ≡ kinds.Hit) → ReadsSeveral steps step
 
--- a call at a position goes with a write: itself, or the put that it may have read alone
+-- a call at a position is sure of its owner, the put that it may have read alone, or goes by itself
+abbrev pub IsSurelyOwned : List NumberedCall → ℕ → NumberedCall → ℕ → Type 0
+IsSurelyOwned steps position step owner = ((owner ≡ position) × GoesAlone steps step) ⊎ ((step.kind ≡ kinds.Hit) × ReadsOnly steps step owner)
+
+-- a call at a position has this owner: a put that it may have read, if it is a hit, and otherwise itself
 abbrev pub IsOwned : List NumberedCall → ℕ → NumberedCall → ℕ → Type 0
-IsOwned steps position step owner = ((owner ≡ position) × GoesAlone steps step) ⊎ ((step.kind ≡ kinds.Hit) × ReadsOnly steps step owner)
+IsOwned steps position step owner = ((owner ≡ position) × (¬ (step.kind ≡ kinds.Hit))) ⊎ ((step.kind ≡ kinds.Hit) × ReadsAt steps step owner)
+
+-- the owners of all calls
+pub record AreOwners (steps : List NumberedCall) (owners : List ℕ) : Type 0 where
+  pub count : length owners ≡ length steps
+  pub owned : (position : ℕ) (step : NumberedCall) (owner : ℕ) → slice_get steps position ≡ Some step → slice_get owners position ≡ Some owner → IsOwned steps position step owner
 
 -- a hit at a position may have read several puts
 pub record IsUnsure (steps : List NumberedCall) (position : ℕ) : Type 0 where
@@ -71,10 +86,10 @@ pub record IsUnsure (steps : List NumberedCall) (position : ℕ) : Type 0 where
   pub kind : step.kind ≡ kinds.Hit
   pub several : ReadsSeveral steps step
 
--- with which write each call below a position goes, and the hits that may have read several puts
-pub record AreOwners (steps : List NumberedCall) (upto : ℕ) (owners unsure : List ℕ) : Type 0 where
+-- the sure owners of the calls below a position, and the hits that may have read several puts
+pub record AreSureOwners (steps : List NumberedCall) (upto : ℕ) (owners unsure : List ℕ) : Type 0 where
   pub count : length owners ≡ upto
-  pub owned : (position : ℕ) (step : NumberedCall) (owner : ℕ) → slice_get steps position ≡ Some step → slice_get owners position ≡ Some owner → IsOwned steps position step owner
+  pub owned : (position : ℕ) (step : NumberedCall) (owner : ℕ) → slice_get steps position ≡ Some step → slice_get owners position ≡ Some owner → IsSurelyOwned steps position step owner
   pub are_unsure : All (IsUnsure steps) unsure
   pub all : (position : ℕ) → position < upto → IsUnsure steps position → Contains unsure position
   pub rise : AllPairs (λ earlier later. earlier < later) unsure
@@ -95,7 +110,7 @@ pub record IsRefused (steps : List NumberedCall) (position : ℕ) : Type 0 where
 
 -- with which write each call goes, or a hit that can have read no put
 abbrev pub IsOwning : List NumberedCall → Owning → Type 0
-IsOwning steps (Each owners) = AreOwners steps (length steps) owners.owners.items owners.unsure.items
+IsOwning steps (Each owners) = AreSureOwners steps (length steps) owners.owners.items owners.unsure.items
 IsOwning steps (Refused position) = IsRefused steps position
 
 -- an owner is noted: the call's owner, and the call itself if it is unsure; if it can have read no put, it is not

@@ -3,7 +3,7 @@ ghost use Rattle.std.specs.Prelude.{◌≡◌, ◌<◌, ◌≤◌, ◌^◌, List
 ghost use Rattle.trace_file.specs.declared.call.Call.{Call};
 ghost use Rattle.certificate_checker.specs.Acceptance.{IsAccepted};
 ghost use Rattle.certificate_finder.specs.Finding.{AreUndecided, IfAccepted, IfRejected, IfUndecided, IsFound, IsIntervalOrNone};
-ghost use Rattle.certificate_finder.specs.Owning.{AreOwners};
+ghost use Rattle.certificate_finder.specs.Owning.{AreSureOwners};
 ghost use Rattle.certificate_finder.specs.Steps.{AreSteps, IsFit};
 ghost use Rattle.certificate_finder.specs.Witnesses.{IsWitness};
 
@@ -107,7 +107,7 @@ fn found_of(alloc: Global, steps: &[NumberedCall]) -> Result<Found, AllocError>
 fn arranged(alloc: Global, steps: &[NumberedCall], owners: Owners) -> Result<Found, AllocError>
     requires few { length steps.now < 2 ^ 31 }
     requires fit { All IsFit steps.now }
-    requires owners { AreOwners steps.now (length steps.now) owners.owners.items owners.unsure.items }
+    requires owners { AreSureOwners steps.now (length steps.now) owners.owners.items owners.unsure.items }
     ensures { IfOk result (λ found. (history : List Call) → AreSteps history steps.now
         → All (λ call. call.start ≤ call.end) history → IsFound history found) }
 {

@@ -1,5 +1,5 @@
 // The calls of each key one after the other, and the points at which they happen.
-ghost use Rattle.std.specs.Prelude.{◌≡◌, ◌<◌, ◌≤◌, ◌^◌, [], ℕ, List, All, AllPairs, IfOk, length};
+ghost use Rattle.std.specs.Prelude.{◌≡◌, ◌<◌, ◌≤◌, ◌^◌, ℕ, List, All, AllPairs, IfOk, length};
 ghost use Rattle.trace_file.specs.declared.call.Call.{Call};
 ghost use Rattle.certificate_checker.specs.Acceptance.{IsAccepted};
 ghost use Rattle.certificate_finder.specs.Lining.{ArePlaces, AreSpots, AreTurned, HavePoints, InLine, IsLine, IsNextPoint, IsPointAt, positions_in, turn_of};
@@ -15,7 +15,7 @@ use crate::zone::{Zone, zone_at};
 use std::alloc::{AllocError, Global};
 use trace_file::Certificate;
 
-/// The calls of a history by points of time, if each hit goes with a write and the zones follow on.
+/// The calls of a history by points of time, if each hit goes with a put that it can have read and the zones follow on.
 pub(crate) fn certificate_by_zones(
     alloc: Global,
     steps: &[NumberedCall],
@@ -24,7 +24,7 @@ pub(crate) fn certificate_by_zones(
 ) -> Result<Certificate, AllocError>
     requires few { length steps.now < 2 ^ 31 }
     requires few_zones { length zones.now < 2 ^ 31 }
-    requires owners { AreOwners steps.now (length steps.now) owners.now [] }
+    requires owners { AreOwners steps.now owners.now }
     requires zones { AreZones steps.now owners.now zones.now }
     requires follow { AllPairs FollowOn zones.now }
     ensures { IfOk result (λ certificate. (history : List Call) → AreSteps history steps.now

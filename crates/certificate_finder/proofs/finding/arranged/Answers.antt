@@ -1,15 +1,15 @@
-use Rattle.std.proofs.Common.{◌<◌, [], length, sym, ap, subst, arith}
+use Rattle.std.proofs.Common.{◌<◌, length, sym, ap, subst, arith}
 use Rattle.std.specs.Prelude.{All, AllPairs}
 use Rattle.certificate_finder.specs.declared.found.Found.TheVariants.{Rejected}
 use Rattle.certificate_finder.specs.Finding.{IsFound}
 use Rattle.certificate_finder.specs.Owning.{AreOwners}
 use Rattle.certificate_finder.specs.Zones.{AreCrossing, AreZones, FollowOn, IsCrossingOrNone}
-use Rattle.certificate_finder.proofs.FoundLemmas.{found_crossed, owners_in, some_left, sure}
+use Rattle.certificate_finder.proofs.FoundLemmas.{found_crossed, sure_owners_in, some_left, sure}
 use Rattle.certificate_finder.proofs.Settling.{undecided}
 use Rattle.certificate_finder.proofs.finding.arranged.Goals as goal
 
 pub zones_of-requires-clause-within : goal.zones_of-requires-clause-within
-zones_of-requires-clause-within c = subst (λ os. All (λ owner. owner < length c.args.steps.now) os) (sym c.as_slice-owned.ensures.value) (owners_in c.args.steps.now c.args.owners.owners.items c.args.owners.unsure.items c.requires.owners)
+zones_of-requires-clause-within c = subst (λ os. All (λ owner. owner < length c.args.steps.now) os) (sym c.as_slice-owned.ensures.value) (sure_owners_in c.args.steps.now c.args.owners.owners.items c.args.owners.unsure.items c.requires.owners)
 
 pub returns-in-Some : goal.returns-in-Some
 returns-in-Some c = λ history are intervals. subst (λ w. IsFound history (Rejected w)) (sym c.witness.ensures) (found_crossed history c.args.steps.now c.args.owners.owners.items c.args.owners.unsure.items c.in_ok-zones.zones.items c.in-Some.crossing are c.requires.owners (subst (λ os. AreZones c.args.steps.now os c.in_ok-zones.zones.items) c.as_slice-owned.ensures.value c.in_ok-zones.ensures) (subst (λ zs. AreCrossing zs c.in-Some.crossing) c.as_slice-listed.ensures.value c.in-Some.ensures))
@@ -28,7 +28,7 @@ pub certificate_by_zones-requires-clause-few_zones : goal.certificate_by_zones-r
 certificate_by_zones-requires-clause-few_zones c = let l = c.in_ok-zones.ensures.lists.few in let few = c.requires.few in let same = ap length c.as_slice-listed.ensures.value in omega arith
 
 pub certificate_by_zones-requires-clause-owners : goal.certificate_by_zones-requires-clause-owners
-certificate_by_zones-requires-clause-owners c = subst (λ os. AreOwners c.args.steps.now (length c.args.steps.now) os []) (sym c.as_slice-owned.ensures.value) (sure c.args.steps.now c.args.owners.owners.items c.args.owners.unsure.items c.as_slice-doubtful.result.now c.as_slice-doubtful.ensures.value c.if-not-is_empty.ensures c.requires.owners)
+certificate_by_zones-requires-clause-owners c = subst (λ os. AreOwners c.args.steps.now os) (sym c.as_slice-owned.ensures.value) (sure c.args.steps.now c.args.owners.owners.items c.args.owners.unsure.items c.as_slice-doubtful.result.now c.as_slice-doubtful.ensures.value c.if-not-is_empty.ensures c.requires.owners)
 
 pub certificate_by_zones-requires-clause-zones : goal.certificate_by_zones-requires-clause-zones
 certificate_by_zones-requires-clause-zones c = subst (λ zs. AreZones c.args.steps.now c.as_slice-owned.result.now zs) (sym c.as_slice-listed.ensures.value) c.in_ok-zones.ensures

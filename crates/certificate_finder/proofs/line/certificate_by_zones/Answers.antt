@@ -1,4 +1,4 @@
-use Rattle.std.proofs.Common.{◌<◌, [], length, sym, ap, ◌∙◌, subst, arith}
+use Rattle.std.proofs.Common.{◌<◌, length, sym, ap, ◌∙◌, subst, arith}
 use Rattle.std.specs.Prelude.{All}
 use Rattle.certificate_finder.specs.declared.ranked.Ranked.{Ranked}
 use Rattle.certificate_finder.proofs.FoundLemmas.{owners_in}
@@ -12,7 +12,7 @@ pub line_of-requires-clause-count : goal.line_of-requires-clause-count
 line_of-requires-clause-count c = c.requires.owners.count
 
 pub line_of-requires-clause-within : goal.line_of-requires-clause-within
-line_of-requires-clause-within c = owners_in c.args.steps.now c.args.owners.now [] c.requires.owners
+line_of-requires-clause-within c = owners_in c.args.steps.now c.args.owners.now c.requires.owners
 
 pub line_of-requires-clause-places : goal.line_of-requires-clause-places
 line_of-requires-clause-places c = ap length c.as_slice-placed.ensures.value ∙ c.in_ok-places.ensures.len
