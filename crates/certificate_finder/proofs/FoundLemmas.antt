@@ -64,10 +64,13 @@ pub owners_of_sure : (steps : List NumberedCall) (owners : List ℕ) → AreSure
 owners_of_sure steps owners own = record {
   count = own.count;
   owned = λ p step owner at owner_at. elim (own.owned p step owner at owner_at) [
-    | inl alone ↦ inl (alone.0, λ hit.
-        let none = own.all p (slice_get_within steps p step at) (record { step = step; at = at; kind = hit; several = alone.1 hit }) in
-        let less : none.0 < 0 = none.1 in
-        omega arith)
+    | inl alone ↦ inl (
+      alone.0,
+      λ hit.
+          let none = own.all p (slice_get_within steps p step at) (record { step = step; at = at; kind = hit; several = alone.1 hit }) in
+          let less : none.0 < 0 = none.1 in
+          omega arith,
+    )
     | inr only ↦ inr (only.0, record { put = only.1.put; at = only.1.at; reads = only.1.reads })
   ];
 }

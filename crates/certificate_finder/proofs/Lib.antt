@@ -27,3 +27,8 @@ mod ReadingLemmas
 mod TreeLemmas
 mod LeafLemmas
 mod AskLemmas
+mod OfferLemmas
+mod ChoosingLemmas
+mod TurnedLemmas
+mod DecidingLemmas
+mod TryingLemmas

@@ -1,5 +1,7 @@
 pub mod Asking
 pub mod Bests
+pub mod Choosing
+pub mod Deciding
 pub mod Excluding
 pub mod Finding
 pub mod Hits
@@ -8,6 +10,7 @@ pub mod Leaves
 pub mod Lining
 pub mod Lists
 pub mod Numbers
+pub mod Offering
 pub mod Owning
 pub mod Points
 pub mod Putting
@@ -16,6 +19,7 @@ pub mod Reads
 pub mod Spots
 pub mod Steps
 pub mod Trees
+pub mod Trying
 pub mod Turns
 pub mod Witnesses
 pub mod Writing

@@ -8,6 +8,7 @@ ghost use Rattle.certificate_finder.specs.Steps.{AreSteps, IsFit};
 ghost use Rattle.certificate_finder.specs.Witnesses.{IsWitness};
 
 use crate::crossings::crossing_of;
+use crate::deciding::certificate_by_rules;
 use crate::found::Found;
 use crate::hits::read_result_of;
 use crate::line::certificate_by_zones;
@@ -120,6 +121,10 @@ fn arranged(alloc: Global, steps: &[NumberedCall], owners: Owners) -> Result<Fou
     }
     let doubtful = unsure.as_slice();
     if !doubtful.is_empty() {
+        let by_rules = certificate_by_rules(alloc, steps, owned, doubtful)?;
+        if let Some(certificate) = by_rules {
+            return Ok(Found::Accepted(certificate));
+        }
         return Ok(Found::Undecided(unsure));
     }
     let certificate = certificate_by_zones(alloc, steps, owned, listed)?;

@@ -38,7 +38,7 @@ pub(crate) fn read_result_of(
 }
 
 /// The puts, with the writes that are over them.
-fn all_puts_of(alloc: Global, steps: &[NumberedCall]) -> Result<Vec<Put>, AllocError>
+pub(crate) fn all_puts_of(alloc: Global, steps: &[NumberedCall]) -> Result<Vec<Put>, AllocError>
     requires few { length steps.now < 2 ^ 31 }
     requires fit { All IsFit steps.now }
     ensures { IfOk result (λ puts. ArePuts steps.now puts.items) }

@@ -4,6 +4,7 @@ ghost use Rattle.trace_file.specs.Lent.{act_shown};
 ghost use Rattle.certificate_finder.specs.Steps.{kind_of as kind_of_act};
 
 use crate::call_kind::CallKind;
+use crate::times::Times;
 use trace_file::{ActRef, CallRef};
 
 /// A call, with a number in place of its key and one in place of its value.
@@ -41,6 +42,16 @@ impl NumberedCall {
             start: call.start,
             end: call.end,
             time: call.act.time(),
+        }
+    }
+
+    /// When it started and ended.
+    pub(crate) fn times(&self) -> Times
+        ensures { result ≡ record { start = self.now.start; end = self.now.end } }
+    {
+        Times {
+            start: self.start,
+            end: self.end,
         }
     }
 }

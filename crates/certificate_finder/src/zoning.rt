@@ -25,7 +25,27 @@ pub(crate) fn zones_of(
 {
     let earliest = earliest_of(alloc, steps, owners)?;
     let latest = latest_of(alloc, steps, owners)?;
-    let mut zones = listed_zones(alloc, steps, owners, earliest.as_slice(), latest.as_slice())?;
+    match sorted_zones(alloc, steps, owners, earliest.as_slice(), latest.as_slice()) {
+        Ok(zones) => Ok(zones),
+        Err(refused) => Err(refused),
+    }
+}
+
+/// The zones of all writes by the calls that end first and start last, by keys and middles.
+pub(crate) fn sorted_zones(
+    alloc: Global,
+    steps: &[NumberedCall],
+    owners: &[u32],
+    earliest: &[u32],
+    latest: &[u32],
+) -> Result<Vec<Zone>, AllocError>
+    requires few { length steps.now < 2 ^ 31 }
+    requires fit { All IsFit steps.now }
+    requires earliest { AreEarliest steps.now owners.now earliest.now }
+    requires latest { AreLatest steps.now owners.now latest.now }
+    ensures { IfOk result (λ zones. AreZones steps.now owners.now zones.items) }
+{
+    let mut zones = listed_zones(alloc, steps, owners, earliest, latest)?;
     zones.sort_unstable_by_key(|zone| zone.rank());
     Ok(zones)
 }

@@ -1,10 +1,12 @@
 use Rattle.std.proofs.Common.{◌<◌, length, sym, ap, subst, arith}
-use Rattle.std.specs.Prelude.{All, AllPairs}
+use Rattle.std.specs.Prelude.{All, AllPairs, MatchOption}
 use Rattle.certificate_finder.specs.declared.found.Found.TheVariants.{Rejected}
+use Rattle.certificate_finder.specs.Deciding.{MakesAccepted, NoneGives}
 use Rattle.certificate_finder.specs.Finding.{IsFound}
-use Rattle.certificate_finder.specs.Owning.{AreOwners}
+use Rattle.certificate_finder.specs.Owning.{AreOwners, AreSureOwners}
 use Rattle.certificate_finder.specs.Zones.{AreCrossing, AreZones, FollowOn, IsCrossingOrNone}
 use Rattle.certificate_finder.proofs.FoundLemmas.{found_crossed, sure_owners_in, some_left, sure}
+use Rattle.certificate_finder.proofs.TryingLemmas.{none_tried}
 use Rattle.certificate_finder.proofs.Settling.{undecided}
 use Rattle.certificate_finder.proofs.finding.arranged.Goals as goal
 
@@ -14,6 +16,9 @@ zones_of-requires-clause-within c = subst (λ os. All (λ owner. owner < length 
 pub returns-in-Some : goal.returns-in-Some
 returns-in-Some c = λ history are intervals. subst (λ w. IsFound history (Rejected w)) (sym c.witness.ensures) (found_crossed history c.args.steps.now c.args.owners.owners.items c.args.owners.unsure.items c.in_ok-zones.zones.items c.in-Some.crossing are c.requires.owners (subst (λ os. AreZones c.args.steps.now os c.in_ok-zones.zones.items) c.as_slice-owned.ensures.value c.in_ok-zones.ensures) (subst (λ zs. AreCrossing zs c.in-Some.crossing) c.as_slice-listed.ensures.value c.in-Some.ensures))
 
+pub certificate_by_rules-requires-clause-owners : goal.certificate_by_rules-requires-clause-owners
+certificate_by_rules-requires-clause-owners c = subst (λ os. AreSureOwners c.args.steps.now (length c.args.steps.now) os c.as_slice-doubtful.result.now) (sym c.as_slice-owned.ensures.value) (subst (λ us. AreSureOwners c.args.steps.now (length c.args.steps.now) c.args.owners.owners.items us) (sym c.as_slice-doubtful.ensures.value) c.requires.owners)
+
 pub returns-then-not-is_empty : goal.returns-then-not-is_empty
 returns-then-not-is_empty c = λ history are intervals. record {
   accepted = tt;
@@ -21,7 +26,11 @@ returns-then-not-is_empty c = λ history are intervals. record {
   undecided = undecided history c.args.steps.now are c.args.owners.owners.items c.args.owners.unsure.items c.requires.owners c.in_ok-zones.zones.items
       (subst (λ os. AreZones c.args.steps.now os c.in_ok-zones.zones.items) c.as_slice-owned.ensures.value c.in_ok-zones.ensures)
       (subst (λ zs. AllPairs FollowOn zs) c.as_slice-listed.ensures.value (subst (λ o. IsCrossingOrNone c.as_slice-listed.result.now o) c.in_default.is c.crossing_of.ensures))
-      intervals (some_left c.args.owners.unsure.items c.as_slice-doubtful.result.now c.as_slice-doubtful.ensures.value c.if-not-is_empty.ensures);
+      intervals (some_left c.args.owners.unsure.items c.as_slice-doubtful.result.now c.as_slice-doubtful.ensures.value c.if-not-is_empty.ensures)
+      (none_tried history c.args.steps.now are c.args.owners.owners.items c.args.owners.unsure.items c.requires.owners
+      (subst (λ os. NoneGives c.args.steps.now os c.args.owners.unsure.items) c.as_slice-owned.ensures.value
+      (subst (λ us. NoneGives c.args.steps.now c.as_slice-owned.result.now us) c.as_slice-doubtful.ensures.value
+      (subst (λ o. MatchOption o (NoneGives c.args.steps.now c.as_slice-owned.result.now c.as_slice-doubtful.result.now) (MakesAccepted c.args.steps.now)) c.in_default-by_rules.is c.in_ok-by_rules.ensures))));
 }
 
 pub certificate_by_zones-requires-clause-few_zones : goal.certificate_by_zones-requires-clause-few_zones

@@ -1,0 +1,6 @@
+use Rattle.certificate_finder.specs.Offering.{AreListed}
+use Rattle.certificate_finder.proofs.in_turn.listed_hits.Given as goal
+
+-- the hits so far have their ranks
+abbrev pub invariant-loop-index : goal.invariant-loop-index
+invariant-loop-index l = AreListed l.steps l.unsure l.index l.hits.items
