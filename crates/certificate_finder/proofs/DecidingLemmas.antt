@@ -11,11 +11,11 @@ use Rattle.certificate_finder.specs.declared.rule.Rule.{Rule}
 use Rattle.certificate_finder.specs.Choosing.{ChoosesBy, all_rules}
 use Rattle.certificate_finder.specs.Deciding.{FailsBy, IsReady, MakesAccepted, NoneGives}
 use Rattle.certificate_finder.specs.Lining.{positions_in}
-use Rattle.certificate_finder.specs.Offering.{AreTurned, GoesByItself, ReadsIn, times_in}
+use Rattle.certificate_finder.specs.Offering.{HitsInTurn, GoesByItself, ReadsIn, times_in}
 use Rattle.certificate_finder.specs.Owning.{AreOwners, IsUnsure, ReadsLive}
 use Rattle.certificate_finder.proofs.EndLemmas.{found_at}
 use Rattle.certificate_finder.proofs.Listing.{all_from_at, contains_at, same_at}
-use Rattle.certificate_finder.proofs.TurnedLemmas.{count_by, owner_by}
+use Rattle.certificate_finder.proofs.InTurnLemmas.{count_by, owner_by}
 
 module _ (steps : List NumberedCall) (owners : List ℕ) (puts : List Put) (links : List ℕ) (hits : List Ranked) (ready : IsReady steps owners puts links hits) where
   listed : (hit : ℕ) → Contains (positions_in hits) hit → IsUnsure steps hit
@@ -55,6 +55,6 @@ module _ (steps : List NumberedCall) (owners : List ℕ) (puts : List Put) (link
   }
 
 -- if no rule gives a certificate, none gives one
-pub none_gives : (steps : List NumberedCall) (owners unsure : List ℕ) (hits : List Ranked) → AreTurned steps unsure hits → (found : Option (List ℕ)) → MatchOption found (All (FailsBy steps owners (positions_in hits)) all_rules) (MakesAccepted steps) → MatchOption found (NoneGives steps owners unsure) (MakesAccepted steps)
+pub none_gives : (steps : List NumberedCall) (owners unsure : List ℕ) (hits : List Ranked) → HitsInTurn steps unsure hits → (found : Option (List ℕ)) → MatchOption found (All (FailsBy steps owners (positions_in hits)) all_rules) (MakesAccepted steps) → MatchOption found (NoneGives steps owners unsure) (MakesAccepted steps)
 none_gives steps owners unsure hits turned None fail = record { hits = hits; turned = turned; fail = fail }
 none_gives steps owners unsure hits turned (Some certificate) makes = makes

@@ -29,6 +29,6 @@ mod LeafLemmas
 mod AskLemmas
 mod OfferLemmas
 mod ChoosingLemmas
-mod TurnedLemmas
+mod InTurnLemmas
 mod DecidingLemmas
 mod TryingLemmas

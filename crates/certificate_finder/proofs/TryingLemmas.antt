@@ -21,7 +21,7 @@ use Rattle.certificate_finder.specs.Choosing.{ChoosesBy, ComesBefore, IsChosen, 
 use Rattle.certificate_finder.specs.Deciding.{FailsBy, NoneGives}
 use Rattle.certificate_finder.specs.Lining.{positions_in}
 use Rattle.certificate_finder.specs.Lists.{TellsOne}
-use Rattle.certificate_finder.specs.Offering.{AreTurned, ReadsIn, times_in}
+use Rattle.certificate_finder.specs.Offering.{HitsInTurn, ReadsIn, times_in}
 use Rattle.certificate_finder.specs.Owning.{AreSureOwners, IsUnsure, ReadsLive}
 use Rattle.certificate_finder.specs.Reads.{CouldRead, HasSeveral}
 use Rattle.certificate_finder.specs.Steps.{AreSteps, IsWriting, kind_of}
@@ -159,7 +159,7 @@ module _ (history : List Call) (steps : List NumberedCall) (are : AreSteps histo
 
   -- ---- hits in turn
 
-  pub are_in_turn : (owners unsure : List ℕ) (hits : List Ranked) → AreSureOwners steps (length steps) owners unsure → AreTurned steps unsure hits → AreInTurn history (positions_in hits)
+  pub are_in_turn : (owners unsure : List ℕ) (hits : List Ranked) → AreSureOwners steps (length steps) owners unsure → HitsInTurn steps unsure hits → AreInTurn history (positions_in hits)
   are_in_turn owners unsure hits own turned = record {
     each = all_from_at (HasSeveral history) (positions_in hits) (λ k hit at. has_several history steps are hit (All-contains (IsUnsure steps) unsure hit own.are_unsure ((turned.same hit).1 (contains_at (positions_in hits) k hit at))));
     all = λ hit has. let is = several_of history steps are hit has in (turned.same hit).0 (own.all hit (slice_get_within steps hit is.step is.at) is);
@@ -210,7 +210,7 @@ module _ (history : List Call) (steps : List NumberedCall) (are : AreSteps histo
 
   -- ---- no rule gives a certificate
 
-  gives_none : (owners unsure : List ℕ) (hits : List Ranked) (rule : Rule) → AreSureOwners steps (length steps) owners unsure → AreTurned steps unsure hits → FailsBy steps owners (positions_in hits) rule → GivesNone history rule
+  gives_none : (owners unsure : List ℕ) (hits : List Ranked) (rule : Rule) → AreSureOwners steps (length steps) owners unsure → HitsInTurn steps unsure hits → FailsBy steps owners (positions_in hits) rule → GivesNone history rule
   gives_none owners unsure hits rule own turned fails = record {
     owners = owners;
     hits = positions_in hits;

@@ -10,7 +10,7 @@ use Rattle.certificate_finder.specs.declared.rule.Rule.{Rule}
 use Rattle.certificate_finder.specs.declared.zone.Zone.{Zone}
 use Rattle.certificate_finder.specs.Choosing.{ChoosesBy, all_rules}
 use Rattle.certificate_finder.specs.Lining.{positions_in}
-use Rattle.certificate_finder.specs.Offering.{AreLinks, AreTurned, ReadsIn, times_in}
+use Rattle.certificate_finder.specs.Offering.{AreLinks, HitsInTurn, ReadsIn, times_in}
 use Rattle.certificate_finder.specs.Owning.{AreSureOwners}
 use Rattle.certificate_finder.specs.Putting.{ArePuts}
 use Rattle.certificate_finder.specs.Steps.{AreSteps}
@@ -35,10 +35,10 @@ pub record IsReady (steps : List NumberedCall) (owners : List ℕ) (puts : List 
   pub own : AreSureOwners steps (length steps) owners unsure
   pub puts_are : ArePuts steps puts
   pub links_are : AreLinks puts links
-  pub turned : AreTurned steps unsure hits
+  pub turned : HitsInTurn steps unsure hits
 
 -- no rule gives a certificate
 pub record NoneGives (steps : List NumberedCall) (owners unsure : List ℕ) : Type 0 where
   pub hits : List Ranked
-  pub turned : AreTurned steps unsure hits
+  pub turned : HitsInTurn steps unsure hits
   pub fail : All (FailsBy steps owners (positions_in hits)) all_rules

@@ -105,6 +105,6 @@ pub record AreListed (steps : List NumberedCall) (unsure : List ℕ) (upto : ℕ
   pub ranks : All (λ (hit : Ranked). (hit.rank ≡ rank_of_hit steps hit.position) × (hit.position < 2 ^ 32)) hits
 
 -- the same hits, in turn
-pub record AreTurned (steps : List NumberedCall) (unsure : List ℕ) (hits : List Ranked) : Type 0 where
+pub record HitsInTurn (steps : List NumberedCall) (unsure : List ℕ) (hits : List Ranked) : Type 0 where
   pub same : (hit : ℕ) → Contains unsure hit ↔ Contains (positions_in hits) hit
   pub order : AllPairs (ComesBefore (times_in steps)) (positions_in hits)

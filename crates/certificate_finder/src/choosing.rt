@@ -66,7 +66,8 @@ fn chosen_put(
     }
 }
 
-/// Of the puts that a hit can have read the one that a rule prefers.
+/// Of the puts that a hit can have read the one that a rule prefers. It goes back over the puts that start no later than
+/// the hit ends, and by the links past those that can no longer be read.
 fn best_offer(
     groups: &Groups,
     steps: &[NumberedCall],

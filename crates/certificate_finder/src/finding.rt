@@ -29,11 +29,13 @@ pub const MAX_CALLS: usize = 2147483647;
 ///
 /// A hit can have read a put of its key and value that began before the hit ended and had not expired at its moment,
 /// and after which no write of the key lies that ended before the hit began. If each hit can have read at most one, it
-/// is decided.
+/// is decided. Otherwise five rules choose a put for each other hit, one rule after the other, until one gives a
+/// certificate.
 ///
 /// Its time is `n log n` for `n` calls if the keys and values were not picked to be slow: the map that it numbers them
-/// by hashes them by a seed that anyone can read. Whoever judges a stranger's history calls `find_with_hasher`. It
-/// takes about 250 bytes a call, and copies no key and no value. `AllocError` comes if memory was refused, and if there
+/// by hashes them by a seed that anyone can read. Whoever judges a stranger's history calls `find_with_hasher`. Each
+/// rule that is tried takes as much again, and for each hit a step for each put that overlaps those it can have read:
+/// many if many long puts of one key have one value. It takes about 250 bytes a call, and copies no key and no value. `AllocError` comes if memory was refused, and if there
 /// are more than `MAX_CALLS` calls.
 pub fn find(alloc: Global, history: &History) -> Result<Found, AllocError>
     ensures accepted { IfOk result (λ found. IfAccepted found (IsAccepted history.now)) }

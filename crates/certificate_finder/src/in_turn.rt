@@ -1,6 +1,6 @@
 // The hits that can have read several puts, in the order in which they get one.
 ghost use Rattle.std.specs.Prelude.{◌<◌, All, AllPairs, IfOk, length};
-ghost use Rattle.certificate_finder.specs.Offering.{AreListed, AreTurned};
+ghost use Rattle.certificate_finder.specs.Offering.{AreListed, HitsInTurn};
 
 use crate::numbered_call::{NumberedCall, step_at};
 use crate::numbers::number_at;
@@ -15,7 +15,7 @@ pub(crate) fn hits_in_turn(
 ) -> Result<Vec<Ranked>, AllocError>
     requires within { All (λ hit. hit < length steps.now) unsure.now }
     requires rise { AllPairs (λ earlier later. earlier < later) unsure.now }
-    ensures { IfOk result (λ hits. AreTurned steps.now unsure.now hits.items) }
+    ensures { IfOk result (λ hits. HitsInTurn steps.now unsure.now hits.items) }
 {
     let mut hits = listed_hits(alloc, steps, unsure)?;
     hits.sort_unstable_by_key(|hit| hit.rank);

@@ -4,7 +4,7 @@ use Rattle.certificate_finder.specs.Lining.{positions_in}
 use Rattle.certificate_finder.specs.Offering.{GoesByItself, ReadsIn, times_in}
 use Rattle.certificate_finder.specs.Owning.{IsUnsure}
 use Rattle.certificate_finder.proofs.Listing.{all_at}
-use Rattle.certificate_finder.proofs.TurnedLemmas.{chosen_next, next_fresh, position_at, untouched}
+use Rattle.certificate_finder.proofs.InTurnLemmas.{chosen_next, next_fresh, position_at, untouched}
 use Rattle.certificate_finder.proofs.choosing.choose.Goals as goal
 
 pub chosen_put-put-requires-clause-unsure : goal.chosen_put-put-requires-clause-unsure

@@ -1,7 +1,7 @@
 use Rattle.std.proofs.Common.{rules}
 use Rattle.std.proofs.lemmas.List.Sorted.{IsNonDecreasingBy-from_sort_by_key}
 use Rattle.certificate_finder.specs.declared.ranked.Ranked.{Ranked}
-use Rattle.certificate_finder.proofs.TurnedLemmas.{are_turned}
+use Rattle.certificate_finder.proofs.InTurnLemmas.{are_turned}
 use Rattle.certificate_finder.proofs.in_turn.hits_in_turn.Goals as goal
 
 pub returns : goal.returns

@@ -1,6 +1,6 @@
 use Rattle.std.proofs.Common.{◌+◌, sym, subst, arith}
 use Rattle.certificate_finder.specs.Offering.{AreListed}
-use Rattle.certificate_finder.proofs.TurnedLemmas.{listed_more}
+use Rattle.certificate_finder.proofs.InTurnLemmas.{listed_more}
 use Rattle.certificate_finder.proofs.in_turn.listed_hits.Goals as goal
 
 pub loop-index-preserved : goal.loop-index-preserved

@@ -19,7 +19,7 @@ const STALE: &str =
     "alice 10 14 put color red\nbob 16 21 put color blue\ncarol 25 30 hit color red\n";
 
 /// Texts, each with its object. The verdicts were worked out by hand.
-const CASES: [Case; 9] = [
+const CASES: [Case; 10] = [
     Case {
         text: "",
         explain: true,
@@ -61,7 +61,13 @@ const CASES: [Case; 9] = [
     Case {
         text: "a 1 9 put k v\nb 2 8 put k v\nc 3 4 hit k v\n",
         explain: true,
-        told: "{\"calls\":3,\"verdict\":\"undecided\",\"hits\":1}\n",
+        told: "{\"calls\":3,\"verdict\":\"accepted\"}\n",
+        end: JudgeEnd::Accepted,
+    },
+    Case {
+        text: "a 0 9 put k v\nb 0 9 put k v\nc 0 9 put k w\nd 1 2 hit k w\ne 3 4 hit k v\nd 5 6 hit k w\n",
+        explain: true,
+        told: "{\"calls\":6,\"verdict\":\"undecided\",\"hits\":1}\n",
         end: JudgeEnd::Undecided,
     },
     Case {

@@ -27,7 +27,7 @@ the hit of red (line 3) is stale: put red (line 1) ended at 14, before put blue 
 ";
 
 /// Texts, each with what is reported of it. The verdicts were worked out by hand.
-const CASES: [Case; 14] = [
+const CASES: [Case; 15] = [
     Case {
         text: "",
         explain: true,
@@ -102,6 +102,12 @@ const CASES: [Case; 14] = [
     },
     Case {
         text: "a 1 9 put k v\nb 2 8 put k v\nc 3 4 hit k v\n",
+        explain: true,
+        told: "accepted 3 calls\n",
+        end: JudgeEnd::Accepted,
+    },
+    Case {
+        text: "a 0 9 put k v\nb 0 9 put k v\nc 0 9 put k w\nd 1 2 hit k w\ne 3 4 hit k v\nd 5 6 hit k w\n",
         explain: true,
         told: "undecided 1 hits\n",
         end: JudgeEnd::Undecided,

@@ -197,7 +197,7 @@ fn what_is_found_for_telling_histories(rt: HostRuntime) -> Result<(), Fail> {
                 (1, 0, 9, Did::Put(1)),
                 (1, 1, 2, Did::Hit(1)),
             ],
-            Want::Undecided,
+            Want::Accepted,
         ),
         (
             &[
@@ -207,7 +207,7 @@ fn what_is_found_for_telling_histories(rt: HostRuntime) -> Result<(), Fail> {
             ],
             Want::Accepted,
         ),
-        // Nothing is decided of one hit, and another one can have read no put.
+        // One hit can have read two puts, and another one none.
         (
             &[
                 (1, 0, 9, Did::Put(1)),
@@ -304,7 +304,7 @@ fn what_is_found_for_writes_that_are_crossed(rt: HostRuntime) -> Result<(), Fail
             ],
             Want::Accepted,
         ),
-        // Beside a hit for which nothing may be decided.
+        // Beside a hit that can have read two puts.
         (
             &[
                 (2, 0, 9, Did::Put(1)),
@@ -347,7 +347,7 @@ fn what_is_found_where_values_expire(rt: HostRuntime) -> Result<(), Fail> {
                 (1, 0, 9, Did::Put(1)),
                 (1, 1, 2, Did::HitAt(1, 6)),
             ],
-            Want::Undecided,
+            Want::Accepted,
         ),
         // At the greatest moments, of a put that never expires and one that expires last.
         (
@@ -365,7 +365,7 @@ fn what_is_found_where_values_expire(rt: HostRuntime) -> Result<(), Fail> {
                 (1, 0, 9, Did::Expiring(1, 18446744073709551614)),
                 (1, 1, 2, Did::HitAt(1, 18446744073709551613)),
             ],
-            Want::Undecided,
+            Want::Accepted,
         ),
         // The one that is live was removed; and beside such a one another is live that was not: it alone can have been read.
         (
@@ -411,7 +411,7 @@ fn what_is_found_where_values_expire(rt: HostRuntime) -> Result<(), Fail> {
                 (1, 4, 9, Did::Expiring(2, 9)),
                 (1, 6, 7, Did::HitAt(1, 5)),
             ],
-            Want::Undecided,
+            Want::Accepted,
         ),
         // Two reads that only one of two puts explains, and between them another value.
         (
@@ -424,6 +424,169 @@ fn what_is_found_where_values_expire(rt: HostRuntime) -> Result<(), Fail> {
                 (1, 5, 6, Did::HitAt(1, 6)),
             ],
             Want::Crossed,
+        ),
+    ];
+    find_each(rt.alloc(), &table)
+}
+
+#[test]
+fn what_is_found_where_values_repeat(rt: HostRuntime) -> Result<(), Fail> {
+    let table: [(&[Row], Want); 7] = [
+        // Two equal puts, with a hit of each, and a removal between them.
+        (
+            &[
+                (1, 0, 4, Did::Put(1)),
+                (1, 2, 9, Did::Put(1)),
+                (1, 1, 3, Did::Hit(1)),
+                (1, 5, 6, Did::Remove),
+                (1, 7, 8, Did::Hit(1)),
+            ],
+            Want::Accepted,
+        ),
+        // Two callers miss and both load the row, which changes: twice.
+        (
+            &[
+                (1, 0, 1, Did::Miss),
+                (1, 0, 2, Did::Miss),
+                (1, 2, 5, Did::Put(1)),
+                (1, 3, 6, Did::Put(1)),
+                (1, 6, 7, Did::Hit(1)),
+                (1, 8, 9, Did::Remove),
+                (1, 10, 13, Did::Put(2)),
+                (1, 11, 14, Did::Put(2)),
+                (1, 12, 15, Did::Hit(2)),
+                (1, 16, 17, Did::Hit(2)),
+            ],
+            Want::Accepted,
+        ),
+        // Two values that are put by turns, each by two callers, with hits of both.
+        (
+            &[
+                (1, 0, 3, Did::Put(0)),
+                (1, 1, 4, Did::Put(0)),
+                (1, 3, 4, Did::Hit(0)),
+                (1, 5, 8, Did::Put(1)),
+                (1, 6, 9, Did::Put(1)),
+                (1, 6, 6, Did::Hit(0)),
+                (1, 8, 9, Did::Hit(1)),
+                (1, 10, 13, Did::Put(0)),
+                (1, 11, 11, Did::Hit(1)),
+                (1, 12, 14, Did::Hit(0)),
+            ],
+            Want::Accepted,
+        ),
+        // A value of one put is read, then one of two puts, then the first one again: no order has all three.
+        (
+            &[
+                (1, 0, 9, Did::Put(1)),
+                (1, 0, 9, Did::Put(1)),
+                (1, 0, 9, Did::Put(2)),
+                (1, 1, 2, Did::Hit(2)),
+                (1, 3, 4, Did::Hit(1)),
+                (1, 5, 6, Did::Hit(2)),
+            ],
+            Want::Undecided,
+        ),
+        // Such a one, and at another key a hit that can have read no put.
+        (
+            &[
+                (1, 0, 9, Did::Put(1)),
+                (1, 0, 9, Did::Put(1)),
+                (1, 0, 9, Did::Put(2)),
+                (1, 1, 2, Did::Hit(2)),
+                (1, 3, 4, Did::Hit(1)),
+                (1, 5, 6, Did::Hit(2)),
+                (2, 5, 6, Did::Hit(2)),
+            ],
+            Want::Hit,
+        ),
+        // Beside hits that several puts fit, hits of one put each exclude every order.
+        (
+            &[
+                (1, 0, 9, Did::Put(1)),
+                (1, 0, 9, Did::Put(1)),
+                (1, 0, 9, Did::Put(2)),
+                (1, 0, 9, Did::Put(3)),
+                (1, 1, 2, Did::Hit(2)),
+                (1, 3, 4, Did::Hit(3)),
+                (1, 3, 4, Did::Hit(1)),
+                (1, 5, 6, Did::Hit(2)),
+            ],
+            Want::Crossed,
+        ),
+        // An order has these three hits, but no rule finds it: each takes one of the equal puts for both its hits.
+        (
+            &[
+                (1, 0, 9, Did::Put(1)),
+                (1, 0, 9, Did::Put(1)),
+                (1, 0, 9, Did::Put(2)),
+                (1, 1, 2, Did::Hit(1)),
+                (1, 3, 4, Did::Hit(2)),
+                (1, 5, 6, Did::Hit(1)),
+            ],
+            Want::Undecided,
+        ),
+    ];
+    find_each(rt.alloc(), &table)
+}
+
+/// Histories each of which has a certificate by one of the five rules and by none of the others.
+#[test]
+fn each_rule_finds_what_no_other_does(rt: HostRuntime) -> Result<(), Fail> {
+    let table: [(&[Row], Want); 5] = [
+        // By the least growth of the zone.
+        (
+            &[
+                (1, 1, 2, Did::Expiring(2, 3)),
+                (1, 1, 3, Did::Expiring(2, 2)),
+                (1, 5, 5, Did::HitAt(2, 2)),
+                (1, 5, 5, Did::HitAt(2, 0)),
+            ],
+            Want::Accepted,
+        ),
+        // By the latest start.
+        (
+            &[
+                (1, 1, 5, Did::Expiring(1, 2)),
+                (1, 2, 5, Did::Expiring(1, 2)),
+                (1, 0, 2, Did::Put(1)),
+                (1, 7, 7, Did::HitAt(1, 2)),
+                (1, 0, 1, Did::HitAt(1, 0)),
+            ],
+            Want::Accepted,
+        ),
+        // By the earliest start.
+        (
+            &[
+                (1, 0, 7, Did::Put(2)),
+                (1, 4, 6, Did::Put(1)),
+                (1, 3, 3, Did::Put(2)),
+                (1, 6, 6, Did::HitAt(2, 0)),
+                (1, 1, 4, Did::HitAt(1, 0)),
+            ],
+            Want::Accepted,
+        ),
+        // By the latest start at or before the hit's.
+        (
+            &[
+                (1, 2, 4, Did::Put(1)),
+                (1, 3, 3, Did::Expiring(2, 2)),
+                (1, 1, 6, Did::Put(1)),
+                (1, 0, 2, Did::HitAt(1, 0)),
+                (1, 4, 7, Did::HitAt(1, 0)),
+            ],
+            Want::Accepted,
+        ),
+        // By the latest start of those that ended before the hit.
+        (
+            &[
+                (1, 6, 6, Did::Expiring(2, 2)),
+                (1, 0, 8, Did::Expiring(1, 2)),
+                (1, 1, 6, Did::Put(1)),
+                (1, 2, 4, Did::HitAt(1, 1)),
+                (1, 7, 8, Did::HitAt(1, 1)),
+            ],
+            Want::Accepted,
         ),
     ];
     find_each(rt.alloc(), &table)

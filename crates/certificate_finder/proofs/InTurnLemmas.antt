@@ -15,7 +15,7 @@ use Rattle.certificate_finder.specs.declared.rule.Rule.{Rule}
 use Rattle.certificate_finder.specs.declared.times.Times.{Times}
 use Rattle.certificate_finder.specs.Choosing.{ChoosesBy, ComesBefore, IsChosen}
 use Rattle.certificate_finder.specs.Lining.{positions_in}
-use Rattle.certificate_finder.specs.Offering.{AreListed, AreTurned, rank_of_hit, times_in}
+use Rattle.certificate_finder.specs.Offering.{AreListed, HitsInTurn, rank_of_hit, times_in}
 use Rattle.certificate_finder.proofs.EndLemmas.{at_set_other, at_set_same}
 use Rattle.certificate_finder.proofs.Listing.{all_at, contains_at, distinct_permuted, index_of, pair_at, pairs_from_at, same_at}
 use Rattle.certificate_finder.proofs.OfferLemmas.{at_unset, start_is}
@@ -142,7 +142,7 @@ before_by steps p q a b apart le =
       ]
     ]
 
-pub are_turned : (steps : List NumberedCall) (unsure : List ℕ) (xs ys : List Ranked) → AllPairs (λ earlier later. earlier < later) unsure → AreListed steps unsure (length unsure) xs → IsPermutation xs ys → IsNonDecreasingBy (λ (hit : Ranked). hit.rank) ys → AreTurned steps unsure ys
+pub are_turned : (steps : List NumberedCall) (unsure : List ℕ) (xs ys : List Ranked) → AllPairs (λ earlier later. earlier < later) unsure → AreListed steps unsure (length unsure) xs → IsPermutation xs ys → IsNonDecreasingBy (λ (hit : Ranked). hit.rank) ys → HitsInTurn steps unsure ys
 are_turned steps unsure xs ys rise had moved sorted =
     let all : positions_in xs ≡ unsure = had.same ∙ take_all (length unsure) unsure (omega arith) in
     let moved_positions : IsPermutation (positions_in xs) (positions_in ys) = IsPermutation-map (λ (r : Ranked). r.position) xs ys moved in
