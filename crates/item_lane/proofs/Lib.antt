@@ -1,1 +1,3 @@
 mod CellLaws
+mod StoreLaws
+mod DoneLaws

@@ -1,1 +1,5 @@
 pub mod Cells
+pub mod Live
+pub mod Plans
+pub mod Choosing
+pub mod Doing

@@ -5,9 +5,25 @@
 #![tactic(auto)]
 
 mod cell;
+mod condition;
+mod deleting;
+mod follow;
 mod head;
 mod item;
+mod look;
+mod reply;
+mod storing;
+mod touching;
+mod turn;
+mod verdict;
 
 pub use cell::CellBuffer;
+pub use condition::{Condition, StoreMode};
+pub use deleting::delete;
 pub use head::Head;
 pub use item::Item;
+pub use look::get;
+pub use reply::Reply;
+pub use storing::{set, store_if};
+pub use touching::{Touched, get_and_touch, touch};
+pub use turn::Turn;

@@ -1,0 +1,13 @@
+-- A touch.
+use Rattle.item_lane.specs.Choosing.{touch_plan}
+use Rattle.item_lane.specs.Plans.{plan_shown}
+use Rattle.item_lane.proofs.DoneLaws.{done}
+use Rattle.item_lane.proofs.touching.touch.Goals as goal
+
+pub returns : goal.returns
+returns g c =
+    let d = g.D.PageDevice in
+    let a = c.args in
+    let l = c.look-seen in
+    done g.row.PAGE d.honest d.failures d.held a.key.now a.turn (touch_plan a.expires) a.lane.now l.new.lane c.follow.new.lane l.result l.new.found c.bytes.result.now c.bytes.ensures.value l.ensures
+    c.live_item-live.result c.live_item-live.ensures (plan_shown c.touch_verdict.result) c.touch_verdict.ensures c.follow.result c.follow.ensures

@@ -1,0 +1,109 @@
+// How a store depends on the item that is there.
+ghost use Rattle.std.specs.Prelude.{◌≡◌};
+ghost use Rattle.std.specs.Option.{option_map};
+ghost use Rattle.item_lane.specs.Cells.{kept_shown};
+ghost use Rattle.item_lane.specs.Plans.{plan_shown, parts_shown};
+ghost use Rattle.item_lane.specs.Choosing.{agrees, absent_plan, present_plan, store_plan, over};
+
+use crate::head::Head;
+use crate::item::Item;
+use crate::reply::Reply;
+use crate::verdict::{Parts, Verdict};
+
+/// How a store depends on the live item of its key.
+#[derive(Clone, Copy, Debug, PartialEq, Eq)]
+pub enum StoreMode {
+    /// Stores only if there is none.
+    Add,
+    /// Stores only if there is one.
+    Replace,
+    /// Stores the data after those of the item, only if there is one.
+    Append,
+    /// Stores the data before those of the item, only if there is one.
+    Prepend,
+}
+
+/// When a store is made. The command `cas` is `Replace` with a number to compare.
+#[derive(Clone, Copy, Debug, PartialEq, Eq)]
+pub struct Condition {
+    /// How it depends on the live item.
+    pub mode: StoreMode,
+    /// The cas unique that the live item must have, if one is asked for. `Add` does not look at it.
+    pub compare: Option<u64>,
+}
+
+impl Condition {
+    // What a store of an item does about the live one.
+    pub(crate) fn verdict<'a>(self, given: Item<'a>, live: Option<Item<'a>>) -> Verdict<'a>
+        ensures { plan_shown result
+            ≡ store_plan self (kept_shown given.entry) (option_map kept_shown live.entry) }
+    {
+        match live {
+            None => self.absent_verdict(given),
+            Some(item) => self.present_verdict(given, item),
+        }
+    }
+
+    // What a store of an item does if none is live.
+    fn absent_verdict(self, given: Item<'_>) -> Verdict<'_>
+        ensures { plan_shown result ≡ absent_plan self.mode self.compare (kept_shown given.entry) }
+    {
+        match self.mode {
+            StoreMode::Add => Verdict::Store(Parts::of(given), Reply::Stored),
+            StoreMode::Replace if self.compare.is_some() => Verdict::Keep(Reply::NotFound),
+            StoreMode::Replace | StoreMode::Append | StoreMode::Prepend => {
+                Verdict::Keep(Reply::NotStored)
+            }
+        }
+    }
+
+    // What a store of an item does if one is live.
+    fn present_verdict<'a>(self, given: Item<'a>, item: Item<'a>) -> Verdict<'a>
+        ensures { plan_shown result
+            ≡ present_plan self.mode self.compare (kept_shown given.entry) (kept_shown item.entry) }
+    {
+        if self.mode == StoreMode::Add {
+            return Verdict::Keep(Reply::NotStored);
+        }
+        if !agrees(self.compare, &item.head) {
+            return Verdict::Keep(Reply::Exists);
+        }
+        Verdict::Store(stored_over(self.mode, given, item), Reply::Stored)
+    }
+}
+
+// Whether an item has the number that is asked for, if one is.
+pub(crate) fn agrees(compare: Option<u64>, head: &Head) -> bool
+    ensures { result ≡ agrees compare head.now }
+{
+    match compare {
+        Some(cas) => cas == head.cas,
+        None => true,
+    }
+}
+
+// What is stored over a live item.
+fn stored_over<'a>(mode: StoreMode, given: Item<'a>, item: Item<'a>) -> Parts<'a>
+    ensures { parts_shown result ≡ over mode (kept_shown given.entry) (kept_shown item.entry) }
+{
+    let head = Head {
+        flags: item.head.flags,
+        cas: given.head.cas,
+        expires: item.head.expires,
+        is_stale: false,
+        is_won: false,
+    };
+    match mode {
+        StoreMode::Add | StoreMode::Replace => Parts::of(given),
+        StoreMode::Append => Parts {
+            head,
+            front: item.bytes,
+            back: given.bytes,
+        },
+        StoreMode::Prepend => Parts {
+            head,
+            front: given.bytes,
+            back: item.bytes,
+        },
+    }
+}

@@ -1,0 +1,18 @@
+// What a command replies.
+
+/// What a command replies, as the protocol has it.
+#[derive(Clone, Copy, Debug, PartialEq, Eq)]
+pub enum Reply {
+    /// The item was stored.
+    Stored,
+    /// It was not stored, since the mode wants a live item and there is none, or wants none and there is one.
+    NotStored,
+    /// The live item has another number than the one that is asked for. Nothing changed.
+    Exists,
+    /// There is no live item.
+    NotFound,
+    /// The item was removed.
+    Deleted,
+    /// The item has the new expiry.
+    Touched,
+}

@@ -1,0 +1,61 @@
+// Stores of items.
+ghost use Rattle.std.specs.Prelude.{◌≡◌};
+ghost use Rattle.record_pages.specs.Bounded.{IsKey};
+ghost use Rattle.item_lane.specs.Cells.{kept_shown};
+ghost use Rattle.item_lane.specs.Choosing.{set_plan, store_plan};
+ghost use Rattle.item_lane.specs.Doing.{Follows, Does};
+
+use crate::condition::Condition;
+use crate::follow::follow;
+use crate::item::Item;
+use crate::look::{live_item, look};
+use crate::reply::Reply;
+use crate::turn::Turn;
+use crate::verdict::{Parts, Verdict};
+use page_device::PageDevice;
+use record_pages::{PutFault, ValueBuffer};
+use service_lane::ServiceLane;
+use std::alloc::Global;
+
+/// `set`: stores an item, whatever is there. Nothing is read. It replies `Stored`.
+///
+/// A refusal removes the key, so that no older item is hit: `TooLarge` if the cell has more than `Value::MAX_LEN` bytes or
+/// fits on no page with its key, `OutOfMemory` if memory was refused.
+pub fn set<D: PageDevice<PAGE>, const PAGE: usize>(
+    lane: &mut ServiceLane<D, PAGE>,
+    alloc: Global,
+    key: &[u8],
+    item: Item<'_>,
+    turn: Turn,
+) -> Result<Reply, PutFault>
+    requires { IsKey key.now }
+    ensures { Follows PAGE D.held key.now turn.word (set_plan (kept_shown item.entry))
+        lane.old result lane.new }
+{
+    let verdict = Verdict::Store(Parts::of(item), Reply::Stored);
+    follow(lane, alloc, key, turn.word, verdict)
+}
+
+/// `add`, `replace`, `append`, `prepend` and `cas`: stores an item if the condition holds of the live one. The head brings the
+/// number that the item gets; an appended or prepended item keeps its flags and its expiry.
+///
+/// It replies `Stored`, `NotStored`, `Exists` or, for `Replace` with a number, `NotFound`. A store that is refused removes the
+/// key, as `set` does; one that is not made changes nothing.
+pub fn store_if<D: PageDevice<PAGE>, const PAGE: usize>(
+    lane: &mut ServiceLane<D, PAGE>,
+    alloc: Global,
+    key: &[u8],
+    condition: Condition,
+    item: Item<'_>,
+    turn: Turn,
+    found: &mut ValueBuffer,
+) -> Result<Reply, PutFault>
+    requires { IsKey key.now }
+    ensures { Does PAGE D.honest D.failures D.held key.now turn
+        (store_plan condition (kept_shown item.entry)) lane.old result lane.new }
+{
+    let seen = look(lane, key, turn, found);
+    let live = live_item(seen, found.bytes(), turn.flushed);
+    let verdict = condition.verdict(item, live);
+    follow(lane, alloc, key, turn.word, verdict)
+}

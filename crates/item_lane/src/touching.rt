@@ -1,0 +1,88 @@
+// Touches of items.
+ghost use Rattle.std.specs.Prelude.{◌≡◌};
+ghost use Rattle.std.specs.Option.{option_map};
+ghost use Rattle.record_pages.specs.Bounded.{IsKey};
+ghost use Rattle.item_lane.specs.Cells.{kept_shown};
+ghost use Rattle.item_lane.specs.Plans.{plan_shown};
+ghost use Rattle.item_lane.specs.Choosing.{touch_plan};
+ghost use Rattle.item_lane.specs.Doing.{Does, DoesAndGives};
+
+use crate::follow::follow;
+use crate::head::Head;
+use crate::item::Item;
+use crate::look::{live_item, look};
+use crate::reply::Reply;
+use crate::turn::Turn;
+use crate::verdict::{Parts, Verdict};
+use page_device::PageDevice;
+use record_pages::{PutFault, ValueBuffer};
+use service_lane::ServiceLane;
+use std::alloc::Global;
+
+/// An item, and what a touch of it replied.
+#[derive(Clone, Copy, Debug)]
+pub struct Touched<'a> {
+    /// The live item as it was, if there is one.
+    pub item: Option<Item<'a>>,
+    /// What the touch replied.
+    pub reply: Result<Reply, PutFault>,
+}
+
+/// `touch`: gives the live item of a key another expiry. All else stays, its cas unique too. It replies `Touched` or `NotFound`.
+///
+/// A refusal removes the key, as that of `set` does: `TooLarge` comes if an item that never expired has no room for an expiry.
+pub fn touch<D: PageDevice<PAGE>, const PAGE: usize>(
+    lane: &mut ServiceLane<D, PAGE>,
+    alloc: Global,
+    key: &[u8],
+    expires: Option<u32>,
+    turn: Turn,
+    found: &mut ValueBuffer,
+) -> Result<Reply, PutFault>
+    requires { IsKey key.now }
+    ensures { Does PAGE D.honest D.failures D.held key.now turn (touch_plan expires)
+        lane.old result lane.new }
+{
+    let seen = look(lane, key, turn, found);
+    let live = live_item(seen, found.bytes(), turn.flushed);
+    follow(lane, alloc, key, turn.word, touch_verdict(expires, live))
+}
+
+/// `gat`: touches the live item of a key, and gives the item as it was. Its data lie in the buffer.
+pub fn get_and_touch<'a, D: PageDevice<PAGE>, const PAGE: usize>(
+    lane: &mut ServiceLane<D, PAGE>,
+    alloc: Global,
+    key: &[u8],
+    expires: Option<u32>,
+    turn: Turn,
+    found: &'a mut ValueBuffer,
+) -> Touched<'a>
+    requires { IsKey key.now }
+    ensures { DoesAndGives PAGE D.honest D.failures D.held key.now turn (touch_plan expires)
+        lane.old result.item result.reply lane.new }
+{
+    let seen = look(lane, key, turn, found);
+    let item = live_item(seen, found.bytes(), turn.flushed);
+    let reply = follow(lane, alloc, key, turn.word, touch_verdict(expires, item));
+    Touched { item, reply }
+}
+
+// What a touch does about the live item.
+fn touch_verdict(expires: Option<u32>, live: Option<Item<'_>>) -> Verdict<'_>
+    ensures { plan_shown result ≡ touch_plan expires (option_map kept_shown live.entry) }
+{
+    match live {
+        None => Verdict::Keep(Reply::NotFound),
+        Some(item) => {
+            let head = Head {
+                expires,
+                ..item.head
+            };
+            let touched = Item {
+                head,
+                bytes: item.bytes,
+            };
+            Verdict::Store(Parts::of(touched), Reply::Touched)
+        }
+    }
+}
