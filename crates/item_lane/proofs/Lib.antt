@@ -1,3 +1,4 @@
 mod CellLaws
 mod StoreLaws
 mod DoneLaws
+mod NumberLaws

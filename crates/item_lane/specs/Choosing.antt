@@ -1,32 +1,36 @@
 -- What each command does about the live item of its key, in the words of memcached's doc/protocol.txt.
-use Rattle.std.specs.Prelude.{ℕ, List, ◌++◌, Bool, true, false, Option, Some, None, ◌==◌, if◌then◌else◌}
+use Rattle.std.specs.Prelude.{ℕ, List, ◌++◌, length, Bool, true, false, Option, Some, None, ◌==◌, if◌then◌else◌}
 use Rattle.std.specs.Option.{option_map_or}
 use Rattle.item_lane.specs.declared.condition.Condition.{Condition}
+use Rattle.item_lane.specs.declared.counting.Delta.{Delta}
 use Rattle.item_lane.specs.declared.head.Head.{Head}
 use Rattle.item_lane.specs.declared.condition.StoreMode.{StoreMode}
 use Rattle.item_lane.specs.declared.condition.StoreMode.TheVariants.{Add, Replace, Append, Prepend}
 use Rattle.item_lane.specs.declared.reply.Reply.{Reply}
 use Rattle.item_lane.specs.declared.reply.Reply.TheVariants as reply
 use Rattle.item_lane.specs.Cells.{Kept}
+use Rattle.item_lane.specs.Numbers.{number_in, changed, number_text}
 use Rattle.item_lane.specs.Plans.{Plan, Keep, Store, Remove}
 
 -- the item has this cas unique, if one is asked for
 abbrev pub agrees : Option ℕ → Head → Bool
 agrees compare head = option_map_or (λ cas. cas == head.cas) compare true
 
--- data are joined to an item: it keeps its flags and its expiry, and gets the new number. It is neither stale nor won any more.
-abbrev pub joined : Kept → ℕ → List ℕ → Kept
-joined item cas bytes = record {
-  head = record { flags = item.head.flags; cas = cas; expires = item.head.expires; is_stale = false; is_won = false };
-  bytes = bytes;
-}
+-- the head of an item that gets other data: it keeps its flags and its expiry, and gets a new cas unique. The item is neither stale
+-- nor won any more.
+abbrev pub renewed : Head → ℕ → Head
+renewed h cas = record { flags = h.flags; cas = cas; expires = h.expires; is_stale = false; is_won = false }
+
+-- an item with other data
+abbrev pub with_bytes : Kept → ℕ → List ℕ → Kept
+with_bytes item cas bytes = record { head = renewed item.head cas; bytes = bytes }
 
 -- what is stored over a live item
 abbrev pub over : StoreMode → Kept → Kept → Kept
 over Add given item = given
 over Replace given item = given
-over Append given item = joined item given.head.cas (item.bytes ++ given.bytes)
-over Prepend given item = joined item given.head.cas (given.bytes ++ item.bytes)
+over Append given item = with_bytes item given.head.cas (item.bytes ++ given.bytes)
+over Prepend given item = with_bytes item given.head.cas (given.bytes ++ item.bytes)
 
 -- set: it stores, whatever is there
 abbrev pub set_plan : Kept → Plan
@@ -62,3 +66,14 @@ delete_plan compare (Some item) = if agrees compare item.head then Remove reply.
 abbrev pub touch_plan : Option ℕ → Option Kept → Plan
 touch_plan expires None = Keep reply.NotFound
 touch_plan expires (Some item) = Store (record item { head = record item.head { expires = expires } }) reply.Touched
+
+-- incr and decr of an item that holds this number, if it holds one
+abbrev pub number_plan : Delta → Kept → Option ℕ → Plan
+number_plan delta item None = Keep reply.NotNumber
+number_plan delta item (Some n) =
+    Store (with_bytes item delta.cas (number_text (length item.bytes) (changed delta.change n))) (reply.Number (changed delta.change n))
+
+-- incr and decr: the number that the item holds is changed, if the item has the cas unique that is asked for
+abbrev pub delta_plan : Delta → Option Kept → Plan
+delta_plan delta None = Keep reply.NotFound
+delta_plan delta (Some item) = if agrees delta.compare item.head then number_plan delta item (number_in item.bytes) else Keep reply.Exists

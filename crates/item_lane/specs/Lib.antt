@@ -1,5 +1,6 @@
 pub mod Cells
 pub mod Live
 pub mod Plans
+pub mod Numbers
 pub mod Choosing
 pub mod Doing

@@ -86,13 +86,7 @@ pub(crate) fn agrees(compare: Option<u64>, head: &Head) -> bool
 fn stored_over<'a>(mode: StoreMode, given: Item<'a>, item: Item<'a>) -> Parts<'a>
     ensures { parts_shown result ≡ over mode (kept_shown given.entry) (kept_shown item.entry) }
 {
-    let head = Head {
-        flags: item.head.flags,
-        cas: given.head.cas,
-        expires: item.head.expires,
-        is_stale: false,
-        is_won: false,
-    };
+    let head = item.head.renewed(given.head.cas);
     match mode {
         StoreMode::Add | StoreMode::Replace => Parts::of(given),
         StoreMode::Append => Parts {

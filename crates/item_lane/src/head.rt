@@ -1,6 +1,7 @@
 // What is kept of an item beside its data.
 ghost use Rattle.std.specs.Prelude.{◌≡◌, ◌+◌, ◌≤◌};
 ghost use Rattle.item_lane.specs.Cells.{marks_of, head_len, expires_of};
+ghost use Rattle.item_lane.specs.Choosing.{renewed};
 
 use record_pages::NEVER;
 
@@ -41,6 +42,19 @@ impl Head {
         let flags = if self.flags == 0 { 0 } else { 4 };
         let expires = if self.expires.is_some() { 4 } else { 0 };
         9 + flags + expires
+    }
+
+    /// The head of the item after it got other data and this cas unique: its flags and its expiry stay, and its marks go.
+    pub(crate) fn renewed(&self, cas: u64) -> Head
+        ensures { result ≡ renewed self.now cas }
+    {
+        Head {
+            flags: self.flags,
+            cas,
+            expires: self.expires,
+            is_stale: false,
+            is_won: false,
+        }
     }
 
     /// The moment at which the item expires, as the lane has it.

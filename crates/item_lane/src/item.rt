@@ -1,5 +1,5 @@
 // An item whose data is lent.
-ghost use Rattle.std.specs.Prelude.{◌≡◌, Some};
+ghost use Rattle.std.specs.Prelude.{◌≡◌, ◌≤◌, length, Some, IfSome};
 ghost use Rattle.std.specs.Option.{option_map};
 ghost use Rattle.item_lane.specs.Cells.{Kept, IsHead, kept_shown, cell_text, decoded, marked_at};
 
@@ -19,6 +19,7 @@ impl<'a> Item<'a> {
     /// that has no meaning, or if flags of 0 follow. What `CellBuffer::write` wrote of an item gives the item.
     pub fn decode(bytes: &'a [u8]) -> Option<Item<'a>>
         ensures decoded { option_map kept_shown result ≡ decoded bytes.now }
+        ensures within { IfSome result (λ item. length item.bytes.now ≤ length bytes.now) }
         ensures again { (kept : Kept) → IsHead kept.head → bytes.now ≡ cell_text kept
             → option_map kept_shown result ≡ Some kept }
     {
@@ -28,7 +29,8 @@ impl<'a> Item<'a> {
     // The item that these bytes are the cell of.
     #[tactic(auto, unfolding(crate::specs::Cells::decoded))]
     fn read(bytes: &'a [u8]) -> Option<Item<'a>>
-        ensures { option_map kept_shown result ≡ decoded bytes.now }
+        ensures decoded { option_map kept_shown result ≡ decoded bytes.now }
+        ensures within { IfSome result (λ item. length item.bytes.now ≤ length bytes.now) }
     {
         let (marks, rest) = bytes.split_first()?;
         let (cas, rest) = u64_at(rest)?;
@@ -53,7 +55,8 @@ ghost use Rattle.record_pages.specs.Reading.{number_at};
 
 // The number of 64 bits at the front, and the bytes after it.
 fn u64_at(bytes: &[u8]) -> Option<(u64, &[u8])>
-    ensures { option_map (λ x. (x.0, x.1.now)) result ≡ number_at w64 bytes.now }
+    ensures number { option_map (λ x. (x.0, x.1.now)) result ≡ number_at w64 bytes.now }
+    ensures within { IfSome result (λ x. length x.1.now ≤ length bytes.now) }
 {
     if bytes.len() < 8 {
         return None;
@@ -67,7 +70,8 @@ fn u64_at(bytes: &[u8]) -> Option<(u64, &[u8])>
 
 // The number of 32 bits at the front, and the bytes after it.
 fn u32_at(bytes: &[u8]) -> Option<(u32, &[u8])>
-    ensures { option_map (λ x. (x.0, x.1.now)) result ≡ number_at w32 bytes.now }
+    ensures number { option_map (λ x. (x.0, x.1.now)) result ≡ number_at w32 bytes.now }
+    ensures within { IfSome result (λ x. length x.1.now ≤ length bytes.now) }
 {
     if bytes.len() < 4 {
         return None;
@@ -79,7 +83,8 @@ fn u32_at(bytes: &[u8]) -> Option<(u32, &[u8])>
 
 // The number of 32 bits at the front, if it is marked, and the bytes after it.
 fn marked_at(is_marked: bool, bytes: &[u8]) -> Option<(Option<u32>, &[u8])>
-    ensures { option_map (λ x. (x.0, x.1.now)) result ≡ marked_at is_marked bytes.now }
+    ensures number { option_map (λ x. (x.0, x.1.now)) result ≡ marked_at is_marked bytes.now }
+    ensures within { IfSome result (λ x. length x.1.now ≤ length bytes.now) }
 {
     if !is_marked {
         return Some((None, bytes));

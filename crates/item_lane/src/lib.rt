@@ -5,7 +5,9 @@
 #![tactic(auto)]
 
 mod cell;
+mod change;
 mod condition;
+mod counting;
 mod deleting;
 mod follow;
 mod head;
@@ -18,7 +20,9 @@ mod turn;
 mod verdict;
 
 pub use cell::CellBuffer;
+pub use change::Change;
 pub use condition::{Condition, StoreMode};
+pub use counting::{Delta, change_number};
 pub use deleting::delete;
 pub use head::Head;
 pub use item::Item;

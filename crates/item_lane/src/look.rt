@@ -1,5 +1,5 @@
 // Gets of items.
-ghost use Rattle.std.specs.Prelude.{◌≡◌};
+ghost use Rattle.std.specs.Prelude.{◌≡◌, ◌≤◌, length, IfSome};
 ghost use Rattle.std.specs.Option.{option_map};
 ghost use Rattle.record_pages.specs.Bounded.{IsKey};
 ghost use Rattle.mover.specs.Get.{answer_of};
@@ -49,7 +49,8 @@ pub(crate) fn look<D: PageDevice<PAGE>, const PAGE: usize>(
 
 /// The live item of a key of which a lane answered this, its value in the buffer.
 pub(crate) fn live_item(seen: AnswerKind, found: &[u8], flushed: u64) -> Option<Item<'_>>
-    ensures { option_map kept_shown result ≡ live_in flushed (answer_of seen found.now) }
+    ensures live { option_map kept_shown result ≡ live_in flushed (answer_of seen found.now) }
+    ensures within { IfSome result (λ item. length item.bytes.now ≤ length found.now) }
 {
     match seen {
         AnswerKind::Hit(_) => {

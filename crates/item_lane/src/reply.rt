@@ -15,4 +15,8 @@ pub enum Reply {
     Deleted,
     /// The item has the new expiry.
     Touched,
+    /// The item holds this number.
+    Number(u64),
+    /// The item holds no number. Nothing changed.
+    NotNumber,
 }

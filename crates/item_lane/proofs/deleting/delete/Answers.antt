@@ -20,7 +20,7 @@ returns-in-None g c =
     let a = c.args in
     let l = c.look-seen in
     done g.row.PAGE d.honest d.failures d.held a.key.now a.turn (delete_plan a.compare) a.lane.now l.new.lane c.remove.new.lane l.result l.new.found c.bytes.result.now c.bytes.ensures.value l.ensures
-    c.live_item.result c.live_item.ensures (Remove NotFound) (ap (λ (o : Option Item). delete_plan a.compare (option_map kept_shown o)) (sym c.in-None.is)) (Ok NotFound) (refl, c.remove.ensures)
+    c.live_item.result c.live_item.ensures.live (Remove NotFound) (ap (λ (o : Option Item). delete_plan a.compare (option_map kept_shown o)) (sym c.in-None.is)) (Ok NotFound) (refl, c.remove.ensures)
 
 pub returns-in-Some : goal.returns-in-Some
 returns-in-Some g c =
@@ -28,7 +28,7 @@ returns-in-Some g c =
     let a = c.args in
     let l = c.look-seen in
     done g.row.PAGE d.honest d.failures d.held a.key.now a.turn (delete_plan a.compare) a.lane.now l.new.lane c.remove-in-Some.new.lane l.result l.new.found c.bytes.result.now c.bytes.ensures.value l.ensures
-    c.live_item.result c.live_item.ensures (Remove Deleted) (by_agreeing a.compare c.live_item.result c.in-Some.item true c.in-Some.is (sym c.agrees.ensures ∙ c.if-agrees.true)) (Ok Deleted) (refl, c.remove-in-Some.ensures)
+    c.live_item.result c.live_item.ensures.live (Remove Deleted) (by_agreeing a.compare c.live_item.result c.in-Some.item true c.in-Some.is (sym c.agrees.ensures ∙ c.if-agrees.true)) (Ok Deleted) (refl, c.remove-in-Some.ensures)
 
 pub returns-in-Some-2 : goal.returns-in-Some-2
 returns-in-Some-2 g c =
@@ -36,4 +36,4 @@ returns-in-Some-2 g c =
     let a = c.args in
     let l = c.look-seen in
     done g.row.PAGE d.honest d.failures d.held a.key.now a.turn (delete_plan a.compare) a.lane.now l.new.lane l.new.lane l.result l.new.found c.bytes.result.now c.bytes.ensures.value l.ensures
-    c.live_item.result c.live_item.ensures (Keep Exists) (by_agreeing a.compare c.live_item.result c.in-Some.item false c.in-Some.is (sym c.agrees.ensures ∙ c.if-agrees.false)) (Ok Exists) (refl, refl)
+    c.live_item.result c.live_item.ensures.live (Keep Exists) (by_agreeing a.compare c.live_item.result c.in-Some.item false c.in-Some.is (sym c.agrees.ensures ∙ c.if-agrees.false)) (Ok Exists) (refl, refl)

@@ -10,4 +10,4 @@ returns g c =
     let a = c.args in
     let l = c.look-seen in
     done_and_given g.row.PAGE d.honest d.failures d.held a.key.now a.turn (touch_plan a.expires) a.lane.now l.new.lane c.follow-reply.new.lane l.result l.new.found c.bytes.result.now c.bytes.ensures.value l.ensures
-    c.live_item-item.result c.live_item-item.ensures (plan_shown c.touch_verdict.result) c.touch_verdict.ensures c.follow-reply.result c.follow-reply.ensures
+    c.live_item-item.result c.live_item-item.ensures.live (plan_shown c.touch_verdict.result) c.touch_verdict.ensures c.follow-reply.result c.follow-reply.ensures

@@ -5,4 +5,4 @@ use Rattle.item_lane.proofs.CellLaws.{decoded_cell}
 use Rattle.item_lane.proofs.item.Item.decode.Goals as goal
 
 pub returns-clause-again : goal.returns-clause-again
-returns-clause-again c kept is text = c.read.ensures ∙ ap decoded text ∙ decoded_cell kept is
+returns-clause-again c kept is text = c.read.ensures.decoded ∙ ap decoded text ∙ decoded_cell kept is
