@@ -1,7 +1,7 @@
 //! Commands, each with what it is to reply.
 use item_lane::{
-    Condition, Delta, Head, Item, Reply, StoreMode, Touched, Turn, change_number, delete, get,
-    get_and_touch, set, store_if, touch,
+    Change, Condition, Delta, Head, Item, Reply, StoreMode, Touched, Turn, change_number, delete,
+    get, get_and_touch, set, store_if, touch,
 };
 use page_device::MemoryDevice;
 use record_pages::{Key, PutFault, ValueBuffer};
@@ -11,14 +11,9 @@ use std::alloc::Global;
 /// The lanes of these tests.
 pub type Lane = ServiceLane<MemoryDevice<4096>, 4096>;
 
-/// An item of a test.
+/// An item of a test: its flags, its cas unique, when it expires, and its data.
 #[derive(Clone, Copy)]
-pub struct Kept {
-    pub flags: u32,
-    pub cas: u64,
-    pub expires: Option<u32>,
-    pub bytes: &'static [u8],
-}
+pub struct Kept(pub u32, pub u64, pub Option<u32>, pub &'static [u8]);
 
 /// A command, and what it is to give.
 #[derive(Clone, Copy)]
@@ -32,7 +27,8 @@ pub enum Step {
     Touch(Option<u32>, Reply),
     /// What is live before it is touched.
     GetAndTouch(Option<u32>, Option<Kept>, Reply),
-    Change(Delta, Reply),
+    /// The change, and the cas unique that the item gets.
+    Change(Change, u64, Reply),
 }
 
 /// A key, a moment, the number of the last flush, and a command.
@@ -76,7 +72,12 @@ fn gives(alloc: Global, lane: &mut Lane, call: &Call) -> bool {
             let touched = get_and_touch(lane, alloc, key, expires, turn, &mut found);
             is_touched(touched, before, wanted)
         }
-        Step::Change(delta, wanted) => {
+        Step::Change(change, cas, wanted) => {
+            let delta = Delta {
+                change,
+                cas,
+                compare: None,
+            };
             change_number(lane, alloc, key, delta, turn, &mut found) == Ok(wanted)
         }
     }
@@ -86,13 +87,13 @@ fn gives(alloc: Global, lane: &mut Lane, call: &Call) -> bool {
 fn item_of(kept: Kept) -> Item<'static> {
     Item {
         head: Head {
-            flags: kept.flags,
-            cas: kept.cas,
-            expires: kept.expires,
+            flags: kept.0,
+            cas: kept.1,
+            expires: kept.2,
             is_stale: false,
             is_won: false,
         },
-        bytes: kept.bytes,
+        bytes: kept.3,
     }
 }
 
