@@ -6,23 +6,14 @@ package recorder
 
 import (
 	"crypto/rand"
-	"crypto/sha256"
 	"fmt"
 	"hash/fnv"
 	"io"
 	"math"
-	"regexp"
-	"strings"
 	"sync"
 	"sync/atomic"
-	"syscall"
 	"time"
-	"unsafe"
 )
-
-const nameMost, keyMost, valueMost = 64, 255, 64
-
-var tag, odd = regexp.MustCompile(`^rec\.[0-9a-f]{12}\.[0-9]{1,20}\|`), regexp.MustCompile(`[^!-~]|[%#]|^-$`)
 
 // Recorder is a recording. Any goroutine may use it, until Close.
 type Recorder struct {
@@ -30,8 +21,9 @@ type Recorder struct {
 	oneOf       uint64
 	run         [6]byte
 	puts        atomic.Uint64
-	lock        sync.Mutex // of what follows
+	lock        sync.Mutex // of the output, and of what follows
 	calls, lost uint64
+	closed      bool
 }
 
 // New begins a recording of one key in oneOf; 0 and 1 mean every key.
@@ -40,11 +32,9 @@ func New(out io.Writer, oneOf uint64) *Recorder {
 	if oneOf == 0 {
 		r.oneOf = 1
 	}
-	if _, err := rand.Read(r.run[:]); err != nil {
+	if _, err := rand.Read(r.run[:]); err != nil || !r.write(fmt.Sprintf("# recorder rec.%x, 1 of %d keys\n", r.run, r.oneOf)) {
 		r.lost = 1
 	}
-	r.write(fmt.Sprintf("# recorder rec.%x, 1 of %d keys\n", r.run, r.oneOf))
-	r.calls = 0
 	return r
 }
 
@@ -102,15 +92,18 @@ func (r *Recorder) Lost() uint64 {
 	return r.lost
 }
 
-// Close writes the last line, and returns Lost: 0 if the recording is whole. What it wrote to stays open.
+// Close writes the last line, and returns Lost: 0 if the recording is whole. What it wrote to stays open. Later calls have no line.
 func (r *Recorder) Close() uint64 {
-	if r.Lost() == 0 {
-		r.write(fmt.Sprintf("# whole: %d calls\n", r.calls))
+	r.lock.Lock()
+	defer r.lock.Unlock()
+	if !r.closed && (r.lost > 0 || !r.write(fmt.Sprintf("# whole: %d calls\n", r.calls))) {
+		if r.lost == 0 {
+			r.lost = 1
+		}
+		r.write(fmt.Sprintf("  cut\n# not whole: %d lines were not written\n", r.lost))
 	}
-	if lost := r.Lost(); lost > 0 {
-		fmt.Fprintf(r.out, "  cut\n# not whole: %d lines were not written\n", lost)
-	}
-	return r.Lost()
+	r.closed = true
+	return r.lost
 }
 
 // The FNV-1a hash of a key, 64 bits, with its upper half folded into the lower, decides whether the key is recorded.
@@ -125,41 +118,23 @@ func (r *Recorder) note(caller string, start, end any, rest string) {
 	if len(name) > nameMost {
 		name = name[:nameMost]
 	}
-	r.write(fmt.Sprintf("%s %d %v %s\n", word(name), start, end, rest))
+	r.add(fmt.Sprintf("%s %d %v %s\n", word(name), start, end, rest))
 }
 
-// Writes a line whole, or counts it as lost.
-func (r *Recorder) write(line string) {
+// Writes a call's line, or counts it as lost.
+func (r *Recorder) add(line string) {
 	r.lock.Lock()
 	defer r.lock.Unlock()
-	r.lost++ // stays if the output panics
+	if r.lost == 0 && !r.closed && r.write(line) {
+		r.calls++
+	} else if !r.closed {
+		r.lost++
+	}
+}
+
+// Writes a line, and returns whether it is whole. An output that panics is one that fails.
+func (r *Recorder) write(line string) (done bool) {
 	defer func() { _ = recover() }()
-	if r.lost > 1 {
-		return
-	}
-	if _, err := io.WriteString(r.out, line); err == nil {
-		r.calls, r.lost = r.calls+1, 0
-	}
-}
-
-// Returns CLOCK_MONOTONIC in nanoseconds. The time package gives that clock only as a difference.
-func now() uint64 {
-	var t syscall.Timespec
-	syscall.RawSyscall(syscall.SYS_CLOCK_GETTIME, 1, uintptr(unsafe.Pointer(&t)), 0)
-	return uint64(t.Nano())
-}
-
-func word(data []byte) string {
-	if len(data) == 0 {
-		return "-"
-	}
-	return string(odd.ReplaceAllFunc(data, func(some []byte) []byte { return []byte(strings.ReplaceAll(fmt.Sprintf(" % X", some), " ", "%")) }))
-}
-
-func valueWord(data []byte) string {
-	head := tag.Find(data)
-	if rest := data[len(head):]; len(rest) > valueMost {
-		return string(head) + fmt.Sprintf("sha256.%x", sha256.Sum256(rest))[:7+32]
-	}
-	return word(data)
+	_, err := io.WriteString(r.out, line)
+	return err == nil
 }

@@ -10,8 +10,7 @@ import java.util.regex.Pattern;
 
 /**
  * Records the calls of a cache's client as lines for `kangaroo judge`. The page is ../README.md. Any thread may use it, until close.
- *
- * <p>Each of put, remove and get makes one call of yours, which returns after the cache's answer has come. No error of the recorder
+ * Each of put, remove and get makes one call of yours, which returns after the cache's answer has come. No error of the recorder
  * reaches the service: it stops recording, and counts the lines that it did not write. System.nanoTime is CLOCK_MONOTONIC on Linux.
  */
 public final class Recorder implements AutoCloseable {
@@ -28,7 +27,8 @@ public final class Recorder implements AutoCloseable {
     private final long oneOf;
     private final String run = String.format("%012x", new SecureRandom().nextLong() >>> 16);
     private final AtomicLong puts = new AtomicLong();
-    private long calls = -1, lost; // under the lock of this
+    private long calls = -1, lost; // under the lock of this, with the next
+    private boolean closed;
 
     /** Begins a recording of one key in oneOf; 1 means every key. */
     public Recorder(OutputStream out, long oneOf) {
@@ -39,7 +39,7 @@ public final class Recorder implements AutoCloseable {
 
     /** Puts a value. The cache surely lets it expire `lifetime` nanoseconds after END; 0 is never. */
     public <E extends Exception> void put(String caller, byte[] key, byte[] value, long lifetime, Put<E> call) throws E {
-        byte[] stored = isRecorded(key) ? tagged(value) : value;
+        byte[] stored = tagged(key, value);
         change(caller, key, "put", stored, lifetime, () -> call.store(stored));
     }
 
@@ -77,55 +77,55 @@ public final class Recorder implements AutoCloseable {
     @Override
     public synchronized void close() {
         if (lost == 0) write("# whole: " + calls + " calls\n");
-        if (lost == 0) return;
-        try {
-            out.write(latin("  cut\n# not whole: " + lost + " lines were not written\n"));
-            out.flush();
-        } catch (Exception broken) {
-            return;
-        }
+        if (lost > 0 && !closed) written("  cut\n# not whole: " + lost + " lines were not written\n");
+        closed = true;
     }
 
     private void note(String caller, byte[] key, long start, long end, String act, byte[] value, long time) {
         if (!isRecorded(key)) return;
-        String line = null;
         try {
             byte[] name = (caller == null ? "" : caller).getBytes(StandardCharsets.UTF_8);
-            line = word(Arrays.copyOf(name, Math.min(name.length, NAME_MOST))) + " " + start + " " + (end < 0 ? "-" : end) + " " + act
-                + " " + word(key) + (value == null ? "" : " " + valueWord(value)) + (time < 0 ? "" : " " + time) + "\n";
+            write(word(Arrays.copyOf(name, Math.min(name.length, NAME_MOST))) + " " + start + " " + (end < 0 ? "-" : end) + " " + act
+                + " " + word(key) + (value == null ? "" : " " + valueWord(value)) + (time < 0 ? "" : " " + time) + "\n");
         } catch (Exception | OutOfMemoryError none) {
-            line = null;
+            write(null);
         }
-        write(line);
     }
 
-    /** Writes a line whole, or counts it as lost. No line is lost. */
+    /** Writes a line whole, or counts it as lost; a line that could not be made is null. After close it does nothing. */
     private synchronized void write(String line) {
-        lost++;
-        if (lost > 1 || line == null) return;
+        if (!closed && lost == 0 && line != null && written(line)) calls++;
+        else if (!closed) lost++;
+    }
+    private boolean written(String line) {
         try {
             out.write(latin(line));
             out.flush();
-            lost = 0;
-            calls++;
+            return true;
         } catch (Exception | OutOfMemoryError broken) {
-            return;
+            return false;
         }
     }
 
-    private byte[] tagged(byte[] value) {
-        byte[] tag = latin("rec." + run + "." + puts.incrementAndGet() + "|"), stored = Arrays.copyOf(tag, tag.length + value.length);
-        System.arraycopy(value, 0, stored, tag.length, value.length);
-        return stored;
+    /** Returns what to store. If no tag can be made, recording stops, and that is the value. */
+    private byte[] tagged(byte[] key, byte[] value) {
+        if (!isRecorded(key)) return value;
+        try {
+            byte[] tag = latin("rec." + run + "." + puts.incrementAndGet() + "|"), stored = Arrays.copyOf(tag, tag.length + value.length);
+            System.arraycopy(value, 0, stored, tag.length, value.length);
+            return stored;
+        } catch (Exception | OutOfMemoryError none) {
+            write(null);
+            return value;
+        }
     }
 
     /** The FNV-1a hash of a key, 64 bits, with its upper half folded into the lower, decides whether the key is recorded. */
     private boolean isRecorded(byte[] key) {
         long hash = 0xcbf29ce484222325L;
-        for (byte b : key) hash = (hash ^ (b & 255)) * 1099511628211L;
-        return key.length >= 1 && key.length <= KEY_MOST && Long.remainderUnsigned(hash ^ hash >>> 32, oneOf) == 0;
+        for (int i = 0; key != null && i < key.length; i++) hash = (hash ^ (key[i] & 255)) * 1099511628211L;
+        return key != null && key.length >= 1 && key.length <= KEY_MOST && Long.remainderUnsigned(hash ^ hash >>> 32, oneOf) == 0;
     }
-
     private static String tagOf(byte[] value) {
         Matcher tag = TAG.matcher(new String(value, 0, Math.min(value.length, 40), StandardCharsets.ISO_8859_1));
         return tag.find() ? tag.group() : "";

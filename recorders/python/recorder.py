@@ -13,9 +13,8 @@ import threading
 import time
 
 TAG = re.compile(rb"rec\.[0-9a-f]{12}\.[0-9]{1,20}\|")
-NAME_MOST, KEY_MOST, VALUE_MOST, NUMBER_MOST = 64, 255, 64, 2**63 - 1
+NAME_MOST, KEY_MOST, VALUE_MOST, NUMBER_MOST, NOTHING = 64, 255, 64, 2**63 - 1, object()
 CODED = [chr(it) if 33 <= it <= 126 and it not in b"%#" else "%%%02X" % it for it in range(256)]
-NOTHING = object()
 
 
 def word(data):
@@ -112,7 +111,7 @@ class Recorder:
             line = call.line() if self.is_recorded(call.key) else b""
         except Exception:  # a value that is no bytes, or no memory: there is a hole
             line = None
-        if line != b"":
+        if line != b"" and not self.closed:
             self.write(line)
 
     def write(self, line):

@@ -91,6 +91,16 @@ public final class Drive {
         }
     }
 
+    /** Nulls are the client's to refuse: each call is made, and the recording stops. */
+    private static void nothing() {
+        boolean[] called = new boolean[2];
+        try (Recorder recorder = new Recorder(OutputStream.nullOutputStream(), 1)) {
+            recorder.put(null, latin("key"), null, 0, stored -> called[0] = stored == null);
+            recorder.remove(null, null, () -> called[1] = true);
+            if (!called[0] || !called[1] || recorder.lost() == 0) throw new AssertionError();
+        }
+    }
+
     public static void main(String[] words) throws Exception {
         boolean isTable = words[0].equals("table");
         Thread[] threads = new Thread[isTable ? 0 : 4];
@@ -105,7 +115,12 @@ public final class Drive {
             for (int b = 0; b < 256 && isTable; b++) tableKey(recorder, new byte[] {(byte) b}, filled(b, b));
             for (int n = 0; n < 300 && isTable; n++) tableKey(recorder, latin("key" + n), filled(n, 'x'));
             recorder.close();
-            System.out.println("lost " + recorder.lost());
+            long lost = recorder.lost();
+            recorder.remove("after", latin("key0"), () -> held = null); // leaves no line
+            recorder.close();
+            System.out.println("lost " + lost);
+            if (lost != recorder.lost()) throw new AssertionError();
+            nothing();
         }
     }
 }

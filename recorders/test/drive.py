@@ -84,7 +84,11 @@ def main():
             sys.exit("a client that does not wait was taken: %s" % RecordedClient(recorder, Hasty(), "hasty"))
         except DoesNotWait:
             pass
-    print("lost %d" % recorder.lost)
+    lost = recorder.lost
+    with recorder.remove("after", b"key0"):  # leaves no line
+        pass
+    assert recorder.close() == lost
+    print("lost %d" % lost)
 
 
 if __name__ == "__main__":

@@ -125,5 +125,10 @@ func main() {
 		}
 	}
 	group.Wait()
+	lost := r.Close()
+	must(r.Remove("after", []byte("key0"), func() error { return nil })) // leaves no line
 	fmt.Println("lost", r.Close())
+	if lost != r.Lost() {
+		panic("a call after Close was counted")
+	}
 }
