@@ -3,9 +3,9 @@
     python3 cache_aside.py load OUT [--extstore FILE] [--seconds 45] [--callers 2] [--rows 30000] [--bytes 8000] [--seed 1]
     python3 cache_aside.py count FILE ..
 
-`load` starts `memcached -m 64` on a free port of 127.0.0.1, with `-o ext_path=FILE:1G` if a file is named, and ends it afterwards. Each
-caller is a process with a connection and a recorder of its own; caller N writes OUT-N.txt. `count` needs no judge: a hit is stale
-here if the put that it reads had ended before a write of its key began that ended before the hit began. Both print what they found."""
+`load` starts `memcached -m 64` on a free port of 127.0.0.1, with `-o ext_path=FILE:1G` if a file is named, and ends it afterwards. FILE is
+written over, and stays. Each caller is a process with a connection and a recorder of its own; caller N writes OUT-N.txt. `count` needs no
+judge: a hit is stale if a write of its key began after the put that it reads, and ended before the hit. Both print what they found."""
 import argparse
 import collections
 import multiprocessing
