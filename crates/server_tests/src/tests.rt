@@ -1,4 +1,5 @@
 mod answers;
+mod items;
 mod refusals;
 mod requests;
 mod streams;
