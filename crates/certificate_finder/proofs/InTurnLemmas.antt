@@ -12,7 +12,7 @@ use Rattle.certificate_checker.proofs.public_laws.Lookups.{take_next}
 use Rattle.certificate_finder.specs.declared.numbered_call.NumberedCall.{NumberedCall}
 use Rattle.certificate_finder.specs.declared.ranked.Ranked.{Ranked}
 use Rattle.certificate_finder.specs.declared.rule.Rule.{Rule}
-use Rattle.certificate_finder.specs.declared.times.Times.{Times}
+use Rattle.certificate_finder.specs.declared.call_span.CallSpan.{CallSpan}
 use Rattle.certificate_finder.specs.Choosing.{ChoosesBy, ComesBefore, IsChosen}
 use Rattle.certificate_finder.specs.Lining.{positions_in}
 use Rattle.certificate_finder.specs.Offering.{AreListed, HitsInTurn, rank_of_hit, times_in}
@@ -41,7 +41,7 @@ contains_cases x xs y has = elim (Contains-append_cases (x ∷ []) xs y has) [
   | inr rest ↦ inr rest
 ]
 
-module _ (rule : Rule) (reads : ℕ → ℕ → Type 0) (times : ℕ → Times) where
+module _ (rule : Rule) (reads : ℕ → ℕ → Type 0) (times : ℕ → CallSpan) where
   -- one hit more
   pub chooses_more : (owners xs mid : List ℕ) (hit put : ℕ) → ChoosesBy rule reads times owners xs mid → IsChosen rule reads times mid hit put → ChoosesBy rule reads times owners (xs ++ hit ∷ []) (set mid hit put)
   chooses_more owners [] mid hit put had is = (put, subst (λ o. IsChosen rule reads times o hit put) had is, ap (λ o. set o hit put) had)
@@ -92,7 +92,7 @@ pub next_is : (hits : List Ranked) (index : ℕ) (hit : Ranked) → slice_get hi
 next_is hits index hit at = take_next (positions_in hits) index hit.position (position_at hits index hit at)
 
 -- the hits up to it have their puts
-pub chosen_next : (rule : Rule) (reads : ℕ → ℕ → Type 0) (times : ℕ → Times) (owners mid new : List ℕ) (hits : List Ranked) (index put : ℕ) (hit : Ranked) → slice_get hits index ≡ Some hit → ChoosesBy rule reads times owners (take index (positions_in hits)) mid → IsChosen rule reads times mid hit.position put → new ≡ set mid hit.position put → ChoosesBy rule reads times owners (take (index + 1) (positions_in hits)) new
+pub chosen_next : (rule : Rule) (reads : ℕ → ℕ → Type 0) (times : ℕ → CallSpan) (owners mid new : List ℕ) (hits : List Ranked) (index put : ℕ) (hit : Ranked) → slice_get hits index ≡ Some hit → ChoosesBy rule reads times owners (take index (positions_in hits)) mid → IsChosen rule reads times mid hit.position put → new ≡ set mid hit.position put → ChoosesBy rule reads times owners (take (index + 1) (positions_in hits)) new
 chosen_next rule reads times owners mid new hits index put hit at had is made =
     subst (λ xs. ChoosesBy rule reads times owners xs new) (sym (next_is hits index hit at))
     (subst (λ m. ChoosesBy rule reads times owners (take index (positions_in hits) ++ hit.position ∷ []) m) (sym made)

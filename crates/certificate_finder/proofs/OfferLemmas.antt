@@ -8,14 +8,14 @@ use Rattle.std.proofs.lemmas.Option.{slice_get_within, slice_get-get_or}
 use Rattle.certificate_finder.specs.declared.groups.Groups.{Groups}
 use Rattle.certificate_finder.specs.declared.numbered_call.NumberedCall.{NumberedCall}
 use Rattle.certificate_finder.specs.declared.rule.Rule.{Rule}
-use Rattle.certificate_finder.specs.declared.times.Times.{Times}
+use Rattle.certificate_finder.specs.declared.call_span.CallSpan.{CallSpan}
 use Rattle.certificate_finder.specs.Choosing.{IsOffer, IsZoneOf, cost_of}
 use Rattle.certificate_finder.specs.Offering.{AreGroups, IsLater, IsSooner, times_in}
 use Rattle.certificate_finder.specs.Zones.{AreEarliest, AreLatest, Goes}
 use Rattle.certificate_finder.proofs.EndLemmas.{EndsBefore, StartsBehind, at_set_other, at_set_same, ends_join, ends_self, found_at, starts_join, starts_self}
 use Rattle.certificate_finder.proofs.Listing.{same_at}
 
-abbrev times_by : Option NumberedCall → Times
+abbrev times_by : Option NumberedCall → CallSpan
 times_by call = record { start = option_map_or (λ (s : NumberedCall). s.start) call 0; end = option_map_or (λ (s : NumberedCall). s.end) call 0 }
 
 -- when the call at a position started and ended
@@ -66,7 +66,7 @@ zone_of steps groups put early late first last are at_early at_late at_first at_
     }
 
 -- what a put costs a hit
-pub offer_is : (steps : List NumberedCall) (groups : Groups) (rule : Rule) (hit put early late : ℕ) (asked given first last : NumberedCall) (hit_times put_times : Times) (cost : ℕ) → AreGroups steps groups → slice_get steps hit ≡ Some asked → slice_get steps put ≡ Some given → slice_get groups.earliest.items put ≡ Some early → slice_get groups.latest.items put ≡ Some late → slice_get steps early ≡ Some first → slice_get steps late ≡ Some last → hit_times ≡ record { start = asked.start; end = asked.end } → put_times ≡ record { start = given.start; end = given.end } → cost ≡ cost_of rule hit_times put_times (record { start = last.start; end = first.end }) → IsOffer rule (times_in steps) groups.owners.items hit (record { put = put; start = given.start; cost = cost })
+pub offer_is : (steps : List NumberedCall) (groups : Groups) (rule : Rule) (hit put early late : ℕ) (asked given first last : NumberedCall) (hit_times put_times : CallSpan) (cost : ℕ) → AreGroups steps groups → slice_get steps hit ≡ Some asked → slice_get steps put ≡ Some given → slice_get groups.earliest.items put ≡ Some early → slice_get groups.latest.items put ≡ Some late → slice_get steps early ≡ Some first → slice_get steps late ≡ Some last → hit_times ≡ record { start = asked.start; end = asked.end } → put_times ≡ record { start = given.start; end = given.end } → cost ≡ cost_of rule hit_times put_times (record { start = last.start; end = first.end }) → IsOffer rule (times_in steps) groups.owners.items hit (record { put = put; start = given.start; cost = cost })
 offer_is steps groups rule hit put early late asked given first last hit_times put_times cost are at_hit at_put at_early at_late at_first at_last hit_is put_is cost_is = record {
   zone = record { start = last.start; end = first.end };
   is_zone = zone_of steps groups put early late first last are at_early at_late at_first at_last;

@@ -15,7 +15,7 @@ use Rattle.certificate_finder.specs.declared.numbered_call.NumberedCall.{Numbere
 use Rattle.certificate_finder.specs.declared.offer.Offer.{Offer}
 use Rattle.certificate_finder.specs.declared.ranked.Ranked.{Ranked}
 use Rattle.certificate_finder.specs.declared.rule.Rule.{Rule}
-use Rattle.certificate_finder.specs.declared.times.Times.{Times}
+use Rattle.certificate_finder.specs.declared.call_span.CallSpan.{CallSpan}
 use Rattle.certificate_finder.specs.declared.zone.Zone.{Zone}
 use Rattle.certificate_finder.specs.Choosing.{ChoosesBy, ComesBefore, IsChosen, IsOffer, IsZoneOf, all_rules, cost_of}
 use Rattle.certificate_finder.specs.Deciding.{FailsBy, NoneGives}
@@ -40,7 +40,7 @@ nothing_at [] k more = refl
 nothing_at (x ∷ xs) zero more = absurd (omega arith)
 nothing_at (x ∷ xs) (suc k) more = nothing_at xs k (omega arith)
 
-abbrev the_times : ℕ → ℕ → Times
+abbrev the_times : ℕ → ℕ → CallSpan
 the_times start end = record { start = start; end = end }
 
 both_same : {a b c d : ℕ} → a ≡ b → c ≡ d → the_times a c ≡ the_times b d
@@ -48,14 +48,14 @@ both_same {a} {b} {c} {d} one other = ap (λ x. the_times x c) one ∙ ap (the_t
 
 -- ---- the same choice by the same times and the same puts
 
-module _ (rule : Rule) (R S : ℕ → ℕ → Type 0) (t u : ℕ → Times) (same : (p : ℕ) → t p ≡ u p) (to : (hit put : ℕ) → R hit put → S hit put) (back : (hit put : ℕ) → S hit put → R hit put) where
+module _ (rule : Rule) (R S : ℕ → ℕ → Type 0) (t u : ℕ → CallSpan) (same : (p : ℕ) → t p ≡ u p) (to : (hit put : ℕ) → R hit put → S hit put) (back : (hit put : ℕ) → S hit put → R hit put) where
   start_same : (p : ℕ) → (t p).start ≡ (u p).start
-  start_same p = ap (λ (x : Times). x.start) (same p)
+  start_same p = ap (λ (x : CallSpan). x.start) (same p)
 
   end_same : (p : ℕ) → (t p).end ≡ (u p).end
-  end_same p = ap (λ (x : Times). x.end) (same p)
+  end_same p = ap (λ (x : CallSpan). x.end) (same p)
 
-  zone_same : (owners : List ℕ) (put : ℕ) (zone : Times) → IsZoneOf t owners put zone → IsZoneOf u owners put zone
+  zone_same : (owners : List ℕ) (put : ℕ) (zone : CallSpan) → IsZoneOf t owners put zone → IsZoneOf u owners put zone
   zone_same owners put zone is = record {
     early = is.early;
     late = is.late;
@@ -165,8 +165,8 @@ module _ (history : List Call) (steps : List NumberedCall) (are : AreSteps histo
     all = λ hit has. let is = several_of history steps are hit has in (turned.same hit).0 (own.all hit (slice_get_within steps hit is.step is.at) is);
     order = pairs_from_at (ComesBefore (times_at history)) (positions_in hits) (λ i j p q less one other.
         let before = pair_at (ComesBefore (times_in steps)) (positions_in hits) i j p q turned.order less one other in
-        let a = ap (λ (x : Times). x.start) (times_same p) in
-        let b = ap (λ (x : Times). x.start) (times_same q) in
+        let a = ap (λ (x : CallSpan). x.start) (times_same p) in
+        let b = ap (λ (x : CallSpan). x.start) (times_same q) in
         elim before [
           | inl earlier ↦ inl (omega arith)
           | inr same ↦ inr (sym a ∙ same.0 ∙ b, same.1)

@@ -9,7 +9,7 @@ use Rattle.certificate_finder.specs.declared.offer.Offer.{Offer}
 use Rattle.certificate_finder.specs.declared.put.Put.{Put}
 use Rattle.certificate_finder.specs.declared.ranked.Ranked.{Ranked}
 use Rattle.certificate_finder.specs.declared.rule.Rule.{Rule}
-use Rattle.certificate_finder.specs.declared.times.Times.{Times}
+use Rattle.certificate_finder.specs.declared.call_span.CallSpan.{CallSpan}
 use Rattle.certificate_finder.specs.Choosing.{ComesBefore, IsOffer, Wins, WinsOver}
 use Rattle.certificate_finder.specs.Lining.{positions_in}
 use Rattle.certificate_finder.specs.Owning.{ReadsLive}
@@ -17,7 +17,7 @@ use Rattle.certificate_finder.specs.Putting.{last_rank}
 use Rattle.certificate_finder.specs.Zones.{AreEarliest, AreLatest}
 
 -- when the call at a position started and ended
-abbrev pub times_in : List NumberedCall → ℕ → Times
+abbrev pub times_in : List NumberedCall → ℕ → CallSpan
 times_in steps position = record {
   start = option_map_or (λ step. step.start) (slice_get steps position) 0;
   end = option_map_or (λ step. step.end) (slice_get steps position) 0;

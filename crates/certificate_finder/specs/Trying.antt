@@ -5,7 +5,7 @@ use Rattle.certificate_checker.specs.Deeds.{deed_of}
 use Rattle.certificate_checker.specs.Latest.{Writes}
 use Rattle.certificate_checker.specs.Orders.{Precedes}
 use Rattle.certificate_finder.specs.declared.rule.Rule.{Rule}
-use Rattle.certificate_finder.specs.declared.times.Times.{Times}
+use Rattle.certificate_finder.specs.declared.call_span.CallSpan.{CallSpan}
 use Rattle.certificate_finder.specs.declared.witness.Side.{Side}
 use Rattle.certificate_finder.specs.Choosing.{ChoosesBy, ComesBefore}
 use Rattle.certificate_finder.specs.Reads.{CouldRead, HasSeveral}
@@ -13,7 +13,7 @@ use Rattle.certificate_finder.specs.Turns.{end_at, start_at}
 use Rattle.certificate_finder.specs.Zones.{Goes}
 
 -- when the call at a position started and ended
-abbrev pub times_at : List Call → ℕ → Times
+abbrev pub times_at : List Call → ℕ → CallSpan
 times_at history position = record { start = start_at history position; end = end_at history position }
 
 -- the hit at a position can have read the put at another one, and no other put

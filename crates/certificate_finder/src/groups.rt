@@ -2,12 +2,12 @@
 ghost use Rattle.std.specs.Prelude.{◌≡◌, ◌<◌, ◌^◌, All, IfOk, Some, length, slice_get, slice_set};
 ghost use Rattle.certificate_finder.specs.Offering.{IsLater, IsSooner};
 
+use crate::call_span::CallSpan;
 use crate::ends::{earliest_of, latest_of};
 use crate::numbered_call::{NumberedCall, step_at};
 use crate::numbers::number_at;
 use crate::offer::Offer;
 use crate::rule::Rule;
-use crate::times::Times;
 use std::alloc::{AllocError, Global};
 
 /// For each call the position of the one that it goes with, and for each position the calls of its zone.
@@ -61,7 +61,7 @@ impl Groups {
         let late = number_at(self.latest.as_slice(), put as usize);
         let first = step_at(steps, early as usize);
         let last = step_at(steps, late as usize);
-        let zone = Times {
+        let zone = CallSpan {
             start: last.start,
             end: first.end,
         };

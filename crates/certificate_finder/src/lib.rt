@@ -4,6 +4,7 @@
 mod asked;
 mod best;
 mod call_kind;
+mod call_span;
 mod choosing;
 mod crossing;
 mod crossings;
@@ -36,7 +37,6 @@ mod readable;
 mod readings;
 mod refusal;
 mod rule;
-mod times;
 mod tree;
 mod tree_shape;
 mod witness;

@@ -4,7 +4,7 @@ ghost use Rattle.trace_file.specs.Lent.{act_shown};
 ghost use Rattle.certificate_finder.specs.Steps.{kind_of as kind_of_act};
 
 use crate::call_kind::CallKind;
-use crate::times::Times;
+use crate::call_span::CallSpan;
 use trace_file::{ActRef, CallRef};
 
 /// A call, with a number in place of its key and one in place of its value.
@@ -46,10 +46,10 @@ impl NumberedCall {
     }
 
     /// When it started and ended.
-    pub(crate) fn times(&self) -> Times
+    pub(crate) fn times(&self) -> CallSpan
         ensures { result ≡ record { start = self.now.start; end = self.now.end } }
     {
-        Times {
+        CallSpan {
             start: self.start,
             end: self.end,
         }

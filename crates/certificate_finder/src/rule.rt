@@ -2,7 +2,7 @@
 ghost use Rattle.std.specs.Prelude.{◌≡◌, ◌<◌, Some, slice_get};
 ghost use Rattle.certificate_finder.specs.Choosing.{all_rules, last_or_first as last_or_first_of};
 
-use crate::times::Times;
+use crate::call_span::CallSpan;
 
 /// How many rules there are.
 pub(crate) const RULES: usize = 5;
@@ -30,7 +30,7 @@ impl Rule {
     ghost use Rattle.certificate_finder.specs.Choosing.{cost_of};
 
     /// What a put costs a hit, if the calls that go with the put have this zone. The hit gets the put that costs least.
-    pub(crate) fn cost(self, hit: Times, put: Times, zone: Times) -> u128
+    pub(crate) fn cost(self, hit: CallSpan, put: CallSpan, zone: CallSpan) -> u128
         ensures { result ≡ cost_of self hit put zone }
     {
         match self {

@@ -5,16 +5,16 @@ use Rattle.record_pages.specs.declared.put_fault.PutFault.{PutFault}
 use Rattle.mover.specs.declared.answer_kind.AnswerKind.{AnswerKind}
 use Rattle.mover.specs.Get.{answer_of}
 use Rattle.service_lane.specs.Serving.{Serving, Gets}
-use Rattle.item_lane.specs.declared.item.Item.{Item}
-use Rattle.item_lane.specs.declared.reply.Reply.{Reply}
-use Rattle.item_lane.specs.declared.turn.Turn.{Turn}
+use Rattle.item_lane.specs.declared.cache_item.CacheItem.{CacheItem}
+use Rattle.item_lane.specs.declared.command_reply.CommandReply.{CommandReply}
+use Rattle.item_lane.specs.declared.command_turn.CommandTurn.{CommandTurn}
 use Rattle.item_lane.specs.Cells.{Kept, kept_shown}
 use Rattle.item_lane.specs.Live.{live_in}
 use Rattle.item_lane.specs.Plans.{Plan}
 use Rattle.item_lane.specs.Doing.{Does, DoesAndGives, Follows}
 
-module _ {D : Type 0} (size : ℕ) (honest : D → Bool) (failures : D → ℕ) (held : D → ℕ → Option (List ℕ)) (key : List ℕ) (turn : Turn) (plan_for : Option Kept → Plan) (old between new : Serving D) (seen : AnswerKind) (found bytes : List ℕ) (bytes_are : bytes ≡ found)
-    (gets : Gets size honest failures held key turn.moment (answer_of seen found) old between) (item : Option Item) (item_is : option_map kept_shown item ≡ live_in turn.flushed (answer_of seen bytes)) (plan : Plan) (plan_is : plan ≡ plan_for (option_map kept_shown item)) (result : Result Reply PutFault)
+module _ {D : Type 0} (size : ℕ) (honest : D → Bool) (failures : D → ℕ) (held : D → ℕ → Option (List ℕ)) (key : List ℕ) (turn : CommandTurn) (plan_for : Option Kept → Plan) (old between new : Serving D) (seen : AnswerKind) (found bytes : List ℕ) (bytes_are : bytes ≡ found)
+    (gets : Gets size honest failures held key turn.moment (answer_of seen found) old between) (item : Option CacheItem) (item_is : option_map kept_shown item ≡ live_in turn.flushed (answer_of seen bytes)) (plan : Plan) (plan_is : plan ≡ plan_for (option_map kept_shown item)) (result : Result CommandReply PutFault)
     (follows : Follows size held key turn.word plan between result new) where
   live_is : option_map kept_shown item ≡ live_in turn.flushed (answer_of seen found)
   live_is = item_is ∙ ap (λ (b : List ℕ). live_in turn.flushed (answer_of seen b)) bytes_are

@@ -5,8 +5,8 @@ use Rattle.std.specs.Option.{option_map}
 use Rattle.std.proofs.lemmas.List.{take-replicate}
 use Rattle.item_lane.specs.declared.counting.Delta.{Delta}
 use Rattle.item_lane.specs.declared.head.Head.{Head}
-use Rattle.item_lane.specs.declared.item.Item.{Item}
-use Rattle.item_lane.specs.declared.reply.Reply.TheVariants.{Number, Exists}
+use Rattle.item_lane.specs.declared.cache_item.CacheItem.{CacheItem}
+use Rattle.item_lane.specs.declared.command_reply.CommandReply.TheVariants.{Number, Exists}
 use Rattle.item_lane.specs.Cells.{Kept, kept_shown}
 use Rattle.item_lane.specs.Numbers.{number_in, changed}
 use Rattle.item_lane.specs.Choosing.{agrees, renewed, number_plan, delta_plan}
@@ -16,13 +16,13 @@ use Rattle.item_lane.specs.Plans.{Plan, Keep, Store}
 abbrev stores : Head → List ℕ → List ℕ → ℕ → Plan
 stores head front back n = Store (record { head = head; bytes = front ++ back }) (Number n)
 
-module _ (delta : Delta) (live : Option Item) (item : Item) (live_is : live ≡ Some item) (yes : agrees delta.compare item.head ≡ true) (old : ℕ) (number_is : number_in item.bytes.now ≡ Some old) where
+module _ (delta : Delta) (live : Option CacheItem) (item : CacheItem) (live_is : live ≡ Some item) (yes : agrees delta.compare item.head ≡ true) (old : ℕ) (number_is : number_in item.bytes.now ≡ Some old) where
   -- what is stored if the item holds this number
   planned : number_plan delta (kept_shown item) (Some old) ≡ delta_plan delta (option_map kept_shown live)
   planned =
       ap (number_plan delta (kept_shown item)) (sym number_is)
       ∙ ap (λ (b : Bool). cond b (number_plan delta (kept_shown item) (number_in item.bytes.now)) (Keep Exists)) (sym yes)
-      ∙ ap (λ (o : Option Item). delta_plan delta (option_map kept_shown o)) (sym live_is)
+      ∙ ap (λ (o : Option CacheItem). delta_plan delta (option_map kept_shown o)) (sym live_is)
 
   pub number_put : (head : Head) (n : ℕ) (text spaces : List ℕ) (k most : ℕ) → head ≡ renewed item.head delta.cas → n ≡ changed delta.change old → text ≡ decimal n → spaces ≡ replicate most 32 → k ≡ length item.bytes.now - length text → length item.bytes.now ≤ most →
       Store (record { head = head; bytes = text ++ take k spaces }) (Number n) ≡ delta_plan delta (option_map kept_shown live)

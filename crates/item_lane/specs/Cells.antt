@@ -4,7 +4,7 @@ use Rattle.std.specs.Int.{w32, w64, to_be_bytes}
 use Rattle.record_pages.specs.Expiry.{never}
 use Rattle.record_pages.specs.Reading.{◌>>=◌, byte_at, number_at}
 use Rattle.item_lane.specs.declared.head.Head.{Head}
-use Rattle.item_lane.specs.declared.item.Item.{Item}
+use Rattle.item_lane.specs.declared.cache_item.CacheItem.{CacheItem}
 
 -- an item that is kept: its head and its data
 pub record Kept : Type 0 where
@@ -12,7 +12,7 @@ pub record Kept : Type 0 where
   pub bytes : List ℕ
 
 -- the item that a lent one shows
-abbrev pub kept_shown : Item → Kept
+abbrev pub kept_shown : CacheItem → Kept
 kept_shown item = record { head = item.head; bytes = item.bytes.now }
 
 -- a number, if there is one

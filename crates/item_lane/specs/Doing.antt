@@ -9,10 +9,10 @@ use Rattle.record_pages.specs.declared.put_fault.PutFault.TheVariants.{TooLarge,
 use Rattle.memory_cache.specs.declared.pair.Pair.{Pair}
 use Rattle.service_lane.specs.Counting.{counts_refused_put}
 use Rattle.service_lane.specs.Serving.{Serving, Gets, PutsStore, Removes}
-use Rattle.item_lane.specs.declared.turn.Turn.{Turn}
-use Rattle.item_lane.specs.declared.reply.Reply.{Reply}
+use Rattle.item_lane.specs.declared.command_turn.CommandTurn.{CommandTurn}
+use Rattle.item_lane.specs.declared.command_reply.CommandReply.{CommandReply}
 use Rattle.std.specs.Option.{option_map}
-use Rattle.item_lane.specs.declared.item.Item.{Item}
+use Rattle.item_lane.specs.declared.cache_item.CacheItem.{CacheItem}
 use Rattle.item_lane.specs.Cells.{Kept, kept_shown, cell_text, expires_of}
 use Rattle.item_lane.specs.Live.{live_in}
 use Rattle.item_lane.specs.Plans.{Plan, Keep, Store, Remove}
@@ -45,26 +45,26 @@ Lands size held key kept word old (Ok done) new = Stores size held key kept word
 Lands size held key kept word old (Err fault) new = Refuses size held key kept old fault new
 
 -- an item was stored, and this was replied; or its key was removed
-abbrev pub LandsAs : {D : Type 0} → ℕ → (D → ℕ → Option (List ℕ)) → List ℕ → Kept → ℕ → Reply → Serving D → Result Reply PutFault → Serving D → Type 0
+abbrev pub LandsAs : {D : Type 0} → ℕ → (D → ℕ → Option (List ℕ)) → List ℕ → Kept → ℕ → CommandReply → Serving D → Result CommandReply PutFault → Serving D → Type 0
 LandsAs size held key kept word reply old (Ok replied) new = (replied ≡ reply) × Stores size held key kept word old new
 LandsAs size held key kept word reply old (Err fault) new = Refuses size held key kept old fault new
 
 -- A plan was followed.
-abbrev pub Follows : {D : Type 0} → ℕ → (D → ℕ → Option (List ℕ)) → List ℕ → ℕ → Plan → Serving D → Result Reply PutFault → Serving D → Type 0
+abbrev pub Follows : {D : Type 0} → ℕ → (D → ℕ → Option (List ℕ)) → List ℕ → ℕ → Plan → Serving D → Result CommandReply PutFault → Serving D → Type 0
 Follows size held key word (Keep reply) old result new = (result ≡ Ok reply) × (new ≡ old)
 Follows size held key word (Store kept reply) old result new = LandsAs size held key kept word reply old result new
 Follows size held key word (Remove reply) old result new = (result ≡ Ok reply) × Removes held key old new
 
 -- A command: the lane answered a get of the key at the moment, and the plan was followed that the command has for the live item of that
 -- answer, or for none.
-pub record Does {D : Type 0} (size : ℕ) (honest : D → Bool) (failures : D → ℕ) (held : D → ℕ → Option (List ℕ)) (key : List ℕ) (turn : Turn) (plan_for : Option Kept → Plan) (old : Serving D) (result : Result Reply PutFault) (new : Serving D) : Type 0 where
+pub record Does {D : Type 0} (size : ℕ) (honest : D → Bool) (failures : D → ℕ) (held : D → ℕ → Option (List ℕ)) (key : List ℕ) (turn : CommandTurn) (plan_for : Option Kept → Plan) (old : Serving D) (result : Result CommandReply PutFault) (new : Serving D) : Type 0 where
   pub answer : Answer
   pub between : Serving D
   pub gets : Gets size honest failures held key turn.moment answer old between
   pub follows : Follows size held key turn.word (plan_for (live_in turn.flushed answer)) between result new
 
 -- A command that also gives the live item of the answer, as it was before.
-pub record DoesAndGives {D : Type 0} (size : ℕ) (honest : D → Bool) (failures : D → ℕ) (held : D → ℕ → Option (List ℕ)) (key : List ℕ) (turn : Turn) (plan_for : Option Kept → Plan) (old : Serving D) (item : Option Item) (result : Result Reply PutFault) (new : Serving D) : Type 0 where
+pub record DoesAndGives {D : Type 0} (size : ℕ) (honest : D → Bool) (failures : D → ℕ) (held : D → ℕ → Option (List ℕ)) (key : List ℕ) (turn : CommandTurn) (plan_for : Option Kept → Plan) (old : Serving D) (item : Option CacheItem) (result : Result CommandReply PutFault) (new : Serving D) : Type 0 where
   pub answer : Answer
   pub between : Serving D
   pub gets : Gets size honest failures held key turn.moment answer old between

@@ -4,8 +4,8 @@ use Rattle.std.specs.Option.{option_map}
 use Rattle.record_pages.specs.declared.answer.Answer.{Answer}
 use Rattle.record_pages.specs.declared.answer.Answer.TheVariants.{Hit, Miss}
 use Rattle.service_lane.specs.Serving.{Serving, Gets}
-use Rattle.item_lane.specs.declared.turn.Turn.{Turn}
-use Rattle.item_lane.specs.declared.item.Item.{Item}
+use Rattle.item_lane.specs.declared.command_turn.CommandTurn.{CommandTurn}
+use Rattle.item_lane.specs.declared.cache_item.CacheItem.{CacheItem}
 use Rattle.item_lane.specs.Cells.{Kept, kept_shown, decoded}
 
 -- an item, unless it was stored before the flush that drew this number
@@ -19,7 +19,7 @@ live_in flushed (Hit value tier) = option_and_then (if_spared flushed) (decoded 
 live_in flushed (Miss cause) = None
 
 -- A get: the lane answered it, and the item is the live one of that answer.
-pub record LooksUp {D : Type 0} (size : ℕ) (honest : D → Bool) (failures : D → ℕ) (held : D → ℕ → Option (List ℕ)) (key : List ℕ) (turn : Turn) (old : Serving D) (item : Option Item) (new : Serving D) : Type 0 where
+pub record LooksUp {D : Type 0} (size : ℕ) (honest : D → Bool) (failures : D → ℕ) (held : D → ℕ → Option (List ℕ)) (key : List ℕ) (turn : CommandTurn) (old : Serving D) (item : Option CacheItem) (new : Serving D) : Type 0 where
   pub answer : Answer
   pub gets : Gets size honest failures held key turn.moment answer old new
   pub item_is : option_map kept_shown item ≡ live_in turn.flushed answer

@@ -5,10 +5,10 @@ ghost use Rattle.item_lane.specs.Cells.{kept_shown};
 ghost use Rattle.item_lane.specs.Plans.{plan_shown, parts_shown};
 ghost use Rattle.item_lane.specs.Choosing.{agrees, absent_plan, present_plan, store_plan, over};
 
+use crate::cache_item::CacheItem;
+use crate::command_reply::CommandReply;
+use crate::command_verdict::{CommandVerdict, ItemParts};
 use crate::head::Head;
-use crate::item::Item;
-use crate::reply::Reply;
-use crate::verdict::{Parts, Verdict};
 
 /// How a store depends on the live item of its key.
 #[derive(Clone, Copy, Debug, PartialEq, Eq)]
@@ -34,7 +34,11 @@ pub struct Condition {
 
 impl Condition {
     // What a store of an item does about the live one.
-    pub(crate) fn verdict<'a>(self, given: Item<'a>, live: Option<Item<'a>>) -> Verdict<'a>
+    pub(crate) fn verdict<'a>(
+        self,
+        given: CacheItem<'a>,
+        live: Option<CacheItem<'a>>,
+    ) -> CommandVerdict<'a>
         ensures { plan_shown result
             ≡ store_plan self (kept_shown given.entry) (option_map kept_shown live.entry) }
     {
@@ -45,30 +49,32 @@ impl Condition {
     }
 
     // What a store of an item does if none is live.
-    fn absent_verdict(self, given: Item<'_>) -> Verdict<'_>
+    fn absent_verdict(self, given: CacheItem<'_>) -> CommandVerdict<'_>
         ensures { plan_shown result ≡ absent_plan self.mode self.compare (kept_shown given.entry) }
     {
         match self.mode {
-            StoreMode::Add => Verdict::Store(Parts::of(given), Reply::Stored),
-            StoreMode::Replace if self.compare.is_some() => Verdict::Keep(Reply::NotFound),
+            StoreMode::Add => CommandVerdict::Store(ItemParts::of(given), CommandReply::Stored),
+            StoreMode::Replace if self.compare.is_some() => CommandVerdict::Keep(
+                CommandReply::NotFound,
+            ),
             StoreMode::Replace | StoreMode::Append | StoreMode::Prepend => {
-                Verdict::Keep(Reply::NotStored)
+                CommandVerdict::Keep(CommandReply::NotStored)
             }
         }
     }
 
     // What a store of an item does if one is live.
-    fn present_verdict<'a>(self, given: Item<'a>, item: Item<'a>) -> Verdict<'a>
+    fn present_verdict<'a>(self, given: CacheItem<'a>, item: CacheItem<'a>) -> CommandVerdict<'a>
         ensures { plan_shown result
             ≡ present_plan self.mode self.compare (kept_shown given.entry) (kept_shown item.entry) }
     {
         if self.mode == StoreMode::Add {
-            return Verdict::Keep(Reply::NotStored);
+            return CommandVerdict::Keep(CommandReply::NotStored);
         }
         if !agrees(self.compare, &item.head) {
-            return Verdict::Keep(Reply::Exists);
+            return CommandVerdict::Keep(CommandReply::Exists);
         }
-        Verdict::Store(stored_over(self.mode, given, item), Reply::Stored)
+        CommandVerdict::Store(stored_over(self.mode, given, item), CommandReply::Stored)
     }
 }
 
@@ -83,18 +89,18 @@ pub(crate) fn agrees(compare: Option<u64>, head: &Head) -> bool
 }
 
 // What is stored over a live item.
-fn stored_over<'a>(mode: StoreMode, given: Item<'a>, item: Item<'a>) -> Parts<'a>
+fn stored_over<'a>(mode: StoreMode, given: CacheItem<'a>, item: CacheItem<'a>) -> ItemParts<'a>
     ensures { parts_shown result ≡ over mode (kept_shown given.entry) (kept_shown item.entry) }
 {
     let head = item.head.renewed(given.head.cas);
     match mode {
-        StoreMode::Add | StoreMode::Replace => Parts::of(given),
-        StoreMode::Append => Parts {
+        StoreMode::Add | StoreMode::Replace => ItemParts::of(given),
+        StoreMode::Append => ItemParts {
             head,
             front: item.bytes,
             back: given.bytes,
         },
-        StoreMode::Prepend => Parts {
+        StoreMode::Prepend => ItemParts {
             head,
             front: given.bytes,
             back: item.bytes,

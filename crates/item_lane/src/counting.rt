@@ -7,14 +7,14 @@ ghost use Rattle.item_lane.specs.Plans.{plan_shown};
 ghost use Rattle.item_lane.specs.Choosing.{delta_plan};
 ghost use Rattle.item_lane.specs.Doing.{Does};
 
+use crate::cache_item::CacheItem;
 use crate::change::{Change, number_in};
+use crate::command_reply::CommandReply;
+use crate::command_turn::CommandTurn;
+use crate::command_verdict::{CommandVerdict, ItemParts};
 use crate::condition::agrees;
 use crate::follow::follow;
-use crate::item::Item;
 use crate::look::{live_item, look};
-use crate::reply::Reply;
-use crate::turn::Turn;
-use crate::verdict::{Parts, Verdict};
 use itoa::Buffer;
 use page_device::PageDevice;
 use record_pages::{PutFault, Value, ValueBuffer};
@@ -43,9 +43,9 @@ pub fn change_number<D: PageDevice<PAGE>, const PAGE: usize>(
     alloc: Global,
     key: &[u8],
     delta: Delta,
-    turn: Turn,
+    turn: CommandTurn,
     found: &mut ValueBuffer,
-) -> Result<Reply, PutFault>
+) -> Result<CommandReply, PutFault>
     requires { IsKey key.now }
     ensures { Does PAGE D.honest D.failures D.held key.now turn (delta_plan delta)
         lane.old result lane.new }
@@ -62,30 +62,30 @@ impl Delta {
     // What a change does about the live item.
     fn verdict<'a>(
         self,
-        live: Option<Item<'a>>,
+        live: Option<CacheItem<'a>>,
         digits: &'a mut Buffer,
         spaces: &'a [u8],
-    ) -> Verdict<'a>
+    ) -> CommandVerdict<'a>
         requires short { IfSome live (λ item. length item.bytes.now ≤ 2048) }
         requires spaces { spaces.now ≡ replicate 2048 32 }
         ensures { plan_shown result ≡ delta_plan self (option_map kept_shown live.entry) }
     {
         let Some(item) = live else {
-            return Verdict::Keep(Reply::NotFound);
+            return CommandVerdict::Keep(CommandReply::NotFound);
         };
         if !agrees(self.compare, &item.head) {
-            return Verdict::Keep(Reply::Exists);
+            return CommandVerdict::Keep(CommandReply::Exists);
         }
         let Some(old) = number_in(item.bytes) else {
-            return Verdict::Keep(Reply::NotNumber);
+            return CommandVerdict::Keep(CommandReply::NotNumber);
         };
         let number = self.change.of(old);
         let text = digits.format(number).as_bytes();
-        let parts = Parts {
+        let parts = ItemParts {
             head: item.head.renewed(self.cas),
             front: text,
             back: &spaces[..item.bytes.len().saturating_sub(text.len())],
         };
-        Verdict::Store(parts, Reply::Number(number))
+        CommandVerdict::Store(parts, CommandReply::Number(number))
     }
 }

@@ -4,11 +4,11 @@ ghost use Rattle.record_pages.specs.Bounded.{IsKey};
 ghost use Rattle.item_lane.specs.Choosing.{delete_plan};
 ghost use Rattle.item_lane.specs.Doing.{Does};
 
+use crate::command_reply::CommandReply;
+use crate::command_turn::CommandTurn;
 use crate::condition::agrees;
 use crate::follow::remove;
 use crate::look::{live_item, look};
-use crate::reply::Reply;
-use crate::turn::Turn;
 use page_device::PageDevice;
 use record_pages::ValueBuffer;
 use service_lane::ServiceLane;
@@ -22,9 +22,9 @@ pub fn delete<D: PageDevice<PAGE>, const PAGE: usize>(
     lane: &mut ServiceLane<D, PAGE>,
     key: &[u8],
     compare: Option<u64>,
-    turn: Turn,
+    turn: CommandTurn,
     found: &mut ValueBuffer,
-) -> Reply
+) -> CommandReply
     requires { IsKey key.now }
     ensures { Does PAGE D.honest D.failures D.held key.now turn (delete_plan compare)
         lane.old (Ok result) lane.new }
@@ -33,12 +33,12 @@ pub fn delete<D: PageDevice<PAGE>, const PAGE: usize>(
     match live_item(seen, found.bytes(), turn.flushed) {
         None => {
             remove(lane, key);
-            Reply::NotFound
+            CommandReply::NotFound
         }
         Some(item) if agrees(compare, &item.head) => {
             remove(lane, key);
-            Reply::Deleted
+            CommandReply::Deleted
         }
-        Some(_) => Reply::Exists,
+        Some(_) => CommandReply::Exists,
     }
 }

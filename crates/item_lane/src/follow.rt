@@ -8,8 +8,8 @@ ghost use Rattle.item_lane.specs.Plans.{plan_shown, parts_shown};
 ghost use Rattle.item_lane.specs.Doing.{Follows, Lands, IsTooLarge};
 
 use crate::cell::CellBuffer;
-use crate::reply::Reply;
-use crate::verdict::{Parts, Verdict};
+use crate::command_reply::CommandReply;
+use crate::command_verdict::{CommandVerdict, ItemParts};
 use page_device::PageDevice;
 use record_pages::{Key, PAGE_OVERHEAD, PutFault, RECORD_OVERHEAD, Value};
 use service_lane::ServiceLane;
@@ -21,18 +21,18 @@ pub(crate) fn follow<D: PageDevice<PAGE>, const PAGE: usize>(
     alloc: Global,
     key: &[u8],
     word: u32,
-    verdict: Verdict<'_>,
-) -> Result<Reply, PutFault>
+    verdict: CommandVerdict<'_>,
+) -> Result<CommandReply, PutFault>
     requires { IsKey key.now }
     ensures { Follows PAGE D.held key.now word (plan_shown verdict.entry) lane.old result lane.new }
 {
     match verdict {
-        Verdict::Keep(reply) => Ok(reply),
-        Verdict::Store(parts, reply) => match store(lane, alloc, key, word, parts) {
+        CommandVerdict::Keep(reply) => Ok(reply),
+        CommandVerdict::Store(parts, reply) => match store(lane, alloc, key, word, parts) {
             Ok(()) => Ok(reply),
             Err(fault) => Err(fault),
         },
-        Verdict::Remove(reply) => {
+        CommandVerdict::Remove(reply) => {
             remove(lane, key);
             Ok(reply)
         }
@@ -59,7 +59,7 @@ fn store<D: PageDevice<PAGE>, const PAGE: usize>(
     alloc: Global,
     key: &[u8],
     word: u32,
-    parts: Parts<'_>,
+    parts: ItemParts<'_>,
 ) -> Result<(), PutFault>
     requires { IsKey key.now }
     ensures { Lands PAGE D.held key.now (parts_shown parts.entry) word lane.old result lane.new }
@@ -81,7 +81,7 @@ fn store<D: PageDevice<PAGE>, const PAGE: usize>(
 
 // A key and the value that its item's cell is.
 #[derive(Drop)]
-struct Object {
+struct CellObject {
     key: Key,
     value: Value,
 }
@@ -90,8 +90,8 @@ struct Object {
 fn make_object<const PAGE: usize>(
     alloc: Global,
     key: &[u8],
-    parts: Parts<'_>,
-) -> Result<Object, PutFault>
+    parts: ItemParts<'_>,
+) -> Result<CellObject, PutFault>
     requires { IsKey key.now }
     ensures key { IfOk result (λ object. object.key ≡ key.now) }
     ensures value { IfOk result (λ object. object.value ≡ cell_text (parts_shown parts.entry)) }
@@ -109,11 +109,11 @@ fn make_object<const PAGE: usize>(
     let Ok(value) = Value::new(alloc, cell.bytes()) else {
         return Err(PutFault::OutOfMemory);
     };
-    Ok(Object { key, value })
+    Ok(CellObject { key, value })
 }
 
 // Whether an item is too large for a value, or for a page with its key.
-fn is_too_large<const PAGE: usize>(key: &[u8], parts: &Parts<'_>) -> bool
+fn is_too_large<const PAGE: usize>(key: &[u8], parts: &ItemParts<'_>) -> bool
     ensures { IsTrue result ↔ IsTooLarge PAGE key.now (parts_shown parts.now) }
 {
     let data = parts.front.len().saturating_add(parts.back.len());

@@ -4,30 +4,30 @@
 //! its data. The words are those of memcached's doc/protocol.txt (1.6). Sockets and the text of requests are not here.
 #![tactic(auto)]
 
+mod cache_item;
 mod cell;
 mod change;
+mod command_reply;
+mod command_turn;
+mod command_verdict;
 mod condition;
 mod counting;
 mod deleting;
 mod follow;
 mod head;
-mod item;
 mod look;
-mod reply;
 mod storing;
 mod touching;
-mod turn;
-mod verdict;
 
+pub use cache_item::CacheItem;
 pub use cell::CellBuffer;
 pub use change::Change;
+pub use command_reply::CommandReply;
+pub use command_turn::CommandTurn;
 pub use condition::{Condition, StoreMode};
 pub use counting::{Delta, change_number};
 pub use deleting::delete;
 pub use head::Head;
-pub use item::Item;
 pub use look::get;
-pub use reply::Reply;
 pub use storing::{set, store_if};
 pub use touching::{Touched, get_and_touch, touch};
-pub use turn::Turn;

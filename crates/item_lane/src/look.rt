@@ -7,8 +7,8 @@ ghost use Rattle.service_lane.specs.Serving.{Gets};
 ghost use Rattle.item_lane.specs.Cells.{kept_shown};
 ghost use Rattle.item_lane.specs.Live.{LooksUp, live_in};
 
-use crate::item::Item;
-use crate::turn::Turn;
+use crate::cache_item::CacheItem;
+use crate::command_turn::CommandTurn;
 use mover::AnswerKind;
 use page_device::PageDevice;
 use record_pages::ValueBuffer;
@@ -20,9 +20,9 @@ use service_lane::ServiceLane;
 pub fn get<'a, D: PageDevice<PAGE>, const PAGE: usize>(
     lane: &mut ServiceLane<D, PAGE>,
     key: &[u8],
-    turn: Turn,
+    turn: CommandTurn,
     found: &'a mut ValueBuffer,
-) -> Option<Item<'a>>
+) -> Option<CacheItem<'a>>
     requires { IsKey key.now }
     ensures { LooksUp PAGE D.honest D.failures D.held key.now turn lane.old result lane.new }
 {
@@ -34,7 +34,7 @@ pub fn get<'a, D: PageDevice<PAGE>, const PAGE: usize>(
 pub(crate) fn look<D: PageDevice<PAGE>, const PAGE: usize>(
     lane: &mut ServiceLane<D, PAGE>,
     key: &[u8],
-    turn: Turn,
+    turn: CommandTurn,
     found: &mut ValueBuffer,
 ) -> AnswerKind
     requires { IsKey key.now }
@@ -48,13 +48,13 @@ pub(crate) fn look<D: PageDevice<PAGE>, const PAGE: usize>(
 }
 
 /// The live item of a key of which a lane answered this, its value in the buffer.
-pub(crate) fn live_item(seen: AnswerKind, found: &[u8], flushed: u64) -> Option<Item<'_>>
+pub(crate) fn live_item(seen: AnswerKind, found: &[u8], flushed: u64) -> Option<CacheItem<'_>>
     ensures live { option_map kept_shown result ≡ live_in flushed (answer_of seen found.now) }
     ensures within { IfSome result (λ item. length item.bytes.now ≤ length found.now) }
 {
     match seen {
         AnswerKind::Hit(_) => {
-            let item = Item::decode(found)?;
+            let item = CacheItem::decode(found)?;
             if item.head.cas < flushed {
                 return None;
             }

@@ -5,13 +5,13 @@ ghost use Rattle.item_lane.specs.Cells.{kept_shown};
 ghost use Rattle.item_lane.specs.Choosing.{set_plan, store_plan};
 ghost use Rattle.item_lane.specs.Doing.{Follows, Does};
 
+use crate::cache_item::CacheItem;
+use crate::command_reply::CommandReply;
+use crate::command_turn::CommandTurn;
+use crate::command_verdict::{CommandVerdict, ItemParts};
 use crate::condition::Condition;
 use crate::follow::follow;
-use crate::item::Item;
 use crate::look::{live_item, look};
-use crate::reply::Reply;
-use crate::turn::Turn;
-use crate::verdict::{Parts, Verdict};
 use page_device::PageDevice;
 use record_pages::{PutFault, ValueBuffer};
 use service_lane::ServiceLane;
@@ -25,14 +25,14 @@ pub fn set<D: PageDevice<PAGE>, const PAGE: usize>(
     lane: &mut ServiceLane<D, PAGE>,
     alloc: Global,
     key: &[u8],
-    item: Item<'_>,
-    turn: Turn,
-) -> Result<Reply, PutFault>
+    item: CacheItem<'_>,
+    turn: CommandTurn,
+) -> Result<CommandReply, PutFault>
     requires { IsKey key.now }
     ensures { Follows PAGE D.held key.now turn.word (set_plan (kept_shown item.entry))
         lane.old result lane.new }
 {
-    let verdict = Verdict::Store(Parts::of(item), Reply::Stored);
+    let verdict = CommandVerdict::Store(ItemParts::of(item), CommandReply::Stored);
     follow(lane, alloc, key, turn.word, verdict)
 }
 
@@ -46,10 +46,10 @@ pub fn store_if<D: PageDevice<PAGE>, const PAGE: usize>(
     alloc: Global,
     key: &[u8],
     condition: Condition,
-    item: Item<'_>,
-    turn: Turn,
+    item: CacheItem<'_>,
+    turn: CommandTurn,
     found: &mut ValueBuffer,
-) -> Result<Reply, PutFault>
+) -> Result<CommandReply, PutFault>
     requires { IsKey key.now }
     ensures { Does PAGE D.honest D.failures D.held key.now turn
         (store_plan condition (kept_shown item.entry)) lane.old result lane.new }

@@ -7,13 +7,13 @@ ghost use Rattle.item_lane.specs.Plans.{plan_shown};
 ghost use Rattle.item_lane.specs.Choosing.{touch_plan};
 ghost use Rattle.item_lane.specs.Doing.{Does, DoesAndGives};
 
+use crate::cache_item::CacheItem;
+use crate::command_reply::CommandReply;
+use crate::command_turn::CommandTurn;
+use crate::command_verdict::{CommandVerdict, ItemParts};
 use crate::follow::follow;
 use crate::head::Head;
-use crate::item::Item;
 use crate::look::{live_item, look};
-use crate::reply::Reply;
-use crate::turn::Turn;
-use crate::verdict::{Parts, Verdict};
 use page_device::PageDevice;
 use record_pages::{PutFault, ValueBuffer};
 use service_lane::ServiceLane;
@@ -23,9 +23,9 @@ use std::alloc::Global;
 #[derive(Clone, Copy, Debug)]
 pub struct Touched<'a> {
     /// The live item as it was, if there is one.
-    pub item: Option<Item<'a>>,
+    pub item: Option<CacheItem<'a>>,
     /// What the touch replied.
-    pub reply: Result<Reply, PutFault>,
+    pub reply: Result<CommandReply, PutFault>,
 }
 
 /// `touch`: gives the live item of a key another expiry. All else stays, its cas unique too. It replies `Touched` or `NotFound`.
@@ -36,9 +36,9 @@ pub fn touch<D: PageDevice<PAGE>, const PAGE: usize>(
     alloc: Global,
     key: &[u8],
     expires: Option<u32>,
-    turn: Turn,
+    turn: CommandTurn,
     found: &mut ValueBuffer,
-) -> Result<Reply, PutFault>
+) -> Result<CommandReply, PutFault>
     requires { IsKey key.now }
     ensures { Does PAGE D.honest D.failures D.held key.now turn (touch_plan expires)
         lane.old result lane.new }
@@ -54,7 +54,7 @@ pub fn get_and_touch<'a, D: PageDevice<PAGE>, const PAGE: usize>(
     alloc: Global,
     key: &[u8],
     expires: Option<u32>,
-    turn: Turn,
+    turn: CommandTurn,
     found: &'a mut ValueBuffer,
 ) -> Touched<'a>
     requires { IsKey key.now }
@@ -68,21 +68,21 @@ pub fn get_and_touch<'a, D: PageDevice<PAGE>, const PAGE: usize>(
 }
 
 // What a touch does about the live item.
-fn touch_verdict(expires: Option<u32>, live: Option<Item<'_>>) -> Verdict<'_>
+fn touch_verdict(expires: Option<u32>, live: Option<CacheItem<'_>>) -> CommandVerdict<'_>
     ensures { plan_shown result ≡ touch_plan expires (option_map kept_shown live.entry) }
 {
     match live {
-        None => Verdict::Keep(Reply::NotFound),
+        None => CommandVerdict::Keep(CommandReply::NotFound),
         Some(item) => {
             let head = Head {
                 expires,
                 ..item.head
             };
-            let touched = Item {
+            let touched = CacheItem {
                 head,
                 bytes: item.bytes,
             };
-            Verdict::Store(Parts::of(touched), Reply::Touched)
+            CommandVerdict::Store(ItemParts::of(touched), CommandReply::Touched)
         }
     }
 }

@@ -9,7 +9,7 @@ use borrow.Author.Tests.{ltb-true, ltb-false}
 use Rattle.memcached_text.specs.declared.exptime.Exptime.{Exptime}
 use Rattle.memcached_text.specs.declared.reader_state.ReaderState.{ReaderState}
 use Rattle.memcached_text.specs.declared.reader_state.ReaderState.TheVariants.{Line, Keys, SkipLine, SkipData, Closed}
-use Rattle.memcached_text.specs.declared.refusal.Refusal.{Refusal}
+use Rattle.memcached_text.specs.declared.line_refusal.LineRefusal.{LineRefusal}
 use Rattle.memcached_text.specs.declared.verb.MetaCommand.{MetaCommand}
 use Rattle.memcached_text.specs.declared.verb.MetaCommand.TheVariants as metas
 use Rattle.memcached_text.specs.Asked.{Asked, AskGet, AskGetAndTouch, AskStore, AskDelete, AskDelta, AskTouch, AskFlushAll, AskStats, AskVersion, AskVerbosity, AskQuit, AskShutdown, AskMetaNoop, AskMeta}
@@ -40,7 +40,7 @@ meta_few most past asked metas.Delete len rest none = something none
 meta_few most past asked metas.Arithmetic len rest none = something none
 meta_few most past asked metas.Debug len rest none = something none
 
-whole_few : (most past : ℕ) (line rest : List ℕ) (asked : Result Asked Refusal) → is_more (whole_step most past line rest asked).told ≡ true → length rest ≤ most + 1
+whole_few : (most past : ℕ) (line rest : List ℕ) (asked : Result Asked LineRefusal) → is_more (whole_step most past line rest asked).told ≡ true → length rest ≤ most + 1
 whole_few most past line rest (Ok (AskGet cas)) none = something none
 whole_few most past line rest (Ok (AskGetAndTouch exptime cas)) none = something none
 whole_few most past line rest (Ok (AskStore store)) none = block_few most past (AskStore store) store.length store.noreply rest none

@@ -12,7 +12,7 @@ use borrow.Author.Tests.{lt-ltb, ltb-true, ltb-false}
 use Rattle.memcached_text.specs.declared.exptime.Exptime.{Exptime}
 use Rattle.memcached_text.specs.declared.reader_state.ReaderState.{ReaderState}
 use Rattle.memcached_text.specs.declared.reader_state.ReaderState.TheVariants.{Line, Keys, SkipLine, SkipData, Closed}
-use Rattle.memcached_text.specs.declared.refusal.Refusal.{Refusal}
+use Rattle.memcached_text.specs.declared.line_refusal.LineRefusal.{LineRefusal}
 use Rattle.memcached_text.specs.declared.verb.MetaCommand.{MetaCommand}
 use Rattle.memcached_text.specs.declared.verb.MetaCommand.TheVariants as metas
 use Rattle.memcached_text.specs.Asked.{Asked, AskGet, AskGetAndTouch, AskStore, AskDelete, AskDelta, AskTouch, AskFlushAll, AskStats, AskVersion, AskVerbosity, AskQuit, AskShutdown, AskMetaNoop, AskMeta}
@@ -137,7 +137,7 @@ asked_more most past line rest more (AskShutdown graceful) given = refl
 asked_more most past line rest more AskMetaNoop given = refl
 asked_more most past line rest more (AskMeta meta) given = meta_more most past (AskMeta meta) meta.command meta.length rest more given
 
-whole_more : (most past : ℕ) (line rest more : List ℕ) (asked : Result Asked Refusal) → is_more (whole_step most past line rest asked).told ≡ false → whole_step most past line (rest ++ more) asked ≡ whole_step most past line rest asked
+whole_more : (most past : ℕ) (line rest more : List ℕ) (asked : Result Asked LineRefusal) → is_more (whole_step most past line rest asked).told ≡ false → whole_step most past line (rest ++ more) asked ≡ whole_step most past line rest asked
 whole_more most past line rest more (Ok asked) given = asked_more most past line rest more asked given
 whole_more most past line rest more (Err refusal) given = refl
 

@@ -9,7 +9,7 @@ use Rattle.std.proofs.lemmas.List.{length-drop}
 use Rattle.memcached_text.specs.declared.exptime.Exptime.{Exptime}
 use Rattle.memcached_text.specs.declared.reader_state.ReaderState.{ReaderState}
 use Rattle.memcached_text.specs.declared.reader_state.ReaderState.TheVariants.{Line, Keys, SkipLine, SkipData, Closed}
-use Rattle.memcached_text.specs.declared.refusal.Refusal.{Refusal}
+use Rattle.memcached_text.specs.declared.line_refusal.LineRefusal.{LineRefusal}
 use Rattle.memcached_text.specs.declared.verb.MetaCommand.{MetaCommand}
 use Rattle.memcached_text.specs.declared.verb.MetaCommand.TheVariants as metas
 use Rattle.memcached_text.specs.Asked.{Asked, AskGet, AskGetAndTouch, AskStore, AskDelete, AskDelta, AskTouch, AskFlushAll, AskStats, AskVersion, AskVerbosity, AskQuit, AskShutdown, AskMetaNoop, AskMeta}
@@ -109,11 +109,11 @@ asked_takes most past line rest (AskShutdown graceful) some full given = some
 asked_takes most past line rest AskMetaNoop some full given = some
 asked_takes most past line rest (AskMeta meta) some full given = meta_takes most past (AskMeta meta) meta.command meta.length rest some given
 
-whole_takes : (most past : ℕ) (line rest : List ℕ) (asked : Result Asked Refusal) → request_of line ≡ asked → 1 ≤ past → Takes (whole_step most past line rest asked)
+whole_takes : (most past : ℕ) (line rest : List ℕ) (asked : Result Asked LineRefusal) → request_of line ≡ asked → 1 ≤ past → Takes (whole_step most past line rest asked)
 whole_takes most past line rest (Ok asked) is some given = asked_takes most past line rest asked some (asked_some line asked is) given
 whole_takes most past line rest (Err refusal) is some given = some
 
-long_takes : (line : List ℕ) (asked : Result Asked Refusal) → 0 < length line → Takes (long_step line asked)
+long_takes : (line : List ℕ) (asked : Result Asked LineRefusal) → 0 < length line → Takes (long_step line asked)
 long_takes line (Ok (AskGet cas)) full given = keys_takes line full
 long_takes line (Ok (AskGetAndTouch exptime cas)) full given = touched_takes line full
 long_takes line (Ok (AskStore store)) full given = lit≤ tt
@@ -212,7 +212,7 @@ meta_stays most past asked metas.Delete len rest none = something none
 meta_stays most past asked metas.Arithmetic len rest none = something none
 meta_stays most past asked metas.Debug len rest none = something none
 
-whole_stays : (most past : ℕ) (line rest : List ℕ) (asked : Result Asked Refusal) → Stays (whole_step most past line rest asked) Line
+whole_stays : (most past : ℕ) (line rest : List ℕ) (asked : Result Asked LineRefusal) → Stays (whole_step most past line rest asked) Line
 whole_stays most past line rest (Ok (AskGet cas)) none = something none
 whole_stays most past line rest (Ok (AskGetAndTouch exptime cas)) none = something none
 whole_stays most past line rest (Ok (AskStore store)) none = block_stays most past (AskStore store) store.length store.noreply rest none
@@ -229,7 +229,7 @@ whole_stays most past line rest (Ok AskMetaNoop) none = something none
 whole_stays most past line rest (Ok (AskMeta meta)) none = meta_stays most past (AskMeta meta) meta.command meta.length rest none
 whole_stays most past line rest (Err refusal) none = something none
 
-pub long_gives : (line : List ℕ) (asked : Result Asked Refusal) → is_more (long_step line asked).told ≡ false
+pub long_gives : (line : List ℕ) (asked : Result Asked LineRefusal) → is_more (long_step line asked).told ≡ false
 long_gives line (Ok (AskGet cas)) = refl
 long_gives line (Ok (AskGetAndTouch exptime cas)) = refl
 long_gives line (Ok (AskStore store)) = refl

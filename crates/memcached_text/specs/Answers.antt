@@ -1,9 +1,9 @@
 -- The bytes of answers.
 use Rattle.std.specs.Prelude.{ℕ, Bool, true, false, List, [], ◌∷◌, ◌++◌, length, map, ◌==◌, if◌then◌else◌, Option, Some, None, codes, decimal}
 use Rattle.std.specs.List.{concat}
-use Rattle.memcached_text.specs.declared.answer.Answer.{Answer}
-use Rattle.memcached_text.specs.declared.answer.Answer.TheVariants as answers
-use Rattle.memcached_text.specs.declared.answer.ValueFound.{ValueFound}
+use Rattle.memcached_text.specs.declared.text_answer.TextAnswer.{TextAnswer}
+use Rattle.memcached_text.specs.declared.text_answer.TextAnswer.TheVariants as answers
+use Rattle.memcached_text.specs.declared.text_answer.ValueFound.{ValueFound}
 use Rattle.memcached_text.specs.declared.meta_answer.MetaAnswer.{MetaAnswer}
 use Rattle.memcached_text.specs.declared.meta_answer.MetaFields.{MetaFields}
 use Rattle.memcached_text.specs.declared.meta_answer.MetaMarks.{MetaMarks}
@@ -91,7 +91,7 @@ abbrev pub line_text : List ℕ → List ℕ
 line_text words = concat (words ∷ codes "\r\n" ∷ [])
 
 -- the bytes of an answer
-abbrev pub answer_text : Answer → List ℕ
+abbrev pub answer_text : TextAnswer → List ℕ
 answer_text (answers.Value found) = value_text found.key.now found.flags found.cas found.data.now
 answer_text (answers.Reply reply) = line_text (reply_text reply)
 answer_text (answers.Refused fault) = line_text (fault_text fault)

@@ -1,20 +1,20 @@
 -- What a line asks for, without the borrow of its bytes.
 use Rattle.std.specs.Prelude.{ℕ, Bool, List, Result, Ok, Err}
 use Rattle.memcached_text.specs.declared.exptime.Exptime.{Exptime}
-use Rattle.memcached_text.specs.declared.refusal.Refusal.{Refusal}
-use Rattle.memcached_text.specs.declared.line_fault.LineFault.{LineFault}
-use Rattle.memcached_text.specs.declared.request.Delta.{Delta}
-use Rattle.memcached_text.specs.declared.request.MetaRequest.{MetaRequest}
-use Rattle.memcached_text.specs.declared.request.Request.{Request}
-use Rattle.memcached_text.specs.declared.request.Request.TheVariants as requests
-use Rattle.memcached_text.specs.declared.request.Store.{Store}
-use Rattle.memcached_text.specs.declared.store_mode.StoreMode.{StoreMode}
+use Rattle.memcached_text.specs.declared.line_refusal.LineRefusal.{LineRefusal}
+use Rattle.memcached_text.specs.declared.line_error.LineError.{LineError}
+use Rattle.memcached_text.specs.declared.text_request.DeltaRequest.{DeltaRequest}
+use Rattle.memcached_text.specs.declared.text_request.MetaRequest.{MetaRequest}
+use Rattle.memcached_text.specs.declared.text_request.TextRequest.{TextRequest}
+use Rattle.memcached_text.specs.declared.text_request.TextRequest.TheVariants as requests
+use Rattle.memcached_text.specs.declared.text_request.StoreRequest.{StoreRequest}
+use Rattle.memcached_text.specs.declared.store_command.StoreCommand.{StoreCommand}
 use Rattle.memcached_text.specs.declared.verb.Direction.{Direction}
 use Rattle.memcached_text.specs.declared.verb.MetaCommand.{MetaCommand}
 
 -- a data block that is to be stored
 pub record Storing : Type 0 where
-  pub mode : StoreMode
+  pub mode : StoreCommand
   pub key : List ℕ
   pub flags : ℕ
   pub exptime : Exptime
@@ -53,17 +53,17 @@ pub data Asked : Type 0 where
   AskMetaNoop : Asked
   AskMeta : MetaAsking → Asked
 
-abbrev pub storing_shown : Store → Storing
+abbrev pub storing_shown : StoreRequest → Storing
 storing_shown s = record { mode = s.mode; key = s.key.now; flags = s.flags; exptime = s.exptime; length = s.length; cas = s.cas; noreply = s.noreply }
 
-abbrev pub delta_shown : Delta → Changing
+abbrev pub delta_shown : DeltaRequest → Changing
 delta_shown d = record { direction = d.direction; key = d.key.now; amount = d.amount; noreply = d.noreply }
 
 abbrev pub meta_shown : MetaRequest → MetaAsking
 meta_shown m = record { command = m.command; key = m.key.now; length = m.length; flags = m.flags.now }
 
 -- what a request asks for
-abbrev pub shown : Request → Asked
+abbrev pub shown : TextRequest → Asked
 shown (requests.Get cas) = AskGet cas
 shown (requests.GetAndTouch exptime cas) = AskGetAndTouch exptime cas
 shown (requests.Store store) = AskStore (storing_shown store)
@@ -80,11 +80,11 @@ shown requests.MetaNoop = AskMetaNoop
 shown (requests.Meta meta) = AskMeta (meta_shown meta)
 
 -- a request or a fault
-abbrev pub shown_or_fault : Result Request LineFault → Result Asked LineFault
+abbrev pub shown_or_fault : Result TextRequest LineError → Result Asked LineError
 shown_or_fault (Ok request) = Ok (shown request)
 shown_or_fault (Err fault) = Err fault
 
 -- a request or a refusal
-abbrev pub shown_or_refused : Result Request Refusal → Result Asked Refusal
+abbrev pub shown_or_refused : Result TextRequest LineRefusal → Result Asked LineRefusal
 shown_or_refused (Ok request) = Ok (shown request)
 shown_or_refused (Err refusal) = Err refusal

@@ -2,9 +2,9 @@
 use Rattle.std.specs.Prelude.{ℕ, ◌+◌, ◌-◌, ◌^◌, Bool, true, false, ◌&&◌, ◌||◌, not, List, [], ◌∷◌, ◌++◌, length, drop, ◌==◌, nat_le, nat_lt, if◌then◌else◌, Option, Some, None, option_and_then, option_map, ok_or, Result, Ok, Err, codes, slice_index_or}
 use Rattle.std.specs.List.{list_any, find}
 use Rattle.memcached_text.specs.declared.exptime.Exptime.{Exptime}
-use Rattle.memcached_text.specs.declared.line_fault.LineFault.{LineFault}
-use Rattle.memcached_text.specs.declared.line_fault.LineFault.TheVariants.{Unknown, BadFormat, TooManyFlags, DuplicateFlag, BadFlag, BadOrDuplicateFlag, BadToken, OpaqueTooLong, BadModeToken, BadInitial, BadMetaDelta, BadSetMode, BadArithmeticMode}
-use Rattle.memcached_text.specs.declared.refusal.Refusal.{Refusal}
+use Rattle.memcached_text.specs.declared.line_error.LineError.{LineError}
+use Rattle.memcached_text.specs.declared.line_error.LineError.TheVariants.{Unknown, BadFormat, TooManyFlags, DuplicateFlag, BadFlag, BadOrDuplicateFlag, BadToken, OpaqueTooLong, BadModeToken, BadInitial, BadMetaDelta, BadSetMode, BadArithmeticMode}
+use Rattle.memcached_text.specs.declared.line_refusal.LineRefusal.{LineRefusal}
 use Rattle.memcached_text.specs.declared.verb.MetaCommand.{MetaCommand}
 use Rattle.memcached_text.specs.declared.verb.MetaCommand.TheVariants.{Get, Set, Delete, Arithmetic, Debug}
 use Rattle.memcached_text.specs.Words.{words_of, word_at, after_word, is_key}
@@ -41,12 +41,12 @@ unfoldable pub exptime_at : ℕ → List ℕ → Option Exptime
 exptime_at letter flags = option_and_then exptime_of (token_at letter flags)
 
 -- a fault, if there is no such number or moment
-abbrev pub unless : {A : Type 0} → Option A → LineFault → Option LineFault
+abbrev pub unless : {A : Type 0} → Option A → LineError → Option LineError
 unless (Some x) fault = None
 unless None fault = Some fault
 
 -- the fault of a flag whose token is a number: N, T and R have a moment, F 32 bits, C, J and D 64 bits
-unfoldable pub number_fault : ℕ → List ℕ → Option LineFault
+unfoldable pub number_fault : ℕ → List ℕ → Option LineError
 number_fault letter token =
     if is_among letter (codes "NTR") then unless (exptime_of token) BadToken
     else (if letter == 70 then unless (number_below (2 ^ 32) token) BadToken
@@ -56,7 +56,7 @@ number_fault letter token =
     else Some BadFlag))))
 
 -- the fault of a flag by itself: O has an opaque token, M one byte
-unfoldable pub flag_fault : List ℕ → Option LineFault
+unfoldable pub flag_fault : List ℕ → Option LineError
 flag_fault flag =
     if is_among (letter_of flag) (codes "bPLlhkstcfuvqI") then None
     else (if letter_of flag == 79 then (if nat_lt 32 (length flag) then Some OpaqueTooLong else None)
@@ -64,21 +64,21 @@ flag_fault flag =
     else number_fault (letter_of flag) (token_of flag)))
 
 -- the fault of a flag after these
-unfoldable pub fault_after : List (List ℕ) → List ℕ → Option LineFault
+unfoldable pub fault_after : List (List ℕ) → List ℕ → Option LineError
 fault_after before flag = if has_letter (letter_of flag) before then Some DuplicateFlag else flag_fault flag
 
 -- the first of two faults
-abbrev pub first_of : Option LineFault → Option LineFault → Option LineFault
+abbrev pub first_of : Option LineError → Option LineError → Option LineError
 first_of (Some fault) other = Some fault
 first_of None other = other
 
 -- the fault of the first flag that has one
-abbrev pub first_fault : List (List ℕ) → List (List ℕ) → Option LineFault
+abbrev pub first_fault : List (List ℕ) → List (List ℕ) → Option LineError
 first_fault before [] = None
 first_fault before (flag ∷ rest) = first_of (fault_after before flag) (first_fault (before ++ flag ∷ []) rest)
 
 -- the fault of a command's flags, as the command says it
-abbrev pub fault_for : MetaCommand → LineFault → LineFault
+abbrev pub fault_for : MetaCommand → LineError → LineError
 fault_for Get fault = fault
 fault_for Set fault = fault
 fault_for Delete fault = BadOrDuplicateFlag
@@ -90,7 +90,7 @@ abbrev pub is_mode_outside : List ℕ → List ℕ → Bool
 is_mode_outside modes flag = (letter_of flag == 77) && not (is_among (slice_index_or flag 1 0) modes)
 
 -- the fault of the mode that flags name; only ms and ma look at it
-unfoldable pub mode_fault : MetaCommand → List (List ℕ) → Option LineFault
+unfoldable pub mode_fault : MetaCommand → List (List ℕ) → Option LineError
 mode_fault Get flags = None
 mode_fault Set flags = if list_any (is_mode_outside (codes "SREAP")) flags then Some BadSetMode else None
 mode_fault Delete flags = None
@@ -98,34 +98,34 @@ mode_fault Arithmetic flags = if list_any (is_mode_outside (codes "I+D-")) flags
 mode_fault Debug flags = None
 
 -- the fault of a command's flags
-unfoldable pub flags_fault : MetaCommand → List (List ℕ) → Option LineFault
+unfoldable pub flags_fault : MetaCommand → List (List ℕ) → Option LineError
 flags_fault command flags = first_of (option_map (fault_for command) (first_fault [] flags)) (mode_fault command flags)
 
 -- a refusal that is answered
-abbrev pub loud : LineFault → Refusal
+abbrev pub loud : LineError → LineRefusal
 loud fault = record { fault = fault; noreply = false; skipped = 0 }
 
 -- the request, unless its flags have a fault; then a data block that belongs to it is passed over
-abbrev pub unless_fault : Option LineFault → ℕ → MetaAsking → Result Asked Refusal
+abbrev pub unless_fault : Option LineError → ℕ → MetaAsking → Result Asked LineRefusal
 unless_fault None skipped asking = Ok (AskMeta asking)
 unless_fault (Some fault) skipped asking = Err (record { fault = fault; noreply = false; skipped = skipped })
 
 -- COMMAND KEY FLAG.. for all but ms, by the text of the flags
-abbrev pub keyed_of : MetaCommand → List (List ℕ) → List ℕ → Result Asked Refusal
+abbrev pub keyed_of : MetaCommand → List (List ℕ) → List ℕ → Result Asked LineRefusal
 keyed_of command words flags =
     unless_fault (flags_fault command (words_of flags)) 0 (record { command = command; key = word_at words 1; length = 0; flags = flags })
 
 -- ms KEY LENGTH FLAG.., by the length and the text of the flags
-abbrev pub sized_of : Option ℕ → List (List ℕ) → List ℕ → Result Asked Refusal
+abbrev pub sized_of : Option ℕ → List (List ℕ) → List ℕ → Result Asked LineRefusal
 sized_of None words flags = Err (loud BadFormat)
 sized_of (Some length) words flags =
     unless_fault (flags_fault Set (words_of flags)) (length + 2) (record { command = Set; key = word_at words 1; length = length; flags = flags })
 
-unfoldable pub set_of : List (List ℕ) → List ℕ → Result Asked Refusal
+unfoldable pub set_of : List (List ℕ) → List ℕ → Result Asked LineRefusal
 set_of words flags = sized_of (number_below (2 ^ 31 - 2) (word_at words 2)) words flags
 
 -- the flags are what is after the command, the key and, for ms, the length
-abbrev pub asking_of : MetaCommand → List (List ℕ) → List ℕ → Result Asked Refusal
+abbrev pub asking_of : MetaCommand → List (List ℕ) → List ℕ → Result Asked LineRefusal
 asking_of Get words line = keyed_of Get words (after_word (after_word line))
 asking_of Set words line = set_of words (after_word (after_word (after_word line)))
 asking_of Delete words line = keyed_of Delete words (after_word (after_word line))
@@ -141,7 +141,7 @@ first_flag Arithmetic = 2
 first_flag Debug = 2
 
 -- a meta command's line, which has at most 19 words
-unfoldable pub meta_request_of : MetaCommand → List (List ℕ) → List ℕ → Result Asked Refusal
+unfoldable pub meta_request_of : MetaCommand → List (List ℕ) → List ℕ → Result Asked LineRefusal
 meta_request_of command words line =
     if nat_lt (length words) 2 then Err (loud Unknown)
     else (if not (is_key (word_at words 1)) || nat_lt (length words) (first_flag command) then Err (loud BadFormat)

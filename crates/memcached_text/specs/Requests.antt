@@ -1,8 +1,8 @@
 -- What a line asks for.
 use Rattle.std.specs.Prelude.{ℕ, ◌-◌, Bool, true, false, ◌&&◌, not, List, length, Option, Some, None, Result, Ok, Err}
-use Rattle.memcached_text.specs.declared.line_fault.LineFault.{LineFault}
-use Rattle.memcached_text.specs.declared.line_fault.LineFault.TheVariants.{Unknown}
-use Rattle.memcached_text.specs.declared.refusal.Refusal.{Refusal}
+use Rattle.memcached_text.specs.declared.line_error.LineError.{LineError}
+use Rattle.memcached_text.specs.declared.line_error.LineError.TheVariants.{Unknown}
+use Rattle.memcached_text.specs.declared.line_refusal.LineRefusal.{LineRefusal}
 use Rattle.memcached_text.specs.declared.verb.MetaCommand.{MetaCommand}
 use Rattle.memcached_text.specs.declared.verb.Verb.{Verb}
 use Rattle.memcached_text.specs.declared.verb.Verb.TheVariants.{Get, Gets, GetAndTouch, GetsAndTouch, Store, Delete, Count, Touch, FlushAll, Stats, Version, Verbosity, Quit, Shutdown, MetaNoop}
@@ -17,7 +17,7 @@ abbrev pub is_last_noreply : List (List ℕ) → Bool
 is_last_noreply words = is_noreply (word_at words (length words - 1))
 
 -- a command of which memcached does not know how to read the words is answered whatever its last word
-abbrev pub is_unknown : LineFault → Bool
+abbrev pub is_unknown : LineError → Bool
 is_unknown Unknown = true
 is_unknown _ = false
 
@@ -40,12 +40,12 @@ may_be_quiet Shutdown = false
 may_be_quiet MetaNoop = false
 
 -- a request, or the refusal of its line; that is not answered if the line says noreply
-abbrev pub or_refusal : Verb → List (List ℕ) → Result Asked LineFault → Result Asked Refusal
+abbrev pub or_refusal : Verb → List (List ℕ) → Result Asked LineError → Result Asked LineRefusal
 or_refusal verb words (Ok asked) = Ok asked
 or_refusal verb words (Err fault) = Err (record { fault = fault; noreply = may_be_quiet verb && not (is_unknown fault) && is_last_noreply words; skipped = 0 })
 
 -- what the words of a classic command ask for
-unfoldable pub classic_of : Verb → List (List ℕ) → Result Asked LineFault
+unfoldable pub classic_of : Verb → List (List ℕ) → Result Asked LineError
 classic_of Get words = get_of false words
 classic_of Gets words = get_of true words
 classic_of GetAndTouch words = get_and_touch_of false words
@@ -63,13 +63,13 @@ classic_of Shutdown words = shutdown_of words
 classic_of MetaNoop words = Ok AskMetaNoop
 
 -- what a line asks for, by the commands that its first word names
-abbrev pub request_by : Option MetaCommand → Option Verb → List (List ℕ) → List ℕ → Result Asked Refusal
+abbrev pub request_by : Option MetaCommand → Option Verb → List (List ℕ) → List ℕ → Result Asked LineRefusal
 request_by (Some command) verb words line = meta_request_of command words line
 request_by None (Some verb) words line = or_refusal verb words (classic_of verb words)
 request_by None None words line = Err (loud Unknown)
 
 -- what a line asks for, or why it is refused
-unfoldable pub request_of : List ℕ → Result Asked Refusal
+unfoldable pub request_of : List ℕ → Result Asked LineRefusal
 request_of line =
     let words = words_of line in
     request_by (meta_of (word_at words 0)) (verb_of (word_at words 0)) words line

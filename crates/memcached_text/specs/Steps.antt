@@ -1,13 +1,13 @@
 -- The steps of a reader of requests: what the bytes give that were fed, and how many are taken.
 use Rattle.std.specs.Prelude.{ℕ, zero, suc, ◌+◌, ◌-◌, Bool, true, false, ◌&&◌, ◌||◌, not, List, [], ◌∷◌, ◌++◌, length, take, drop, ◌==◌, nat_le, nat_lt, if◌then◌else◌, Option, Some, None, Result, Ok, Err, slice_index_or, position}
 use Rattle.std.specs.List.{position_or_len}
-use Rattle.memcached_text.specs.declared.event.Event.{Event}
-use Rattle.memcached_text.specs.declared.event.Event.TheVariants as events
+use Rattle.memcached_text.specs.declared.stream_event.StreamEvent.{StreamEvent}
+use Rattle.memcached_text.specs.declared.stream_event.StreamEvent.TheVariants as events
 use Rattle.memcached_text.specs.declared.exptime.Exptime.{Exptime}
-use Rattle.memcached_text.specs.declared.line_fault.LineFault.TheVariants.{BadFormat, BadData, LineTooLong}
+use Rattle.memcached_text.specs.declared.line_error.LineError.TheVariants.{BadFormat, BadData, LineTooLong}
 use Rattle.memcached_text.specs.declared.reader_state.ReaderState.{ReaderState}
 use Rattle.memcached_text.specs.declared.reader_state.ReaderState.TheVariants.{Line, Keys, SkipLine, SkipData, Closed}
-use Rattle.memcached_text.specs.declared.refusal.Refusal.{Refusal}
+use Rattle.memcached_text.specs.declared.line_refusal.LineRefusal.{LineRefusal}
 use Rattle.memcached_text.specs.declared.verb.MetaCommand.{MetaCommand}
 use Rattle.memcached_text.specs.declared.verb.MetaCommand.TheVariants as metas
 use Rattle.memcached_text.specs.Asked.{Asked, AskGet, AskGetAndTouch, AskStore, AskDelete, AskDelta, AskTouch, AskFlushAll, AskStats, AskVersion, AskVerbosity, AskQuit, AskShutdown, AskMetaNoop, AskMeta, shown}
@@ -23,10 +23,10 @@ pub data Told : Type 0 where
   TellTooLarge : Asked → Told
   TellKey : List ℕ → Option Exptime → Bool → Told
   TellKeysEnd : Told
-  TellRefused : Refusal → Told
+  TellRefused : LineRefusal → Told
   TellBinary : Told
 
-abbrev pub event_shown : Event → Told
+abbrev pub event_shown : StreamEvent → Told
 event_shown events.More = TellMore
 event_shown (events.Request request) = TellRequest (shown request)
 event_shown (events.«Data» request block) = TellData (shown request) block.now
@@ -98,7 +98,7 @@ asked_step most past line rest AskMetaNoop = plain_step past AskMetaNoop
 asked_step most past line rest (AskMeta meta) = meta_step most past (AskMeta meta) meta.command meta.length rest
 
 -- the same, or its refusal, after which what belongs to the line is passed over
-abbrev pub whole_step : ℕ → ℕ → List ℕ → List ℕ → Result Asked Refusal → Outcome
+abbrev pub whole_step : ℕ → ℕ → List ℕ → List ℕ → Result Asked LineRefusal → Outcome
 whole_step most past line rest (Ok asked) = asked_step most past line rest asked
 whole_step most past line rest (Err refusal) = outcome past (TellRefused refusal) (SkipData refusal.skipped)
 
@@ -106,7 +106,7 @@ whole_step most past line rest (Err refusal) = outcome past (TellRefused refusal
 abbrev pub too_long : Outcome
 too_long = outcome 2048 (TellRefused (loud LineTooLong)) Closed
 
-abbrev pub long_step : List ℕ → Result Asked Refusal → Outcome
+abbrev pub long_step : List ℕ → Result Asked LineRefusal → Outcome
 long_step line (Ok (AskGet cas)) = keys_step (length line - length (after_word line)) (AskGet cas) None cas
 long_step line (Ok (AskGetAndTouch exptime cas)) = keys_step (length line - length (after_word (after_word line))) (AskGetAndTouch exptime cas) (Some exptime) cas
 long_step line _ = too_long

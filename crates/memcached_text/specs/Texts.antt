@@ -1,12 +1,12 @@
 -- The lines of fixed words that a server answers, without their ends.
 use Rattle.std.specs.Prelude.{ℕ, List, codes}
-use Rattle.memcached_text.specs.declared.line_fault.LineFault.{LineFault}
-use Rattle.memcached_text.specs.declared.line_fault.LineFault.TheVariants as faults
-use Rattle.memcached_text.specs.declared.reply.Reply.{Reply}
-use Rattle.memcached_text.specs.declared.reply.Reply.TheVariants as replies
+use Rattle.memcached_text.specs.declared.line_error.LineError.{LineError}
+use Rattle.memcached_text.specs.declared.line_error.LineError.TheVariants as faults
+use Rattle.memcached_text.specs.declared.fixed_reply.FixedReply.{FixedReply}
+use Rattle.memcached_text.specs.declared.fixed_reply.FixedReply.TheVariants as replies
 
 -- why a line is refused
-abbrev pub fault_text : LineFault → List ℕ
+abbrev pub fault_text : LineError → List ℕ
 fault_text faults.Unknown = codes "ERROR"
 fault_text faults.BadFormat = codes "CLIENT_ERROR bad command line format"
 fault_text faults.BadDelete = codes "CLIENT_ERROR bad command line format.  Usage: delete <key> [noreply]"
@@ -28,7 +28,7 @@ fault_text faults.BadSetMode = codes "CLIENT_ERROR invalid mode for ms M token"
 fault_text faults.BadArithmeticMode = codes "CLIENT_ERROR invalid mode for ma M token"
 
 -- what was done, or why not
-abbrev pub reply_text : Reply → List ℕ
+abbrev pub reply_text : FixedReply → List ℕ
 reply_text replies.End = codes "END"
 reply_text replies.Stored = codes "STORED"
 reply_text replies.NotStored = codes "NOT_STORED"

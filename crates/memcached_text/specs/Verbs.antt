@@ -1,8 +1,8 @@
 -- The commands that words name.
 use Rattle.std.specs.Prelude.{ℕ, List, if◌then◌else◌, Option, Some, None, codes}
 use Rattle.std.specs.Str.{bytes_eq}
-use Rattle.memcached_text.specs.declared.store_mode.StoreMode.{StoreMode}
-use Rattle.memcached_text.specs.declared.store_mode.StoreMode.TheVariants as modes
+use Rattle.memcached_text.specs.declared.store_command.StoreCommand.{StoreCommand}
+use Rattle.memcached_text.specs.declared.store_command.StoreCommand.TheVariants as modes
 use Rattle.memcached_text.specs.declared.verb.Direction.TheVariants.{Up, Down}
 use Rattle.memcached_text.specs.declared.verb.MetaCommand.{MetaCommand}
 use Rattle.memcached_text.specs.declared.verb.MetaCommand.TheVariants as metas
@@ -10,7 +10,7 @@ use Rattle.memcached_text.specs.declared.verb.Verb.{Verb}
 use Rattle.memcached_text.specs.declared.verb.Verb.TheVariants as verbs
 
 -- the mode of a command that stores
-abbrev pub mode_of : List ℕ → Option StoreMode
+abbrev pub mode_of : List ℕ → Option StoreCommand
 mode_of word =
     if bytes_eq word (codes "set") then Some modes.Set
     else (if bytes_eq word (codes "add") then Some modes.Add
@@ -52,7 +52,7 @@ other_of word =
     else (if bytes_eq word (codes "touch") then Some verbs.Touch else of_server word)))))))
 
 -- the command that stores, or the other one
-abbrev pub verb_from : Option StoreMode → Option Verb → Option Verb
+abbrev pub verb_from : Option StoreCommand → Option Verb → Option Verb
 verb_from (Some mode) other = Some (verbs.Store mode)
 verb_from None other = other
 

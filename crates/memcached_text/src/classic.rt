@@ -7,10 +7,10 @@ ghost use Rattle.memcached_text.specs.Classic.{has_words, ends_noreply, fewest_o
 ghost use Rattle.memcached_text.specs.Asked.{shown_or_fault};
 
 use crate::exptime::Exptime;
-use crate::line_fault::LineFault;
+use crate::line_error::LineError;
 use crate::numbers::{data_len, expiry, number, small_number};
-use crate::request::{Delta, Request, Store};
-use crate::store_mode::StoreMode;
+use crate::store_command::StoreCommand;
+use crate::text_request::{DeltaRequest, StoreRequest, TextRequest};
 use crate::verb::Direction;
 use crate::words::{is_key, is_noreply};
 
@@ -30,51 +30,51 @@ fn ends_noreply(words: &[&[u8]], least: usize) -> bool
 }
 
 /// How many words a line that stores has without `noreply`.
-fn fewest_words(mode: StoreMode) -> usize
+fn fewest_words(mode: StoreCommand) -> usize
     ensures value { result ≡ fewest_of mode }
     ensures range { (5 ≤ result) × (result ≤ 6) }
 {
     match mode {
-        StoreMode::Cas => 6,
-        StoreMode::Set => 5,
-        StoreMode::Add => 5,
-        StoreMode::Replace => 5,
-        StoreMode::Append => 5,
-        StoreMode::Prepend => 5,
+        StoreCommand::Cas => 6,
+        StoreCommand::Set => 5,
+        StoreCommand::Add => 5,
+        StoreCommand::Replace => 5,
+        StoreCommand::Append => 5,
+        StoreCommand::Prepend => 5,
     }
 }
 
 /// The unique number that the value has to have.
 #[tactic(auto, unfolding(crate::specs::Classic::cas_of))]
-fn cas_unique(mode: StoreMode, words: &[&[u8]]) -> Option<u64>
+fn cas_unique(mode: StoreCommand, words: &[&[u8]]) -> Option<u64>
     requires { fewest_of mode ≤ length words.now }
     ensures { result ≡ cas_of mode (map (λ w. w.now) words.now) }
 {
     match mode {
-        StoreMode::Cas => number(words[5]),
-        StoreMode::Set => Some(0),
-        StoreMode::Add => Some(0),
-        StoreMode::Replace => Some(0),
-        StoreMode::Append => Some(0),
-        StoreMode::Prepend => Some(0),
+        StoreCommand::Cas => number(words[5]),
+        StoreCommand::Set => Some(0),
+        StoreCommand::Add => Some(0),
+        StoreCommand::Replace => Some(0),
+        StoreCommand::Append => Some(0),
+        StoreCommand::Prepend => Some(0),
     }
 }
 
 /// What a line stores: `COMMAND KEY FLAGS EXPTIME LENGTH [CAS] [noreply]`.
 #[tactic(auto, unfolding(crate::specs::Classic::store_of, crate::specs::Classic::storing_of))]
 pub(crate) fn store_request<'a>(
-    mode: StoreMode,
+    mode: StoreCommand,
     words: &[&'a [u8]],
-) -> Result<Request<'a>, LineFault>
+) -> Result<TextRequest<'a>, LineError>
     ensures { shown_or_fault result ≡ store_of mode (map (λ w. w.now) words.now) }
 {
     let fewest = fewest_words(mode);
     if !has_words(words, fewest, fewest + 1) {
-        return Err(LineFault::Unknown);
+        return Err(LineError::Unknown);
     }
     let noreply = ends_noreply(words, fewest);
     if !is_key(words[1]) {
-        return Err(LineFault::BadFormat);
+        return Err(LineError::BadFormat);
     }
     match (
         small_number(words[2]),
@@ -82,16 +82,18 @@ pub(crate) fn store_request<'a>(
         data_len(words[4]),
         cas_unique(mode, words),
     ) {
-        (Some(flags), Some(exptime), Some(length), Some(cas)) => Ok(Request::Store(Store {
-            mode,
-            key: words[1],
-            flags,
-            exptime,
-            length,
-            cas,
-            noreply,
-        })),
-        _ => Err(LineFault::BadFormat),
+        (Some(flags), Some(exptime), Some(length), Some(cas)) => Ok(TextRequest::Store(
+            StoreRequest {
+                mode,
+                key: words[1],
+                flags,
+                exptime,
+                length,
+                cas,
+                noreply,
+            },
+        )),
+        _ => Err(LineError::BadFormat),
     }
 }
 
@@ -120,24 +122,24 @@ fn delete_end(words: &[&[u8]]) -> Option<bool>
 
 /// `delete KEY [0] [noreply]`.
 #[tactic(auto, unfolding(crate::specs::Classic::delete_of))]
-pub(crate) fn delete_request<'a>(words: &[&'a [u8]]) -> Result<Request<'a>, LineFault>
+pub(crate) fn delete_request<'a>(words: &[&'a [u8]]) -> Result<TextRequest<'a>, LineError>
     ensures { shown_or_fault result ≡ delete_of (map (λ w. w.now) words.now) }
 {
     if !has_words(words, 2, 4) {
-        return Err(LineFault::Unknown);
+        return Err(LineError::Unknown);
     }
     match delete_end(words) {
         Some(noreply) => {
             if is_key(words[1]) {
-                Ok(Request::Delete {
+                Ok(TextRequest::Delete {
                     key: words[1],
                     noreply,
                 })
             } else {
-                Err(LineFault::BadFormat)
+                Err(LineError::BadFormat)
             }
         }
-        None => Err(LineFault::BadDelete),
+        None => Err(LineError::BadDelete),
     }
 }
 
@@ -146,46 +148,46 @@ pub(crate) fn delete_request<'a>(words: &[&'a [u8]]) -> Result<Request<'a>, Line
 pub(crate) fn delta_request<'a>(
     direction: Direction,
     words: &[&'a [u8]],
-) -> Result<Request<'a>, LineFault>
+) -> Result<TextRequest<'a>, LineError>
     ensures { shown_or_fault result ≡ delta_of direction (map (λ w. w.now) words.now) }
 {
     if !has_words(words, 3, 4) {
-        return Err(LineFault::Unknown);
+        return Err(LineError::Unknown);
     }
     if !is_key(words[1]) {
-        return Err(LineFault::BadFormat);
+        return Err(LineError::BadFormat);
     }
     let noreply = ends_noreply(words, 3);
     match number(words[2]) {
-        Some(amount) => Ok(Request::Delta(Delta {
+        Some(amount) => Ok(TextRequest::Delta(DeltaRequest {
             direction,
             key: words[1],
             amount,
             noreply,
         })),
-        None => Err(LineFault::BadDelta),
+        None => Err(LineError::BadDelta),
     }
 }
 
 /// `touch KEY EXPTIME [noreply]`.
 #[tactic(auto, unfolding(crate::specs::Classic::touch_of))]
-pub(crate) fn touch_request<'a>(words: &[&'a [u8]]) -> Result<Request<'a>, LineFault>
+pub(crate) fn touch_request<'a>(words: &[&'a [u8]]) -> Result<TextRequest<'a>, LineError>
     ensures { shown_or_fault result ≡ touch_of (map (λ w. w.now) words.now) }
 {
     if !has_words(words, 3, 4) {
-        return Err(LineFault::Unknown);
+        return Err(LineError::Unknown);
     }
     if !is_key(words[1]) {
-        return Err(LineFault::BadFormat);
+        return Err(LineError::BadFormat);
     }
     let noreply = ends_noreply(words, 3);
     match expiry(words[2]) {
-        Some(exptime) => Ok(Request::Touch {
+        Some(exptime) => Ok(TextRequest::Touch {
             key: words[1],
             exptime,
             noreply,
         }),
-        None => Err(LineFault::BadExptime),
+        None => Err(LineError::BadExptime),
     }
 }
 
@@ -202,67 +204,70 @@ fn delay(exptime: Exptime) -> u32
 
 /// `flush_all [DELAY] [noreply]`.
 #[tactic(auto, unfolding(crate::specs::Classic::flush_of))]
-pub(crate) fn flush_request<'a>(words: &[&'a [u8]]) -> Result<Request<'a>, LineFault>
+pub(crate) fn flush_request<'a>(words: &[&'a [u8]]) -> Result<TextRequest<'a>, LineError>
     ensures { shown_or_fault result ≡ flush_of (map (λ w. w.now) words.now) }
 {
     if !has_words(words, 1, 3) {
-        return Err(LineFault::Unknown);
+        return Err(LineError::Unknown);
     }
     let at_once = ends_noreply(words, 1);
     if words.len() == 1 || at_once {
-        return Ok(Request::FlushAll {
+        return Ok(TextRequest::FlushAll {
             delay: 0,
             noreply: at_once,
         });
     }
     let noreply = ends_noreply(words, 2);
     match expiry(words[1]) {
-        Some(exptime) => Ok(Request::FlushAll {
+        Some(exptime) => Ok(TextRequest::FlushAll {
             delay: delay(exptime),
             noreply,
         }),
-        None => Err(LineFault::BadExptime),
+        None => Err(LineError::BadExptime),
     }
 }
 
 /// `verbosity LEVEL [noreply]`.
 #[tactic(auto, unfolding(crate::specs::Classic::verbosity_of))]
-pub(crate) fn verbosity_request<'a>(words: &[&'a [u8]]) -> Result<Request<'a>, LineFault>
+pub(crate) fn verbosity_request<'a>(words: &[&'a [u8]]) -> Result<TextRequest<'a>, LineError>
     ensures { shown_or_fault result ≡ verbosity_of (map (λ w. w.now) words.now) }
 {
     if !has_words(words, 2, 3) || ends_noreply(words, 1) {
-        return Err(LineFault::Unknown);
+        return Err(LineError::Unknown);
     }
     let noreply = ends_noreply(words, 2);
     match small_number(words[1]) {
-        Some(level) => Ok(Request::Verbosity { level, noreply }),
-        None => Err(LineFault::BadFormat),
+        Some(level) => Ok(TextRequest::Verbosity { level, noreply }),
+        None => Err(LineError::BadFormat),
     }
 }
 
 /// `shutdown [graceful]`.
 #[tactic(auto, unfolding(crate::specs::Classic::shutdown_of))]
-pub(crate) fn shutdown_request<'a>(words: &[&'a [u8]]) -> Result<Request<'a>, LineFault>
+pub(crate) fn shutdown_request<'a>(words: &[&'a [u8]]) -> Result<TextRequest<'a>, LineError>
     ensures { shown_or_fault result ≡ shutdown_of (map (λ w. w.now) words.now) }
 {
     if words.len() == 1 {
-        Ok(Request::Shutdown { graceful: false })
+        Ok(TextRequest::Shutdown { graceful: false })
     } else if words.len() == 2 && words[1] == b"graceful".as_slice() {
-        Ok(Request::Shutdown { graceful: true })
+        Ok(TextRequest::Shutdown { graceful: true })
     } else {
-        Err(LineFault::BadShutdown)
+        Err(LineError::BadShutdown)
     }
 }
 
 /// `get KEY..` and `gets KEY..`.
 #[tactic(auto, unfolding(crate::specs::Classic::get_of))]
-pub(crate) fn get_request<'a>(with_cas: bool, words: &[&'a [u8]]) -> Result<Request<'a>, LineFault>
+pub(crate) fn get_request<'a>(
+    with_cas: bool,
+    words: &[&'a [u8]],
+) -> Result<TextRequest<'a>, LineError>
     ensures { shown_or_fault result ≡ get_of with_cas (map (λ w. w.now) words.now) }
 {
     if words.len() < 2 {
-        Err(LineFault::Unknown)
+        Err(LineError::Unknown)
     } else {
-        Ok(Request::Get { with_cas })
+        Ok(TextRequest::Get { with_cas })
     }
 }
 
@@ -271,14 +276,14 @@ pub(crate) fn get_request<'a>(with_cas: bool, words: &[&'a [u8]]) -> Result<Requ
 pub(crate) fn get_and_touch_request<'a>(
     with_cas: bool,
     words: &[&'a [u8]],
-) -> Result<Request<'a>, LineFault>
+) -> Result<TextRequest<'a>, LineError>
     ensures { shown_or_fault result ≡ get_and_touch_of with_cas (map (λ w. w.now) words.now) }
 {
     if words.len() < 3 {
-        return Err(LineFault::Unknown);
+        return Err(LineError::Unknown);
     }
     match expiry(words[1]) {
-        Some(exptime) => Ok(Request::GetAndTouch { exptime, with_cas }),
-        None => Err(LineFault::BadExptime),
+        Some(exptime) => Ok(TextRequest::GetAndTouch { exptime, with_cas }),
+        None => Err(LineError::BadExptime),
     }
 }

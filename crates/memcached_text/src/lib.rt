@@ -4,37 +4,37 @@
 //! become requests, and answers become bytes.
 #![tactic(auto)]
 
-mod answer;
 mod classic;
-mod event;
 mod exptime;
-mod line_fault;
+mod fixed_reply;
+mod line_error;
+mod line_refusal;
 mod meta;
 mod meta_answer;
 mod numbers;
 mod parsing;
 mod reader_state;
-mod refusal;
-mod reply;
-mod request;
 mod request_reader;
-mod store_mode;
+mod store_command;
+mod stream_event;
+mod text_answer;
+mod text_request;
 mod verb;
 mod words;
 mod writing;
 
-pub use answer::{Answer, ValueFound};
-pub use event::{Event, Step};
 pub use exptime::Exptime;
-pub use line_fault::LineFault;
+pub use fixed_reply::FixedReply;
+pub use line_error::LineError;
+pub use line_refusal::LineRefusal;
 pub use meta_answer::{MetaAnswer, MetaFields, MetaMarks, MetaStatus, Ttl};
 pub use parsing::parse;
 pub use reader_state::ReaderState;
-pub use refusal::Refusal;
-pub use reply::Reply;
-pub use request::{Delta, MetaRequest, Request, Store};
 pub use request_reader::{MAX_LINE_LEN, RequestReader};
-pub use store_mode::StoreMode;
+pub use store_command::StoreCommand;
+pub use stream_event::{StreamEvent, StreamStep};
+pub use text_answer::{TextAnswer, ValueFound};
+pub use text_request::{DeltaRequest, MetaRequest, StoreRequest, TextRequest};
 pub use verb::{Direction, MetaCommand};
 pub use words::MAX_KEY_LEN;
 pub use writing::append_answer;

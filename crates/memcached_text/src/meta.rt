@@ -6,10 +6,10 @@ ghost use Rattle.memcached_text.specs.Meta.{letter_of, is_among, has_letter, tok
 ghost use Rattle.memcached_text.specs.Asked.{shown_or_refused};
 
 use crate::exptime::Exptime;
-use crate::line_fault::LineFault;
+use crate::line_error::LineError;
+use crate::line_refusal::LineRefusal;
 use crate::numbers::{data_len, expiry, number, small_number};
-use crate::refusal::Refusal;
-use crate::request::{MetaRequest, Request};
+use crate::text_request::{MetaRequest, TextRequest};
 use crate::verb::MetaCommand;
 use crate::words::{after_word, is_key, words_in};
 
@@ -98,7 +98,7 @@ impl<'a> MetaRequest<'a> {
 }
 
 /// A fault, if there is no such number.
-fn unless<T: Drop>(found: Option<T>, fault: LineFault) -> Option<LineFault>
+fn unless<T: Drop>(found: Option<T>, fault: LineError) -> Option<LineError>
     ensures { result ≡ unless found fault }
 {
     match found {
@@ -109,27 +109,27 @@ fn unless<T: Drop>(found: Option<T>, fault: LineFault) -> Option<LineFault>
 
 /// The fault of a flag whose token is a number.
 #[tactic(auto, unfolding(crate::specs::Meta::number_fault))]
-fn number_fault(letter: u8, token: &[u8]) -> Option<LineFault>
+fn number_fault(letter: u8, token: &[u8]) -> Option<LineError>
     ensures { result ≡ number_fault letter token.now }
 {
     if is_among(letter, b"NTR") {
-        unless(expiry(token), LineFault::BadToken)
+        unless(expiry(token), LineError::BadToken)
     } else if letter == b'F' {
-        unless(small_number(token), LineFault::BadToken)
+        unless(small_number(token), LineError::BadToken)
     } else if letter == b'C' {
-        unless(number(token), LineFault::BadToken)
+        unless(number(token), LineError::BadToken)
     } else if letter == b'J' {
-        unless(number(token), LineFault::BadInitial)
+        unless(number(token), LineError::BadInitial)
     } else if letter == b'D' {
-        unless(number(token), LineFault::BadMetaDelta)
+        unless(number(token), LineError::BadMetaDelta)
     } else {
-        Some(LineFault::BadFlag)
+        Some(LineError::BadFlag)
     }
 }
 
 /// The fault of a flag by itself.
 #[tactic(auto, unfolding(crate::specs::Meta::flag_fault))]
-fn flag_fault(flag: &[u8]) -> Option<LineFault>
+fn flag_fault(flag: &[u8]) -> Option<LineError>
     ensures { result ≡ flag_fault flag.now }
 {
     let letter = letter(flag);
@@ -137,7 +137,7 @@ fn flag_fault(flag: &[u8]) -> Option<LineFault>
         None
     } else if letter == b'O' {
         if flag.len() > MAX_OPAQUE_LEN {
-            Some(LineFault::OpaqueTooLong)
+            Some(LineError::OpaqueTooLong)
         } else {
             None
         }
@@ -145,7 +145,7 @@ fn flag_fault(flag: &[u8]) -> Option<LineFault>
         if flag.len() == 2 {
             None
         } else {
-            Some(LineFault::BadModeToken)
+            Some(LineError::BadModeToken)
         }
     } else {
         number_fault(letter, token(flag))
@@ -154,18 +154,18 @@ fn flag_fault(flag: &[u8]) -> Option<LineFault>
 
 /// The fault of a flag after these.
 #[tactic(auto, unfolding(crate::specs::Meta::fault_after))]
-fn fault_after(before: &[&[u8]], flag: &[u8]) -> Option<LineFault>
+fn fault_after(before: &[&[u8]], flag: &[u8]) -> Option<LineError>
     ensures { result ≡ fault_after (map (λ w. w.now) before.now) flag.now }
 {
     if has_letter(before, letter(flag)) {
-        Some(LineFault::DuplicateFlag)
+        Some(LineError::DuplicateFlag)
     } else {
         flag_fault(flag)
     }
 }
 
 /// The fault of the first flag that has one.
-fn first_fault(flags: &[&[u8]]) -> Option<LineFault>
+fn first_fault(flags: &[&[u8]]) -> Option<LineError>
     ensures { result ≡ first_fault [] (map (λ w. w.now) flags.now) }
 {
     for at in 0..flags.len() {
@@ -192,20 +192,20 @@ fn has_mode_outside(modes: &[u8], flags: &[&[u8]]) -> bool
 
 /// The fault of the mode that flags name.
 #[tactic(auto, unfolding(crate::specs::Meta::mode_fault))]
-fn mode_fault(command: MetaCommand, flags: &[&[u8]]) -> Option<LineFault>
+fn mode_fault(command: MetaCommand, flags: &[&[u8]]) -> Option<LineError>
     ensures { result ≡ mode_fault command (map (λ w. w.now) flags.now) }
 {
     match command {
         MetaCommand::Set => {
             if has_mode_outside(b"SREAP", flags) {
-                Some(LineFault::BadSetMode)
+                Some(LineError::BadSetMode)
             } else {
                 None
             }
         }
         MetaCommand::Arithmetic => {
             if has_mode_outside(b"I+D-", flags) {
-                Some(LineFault::BadArithmeticMode)
+                Some(LineError::BadArithmeticMode)
             } else {
                 None
             }
@@ -217,21 +217,21 @@ fn mode_fault(command: MetaCommand, flags: &[&[u8]]) -> Option<LineFault>
 }
 
 /// A fault of flags, as the command says it.
-fn fault_for(command: MetaCommand, fault: LineFault) -> LineFault
+fn fault_for(command: MetaCommand, fault: LineError) -> LineError
     ensures { result ≡ fault_for command fault }
 {
     match command {
         MetaCommand::Get => fault,
         MetaCommand::Set => fault,
-        MetaCommand::Delete => LineFault::BadOrDuplicateFlag,
-        MetaCommand::Arithmetic => LineFault::BadOrDuplicateFlag,
-        MetaCommand::Debug => LineFault::BadFormat,
+        MetaCommand::Delete => LineError::BadOrDuplicateFlag,
+        MetaCommand::Arithmetic => LineError::BadOrDuplicateFlag,
+        MetaCommand::Debug => LineError::BadFormat,
     }
 }
 
 /// The fault of a command's flags.
 #[tactic(auto, unfolding(crate::specs::Meta::flags_fault))]
-fn flags_fault(command: MetaCommand, flags: &[&[u8]]) -> Option<LineFault>
+fn flags_fault(command: MetaCommand, flags: &[&[u8]]) -> Option<LineError>
     ensures { result ≡ flags_fault command (map (λ w. w.now) flags.now) }
 {
     match first_fault(flags) {
@@ -259,38 +259,38 @@ fn keyed_request<'a>(
     command: MetaCommand,
     words: &[&'a [u8]],
     flags: &'a [u8],
-) -> Result<Request<'a>, Refusal>
+) -> Result<TextRequest<'a>, LineRefusal>
     requires { 2 ≤ length words.now }
     ensures { shown_or_refused result ≡ keyed_of command (map (λ w. w.now) words.now) flags.now }
 {
     match flags_fault(command, &words_in(flags)) {
-        None => Ok(Request::Meta(MetaRequest {
+        None => Ok(TextRequest::Meta(MetaRequest {
             command,
             key: words[1],
             length: 0,
             flags,
         })),
-        Some(fault) => Err(Refusal::loud(fault)),
+        Some(fault) => Err(LineRefusal::loud(fault)),
     }
 }
 
 /// `ms KEY LENGTH FLAG..`, by the text of the flags. If they have a fault, the data block is to be passed over.
 #[tactic(auto, unfolding(crate::specs::Meta::set_of))]
-fn sized_request<'a>(words: &[&'a [u8]], flags: &'a [u8]) -> Result<Request<'a>, Refusal>
+fn sized_request<'a>(words: &[&'a [u8]], flags: &'a [u8]) -> Result<TextRequest<'a>, LineRefusal>
     requires { 3 ≤ length words.now }
     ensures { shown_or_refused result ≡ set_of (map (λ w. w.now) words.now) flags.now }
 {
     let Some(length) = data_len(words[2]) else {
-        return Err(Refusal::loud(LineFault::BadFormat));
+        return Err(LineRefusal::loud(LineError::BadFormat));
     };
     match flags_fault(MetaCommand::Set, &words_in(flags)) {
-        None => Ok(Request::Meta(MetaRequest {
+        None => Ok(TextRequest::Meta(MetaRequest {
             command: MetaCommand::Set,
             key: words[1],
             length,
             flags,
         })),
-        Some(fault) => Err(Refusal {
+        Some(fault) => Err(LineRefusal {
             fault,
             noreply: false,
             skipped: length + 2,
@@ -304,17 +304,17 @@ pub(crate) fn meta_request<'a>(
     command: MetaCommand,
     words: &[&'a [u8]],
     line: &'a [u8],
-) -> Result<Request<'a>, Refusal>
+) -> Result<TextRequest<'a>, LineRefusal>
     ensures { shown_or_refused result ≡ meta_request_of command (map (λ w. w.now) words.now) line.now }
 {
     if words.len() < 2 {
-        return Err(Refusal::loud(LineFault::Unknown));
+        return Err(LineRefusal::loud(LineError::Unknown));
     }
     if !is_key(words[1]) || words.len() < first_flag(command) {
-        return Err(Refusal::loud(LineFault::BadFormat));
+        return Err(LineRefusal::loud(LineError::BadFormat));
     }
     if words.len() > MAX_META_WORDS {
-        return Err(Refusal::loud(LineFault::TooManyFlags));
+        return Err(LineRefusal::loud(LineError::TooManyFlags));
     }
     let after_key = after_word(after_word(line));
     match command {

@@ -9,10 +9,10 @@ use crate::classic::{
     delete_request, delta_request, flush_request, get_and_touch_request, get_request,
     shutdown_request, store_request, touch_request, verbosity_request,
 };
-use crate::line_fault::LineFault;
+use crate::line_error::LineError;
+use crate::line_refusal::LineRefusal;
 use crate::meta::meta_request;
-use crate::refusal::Refusal;
-use crate::request::Request;
+use crate::text_request::TextRequest;
 use crate::verb::{Verb, named_meta, named_verb};
 use crate::words::{is_noreply, words_in};
 
@@ -32,11 +32,11 @@ fn may_be_quiet(verb: Verb) -> bool
 }
 
 /// Whether a fault is `Unknown`.
-fn is_unknown(fault: LineFault) -> bool
+fn is_unknown(fault: LineError) -> bool
     ensures { result ≡ is_unknown fault }
 {
     match fault {
-        LineFault::Unknown => true,
+        LineError::Unknown => true,
         _ => false,
     }
 }
@@ -57,7 +57,7 @@ fn word_at<'a>(words: &[&'a [u8]], at: usize) -> &'a [u8]
 
 /// What the words of a classic command ask for.
 #[tactic(auto, unfolding(crate::specs::Requests::classic_of))]
-fn classic_request<'a>(verb: Verb, words: &[&'a [u8]]) -> Result<Request<'a>, LineFault>
+fn classic_request<'a>(verb: Verb, words: &[&'a [u8]]) -> Result<TextRequest<'a>, LineError>
     ensures { shown_or_fault result ≡ classic_of verb (map (λ w. w.now) words.now) }
 {
     match verb {
@@ -70,24 +70,24 @@ fn classic_request<'a>(verb: Verb, words: &[&'a [u8]]) -> Result<Request<'a>, Li
         Verb::Count(direction) => delta_request(direction, words),
         Verb::Touch => touch_request(words),
         Verb::FlushAll => flush_request(words),
-        Verb::Stats => Ok(Request::Stats {
+        Verb::Stats => Ok(TextRequest::Stats {
             argument: word_at(words, 1),
         }),
-        Verb::Version => Ok(Request::Version),
+        Verb::Version => Ok(TextRequest::Version),
         Verb::Verbosity => verbosity_request(words),
-        Verb::Quit => Ok(Request::Quit),
+        Verb::Quit => Ok(TextRequest::Quit),
         Verb::Shutdown => shutdown_request(words),
-        Verb::MetaNoop => Ok(Request::MetaNoop),
+        Verb::MetaNoop => Ok(TextRequest::MetaNoop),
     }
 }
 
 /// What a classic command's line asks for. Its refusal is not answered if the line says `noreply`.
-fn classic_line<'a>(verb: Verb, words: &[&'a [u8]]) -> Result<Request<'a>, Refusal>
+fn classic_line<'a>(verb: Verb, words: &[&'a [u8]]) -> Result<TextRequest<'a>, LineRefusal>
     ensures { shown_or_refused result ≡ or_refusal verb (map (λ w. w.now) words.now) (classic_of verb (map (λ w. w.now) words.now)) }
 {
     match classic_request(verb, words) {
         Ok(request) => Ok(request),
-        Err(fault) => Err(Refusal {
+        Err(fault) => Err(LineRefusal {
             fault,
             noreply: may_be_quiet(verb) && !is_unknown(fault) && is_last_noreply(words),
             skipped: 0,
@@ -100,7 +100,7 @@ fn classic_line<'a>(verb: Verb, words: &[&'a [u8]]) -> Result<Request<'a>, Refus
 /// Words stand between spaces, and the first 24 are looked at. A number has at most 20 digits. The keys of
 /// `get`, `gets`, `gat` and `gats` are no part of the request. It takes no memory.
 #[tactic(auto, unfolding(crate::specs::Requests::request_of))]
-pub fn parse<'a>(line: &'a [u8]) -> Result<Request<'a>, Refusal>
+pub fn parse<'a>(line: &'a [u8]) -> Result<TextRequest<'a>, LineRefusal>
     ensures { shown_or_refused result ≡ request_of line.now }
 {
     let words = words_in(line);
@@ -108,7 +108,7 @@ pub fn parse<'a>(line: &'a [u8]) -> Result<Request<'a>, Refusal>
 }
 
 /// The same, with the line's words.
-fn request_of_words<'a>(words: &[&'a [u8]], line: &'a [u8]) -> Result<Request<'a>, Refusal>
+fn request_of_words<'a>(words: &[&'a [u8]], line: &'a [u8]) -> Result<TextRequest<'a>, LineRefusal>
     ensures { shown_or_refused result ≡ request_by (meta_of (word_at (map (λ w. w.now) words.now) 0)) (verb_of (word_at (map (λ w. w.now) words.now) 0)) (map (λ w. w.now) words.now) line.now }
 {
     let name = word_at(words, 0);
@@ -116,7 +116,7 @@ fn request_of_words<'a>(words: &[&'a [u8]], line: &'a [u8]) -> Result<Request<'a
         Some(command) => meta_request(command, words, line),
         None => match named_verb(name) {
             Some(verb) => classic_line(verb, words),
-            None => Err(Refusal::loud(LineFault::Unknown)),
+            None => Err(LineRefusal::loud(LineError::Unknown)),
         },
     }
 }

@@ -7,13 +7,13 @@ ghost use Rattle.memcached_text.specs.Words.{after_word, is_key};
 ghost use Rattle.memcached_text.specs.Steps.{Outcome, outcome, nothing, is_feed, is_end, without_return, block_step, keys_step, meta_step, asked_step, whole_step, long_step, line_by, line_step, key_or, last_key, key_by, key_step, too_long, passing, decided, step_of, events_of, given_list, event_shown, TellMore, TellRequest, TellRefused};
 ghost use Rattle.memcached_text.specs.StepsShown.{outcome_shown, passing_shown};
 
-use crate::event::{Event, Step};
 use crate::exptime::Exptime;
-use crate::line_fault::LineFault;
+use crate::line_error::LineError;
+use crate::line_refusal::LineRefusal;
 use crate::parsing::parse;
 use crate::reader_state::ReaderState;
-use crate::refusal::Refusal;
-use crate::request::Request;
+use crate::stream_event::{StreamEvent, StreamStep};
+use crate::text_request::TextRequest;
 use crate::verb::MetaCommand;
 use crate::words::{MAX_KEY_LEN, after_word, is_key};
 
@@ -27,7 +27,7 @@ const BINARY: u8 = 0x80;
 #[derive(Clone, Copy)]
 pub(crate) struct Given<'a> {
     taken: usize,
-    event: Event<'a>,
+    event: StreamEvent<'a>,
     state: ReaderState,
 }
 
@@ -96,18 +96,18 @@ fn nothing<'a>(state: ReaderState) -> Given<'a>
 {
     Given {
         taken: 0,
-        event: Event::More,
+        event: StreamEvent::More,
         state,
     }
 }
 
 /// A request that its line ends.
-fn plain_given<'a>(past: usize, request: Request<'a>) -> Given<'a>
+fn plain_given<'a>(past: usize, request: TextRequest<'a>) -> Given<'a>
     ensures { outcome_shown result ≡ outcome past (TellRequest (shown request.entry)) ReaderState.Line }
 {
     Given {
         taken: past,
-        event: Event::Request(request),
+        event: StreamEvent::Request(request),
         state: ReaderState::Line,
     }
 }
@@ -115,7 +115,7 @@ fn plain_given<'a>(past: usize, request: Request<'a>) -> Given<'a>
 /// A request whose keys are next.
 fn keys_given<'a>(
     past: usize,
-    request: Request<'a>,
+    request: TextRequest<'a>,
     exptime: Option<Exptime>,
     with_cas: bool,
 ) -> Given<'a>
@@ -123,18 +123,18 @@ fn keys_given<'a>(
 {
     Given {
         taken: past,
-        event: Event::Request(request),
+        event: StreamEvent::Request(request),
         state: ReaderState::Keys { exptime, with_cas },
     }
 }
 
 /// A line, or what belongs to it, that is refused.
-fn refused_given<'a>(past: usize, refusal: Refusal, state: ReaderState) -> Given<'a>
+fn refused_given<'a>(past: usize, refusal: LineRefusal, state: ReaderState) -> Given<'a>
     ensures { outcome_shown result ≡ outcome past (TellRefused refusal) state }
 {
     Given {
         taken: past,
-        event: Event::Refused(refusal),
+        event: StreamEvent::Refused(refusal),
         state,
     }
 }
@@ -150,7 +150,7 @@ fn is_line_end(first: u8, second: u8) -> bool
 fn block_given<'a>(
     most: u32,
     past: usize,
-    request: Request<'a>,
+    request: TextRequest<'a>,
     len: u32,
     noreply: bool,
     rest: &'a [u8],
@@ -162,7 +162,7 @@ fn block_given<'a>(
     if most < len {
         return Given {
             taken: past,
-            event: Event::TooLarge(request),
+            event: StreamEvent::TooLarge(request),
             state: ReaderState::SkipData(u64::from(len) + 2),
         };
     }
@@ -171,8 +171,8 @@ fn block_given<'a>(
         return nothing(ReaderState::Line);
     }
     if !is_line_end(rest[block_len], rest[block_len + 1]) {
-        let refusal = Refusal {
-            fault: LineFault::BadData,
+        let refusal = LineRefusal {
+            fault: LineError::BadData,
             noreply,
             skipped: 0,
         };
@@ -180,7 +180,7 @@ fn block_given<'a>(
     }
     Given {
         taken: past + block_len + 2,
-        event: Event::Data {
+        event: StreamEvent::Data {
             request,
             data: &rest[..block_len],
         },
@@ -194,7 +194,7 @@ fn request_given<'a>(
     past: usize,
     line: &'a [u8],
     rest: &'a [u8],
-    request: Request<'a>,
+    request: TextRequest<'a>,
 ) -> Given<'a>
     requires small { past ≤ 2049 }
     requires line { length line.now ≤ past }
@@ -202,15 +202,15 @@ fn request_given<'a>(
     ensures within { result.taken ≤ past + length rest.now }
 {
     match request {
-        Request::Get { with_cas } => {
+        TextRequest::Get { with_cas } => {
             let keys = after_word(line);
             keys_given(line.len() - keys.len(), request, None, with_cas)
         }
-        Request::GetAndTouch { exptime, with_cas } => {
+        TextRequest::GetAndTouch { exptime, with_cas } => {
             let keys = after_word(after_word(line));
             keys_given(line.len() - keys.len(), request, Some(exptime), with_cas)
         }
-        Request::Store(store) => block_given(
+        TextRequest::Store(store) => block_given(
             most,
             past,
             request,
@@ -218,23 +218,23 @@ fn request_given<'a>(
             store.noreply,
             rest,
         ),
-        Request::Meta(meta) => match meta.command {
+        TextRequest::Meta(meta) => match meta.command {
             MetaCommand::Set => block_given(most, past, request, meta.length, false, rest),
             MetaCommand::Get => plain_given(past, request),
             MetaCommand::Delete => plain_given(past, request),
             MetaCommand::Arithmetic => plain_given(past, request),
             MetaCommand::Debug => plain_given(past, request),
         },
-        Request::Delete { .. } => plain_given(past, request),
-        Request::Delta(_) => plain_given(past, request),
-        Request::Touch { .. } => plain_given(past, request),
-        Request::FlushAll { .. } => plain_given(past, request),
-        Request::Stats { .. } => plain_given(past, request),
-        Request::Version => plain_given(past, request),
-        Request::Verbosity { .. } => plain_given(past, request),
-        Request::Quit => plain_given(past, request),
-        Request::Shutdown { .. } => plain_given(past, request),
-        Request::MetaNoop => plain_given(past, request),
+        TextRequest::Delete { .. } => plain_given(past, request),
+        TextRequest::Delta(_) => plain_given(past, request),
+        TextRequest::Touch { .. } => plain_given(past, request),
+        TextRequest::FlushAll { .. } => plain_given(past, request),
+        TextRequest::Stats { .. } => plain_given(past, request),
+        TextRequest::Version => plain_given(past, request),
+        TextRequest::Verbosity { .. } => plain_given(past, request),
+        TextRequest::Quit => plain_given(past, request),
+        TextRequest::Shutdown { .. } => plain_given(past, request),
+        TextRequest::MetaNoop => plain_given(past, request),
     }
 }
 
@@ -263,11 +263,11 @@ fn long_given<'a>(line: &'a [u8]) -> Given<'a>
 {
     match parse(line) {
         Ok(request) => match request {
-            Request::Get { with_cas } => {
+            TextRequest::Get { with_cas } => {
                 let keys = after_word(line);
                 keys_given(line.len() - keys.len(), request, None, with_cas)
             }
-            Request::GetAndTouch { exptime, with_cas } => {
+            TextRequest::GetAndTouch { exptime, with_cas } => {
                 let keys = after_word(after_word(line));
                 keys_given(line.len() - keys.len(), request, Some(exptime), with_cas)
             }
@@ -283,7 +283,7 @@ fn too_long<'a>() -> Given<'a>
 {
     refused_given(
         MAX_LINE_LEN,
-        Refusal::loud(LineFault::LineTooLong),
+        LineRefusal::loud(LineError::LineTooLong),
         ReaderState::Closed,
     )
 }
@@ -300,7 +300,7 @@ fn line_given<'a>(most: u32, bytes: &'a [u8]) -> Given<'a>
     if bytes[0] == BINARY {
         return Given {
             taken: 1,
-            event: Event::Binary,
+            event: StreamEvent::Binary,
             state: ReaderState::Closed,
         };
     }
@@ -331,7 +331,7 @@ fn key_given<'a>(
     if is_key(word) {
         Given {
             taken: word.len(),
-            event: Event::Key {
+            event: StreamEvent::Key {
                 key: word,
                 exptime,
                 with_cas,
@@ -339,7 +339,7 @@ fn key_given<'a>(
             state: ReaderState::Keys { exptime, with_cas },
         }
     } else {
-        refused_given(past, Refusal::loud(LineFault::BadFormat), refused)
+        refused_given(past, LineRefusal::loud(LineError::BadFormat), refused)
     }
 }
 
@@ -357,7 +357,7 @@ fn last_key_given<'a>(
     if word.is_empty() {
         Given {
             taken: past,
-            event: Event::KeysEnd,
+            event: StreamEvent::KeysEnd,
             state: ReaderState::Line,
         }
     } else {
@@ -391,7 +391,7 @@ fn among_keys<'a>(exptime: Option<Exptime>, with_cas: bool, bytes: &'a [u8]) -> 
             } else {
                 refused_given(
                     MAX_KEY_LEN + 2,
-                    Refusal::loud(LineFault::BadFormat),
+                    LineRefusal::loud(LineError::BadFormat),
                     ReaderState::SkipLine,
                 )
             }
@@ -489,7 +489,7 @@ impl RequestReader {
 
     /// Takes the next step that the bytes give, which begin after those that were taken before.
     #[tactic(auto, unfolding(crate::specs::Steps::step_of))]
-    pub fn take<'a>(&mut self, bytes: &'a [u8]) -> Step<'a>
+    pub fn take<'a>(&mut self, bytes: &'a [u8]) -> StreamStep<'a>
         ensures exact { outcome result.taken (event_shown result.event) self.new.state ≡ step_of self.old.max_data_len self.old.state bytes.now }
         ensures limit { self.new.max_data_len ≡ self.old.max_data_len }
         ensures within { result.taken ≤ length bytes.now }
@@ -504,7 +504,7 @@ impl RequestReader {
         let passed = pass(self.state, bytes);
         let given = decide(self.max_data_len, passed.state, &bytes[passed.count..]);
         self.state = given.state;
-        Step {
+        StreamStep {
             taken: passed.count + given.taken,
             event: given.event,
         }

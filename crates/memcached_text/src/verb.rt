@@ -2,7 +2,7 @@
 ghost use Rattle.std.specs.Prelude.{◌≡◌};
 ghost use Rattle.memcached_text.specs.Verbs.{verb_of, mode_of, meta_of, other_of, of_server};
 
-use crate::store_mode::StoreMode;
+use crate::store_command::StoreCommand;
 
 /// Whether a number is to grow or to shrink.
 #[derive(Clone, Copy, Debug, PartialEq, Eq)]
@@ -35,7 +35,7 @@ pub(crate) enum Verb {
     Gets,
     GetAndTouch,
     GetsAndTouch,
-    Store(StoreMode),
+    Store(StoreCommand),
     Delete,
     Count(Direction),
     Touch,
@@ -60,21 +60,21 @@ pub(crate) fn named_verb(word: &[u8]) -> Option<Verb>
 }
 
 // The mode of a command that stores.
-fn named_mode(word: &[u8]) -> Option<StoreMode>
+fn named_mode(word: &[u8]) -> Option<StoreCommand>
     ensures { result ≡ mode_of word.now }
 {
     if word == b"set".as_slice() {
-        Some(StoreMode::Set)
+        Some(StoreCommand::Set)
     } else if word == b"add".as_slice() {
-        Some(StoreMode::Add)
+        Some(StoreCommand::Add)
     } else if word == b"replace".as_slice() {
-        Some(StoreMode::Replace)
+        Some(StoreCommand::Replace)
     } else if word == b"append".as_slice() {
-        Some(StoreMode::Append)
+        Some(StoreCommand::Append)
     } else if word == b"prepend".as_slice() {
-        Some(StoreMode::Prepend)
+        Some(StoreCommand::Prepend)
     } else if word == b"cas".as_slice() {
-        Some(StoreMode::Cas)
+        Some(StoreCommand::Cas)
     } else {
         None
     }

@@ -3,9 +3,9 @@ ghost use Rattle.std.specs.Prelude.{◌≡◌, ◌++◌, ◌∷◌, [], OnOk, On
 ghost use Rattle.std.specs.List.{concat};
 ghost use Rattle.memcached_text.specs.Answers.{value_text, number_text, ttl_text, hit_text, said, flag_text, flags_text, marks_text, status_text, block_text, meta_text, line_text, answer_text};
 
-use crate::answer::{Answer, ValueFound};
 use crate::meta::letter;
 use crate::meta_answer::{MetaAnswer, MetaFields, MetaMarks, MetaStatus, Ttl};
+use crate::text_answer::{TextAnswer, ValueFound};
 use crate::words::words_in;
 use itoa::Buffer;
 use std::alloc::AllocError;
@@ -244,20 +244,23 @@ fn append_line(out: &mut Vec<u8>, words: &[u8]) -> Result<(), AllocError>
 }
 
 /// Appends the bytes of an answer. If memory is refused, nothing is appended.
-pub fn append_answer(out: &mut Vec<u8>, answer: &Answer<'_>) -> Result<(), AllocError>
+pub fn append_answer(out: &mut Vec<u8>, answer: &TextAnswer<'_>) -> Result<(), AllocError>
     ensures ok { OnOk result (out.new.items ≡ out.old.items ++ answer_text answer.now) }
     ensures err { OnErr result (out.new.items ≡ out.old.items) }
 {
     match answer {
-        Answer::Value(found) => append_value(out, found),
-        Answer::Reply(reply) => append_line(out, reply.text().as_bytes()),
-        Answer::Refused(fault) => append_line(out, fault.text().as_bytes()),
-        Answer::Number(number) => {
+        TextAnswer::Value(found) => append_value(out, found),
+        TextAnswer::Reply(reply) => append_line(out, reply.text().as_bytes()),
+        TextAnswer::Refused(fault) => append_line(out, fault.text().as_bytes()),
+        TextAnswer::Number(number) => {
             let mut digits = Buffer::new();
             append_line(out, digits.format(*number).as_bytes())
         }
-        Answer::Version(version) => append_all(out, &[b"VERSION ", version, b"\r\n"]),
-        Answer::Stat { name, value } => append_all(out, &[b"STAT ", name, b" ", value, b"\r\n"]),
-        Answer::Meta(answer) => append_meta(out, answer),
+        TextAnswer::Version(version) => append_all(out, &[b"VERSION ", version, b"\r\n"]),
+        TextAnswer::Stat { name, value } => append_all(
+            out,
+            &[b"STAT ", name, b" ", value, b"\r\n"],
+        ),
+        TextAnswer::Meta(answer) => append_meta(out, answer),
     }
 }

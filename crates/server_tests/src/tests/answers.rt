@@ -1,13 +1,13 @@
 // The bytes of answers.
 use memcached_text::{
-    Answer, LineFault, MetaAnswer, MetaFields, MetaMarks, MetaStatus, Reply, Ttl, ValueFound,
-    append_answer,
+    FixedReply, LineError, MetaAnswer, MetaFields, MetaMarks, MetaStatus, TextAnswer, Ttl,
+    ValueFound, append_answer,
 };
 use std::alloc::{AllocError, Global};
 use std::test::Fail;
 
 /// The bytes of answers.
-fn bytes_of(alloc: Global, answers: &[Answer<'_>]) -> Result<Vec<u8>, AllocError> {
+fn bytes_of(alloc: Global, answers: &[TextAnswer<'_>]) -> Result<Vec<u8>, AllocError> {
     let mut out = Vec::new(alloc);
     for answer in answers {
         append_answer(&mut out, answer)?;
@@ -25,8 +25,8 @@ fn marks(is_awaited: bool, is_stale: bool, has_won: bool) -> MetaMarks {
 }
 
 /// A value that was found, with the largest flags.
-fn found<'a>(key: &'a [u8], cas: Option<u64>, data: &'a [u8]) -> Answer<'a> {
-    Answer::Value(ValueFound {
+fn found<'a>(key: &'a [u8], cas: Option<u64>, data: &'a [u8]) -> TextAnswer<'a> {
+    TextAnswer::Value(ValueFound {
         key,
         flags: 4294967295,
         cas,
@@ -41,7 +41,7 @@ fn values_have_their_lengths(rt: HostRuntime) -> Result<(), Fail> {
         &[
             found(b"k", None, b"ab\r\nc"),
             found(b"k", Some(9), b""),
-            Answer::Reply(Reply::End),
+            TextAnswer::Reply(FixedReply::End),
         ],
     )?;
     assert_eq!(rt;
@@ -56,13 +56,13 @@ fn lines_have_their_ends(rt: HostRuntime) -> Result<(), Fail> {
     let out = bytes_of(
         rt.alloc(),
         &[
-            Answer::Reply(Reply::Stored),
-            Answer::Reply(Reply::NotStored),
-            Answer::Reply(Reply::TooLarge),
-            Answer::Refused(LineFault::BadData),
-            Answer::Number(18446744073709551615),
-            Answer::Version(b"1.6"),
-            Answer::Stat {
+            TextAnswer::Reply(FixedReply::Stored),
+            TextAnswer::Reply(FixedReply::NotStored),
+            TextAnswer::Reply(FixedReply::TooLarge),
+            TextAnswer::Refused(LineError::BadData),
+            TextAnswer::Number(18446744073709551615),
+            TextAnswer::Version(b"1.6"),
+            TextAnswer::Stat {
                 name: b"pid",
                 value: b"1",
             },
@@ -75,7 +75,7 @@ fn lines_have_their_ends(rt: HostRuntime) -> Result<(), Fail> {
 }
 
 /// An answer to a meta command, with all that can be returned of an item.
-fn full<'a>(status: MetaStatus<'a>, flags: &'a [u8], ttl: Ttl, marks: MetaMarks) -> Answer<'a> {
+fn full<'a>(status: MetaStatus<'a>, flags: &'a [u8], ttl: Ttl, marks: MetaMarks) -> TextAnswer<'a> {
     let fields = MetaFields {
         key: b"foo",
         is_base64: false,
@@ -86,7 +86,7 @@ fn full<'a>(status: MetaStatus<'a>, flags: &'a [u8], ttl: Ttl, marks: MetaMarks)
         was_hit: Some(true),
         last_used: Some(5),
     };
-    Answer::Meta(MetaAnswer {
+    TextAnswer::Meta(MetaAnswer {
         status,
         flags,
         fields,
@@ -95,7 +95,7 @@ fn full<'a>(status: MetaStatus<'a>, flags: &'a [u8], ttl: Ttl, marks: MetaMarks)
 }
 
 /// An answer to a meta command, with nothing of an item.
-fn bare<'a>(status: MetaStatus<'a>, flags: &'a [u8], marks: MetaMarks) -> Answer<'a> {
+fn bare<'a>(status: MetaStatus<'a>, flags: &'a [u8], marks: MetaMarks) -> TextAnswer<'a> {
     let fields = MetaFields {
         key: b"Zm9v",
         is_base64: true,
@@ -106,7 +106,7 @@ fn bare<'a>(status: MetaStatus<'a>, flags: &'a [u8], marks: MetaMarks) -> Answer
         was_hit: None,
         last_used: None,
     };
-    Answer::Meta(MetaAnswer {
+    TextAnswer::Meta(MetaAnswer {
         status,
         flags,
         fields,
@@ -153,7 +153,7 @@ fn what_an_item_does_not_have_is_not_returned(rt: HostRuntime) -> Result<(), Fai
             bare(MetaStatus::NotFound, b"", marks(true, false, false)),
             bare(MetaStatus::NotStored, b"", marks(false, false, false)),
             bare(MetaStatus::Exists, b"", marks(false, false, false)),
-            Answer::Reply(Reply::MetaNoop),
+            TextAnswer::Reply(FixedReply::MetaNoop),
         ],
     )?;
     assert_eq!(rt;

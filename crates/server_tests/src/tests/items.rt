@@ -2,7 +2,7 @@
 mod run;
 
 use self::run::{Call, Kept, Lane, Step, run};
-use item_lane::{CellBuffer, Change, Head, Item, Reply, StoreMode};
+use item_lane::{CacheItem, CellBuffer, Change, CommandReply, Head, StoreMode};
 use key_hash::RandomSeed;
 use page_device::MemoryDevice;
 use record_pages::{Config, PutFault};
@@ -39,7 +39,7 @@ const STORES: [Call; 18] = [
             StoreMode::Replace,
             None,
             Kept(0, 1, None, b"one"),
-            Ok(Reply::NotStored),
+            Ok(CommandReply::NotStored),
         ),
     ),
     (
@@ -50,7 +50,7 @@ const STORES: [Call; 18] = [
             StoreMode::Replace,
             Some(1),
             Kept(0, 2, None, b"one"),
-            Ok(Reply::NotFound),
+            Ok(CommandReply::NotFound),
         ),
     ),
     (
@@ -61,7 +61,7 @@ const STORES: [Call; 18] = [
             StoreMode::Append,
             None,
             Kept(0, 3, None, b"one"),
-            Ok(Reply::NotStored),
+            Ok(CommandReply::NotStored),
         ),
     ),
     (
@@ -72,7 +72,7 @@ const STORES: [Call; 18] = [
             StoreMode::Prepend,
             None,
             Kept(0, 4, None, b"one"),
-            Ok(Reply::NotStored),
+            Ok(CommandReply::NotStored),
         ),
     ),
     (b"ax", 1, 0, Step::Get(None)),
@@ -84,14 +84,14 @@ const STORES: [Call; 18] = [
             StoreMode::Add,
             None,
             Kept(7, 5, Some(90), b"one"),
-            Ok(Reply::Stored),
+            Ok(CommandReply::Stored),
         ),
     ),
     (
         b"bx",
         1,
         0,
-        Step::Set(Kept(0, 6, None, b"other"), Ok(Reply::Stored)),
+        Step::Set(Kept(0, 6, None, b"other"), Ok(CommandReply::Stored)),
     ),
     (
         b"ax",
@@ -101,7 +101,7 @@ const STORES: [Call; 18] = [
             StoreMode::Add,
             None,
             Kept(0, 7, None, b"two"),
-            Ok(Reply::NotStored),
+            Ok(CommandReply::NotStored),
         ),
     ),
     (b"ax", 2, 0, Step::Get(Some(Kept(7, 5, Some(90), b"one")))),
@@ -113,7 +113,7 @@ const STORES: [Call; 18] = [
             StoreMode::Append,
             None,
             Kept(0, 8, None, b", two"),
-            Ok(Reply::Stored),
+            Ok(CommandReply::Stored),
         ),
     ),
     (
@@ -124,7 +124,7 @@ const STORES: [Call; 18] = [
             StoreMode::Prepend,
             Some(8),
             Kept(0, 9, None, b"no, "),
-            Ok(Reply::Stored),
+            Ok(CommandReply::Stored),
         ),
     ),
     (
@@ -141,7 +141,7 @@ const STORES: [Call; 18] = [
             StoreMode::Replace,
             Some(8),
             Kept(0, 10, None, b"x"),
-            Ok(Reply::Exists),
+            Ok(CommandReply::Exists),
         ),
     ),
     (
@@ -158,7 +158,7 @@ const STORES: [Call; 18] = [
             StoreMode::Replace,
             Some(9),
             Kept(0, 11, None, b"x"),
-            Ok(Reply::Stored),
+            Ok(CommandReply::Stored),
         ),
     ),
     (b"ax", 95, 0, Step::Get(Some(Kept(0, 11, None, b"x")))),
@@ -176,11 +176,11 @@ const ENDS: [Call; 18] = [
         b"ax",
         10,
         0,
-        Step::Set(Kept(1, 5, Some(20), b"one"), Ok(Reply::Stored)),
+        Step::Set(Kept(1, 5, Some(20), b"one"), Ok(CommandReply::Stored)),
     ),
     (b"ax", 19, 0, Step::Get(Some(Kept(1, 5, Some(20), b"one")))),
     (b"ax", 20, 0, Step::Get(None)),
-    (b"ax", 20, 0, Step::Touch(None, Reply::NotFound)),
+    (b"ax", 20, 0, Step::Touch(None, CommandReply::NotFound)),
     (
         b"ax",
         20,
@@ -189,15 +189,19 @@ const ENDS: [Call; 18] = [
             StoreMode::Add,
             None,
             Kept(1, 6, Some(40), b"two"),
-            Ok(Reply::Stored),
+            Ok(CommandReply::Stored),
         ),
     ),
-    (b"ax", 21, 0, Step::Touch(Some(60), Reply::Touched)),
+    (b"ax", 21, 0, Step::Touch(Some(60), CommandReply::Touched)),
     (
         b"ax",
         59,
         0,
-        Step::GetAndTouch(None, Some(Kept(1, 6, Some(60), b"two")), Reply::Touched),
+        Step::GetAndTouch(
+            None,
+            Some(Kept(1, 6, Some(60), b"two")),
+            CommandReply::Touched,
+        ),
     ),
     (b"ax", 60, 6, Step::Get(Some(Kept(1, 6, None, b"two")))),
     (b"ax", 60, 7, Step::Get(None)),
@@ -205,7 +209,7 @@ const ENDS: [Call; 18] = [
         b"ax",
         60,
         7,
-        Step::GetAndTouch(Some(70), None, Reply::NotFound),
+        Step::GetAndTouch(Some(70), None, CommandReply::NotFound),
     ),
     (
         b"ax",
@@ -215,7 +219,7 @@ const ENDS: [Call; 18] = [
             StoreMode::Replace,
             None,
             Kept(0, 8, None, b"x"),
-            Ok(Reply::NotStored),
+            Ok(CommandReply::NotStored),
         ),
     ),
     (
@@ -226,18 +230,18 @@ const ENDS: [Call; 18] = [
             StoreMode::Add,
             None,
             Kept(0, 9, None, b"three"),
-            Ok(Reply::Stored),
+            Ok(CommandReply::Stored),
         ),
     ),
     (
         b"bx",
         60,
         7,
-        Step::Set(Kept(0, 10, None, b"other"), Ok(Reply::Stored)),
+        Step::Set(Kept(0, 10, None, b"other"), Ok(CommandReply::Stored)),
     ),
-    (b"ax", 60, 7, Step::Delete(Some(8), Reply::Exists)),
-    (b"ax", 60, 7, Step::Delete(Some(9), Reply::Deleted)),
-    (b"ax", 60, 7, Step::Delete(None, Reply::NotFound)),
+    (b"ax", 60, 7, Step::Delete(Some(8), CommandReply::Exists)),
+    (b"ax", 60, 7, Step::Delete(Some(9), CommandReply::Deleted)),
+    (b"ax", 60, 7, Step::Delete(None, CommandReply::NotFound)),
     (b"ax", 60, 7, Step::Get(None)),
     (b"bx", 60, 7, Step::Get(Some(Kept(0, 10, None, b"other")))),
 ];
@@ -253,58 +257,64 @@ const NUMBERS: [Call; 13] = [
         b"ax",
         1,
         0,
-        Step::Change(Change::Increment(1), 2, Reply::NotFound),
+        Step::Change(Change::Increment(1), 2, CommandReply::NotFound),
     ),
     (
         b"ax",
         1,
         0,
-        Step::Set(Kept(9, 3, Some(90), b"99"), Ok(Reply::Stored)),
+        Step::Set(Kept(9, 3, Some(90), b"99"), Ok(CommandReply::Stored)),
     ),
     (
         b"ax",
         1,
         0,
-        Step::Change(Change::Increment(5), 4, Reply::Number(104)),
+        Step::Change(Change::Increment(5), 4, CommandReply::Number(104)),
     ),
     (b"ax", 1, 0, Step::Get(Some(Kept(9, 4, Some(90), b"104")))),
     (
         b"ax",
         1,
         0,
-        Step::Change(Change::Decrement(5), 5, Reply::Number(99)),
+        Step::Change(Change::Decrement(5), 5, CommandReply::Number(99)),
     ),
     (b"ax", 1, 0, Step::Get(Some(Kept(9, 5, Some(90), b"99 ")))),
     (
         b"ax",
         1,
         0,
-        Step::Change(Change::Decrement(100), 6, Reply::Number(0)),
+        Step::Change(Change::Decrement(100), 6, CommandReply::Number(0)),
     ),
     (b"ax", 1, 0, Step::Get(Some(Kept(9, 6, Some(90), b"0  ")))),
     (
         b"bx",
         1,
         0,
-        Step::Set(Kept(0, 7, None, b"18446744073709551615"), Ok(Reply::Stored)),
+        Step::Set(
+            Kept(0, 7, None, b"18446744073709551615"),
+            Ok(CommandReply::Stored),
+        ),
     ),
     (
         b"bx",
         1,
         0,
-        Step::Change(Change::Increment(2), 8, Reply::Number(1)),
+        Step::Change(Change::Increment(2), 8, CommandReply::Number(1)),
     ),
     (
         b"bx",
         1,
         0,
-        Step::Set(Kept(0, 9, None, b"18446744073709551616"), Ok(Reply::Stored)),
+        Step::Set(
+            Kept(0, 9, None, b"18446744073709551616"),
+            Ok(CommandReply::Stored),
+        ),
     ),
     (
         b"bx",
         1,
         0,
-        Step::Change(Change::Increment(1), 10, Reply::NotNumber),
+        Step::Change(Change::Increment(1), 10, CommandReply::NotNumber),
     ),
     (
         b"bx",
@@ -331,7 +341,7 @@ fn a_set_that_is_refused_leaves_no_older_item(rt: HostRuntime) -> Result<(), Fai
             b"ax",
             1,
             0,
-            Step::Set(Kept(0, 1, None, b"old"), Ok(Reply::Stored)),
+            Step::Set(Kept(0, 1, None, b"old"), Ok(CommandReply::Stored)),
         ),
         (
             b"ax",
@@ -344,7 +354,7 @@ fn a_set_that_is_refused_leaves_no_older_item(rt: HostRuntime) -> Result<(), Fai
             b"ax",
             1,
             0,
-            Step::Set(Kept(0, 3, None, &LARGEST), Ok(Reply::Stored)),
+            Step::Set(Kept(0, 3, None, &LARGEST), Ok(CommandReply::Stored)),
         ),
         (b"ax", 1, 0, Step::Get(Some(Kept(0, 3, None, &LARGEST)))),
         (
@@ -376,11 +386,11 @@ fn a_cell_has_its_bytes(rt: HostRuntime) -> Result<(), Fail> {
     let mut cell = CellBuffer::empty();
     cell.write(&MARKED, b"o", b"k");
     assert_eq!(rt; cell.bytes(), CELL.as_slice());
-    let item = Item::decode(&CELL).ok_or("no cell")?;
+    let item = CacheItem::decode(&CELL).ok_or("no cell")?;
     assert_eq!(rt; item.head, MARKED);
     assert_eq!(rt; item.bytes, b"ok".as_slice());
-    assert!(rt; Item::decode(&CELL[..16]).is_none());
-    assert!(rt; Item::decode(&[31, 0, 0, 0, 0, 0, 0, 0, 3, 0, 0, 1, 2, 0, 1, 0, 0]).is_none());
-    assert!(rt; Item::decode(&[4, 0, 0, 0, 0, 0, 0, 0, 3, 0, 0, 0, 0, b'x']).is_none());
+    assert!(rt; CacheItem::decode(&CELL[..16]).is_none());
+    assert!(rt; CacheItem::decode(&[31, 0, 0, 0, 0, 0, 0, 0, 3, 0, 0, 1, 2, 0, 1, 0, 0]).is_none());
+    assert!(rt; CacheItem::decode(&[4, 0, 0, 0, 0, 0, 0, 0, 3, 0, 0, 0, 0, b'x']).is_none());
     Ok(())
 }

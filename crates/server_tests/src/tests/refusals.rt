@@ -1,5 +1,5 @@
 // What is answered to lines that are refused.
-use memcached_text::{Answer, append_answer, parse};
+use memcached_text::{TextAnswer, append_answer, parse};
 use std::alloc::{AllocError, Global};
 use std::test::Fail;
 
@@ -9,7 +9,7 @@ fn answered(alloc: Global, lines: &[u8]) -> Result<Vec<u8>, AllocError> {
     for line in lines.split(|b| *b == b'\n') {
         match parse(line) {
             Ok(_) => out.extend_from_slice(b"taken\r\n")?,
-            Err(refusal) => append_answer(&mut out, &Answer::Refused(refusal.fault))?,
+            Err(refusal) => append_answer(&mut out, &TextAnswer::Refused(refusal.fault))?,
         }
     }
     Ok(out)

@@ -1,5 +1,5 @@
 // What lines ask for.
-use memcached_text::{MetaRequest, Request, parse};
+use memcached_text::{MetaRequest, TextRequest, parse};
 use std::alloc::{AllocError, Global};
 use std::process::Abort;
 use std::test::Fail;
@@ -18,12 +18,12 @@ fn storing_lines_have_their_numbers_in_order(rt: HostRuntime) -> Result<(), Fail
     let lines =
         b"set key 1 2 3\ncas k 7 0 5 18446744073709551615 noreply\nadd k 0 -1 1 noreply\nreplace k 0 -0 1 x\nappend k 0 9 1\n prepend   k 4294967295  -2147483648 2147483645 ";
     let told = "\
-        Ok(Store(Store { mode: Set, key: [107, 101, 121], flags: 1, exptime: At(2), length: 3, cas: 0, noreply: false }))\n\
-        Ok(Store(Store { mode: Cas, key: [107], flags: 7, exptime: Never, length: 5, cas: 18446744073709551615, noreply: true }))\n\
-        Ok(Store(Store { mode: Add, key: [107], flags: 0, exptime: Past, length: 1, cas: 0, noreply: true }))\n\
-        Ok(Store(Store { mode: Replace, key: [107], flags: 0, exptime: Never, length: 1, cas: 0, noreply: false }))\n\
-        Ok(Store(Store { mode: Append, key: [107], flags: 0, exptime: At(9), length: 1, cas: 0, noreply: false }))\n\
-        Ok(Store(Store { mode: Prepend, key: [107], flags: 4294967295, exptime: Past, length: 2147483645, cas: 0, noreply: false }))\n";
+        Ok(Store(StoreRequest { mode: Set, key: [107, 101, 121], flags: 1, exptime: At(2), length: 3, cas: 0, noreply: false }))\n\
+        Ok(Store(StoreRequest { mode: Cas, key: [107], flags: 7, exptime: Never, length: 5, cas: 18446744073709551615, noreply: true }))\n\
+        Ok(Store(StoreRequest { mode: Add, key: [107], flags: 0, exptime: Past, length: 1, cas: 0, noreply: true }))\n\
+        Ok(Store(StoreRequest { mode: Replace, key: [107], flags: 0, exptime: Never, length: 1, cas: 0, noreply: false }))\n\
+        Ok(Store(StoreRequest { mode: Append, key: [107], flags: 0, exptime: At(9), length: 1, cas: 0, noreply: false }))\n\
+        Ok(Store(StoreRequest { mode: Prepend, key: [107], flags: 4294967295, exptime: Past, length: 2147483645, cas: 0, noreply: false }))\n";
     assert_eq!(rt; asked(rt.alloc(), lines)?.as_str(), told);
     Ok(())
 }
@@ -40,8 +40,8 @@ fn lines_with_keys_ask_for_what_they_name(rt: HostRuntime) -> Result<(), Fail> {
         Ok(Delete { key: [107], noreply: false })\n\
         Ok(Delete { key: [107], noreply: true })\n\
         Ok(Touch { key: [107], exptime: Past, noreply: true })\n\
-        Ok(Delta(Delta { direction: Up, key: [110], amount: 10, noreply: false }))\n\
-        Ok(Delta(Delta { direction: Down, key: [109], amount: 18446744073709551615, noreply: true }))\n";
+        Ok(Delta(DeltaRequest { direction: Up, key: [110], amount: 10, noreply: false }))\n\
+        Ok(Delta(DeltaRequest { direction: Down, key: [109], amount: 18446744073709551615, noreply: true }))\n";
     assert_eq!(rt; asked(rt.alloc(), lines)?.as_str(), told);
     Ok(())
 }
@@ -86,14 +86,14 @@ fn refusals_say_whether_they_are_answered_and_what_they_pass_over(
     let lines =
         b"incr k x noreply\nset k x 0 1 noreply\nincr k x\nshutdown noreply\ntouch k 1 2 3 noreply\nms k 10 !\nms k x !\nset k x 0 10";
     let told = "\
-        Err(Refusal { fault: BadDelta, noreply: true, skipped: 0 })\n\
-        Err(Refusal { fault: BadFormat, noreply: true, skipped: 0 })\n\
-        Err(Refusal { fault: BadDelta, noreply: false, skipped: 0 })\n\
-        Err(Refusal { fault: BadShutdown, noreply: false, skipped: 0 })\n\
-        Err(Refusal { fault: Unknown, noreply: false, skipped: 0 })\n\
-        Err(Refusal { fault: BadFlag, noreply: false, skipped: 12 })\n\
-        Err(Refusal { fault: BadFormat, noreply: false, skipped: 0 })\n\
-        Err(Refusal { fault: BadFormat, noreply: false, skipped: 0 })\n";
+        Err(LineRefusal { fault: BadDelta, noreply: true, skipped: 0 })\n\
+        Err(LineRefusal { fault: BadFormat, noreply: true, skipped: 0 })\n\
+        Err(LineRefusal { fault: BadDelta, noreply: false, skipped: 0 })\n\
+        Err(LineRefusal { fault: BadShutdown, noreply: false, skipped: 0 })\n\
+        Err(LineRefusal { fault: Unknown, noreply: false, skipped: 0 })\n\
+        Err(LineRefusal { fault: BadFlag, noreply: false, skipped: 12 })\n\
+        Err(LineRefusal { fault: BadFormat, noreply: false, skipped: 0 })\n\
+        Err(LineRefusal { fault: BadFormat, noreply: false, skipped: 0 })\n";
     assert_eq!(rt; asked(rt.alloc(), lines)?.as_str(), told);
     Ok(())
 }
@@ -101,7 +101,7 @@ fn refusals_say_whether_they_are_answered_and_what_they_pass_over(
 /// The meta command of a line.
 fn meta<'a>(rt: &impl Abort, line: &'a [u8]) -> MetaRequest<'a> {
     match parse(line) {
-        Ok(Request::Meta(meta)) => meta,
+        Ok(TextRequest::Meta(meta)) => meta,
         _ => panic!(rt; "the line is no meta command"),
     }
 }

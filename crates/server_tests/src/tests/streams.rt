@@ -1,5 +1,5 @@
 // Streams of requests, cut anywhere.
-use memcached_text::{Event, RequestReader};
+use memcached_text::{RequestReader, StreamEvent};
 use std::alloc::{AllocError, Global};
 use std::test::Fail;
 
@@ -7,7 +7,7 @@ use std::test::Fail;
 const MAX_STEPS: usize = 20;
 
 /// Tells one event, as a line.
-fn tell(alloc: Global, told: &mut String, event: &Event<'_>) -> Result<(), AllocError> {
+fn tell(alloc: Global, told: &mut String, event: &StreamEvent<'_>) -> Result<(), AllocError> {
     told.push_str(&format!(in alloc; "{event:?}\n")?)
 }
 
@@ -22,7 +22,7 @@ fn take_steps(
     for _ in 0..MAX_STEPS {
         let step = reader.take(rest);
         rest = &rest[step.taken..];
-        if let Event::More = step.event {
+        if let StreamEvent::More = step.event {
             break;
         }
         tell(alloc, told, &step.event)?;
@@ -79,7 +79,7 @@ fn a_stream_gives_the_same_however_it_is_cut(rt: HostRuntime) -> Result<(), Fail
     let stream =
         b"set k 0 0 3\r\na\nb\r\nget a  bc \r\n gats 5 d\nset k 0 0 11\r\n12345678901\r\nms k 2 S\r\nxy\r\nmn\r\nset k 0 0 2\r\nabcdfoo\r\ngets\r\nquit\r\n";
     let told = "\
-        Data { request: Store(Store { mode: Set, key: [107], flags: 0, exptime: Never, length: 3, cas: 0, noreply: false }), data: [97, 10, 98] }\n\
+        Data { request: Store(StoreRequest { mode: Set, key: [107], flags: 0, exptime: Never, length: 3, cas: 0, noreply: false }), data: [97, 10, 98] }\n\
         Request(Get { with_cas: false })\n\
         Key { key: [97], exptime: None, with_cas: false }\n\
         Key { key: [98, 99], exptime: None, with_cas: false }\n\
@@ -87,12 +87,12 @@ fn a_stream_gives_the_same_however_it_is_cut(rt: HostRuntime) -> Result<(), Fail
         Request(GetAndTouch { exptime: At(5), with_cas: true })\n\
         Key { key: [100], exptime: Some(At(5)), with_cas: true }\n\
         KeysEnd\n\
-        TooLarge(Store(Store { mode: Set, key: [107], flags: 0, exptime: Never, length: 11, cas: 0, noreply: false }))\n\
-        Refused(Refusal { fault: BadFlag, noreply: false, skipped: 4 })\n\
+        TooLarge(Store(StoreRequest { mode: Set, key: [107], flags: 0, exptime: Never, length: 11, cas: 0, noreply: false }))\n\
+        Refused(LineRefusal { fault: BadFlag, noreply: false, skipped: 4 })\n\
         Request(MetaNoop)\n\
-        Refused(Refusal { fault: BadData, noreply: false, skipped: 0 })\n\
-        Refused(Refusal { fault: Unknown, noreply: false, skipped: 0 })\n\
-        Refused(Refusal { fault: Unknown, noreply: false, skipped: 0 })\n\
+        Refused(LineRefusal { fault: BadData, noreply: false, skipped: 0 })\n\
+        Refused(LineRefusal { fault: Unknown, noreply: false, skipped: 0 })\n\
+        Refused(LineRefusal { fault: Unknown, noreply: false, skipped: 0 })\n\
         Request(Quit)\n";
     assert!(rt; has_events(rt.alloc(), stream, 40, told)?);
     assert_eq!(rt; events_of(rt.alloc(), stream, 1000)?.as_str(), told);
@@ -126,7 +126,7 @@ fn a_key_of_251_bytes_refuses_the_rest_of_its_line(rt: HostRuntime) -> Result<()
     let told = "\
         Request(Get { with_cas: false })\n\
         Key { key: [97], exptime: None, with_cas: false }\n\
-        Refused(Refusal { fault: BadFormat, noreply: false, skipped: 0 })\n\
+        Refused(LineRefusal { fault: BadFormat, noreply: false, skipped: 0 })\n\
         Request(MetaNoop)\n";
     assert!(rt; has_events(rt.alloc(), &stream, 6, told)?);
     Ok(())
@@ -144,7 +144,7 @@ fn another_line_has_at_most_2048_bytes(rt: HostRuntime) -> Result<(), Fail> {
         )?
     );
     let longer = padded(rt.alloc(), b"version", b' ', 2041, b"\r\nmn\r\n")?;
-    let told = "Refused(Refusal { fault: LineTooLong, noreply: false, skipped: 0 })\n";
+    let told = "Refused(LineRefusal { fault: LineTooLong, noreply: false, skipped: 0 })\n";
     assert_eq!(rt; events_of(rt.alloc(), &longer, 700)?.as_str(), told);
     Ok(())
 }

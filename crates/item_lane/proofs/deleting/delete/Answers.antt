@@ -1,8 +1,8 @@
 -- A removal, and one of an item that has another number.
 use Rattle.std.proofs.Common.{◌≡◌, ℕ, Bool, true, false, cond, Option, Some, None, Ok, refl, ap, sym, ◌∙◌}
 use Rattle.std.specs.Option.{option_map}
-use Rattle.item_lane.specs.declared.reply.Reply.TheVariants.{NotFound, Deleted, Exists}
-use Rattle.item_lane.specs.declared.item.Item.{Item}
+use Rattle.item_lane.specs.declared.command_reply.CommandReply.TheVariants.{NotFound, Deleted, Exists}
+use Rattle.item_lane.specs.declared.cache_item.CacheItem.{CacheItem}
 use Rattle.item_lane.specs.Cells.{Kept, kept_shown}
 use Rattle.item_lane.specs.Choosing.{agrees, delete_plan}
 use Rattle.item_lane.specs.Plans.{Plan, Keep, Remove}
@@ -10,9 +10,9 @@ use Rattle.item_lane.proofs.DoneLaws.{done}
 use Rattle.item_lane.proofs.deleting.delete.Goals as goal
 
 -- the plan for an item by whether it has the number
-by_agreeing : (compare : Option ℕ) (live : Option Item) (item : Item) (b : Bool) → live ≡ Some item → agrees compare item.head ≡ b → cond b (Remove Deleted) (Keep Exists) ≡ delete_plan compare (option_map kept_shown live)
+by_agreeing : (compare : Option ℕ) (live : Option CacheItem) (item : CacheItem) (b : Bool) → live ≡ Some item → agrees compare item.head ≡ b → cond b (Remove Deleted) (Keep Exists) ≡ delete_plan compare (option_map kept_shown live)
 by_agreeing compare live item b is e =
-    ap (λ (v : Bool). cond v (Remove Deleted) (Keep Exists)) (sym e) ∙ ap (λ (o : Option Item). delete_plan compare (option_map kept_shown o)) (sym is)
+    ap (λ (v : Bool). cond v (Remove Deleted) (Keep Exists)) (sym e) ∙ ap (λ (o : Option CacheItem). delete_plan compare (option_map kept_shown o)) (sym is)
 
 pub returns-in-None : goal.returns-in-None
 returns-in-None g c =
@@ -20,7 +20,7 @@ returns-in-None g c =
     let a = c.args in
     let l = c.look-seen in
     done g.row.PAGE d.honest d.failures d.held a.key.now a.turn (delete_plan a.compare) a.lane.now l.new.lane c.remove.new.lane l.result l.new.found c.bytes.result.now c.bytes.ensures.value l.ensures
-    c.live_item.result c.live_item.ensures.live (Remove NotFound) (ap (λ (o : Option Item). delete_plan a.compare (option_map kept_shown o)) (sym c.in-None.is)) (Ok NotFound) (refl, c.remove.ensures)
+    c.live_item.result c.live_item.ensures.live (Remove NotFound) (ap (λ (o : Option CacheItem). delete_plan a.compare (option_map kept_shown o)) (sym c.in-None.is)) (Ok NotFound) (refl, c.remove.ensures)
 
 pub returns-in-Some : goal.returns-in-Some
 returns-in-Some g c =

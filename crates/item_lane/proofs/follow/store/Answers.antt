@@ -3,12 +3,12 @@ use Rattle.std.proofs.Common.{◌≡◌, Result, Ok, Err}
 use Rattle.record_pages.specs.declared.put_fault.PutFault.{PutFault}
 use Rattle.record_pages.specs.declared.put_fault.PutFault.TheVariants.{TooLarge}
 use Rattle.record_pages.specs.declared.pushed.Pushed.{Pushed}
-use Rattle.item_lane.specs.declared.follow.Object.{Object}
+use Rattle.item_lane.specs.declared.follow.CellObject.{CellObject}
 use Rattle.item_lane.specs.Plans.{parts_shown}
 use Rattle.item_lane.proofs.StoreLaws.{stored, refused_put, refused_cell}
 use Rattle.item_lane.proofs.follow.store.Goals as goal
 
-is_made : (o : Object) → ◌≡◌ {A = Result Object PutFault} (Ok o) (Err TooLarge) → ⊥
+is_made : (o : CellObject) → ◌≡◌ {A = Result CellObject PutFault} (Ok o) (Err TooLarge) → ⊥
 is_made o e = absurd cc
 
 pub returns-in-Ok-put_or_remove : goal.returns-in-Ok-put_or_remove
@@ -28,4 +28,4 @@ returns-in-Err-put_or_remove g c =
 pub returns-in-Err : goal.returns-in-Err
 returns-in-Err g c =
     let a = c.args in
-    refused_cell g.row.PAGE g.D.PageDevice.held a.key.now (parts_shown a.parts) a.lane.now c.remove.new.lane {A = Object} c.in-Err.fault c.in-Err.ensures.large c.remove.ensures
+    refused_cell g.row.PAGE g.D.PageDevice.held a.key.now (parts_shown a.parts) a.lane.now c.remove.new.lane {A = CellObject} c.in-Err.fault c.in-Err.ensures.large c.remove.ensures

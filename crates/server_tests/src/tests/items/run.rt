@@ -1,7 +1,7 @@
 //! Commands, each with what it is to reply.
 use item_lane::{
-    Change, Condition, Delta, Head, Item, Reply, StoreMode, Touched, Turn, change_number, delete,
-    get, get_and_touch, set, store_if, touch,
+    CacheItem, Change, CommandReply, CommandTurn, Condition, Delta, Head, StoreMode, Touched,
+    change_number, delete, get, get_and_touch, set, store_if, touch,
 };
 use page_device::MemoryDevice;
 use record_pages::{Key, PutFault, ValueBuffer};
@@ -20,15 +20,15 @@ pub struct Kept(pub u32, pub u64, pub Option<u32>, pub &'static [u8]);
 pub enum Step {
     /// What is live, if anything is.
     Get(Option<Kept>),
-    Set(Kept, Result<Reply, PutFault>),
+    Set(Kept, Result<CommandReply, PutFault>),
     /// How the store depends on what is there, with a number to compare.
-    Store(StoreMode, Option<u64>, Kept, Result<Reply, PutFault>),
-    Delete(Option<u64>, Reply),
-    Touch(Option<u32>, Reply),
+    Store(StoreMode, Option<u64>, Kept, Result<CommandReply, PutFault>),
+    Delete(Option<u64>, CommandReply),
+    Touch(Option<u32>, CommandReply),
     /// What is live before it is touched.
-    GetAndTouch(Option<u32>, Option<Kept>, Reply),
+    GetAndTouch(Option<u32>, Option<Kept>, CommandReply),
     /// The change, and the cas unique that the item gets.
-    Change(Change, u64, Reply),
+    Change(Change, u64, CommandReply),
 }
 
 /// A key, a moment, the number of the last flush, and a command.
@@ -50,7 +50,7 @@ fn gives(alloc: Global, lane: &mut Lane, call: &Call) -> bool {
     if key.is_empty() || key.len() > Key::MAX_LEN {
         return false;
     }
-    let turn = Turn {
+    let turn = CommandTurn {
         moment,
         flushed,
         word: 0,
@@ -84,8 +84,8 @@ fn gives(alloc: Global, lane: &mut Lane, call: &Call) -> bool {
 }
 
 // The item of a step, neither stale nor won.
-fn item_of(kept: Kept) -> Item<'static> {
-    Item {
+fn item_of(kept: Kept) -> CacheItem<'static> {
+    CacheItem {
         head: Head {
             flags: kept.0,
             cas: kept.1,
@@ -98,7 +98,7 @@ fn item_of(kept: Kept) -> Item<'static> {
 }
 
 // Whether an item is the one that is wanted.
-fn is_item(item: Option<Item<'_>>, wanted: Option<Kept>) -> bool {
+fn is_item(item: Option<CacheItem<'_>>, wanted: Option<Kept>) -> bool {
     match (item, wanted) {
         (Some(item), Some(kept)) => {
             let wanted = item_of(kept);
@@ -110,6 +110,6 @@ fn is_item(item: Option<Item<'_>>, wanted: Option<Kept>) -> bool {
 }
 
 // Whether a touch gave the item that was there, and replied this.
-fn is_touched(touched: Touched<'_>, before: Option<Kept>, wanted: Reply) -> bool {
+fn is_touched(touched: Touched<'_>, before: Option<Kept>, wanted: CommandReply) -> bool {
     is_item(touched.item, before) && touched.reply == Ok(wanted)
 }

@@ -4,7 +4,7 @@ ghost use Rattle.memcached_text.specs.Texts.{reply_text};
 
 /// An answer of fixed words: what was done, or why not.
 #[derive(Clone, Copy, Debug, PartialEq, Eq)]
-pub enum Reply {
+pub enum FixedReply {
     /// The last line of the answer to `get` and `stats`.
     End,
     /// The data block was stored.
@@ -37,27 +37,27 @@ pub enum Reply {
     OutOfMemory,
 }
 
-impl Reply {
+impl FixedReply {
     /// The line, without its end.
     pub fn text(self) -> &'static str
         ensures { result.now ≡ reply_text self }
     {
         match self {
-            Reply::End => "END",
-            Reply::Stored => "STORED",
-            Reply::NotStored => "NOT_STORED",
-            Reply::Exists => "EXISTS",
-            Reply::NotFound => "NOT_FOUND",
-            Reply::Deleted => "DELETED",
-            Reply::Touched => "TOUCHED",
-            Reply::Ok => "OK",
-            Reply::Reset => "RESET",
-            Reply::MetaNoop => "MN",
-            Reply::NotNumber => "CLIENT_ERROR cannot increment or decrement non-numeric value",
-            Reply::FlushNotAllowed => "CLIENT_ERROR flush_all not allowed",
-            Reply::ShutdownNotEnabled => "ERROR: shutdown not enabled",
-            Reply::TooLarge => "SERVER_ERROR object too large for cache",
-            Reply::OutOfMemory => "SERVER_ERROR out of memory storing object",
+            FixedReply::End => "END",
+            FixedReply::Stored => "STORED",
+            FixedReply::NotStored => "NOT_STORED",
+            FixedReply::Exists => "EXISTS",
+            FixedReply::NotFound => "NOT_FOUND",
+            FixedReply::Deleted => "DELETED",
+            FixedReply::Touched => "TOUCHED",
+            FixedReply::Ok => "OK",
+            FixedReply::Reset => "RESET",
+            FixedReply::MetaNoop => "MN",
+            FixedReply::NotNumber => "CLIENT_ERROR cannot increment or decrement non-numeric value",
+            FixedReply::FlushNotAllowed => "CLIENT_ERROR flush_all not allowed",
+            FixedReply::ShutdownNotEnabled => "ERROR: shutdown not enabled",
+            FixedReply::TooLarge => "SERVER_ERROR object too large for cache",
+            FixedReply::OutOfMemory => "SERVER_ERROR out of memory storing object",
         }
     }
 }

@@ -1,18 +1,18 @@
 // What a server answers.
 
-use crate::line_fault::LineFault;
+use crate::fixed_reply::FixedReply;
+use crate::line_error::LineError;
 use crate::meta_answer::MetaAnswer;
-use crate::reply::Reply;
 
 /// What a server answers. Keys and data are lent by the caller.
 #[derive(Clone, Copy, Debug)]
-pub enum Answer<'a> {
+pub enum TextAnswer<'a> {
     /// A value that `get` or one of its kind found.
     Value(ValueFound<'a>),
     /// What was done, or why not.
-    Reply(Reply),
+    Reply(FixedReply),
     /// Why a line was refused.
-    Refused(LineFault),
+    Refused(LineError),
     /// The number after `incr` or `decr`.
     Number(u64),
     /// The server's version.

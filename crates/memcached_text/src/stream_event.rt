@@ -1,23 +1,23 @@
 // What a reader of requests gives.
 
 use crate::exptime::Exptime;
-use crate::refusal::Refusal;
-use crate::request::Request;
+use crate::line_refusal::LineRefusal;
+use crate::text_request::TextRequest;
 
 /// What a reader of requests gives. Requests, keys and data are lent by the bytes that were fed.
 #[derive(Clone, Copy, Debug)]
-pub enum Event<'a> {
+pub enum StreamEvent<'a> {
     /// Nothing is whole: more bytes are needed.
     More,
     /// A request with no data block. After `Get` and `GetAndTouch` come their keys.
-    Request(Request<'a>),
+    Request(TextRequest<'a>),
     /// `Store`, or `ms`, with its data block.
     Data {
-        request: Request<'a>,
+        request: TextRequest<'a>,
         data: &'a [u8],
     },
     /// The same, but its data block is longer than the reader takes. It is passed over.
-    TooLarge(Request<'a>),
+    TooLarge(TextRequest<'a>),
     /// One key of `Get`, or of `GetAndTouch` if there is an expiry.
     Key {
         key: &'a [u8],
@@ -27,16 +27,16 @@ pub enum Event<'a> {
     /// The keys are at their end, and `END` is to be answered.
     KeysEnd,
     /// A line is refused. After `LineTooLong` the connection is to be closed.
-    Refused(Refusal),
+    Refused(LineRefusal),
     /// The first byte is that of memcached's binary protocol. The connection is to be closed.
     Binary,
 }
 
 /// What a reader of requests gives, and how many of the bytes that were fed it took.
 #[derive(Clone, Copy, Debug)]
-pub struct Step<'a> {
+pub struct StreamStep<'a> {
     /// How many bytes were taken: the rest is to be fed again, with what comes after it.
     pub taken: usize,
     /// What they give.
-    pub event: Event<'a>,
+    pub event: StreamEvent<'a>,
 }

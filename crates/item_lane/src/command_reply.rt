@@ -2,7 +2,7 @@
 
 /// What a command replies, as the protocol has it.
 #[derive(Clone, Copy, Debug, PartialEq, Eq)]
-pub enum Reply {
+pub enum CommandReply {
     /// The item was stored.
     Stored,
     /// It was not stored, since the mode wants a live item and there is none, or wants none and there is one.

@@ -4,7 +4,7 @@ ghost use Rattle.memcached_text.specs.Texts.{fault_text};
 
 /// Why a line is refused.
 #[derive(Clone, Copy, Debug, PartialEq, Eq)]
-pub enum LineFault {
+pub enum LineError {
     /// The command is not known, or has too few or too many words.
     Unknown,
     /// A key has more than 250 bytes, or a number is none.
@@ -45,32 +45,32 @@ pub enum LineFault {
     BadArithmeticMode,
 }
 
-impl LineFault {
+impl LineError {
     /// The line that memcached answers, without its end.
     pub fn text(self) -> &'static str
         ensures { result.now ≡ fault_text self }
     {
         match self {
-            LineFault::Unknown => "ERROR",
-            LineFault::BadFormat => "CLIENT_ERROR bad command line format",
-            LineFault::BadDelete =>
+            LineError::Unknown => "ERROR",
+            LineError::BadFormat => "CLIENT_ERROR bad command line format",
+            LineError::BadDelete =>
                 "CLIENT_ERROR bad command line format.  Usage: delete <key> [noreply]",
-            LineFault::BadExptime => "CLIENT_ERROR invalid exptime argument",
-            LineFault::BadDelta => "CLIENT_ERROR invalid numeric delta argument",
-            LineFault::BadShutdown => "CLIENT_ERROR invalid shutdown mode",
-            LineFault::BadData => "CLIENT_ERROR bad data chunk",
-            LineFault::LineTooLong => "CLIENT_ERROR line too long",
-            LineFault::TooManyFlags => "CLIENT_ERROR options flags are too long",
-            LineFault::DuplicateFlag => "CLIENT_ERROR duplicate flag",
-            LineFault::BadFlag => "CLIENT_ERROR invalid flag",
-            LineFault::BadOrDuplicateFlag => "CLIENT_ERROR invalid or duplicate flag",
-            LineFault::BadToken => "CLIENT_ERROR bad token in command line format",
-            LineFault::OpaqueTooLong => "CLIENT_ERROR opaque token too long",
-            LineFault::BadModeToken => "CLIENT_ERROR incorrect length for M token",
-            LineFault::BadInitial => "CLIENT_ERROR invalid numeric initial value",
-            LineFault::BadMetaDelta => "CLIENT_ERROR invalid numeric delta value",
-            LineFault::BadSetMode => "CLIENT_ERROR invalid mode for ms M token",
-            LineFault::BadArithmeticMode => "CLIENT_ERROR invalid mode for ma M token",
+            LineError::BadExptime => "CLIENT_ERROR invalid exptime argument",
+            LineError::BadDelta => "CLIENT_ERROR invalid numeric delta argument",
+            LineError::BadShutdown => "CLIENT_ERROR invalid shutdown mode",
+            LineError::BadData => "CLIENT_ERROR bad data chunk",
+            LineError::LineTooLong => "CLIENT_ERROR line too long",
+            LineError::TooManyFlags => "CLIENT_ERROR options flags are too long",
+            LineError::DuplicateFlag => "CLIENT_ERROR duplicate flag",
+            LineError::BadFlag => "CLIENT_ERROR invalid flag",
+            LineError::BadOrDuplicateFlag => "CLIENT_ERROR invalid or duplicate flag",
+            LineError::BadToken => "CLIENT_ERROR bad token in command line format",
+            LineError::OpaqueTooLong => "CLIENT_ERROR opaque token too long",
+            LineError::BadModeToken => "CLIENT_ERROR incorrect length for M token",
+            LineError::BadInitial => "CLIENT_ERROR invalid numeric initial value",
+            LineError::BadMetaDelta => "CLIENT_ERROR invalid numeric delta value",
+            LineError::BadSetMode => "CLIENT_ERROR invalid mode for ms M token",
+            LineError::BadArithmeticMode => "CLIENT_ERROR invalid mode for ma M token",
         }
     }
 }

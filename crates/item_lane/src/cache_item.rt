@@ -7,17 +7,17 @@ use crate::head::{EXPIRES, FLAGS, Head, STALE, WON};
 
 /// An item whose data is lent, by a client's request or by a cell.
 #[derive(Clone, Copy, Debug)]
-pub struct Item<'a> {
+pub struct CacheItem<'a> {
     /// What is kept of it beside the data.
     pub head: Head,
     /// Its data.
     pub bytes: &'a [u8],
 }
 
-impl<'a> Item<'a> {
+impl<'a> CacheItem<'a> {
     /// The item that these bytes are the cell of, or `None` if they are no cell: if they end within the head, if a mark is set
     /// that has no meaning, or if flags of 0 follow. What `CellBuffer::write` wrote of an item gives the item.
-    pub fn decode(bytes: &'a [u8]) -> Option<Item<'a>>
+    pub fn decode(bytes: &'a [u8]) -> Option<CacheItem<'a>>
         ensures decoded { option_map kept_shown result ≡ decoded bytes.now }
         ensures within { IfSome result (λ item. length item.bytes.now ≤ length bytes.now) }
         ensures again { (kept : Kept) → IsHead kept.head → bytes.now ≡ cell_text kept
@@ -28,7 +28,7 @@ impl<'a> Item<'a> {
 
     // The item that these bytes are the cell of.
     #[tactic(auto, unfolding(crate::specs::Cells::decoded))]
-    fn read(bytes: &'a [u8]) -> Option<Item<'a>>
+    fn read(bytes: &'a [u8]) -> Option<CacheItem<'a>>
         ensures decoded { option_map kept_shown result ≡ decoded bytes.now }
         ensures within { IfSome result (λ item. length item.bytes.now ≤ length bytes.now) }
     {
@@ -46,7 +46,7 @@ impl<'a> Item<'a> {
         if head.marks() != *marks {
             return None;
         }
-        Some(Item { head, bytes: data })
+        Some(CacheItem { head, bytes: data })
     }
 }
 

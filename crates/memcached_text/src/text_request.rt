@@ -1,12 +1,12 @@
 // What a line asks for.
 
 use crate::exptime::Exptime;
-use crate::store_mode::StoreMode;
+use crate::store_command::StoreCommand;
 use crate::verb::{Direction, MetaCommand};
 
 /// What a line asks for. Keys and flags are lent by the line.
 #[derive(Clone, Copy, Debug)]
-pub enum Request<'a> {
+pub enum TextRequest<'a> {
     /// `get`, and `gets`, which wants each value's cas unique number too. The keys follow, one or more.
     Get {
         with_cas: bool,
@@ -17,14 +17,14 @@ pub enum Request<'a> {
         with_cas: bool,
     },
     /// Stores the data block that follows the line.
-    Store(Store<'a>),
+    Store(StoreRequest<'a>),
     /// Removes a key.
     Delete {
         key: &'a [u8],
         noreply: bool,
     },
     /// `incr` and `decr`.
-    Delta(Delta<'a>),
+    Delta(DeltaRequest<'a>),
     /// Gives a key's value a new expiry.
     Touch {
         key: &'a [u8],
@@ -61,9 +61,9 @@ pub enum Request<'a> {
 
 /// A data block that is to be stored. It has `length` bytes, and follows the line.
 #[derive(Clone, Copy, Debug)]
-pub struct Store<'a> {
+pub struct StoreRequest<'a> {
     /// How it is stored.
-    pub mode: StoreMode,
+    pub mode: StoreCommand,
     /// The key, of 1 to 250 bytes.
     pub key: &'a [u8],
     /// A number that the client keeps with the value.
@@ -80,7 +80,7 @@ pub struct Store<'a> {
 
 /// A number that is to grow or to shrink.
 #[derive(Clone, Copy, Debug)]
-pub struct Delta<'a> {
+pub struct DeltaRequest<'a> {
     /// Whether it grows.
     pub direction: Direction,
     /// The key, of 1 to 250 bytes.

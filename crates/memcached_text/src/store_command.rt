@@ -2,7 +2,7 @@
 
 /// How a value is stored: the commands `set`, `add`, `replace`, `append`, `prepend` and `cas`.
 #[derive(Clone, Copy, Debug, PartialEq, Eq)]
-pub enum StoreMode {
+pub enum StoreCommand {
     /// Whatever the key has.
     Set,
     /// Only if the key has no value.

@@ -2,7 +2,7 @@
 
 /// What a server gives a command beside the request.
 #[derive(Clone, Copy, Debug, PartialEq, Eq)]
-pub struct Turn {
+pub struct CommandTurn {
     /// The moment, in seconds. It is the caller's, and may go backwards.
     pub moment: u64,
     /// The number that the last `flush_all` drew, or 0 before the first: an item whose cas unique is below it is not live.

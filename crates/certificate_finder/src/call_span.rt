@@ -2,7 +2,7 @@
 
 /// When a call started and ended, in stamps; or of several calls the greatest start and the least end.
 #[derive(Clone, Copy)]
-pub(crate) struct Times {
+pub(crate) struct CallSpan {
     /// The start.
     pub(crate) start: u64,
     /// The end.
