@@ -62,7 +62,7 @@ const CASES: [Case; 10] = [
         text: "a 1 9 put k v\nb 2 8 put k v\nc 3 4 hit k v\n",
         explain: true,
         told: "{\"calls\":3,\"verdict\":\"accepted\"}\n",
-        end: JudgeEnd::Accepted,
+        end: JudgeEnd::Done,
     },
     Case {
         text: "a 0 9 put k v\nb 0 9 put k v\nc 0 9 put k w\nd 1 2 hit k w\ne 3 4 hit k v\nd 5 6 hit k w\n",
