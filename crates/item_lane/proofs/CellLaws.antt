@@ -1,13 +1,13 @@
 -- What is read of a cell is what was written.
-use Rattle.std.proofs.Common.{◌≡◌, ℕ, ◌+◌, ◌^◌, ◌<◌, ◌≤◌, Bool, true, false, ltb, eqb, List, [], ◌∷◌, ◌++◌, length, take, drop, Option, Some, None, refl, sym, ap, subst, ◌∙◌, append_assoc, arith, inl, inr}
+use Rattle.std.proofs.Common.{◌≡◌, ℕ, ◌+◌, ◌^◌, ◌<◌, Bool, true, false, ltb, eqb, List, ◌∷◌, ◌++◌, length, Option, Some, None, refl, sym, ap, ◌∙◌, append_assoc, arith}
 use Rattle.std.specs.Prelude.{not, is_some, unwrap_or, IfSome, if◌then◌else◌}
 use Rattle.std.specs.Int.{Width, w32, w64, byte_len, from_be_bytes, to_be_bytes}
 use Rattle.std.proofs.lemmas.Bool.{le-ltb, eqb-true, eq-eqb}
 use Rattle.std.proofs.lemmas.List.{take_at, drop_at, length-append}
 use Rattle.std.proofs.lemmas.Nat.{from_be_bytes-to_be_bytes_4, from_be_bytes-to_be_bytes_8}
-use Rattle.record_pages.specs.Reading.{◌>>=◌, number_at, byte_at}
+use Rattle.record_pages.specs.Reading.{number_at}
 use Rattle.item_lane.specs.declared.head.Head.{Head}
-use Rattle.item_lane.specs.Cells.{Kept, IsHead, if_so, marks_of, has_mark, flags_text, expiry_text, head_text, cell_text, marked_at, head_with, if_marked, decoded}
+use Rattle.item_lane.specs.Cells.{Kept, IsHead, if_so, marks_of, has_mark, flags_text, expiry_text, cell_text, marked_at, head_with, if_marked, decoded}
 
 -- a number that was written is read
 number_again : (w : Width) (n : ℕ) (rest : List ℕ) → length (to_be_bytes w n) ≡ byte_len w → from_be_bytes w (to_be_bytes w n) ≡ n → number_at w (to_be_bytes w n ++ rest) ≡ Some (n, rest)

@@ -1,5 +1,5 @@
 -- A get, a plan for its live item, and the plan that was followed are a command.
-use Rattle.std.proofs.Common.{◌≡◌, ℕ, List, Bool, true, false, Option, Some, None, Result, refl, ap, subst, sym, ◌∙◌}
+use Rattle.std.proofs.Common.{◌≡◌, ℕ, List, Bool, Option, Result, ap, subst, ◌∙◌}
 use Rattle.std.specs.Option.{option_map}
 use Rattle.record_pages.specs.declared.put_fault.PutFault.{PutFault}
 use Rattle.mover.specs.declared.answer_kind.AnswerKind.{AnswerKind}

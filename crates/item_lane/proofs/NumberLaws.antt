@@ -1,5 +1,5 @@
 -- The item that a change of its number stores.
-use Rattle.std.proofs.Common.{◌≡◌, ℕ, ◌-◌, ◌≤◌, Bool, true, cond, List, ◌++◌, length, take, replicate, Option, Some, None, sym, ap, ◌∙◌, arith}
+use Rattle.std.proofs.Common.{◌≡◌, ℕ, ◌-◌, ◌≤◌, Bool, true, cond, List, ◌++◌, length, take, replicate, Option, Some, sym, ap, ◌∙◌, arith}
 use Rattle.std.specs.Fmt.{decimal}
 use Rattle.std.specs.Option.{option_map}
 use Rattle.std.proofs.lemmas.List.{take-replicate}
@@ -7,7 +7,7 @@ use Rattle.item_lane.specs.declared.counting.Delta.{Delta}
 use Rattle.item_lane.specs.declared.head.Head.{Head}
 use Rattle.item_lane.specs.declared.cache_item.CacheItem.{CacheItem}
 use Rattle.item_lane.specs.declared.command_reply.CommandReply.TheVariants.{Number, Exists}
-use Rattle.item_lane.specs.Cells.{Kept, kept_shown}
+use Rattle.item_lane.specs.Cells.{kept_shown}
 use Rattle.item_lane.specs.Numbers.{number_in, changed}
 use Rattle.item_lane.specs.Choosing.{agrees, renewed, number_plan, delta_plan}
 use Rattle.item_lane.specs.Plans.{Plan, Keep, Store}

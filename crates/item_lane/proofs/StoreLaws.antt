@@ -1,5 +1,5 @@
 -- What a put of an item's cell, and a removal in its place, are to a command.
-use Rattle.std.proofs.Common.{◌≡◌, ℕ, ◌<◌, List, Option, Result, Ok, Err, length, refl, ap, subst, ◌∙◌, inl, inr}
+use Rattle.std.proofs.Common.{◌≡◌, ℕ, ◌<◌, List, Option, Result, Err, refl, ap, subst, ◌∙◌, inl, inr}
 use Rattle.std.specs.Prelude.{◌↔◌, IsErrOf}
 use Rattle.record_pages.specs.Expiry.{timed}
 use Rattle.record_pages.specs.Sizes.{object_size, room}
@@ -10,7 +10,7 @@ use Rattle.memory_cache.specs.declared.pair.Pair.{Pair}
 use Rattle.service_lane.specs.Counting.{counts_refused_put}
 use Rattle.service_lane.specs.Serving.{Serving, PutsStore, Removes}
 use Rattle.item_lane.specs.Cells.{Kept, cell_text, expires_of}
-use Rattle.item_lane.specs.Doing.{pair_with, IsTooLarge, Stores, Refuses}
+use Rattle.item_lane.specs.Doing.{IsTooLarge, Stores, Refuses}
 
 -- the pair of these parts
 abbrev pair_of : List ℕ → List ℕ → ℕ → Pair

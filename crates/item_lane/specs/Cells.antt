@@ -1,5 +1,5 @@
 -- What is kept of an item: a cell, byte by byte, and a cell read from left to right.
-use Rattle.std.specs.Prelude.{◌≡◌, ◌<◌, ℕ, ◌+◌, ◌-◌, ◌^◌, List, [], ◌∷◌, ◌++◌, length, take, drop, Bool, true, false, not, ◌==◌, nat_lt, if◌then◌else◌, Option, Some, None, is_some, option_and_then, unwrap_or, bit_and, IfSome}
+use Rattle.std.specs.Prelude.{◌<◌, ℕ, ◌+◌, ◌^◌, List, [], ◌∷◌, ◌++◌, Bool, true, false, not, ◌==◌, if◌then◌else◌, Option, Some, None, is_some, unwrap_or, bit_and, IfSome}
 use Rattle.std.specs.Int.{w32, w64, to_be_bytes}
 use Rattle.record_pages.specs.Expiry.{never}
 use Rattle.record_pages.specs.Reading.{◌>>=◌, byte_at, number_at}

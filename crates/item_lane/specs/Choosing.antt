@@ -6,7 +6,6 @@ use Rattle.item_lane.specs.declared.counting.Delta.{Delta}
 use Rattle.item_lane.specs.declared.head.Head.{Head}
 use Rattle.item_lane.specs.declared.condition.StoreMode.{StoreMode}
 use Rattle.item_lane.specs.declared.condition.StoreMode.TheVariants.{Add, Replace, Append, Prepend}
-use Rattle.item_lane.specs.declared.command_reply.CommandReply.{CommandReply}
 use Rattle.item_lane.specs.declared.command_reply.CommandReply.TheVariants as reply
 use Rattle.item_lane.specs.Cells.{Kept}
 use Rattle.item_lane.specs.Numbers.{number_in, changed, number_text}

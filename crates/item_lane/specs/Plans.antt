@@ -1,5 +1,5 @@
 -- What a command does about the item that it saw.
-use Rattle.std.specs.Prelude.{ℕ, List, ◌++◌}
+use Rattle.std.specs.Prelude.{◌++◌}
 use Rattle.item_lane.specs.declared.command_reply.CommandReply.{CommandReply}
 use Rattle.item_lane.specs.declared.command_verdict.ItemParts.{ItemParts}
 use Rattle.item_lane.specs.declared.command_verdict.CommandVerdict.{CommandVerdict}

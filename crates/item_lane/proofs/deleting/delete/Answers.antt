@@ -1,11 +1,11 @@
 -- A removal, and one of an item that has another number.
-use Rattle.std.proofs.Common.{◌≡◌, ℕ, Bool, true, false, cond, Option, Some, None, Ok, refl, ap, sym, ◌∙◌}
+use Rattle.std.proofs.Common.{◌≡◌, ℕ, Bool, true, false, cond, Option, Some, Ok, refl, ap, sym, ◌∙◌}
 use Rattle.std.specs.Option.{option_map}
 use Rattle.item_lane.specs.declared.command_reply.CommandReply.TheVariants.{NotFound, Deleted, Exists}
 use Rattle.item_lane.specs.declared.cache_item.CacheItem.{CacheItem}
-use Rattle.item_lane.specs.Cells.{Kept, kept_shown}
+use Rattle.item_lane.specs.Cells.{kept_shown}
 use Rattle.item_lane.specs.Choosing.{agrees, delete_plan}
-use Rattle.item_lane.specs.Plans.{Plan, Keep, Remove}
+use Rattle.item_lane.specs.Plans.{Keep, Remove}
 use Rattle.item_lane.proofs.DoneLaws.{done}
 use Rattle.item_lane.proofs.deleting.delete.Goals as goal
 

@@ -1,5 +1,5 @@
 -- A change of the number that the live item holds.
-use Rattle.std.proofs.Common.{◌≡◌, ◌≤◌, true, ℕ, length, Option, Some, sym, subst, ◌∙◌, rules}
+use Rattle.std.proofs.Common.{◌≡◌, ◌≤◌, true, length, Option, sym, subst, ◌∙◌, rules}
 use Rattle.std.specs.Prelude.{IfSome}
 use Rattle.item_lane.specs.declared.cache_item.CacheItem.{CacheItem}
 use Rattle.item_lane.proofs.NumberLaws.{number_put}
