@@ -1,6 +1,6 @@
 -- The program's command line: what it takes, and what its words ask for.
-use Rattle.std.specs.Prelude.{◌≡◌, ◌≢◌, ◌⊎◌, ◌&&◌, ℕ, Bool, List, [], ◌∷◌, Option, Some, None, codes, fold, is_some, map, option_and_then, option_map, string_bytes, true, false, unwrap_or, if◌then◌else◌}
-use Rattle.std.specs.List.{list_all}
+use Rattle.std.specs.Prelude.{◌≡◌, ◌≢◌, ◌⊎◌, ◌&&◌, ℕ, Bool, List, [], ◌∷◌, Option, Some, None, codes, fold, is_some, map, not, option_and_then, option_map, string_bytes, true, false, unwrap_or, if◌then◌else◌}
+use Rattle.std.specs.List.{find, list_all}
 use Rattle.std.specs.Option.{option_map_or}
 use Rattle.std.specs.Str.{bytes_eq}
 use Rattle.clap.specs.Words.{App, IsAmong, Kinds, Row, Rule, Text, first_of, new_app, new_rule, subcommand_of, with_rule, with_subcommand}
@@ -8,7 +8,7 @@ use Rattle.clap.specs.declared.builder.action.ArgAction.TheVariants.{SetTrue}
 use Rattle.clap.specs.declared.error.kind.ErrorKind.{ErrorKind}
 use Rattle.clap.specs.declared.error.kind.ErrorKind.TheVariants.{DisplayHelp, DisplayVersion}
 use Rattle.load.specs.Asked.{numbers_of, served_numbers_of}
-use Rattle.load.specs.Settings.{bytes_in, number_in, row_of, served_settings, settings}
+use Rattle.load.specs.Settings.{bytes_in, number_in, row_of, served_settings, settings, shape_settings}
 use Rattle.load.specs.Sizes.{name_of}
 use Rattle.load.specs.declared.setting.Setting.{Setting}
 use Rattle.load.specs.declared.size_setting.SizeSetting.{SizeSetting}
@@ -24,9 +24,9 @@ use Rattle.command_line.specs.declared.line_fault.LineFault.TheVariants.{Usage, 
 abbrev pub file_rule : Rule
 file_rule = record (new_rule (codes "FILE")) { required = true }
 
--- the option of a setting: its name, one value, and the word if none is given
+-- the option of a setting: its name, and one value
 abbrev pub option_rule : Setting → Rule
-option_rule setting = record (new_rule (row_of setting).name) { long = Some (row_of setting).name; value_names = 1; defaults = (row_of setting).default ∷ [] }
+option_rule setting = record (new_rule (row_of setting).name) { long = Some (row_of setting).name; value_names = 1 }
 
 -- the folder of the lanes' files
 abbrev pub device_rule : Rule
@@ -157,9 +157,9 @@ judge_wanted rows =
 abbrev pub show_wanted : List Row → Option Wanted
 show_wanted rows = option_map (λ file. Shown file (first_of (codes "key") rows)) (first_of (codes "FILE") rows)
 
--- the number of a setting, by what was found for its option: none if that is no number in its range
+-- the number of a setting, by what was found for its option, or by its default if nothing was: none if that is no number in its range
 abbrev pub number_found : List Row → Setting → Option ℕ
-number_found rows setting = option_and_then (number_in setting) (first_of (row_of setting).name rows)
+number_found rows setting = number_in setting (unwrap_or (first_of (row_of setting).name rows) (row_of setting).default)
 
 -- each of the settings has a number
 abbrev pub has_numbers : List Setting → List Row → Bool
@@ -182,6 +182,18 @@ bytes_found rows size = bytes_given (first_of (name_of size) rows)
 abbrev pub has_sizes : List Row → Bool
 has_sizes rows = is_some (bytes_found rows Size) && is_some (bytes_found rows MemoryBytes)
 
+-- the option of a setting is given
+abbrev pub is_given : List Row → Setting → Bool
+is_given rows setting = is_some (first_of (row_of setting).name rows)
+
+-- the first setting that is given of those that a size determines
+abbrev pub shape_given : List Row → Option Setting
+shape_given rows = find (is_given rows) shape_settings
+
+-- a size is given, and a setting that it determines
+abbrev pub determines_given : List Row → Bool
+determines_given rows = is_some (unwrap_or (bytes_found rows Size) None) && is_some (shape_given rows)
+
 -- the load that was found, if each setting has a number
 abbrev pub load_wanted : List Row → Option Wanted
 load_wanted rows =
@@ -189,10 +201,11 @@ load_wanted rows =
     then option_map (Loaded (numbers_found settings rows) (is_on (codes "json") rows) (first_of (codes "device") rows)) (first_of (codes "trace") rows)
     else None
 
--- the load of a cache that serves that was found, if each setting and each size that is given has a number
+-- the load of a cache that serves that was found, if each setting and each size that is given has a number, and no setting is given
+-- that a given size determines
 abbrev pub served_wanted : List Row → Option Wanted
 served_wanted rows =
-    if has_numbers served_settings rows && has_sizes rows
+    if has_numbers served_settings rows && (has_sizes rows && not (determines_given rows))
     then Some (Served (numbers_found served_settings rows) (unwrap_or (bytes_found rows Size) None) (unwrap_or (bytes_found rows MemoryBytes) None) (is_on (codes "json") rows) (first_of (codes "device") rows))
     else None
 

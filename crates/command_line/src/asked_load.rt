@@ -1,24 +1,26 @@
 // What was found for the arguments of a subcommand that loads a cache.
-ghost use Rattle.std.specs.Prelude.{◌≡◌, ◌≤◌, IfOk, IfErr, OnErr, IsSome, false, Some, None, codes, option_map, map};
+ghost use Rattle.std.specs.Prelude.{◌≡◌, ◌≤◌, IfOk, IfErr, IfSome, OnErr, IsSome, false, is_some, Some, None, codes, option_map, map};
 ghost use Rattle.clap.specs.Words.{first_of, found_of, rows_of};
-ghost use Rattle.command_line.specs.CommandLine.{bytes_found, has_numbers, has_sizes, load_wanted, number_found, served_wanted, wanted_of, IsUsage};
+ghost use Rattle.command_line.specs.CommandLine.{bytes_found, determines_given, has_numbers, has_sizes, load_wanted, number_found, served_wanted, shape_given, wanted_of, IsUsage};
 
 use crate::asked_file::{file_found, is_on};
 use crate::line::Line;
 use crate::line_fault::LineFault;
-use crate::telling::{Loading, no_bytes, no_number, usage};
+use crate::telling::{Loading, no_bytes, no_number, not_with_size, usage};
 use clap::ArgMatches;
-use load::{SERVE_SETTINGS, SETTINGS, Setting, SizeSetting, load_with, served_with};
+use load::{
+    SERVE_SETTINGS, SETTINGS, SHAPE_SETTINGS, Setting, SizeSetting, load_with, served_with,
+};
 use std::alloc::Global;
 use trace_file::FileName;
 
-/// The number of a setting; none if what was found for it is no number in its range.
+/// The number of a setting, its default if nothing was found for it; none if what was found is no number in its range.
 fn number_of<'a>(found: &ArgMatches<'a>, setting: Setting) -> Option<u32>
     ensures { result ≡ number_found (rows_of (found_of found.now)) setting }
 {
     match found.get_str(setting.name()) {
         Some(text) => setting.number(text),
-        None => None,
+        None => setting.number(setting.default_word()),
     }
 }
 
@@ -110,7 +112,33 @@ fn sizes_of<'a>(found: &ArgMatches<'a>) -> Result<AskedSizes, SizeSetting>
     Ok(AskedSizes { size, memory_bytes })
 }
 
-/// What `serve-load` asks for.
+/// The first setting that is given of those that a size determines; none if none is.
+fn shape_given<'a>(found: &ArgMatches<'a>) -> Option<Setting>
+    ensures { result ≡ shape_given (rows_of (found_of found.now)) }
+{
+    for setting in &SHAPE_SETTINGS {
+        if found.get_str(setting.name()).is_some() {
+            return Some(*setting);
+        }
+    }
+    None
+}
+
+/// The first setting that is given though a size determines it; none if no size is given, or no such setting.
+fn determined<'a>(found: &ArgMatches<'a>, sizes: &AskedSizes) -> Option<Setting>
+    requires { bytes_found (rows_of (found_of found.now)) SizeSetting.Size ≡ Some sizes.now.size }
+    ensures first { IfSome result (λ setting.
+        shape_given (rows_of (found_of found.now)) ≡ Some setting) }
+    ensures given { is_some result ≡ determines_given (rows_of (found_of found.now)) }
+{
+    match sizes.size {
+        Some(_) => shape_given(found),
+        None => None,
+    }
+}
+
+/// What `serve-load` asks for. First each number is tested, then each size, and then whether a setting is given that a given size
+/// determines.
 pub fn serve_line<'a>(alloc: Global, found: &ArgMatches<'a>) -> Result<Line, LineFault>
     ensures named { IfOk result (λ line. served_wanted (rows_of (found_of found.now)) ≡ Some (wanted_of line)) }
     ensures refused { IfErr result (λ fault. IsUsage fault) }
@@ -124,12 +152,16 @@ pub fn serve_line<'a>(alloc: Global, found: &ArgMatches<'a>) -> Result<Line, Lin
             return Err(no_number(alloc, Loading::Serve, setting, given));
         }
     };
-    match sizes_of(found) {
-        Ok(sizes) => {
+    let sizes = match sizes_of(found) {
+        Ok(sizes) => sizes,
+        Err(size) => return Err(no_bytes(alloc, size, given(found, size.name()))),
+    };
+    match determined(found, &sizes) {
+        None => {
             let folder = file_found(alloc, found, "device")?;
             let json = is_on(found, "json");
             Ok(Line::Serve(served_with(&numbers, sizes.size, sizes.memory_bytes, json, folder)))
         }
-        Err(size) => Err(no_bytes(alloc, size, given(found, size.name()))),
+        Some(setting) => Err(not_with_size(alloc, setting)),
     }
 }

@@ -49,5 +49,5 @@ pub const RUN: Help = Help {
 /// That of `serve-load`.
 pub const SERVE: Help = Help {
     about: "Load the cache that serves with threads, and report hits, latencies and writes",
-    notes: "Use it to measure the cache. Nothing is recorded; each caller checks the hits of its own keys.\n\nExample:\n  kangaroo serve-load --size 104857600 --callers 4 --keys 50000\n\nExit status: 0 no hit was wrong, 1 a hit was wrong, 2 bad options, 3 memory, a file or the system\n             failed\nManual: man kangaroo, or docs/CLI.md",
+    notes: "Use it to measure the cache. Nothing is recorded; each caller checks the hits of its own keys.\n\nExample:\n  kangaroo serve-load --size 100M --callers 4 --keys 50000\n\nExit status: 0 no hit was wrong, 1 a hit was wrong, 2 bad options, 3 memory, a file or the system\n             failed\nManual: man kangaroo, or docs/CLI.md",
 };

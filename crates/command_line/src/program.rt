@@ -226,13 +226,11 @@ fn option<'a>(alloc: Global, setting: Setting) -> Arg<'a>
     ensures local { result.global ≡ false }
 {
     let name: &'a str = setting.name();
-    let word: &'a str = setting.default_word();
     let meaning: &'a str = setting.meaning();
     let heading: &'a str = setting.heading();
     Arg::new(alloc, name)
         .long(name)
         .value_name("NUMBER")
-        .default_value(word)
         .help(meaning)
         .help_heading(heading)
 }

@@ -68,6 +68,8 @@ struct Range {
     name: &'static str,
     least: u64,
     greatest: u64,
+    /// What else it takes.
+    units: &'static str,
 }
 
 /// What is reported if the text that was given for a setting is no number, or one out of its range.
@@ -78,6 +80,7 @@ pub fn no_number(alloc: Global, loading: Loading, setting: Setting, given: &str)
         name: setting.name(),
         least: u64::from(setting.least()),
         greatest: u64::from(setting.greatest()),
+        units: "",
     };
     no_range(alloc, loading, &range, given)
 }
@@ -90,8 +93,29 @@ pub fn no_bytes(alloc: Global, size: SizeSetting, given: &str) -> LineFault
         name: size.name(),
         least: 0,
         greatest: SizeSetting::MOST,
+        units: ", or as 512K, 100M or 64G",
     };
     no_range(alloc, Loading::Serve, &range, given)
+}
+
+/// What is reported if this setting is given with a size, which determines it.
+pub fn not_with_size(alloc: Global, setting: Setting) -> LineFault
+    ensures { IsUsage result }
+{
+    match size_error(alloc, setting) {
+        Ok(error) => usage_of(alloc, &error),
+        Err(_) => LineFault::OutOfMemory,
+    }
+}
+
+/// The same, as `clap` words it.
+fn size_error(alloc: Global, setting: Setting) -> Result<clap::Error, AllocError> {
+    let mut command = serve(alloc)?.bin_name("kangaroo serve-load")?;
+    let name = setting.name();
+    let message = format!(in alloc;
+        "--{name} can't be given with --size, which determines it: leave --{name} or --size out"
+    )?;
+    command.error(ErrorKind::ArgumentConflict, message.as_str())
 }
 
 /// What is reported if the text that was given for an option is no number of its range.
@@ -134,8 +158,11 @@ fn range_message(alloc: Global, range: &Range, given: &str) -> Result<String, Al
     let name = range.name;
     let least = range.least;
     let greatest = range.greatest;
+    let units = range.units;
     if given.parse::<u64>().is_ok() {
-        return format!(in alloc; "--{name} takes a number from {least} to {greatest}, not {given}");
+        return format!(in alloc;
+            "--{name} takes a number from {least} to {greatest}{units}, not {given}"
+        );
     }
-    format!(in alloc; "--{name} takes a number from {least} to {greatest}, not `{given}`")
+    format!(in alloc; "--{name} takes a number from {least} to {greatest}{units}, not `{given}`")
 }

@@ -4,3 +4,4 @@ mod TopLaws
 mod SumLaws
 mod CountLaws
 mod HoldingLaws
+mod Units

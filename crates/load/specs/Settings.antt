@@ -1,5 +1,5 @@
 -- The numbers of a load: the name of each, the word for it if none is given, and its range.
-use Rattle.std.specs.Prelude.{◌≡◌, ℕ, Bool, true, ◌&&◌, List, [], ◌∷◌, length, Option, Some, None, codes, nat_le, nat_lt, ◌<◌, ◌^◌, slice_index, slice_index_or, if◌then◌else◌}
+use Rattle.std.specs.Prelude.{◌≡◌, ℕ, Bool, true, ◌&&◌, List, [], ◌∷◌, length, Option, Some, None, codes, nat_le, nat_lt, ◌<◌, ◌^◌, ◌*◌, ◌-◌, ◌==◌, take, slice_index, slice_index_or, if◌then◌else◌}
 use Rattle.std.specs.Char.{digit_value}
 use Rattle.std.specs.List.{list_all}
 use Rattle.std.specs.Str.Parse.{digits_value, without_leading_plus}
@@ -71,6 +71,10 @@ served_settings = Lanes ∷ Sets ∷ Memory ∷ Segments ∷ SegmentPages ∷ En
 abbrev pub layout_settings : List Setting
 layout_settings = Lanes ∷ Sets ∷ Memory ∷ Segments ∷ SegmentPages ∷ Entries ∷ Threshold ∷ Admit ∷ []
 
+-- the settings that the size of a cache determines
+abbrev pub shape_settings : List Setting
+shape_settings = Lanes ∷ Sets ∷ Memory ∷ Segments ∷ SegmentPages ∷ Entries ∷ Shards ∷ []
+
 -- each of the numbers is in the range of the setting at its place
 abbrev pub AreAdmitted : List Setting → List ℕ → Type 0
 AreAdmitted settings numbers = (place : ℕ) → place < length settings → is_admitted (slice_index_or settings place Lanes) (slice_index numbers place) ≡ true
@@ -79,6 +83,21 @@ AreAdmitted settings numbers = (place : ℕ) → place < length settings → is_
 abbrev pub most_bytes : ℕ
 most_bytes = 2 ^ 50
 
--- the bytes that a text gives a size, if it writes a number of them that a size may be
+-- how many bytes a last letter counts for each one before it: K, M and G are units, of 2^10, 2^20 and 2^30 bytes
+abbrev pub unit_of : ℕ → ℕ
+unit_of letter = if letter == 75 then 2 ^ 10 else (if letter == 77 then 2 ^ 20 else (if letter == 71 then 2 ^ 30 else 1))
+
+-- how many bytes each one that a text writes counts for: those of the unit at its end, or one if it has none
+abbrev pub unit_in : List ℕ → ℕ
+unit_in text = unit_of (slice_index text (length text - 1))
+
+-- a text without the unit at its end, if it has one
+abbrev pub without_unit : List ℕ → List ℕ
+without_unit text = if unit_in text == 1 then text else take (length text - 1) text
+
+-- the bytes that a text gives a size, if it writes a number of them that a size may be, with a unit or without
 abbrev pub bytes_in : List ℕ → Option ℕ
-bytes_in text = if is_decimal text && nat_le (value_of_text text) most_bytes then Some (value_of_text text) else None
+bytes_in text =
+    if is_decimal (without_unit text) && nat_le (value_of_text (without_unit text) * unit_in text) most_bytes
+    then Some (value_of_text (without_unit text) * unit_in text)
+    else None

@@ -26,7 +26,7 @@ pub use numbers::{load_with, served_with};
 pub use operations::next_operation;
 pub use serve_load::ServeLoad;
 pub use serve_operation::ServeOperation;
-pub use setting::{SERVE_SETTINGS, SETTINGS, Setting};
+pub use setting::{SERVE_SETTINGS, SETTINGS, SHAPE_SETTINGS, Setting};
 pub use size_setting::SizeSetting;
 pub use system_fault::SystemFault;
 pub use trace_file::FileName;

@@ -159,7 +159,7 @@ const NO_RUNS: [(&[&str], &str); 12] = [
     ),
     (
         &["k", "serve-load", "--size", "1125899906842625"],
-        "error: --size takes a number from 0 to 1125899906842624, not 1125899906842625\n",
+        "error: --size takes a number from 0 to 1125899906842624, or as 512K, 100M or 64G, not 1125899906842625\n",
     ),
     (&["k", "serve-load", "--leases", "-1"], "error: "),
     (&["k", "run", "--trace", "t", "--lanes", ""], "--lanes"),

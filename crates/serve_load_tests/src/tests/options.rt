@@ -1,6 +1,6 @@
 //! The options of a load: what each may be, and the load that they give.
 use command_line::{Line, LineFault, parse_line};
-use load::{SERVE_SETTINGS, ServeLoad, Setting};
+use load::{SERVE_SETTINGS, SETTINGS, SHAPE_SETTINGS, ServeLoad, Setting};
 use std::alloc::{AllocError, Global};
 use std::test::Fail;
 
@@ -129,5 +129,165 @@ fn sizes_are_those_of_their_options(rt: HostRuntime) -> Result<(), Fail> {
     );
     assert!(rt; refuses(alloc, "size", 1125899906842625)?);
     assert!(rt; refuses(alloc, "memory-bytes", 1125899906842625)?);
+    Ok(())
+}
+
+/// A text of a size, and its bytes.
+#[derive(Clone, Copy)]
+struct Units {
+    text: &'static str,
+    bytes: u64,
+}
+
+const UNITS: [Units; 6] = [
+    Units {
+        text: "512K",
+        bytes: 524288,
+    },
+    Units {
+        text: "100M",
+        bytes: 104857600,
+    },
+    Units {
+        text: "64G",
+        bytes: 68719476736,
+    },
+    Units {
+        text: "+1G",
+        bytes: 1073741824,
+    },
+    Units {
+        text: "0K",
+        bytes: 0,
+    },
+    Units {
+        text: "1048576G",
+        bytes: 1125899906842624,
+    },
+];
+
+#[test]
+fn a_size_is_the_bytes_of_its_units(rt: HostRuntime) {
+    let alloc = rt.alloc();
+    for row in &UNITS {
+        let words = ["k", "serve-load", "--size", row.text];
+        assert!(rt; gives_sizes(alloc, &words, Some(row.bytes), None));
+        let words = ["k", "serve-load", "--size=9", "--memory-bytes", row.text];
+        assert!(rt; gives_sizes(alloc, &words, Some(9), Some(row.bytes)));
+    }
+}
+
+/// Texts that are no size: another letter, one alone, one that is not the last, and more bytes than a size may be, or than 64
+/// bits hold.
+const NO_SIZES: [&str; 10] = [
+    "64T",
+    "64g",
+    "64KB",
+    "1K5",
+    "K",
+    "",
+    "1.5G",
+    "64 G",
+    "1048577G",
+    "17179869184G",
+];
+
+/// Whether an option of bytes refuses a text, by its name and with what it takes.
+fn refuses_text(alloc: Global, option: &str, text: &str) -> Result<bool, AllocError> {
+    let line = parse_line(alloc, &["k", "serve-load", option, text]);
+    let told = format!(in alloc;
+        "error: {option} takes a number from 0 to 1125899906842624, or as 512K, 100M or 64G, not `{text}`\n"
+    )?;
+    Ok(is_refused(&line, told.as_str()))
+}
+
+#[test]
+fn a_text_that_is_no_size_is_refused_by_name(rt: HostRuntime) -> Result<(), Fail> {
+    for text in &NO_SIZES {
+        assert!(rt; refuses_text(rt.alloc(), "--size", text)?);
+        assert!(rt; refuses_text(rt.alloc(), "--memory-bytes", text)?);
+    }
+    Ok(())
+}
+
+/// Whether a setting that a size determines is refused with one, also if it is given its default.
+fn is_not_with_size(alloc: Global, setting: Setting) -> Result<bool, AllocError> {
+    let option = format!(in alloc; "--{}", setting.name())?;
+    let told = format!(in alloc;
+        "error: {option} can't be given with --size, which determines it: leave {option} or --size out\n"
+    )?;
+    let words = [
+        "k",
+        "serve-load",
+        "--size",
+        "1M",
+        option.as_str(),
+        setting.default_word(),
+    ];
+    let line = parse_line(alloc, &words);
+    Ok(is_refused(&line, told.as_str()))
+}
+
+#[test]
+fn a_setting_that_a_size_determines_is_refused_with_one(rt: HostRuntime) -> Result<(), Fail> {
+    for setting in &SHAPE_SETTINGS {
+        assert!(rt; is_not_with_size(rt.alloc(), *setting)?);
+    }
+    Ok(())
+}
+
+/// Words of which more than one is wrong, and the option that is refused.
+const ORDER: [(&[&str], &str); 3] = [
+    (
+        &["k", "serve-load", "--size", "x", "--shards=1", "--ttl=x"],
+        "error: --ttl takes ",
+    ),
+    (
+        &["k", "serve-load", "--size", "x", "--shards=1"],
+        "error: --size takes ",
+    ),
+    (
+        &["k", "serve-load", "--size=1", "--shards=1", "--memory=1"],
+        "error: --memory can't be given ",
+    ),
+];
+
+#[test]
+fn numbers_are_refused_first_then_sizes_then_what_a_size_determines(rt: HostRuntime) {
+    for (words, told) in &ORDER {
+        assert!(rt; is_refused(&parse_line(rt.alloc(), words), told));
+    }
+}
+
+#[test]
+fn with_a_size_the_other_settings_may_be_given(rt: HostRuntime) {
+    let words = [
+        "k",
+        "serve-load",
+        "--size=1M",
+        "--threshold=3",
+        "--admit=7",
+        "--leases=5",
+    ];
+    let line = parse_line(rt.alloc(), &words);
+    assert!(rt; gives(&line, Setting::Threshold, 3));
+    assert!(rt; gives(&line, Setting::Admit, 7));
+    assert!(rt; gives(&line, Setting::Leases, 5));
+}
+
+/// Whether the help of a setting ends with its default.
+fn tells_default(alloc: Global, setting: Setting) -> Result<bool, AllocError> {
+    let told = format!(in alloc; " [default: {}]", setting.default_word())?;
+    Ok(setting.meaning().ends_with(told.as_str()))
+}
+
+#[test]
+fn the_help_of_each_setting_ends_with_its_default(rt: HostRuntime) -> Result<(), Fail> {
+    for setting in &SERVE_SETTINGS {
+        assert!(rt; tells_default(rt.alloc(), *setting)?);
+    }
+    for setting in &SETTINGS {
+        assert!(rt; tells_default(rt.alloc(), *setting)?);
+    }
     Ok(())
 }
