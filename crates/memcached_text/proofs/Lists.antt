@@ -1,6 +1,6 @@
 -- Lists that the library's lemmas leave out: a test of some element of a mapped list, and the place that a search gave.
-use Rattle.std.proofs.Common.{◌≡◌, ℕ, ◌<◌, ◌≤◌, ◌||◌, ltb, cond, ◌-◌, not, take, drop, Bool, true, false, List, [], ◌∷◌, ◌++◌, ◌+◌, get_or, length, map, Option, Some, None, refl, sym, ap, ◌∙◌, arith, inl, inr}
-use Rattle.std.specs.List.{list_any, position_or_len, prefix_len, concat}
+use Rattle.std.proofs.Common.{◌≡◌, ℕ, ◌<◌, ◌≤◌, ◌||◌, ltb, cond, ◌-◌, not, take, drop, Bool, false, List, [], ◌∷◌, ◌++◌, ◌+◌, get_or, length, map, Option, Some, None, refl, sym, ap, ◌∙◌, arith, inl, inr}
+use Rattle.std.specs.List.{list_any, position_or_len, concat}
 use Rattle.std.proofs.lemmas.Bool.{cases_Bool}
 use Rattle.std.proofs.lemmas.Grind.{common_steps}
 use Rattle.std.proofs.lemmas.List.{map-append, take_more, length-map, get_or-map}

@@ -1,9 +1,7 @@
 -- How many bytes are left untaken if nothing is whole.
-use Rattle.std.proofs.Common.{◌≡◌, ℕ, suc, ◌+◌, ◌-◌, ◌<◌, ◌≤◌, ◌&&◌, ◌⊎◌, eqb, nat_lt, nat_le, ◌==◌, Bool, true, false, List, [], ◌∷◌, ◌++◌, length, take, drop, Option, Some, None, Result, Ok, Err, refl, sym, ap, ◌∙◌, arith, inl, inr, append-nil}
+use Rattle.std.proofs.Common.{◌≡◌, ℕ, ◌+◌, ◌-◌, ◌<◌, ◌≤◌, ◌&&◌, ◌⊎◌, eqb, nat_lt, nat_le, ◌==◌, Bool, true, false, List, [], ◌∷◌, length, take, drop, Option, Some, None, Result, Ok, Err, refl, sym, ap, ◌∙◌, arith, inl, inr, append-nil}
 use Rattle.std.specs.Prelude.{position, slice_index_or}
 use Rattle.std.proofs.lemmas.Bool.{cases_Bool}
-use Rattle.std.proofs.lemmas.Bool.Decides.{nat_tests}
-use Rattle.std.proofs.lemmas.Grind.{common_steps}
 use Rattle.std.proofs.lemmas.List.{length-drop}
 use borrow.Author.Tests.{ltb-true, ltb-false}
 use Rattle.memcached_text.specs.declared.exptime.Exptime.{Exptime}
@@ -14,8 +12,8 @@ use Rattle.memcached_text.specs.declared.verb.MetaCommand.{MetaCommand}
 use Rattle.memcached_text.specs.declared.verb.MetaCommand.TheVariants as metas
 use Rattle.memcached_text.specs.Asked.{Asked, AskGet, AskGetAndTouch, AskStore, AskDelete, AskDelta, AskTouch, AskFlushAll, AskStats, AskVersion, AskVerbosity, AskQuit, AskShutdown, AskMetaNoop, AskMeta}
 use Rattle.memcached_text.specs.Requests.{request_of}
-use Rattle.memcached_text.specs.Steps.{Outcome, Passing, Told, TellMore, is_more, is_feed, is_end, without_return, block_step, meta_step, whole_step, long_step, line_by, line_step, last_key, key_or, key_by, key_step, passing, pass_line, decided, step_of}
-use Rattle.memcached_text.proofs.StepLaws.{le_true, not_empty, place_some, front_few, passed_at, settled, passing_within}
+use Rattle.memcached_text.specs.Steps.{Outcome, TellMore, is_more, is_feed, is_end, without_return, block_step, meta_step, whole_step, long_step, line_by, line_step, key_by, key_step, passing, pass_line, decided, step_of}
+use Rattle.memcached_text.proofs.StepLaws.{le_true, not_empty, place_some, front_few, passed_at, settled}
 use Rattle.memcached_text.proofs.StepProgress.{something, long_gives, key_or_gives, last_key_gives}
 
 block_few : (most past : ℕ) (asked : Asked) (len : ℕ) (noreply : Bool) (rest : List ℕ) → is_more (block_step most past asked len noreply rest).told ≡ true → length rest ≤ most + 1

@@ -1,11 +1,11 @@
 -- A step that was whole stays the same, whatever follows it, and the events of a stream are the same however it is cut.
-use Rattle.std.proofs.Common.{◌≡◌, ℕ, zero, suc, ◌+◌, ◌-◌, ◌<◌, ◌≤◌, ◌&&◌, ◌||◌, not, ltb, eqb, nat_lt, nat_le, ◌==◌, cond, Bool, true, false, List, [], ◌∷◌, ◌++◌, length, take, drop, get_or, Option, Some, None, Result, Ok, Err, refl, sym, ap, ◌∙◌, arith, inl, inr, lit<, zero-add, add-zero, add_assoc}
-use Rattle.std.specs.Prelude.{position, slice_index_or, option_map}
+use Rattle.std.proofs.Common.{◌≡◌, ℕ, zero, suc, ◌+◌, ◌-◌, ◌<◌, ◌≤◌, not, eqb, nat_lt, nat_le, ◌==◌, Bool, true, false, List, [], ◌∷◌, ◌++◌, length, take, drop, Option, Some, None, Result, Ok, Err, refl, sym, ap, ◌∙◌, arith, inl, inr, zero-add, add-zero, add_assoc}
+use Rattle.std.specs.Prelude.{position}
 use Rattle.std.specs.List.{position_or_len, prefix_len}
 use Rattle.std.proofs.lemmas.Bool.{cases_Bool}
 use Rattle.std.proofs.lemmas.Bool.Decides.{nat_tests}
 use Rattle.std.proofs.lemmas.Grind.{common_steps}
-use Rattle.std.proofs.lemmas.List.{take-append-le, drop-append-le, get_or_append_left, length-append, length-drop, drop-drop}
+use Rattle.std.proofs.lemmas.List.{take-append-le, drop-append-le, get_or_append_left, length-append, drop-drop}
 use Rattle.std.proofs.lemmas.List.Folds.{prefix_len-append}
 use Rattle.std.proofs.lemmas.List.Sums.{prefix_len-le-length}
 use borrow.Author.Tests.{lt-ltb, ltb-true, ltb-false}
@@ -17,8 +17,7 @@ use Rattle.memcached_text.specs.declared.verb.MetaCommand.{MetaCommand}
 use Rattle.memcached_text.specs.declared.verb.MetaCommand.TheVariants as metas
 use Rattle.memcached_text.specs.Asked.{Asked, AskGet, AskGetAndTouch, AskStore, AskDelete, AskDelta, AskTouch, AskFlushAll, AskStats, AskVersion, AskVerbosity, AskQuit, AskShutdown, AskMetaNoop, AskMeta}
 use Rattle.memcached_text.specs.Requests.{request_of}
-use Rattle.memcached_text.specs.Words.{after_word, after_spaces, from_space, is_key}
-use Rattle.memcached_text.specs.Steps.{Outcome, outcome, Passing, Told, TellMore, is_more, is_feed, is_end, without_return, block_step, meta_step, asked_step, whole_step, long_step, line_by, line_step, last_key, key_or, key_by, key_step, passing, pass_line, decided, step_of, shifted, after_passing, given_list, events_in, events_of}
+use Rattle.memcached_text.specs.Steps.{outcome, Passing, TellMore, is_more, is_feed, is_end, without_return, block_step, meta_step, asked_step, whole_step, line_by, line_step, key_by, key_step, passing, pass_line, decided, step_of, shifted, after_passing}
 
 -- tests of numbers
 pub le_true : {a b : ℕ} → nat_le a b ≡ true → a ≤ b

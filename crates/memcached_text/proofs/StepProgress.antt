@@ -1,7 +1,7 @@
 -- A step that gives something takes a byte or more; one that gives nothing takes none but those that are passed over.
-use Rattle.std.proofs.Common.{◌≡◌, ℕ, zero, suc, ◌+◌, ◌-◌, ◌<◌, ◌≤◌, ◌&&◌, ◌||◌, not, eqb, nat_lt, nat_le, ◌==◌, Bool, true, false, List, [], ◌∷◌, length, take, drop, Option, Some, None, Result, Ok, Err, refl, sym, ap, ◌∙◌, arith, inl, inr, lit<, lit≤}
+use Rattle.std.proofs.Common.{◌≡◌, ℕ, ◌+◌, ◌-◌, ◌<◌, ◌≤◌, ◌&&◌, not, eqb, nat_lt, nat_le, ◌==◌, Bool, true, false, List, [], ◌∷◌, length, take, drop, Option, Some, None, Result, Ok, Err, refl, sym, ◌∙◌, arith, inl, inr, lit<, lit≤}
 use Rattle.std.specs.Prelude.{position, slice_index_or}
-use Rattle.std.specs.List.{position_or_len, prefix_len}
+use Rattle.std.specs.List.{position_or_len}
 use Rattle.std.proofs.lemmas.Bool.{cases_Bool}
 use Rattle.std.proofs.lemmas.Bool.Decides.{nat_tests}
 use Rattle.std.proofs.lemmas.Grind.{common_steps}
@@ -16,7 +16,7 @@ use Rattle.memcached_text.specs.Asked.{Asked, AskGet, AskGetAndTouch, AskStore, 
 use Rattle.memcached_text.specs.Requests.{request_of}
 use Rattle.memcached_text.specs.Verbs.{verb_of}
 use Rattle.memcached_text.specs.Words.{after_word, after_spaces, from_space, is_key}
-use Rattle.memcached_text.specs.Steps.{Outcome, outcome, nothing, Told, TellMore, is_more, is_feed, is_end, without_return, block_step, meta_step, asked_step, whole_step, long_step, line_by, line_step, last_key, key_or, key_by, key_step, decided}
+use Rattle.memcached_text.specs.Steps.{Outcome, nothing, is_more, is_feed, is_end, without_return, block_step, meta_step, asked_step, whole_step, long_step, line_by, line_step, last_key, key_or, key_by, key_step, decided}
 use Rattle.memcached_text.proofs.StepLaws.{not_empty, nothing_given, le_false_lt}
 
 -- what is left after a word is shorter

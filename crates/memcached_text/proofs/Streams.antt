@@ -1,9 +1,9 @@
 -- The events of a stream are the same however it is cut.
-use Rattle.std.proofs.Common.{◌≡◌, ℕ, zero, suc, ◌+◌, ◌-◌, ◌<◌, ◌≤◌, Bool, true, false, cond, List, [], ◌∷◌, ◌++◌, length, take, drop, refl, sym, ap, ◌∙◌, arith, inl, inr, add-zero}
+use Rattle.std.proofs.Common.{◌≡◌, ℕ, zero, suc, ◌+◌, ◌<◌, ◌≤◌, true, false, cond, List, [], ◌∷◌, ◌++◌, length, drop, refl, sym, ap, ◌∙◌, arith, inl, inr, add-zero}
 use Rattle.std.proofs.lemmas.Bool.{cases_Bool}
 use Rattle.std.proofs.lemmas.List.{length-append, length-drop, drop-drop, drop-append-le}
 use Rattle.memcached_text.specs.declared.reader_state.ReaderState.{ReaderState}
-use Rattle.memcached_text.specs.Steps.{Outcome, Passing, outcome, nothing, Told, is_more, passing, decided, step_of, shifted, given_list, events_in, events_of}
+use Rattle.memcached_text.specs.Steps.{Outcome, Passing, Told, is_more, passing, decided, step_of, shifted, given_list, events_in, events_of}
 use Rattle.memcached_text.proofs.StepLaws.{passing_within, step_shift, step_kept, some_given}
 use Rattle.memcached_text.proofs.StepProgress.{decided_takes, decided_stays}
 

@@ -1,9 +1,8 @@
 -- The bytes of answers.
-use Rattle.std.specs.Prelude.{ℕ, Bool, true, false, List, [], ◌∷◌, ◌++◌, length, map, ◌==◌, if◌then◌else◌, Option, Some, None, codes, decimal}
+use Rattle.std.specs.Prelude.{ℕ, Bool, true, false, List, [], ◌∷◌, length, map, ◌==◌, if◌then◌else◌, Option, Some, None, codes, decimal}
 use Rattle.std.specs.List.{concat}
 use Rattle.memcached_text.specs.declared.text_answer.TextAnswer.{TextAnswer}
 use Rattle.memcached_text.specs.declared.text_answer.TextAnswer.TheVariants as answers
-use Rattle.memcached_text.specs.declared.text_answer.ValueFound.{ValueFound}
 use Rattle.memcached_text.specs.declared.meta_answer.MetaAnswer.{MetaAnswer}
 use Rattle.memcached_text.specs.declared.meta_answer.MetaFields.{MetaFields}
 use Rattle.memcached_text.specs.declared.meta_answer.MetaMarks.{MetaMarks}

@@ -1,5 +1,5 @@
 -- The steps of a reader of requests: what the bytes give that were fed, and how many are taken.
-use Rattle.std.specs.Prelude.{ℕ, zero, suc, ◌+◌, ◌-◌, Bool, true, false, ◌&&◌, ◌||◌, not, List, [], ◌∷◌, ◌++◌, length, take, drop, ◌==◌, nat_le, nat_lt, if◌then◌else◌, Option, Some, None, Result, Ok, Err, slice_index_or, position}
+use Rattle.std.specs.Prelude.{ℕ, zero, suc, ◌+◌, ◌-◌, Bool, true, false, ◌&&◌, ◌||◌, not, List, [], ◌∷◌, length, take, drop, ◌==◌, nat_le, nat_lt, if◌then◌else◌, Option, Some, None, Result, Ok, Err, slice_index_or, position}
 use Rattle.std.specs.List.{position_or_len}
 use Rattle.memcached_text.specs.declared.stream_event.StreamEvent.{StreamEvent}
 use Rattle.memcached_text.specs.declared.stream_event.StreamEvent.TheVariants as events

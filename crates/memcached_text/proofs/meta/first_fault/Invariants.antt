@@ -1,4 +1,4 @@
-use Rattle.std.proofs.Common.{◌≡◌, List, [], ℕ, Bor, map, take, drop}
+use Rattle.std.proofs.Common.{◌≡◌, [], map, take, drop}
 use Rattle.memcached_text.specs.Meta.{first_fault}
 use Rattle.memcached_text.proofs.meta.first_fault.Given as goal
 

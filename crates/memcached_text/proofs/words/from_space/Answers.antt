@@ -1,4 +1,4 @@
-use Rattle.std.proofs.Common.{◌==◌, not, rules, tests}
+use Rattle.std.proofs.Common.{◌==◌, rules, tests}
 use Rattle.std.proofs.lemmas.Iterator.{YieldsList-from_slice}
 use Rattle.std.proofs.lemmas.Iterator.Search.{position_from_yields_List}
 use Rattle.memcached_text.proofs.Lists.{dropped_some, dropped_none}

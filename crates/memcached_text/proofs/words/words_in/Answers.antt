@@ -1,9 +1,9 @@
 -- The words are the first 24 of the parts between spaces that have bytes; there is always room for them.
-use Rattle.std.proofs.Common.{◌≡◌, ◌<◌, ◌≤◌, ◌==◌, not, List, ℕ, Bor, map, length, take, sym, rules, tests, arith}
+use Rattle.std.proofs.Common.{◌==◌, not, length, rules, tests, arith}
 use Rattle.std.proofs.lemmas.Iterator.{YieldsList-from_take}
 use Rattle.std.proofs.lemmas.Iterator.Splits.{YieldsList-from_slice_split}
 use Rattle.std.proofs.lemmas.Iterator.Consumers.{YieldsList-from_filter, YieldsList-at}
-use Rattle.memcached_text.specs.Words.{words_of, parts_of}
+use Rattle.memcached_text.specs.Words.{parts_of}
 use Rattle.memcached_text.proofs.Taken.{all_taken, more_left}
 use Rattle.memcached_text.proofs.Lists.{few_taken}
 use Rattle.memcached_text.proofs.words.words_in.Goals as goal
