@@ -54,7 +54,7 @@ speed() {
     for threads in 1 2 4; do
         for keys in uniform zipf:0.9; do
             cache "in-memory-${keys%%:*}-$threads" --flash 256M --memory 64M --keys 100K --distribution "$keys" \
-                --cache-threads 4 --threads "$threads" --warmup 2M --seconds 8
+                --cache-threads 4 --threads "$threads" --warmup 1M --seconds 4
         done
         cache "on-flash-$threads" --flash 256M --memory 24M --keys 8M --distribution zipf:0.9 --sizes uniform:50:150 \
             --cache-threads 4 --threads "$threads" --warmup 12M --seconds 8
@@ -94,11 +94,10 @@ plots() {
     draw hit-ratio-over-time hit-ratio-over-time.svg over-time.csv
     draw hit-ratio-by-memory hit-ratio-by-memory.svg memory-*.json rivals-*M.json
     draw write-amplification write-amplification.svg threshold-*.json admit-*.json memory-24M.json
-    draw latency latency.svg "in memory, 4 threads"=in-memory-zipf-4.json "8 million keys, 4 threads"=on-flash-4.json
-    draw throughput throughput.svg "in memory, alike"=in-memory-uniform-1.json "in memory, alike"=in-memory-uniform-2.json \
-        "in memory, alike"=in-memory-uniform-4.json "in memory, Zipf"=in-memory-zipf-1.json "in memory, Zipf"=in-memory-zipf-2.json \
-        "in memory, Zipf"=in-memory-zipf-4.json "8 million keys, Zipf"=on-flash-1.json "8 million keys, Zipf"=on-flash-2.json \
-        "8 million keys, Zipf"=on-flash-4.json
+    draw latency latency.svg "one thread"=in-memory-zipf-1.json "two threads"=in-memory-zipf-2.json "four threads"=in-memory-zipf-4.json
+    draw throughput throughput.svg "drawn alike"=in-memory-uniform-1.json "drawn alike"=in-memory-uniform-2.json \
+        "drawn alike"=in-memory-uniform-4.json "by Zipf (0.9)"=in-memory-zipf-1.json "by Zipf (0.9)"=in-memory-zipf-2.json \
+        "by Zipf (0.9)"=in-memory-zipf-4.json
 }
 
 case $part in
