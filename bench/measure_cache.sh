@@ -71,9 +71,9 @@ start_server() {
 }
 
 server() {
-    load="--keys 10M --distribution zipf:0.99 --sizes fixed:100 --warmup 12M --operations 6M --threads 4"
+    load="--keys 10M --distribution zipf:0.99 --sizes fixed:100 --warmup 10M --operations 4M --threads 4"
     cache beside-server $load --flash 1G --memory 64M
-    start_server 1024
+    start_server 64
     cache_of_server memcached $load
     start_server 64 -o "ext_path=$folder/extstore:1G,ext_item_size=64"
     cache_of_server extstore $load
