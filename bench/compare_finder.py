@@ -1,12 +1,14 @@
 #!/usr/bin/env python3
-"""Compares the finder with a search over all orders, on random histories of up to eight calls. No part of the gate.
+"""Compares the finder with a search over all orders, on random histories of few calls. No part of the gate.
 
 usage: compare_finder.py HISTORIES SEED > calls     writes a history a line, a call six numbers: what it does (0 put, 1 remove,
                                                     2 hit, 3 miss), key, start, end, value, expiry or moment
+       compare_finder.py right HISTORIES SEED > calls     writes histories of two to five keys that have an order
        compare_finder.py calls answers              compares what compare_finder.rattle said of them, line by line
 
 A certificate must be an order that the definition of an accepted one allows, a rejected history must have no such order,
-and the hits of an undecided one must be just those for which nothing may be decided.
+and the hits of an undecided one must be just those for which nothing may be decided. The search goes over the orders of all
+calls, of up to eight; of more calls over the orders of each key.
 """
 import random
 import sys
@@ -65,6 +67,18 @@ def made(chance):
     return history
 
 
+def right(chance):
+    """A random history of several keys, each with a random history of one key that has an order."""
+    history = []
+    for key in range(1, chance.randint(2, 5) + 1):
+        of_key = repeated(chance)
+        while not some_order(of_key):
+            of_key = repeated(chance)
+        history += [(act, key, *rest) for act, _, *rest in of_key]
+    chance.shuffle(history)
+    return history
+
+
 def live(expires, moment):
     return moment < expires or expires == NEVER
 
@@ -110,6 +124,14 @@ def some_order(history, done=(), state={}):
     return not left
 
 
+def has_order(history):
+    """Whether some order of the calls is one that the definition accepts: of many calls, some order of those of each key."""
+    if len(history) <= 8:
+        return some_order(history)
+    keys = {call[KEY] for call in history}
+    return all(some_order([call for call in history if call[KEY] == key]) for key in keys)
+
+
 def doubtful(history):
     """The hits for which nothing may be decided: each can have read several puts."""
     hits = []
@@ -130,16 +152,18 @@ def compare(history, answer):
         return words[0] == "true" and allowed(history, [int(word) for word in words[1:]])
     if kind == "undecided":
         return words != [] and [int(word) for word in words] == doubtful(history)
-    return not some_order(history)
+    return not has_order(history)
 
 
 def main():
-    if sys.argv[1].isdigit():
-        chance = random.Random(int(sys.argv[2]))
-        for _ in range(int(sys.argv[1])):
-            print(*(word for call in made(chance) for word in call))
+    make = right if sys.argv[1] == "right" else made
+    numbers = sys.argv[2:] if make is right else sys.argv[1:]
+    if numbers[0].isdigit():
+        chance = random.Random(int(numbers[1]))
+        for _ in range(int(numbers[0])):
+            print(*(word for call in make(chance) for word in call))
         return 0
-    counts, wrong, fits, right = {}, 0, 0, 0
+    counts, wrong, fits, has = {}, 0, 0, 0
     with open(sys.argv[1]) as calls, open(sys.argv[2]) as answers:
         for line, answer in zip(calls, answers, strict=True):
             words = [int(word) for word in line.split()]
@@ -147,12 +171,12 @@ def main():
             said = answer.split()
             counts[said[0]] = counts.get(said[0], 0) + 1
             fits += said[0] in ("accepted", "undecided") and doubtful(history) != []
-            right += said[0] == "undecided" and some_order(history)
+            has += said[0] == "undecided" and has_order(history)
             if not compare(history, said):
                 wrong += 1
                 print("differs:", history, answer.strip())
     print(sum(counts.values()), "histories:", counts, "wrong:", wrong)
-    print("with hits that several puts fit, none rejected:", fits, "undecided though there is an order:", right)
+    print("with hits that several puts fit, none rejected:", fits, "undecided though there is an order:", has)
     return wrong != 0
 
 

@@ -4,14 +4,15 @@
 # PART   quality   hit ratio, bytes written to flash and memory, beside two simulated designs: some 20 runs of 20 million calls;
 #                  they need no idle machine
 #        speed     calls a second and latencies at 1, 2 and 4 threads: needs an idle machine with four processors
-#        server    the same stream to memcached, with and without extstore, which must be installed: needs an idle machine
+#        server    the same stream to kangarood, and to memcached with and without extstore, which must be installed: needs an idle
+#                  machine
 #        plots     draws five pictures from what the other parts left in OUT
-# FOLDER has room for files of up to 1 GiB; the programs are those of `make -C c kangaroo-bench`.
+# FOLDER has room for files of up to 1 GiB, in which another user may write; the programs are those of `make -C c kangaroo-bench server`.
 set -e
 part=$1
 folder=$2
 out=$3
-[ -n "$out" ] || { sed -n '2,9s/^# \{0,1\}//p' "$0" >&2; exit 2; }
+[ -n "$out" ] || { sed -n '2,10s/^# \{0,1\}//p' "$0" >&2; exit 2; }
 here=$(CDPATH= cd -P "$(dirname "$0")" && pwd)
 programs=$here/../c/out
 mkdir -p "$folder/cache" "$out"
@@ -61,31 +62,39 @@ speed() {
     done
 }
 
-# MEMORY WORD..: starts memcached with so many MiB.
+# PROGRAM WORD..: starts a server, by options that memcached and kangarood both have.
 start_server() {
-    memory=$1
+    program=$1
     shift
-    memcached -u nobody -m "$memory" -t 4 -c 64 -s "$folder/memcached" -a 0777 "$@" &
+    "$program" -u nobody -t 4 -c 64 -s "$folder/server" -a 0777 -m 64 "$@" &
     server=$!
-    sleep 1
+    sleep 2
+}
+
+# NAME WORD..: a run of the server, with 16 requests in flight on each of four connections, then with one.
+of_server() {
+    name=$1
+    shift
+    for flight in 16 1; do
+        echo "$name, $flight in flight" >&2
+        [ "$flight" -eq 16 ] && part="--warmup 10M --operations 4M" || part="--operations 2M"
+        "$programs/kangaroo-bench" --memcached "$folder/server" --pipeline "$flight" --server-process "$server" --json \
+            $load $part >"$out/$name-$flight.json" || echo "$name: status $?" >&2
+    done
+    kill "$server"
+    wait "$server" || true
 }
 
 server() {
-    load="--keys 10M --distribution zipf:0.99 --sizes fixed:100 --warmup 10M --operations 4M --threads 4"
-    cache beside-server $load --flash 1G --memory 64M
-    start_server 64
-    cache_of_server memcached $load
-    start_server 64 -o "ext_path=$folder/extstore:1G,ext_item_size=64"
-    cache_of_server extstore $load
-}
-
-cache_of_server() {
-    name=$1
-    shift
-    echo "$name" >&2
-    "$programs/kangaroo-bench" --memcached "$folder/memcached" --pipeline 16 --server-process "$server" --json "$@" >"$out/$name.json" || echo "$name: status $?" >&2
-    kill "$server"
-    wait "$server" || true
+    load="--keys 10M --distribution zipf:0.99 --sizes fixed:100 --threads 4"
+    cache beside-server $load --warmup 10M --operations 4M --flash 1G --memory 64M
+    rm -rf "$folder/cache" && mkdir "$folder/cache" && chmod 0777 "$folder/cache"
+    start_server "$programs/kangarood" --folder="$folder/cache" --flash=1G --sparse
+    of_server kangarood
+    start_server memcached
+    of_server memcached
+    start_server memcached -o "ext_path=$folder/extstore:1G,ext_item_size=64"
+    of_server extstore
 }
 
 plots() {
@@ -104,4 +113,4 @@ case $part in
     quality | speed | server | plots) "$part" ;;
     *) echo "measure_cache.sh: $part is no part: quality, speed, server or plots" >&2; exit 2 ;;
 esac
-rm -rf "$folder/cache" "$folder/memcached" "$folder/extstore"
+rm -rf "$folder/cache" "$folder/server" "$folder/extstore"

@@ -23,6 +23,7 @@
  *   kangaroo_check            checks a recorded history with its certificate
  *   kangaroo_strerror         a text for a status
  *   kangaroo_version          the version of the library that runs
+ *   kangaroo_build            the same as text, with commit, toolchain, and whether the lanes are proved
  *
  * CONVENTIONS
  *
@@ -145,6 +146,11 @@ KANGAROO_API const char *kangaroo_strerror(kangaroo_status status);
 /* The version of the library that runs, as KANGAROO_VERSION is that of the header. Same major: what was compiled with
  * an older header runs. */
 KANGAROO_API uint32_t kangaroo_version(void);
+
+/* What the library that runs was built from: its version, and in parentheses the commit of its sources, the toolchain,
+ * and whether its lanes are proved. An example is "1.0.0 (0123456789ab, rattle-kit-13f logic dac8208d650f15bf, proved)".
+ * A plus sign after the commit: there were changes that were not committed. One static line, never NULL. */
+KANGAROO_API const char *kangaroo_build(void);
 
 /* ------------------------------------------------------------------------------------------------ options and sizes */
 
@@ -426,8 +432,8 @@ KANGAROO_API const char *kangaroo_counter_name(size_t index);
 /* ------------------------------------------------------------------------------------------------- check of a trace */
 
 /* Checks a recorded history of calls with its certificate, of this cache or of another, as `kangaroo check` does. In
- * the certificate's order, did each hit read the right value? docs/FORMATS.md has the bytes of a trace, docs/JUDGING.md
- * says how to record one. It needs no open cache and touches none.
+ * the certificate's order, did each hit read the right value? docs/TRACES.md has the bytes of a trace, and says how to
+ * record one. It needs no open cache and touches none.
  *
  * `line` gets the verdict's line without line feed and with a NUL, for instance "accepted 3 calls"; at refusals the
  * empty string. It may be NULL if line_size is 0; otherwise line_size is at least KANGAROO_LINE_BYTES. Never blocks.

@@ -2,6 +2,7 @@
  * stops the compiler. The numbers are written by hand, from the Rattle source that stands above them. There a u32 has 4
  * bytes, and a u64, a usize or a pointer 8. Each field lies at the next multiple of its size. The file has no code. */
 #include "inside.h"
+#include "session.h"
 
 /* Where a field lies, and how many bytes it has. */
 #define FIELD(type, field, at, bytes) \
@@ -78,3 +79,32 @@ _Static_assert(offsetof(kangaroo_counters, short_buffers) == sizeof(kl_counters)
 /* What a key's length, a value's length and an answer are: usize and i32 in the exports of kangaroo_c. */
 _Static_assert(sizeof(size_t) == 8 && sizeof(int32_t) == 4, "lengths and statuses");
 _Static_assert(sizeof(kangaroo_status) == sizeof(int32_t), "a status is what an export answers");
+
+/* Session, memcached_session/src/session.rt */
+FIELD(ks_session, skipped, 0, 8);
+FIELD(ks_session, place, 8, 4);
+FIELD(ks_session, expiry, 12, 4);
+FIELD(ks_session, seconds, 16, 4);
+FIELD(ks_session, with_cas, 20, 4);
+WHOLE(ks_session, 24, 8);
+
+/* SessionTurn, memcached_session/src/turn.rt */
+FIELD(ks_turn, moment, 0, 8);
+FIELD(ks_turn, flushed, 8, 8);
+FIELD(ks_turn, cas, 16, 8);
+FIELD(ks_turn, refuses, 24, 4);
+FIELD(ks_turn, reserved, 28, 4);
+WHOLE(ks_turn, 32, 8);
+
+/* SessionDone, memcached_session/src/done.rt */
+FIELD(ks_done, taken, 0, 8);
+FIELD(ks_done, answered, 8, 8);
+FIELD(ks_done, command, 16, 4);
+FIELD(ks_done, outcome, 20, 4);
+WHOLE(ks_done, 24, 8);
+
+/* SessionWanted, c_lane/src/session_want.rt */
+FIELD(ks_wanted, wants, 0, 4);
+FIELD(ks_wanted, argument, 4, 4);
+FIELD(ks_wanted, place, 8, 8);
+WHOLE(ks_wanted, 16, 4);

@@ -1,4 +1,5 @@
 /* Names of statuses and counters, and the version. */
+#include "build_line.h" /* the makefile makes it */
 #include "inside.h"
 
 static const char *answer_text(kangaroo_status status) {
@@ -36,6 +37,10 @@ const char *kangaroo_strerror(kangaroo_status status) {
 
 uint32_t kangaroo_version(void) {
     return KANGAROO_VERSION;
+}
+
+const char *kangaroo_build(void) {
+    return KANGAROO_BUILD;
 }
 
 /* The counters in their order: first those that a lane counts, in the order of counters_with in

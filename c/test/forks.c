@@ -1,6 +1,13 @@
 /* A forked child is told so by each call on its parent's cache, and does the parent no harm. */
 #include "test.h"
 #include <sys/wait.h>
+#include <time.h>
+
+/* Lets a cache's own thread come to rest before a fork. AddressSanitizer releases no lock of its allocator in a child, so a thread that
+ * allocates while the process forks would stop the child for ever. */
+static void let_threads_rest(void) {
+    nanosleep(&(struct timespec){.tv_nsec = 200000000}, NULL);
+}
 
 /* Each call on the parent's cache, in the child. Its status is how many were not FORKED. */
 static int count_others(kangaroo_cache *cache) {
@@ -28,6 +35,7 @@ static int try_own(const char *folder) {
     kangaroo_cache *own = open_small(folder);
     int status = 0;
     put_text(own, "own", "value");
+    let_threads_rest();
     pid_t child = fork();
     if (child == 0) _exit(count_others(own));
     int others = waitpid(child, &status, 0) == child ? WEXITSTATUS(status) : 1;
@@ -41,6 +49,7 @@ int main(void) {
     make_folder(other);
     kangaroo_cache *cache = open_small(folder);
     put_text(cache, "a", "apple");
+    let_threads_rest();
     pid_t child = fork();
     if (child == 0) _exit(count_others(cache) + try_own(other));
     expect(waitpid(child, &status, 0) == child && WIFEXITED(status), "a child");

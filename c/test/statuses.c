@@ -120,7 +120,12 @@ static void shows_texts(void) {
         expect(strlen(kangaroo_strerror((kangaroo_status)i)) > 3, "a text for each number");
     expect(strcmp(kangaroo_strerror(KANGAROO_OK), kangaroo_strerror(KANGAROO_STALE)) != 0, "texts differ");
     expect(kangaroo_version() == KANGAROO_VERSION, "the version");
-    show("each status has a text, and the version is the header's");
+    char version[32];
+    int length = snprintf(version, sizeof version, "%d.%d.%d (", KANGAROO_VERSION_MAJOR, KANGAROO_VERSION_MINOR,
+                          KANGAROO_VERSION_PATCH);
+    expect(strncmp(kangaroo_build(), version, (size_t)length) == 0, "the line of the build begins with the version");
+    expect(strstr(kangaroo_build(), "proved)") != NULL, "the line of the build says whether the lanes are proved");
+    show("each status has a text, and the version is the header's: %s", kangaroo_build());
 }
 
 int main(void) {

@@ -3,3 +3,4 @@ mod Getting
 mod Putting
 mod Tending
 mod Opening
+mod Sessions

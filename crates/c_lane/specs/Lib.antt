@@ -10,3 +10,4 @@ pub mod Putting
 pub mod Tending
 pub mod Counting
 pub mod Judging
+pub mod Sessions

@@ -15,6 +15,7 @@ use std::marker::Model;
 
 mod get;
 mod put;
+mod session;
 mod tend;
 
 /// A lane of a cache, with the generator of its words of admission.

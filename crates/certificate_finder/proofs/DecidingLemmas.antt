@@ -8,8 +8,8 @@ use Rattle.certificate_finder.specs.declared.numbered_call.NumberedCall.{Numbere
 use Rattle.certificate_finder.specs.declared.put.Put.{Put}
 use Rattle.certificate_finder.specs.declared.ranked.Ranked.{Ranked}
 use Rattle.certificate_finder.specs.declared.rule.Rule.{Rule}
-use Rattle.certificate_finder.specs.Choosing.{ChoosesBy, all_rules}
-use Rattle.certificate_finder.specs.Deciding.{FailsBy, IsReady, MakesAccepted, NoneGives}
+use Rattle.certificate_finder.specs.Choosing.{ChoosesBy}
+use Rattle.certificate_finder.specs.Deciding.{FailAtSome, IsReady, MakesAccepted, NoneGives}
 use Rattle.certificate_finder.specs.Lining.{positions_in}
 use Rattle.certificate_finder.specs.Offering.{HitsInTurn, GoesByItself, ReadsIn, times_in}
 use Rattle.certificate_finder.specs.Owning.{AreOwners, IsUnsure, ReadsLive}
@@ -54,7 +54,7 @@ module _ (steps : List NumberedCall) (owners : List ℕ) (puts : List Put) (link
     ];
   }
 
--- if no rule gives a certificate, none gives one
-pub none_gives : (steps : List NumberedCall) (owners unsure : List ℕ) (hits : List Ranked) → HitsInTurn steps unsure hits → (found : Option (List ℕ)) → MatchOption found (All (FailsBy steps owners (positions_in hits)) all_rules) (MakesAccepted steps) → MatchOption found (NoneGives steps owners unsure) (MakesAccepted steps)
+-- if each rule fails at a key of hits in turn, none gives a certificate for it
+pub none_gives : (steps : List NumberedCall) (owners unsure : List ℕ) (hits : List Ranked) → HitsInTurn steps unsure hits → (found : Option (List ℕ)) → MatchOption found (FailAtSome steps owners (positions_in hits)) (MakesAccepted steps) → MatchOption found (NoneGives steps owners unsure) (MakesAccepted steps)
 none_gives steps owners unsure hits turned None fail = record { hits = hits; turned = turned; fail = fail }
 none_gives steps owners unsure hits turned (Some certificate) makes = makes

@@ -31,4 +31,5 @@ mod OfferLemmas
 mod ChoosingLemmas
 mod InTurnLemmas
 mod DecidingLemmas
+mod MixLemmas
 mod TryingLemmas

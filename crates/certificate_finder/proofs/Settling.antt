@@ -19,13 +19,12 @@ use Rattle.certificate_finder.specs.declared.witness.Side.{Side}
 use Rattle.certificate_finder.specs.declared.witness.Witness.{Witness}
 use Rattle.certificate_finder.specs.declared.witness.Witness.TheVariants as witnesses
 use Rattle.certificate_finder.specs.declared.zone.Zone.{Zone}
-use Rattle.certificate_finder.specs.Choosing.{all_rules}
 use Rattle.certificate_finder.specs.Finding.{AreUndecided, IsOfListed}
 use Rattle.certificate_finder.specs.Lists.{IsTold}
 use Rattle.certificate_finder.specs.Owning.{AreSureOwners, IsUnsure}
 use Rattle.certificate_finder.specs.Reads.{CouldRead, HasBegun, HasSeveral, LivesFor, StandsBetween}
 use Rattle.certificate_finder.specs.Steps.{AreSteps, IsWriting, kind_of}
-use Rattle.certificate_finder.specs.Trying.{GivesNone}
+use Rattle.certificate_finder.specs.Trying.{HasStuckKey}
 use Rattle.certificate_finder.specs.Witnesses.{AreCrossed, GoesWith, IsExcluded, IsSide, IsWitness, ReadsNone}
 use Rattle.certificate_finder.specs.Zones.{AreZones, FollowOn, Goes, TellsZone}
 use Rattle.certificate_finder.proofs.EndLemmas.{found_at}
@@ -173,7 +172,7 @@ module _ (history : List Call) (steps : List NumberedCall) (are : AreSteps histo
 
     -- ---- nothing was decided
 
-    pub undecided : All (λ call. call.start ≤ call.end) history → unsure ≢ [] → All (GivesNone history) all_rules → AreUndecided history unsure
+    pub undecided : All (λ call. call.start ≤ call.end) history → unsure ≢ [] → HasStuckKey history → AreUndecided history unsure
     undecided intervals some none = record {
       some = some;
       each = All-weaker (IsUnsure steps) (HasSeveral history) (λ h is. has_several history steps are h is) unsure own.are_unsure;

@@ -1,6 +1,6 @@
--- That no rule gives a certificate, of calls in numbers and of their history.
+-- That no rule gives a certificate for a key, of calls in numbers and of their history.
 use Rattle.std.proofs.Common.{◌≡◌, ℕ, ◌<◌, ◌≤◌, zero, suc, Some, None, List, [], ◌∷◌, length, set, refl, sym, ap, ◌∙◌, subst, arith, inl, inr}
-use Rattle.std.specs.Prelude.{All, slice_get, IsSomeAnd}
+use Rattle.std.specs.Prelude.{slice_get, IsSomeAnd}
 use Rattle.std.specs.Option.{option_map_or}
 use Rattle.std.proofs.lemmas.Bool.{cases_lt}
 use Rattle.std.proofs.lemmas.List.Elements.{All-contains, All-weaker}
@@ -15,23 +15,24 @@ use Rattle.certificate_finder.specs.declared.numbered_call.NumberedCall.{Numbere
 use Rattle.certificate_finder.specs.declared.offer.Offer.{Offer}
 use Rattle.certificate_finder.specs.declared.ranked.Ranked.{Ranked}
 use Rattle.certificate_finder.specs.declared.rule.Rule.{Rule}
+use Rattle.certificate_finder.specs.declared.rule.Rule.TheVariants.{LeastGrowth}
 use Rattle.certificate_finder.specs.declared.call_span.CallSpan.{CallSpan}
 use Rattle.certificate_finder.specs.declared.zone.Zone.{Zone}
 use Rattle.certificate_finder.specs.Choosing.{ChoosesBy, ComesBefore, IsChosen, IsOffer, IsZoneOf, all_rules, cost_of}
-use Rattle.certificate_finder.specs.Deciding.{FailsBy, NoneGives}
+use Rattle.certificate_finder.specs.Deciding.{FailsAt, NoneGives}
 use Rattle.certificate_finder.specs.Lining.{positions_in}
 use Rattle.certificate_finder.specs.Lists.{TellsOne}
 use Rattle.certificate_finder.specs.Offering.{HitsInTurn, ReadsIn, times_in}
 use Rattle.certificate_finder.specs.Owning.{AreSureOwners, IsUnsure, ReadsLive}
 use Rattle.certificate_finder.specs.Reads.{CouldRead, HasSeveral}
 use Rattle.certificate_finder.specs.Steps.{AreSteps, IsWriting, kind_of}
-use Rattle.certificate_finder.specs.Trying.{AreCrossedBy, AreInTurn, AreSure, GivesNone, IsSideBy, times_at}
+use Rattle.certificate_finder.specs.Trying.{AreCrossedBy, AreInTurn, AreSure, GivesNoneAt, HasStuckKey, IsSideBy, times_at}
 use Rattle.certificate_finder.specs.Turns.{end_at, start_at}
 use Rattle.certificate_finder.specs.Writing.{Writing}
-use Rattle.certificate_finder.specs.Zones.{AreCrossing, AreZones, Goes, TellsZone, side_of}
+use Rattle.certificate_finder.specs.Zones.{AreCrossedAt, AreCrossing, AreZones, Goes, TellsZone, side_of}
 use Rattle.certificate_finder.proofs.EndLemmas.{found_at}
 use Rattle.certificate_finder.proofs.FindLemmas.{call_at, could_by, could_of, has_several, reads_of, several_of, step_at, write_of}
-use Rattle.certificate_finder.proofs.Listing.{all_from_at, contains_at, pair_at, pairs_from_at, same_at}
+use Rattle.certificate_finder.proofs.Listing.{all_at, all_from_at, contains_at, pair_at, pairs_from_at, same_at}
 use Rattle.certificate_finder.proofs.OfferLemmas.{end_is, start_is}
 
 -- past the end is nothing
@@ -208,20 +209,45 @@ module _ (history : List Call) (steps : List NumberedCall) (are : AreSteps histo
           second = side_by other one v.0.key w.0 o t w.1 key crossing.back;
         }
 
-  -- ---- no rule gives a certificate
+  -- ---- no rule gives a certificate for a key
 
-  gives_none : (owners unsure : List ℕ) (hits : List Ranked) (rule : Rule) → AreSureOwners steps (length steps) owners unsure → HitsInTurn steps unsure hits → FailsBy steps owners (positions_in hits) rule → GivesNone history rule
-  gives_none owners unsure hits rule own turned fails = record {
-    owners = owners;
-    hits = positions_in hits;
-    chosen = fails.chosen;
-    sure = are_sure owners unsure own;
-    in_turn = are_in_turn owners unsure hits own turned;
-    by_rule = chooses_same rule (ReadsIn steps) (CouldRead history) (times_in steps) (times_at history) times_same could_read reads_in owners (positions_in hits) fails.chosen fails.by_rule;
-    one = side_of fails.crossing.one;
-    other = side_of fails.crossing.other;
-    crossed = crossed_by_choice fails.chosen fails.zones fails.are_zones fails.crossing.one fails.crossing.other fails.crossed;
-  }
+  -- the key of a write of two that are crossed by a choice
+  crossed_key : (owners : List ℕ) (zones : List Zone) (zs : AreZones steps owners zones) (key p : ℕ) (call : Call) (step : NumberedCall) → slice_get history p ≡ Some call → slice_get steps p ≡ Some step → step.key ≡ key → (at_key : AreCrossedAt zones key) → (crossed_by_choice owners zones zs at_key.crossing.one at_key.crossing.other at_key.crossed).key ≡ call.key
+  unfolding crossed_by_choice
+  crossed_key owners zones zs key p call step call_is step_is same at_key =
+      let t = All-contains (TellsOne steps Writing (TellsZone steps owners)) zones at_key.crossing.one zs.lists.sound at_key.crossed.one_listed in
+      let v = call_at history steps are t.position t.step t.at in
+      let alike = are.alike t.position p v.0 call t.step step v.1 call_is t.at step_is in
+      alike.keys.0 (sym t.told.key ∙ at_key.of_key ∙ sym same)
 
-  pub none_tried : (owners unsure : List ℕ) → AreSureOwners steps (length steps) owners unsure → NoneGives steps owners unsure → All (GivesNone history) all_rules
-  none_tried owners unsure own none = All-weaker (FailsBy steps owners (positions_in none.hits)) (GivesNone history) (λ rule fails. gives_none owners unsure none.hits rule own none.turned fails) all_rules none.fail
+  gives_none_at : (owners unsure : List ℕ) (hits : List Ranked) (key p : ℕ) (call : Call) (step : NumberedCall) (rule : Rule) → slice_get history p ≡ Some call → slice_get steps p ≡ Some step → step.key ≡ key → AreSureOwners steps (length steps) owners unsure → HitsInTurn steps unsure hits → FailsAt steps owners (positions_in hits) key rule → GivesNoneAt history call.key rule
+  gives_none_at owners unsure hits key p call step rule call_is step_is same own turned fails =
+      let crossing = fails.crossed.crossing in
+      record {
+        owners = owners;
+        hits = positions_in hits;
+        chosen = fails.chosen;
+        sure = are_sure owners unsure own;
+        in_turn = are_in_turn owners unsure hits own turned;
+        by_rule = chooses_same rule (ReadsIn steps) (CouldRead history) (times_in steps) (times_at history) times_same could_read reads_in owners (positions_in hits) fails.chosen fails.by_rule;
+        one = side_of crossing.one;
+        other = side_of crossing.other;
+        crossed = crossed_by_choice fails.chosen fails.zones fails.are_zones crossing.one crossing.other fails.crossed.crossed;
+        of_key = crossed_key fails.chosen fails.zones fails.are_zones key p call step call_is step_is same fails.crossed;
+      }
+
+  -- some call is of a key at which a rule fails
+  call_of : (owners hits : List ℕ) (key : ℕ) (rule : Rule) → FailsAt steps owners hits key rule → (p : ℕ) × (step : NumberedCall) × (call : Call) × (slice_get steps p ≡ Some step) × (slice_get history p ≡ Some call) × (step.key ≡ key)
+  call_of owners hits key rule fails =
+      let t = All-contains (TellsOne steps Writing (TellsZone steps fails.chosen)) fails.zones fails.crossed.crossing.one fails.are_zones.lists.sound fails.crossed.crossed.one_listed in
+      let c = call_at history steps are t.position t.step t.at in
+      (t.position, t.step, c.0, t.at, c.1, sym t.told.key ∙ fails.crossed.of_key)
+
+  pub none_tried : (owners unsure : List ℕ) → AreSureOwners steps (length steps) owners unsure → NoneGives steps owners unsure → HasStuckKey history
+  none_tried owners unsure own none =
+      let key = none.fail.key in
+      let c = call_of owners (positions_in none.hits) key LeastGrowth (all_at (FailsAt steps owners (positions_in none.hits) key) all_rules 0 LeastGrowth none.fail.fail refl) in
+      record {
+        key = c.2.key;
+        none = All-weaker (FailsAt steps owners (positions_in none.hits) key) (GivesNoneAt history c.2.key) (λ rule fails. gives_none_at owners unsure none.hits key c.0 c.2 c.1 rule c.4 c.3 c.5 own none.turned fails) all_rules none.fail.fail;
+      }

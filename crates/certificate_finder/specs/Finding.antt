@@ -6,9 +6,8 @@ use Rattle.certificate_finder.specs.declared.found.Found.{Found}
 use Rattle.certificate_finder.specs.declared.found.Found.TheVariants.{Accepted, Rejected, Undecided}
 use Rattle.certificate_finder.specs.declared.witness.Witness.{Witness}
 use Rattle.certificate_finder.specs.declared.witness.Witness.TheVariants as witnesses
-use Rattle.certificate_finder.specs.Choosing.{all_rules}
 use Rattle.certificate_finder.specs.Reads.{HasSeveral}
-use Rattle.certificate_finder.specs.Trying.{GivesNone}
+use Rattle.certificate_finder.specs.Trying.{HasStuckKey}
 use Rattle.certificate_finder.specs.Witnesses.{IsWitness}
 
 -- a reason speaks of a hit that is listed
@@ -17,14 +16,14 @@ IsOfListed hits (witnesses.Interval position) = ⊥
 IsOfListed hits (witnesses.Hit hit puts) = Contains hits hit
 IsOfListed hits (witnesses.Crossed one other) = Contains hits one.early ⊎ (Contains hits one.late ⊎ (Contains hits other.early ⊎ Contains hits other.late))
 
--- these are all hits that may have read several puts, in order, and there are such; no other reason was passed over: each that the history has speaks of one of them; no rule gives a certificate
+-- these are all hits that may have read several puts, in order, and there are such; no other reason was passed over: each that the history has speaks of one of them; there is a key for which no rule gives a certificate
 pub record AreUndecided (history : List Call) (hits : List ℕ) : Type 0 where
   pub some : hits ≢ []
   pub each : All (HasSeveral history) hits
   pub all : (hit : ℕ) → HasSeveral history hit → Contains hits hit
   pub rise : AllPairs (λ earlier later. earlier < later) hits
   pub settled : (witness : Witness) → IsWitness history witness → IsOfListed hits witness
-  pub tried : All (GivesNone history) all_rules
+  pub tried : HasStuckKey history
 
 -- a fact of the certificate, if one was found
 abbrev pub IfAccepted : Found → (List ℕ → Type 0) → Type 0

@@ -1,4 +1,4 @@
--- That no rule gives a certificate for a history.
+-- That no rule gives a certificate for a key of a history.
 use Rattle.std.specs.Prelude.{◌≡◌, ◌≢◌, ℕ, ◌⊎◌, List, All, AllPairs, Contains, length, slice_get, Some, IsSomeAnd}
 use Rattle.trace_file.specs.declared.call.Call.{Call}
 use Rattle.certificate_checker.specs.Deeds.{deed_of}
@@ -7,7 +7,7 @@ use Rattle.certificate_checker.specs.Orders.{Precedes}
 use Rattle.certificate_finder.specs.declared.rule.Rule.{Rule}
 use Rattle.certificate_finder.specs.declared.call_span.CallSpan.{CallSpan}
 use Rattle.certificate_finder.specs.declared.witness.Side.{Side}
-use Rattle.certificate_finder.specs.Choosing.{ChoosesBy, ComesBefore}
+use Rattle.certificate_finder.specs.Choosing.{ChoosesBy, ComesBefore, all_rules}
 use Rattle.certificate_finder.specs.Reads.{CouldRead, HasSeveral}
 use Rattle.certificate_finder.specs.Turns.{end_at, start_at}
 use Rattle.certificate_finder.specs.Zones.{Goes}
@@ -46,8 +46,8 @@ pub record AreCrossedBy (history : List Call) (owners : List ℕ) (one other : S
   pub first : IsSideBy history owners key one other
   pub second : IsSideBy history owners key other one
 
--- a rule gives no certificate: by the puts that it chooses two writes are crossed
-pub record GivesNone (history : List Call) (rule : Rule) : Type 0 where
+-- a rule gives no certificate for a key: by the puts that it chooses two writes of this key are crossed
+pub record GivesNoneAt (history : List Call) (key : List ℕ) (rule : Rule) : Type 0 where
   pub owners : List ℕ
   pub hits : List ℕ
   pub chosen : List ℕ
@@ -57,3 +57,9 @@ pub record GivesNone (history : List Call) (rule : Rule) : Type 0 where
   pub one : Side
   pub other : Side
   pub crossed : AreCrossedBy history chosen one other
+  pub of_key : crossed.key ≡ key
+
+-- there is a key for which no rule gives a certificate
+pub record HasStuckKey (history : List Call) : Type 0 where
+  pub key : List ℕ
+  pub none : All (GivesNoneAt history key) all_rules

@@ -76,6 +76,12 @@ pub record AreCrossing (zones : List Zone) (crossing : Crossing) : Type 0 where
   pub forth : crossing.one.end < crossing.other.start
   pub back : crossing.other.end < crossing.one.start
 
+-- two zones of this key are crossed
+pub record AreCrossedAt (zones : List Zone) (key : ℕ) : Type 0 where
+  pub crossing : Crossing
+  pub crossed : AreCrossing zones crossing
+  pub of_key : crossing.one.key ≡ key
+
 -- a zone before another of its key has started for all its calls when the other ends for the first one
 abbrev pub FollowOn : Zone → Zone → Type 0
 FollowOn earlier later = earlier.key ≡ later.key → earlier.start ≤ later.end

@@ -1,10 +1,13 @@
 // Looking for zones that are crossed.
-ghost use Rattle.std.specs.Prelude.{◌≡◌, ◌<◌, ◌≤◌, ◌⊎◌, ◌↔◌, All, IsTrue};
+ghost use Rattle.std.specs.Prelude.{◌≡◌, ◌<◌, ◌≤◌, ◌⊎◌, ◌↔◌, All, IfOk, IsTrue, length};
 ghost use Rattle.std.specs.List.Sorted.{IsNonDecreasingBy};
+ghost use Rattle.certificate_finder.specs.Deciding.{AreStill, IsMarked};
 ghost use Rattle.certificate_finder.specs.Zones.{zone_rank, AreDistinct, IsFitZone, IsCrossingOrNone};
 
 use crate::crossing::Crossing;
+use crate::flags::flag_at;
 use crate::zone::{Zone, zone_at};
+use std::alloc::{AllocError, Global};
 
 /// Two zones of one key that are crossed, if there are such.
 pub(crate) fn crossing_of(zones: &[Zone]) -> Option<Crossing>
@@ -28,6 +31,43 @@ pub(crate) fn crossing_of(zones: &[Zone]) -> Option<Crossing>
         high = higher(high, zone);
     }
     None
+}
+
+/// Which of the stuck keys are still stuck: those with two zones that are crossed.
+pub(crate) fn still_stuck(
+    alloc: Global,
+    zones: &[Zone],
+    stuck: &[bool],
+) -> Result<Vec<bool>, AllocError>
+    requires sorted { IsNonDecreasingBy zone_rank zones.now }
+    requires distinct { AreDistinct zones.now }
+    requires fit { All IsFitZone zones.now }
+    requires keys { All (λ zone. zone.key < length stuck.now) zones.now }
+    ensures { IfOk result (λ still. AreStill zones.now stuck.now still.items) }
+{
+    let mut still = vec![in alloc; false; stuck.len()]?;
+    if zones.is_empty() {
+        return Ok(still);
+    }
+    let mut high = zone_at(zones, 0);
+    for index in 1..zones.len() {
+        let zone = zone_at(zones, index);
+        mark_crossed(&mut still, stuck, high, zone);
+        high = higher(high, zone);
+    }
+    Ok(still)
+}
+
+/// Marks the key of two zones, one after the other, if they are crossed and the key was stuck.
+fn mark_crossed(still: &mut Vec<bool>, stuck: &[bool], high: Zone, zone: Zone)
+    requires within { zone.key < length stuck.now }
+    requires count { length still.old.items ≡ length stuck.now }
+    ensures { IsMarked stuck.now high zone still.old.items still.new.items }
+{
+    let key = zone.key as usize;
+    if are_crossed(high, zone) && flag_at(stuck, key) {
+        still[key] = true;
+    }
 }
 
 /// Whether a later zone is of an earlier one's key, and ends for some call before that one starts for some call.

@@ -1,27 +1,30 @@
-// Trying the rules one after the other.
-ghost use Rattle.std.specs.Prelude.{◌<◌, ◌^◌, All, IfOk, MatchOption, length};
+// Trying the rules one after the other, and for each key the first one that gives a certificate.
+ghost use Rattle.std.specs.Prelude.{◌<◌, ◌^◌, List, All, AllPairs, IfOk, MatchOption, OnOk, length};
 ghost use Rattle.certificate_finder.specs.Choosing.{all_rules};
-ghost use Rattle.certificate_finder.specs.Deciding.{FailsBy, IsReady, MakesAccepted, NoneGives};
+ghost use Rattle.certificate_finder.specs.Deciding.{FailAtSome, IsMix, IsMixOf, IsReady, IsTried, MakesAccepted, NoneGives};
+ghost use Rattle.certificate_finder.specs.declared.zone.Zone.{Zone};
 ghost use Rattle.certificate_finder.specs.Lining.{positions_in};
-ghost use Rattle.certificate_finder.specs.Owning.{AreSureOwners};
+ghost use Rattle.certificate_finder.specs.Owning.{AreOwners, AreSureOwners};
 ghost use Rattle.certificate_finder.specs.Steps.{IsFit};
+ghost use Rattle.certificate_finder.specs.Zones.{AreZones, FollowOn};
 
 use crate::choosing::choose;
-use crate::crossings::crossing_of;
+use crate::crossings::still_stuck;
 use crate::groups::Groups;
 use crate::hits::all_puts_of;
 use crate::in_turn::hits_in_turn;
 use crate::line::certificate_by_zones;
 use crate::links::links_of;
+use crate::mix::Mix;
 use crate::numbered_call::NumberedCall;
 use crate::put::Put;
 use crate::ranked::Ranked;
 use crate::rule::{RULES, Rule, rule_at};
-use crate::zoning::sorted_zones;
+use crate::zoning::{sorted_zones, zones_of};
 use std::alloc::{AllocError, Global};
 use trace_file::Certificate;
 
-/// A certificate by the first rule that gives one, if one does.
+/// A certificate by the rules, if for each key one of them gives one.
 ///
 /// `owners` has the sure owners, `unsure` the hits that can have read several puts.
 pub(crate) fn certificate_by_rules(
@@ -65,45 +68,85 @@ fn tried(
     requires fit { All IsFit steps.now }
     requires ready { IsReady steps.now owners.now puts.now links.now hits.now }
     ensures { IfOk result (λ found.
-        MatchOption found (All (FailsBy steps.now owners.now (positions_in hits.now)) all_rules)
+        MatchOption found (FailAtSome steps.now owners.now (positions_in hits.now))
         (MakesAccepted steps.now)) }
 {
-    for index in 0..RULES {
-        let rule = rule_at(index);
-        let found = certificate_by(alloc, steps, owners, puts, links, hits, rule)?;
-        if let Some(certificate) = found {
-            return Ok(Some(certificate));
-        }
+    let mix = mixed(alloc, steps, owners, puts, links, hits)?;
+    if mix.is_stuck() {
+        return Ok(None);
     }
-    Ok(None)
+    let certificate = certificate_by_owners(alloc, steps, mix.owners.as_slice())?;
+    Ok(Some(certificate))
 }
 
-/// A certificate by a rule, if it gives one.
-fn certificate_by(
+/// The owners of all calls by the rules of their keys, one rule after the other while a key is stuck.
+fn mixed(
     alloc: Global,
     steps: &[NumberedCall],
     owners: &[u32],
     puts: &[Put],
     links: &[u32],
     hits: &[Ranked],
-    rule: Rule,
-) -> Result<Option<Certificate>, AllocError>
+) -> Result<Mix, AllocError>
     requires few { length steps.now < 2 ^ 31 }
     requires fit { All IsFit steps.now }
     requires ready { IsReady steps.now owners.now puts.now links.now hits.now }
-    ensures { IfOk result (λ found.
-        MatchOption found (FailsBy steps.now owners.now (positions_in hits.now) rule)
-        (MakesAccepted steps.now)) }
+    ensures { IfOk result (IsMixOf steps.now owners.now (positions_in hits.now) (length all_rules)) }
+{
+    let mut mix = Mix::of(alloc, steps, owners)?;
+    for index in 0..RULES {
+        let rule = rule_at(index);
+        try_rule(alloc, &mut mix, steps, owners, puts, links, hits, rule)?;
+        if !mix.is_stuck() {
+            return Ok(mix);
+        }
+    }
+    Ok(mix)
+}
+
+/// Settles the stuck keys that have no two crossed zones by a rule's choice.
+fn try_rule(
+    alloc: Global,
+    mix: &mut Mix,
+    steps: &[NumberedCall],
+    owners: &[u32],
+    puts: &[Put],
+    links: &[u32],
+    hits: &[Ranked],
+    rule: Rule,
+) -> Result<(), AllocError>
+    requires few { length steps.now < 2 ^ 31 }
+    requires fit { All IsFit steps.now }
+    requires ready { IsReady steps.now owners.now puts.now links.now hits.now }
+    requires mix { IsMix steps.now mix.old }
+    ensures { OnOk result (IsTried steps.now owners.now (positions_in hits.now) rule mix.old mix.new) }
 {
     let mut groups = Groups::of(alloc, steps, owners)?;
     choose(&mut groups, steps, puts, links, hits, rule);
-    let owned = groups.owners.as_slice();
+    let chosen = groups.owners.as_slice();
     let earliest = groups.earliest.as_slice();
-    let zones = sorted_zones(alloc, steps, owned, earliest, groups.latest.as_slice())?;
-    let listed = zones.as_slice();
-    if let Some(_crossing) = crossing_of(listed) {
-        return Ok(None);
+    let zones = sorted_zones(alloc, steps, chosen, earliest, groups.latest.as_slice())?;
+    let still = still_stuck(alloc, zones.as_slice(), mix.stuck.as_slice())?;
+    mix.take(steps, chosen, still);
+    Ok(())
+}
+
+/// The certificate by these owners, whose zones follow on.
+fn certificate_by_owners(
+    alloc: Global,
+    steps: &[NumberedCall],
+    owners: &[u32],
+) -> Result<Certificate, AllocError>
+    requires few { length steps.now < 2 ^ 31 }
+    requires fit { All IsFit steps.now }
+    requires owners { AreOwners steps.now owners.now }
+    requires follow { (zones : List Zone) → AreZones steps.now owners.now zones
+        → AllPairs FollowOn zones }
+    ensures { IfOk result (MakesAccepted steps.now) }
+{
+    let zones = zones_of(alloc, steps, owners)?;
+    match certificate_by_zones(alloc, steps, owners, zones.as_slice()) {
+        Ok(certificate) => Ok(certificate),
+        Err(refused) => Err(refused),
     }
-    let certificate = certificate_by_zones(alloc, steps, owned, listed)?;
-    Ok(Some(certificate))
 }

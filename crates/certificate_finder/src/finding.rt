@@ -29,8 +29,8 @@ pub const MAX_CALLS: usize = 2147483647;
 ///
 /// A hit can have read a put of its key and value that began before the hit ended and had not expired at its moment,
 /// and after which no write of the key lies that ended before the hit began. If each hit can have read at most one, it
-/// is decided. Otherwise five rules choose a put for each other hit, one rule after the other, until one gives a
-/// certificate.
+/// is decided. Otherwise five rules choose a put for each other hit, one rule after the other. Each key takes the first one by
+/// whose choice no two of its writes each have to stand before the other, until each key has one.
 ///
 /// Its time is `n log n` for `n` calls if the keys and values were not picked to be slow: the map that it numbers them
 /// by hashes them by a seed that anyone can read. Whoever judges a stranger's history calls `find_with_hasher`. Each

@@ -9,6 +9,6 @@ pub enum Found {
     /// It is accepted with none, for this reason.
     Rejected(Witness),
     /// Each of the hits at these positions, at least one, can have read several puts. There is no reason that speaks of none of
-    /// them, and no rule gave a certificate; whether there is one was not decided.
+    /// them, and there is a key for which no rule gave a certificate; whether there is one was not decided.
     Undecided(Vec<u32>),
 }

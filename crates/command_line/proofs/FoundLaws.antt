@@ -86,8 +86,8 @@ served_if true false c is_a is_b is_c w = absurd cc
 served_if false b c is_a is_b is_c w = absurd cc
 
 -- and so is the load of a cache that serves
-pub asks_served : (rows : List Row) (load : ServeLoad) (numbers : List ℕ) (size memory : Option ℕ) (json : Bool) (folder : Option Text) → map (number_found rows) served_settings ≡ map Some numbers → bytes_found rows Size ≡ Some size → bytes_found rows MemoryBytes ≡ Some memory → determines_given rows ≡ false → served_numbers_of load ≡ numbers → load.size ≡ size → load.memory_bytes ≡ memory → load.json ≡ json → json ≡ is_on (codes "json") rows → load.device ≡ folder → folder ≡ first_of (codes "device") rows → served_wanted rows ≡ Some (wanted_of (Serve load))
-asks_served rows load numbers size memory json folder e found_size found_memory free has is_size is_memory is_json found_json is_device found_device =
+pub asks_served : (rows : List Row) (load : ServeLoad) (numbers : List ℕ) (size memory : Option ℕ) (zipf json : Bool) (folder : Option Text) → map (number_found rows) served_settings ≡ map Some numbers → bytes_found rows Size ≡ Some size → bytes_found rows MemoryBytes ≡ Some memory → determines_given rows ≡ false → served_numbers_of load ≡ numbers → load.size ≡ size → load.memory_bytes ≡ memory → load.zipf ≡ zipf → zipf ≡ is_on (codes "zipf") rows → load.json ≡ json → json ≡ is_on (codes "json") rows → load.device ≡ folder → folder ≡ first_of (codes "device") rows → served_wanted rows ≡ Some (wanted_of (Serve load))
+asks_served rows load numbers size memory zipf json folder e found_size found_memory free has is_size is_memory is_zipf found_zipf is_json found_json is_device found_device =
     let given : has_numbers served_settings rows ≡ true = all_found (number_found rows) served_settings numbers e in
     let sized : has_sizes rows ≡ true = rw (found_size, found_memory) refl in
     let all : numbers_found served_settings rows ≡ served_numbers_of load = or_zero (number_found rows) served_settings numbers e ∙ sym has in
@@ -95,8 +95,9 @@ asks_served rows load numbers size memory json folder e found_size found_memory 
     let of_memory : unwrap_or (bytes_found rows MemoryBytes) None ≡ load.memory_bytes = ap (λ o. unwrap_or o None) found_memory ∙ sym is_memory in
     let device : first_of (codes "device") rows ≡ load.device = sym (is_device ∙ found_device) in
     let flag : is_on (codes "json") rows ≡ load.json = sym (is_json ∙ found_json) in
-    let served : Served (numbers_found served_settings rows) (unwrap_or (bytes_found rows Size) None) (unwrap_or (bytes_found rows MemoryBytes) None) (is_on (codes "json") rows) (first_of (codes "device") rows) ≡ wanted_of (Serve load) =
-    (λ i. Served (all i) (of_size i) (of_memory i) (flag i) (device i)) in
+    let drawn : is_on (codes "zipf") rows ≡ load.zipf = sym (is_zipf ∙ found_zipf) in
+    let served : Served (numbers_found served_settings rows) (unwrap_or (bytes_found rows Size) None) (unwrap_or (bytes_found rows MemoryBytes) None) (is_on (codes "zipf") rows) (is_on (codes "json") rows) (first_of (codes "device") rows) ≡ wanted_of (Serve load) =
+    (λ i. Served (all i) (of_size i) (of_memory i) (drawn i) (flag i) (device i)) in
     served_if _ _ _ given sized free _ ∙ ap Some served
 
 all_at : {X : Type 0} (p : X → Bool) (xs : List X) (i : ℕ) (d : X) → i < length xs → list_all p xs ≡ true → p (get_or xs i d) ≡ true

@@ -2,3 +2,4 @@ mod FoundLaws
 mod Refusals
 mod CommandLaws
 mod AskedFiles
+mod CallNumbers

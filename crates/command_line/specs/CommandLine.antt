@@ -1,5 +1,5 @@
 -- The program's command line: what it takes, and what its words ask for.
-use Rattle.std.specs.Prelude.{◌≡◌, ◌≢◌, ◌⊎◌, ◌&&◌, ℕ, Bool, List, [], ◌∷◌, Option, Some, None, codes, fold, is_some, map, not, option_and_then, option_map, string_bytes, true, false, unwrap_or, if◌then◌else◌}
+use Rattle.std.specs.Prelude.{◌≡◌, ◌≢◌, ◌⊎◌, ◌&&◌, ℕ, Bool, List, [], ◌∷◌, Option, Some, None, codes, fold, is_some, map, nat_le, not, option_and_then, option_map, string_bytes, true, false, unwrap_or, if◌then◌else◌}
 use Rattle.std.specs.List.{find, list_all}
 use Rattle.std.specs.Option.{option_map_or}
 use Rattle.std.specs.Str.{bytes_eq}
@@ -8,7 +8,7 @@ use Rattle.clap.specs.declared.builder.action.ArgAction.TheVariants.{SetTrue}
 use Rattle.clap.specs.declared.error.kind.ErrorKind.{ErrorKind}
 use Rattle.clap.specs.declared.error.kind.ErrorKind.TheVariants.{DisplayHelp, DisplayVersion}
 use Rattle.load.specs.Asked.{numbers_of, served_numbers_of}
-use Rattle.load.specs.Settings.{bytes_in, number_in, row_of, served_settings, settings, shape_settings}
+use Rattle.load.specs.Settings.{bytes_in, is_decimal, number_in, row_of, served_settings, settings, shape_settings, value_of_text}
 use Rattle.load.specs.Sizes.{name_of}
 use Rattle.load.specs.declared.setting.Setting.{Setting}
 use Rattle.load.specs.declared.size_setting.SizeSetting.{SizeSetting}
@@ -36,6 +36,10 @@ device_rule = record (new_rule (codes "device")) { long = Some (codes "device");
 abbrev pub size_rule : SizeSetting → Rule
 size_rule size = record (new_rule (name_of size)) { long = Some (name_of size); value_names = 1 }
 
+-- whether keys are drawn by Zipf's law
+abbrev pub zipf_rule : Rule
+zipf_rule = record (new_rule (codes "zipf")) { long = Some (codes "zipf"); action = Some SetTrue }
+
 -- the file that the trace of a run is written to
 abbrev pub trace_rule : Rule
 trace_rule = record (new_rule (codes "trace")) { long = Some (codes "trace"); value_names = 1; required = true }
@@ -60,6 +64,10 @@ picture_rule = record (new_rule (codes "picture")) { long = Some (codes "picture
 abbrev pub out_rule : Rule
 out_rule = record (new_rule (codes "trace")) { long = Some (codes "trace"); value_names = 1 }
 
+-- how many calls an accepted history has to have
+abbrev pub least_rule : Rule
+least_rule = record (new_rule (codes "at-least")) { long = Some (codes "at-least"); value_names = 1 }
+
 -- the key whose calls alone are written
 abbrev pub key_rule : Rule
 key_rule = record (new_rule (codes "key")) { long = Some (codes "key"); value_names = 1 }
@@ -72,9 +80,9 @@ with_history app = with_rule (with_rule (with_rule (with_rule app file_rule) exp
 abbrev pub check_command : App
 check_command = with_history (new_app (codes "check"))
 
--- judge FILE, with two flags and two options
+-- judge FILE, with two flags and three options
 abbrev pub judge_command : App
-judge_command = with_rule (with_history (new_app (codes "judge"))) out_rule
+judge_command = with_rule (with_rule (with_history (new_app (codes "judge"))) out_rule) least_rule
 
 -- show FILE, with an option
 abbrev pub show_command : App
@@ -88,10 +96,11 @@ with_option command setting = with_rule command (option_rule setting)
 abbrev pub run_command : App
 run_command = with_rule (with_rule (with_rule (fold with_option (new_app (codes "run")) settings) device_rule) trace_rule) json_rule
 
--- serve-load, with an option for each of its settings and sizes, one for the folder of the lanes' files, and a flag
+-- serve-load, with an option for each of its settings and sizes, a flag for the keys, an option for the folder of the lanes' files, and
+-- a flag
 abbrev pub serve_command : App
 serve_command =
-    with_rule (with_rule (with_rule (with_rule (fold with_option (new_app (codes "serve-load")) served_settings) (size_rule Size)) (size_rule MemoryBytes)) device_rule) json_rule
+    with_rule (with_rule (with_rule (with_rule (with_rule (fold with_option (new_app (codes "serve-load")) served_settings) (size_rule Size)) (size_rule MemoryBytes)) zipf_rule) device_rule) json_rule
 
 -- the program, of which one subcommand has to be named
 abbrev pub program_top : App
@@ -117,27 +126,27 @@ program = with_loads (with_judging scripts_program)
 
 -- that a script is answered; that the trace in a file of this name is judged, with why it is rejected if the first flag is on, told as
 -- a JSON object if the second is, and drawn to this file if one is named; that the history in a file of this name is judged so, and
--- written to this file as a trace if one is named; that the trace in a file of this name is written as text, only the calls of this
+-- written to this file as a trace if one is named, and has to have so many calls if it is accepted; that the trace in a file of this name is written as text, only the calls of this
 -- key if one is named; that a load with these numbers, one for each of its settings in their order, is run, told as a JSON object if
 -- the flag is on, over files of this folder or in memory if there is none, and its trace written to a file of this name; or that a
--- load of a cache that serves is run with such numbers, for so many bytes of flash and of memory if they are given, told as a JSON
--- object if the flag is on, over files of this folder or in memory if there is none
+-- load of a cache that serves is run with such numbers, for so many bytes of flash and of memory if they are given, with keys by Zipf's
+-- law if the first flag is on, told as a JSON object if the second is, over files of this folder or in memory if there is none
 pub data Wanted : Type 0 where
   Replies : Wanted
   Checked : Text → Bool → Bool → Option Text → Wanted
-  Judged : Text → Bool → Bool → Option Text → Option Text → Wanted
+  Judged : Text → Bool → Bool → Option Text → Option Text → ℕ → Wanted
   Shown : Text → Option Text → Wanted
   Loaded : List ℕ → Bool → Option Text → Text → Wanted
-  Served : List ℕ → Option ℕ → Option ℕ → Bool → Option Text → Wanted
+  Served : List ℕ → Option ℕ → Option ℕ → Bool → Bool → Option Text → Wanted
 
 -- what a line asks for
 abbrev pub wanted_of : Line → Wanted
 wanted_of Script = Replies
 wanted_of (Check request) = Checked request.file request.explain request.json request.picture
-wanted_of (Judge request) = Judged request.file request.explain request.json request.picture request.trace
+wanted_of (Judge request) = Judged request.file request.explain request.json request.picture request.trace request.at_least
 wanted_of (Show request) = Shown request.file (option_map string_bytes request.key)
 wanted_of (Run load) = Loaded (numbers_of load) load.json load.device load.trace
-wanted_of (Serve load) = Served (served_numbers_of load) load.size load.memory_bytes load.json load.device
+wanted_of (Serve load) = Served (served_numbers_of load) load.size load.memory_bytes load.zipf load.json load.device
 
 -- a flag is on
 abbrev pub is_on : Text → List Row → Bool
@@ -148,10 +157,27 @@ abbrev pub check_wanted : List Row → Option Wanted
 check_wanted rows =
     option_map (λ file. Checked file (is_on (codes "explain") rows) (is_on (codes "json") rows) (first_of (codes "picture") rows)) (first_of (codes "FILE") rows)
 
+-- the number of calls that a text writes, if it writes one that a history may have
+abbrev pub calls_in : Text → Option ℕ
+calls_in text = if is_decimal text && nat_le (value_of_text text) 268435456 then Some (value_of_text text) else None
+
+-- how many calls an accepted history has to have, by what was found for the option: none if nothing was, and there is nothing if that
+-- is no number that a history may have
+abbrev pub calls_given : Option Text → Option ℕ
+calls_given None = Some 0
+calls_given (Some text) = calls_in text
+
+abbrev pub least_found : List Row → Option ℕ
+least_found rows = calls_given (first_of (codes "at-least") rows)
+
+-- the judging that was found, of which an accepted history has to have so many calls
+abbrev pub judge_wanted_of : List Row → ℕ → Option Wanted
+judge_wanted_of rows least =
+    option_map (λ file. Judged file (is_on (codes "explain") rows) (is_on (codes "json") rows) (first_of (codes "picture") rows) (first_of (codes "trace") rows) least) (first_of (codes "FILE") rows)
+
 -- the judging that was found
 abbrev pub judge_wanted : List Row → Option Wanted
-judge_wanted rows =
-    option_map (λ file. Judged file (is_on (codes "explain") rows) (is_on (codes "json") rows) (first_of (codes "picture") rows) (first_of (codes "trace") rows)) (first_of (codes "FILE") rows)
+judge_wanted rows = option_and_then (judge_wanted_of rows) (least_found rows)
 
 -- the showing that was found
 abbrev pub show_wanted : List Row → Option Wanted
@@ -206,7 +232,7 @@ load_wanted rows =
 abbrev pub served_wanted : List Row → Option Wanted
 served_wanted rows =
     if has_numbers served_settings rows && (has_sizes rows && not (determines_given rows))
-    then Some (Served (numbers_found served_settings rows) (unwrap_or (bytes_found rows Size) None) (unwrap_or (bytes_found rows MemoryBytes) None) (is_on (codes "json") rows) (first_of (codes "device") rows))
+    then Some (Served (numbers_found served_settings rows) (unwrap_or (bytes_found rows Size) None) (unwrap_or (bytes_found rows MemoryBytes) None) (is_on (codes "zipf") rows) (is_on (codes "json") rows) (first_of (codes "device") rows))
     else None
 
 -- what a subcommand asks for, by its name and what was found for its arguments

@@ -3,7 +3,7 @@ ghost use Rattle.std.specs.Prelude.{◌≡◌, ◌≤◌, IfOk, IfErr, IfSome, O
 ghost use Rattle.clap.specs.Words.{first_of, found_of, rows_of};
 ghost use Rattle.command_line.specs.CommandLine.{bytes_found, determines_given, has_numbers, has_sizes, load_wanted, number_found, served_wanted, shape_given, wanted_of, IsUsage};
 
-use crate::asked_file::{file_found, is_on};
+use crate::asked_file::{file_found, given, is_on};
 use crate::line::Line;
 use crate::line_fault::LineFault;
 use crate::telling::{Loading, no_bytes, no_number, not_with_size, usage};
@@ -57,14 +57,6 @@ fn bytes_of<'a>(found: &ArgMatches<'a>, size: SizeSetting) -> Result<Option<u64>
             None => Err(size),
         },
         None => Ok(None),
-    }
-}
-
-/// The text that was found for an option, to be repeated; an empty one if none was.
-fn given<'a>(found: &ArgMatches<'a>, option: &str) -> &'a str {
-    match found.get_str(option) {
-        Some(text) => text,
-        None => "",
     }
 }
 
@@ -159,8 +151,16 @@ pub fn serve_line<'a>(alloc: Global, found: &ArgMatches<'a>) -> Result<Line, Lin
     match determined(found, &sizes) {
         None => {
             let folder = file_found(alloc, found, "device")?;
+            let zipf = is_on(found, "zipf");
             let json = is_on(found, "json");
-            Ok(Line::Serve(served_with(&numbers, sizes.size, sizes.memory_bytes, json, folder)))
+            Ok(Line::Serve(served_with(
+                &numbers,
+                sizes.size,
+                sizes.memory_bytes,
+                zipf,
+                json,
+                folder,
+            )))
         }
         Some(setting) => Err(not_with_size(alloc, setting)),
     }

@@ -1,7 +1,7 @@
 // The program's command line, as `clap` reads it.
 ghost use Rattle.std.specs.Prelude.{◌≡◌, IfOk, false};
 ghost use Rattle.clap.specs.Words.{app_of, new_app, rule_of};
-ghost use Rattle.command_line.specs.CommandLine.{check_command, device_rule, explain_rule, file_rule, json_rule, judge_command, key_rule, option_rule, out_rule, picture_rule, program, run_command, script_command, scripts_program, serve_command, show_command, size_rule, trace_rule, with_history, with_judging, with_loads};
+ghost use Rattle.command_line.specs.CommandLine.{check_command, device_rule, explain_rule, file_rule, json_rule, judge_command, key_rule, least_rule, option_rule, out_rule, picture_rule, program, run_command, script_command, scripts_program, serve_command, show_command, size_rule, trace_rule, with_history, with_judging, with_loads, zipf_rule};
 
 use crate::help;
 use crate::help::Help;
@@ -85,12 +85,13 @@ fn check<'a>(alloc: Global) -> Result<Command<'a>, AllocError>
 }
 
 /// The subcommand `judge`.
-fn judge<'a>(alloc: Global) -> Result<Command<'a>, AllocError>
+pub fn judge<'a>(alloc: Global) -> Result<Command<'a>, AllocError>
     ensures { IfOk result (λ c. app_of c ≡ judge_command) }
 {
     let judge = command(alloc, "judge", &help::JUDGE);
     let judge = with_history(alloc, judge, "File of the text, or - for standard input")?;
-    judge.arg(out(alloc))
+    let traced = judge.arg(out(alloc))?;
+    traced.arg(at_least(alloc))
 }
 
 /// A command that judges the history in a file, which means this.
@@ -168,6 +169,19 @@ fn out<'a>(alloc: Global) -> Arg<'a>
         .help("Write an accepted history to this file, as a trace that check accepts")
 }
 
+/// How many calls an accepted history has to have.
+fn at_least<'a>(alloc: Global) -> Arg<'a>
+    ensures rule { rule_of result ≡ least_rule }
+    ensures local { result.global ≡ false }
+{
+    Arg::new(alloc, "at-least")
+        .long("at-least")
+        .value_name("NUMBER")
+        .help(
+            "End with status 2 if an accepted history has fewer calls than this, 0 to\n268435456. [default: 0]",
+        )
+}
+
 /// The key whose calls alone are written.
 fn key<'a>(alloc: Global) -> Arg<'a>
     ensures rule { rule_of result ≡ key_rule }
@@ -202,7 +216,8 @@ pub fn serve<'a>(alloc: Global) -> Result<Command<'a>, AllocError>
     }
     let sized = serve.arg(size(alloc, SizeSetting::Size))?;
     let sized = sized.arg(size(alloc, SizeSetting::MemoryBytes))?;
-    let over_files = sized.arg(device(alloc))?;
+    let drawn = sized.arg(zipf(alloc))?;
+    let over_files = drawn.arg(device(alloc))?;
     over_files.arg(json(alloc))
 }
 
@@ -218,6 +233,20 @@ fn size<'a>(alloc: Global, size: SizeSetting) -> Arg<'a>
         .value_name("BYTES")
         .help(meaning)
         .help_heading("Cache options")
+}
+
+/// Whether keys are drawn by Zipf's law.
+fn zipf<'a>(alloc: Global) -> Arg<'a>
+    ensures rule { rule_of result ≡ zipf_rule }
+    ensures local { result.global ≡ false }
+{
+    Arg::new(alloc, "zipf")
+        .long("zipf")
+        .action(ArgAction::SetTrue)
+        .help(
+            "Draw keys by Zipf's law: the first twice as often as the second and\nthree times as often as the third. It takes at most 8 MiB of memory.",
+        )
+        .help_heading("Load options")
 }
 
 /// The option of a setting.

@@ -4,7 +4,7 @@ ghost use Rattle.clap.specs.Words.{kind_of};
 ghost use Rattle.command_line.specs.CommandLine.{IsToldOf, IsUsage};
 
 use crate::line_fault::LineFault;
-use crate::program::{run, serve};
+use crate::program::{judge, run, serve};
 use clap::error::ErrorKind;
 use load::{Setting, SizeSetting};
 use std::alloc::{AllocError, Global};
@@ -53,9 +53,11 @@ pub fn no_file(alloc: Global, subcommand: &str) -> LineFault
     }
 }
 
-/// What a subcommand loads.
+/// A subcommand that takes numbers.
 #[derive(Clone, Copy, Debug, PartialEq, Eq)]
 pub enum Loading {
+    /// `judge`.
+    Judge,
     /// `run`.
     Run,
     /// `serve-load`.
@@ -96,6 +98,19 @@ pub fn no_bytes(alloc: Global, size: SizeSetting, given: &str) -> LineFault
         units: ", or as 512K, 100M or 64G",
     };
     no_range(alloc, Loading::Serve, &range, given)
+}
+
+/// What is reported if the text that was given for `--at-least` is no number of calls that a history may have.
+pub fn no_calls(alloc: Global, most: u32, given: &str) -> LineFault
+    ensures { IsUsage result }
+{
+    let range = Range {
+        name: "at-least",
+        least: 0,
+        greatest: u64::from(most),
+        units: "",
+    };
+    no_range(alloc, Loading::Judge, &range, given)
 }
 
 /// What is reported if this setting is given with a size, which determines it.
@@ -146,6 +161,7 @@ fn range_error(
     given: &str,
 ) -> Result<clap::Error, AllocError> {
     let mut command = match loading {
+        Loading::Judge => judge(alloc)?.bin_name("kangaroo judge")?,
         Loading::Run => run(alloc)?.bin_name("kangaroo run")?,
         Loading::Serve => serve(alloc)?.bin_name("kangaroo serve-load")?,
     };

@@ -11,3 +11,4 @@ mod PlainPictures
 mod PlainTexts
 mod Scaling
 mod SentenceLaws
+mod WrapLaws

@@ -1,9 +1,11 @@
 -- What a picture of calls is laid out by.
-use Rattle.std.specs.Prelude.{ℕ, List, [], ◌∷◌, Option, Some, None, Contains, slice_get}
+use Rattle.std.specs.Prelude.{◌≡◌, ℕ, ◌-◌, List, [], ◌∷◌, Option, Some, None, Contains, length, slice_get}
+use Rattle.std.specs.Fmt.{decimal}
 use Rattle.std.specs.List.{flat_map}
 use Rattle.std.specs.List.Sorted.{IsStrictlyIncreasing}
 use Rattle.trace_file.specs.declared.call.Call.{Call}
 use Rattle.history_picture.specs.Measures.{IsSheet}
+use Rattle.history_picture.specs.Scale.{first_of, last_of}
 use Rattle.history_picture.specs.declared.drawing.Drawing.{Drawing}
 
 -- the caller of a call, if there is one
@@ -21,7 +23,8 @@ pub record AreCallers (history : List Call) (shown callers : List ℕ) : Type 0 
   pub each : (caller : ℕ) → Contains callers caller → Contains (flat_map (callers_at history) shown) caller
   pub all : (caller : ℕ) → Contains (flat_map (callers_at history) shown) caller → Contains callers caller
 
--- a picture has a column for each stamp of the calls that are shown, and a row for each of their callers
+-- a picture has a column for each stamp of the calls that are shown, a row for each of their callers, and room for the longest of the times
 pub record IsDrawing (history : List Call) (lines : List ℕ) (callers : List (List ℕ)) (shown : List ℕ) (drawing : Drawing) : Type 0 where
   pub sheet : IsSheet history lines callers shown drawing.sheet
   pub rows : AreCallers history shown drawing.callers.items
+  pub times : drawing.times ≡ length (decimal (last_of drawing.sheet.stamps.items - first_of drawing.sheet.stamps.items))

@@ -1,9 +1,12 @@
 pub mod Arrows
+pub mod Axes
 pub mod Chosen
 pub mod Coding
 pub mod Drawings
 pub mod Drawn
 pub mod Escaping
+pub mod Labels
+pub mod Layout
 pub mod Marks
 pub mod Measures
 pub mod Names
@@ -18,3 +21,4 @@ pub mod Scale
 pub mod Sentences
 pub mod Shown
 pub mod Written
+pub mod Wrapping

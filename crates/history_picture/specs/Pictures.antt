@@ -1,62 +1,23 @@
--- The parts of a picture, and where they lie, in pixels.
-use Rattle.std.specs.Prelude.{ℕ, ◌+◌, ◌-◌, ◌*◌, List, [], ◌∷◌, ◌++◌, Bool, ◌==◌, ◌&&◌, nat_lt, max, min, codes, length, count_by, slice_get, Option, Some, None, if◌then◌else◌}
+-- The parts of a picture.
+use Rattle.std.specs.Prelude.{ℕ, ◌+◌, ◌-◌, List, [], ◌∷◌, ◌++◌, Bool, ◌==◌, ◌&&◌, nat_lt, max, min, codes, slice_get, Option, Some, None, if◌then◌else◌}
 use Rattle.std.specs.Fmt.{decimal}
-use Rattle.std.specs.List.{flat_map, list_any}
+use Rattle.std.specs.List.{flat_map}
 use Rattle.trace_file.specs.declared.act.Act.{Act}
 use Rattle.trace_file.specs.declared.act.Act.TheVariants.{Put, Remove, Hit, Miss}
 use Rattle.trace_file.specs.declared.call.Call.{Call}
+use Rattle.history_picture.specs.Axes.{axis_text}
 use Rattle.history_picture.specs.Escaping.{escape_of}
+use Rattle.history_picture.specs.Labels.{is_marked, label_at}
+use Rattle.history_picture.specs.Layout.{across, escaped, height_of, line_text, place_text, right_end, width_of, words_text, x_of, y_of}
 use Rattle.history_picture.specs.Naming.{act_words, label_of}
-use Rattle.history_picture.specs.Rows.{act_name, caller_words, column, end_words, never_ended, value_words}
+use Rattle.history_picture.specs.Rows.{act_name, caller_words, end_words}
 use Rattle.history_picture.specs.declared.arrows.Arrow.{Arrow}
 use Rattle.history_picture.specs.declared.drawing.Drawing.{Drawing}
 
--- a text in which no sign means anything to XML
-abbrev pub escaped : List ℕ → List ℕ
-escaped text = flat_map escape_of text
-
--- where a column lies: 24 for each, after the callers' names
-abbrev pub across : Drawing → ℕ → ℕ
-across drawing column = 24 * column + 8 * drawing.sheet.callers + 32
-
--- where the columns end
-abbrev pub right_end : Drawing → ℕ
-right_end drawing = across drawing (length drawing.sheet.stamps.items) + 48
-
--- where a stamp lies: in its column, and at the end of the columns what never comes
-abbrev pub x_of : Drawing → ℕ → ℕ
-x_of drawing stamp = if stamp == never_ended then right_end drawing else across drawing (column drawing.sheet.stamps.items stamp)
-
--- where a caller's row lies: 46 below the one before
-abbrev pub y_of : Drawing → ℕ → ℕ
-y_of drawing caller = 46 * count_by (λ other. nat_lt other caller) drawing.callers.items + drawing.top + 20
-
--- the picture's width and height
-abbrev pub width_of : Drawing → ℕ
-width_of drawing = max (right_end drawing + 16) 640
-
-abbrev pub height_of : Drawing → ℕ
-height_of drawing = 46 * length drawing.callers.items + drawing.top + 16
-
--- where an element lies, and how large it is
-unfoldable pub place_text : ℕ → ℕ → ℕ → ℕ → List ℕ
-place_text left top width height =
-    codes "x=\"" ++ (decimal left ++ (codes "\" y=\"" ++ (decimal top ++ (codes "\" width=\"" ++ (decimal width ++ (codes "\" height=\"" ++ (decimal height
-    ++ codes "\"")))))))
-
--- a line across
-unfoldable pub line_text : ℕ → ℕ → List ℕ
-line_text top width = codes "<path d=\"M 16 " ++ (decimal top ++ (codes " H " ++ (decimal width ++ codes "\" stroke=\"#e4e4e4\"/>\n")))
-
--- a caller's name
-unfoldable pub name_text : ℕ → List ℕ → List ℕ
-name_text base name =
-    codes "<text x=\"16\" y=\"" ++ (decimal base ++ (codes "\" stroke=\"#ffffff\" stroke-width=\"6\" paint-order=\"stroke\">" ++ (name ++ codes "</text>\n")))
-
--- the row of a caller: a line across, and its name
+-- the row of a caller: its name, and a line across
 unfoldable pub caller_row : List (List ℕ) → Drawing → ℕ → List ℕ
 caller_row callers drawing caller =
-    line_text (y_of drawing caller + 8) (width_of drawing) ++ name_text (y_of drawing caller + 12) (escaped (caller_words (slice_get callers caller) caller))
+    line_text (across drawing 0 - 8) (y_of drawing caller + 8) (width_of drawing) ++ words_text 16 (y_of drawing caller + 12) (escaped (caller_words (slice_get callers caller) caller))
 
 -- where the next call of a caller starts, after a stamp, if this is one
 abbrev pub next_at : Drawing → ℕ → ℕ → Option Call → ℕ
@@ -69,11 +30,15 @@ next_of drawing history caller start [] = right_end drawing
 next_of drawing history caller start (position ∷ shown) =
     min (next_at drawing caller start (slice_get history position)) (next_of drawing history caller start shown)
 
--- what a call did, over its bar, cut where the next one starts
+-- the word for what a call did, over its bar, cut where the next one starts
 unfoldable pub word_text : Drawing → ℕ → Call → List ℕ
 word_text drawing room call =
     codes "<svg " ++ (place_text (x_of drawing call.start) (y_of drawing call.caller - 16) room 16 ++ (codes "><text y=\"12\">" ++ (act_name call.act
-    ++ (codes " " ++ (escaped (value_words call.act) ++ codes "</text></svg>\n")))))
+    ++ codes "</text></svg>\n")))
+
+-- the word for what a call did, unless it has a label
+abbrev pub words_over : Drawing → ℕ → Bool → Call → List ℕ
+words_over drawing room marked call = if marked then [] else word_text drawing room call
 
 -- all that is said of a call
 unfoldable pub title_text : List ℕ → ℕ → Call → List ℕ
@@ -101,16 +66,16 @@ bar_place drawing call =
     place_text (min (x_of drawing call.start) (x_of drawing call.end)) (y_of drawing call.caller)
     (max (max (x_of drawing call.start) (x_of drawing call.end) - min (x_of drawing call.start) (x_of drawing call.end)) 6) 16
 
--- the bar of a call, with what it did above it
+-- the bar of a call, with what it did above it if it has no label
 unfoldable pub bar_drawn : List ℕ → Drawing → ℕ → Bool → ℕ → Call → List ℕ
 bar_drawn lines drawing room marked position call =
-    word_text drawing room call ++ box_text (bar_place drawing call) (colour_for marked call.act) (title_text lines position call)
+    words_over drawing room marked call ++ box_text (bar_place drawing call) (colour_for marked call.act) (title_text lines position call)
 
 -- the bar of the call at a position, if there is one
 abbrev pub bar_of : List Call → List ℕ → Drawing → List ℕ → List ℕ → ℕ → Option Call → List ℕ
 bar_of history lines drawing marks shown position None = []
 bar_of history lines drawing marks shown position (Some call) =
-    bar_drawn lines drawing (next_of drawing history call.caller call.start shown - x_of drawing call.start) (list_any (λ mark. mark == position) marks) position call
+    bar_drawn lines drawing (next_of drawing history call.caller call.start shown - x_of drawing call.start) (is_marked marks position) position call
 
 unfoldable pub bar_at : List Call → List ℕ → Drawing → List ℕ → List ℕ → ℕ → List ℕ
 bar_at history lines drawing marks shown position = bar_of history lines drawing marks shown position (slice_get history position)
@@ -141,16 +106,24 @@ arrow_between drawing None to = []
 unfoldable pub arrow_text : List Call → Drawing → Arrow → List ℕ
 arrow_text history drawing arrow = arrow_between drawing (slice_get history arrow.from) (slice_get history arrow.to)
 
--- what a picture begins with: its size, the point of an arrow, a white ground, and the sentence
+-- a sign of the sentence, which stands on lines
+abbrev pub sign_text : ℕ → List ℕ
+sign_text sign = if sign == 10 then codes "</tspan>\n<tspan x=\"16\" dy=\"18\">" else escape_of sign
+
+-- what a picture begins with: its size, the point of an arrow, a white ground, and the lines of the sentence
 unfoldable pub head_text : Drawing → List ℕ → List ℕ
 head_text drawing sentence =
     codes "<svg xmlns=\"http://www.w3.org/2000/svg\" width=\"" ++ (decimal (width_of drawing) ++ (codes "\" height=\"" ++ (decimal (height_of drawing)
-    ++ (codes "\" font-family=\"monospace\" font-size=\"13\">\n<defs><marker id=\"point\" viewBox=\"0 0 8 8\" refX=\"8\" refY=\"4\" markerWidth=\"7\" markerHeight=\"7\" orient=\"auto\"><path d=\"M 0 0 L 8 4 L 0 8 z\" fill=\"#b3261e\"/></marker></defs>\n<rect width=\"100%\" height=\"100%\" fill=\"#ffffff\"/>\n<foreignObject "
-    ++ (place_text 16 6 (width_of drawing - 32) drawing.top ++ (codes "><p xmlns=\"http://www.w3.org/1999/xhtml\" style=\"margin: 0\">" ++ (sentence
-    ++ codes "</p></foreignObject>\n")))))))
+    ++ (codes "\" font-family=\"monospace\" font-size=\"13\">\n<defs><marker id=\"point\" viewBox=\"0 0 8 8\" refX=\"8\" refY=\"4\" markerWidth=\"7\" markerHeight=\"7\" orient=\"auto\"><path d=\"M 0 0 L 8 4 L 0 8 z\" fill=\"#b3261e\"/></marker></defs>\n<rect width=\"100%\" height=\"100%\" fill=\"#ffffff\"/>\n<text y=\"6\"><tspan x=\"16\" dy=\"18\">"
+    ++ (sentence ++ codes "</tspan></text>\n")))))
 
--- a picture: its head, a row for each caller, a bar for each call, and the arrows
+-- the calls: the labels of those that matter, and a bar for each
+unfoldable pub calls_text : List Call → List ℕ → Drawing → List ℕ → List ℕ → List ℕ
+calls_text history lines drawing marks shown =
+    flat_map (label_at history lines drawing marks shown) shown ++ flat_map (bar_at history lines drawing marks shown) shown
+
+-- a picture: its head, the axis, a row for each caller, the calls, and the arrows
 unfoldable pub picture_text : List Call → List ℕ → List (List ℕ) → List ℕ → Drawing → List ℕ → List ℕ → List Arrow → List ℕ
 picture_text history lines callers sentence drawing marks shown arrows =
-    head_text drawing (escaped sentence) ++ (flat_map (caller_row callers drawing) drawing.callers.items
-    ++ (flat_map (bar_at history lines drawing marks shown) shown ++ (flat_map (arrow_text history drawing) arrows ++ codes "</svg>\n")))
+    head_text drawing (flat_map sign_text sentence) ++ (axis_text drawing ++ (flat_map (caller_row callers drawing) drawing.callers.items
+    ++ (calls_text history lines drawing marks shown ++ (flat_map (arrow_text history drawing) arrows ++ codes "</svg>\n"))))

@@ -1,5 +1,5 @@
 -- The scale that the bars are drawn on.
-use Rattle.std.specs.Prelude.{ℕ, List, [], ◌∷◌, ◌==◌, Option, Some, None, Contains, slice_get, if◌then◌else◌}
+use Rattle.std.specs.Prelude.{ℕ, ◌-◌, length, unwrap_or, List, [], ◌∷◌, ◌==◌, Option, Some, None, Contains, slice_get, if◌then◌else◌}
 use Rattle.std.specs.List.{flat_map}
 use Rattle.std.specs.List.Sorted.{IsStrictlyIncreasing}
 use Rattle.trace_file.specs.declared.call.Call.{Call}
@@ -19,3 +19,11 @@ pub record IsScale (history : List Call) (shown stamps : List ℕ) : Type 0 wher
   pub rising : IsStrictlyIncreasing stamps
   pub each : (stamp : ℕ) → Contains stamps stamp → Contains (flat_map (stamps_at history) shown) stamp
   pub all : (stamp : ℕ) → Contains (flat_map (stamps_at history) shown) stamp → Contains stamps stamp
+
+-- the first stamp, 0 if there is none
+abbrev pub first_of : List ℕ → ℕ
+first_of stamps = unwrap_or (slice_get stamps 0) 0
+
+-- the last stamp, 0 if there is none
+abbrev pub last_of : List ℕ → ℕ
+last_of stamps = unwrap_or (slice_get stamps (length stamps - 1)) 0

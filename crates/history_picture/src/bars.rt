@@ -2,16 +2,17 @@
 ghost use Rattle.std.specs.Prelude.{◌≡◌, ◌<◌, ◌^◌, IfOk, string_bytes};
 ghost use Rattle.std.specs.List.{flat_map};
 ghost use Rattle.trace_file.specs.Lent.{act_shown, call_shown};
-ghost use Rattle.history_picture.specs.Pictures.{arrow_text, bar_at, bar_drawn, bar_place, box_text, colour_for, curve_text, leaving_text, reaching_text, title_text, word_text};
+ghost use Rattle.history_picture.specs.Pictures.{arrow_text, bar_at, bar_drawn, bar_place, box_text, colour_for, curve_text, leaving_text, reaching_text, title_text, word_text, words_over};
 
 use crate::arrows::Arrow;
 use crate::call_at::call_at;
 use crate::call_words::{act_text, label};
-use crate::drawing::{Drawing, place};
+use crate::drawing::Drawing;
 use crate::escaped::escaped;
 use crate::near::is_among;
-use crate::rows::{act_word, end_text, value_text};
+use crate::rows::{act_word, end_text};
 use crate::scene::Scene;
+use crate::strokes::place;
 use std::alloc::{AllocError, Global};
 use trace_file::{ActRef, CallRef, History};
 
@@ -60,7 +61,7 @@ impl Drawing {
         }
     }
 
-    /// The bar of a call, with what it did above it if there is room, and all of it as a title.
+    /// The bar of a call, with what it did above it if it has no label, and all of it as a title.
     #[tactic(auto, unfolding(crate::specs::Pictures::bar_drawn))]
     fn bar(
         &self,
@@ -74,7 +75,7 @@ impl Drawing {
         ensures { IfOk result (λ text. string_bytes text
             ≡ bar_drawn lines.now self.now room marked position (call_shown call.now)) }
     {
-        let word = self.word(alloc, room, call)?;
+        let word = self.word_over(alloc, room, marked, call)?;
         let place = self.bar_place(alloc, call)?;
         let title = title(alloc, lines, position, call)?;
         let box_text = box_of(
@@ -86,18 +87,36 @@ impl Drawing {
         format!(in alloc; "{word}{box_text}")
     }
 
-    /// What a call did, over its bar, cut if there is no more room.
+    /// The word for what a call did, over its bar, unless it has a label.
+    fn word_over(
+        &self,
+        alloc: Global,
+        room: u128,
+        marked: bool,
+        call: &CallRef<'_>,
+    ) -> Result<String, AllocError>
+        ensures { IfOk result (λ text. string_bytes text
+            ≡ words_over self.now room marked (call_shown call.now)) }
+    {
+        if marked {
+            return Ok(String::new(alloc));
+        }
+        match self.word(alloc, room, call) {
+            Ok(text) => Ok(text),
+            Err(refused) => Err(refused),
+        }
+    }
+
+    /// The word for what a call did, over its bar, cut where the next one starts.
     #[tactic(auto, unfolding(crate::specs::Pictures::word_text))]
     fn word(&self, alloc: Global, room: u128, call: &CallRef<'_>) -> Result<String, AllocError>
         ensures { IfOk result (λ text. string_bytes text
             ≡ word_text self.now room (call_shown call.now)) }
     {
-        let value = value_text(alloc, &call.act)?;
-        let value = escaped(alloc, value.as_str())?;
         let act = act_word(&call.act);
         let top = self.y(call.caller).saturating_sub(16);
         let place = place(alloc, self.x(call.start), top, room, 16)?;
-        format!(in alloc; "<svg {place}><text y=\"12\">{act} {value}</text></svg>\n")
+        format!(in alloc; "<svg {place}><text y=\"12\">{act}</text></svg>\n")
     }
 
     /// Where the bar of a call lies: from its start to its end, in its caller's row.

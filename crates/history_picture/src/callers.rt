@@ -2,12 +2,13 @@
 ghost use Rattle.std.specs.Prelude.{◌≡◌, IfOk, string_bytes};
 ghost use Rattle.std.specs.List.{flat_map};
 ghost use Rattle.history_picture.specs.Names.{names_of};
-ghost use Rattle.history_picture.specs.Pictures.{caller_row, line_text, name_text};
+ghost use Rattle.history_picture.specs.Pictures.{caller_row};
 
 use crate::drawing::Drawing;
 use crate::escaped::escaped;
 use crate::rows::caller_name;
 use crate::scene::Scene;
+use crate::strokes::{line, words_at};
 use std::alloc::{AllocError, Global};
 
 impl Drawing {
@@ -38,26 +39,9 @@ impl Drawing {
         let name = caller_name(alloc, scene, caller)?;
         let name = escaped(alloc, name.as_str())?;
         let top = self.y(caller);
-        let line = line(alloc, top + 8, self.width())?;
-        let name = name_of(alloc, top + 12, name.as_str())?;
+        let left = self.across(0).saturating_sub(8);
+        let line = line(alloc, left, top + 8, self.width())?;
+        let name = words_at(alloc, 16, top + 12, name.as_str())?;
         format!(in alloc; "{line}{name}")
     }
-}
-
-/// A line across.
-#[tactic(auto, unfolding(crate::specs::Pictures::line_text))]
-fn line(alloc: Global, top: u128, width: u128) -> Result<String, AllocError>
-    ensures { IfOk result (λ text. string_bytes text ≡ line_text top width) }
-{
-    format!(in alloc; "<path d=\"M 16 {top} H {width}\" stroke=\"#e4e4e4\"/>\n")
-}
-
-/// A name.
-#[tactic(auto, unfolding(crate::specs::Pictures::name_text))]
-fn name_of(alloc: Global, base: u128, name: &str) -> Result<String, AllocError>
-    ensures { IfOk result (λ text. string_bytes text ≡ name_text base name.now) }
-{
-    format!(in alloc;
-        "<text x=\"16\" y=\"{base}\" stroke=\"#ffffff\" stroke-width=\"6\" paint-order=\"stroke\">{name}</text>\n"
-    )
 }

@@ -1,10 +1,12 @@
 // Where the parts of a picture lie, in pixels.
-ghost use Rattle.std.specs.Prelude.{◌≡◌, ◌^◌, ◌<◌, ◌++◌, IfOk, OnOk, slice_get, string_bytes};
+ghost use Rattle.std.specs.Prelude.{◌≡◌, ◌^◌, ◌<◌, ◌++◌, IfOk, OnOk, slice_get};
 ghost use Rattle.std.specs.List.{flat_map};
 ghost use Rattle.history_picture.specs.Drawings.{AreCallers, IsDrawing, callers_at};
 ghost use Rattle.history_picture.specs.Names.{names_of};
-ghost use Rattle.history_picture.specs.Pictures.{across, height_of, next_at, next_of, place_text, right_end, width_of, x_of, y_of};
+ghost use Rattle.history_picture.specs.Layout.{across, axis_of, height_of, right_end, top_of, width_of, x_of, y_of};
+ghost use Rattle.history_picture.specs.Pictures.{next_at, next_of};
 
+use crate::axis::times_width;
 use crate::call_at::call_at;
 use crate::columns::{NEVER_ENDED, column_of};
 use crate::scene::Scene;
@@ -17,11 +19,9 @@ const COLUMN: u128 = 24;
 /// The height of a caller's row.
 const ROW: u128 = 46;
 /// The width of a letter.
-const LETTER: u128 = 8;
-/// The height of a line of the sentence.
-const LINE: usize = 20;
-/// The most lines that the sentence has room for.
-const MOST_LINES: u128 = 1000;
+pub(crate) const LETTER: u128 = 8;
+/// The height of a line of the sentence, or of a label.
+pub(crate) const LINE: u128 = 18;
 
 /// Where the parts of a picture lie.
 #[derive(Drop)]
@@ -30,34 +30,42 @@ pub struct Drawing {
     pub sheet: Sheet,
     /// The callers, a row each.
     pub callers: Vec<u16>,
-    /// The height of the sentence.
-    pub top: usize,
+    /// How many lines of the sentence follow the first one.
+    pub feeds: usize,
+    /// How many calls have a label.
+    pub labels: usize,
+    /// How many signs the longest time of the axis has.
+    pub times: usize,
 }
 
 impl Drawing {
-    /// The places for the calls at these positions, under a sentence of this many letters.
+    /// The places for the calls at these positions, under a sentence with this many line feeds, and this many labels.
     pub(crate) fn of(
         alloc: Global,
         scene: &Scene<'_>,
         shown: &[u32],
-        letters: usize,
+        feeds: usize,
+        labels: usize,
     ) -> Result<Drawing, AllocError>
-        ensures { IfOk result (λ drawing. IsDrawing scene.now.history.now scene.now.lines.now
+        ensures calls { IfOk result (λ drawing. IsDrawing scene.now.history.now scene.now.lines.now
             (names_of scene.now.callers.now) shown.now drawing) }
+        ensures feeds { IfOk result (λ drawing. drawing.feeds ≡ feeds) }
+        ensures labels { IfOk result (λ drawing. drawing.labels ≡ labels) }
     {
         let sheet = Sheet::of(alloc, scene, shown)?;
         let callers = callers_of(alloc, scene.history, shown)?;
-        let mut drawing = Drawing {
+        let times = times_width(alloc, sheet.stamps.as_slice())?;
+        Ok(Drawing {
             sheet,
             callers,
-            top: 0,
-        };
-        drawing.top = height_for(letters, drawing.width());
-        Ok(drawing)
+            feeds,
+            labels,
+            times,
+        })
     }
 
     /// Where a column lies.
-    fn across(&self, column: usize) -> u128
+    pub(crate) fn across(&self, column: usize) -> u128
         ensures at { result ≡ across self.now column }
         ensures small { result < 2 ^ 80 }
     {
@@ -76,14 +84,30 @@ impl Drawing {
     pub(crate) fn width(&self) -> u128
         ensures is { result ≡ width_of self.now }
     {
-        (self.right() + 16).max(640)
+        (self.right() + 16).max(800)
+    }
+
+    /// Where the rows begin: under the lines of the sentence, and those of the labels.
+    pub(crate) fn top(&self) -> u128
+        ensures at { result ≡ top_of self.now }
+        ensures small { result < 2 ^ 75 }
+    {
+        LINE * (self.feeds as u128 + self.labels as u128) + 36
+    }
+
+    /// Where the times are written, under the rows.
+    pub(crate) fn axis_top(&self) -> u128
+        ensures at { result ≡ axis_of self.now }
+        ensures small { result < 2 ^ 80 }
+    {
+        ROW * self.callers.len() as u128 + self.top() + 8
     }
 
     /// The height.
     pub(crate) fn height(&self) -> u128
         ensures is { result ≡ height_of self.now }
     {
-        ROW * self.callers.len() as u128 + self.top as u128 + 16
+        self.axis_top() + LETTER * self.times as u128 + 40
     }
 
     /// Where a stamp lies: at the end of the columns what never comes.
@@ -103,7 +127,7 @@ impl Drawing {
         ensures small { result < 2 ^ 80 }
     {
         let before = self.callers.iter().filter(|other| **other < caller).count();
-        ROW * before as u128 + self.top as u128 + 20
+        ROW * before as u128 + self.top() + 20
     }
 
     /// Where the next of these calls of a caller starts after a stamp, or the columns end.
@@ -130,27 +154,6 @@ impl Drawing {
         }
         self.right()
     }
-}
-
-/// The height of a sentence of this many letters in a picture of this width.
-fn height_for(letters: usize, width: u128) -> usize {
-    let room = width.saturating_sub(32).max(1);
-    let lines = (LETTER * letters as u128 / room).min(MOST_LINES) as usize;
-    (lines + 2) * LINE
-}
-
-/// Where an element lies, and how large it is.
-#[tactic(auto, unfolding(crate::specs::Pictures::place_text))]
-pub(crate) fn place(
-    alloc: Global,
-    left: u128,
-    top: u128,
-    width: u128,
-    height: u128,
-) -> Result<String, AllocError>
-    ensures { IfOk result (λ text. string_bytes text ≡ place_text left top width height) }
-{
-    format!(in alloc; "x=\"{left}\" y=\"{top}\" width=\"{width}\" height=\"{height}\"")
 }
 
 /// The callers of the calls at these positions, each once and rising.

@@ -2,6 +2,7 @@
 ghost use Rattle.std.specs.Prelude.{◌≡◌, ◌++◌, IfOk, OnOk, string_bytes};
 ghost use Rattle.std.specs.List.{flat_map};
 ghost use Rattle.history_picture.specs.Escaping.{escape_of};
+ghost use Rattle.history_picture.specs.Pictures.{sign_text};
 
 use crate::coded::push_ascii;
 use std::alloc::{AllocError, Global};
@@ -15,6 +16,27 @@ pub(crate) fn escaped(alloc: Global, text: &str) -> Result<String, AllocError>
         push_escaped(&mut escaped, *byte)?;
     }
     Ok(escaped)
+}
+
+/// A text in which the same is escaped, on the lines that its line feeds make of it.
+pub(crate) fn on_lines(alloc: Global, text: &[u8]) -> Result<String, AllocError>
+    ensures { IfOk result (λ lines. string_bytes lines ≡ flat_map sign_text text.now) }
+{
+    let mut lines = String::new(alloc);
+    for sign in text {
+        push_sign(&mut lines, *sign)?;
+    }
+    Ok(lines)
+}
+
+/// Puts a sign after a text on lines: a line feed begins one.
+fn push_sign(text: &mut String, sign: u8) -> Result<(), AllocError>
+    ensures { OnOk result (string_bytes text.new ≡ string_bytes text.old ++ sign_text sign) }
+{
+    if sign == b'\n' {
+        return text.push_str("</tspan>\n<tspan x=\"16\" dy=\"18\">");
+    }
+    push_escaped(text, sign)
 }
 
 /// Puts a byte after a text, escaped.

@@ -2,6 +2,7 @@
 #![tactic(auto)]
 
 mod arrows;
+mod axis;
 mod bars;
 mod blanks;
 mod call_at;
@@ -14,6 +15,7 @@ mod escaped;
 mod explain_fault;
 mod explaining;
 mod fault_reason;
+mod labels;
 mod latest;
 mod latest_of;
 mod marks;
@@ -25,6 +27,8 @@ mod scene;
 mod sentence;
 mod sheet;
 mod shown;
+mod strokes;
+mod wrapping;
 
 pub use explain_fault::ExplainFault;
 pub use explaining::{explain, explanation};

@@ -97,7 +97,7 @@ fn push_nearest(
 }
 
 /// The start of the call at a position, 0 if there is none.
-fn start_of(history: &History, position: u32) -> u64
+pub(crate) fn start_of(history: &History, position: u32) -> u64
     ensures { result ≡ started history.now position }
 {
     match call_at(history, position) {

@@ -9,7 +9,7 @@ use Rattle.item_lane.specs.declared.cache_item.CacheItem.{CacheItem}
 use Rattle.item_lane.specs.declared.command_reply.CommandReply.TheVariants.{Number, Exists}
 use Rattle.item_lane.specs.Cells.{kept_shown}
 use Rattle.item_lane.specs.Numbers.{number_in, changed}
-use Rattle.item_lane.specs.Choosing.{agrees, renewed, number_plan, delta_plan}
+use Rattle.item_lane.specs.Choosing.{agrees, counted, number_plan, delta_plan}
 use Rattle.item_lane.specs.Plans.{Plan, Keep, Store}
 
 -- a plan by its parts
@@ -24,7 +24,7 @@ module _ (delta : Delta) (live : Option CacheItem) (item : CacheItem) (live_is :
       ∙ ap (λ (b : Bool). cond b (number_plan delta (kept_shown item) (number_in item.bytes.now)) (Keep Exists)) (sym yes)
       ∙ ap (λ (o : Option CacheItem). delta_plan delta (option_map kept_shown o)) (sym live_is)
 
-  pub number_put : (head : Head) (n : ℕ) (text spaces : List ℕ) (k most : ℕ) → head ≡ renewed item.head delta.cas → n ≡ changed delta.change old → text ≡ decimal n → spaces ≡ replicate most 32 → k ≡ length item.bytes.now - length text → length item.bytes.now ≤ most →
+  pub number_put : (head : Head) (n : ℕ) (text spaces : List ℕ) (k most : ℕ) → head ≡ counted item.head delta.cas → n ≡ changed delta.change old → text ≡ decimal n → spaces ≡ replicate most 32 → k ≡ length item.bytes.now - length text → length item.bytes.now ≤ most →
       Store (record { head = head; bytes = text ++ take k spaces }) (Number n) ≡ delta_plan delta (option_map kept_shown live)
   number_put head n text spaces k most head_is n_is text_is spaces_are k_is short =
       let m = changed delta.change old in
@@ -33,7 +33,7 @@ module _ (delta : Delta) (live : Option CacheItem) (item : CacheItem) (live_is :
       let pad : k ≡ len - length (decimal m) = k_is ∙ ap (λ (t : List ℕ). len - length t) written in
       let back : take k spaces ≡ replicate (len - length (decimal m)) 32 = ap (take k) spaces_are ∙ take-replicate k most 32 (omega (arith, k_is, short)) ∙ ap (λ j. replicate j 32) pad in
       ap (λ (h : Head). stores h text (take k spaces) n) head_is
-      ∙ ap (λ (t : List ℕ). stores (renewed item.head delta.cas) t (take k spaces) n) written
-      ∙ ap (λ (b : List ℕ). stores (renewed item.head delta.cas) (decimal m) b n) back
-      ∙ ap (stores (renewed item.head delta.cas) (decimal m) (replicate (len - length (decimal m)) 32)) n_is
+      ∙ ap (λ (t : List ℕ). stores (counted item.head delta.cas) t (take k spaces) n) written
+      ∙ ap (λ (b : List ℕ). stores (counted item.head delta.cas) (decimal m) b n) back
+      ∙ ap (stores (counted item.head delta.cas) (decimal m) (replicate (len - length (decimal m)) 32)) n_is
       ∙ planned

@@ -1,5 +1,5 @@
 -- What a command does to a lane.
-use Rattle.std.specs.Prelude.{◌≡◌, ◌<◌, ◌⊎◌, ℕ, List, length, Option, Bool, Result, Ok, Err}
+use Rattle.std.specs.Prelude.{◌≡◌, ◌<◌, ◌⊎◌, ℕ, List, length, Option, Some, None, Bool, Result, Ok, Err}
 use Rattle.record_pages.specs.Expiry.{timed}
 use Rattle.record_pages.specs.Sizes.{object_size, room}
 use Rattle.record_pages.specs.declared.answer.Answer.{Answer}
@@ -15,6 +15,8 @@ use Rattle.std.specs.Option.{option_map}
 use Rattle.item_lane.specs.declared.cache_item.CacheItem.{CacheItem}
 use Rattle.item_lane.specs.Cells.{Kept, kept_shown, cell_text, expires_of}
 use Rattle.item_lane.specs.Live.{live_in}
+use Rattle.item_lane.specs.declared.condition.Condition.{Condition}
+use Rattle.item_lane.specs.Choosing.{set_plan, store_plan}
 use Rattle.item_lane.specs.Plans.{Plan, Keep, Store, Remove}
 
 -- a key with the cell of an item, which expires when the item does
@@ -70,3 +72,8 @@ pub record DoesAndGives {D : Type 0} (size : ℕ) (honest : D → Bool) (failure
   pub gets : Gets size honest failures held key turn.moment answer old between
   pub item_is : option_map kept_shown item ≡ live_in turn.flushed answer
   pub follows : Follows size held key turn.word (plan_for (live_in turn.flushed answer)) between result new
+
+-- A store by this condition of the live item; with none nothing is read, and it is a set.
+abbrev pub SetsAs : {D : Type 0} → ℕ → (D → Bool) → (D → ℕ) → (D → ℕ → Option (List ℕ)) → List ℕ → CommandTurn → Option Condition → Kept → Serving D → Result CommandReply PutFault → Serving D → Type 0
+SetsAs size honest failures held key turn None given old result new = Follows size held key turn.word (set_plan given) old result new
+SetsAs size honest failures held key turn (Some condition) given old result new = Does size honest failures held key turn (store_plan condition given) old result new

@@ -3,4 +3,5 @@ pub mod Live
 pub mod Plans
 pub mod Numbers
 pub mod Choosing
+pub mod Meta
 pub mod Doing

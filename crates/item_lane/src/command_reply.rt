@@ -1,5 +1,7 @@
 // What a command replies.
 
+use crate::item_marks::ItemMarks;
+
 /// What a command replies, as the protocol has it.
 #[derive(Clone, Copy, Debug, PartialEq, Eq)]
 pub enum CommandReply {
@@ -15,6 +17,10 @@ pub enum CommandReply {
     Deleted,
     /// The item has the new expiry.
     Touched,
+    /// The item was marked as stale.
+    Invalidated,
+    /// There is an item, and this is told of it.
+    Found(ItemMarks),
     /// The item holds this number.
     Number(u64),
     /// The item holds no number. Nothing changed.

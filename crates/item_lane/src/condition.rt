@@ -3,7 +3,7 @@ ghost use Rattle.std.specs.Prelude.{◌≡◌};
 ghost use Rattle.std.specs.Option.{option_map};
 ghost use Rattle.item_lane.specs.Cells.{kept_shown};
 ghost use Rattle.item_lane.specs.Plans.{plan_shown, parts_shown};
-ghost use Rattle.item_lane.specs.Choosing.{agrees, absent_plan, present_plan, store_plan, over};
+ghost use Rattle.item_lane.specs.Choosing.{agrees, is_older, absent_plan, present_plan, older_plan, store_plan, over, stale_over};
 
 use crate::cache_item::CacheItem;
 use crate::command_reply::CommandReply;
@@ -21,6 +21,9 @@ pub enum StoreMode {
     Append,
     /// Stores the data before those of the item, only if there is one.
     Prepend,
+    /// Stores only if there is one. Over an item with a greater number than the one to compare it stores a stale item, which has
+    /// the expiry of the one that was there, and its mark of a client that won.
+    Invalidate,
 }
 
 /// When a store is made. The command `cas` is `Replace` with a number to compare.
@@ -54,12 +57,11 @@ impl Condition {
     {
         match self.mode {
             StoreMode::Add => CommandVerdict::Store(ItemParts::of(given), CommandReply::Stored),
-            StoreMode::Replace if self.compare.is_some() => CommandVerdict::Keep(
-                CommandReply::NotFound,
-            ),
-            StoreMode::Replace | StoreMode::Append | StoreMode::Prepend => {
-                CommandVerdict::Keep(CommandReply::NotStored)
+            StoreMode::Replace | StoreMode::Invalidate if self.compare.is_some() => {
+                CommandVerdict::Keep(CommandReply::NotFound)
             }
+            StoreMode::Replace | StoreMode::Append | StoreMode::Prepend | StoreMode::Invalidate =>
+                CommandVerdict::Keep(CommandReply::NotStored),
         }
     }
 
@@ -71,10 +73,48 @@ impl Condition {
         if self.mode == StoreMode::Add {
             return CommandVerdict::Keep(CommandReply::NotStored);
         }
-        if !agrees(self.compare, &item.head) {
-            return CommandVerdict::Keep(CommandReply::Exists);
+        if agrees(self.compare, &item.head) {
+            return CommandVerdict::Store(stored_over(self.mode, given, item), CommandReply::Stored);
         }
-        CommandVerdict::Store(stored_over(self.mode, given, item), CommandReply::Stored)
+        if self.mode == StoreMode::Invalidate {
+            return older_verdict(self.compare, given, item);
+        }
+        CommandVerdict::Keep(CommandReply::Exists)
+    }
+}
+
+// What a store that invalidates does about an item that has another number than the one that is asked for.
+fn older_verdict<'a>(
+    compare: Option<u64>,
+    given: CacheItem<'a>,
+    item: CacheItem<'a>,
+) -> CommandVerdict<'a>
+    ensures { plan_shown result ≡ older_plan compare (kept_shown given.entry) (kept_shown item.entry) }
+{
+    if !is_older(compare, &item.head) {
+        return CommandVerdict::Keep(CommandReply::Exists);
+    }
+    let head = Head {
+        flags: given.head.flags,
+        cas: given.head.cas,
+        expires: item.head.expires,
+        is_stale: true,
+        is_won: item.head.is_won,
+    };
+    let stale = CacheItem {
+        head,
+        bytes: given.bytes,
+    };
+    CommandVerdict::Store(ItemParts::of(stale), CommandReply::Stored)
+}
+
+// Whether the number that is asked for is lower than the item's.
+fn is_older(compare: Option<u64>, head: &Head) -> bool
+    ensures { result ≡ is_older compare head.now }
+{
+    match compare {
+        Some(cas) => cas < head.cas,
+        None => false,
     }
 }
 
@@ -94,7 +134,7 @@ fn stored_over<'a>(mode: StoreMode, given: CacheItem<'a>, item: CacheItem<'a>) -
 {
     let head = item.head.renewed(given.head.cas);
     match mode {
-        StoreMode::Add | StoreMode::Replace => ItemParts::of(given),
+        StoreMode::Add | StoreMode::Replace | StoreMode::Invalidate => ItemParts::of(given),
         StoreMode::Append => ItemParts {
             head,
             front: item.bytes,

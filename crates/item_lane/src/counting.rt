@@ -34,7 +34,7 @@ pub struct Delta {
 
 /// `incr` and `decr`: changes the number that the live item of a key holds. It holds one if its data are one to twenty decimal
 /// digits of a number below 2^64, and after them only spaces. The new number is written in decimal, with spaces after it up to
-/// the length that the data had. The item keeps its flags and its expiry.
+/// the length that the data had. The item keeps its flags, its expiry and its marks.
 ///
 /// It replies `Number` with the new number, `NotNumber`, `NotFound`, or `Exists` if the item has another cas unique than the
 /// one that is asked for. A store that is refused removes the key, as `set` does.
@@ -60,7 +60,7 @@ pub fn change_number<D: PageDevice<PAGE>, const PAGE: usize>(
 
 impl Delta {
     // What a change does about the live item.
-    fn verdict<'a>(
+    pub(crate) fn verdict<'a>(
         self,
         live: Option<CacheItem<'a>>,
         digits: &'a mut Buffer,
@@ -82,7 +82,7 @@ impl Delta {
         let number = self.change.of(old);
         let text = digits.format(number).as_bytes();
         let parts = ItemParts {
-            head: item.head.renewed(self.cas),
+            head: item.head.counted(self.cas),
             front: text,
             back: &spaces[..item.bytes.len().saturating_sub(text.len())],
         };

@@ -1,7 +1,7 @@
 // What is kept of an item beside its data.
 ghost use Rattle.std.specs.Prelude.{◌≡◌, ◌+◌, ◌≤◌};
 ghost use Rattle.item_lane.specs.Cells.{marks_of, head_len, expires_of};
-ghost use Rattle.item_lane.specs.Choosing.{renewed};
+ghost use Rattle.item_lane.specs.Choosing.{renewed, counted};
 
 use record_pages::NEVER;
 
@@ -55,6 +55,13 @@ impl Head {
             is_stale: false,
             is_won: false,
         }
+    }
+
+    /// The head of the item after its number was changed: it gets this cas unique, and all else stays, its marks too.
+    pub(crate) fn counted(&self, cas: u64) -> Head
+        ensures { result ≡ counted self.now cas }
+    {
+        Head { cas, ..*self }
     }
 
     /// The moment at which the item expires, as the lane has it.

@@ -36,8 +36,8 @@ pub fn set<D: PageDevice<PAGE>, const PAGE: usize>(
     follow(lane, alloc, key, turn.word, verdict)
 }
 
-/// `add`, `replace`, `append`, `prepend` and `cas`: stores an item if the condition holds of the live one. The head brings the
-/// number that the item gets; an appended or prepended item keeps its flags and its expiry.
+/// `add`, `replace`, `append`, `prepend` and `cas`, and `ms` that invalidates: stores an item if the condition holds of the live
+/// one. The head brings the number that the item gets; an appended or prepended item keeps its flags and its expiry.
 ///
 /// It replies `Stored`, `NotStored`, `Exists` or, for `Replace` with a number, `NotFound`. A store that is refused removes the
 /// key, as `set` does; one that is not made changes nothing.

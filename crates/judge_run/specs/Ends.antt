@@ -1,5 +1,5 @@
 -- How the program ends.
-use Rattle.std.specs.Prelude.{◌≡◌, ◌⊎◌, ℕ, Result, Ok, Err}
+use Rattle.std.specs.Prelude.{◌≡◌, ◌⊎◌, ℕ, Result, Ok, Err, length, nat_lt, if◌then◌else◌}
 use Rattle.judge_run.specs.declared.judge_end.JudgeEnd.{JudgeEnd}
 use Rattle.judge_run.specs.declared.judge_end.JudgeEnd.TheVariants as ends
 use Rattle.judge_run.specs.declared.outcome.Outcome.{Outcome}
@@ -16,6 +16,14 @@ end_of_outcome (Rejected rejection) = ends.Rejected
 end_of_outcome (Undecided hits) = ends.Undecided
 end_of_outcome (BadLine bad) = ends.BadInput
 end_of_outcome (BadTrace fault) = ends.BadInput
+
+-- how it ends, by the outcome of judging, if an accepted history has to have so many calls
+abbrev pub end_at_least : ℕ → Outcome → JudgeEnd
+end_at_least least (Accepted trace) = if nat_lt (length trace.history) least then ends.TooFew else ends.Done
+end_at_least least (Rejected rejection) = ends.Rejected
+end_at_least least (Undecided hits) = ends.Undecided
+end_at_least least (BadLine bad) = ends.BadInput
+end_at_least least (BadTrace fault) = ends.BadInput
 
 -- how it ends, by the outcome of showing
 abbrev pub end_of_shown : Shown → JudgeEnd
@@ -34,6 +42,7 @@ abbrev pub status_of : JudgeEnd → ℕ
 status_of ends.Done = 0
 status_of ends.Rejected = 1
 status_of ends.BadInput = 2
+status_of ends.TooFew = 2
 status_of ends.OutOfMemory = 3
 status_of ends.FileFault = 3
 status_of ends.Undecided = 4
@@ -43,10 +52,10 @@ abbrev pub IsFault : JudgeEnd → Type 0
 IsFault end = (end ≡ ends.OutOfMemory) ⊎ (end ≡ ends.FileFault)
 
 -- it ends as the outcome of judging says, or a file that was wanted beside it was not written
-abbrev pub IsSaved : Outcome → JudgeEnd → Type 0
-IsSaved outcome end = (end ≡ end_of_outcome outcome) ⊎ IsFault end
+abbrev pub IsSaved : ℕ → Outcome → JudgeEnd → Type 0
+IsSaved least outcome end = (end ≡ end_at_least least outcome) ⊎ IsFault end
 
--- how it ends after an answer
-abbrev pub IsEnded : Result Outcome TellFault → JudgeEnd → Type 0
-IsEnded (Ok outcome) end = IsSaved outcome end
-IsEnded (Err fault) end = end ≡ end_of_fault fault
+-- how it ends after an answer, if an accepted history has to have so many calls
+abbrev pub IsEnded : ℕ → Result Outcome TellFault → JudgeEnd → Type 0
+IsEnded least (Ok outcome) end = IsSaved least outcome end
+IsEnded least (Err fault) end = end ≡ end_of_fault fault

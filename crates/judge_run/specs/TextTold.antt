@@ -16,6 +16,7 @@ use Rattle.history_text.specs.declared.bad_line.BadLine as bad_lines
 use Rattle.history_text.specs.Causes.{bad_line_text, cause_text}
 use Rattle.history_text.specs.Text.{Text, text_by, text_of}
 use Rattle.judge_run.specs.FoundRows.{calls_row, found_rows, undecided_rows, verdict_row}
+use Rattle.judge_run.specs.Kinds.{kind_rows}
 use Rattle.judge_run.specs.Telling.{verdict_text}
 use Rattle.trace_file.specs.declared.call.Call.{Call}
 use Rattle.trace_file.specs.declared.trace.Trace.{Trace}
@@ -44,9 +45,10 @@ bad_text bad = bad_line_text bad ++ codes "\n"
 abbrev pub bad_line_rows : bad_lines.BadLine → List Row
 bad_line_rows bad = verdict_row (codes "bad line") ∷ row (codes "line") (number bad.number) ∷ row (codes "cause") (word (cause_text bad.cause)) ∷ []
 
--- the answer to a history of this many calls that is accepted
-abbrev pub accepted_answer : Form → ℕ → List ℕ
-accepted_answer form calls = answered form (accepted_text calls) (calls_row calls ∷ verdict_row (codes "accepted") ∷ [])
+-- the answer to a history of these calls that is accepted
+abbrev pub accepted_answer : Form → List Call → List ℕ
+accepted_answer form calls =
+    answered form (accepted_text (length calls)) (calls_row (length calls) ∷ (kind_rows calls ++ verdict_row (codes "accepted") ∷ []))
 
 -- the answer by what was found for calls, which stand on these lines, begun
 abbrev pub found_begun : Form → List Call → List ℕ → Found → List ℕ
@@ -56,9 +58,9 @@ found_begun form calls lines found = begun form (verdict_text calls lines found)
 abbrev pub rejected_begun : Form → Text → Witness → List ℕ
 rejected_begun form text witness = found_begun form text.calls text.lines (found.Rejected witness)
 
--- the answer to a history of this many calls with this many undecided hits
-abbrev pub undecided_answer : Form → ℕ → ℕ → List ℕ
-undecided_answer form calls hits = answered form (undecided_text hits) (calls_row calls ∷ undecided_rows hits)
+-- the answer to a history of these calls with this many undecided hits
+abbrev pub undecided_answer : Form → List Call → ℕ → List ℕ
+undecided_answer form calls hits = answered form (undecided_text hits) (calls_row (length calls) ∷ (kind_rows calls ++ undecided_rows hits))
 
 -- the answer to a text with a bad line
 abbrev pub bad_answer : Form → bad_lines.BadLine → List ℕ
@@ -68,7 +70,7 @@ bad_answer form bad = answered form (bad_text bad) (bad_line_rows bad)
 pub record AcceptedTold (form : Form) (text : Text) (trace : Trace) (told : List ℕ) : Type 0 where
   pub history_is : trace.history ≡ text.calls
   pub accepted : IsAccepted text.calls trace.certificate
-  pub told_is : told ≡ accepted_answer form (length text.calls)
+  pub told_is : told ≡ accepted_answer form text.calls
 
 -- no certificate is accepted, for this reason, and that is reported, with what is wanted after it
 pub record RejectedTold (form : Form) (text : Text) (explain : Bool) (rejection : Rejection) (told : List ℕ) : Type 0 where
@@ -83,7 +85,7 @@ pub record UndecidedTold (form : Form) (text : Text) (count : ℕ) (told : List 
   pub hits : List ℕ
   pub are : AreUndecided text.calls hits
   pub count_is : count ≡ length hits
-  pub told_is : told ≡ undecided_answer form (length text.calls) (length hits)
+  pub told_is : told ≡ undecided_answer form text.calls (length hits)
 
 -- the report on a history, by the outcome of judging it
 abbrev pub IsHistoryTold : Form → Text → Bool → Outcome → List ℕ → Type 0

@@ -1,6 +1,6 @@
 // How the program ends that judged, checked or showed.
 ghost use Rattle.std.specs.Prelude.{◌≡◌};
-ghost use Rattle.judge_run.specs.Ends.{end_of_fault, end_of_outcome, status_of};
+ghost use Rattle.judge_run.specs.Ends.{end_at_least, end_of_fault, end_of_outcome, status_of};
 
 use crate::outcome::Outcome;
 use crate::tell_fault::TellFault;
@@ -14,6 +14,8 @@ pub enum JudgeEnd {
     Rejected,
     /// The input was bad: a line, a trace, a key, or a call that has no text.
     BadInput,
+    /// The history was accepted, and has fewer calls than it has to have.
+    TooFew,
     /// Nothing was found wrong, and hits were not decided.
     Undecided,
     /// Memory was refused.
@@ -29,6 +31,24 @@ impl JudgeEnd {
     {
         match outcome {
             Outcome::Accepted(_) => JudgeEnd::Done,
+            Outcome::Rejected(_) => JudgeEnd::Rejected,
+            Outcome::Undecided(_) => JudgeEnd::Undecided,
+            Outcome::BadLine(_) | Outcome::BadTrace(_) => JudgeEnd::BadInput,
+        }
+    }
+
+    /// How the program ends that reported this outcome, if an accepted history has to have so many calls.
+    pub fn at_least(least: usize, outcome: &Outcome) -> JudgeEnd
+        ensures { result ≡ end_at_least least outcome.now }
+    {
+        match outcome {
+            Outcome::Accepted(trace) => {
+                if trace.history.len() < least {
+                    JudgeEnd::TooFew
+                } else {
+                    JudgeEnd::Done
+                }
+            }
             Outcome::Rejected(_) => JudgeEnd::Rejected,
             Outcome::Undecided(_) => JudgeEnd::Undecided,
             Outcome::BadLine(_) | Outcome::BadTrace(_) => JudgeEnd::BadInput,
@@ -52,7 +72,7 @@ impl JudgeEnd {
         match self {
             JudgeEnd::Done => 0,
             JudgeEnd::Rejected => 1,
-            JudgeEnd::BadInput => 2,
+            JudgeEnd::BadInput | JudgeEnd::TooFew => 2,
             JudgeEnd::OutOfMemory | JudgeEnd::FileFault => 3,
             JudgeEnd::Undecided => 4,
         }

@@ -10,6 +10,7 @@ mod judged_text;
 mod judging_text;
 mod judging_texts;
 mod key_word;
+mod kinds;
 mod names;
 mod notes;
 mod outcome;

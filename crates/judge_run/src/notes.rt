@@ -25,6 +25,20 @@ fn note_calls<E: Write>(err: &mut E, name: &str, calls: usize) {
     }
 }
 
+/// Tells that an accepted history has fewer calls than it has to have.
+pub(crate) fn note_few<E: Write>(err: &mut E, name: &str, outcome: &Outcome, least: usize) {
+    if let Outcome::Accepted(trace) = outcome {
+        let calls = trace.history.len();
+        if calls < least {
+            let _ = write!(
+                err,
+                "{name}: {calls} calls, and --at-least asks for {least}: see whether the recorder wrote all of them\n"
+            );
+            let _ = err.flush();
+        }
+    }
+}
+
 /// Tells how to decide what hits read.
 fn note_undecided<E: Write>(err: &mut E, name: &str, hits: usize) {
     let _ = write!(

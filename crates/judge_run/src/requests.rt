@@ -14,6 +14,8 @@ pub struct JudgeRequest {
     pub picture: Option<FileName>,
     /// The file that an accepted history is written to, as a trace with the certificate that was found.
     pub trace: Option<FileName>,
+    /// How many calls an accepted history has to have.
+    pub at_least: u32,
 }
 
 /// The trace that is to be judged, and what is wanted beside its verdict.

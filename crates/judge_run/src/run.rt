@@ -10,7 +10,7 @@ use crate::checking::answer_check;
 use crate::inputs::{input_name, is_standard_input};
 use crate::judge_end::JudgeEnd;
 use crate::judging_texts::answer_judge;
-use crate::notes::{note_answer, note_bad_trace};
+use crate::notes::{note_answer, note_bad_trace, note_few};
 use crate::outcome::Outcome;
 use crate::requests::{CheckRequest, JudgeRequest, ShowRequest};
 use crate::saving::save;
@@ -38,7 +38,7 @@ pub fn run_judge<R: AllocGlobal + Files + Input + RandomSource, O: Write, E: Wri
     out: &mut O,
     err: &mut E,
 ) -> u8
-    ensures { IsJudgeRun (form_of request.now.json) request.now.explain
+    ensures { IsJudgeRun (form_of request.now.json) request.now.explain request.now.at_least
         (O.contents out.old) (O.contents out.new) result }
 {
     judge_with(rt, &mut rt.reader(), request, out, err)
@@ -53,10 +53,10 @@ pub fn judge_with<R: AllocGlobal + Files + RandomSource, I: Read, O: Write, E: W
     err: &mut E,
 ) -> u8
     ensures judged { IsJudgeRun (form_of request.now.json) request.now.explain
-        (O.contents out.old) (O.contents out.new) result }
+        request.now.at_least (O.contents out.old) (O.contents out.new) result }
     ensures standard_input { IsStandardInput request.now.file → IsJudgeRunOn
         (form_of request.now.json) (I.remaining stdin.old) request.now.explain
-        (O.contents out.old) (O.contents out.new) result }
+        request.now.at_least (O.contents out.old) (O.contents out.new) result }
     ensures unread { ¬ IsStandardInput request.now.file → stdin.new ≡ stdin.old }
 {
     let seed = match RandomSeed::draw(rt) {
@@ -82,13 +82,14 @@ fn judge_from<R: AllocGlobal + Files, I: Read, O: Write, E: Write>(
     err: &mut E,
 ) -> u8
     ensures { IsJudgeRunOn (form_of request.now.json) (I.remaining reader.old) request.now.explain
-        (O.contents out.old) (O.contents out.new) result }
+        request.now.at_least (O.contents out.old) (O.contents out.new) result }
 {
     let form = Form::of(request.json);
     let answer = answer_judge(rt.alloc(), seed, form, request.explain, reader, out);
     let trace = request.trace.as_ref();
     let picture = request.picture.as_ref();
-    let end = settled(rt, &request.file, answer, trace, picture, err);
+    let least = request.at_least as usize;
+    let end = settled(rt, &request.file, answer, trace, picture, least, err);
     end.status()
 }
 
@@ -152,26 +153,28 @@ fn check_from<R: AllocGlobal + Files, I: Read, O: Write, E: Write>(
     let form = Form::of(request.json);
     let answer = answer_check(rt.alloc(), seed, form, request.explain, reader, out);
     let picture = request.picture.as_ref();
-    let end = settled(rt, &request.file, answer, None, picture, err);
+    let end = settled(rt, &request.file, answer, None, picture, 0, err);
     end.status()
 }
 
-/// How the program ends after an answer to the input of a file: what is to be saved is saved, and what failed is
-/// reported.
+/// How the program ends after an answer to the input of a file, if an accepted history has to have so many calls: what is to
+/// be saved is saved, and what failed is reported.
 fn settled<R: AllocGlobal + Files, E: Write>(
     rt: &R,
     file: &FileName,
     answer: Result<Outcome, TellFault>,
     trace: Option<&FileName>,
     picture: Option<&FileName>,
+    least: usize,
     err: &mut E,
 ) -> JudgeEnd
-    ensures { IsEnded answer result }
+    ensures { IsEnded least answer result }
 {
     match answer {
         Ok(outcome) => {
             note_answer(err, input_name(file), &outcome);
-            save(rt, trace, picture, &outcome, err)
+            note_few(err, input_name(file), &outcome, least);
+            save(rt, trace, picture, &outcome, least, err)
         }
         Err(fault) => untold(err, input_name(file), fault),
     }

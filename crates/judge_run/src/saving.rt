@@ -13,15 +13,16 @@ use std::rt::Files;
 use trace_file::{FileName, Trace, write_trace};
 
 /// Writes the trace of an accepted history, or the picture of a rejected one, to its file, if that is wanted, and says how the
-/// program ends. A file to which nothing is to be written is left as it is.
+/// program ends, if an accepted history has to have so many calls. A file to which nothing is to be written is left as it is.
 pub(crate) fn save<R: AllocGlobal + Files, E: Write>(
     rt: &R,
     trace: Option<&FileName>,
     picture: Option<&FileName>,
     outcome: &Outcome,
+    least: usize,
     err: &mut E,
 ) -> JudgeEnd
-    ensures { IsSaved outcome.now result }
+    ensures { IsSaved least outcome.now result }
 {
     let saved = match outcome {
         Outcome::Accepted(pair) => match trace {
@@ -35,7 +36,7 @@ pub(crate) fn save<R: AllocGlobal + Files, E: Write>(
         Outcome::Undecided(_) | Outcome::BadLine(_) | Outcome::BadTrace(_) => Ok(()),
     };
     match saved {
-        Ok(()) => JudgeEnd::of_outcome(outcome),
+        Ok(()) => JudgeEnd::at_least(least, outcome),
         Err(end) => end,
     }
 }

@@ -7,6 +7,7 @@ ghost use Rattle.judge_run.specs.FoundRows.{found_rows, rejected_rows, undecided
 
 use crate::judged_text::JudgedText;
 use crate::key_word::{key_word, kind_word};
+use crate::kinds::tell_kinds;
 use crate::told_lines::lines_of;
 use certificate_finder::{Found, Witness};
 use figures::{Figure, Form};
@@ -46,7 +47,7 @@ fn tell_undecided(
         ≡ with_rows form (string_bytes text.old) (undecided_rows hits)) }
 {
     form.tell(alloc, text, "verdict", Figure::Word("undecided"))?;
-    form.tell(alloc, text, "hits", Figure::Count(hits as u64))
+    form.tell(alloc, text, "undecided-hits", Figure::Count(hits as u64))
 }
 
 /// Tells what was found for the history of a text, after the number of its calls.
@@ -75,9 +76,10 @@ fn tell_verdict<S: BuildHasher>(
     }
 }
 
-/// Tells what was found for the history of a text by rows: `calls`, the number of its calls, and `verdict`, which is `accepted`,
-/// `rejected` or `undecided`. After `rejected` come the `kind` of the reason, its `key` and the `lines` that it speaks of;
-/// after `undecided` comes the number of the `hits`. If memory is refused, the text is a front of the whole.
+/// Tells what was found for the history of a text by rows: `calls`, the number of its calls, then how many of them are `puts`,
+/// `removals`, `hits` and `misses`, and `verdict`, which is `accepted`, `rejected` or `undecided`. After `rejected` come the `kind`
+/// of the reason, its `key` and the `lines` that it speaks of; after `undecided` comes the number of the `undecided-hits`. If memory
+/// is refused, the text is a front of the whole.
 pub fn tell_found<S: BuildHasher>(
     alloc: Global,
     form: Form,
@@ -91,6 +93,7 @@ pub fn tell_found<S: BuildHasher>(
 {
     let calls = judged.text.history.len();
     form.tell(alloc, text, "calls", Figure::Count(calls as u64))?;
+    tell_kinds(alloc, form, text, &judged.text.history)?;
     match tell_verdict(alloc, form, text, judged) {
         Ok(()) => Ok(()),
         Err(refused) => Err(refused),

@@ -1,7 +1,8 @@
 // The answers to texts.
-ghost use Rattle.std.specs.Prelude.{◌≡◌, IfOk, OnOk, string_bytes};
+ghost use Rattle.std.specs.Prelude.{◌≡◌, [], IfOk, OnOk, string_bytes};
 ghost use Rattle.certificate_finder.specs.Finding.{IsFound};
 ghost use Rattle.figures.specs.Figures.{with_rows};
+ghost use Rattle.judge_run.specs.FoundRows.{found_rows};
 ghost use Rattle.judge_run.specs.TextTold.{bad_answer, bad_line_rows, found_begun};
 
 use crate::judged_text::JudgedText;
@@ -27,13 +28,23 @@ pub(crate) fn found_begun<S: BuildHasher>(
             Ok(line) => Ok(line),
             Err(refused) => Err(refused),
         },
-        Form::Json => {
-            let mut text = String::new(alloc);
-            match tell_found(alloc, form, &mut text, judged) {
-                Ok(()) => Ok(text),
-                Err(refused) => Err(refused),
-            }
-        }
+        Form::Json => match members_of(alloc, judged) {
+            Ok(text) => Ok(text),
+            Err(refused) => Err(refused),
+        },
+    }
+}
+
+/// The members of a JSON object that tell what was found.
+fn members_of<S: BuildHasher>(alloc: Global, judged: &JudgedText<S>) -> Result<String, AllocError>
+    requires { IsFound judged.now.text.history judged.now.found }
+    ensures { IfOk result (λ text. string_bytes text ≡ with_rows Form.Json []
+        (found_rows judged.now.text.history judged.now.text.lines.items judged.now.found)) }
+{
+    let mut text = String::new(alloc);
+    match tell_found(alloc, Form::Json, &mut text, judged) {
+        Ok(()) => Ok(text),
+        Err(refused) => Err(refused),
     }
 }
 

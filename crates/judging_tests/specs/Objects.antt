@@ -10,13 +10,14 @@ use Rattle.figures.specs.Figures.{number, row, text_of_rows, word}
 use Rattle.figures.specs.Verdicts.{verdict_rows}
 use Rattle.history_picture.specs.Reasons.{reason_of}
 use Rattle.judge_run.specs.FoundRows.{found_rows}
+use Rattle.judge_run.specs.Kinds.{kind_rows}
 use Rattle.trace_file.specs.declared.trace.Trace.{Trace}
 use Rattle.judge_run.specs.declared.rejection.Rejection.{Rejection}
 
 -- the object of a history that is accepted
 abbrev pub accepted_object : Trace → List ℕ
 accepted_object trace =
-    text_of_rows Json (row (codes "calls") (number (length trace.history)) ∷ row (codes "verdict") (word (codes "accepted")) ∷ [])
+    text_of_rows Json (row (codes "calls") (number (length trace.history)) ∷ (kind_rows trace.history ++ row (codes "verdict") (word (codes "accepted")) ∷ []))
 
 -- the object of a history of this many calls that is rejected for this fault
 abbrev pub rejected_object : ℕ → Fault → List ℕ

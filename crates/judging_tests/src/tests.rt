@@ -1,4 +1,5 @@
 mod commands;
 mod finder;
 mod pictures;
+mod skew;
 mod texts;

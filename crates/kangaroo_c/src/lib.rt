@@ -13,6 +13,7 @@ mod lanes;
 mod lent;
 mod lent_pages;
 mod parts;
+mod sessions;
 mod sizes;
 mod tending;
 mod traces;

@@ -56,11 +56,13 @@ pub fn load_with(numbers: &[u32; 17], json: bool, device: Option<FileName>, trac
 }
 
 /// The load of a cache that serves with these numbers, one for each of `SERVE_SETTINGS` in their order, made for so many bytes
-/// of flash and of memory if they are given, whose devices are files of this folder, or in memory if there is none.
+/// of flash and of memory if they are given, whose keys are drawn by Zipf's law or alike, and whose devices are files of this folder,
+/// or in memory if there is none.
 pub fn served_with(
-    numbers: &[u32; 19],
+    numbers: &[u32; 20],
     size: Option<u64>,
     memory_bytes: Option<u64>,
+    zipf: bool,
     json: bool,
     device: Option<FileName>,
 ) -> ServeLoad
@@ -68,6 +70,7 @@ pub fn served_with(
     ensures numbers { served_numbers_of result ≡ numbers.now }
     ensures size { result.size ≡ size }
     ensures memory { result.memory_bytes ≡ memory_bytes }
+    ensures zipf { result.zipf ≡ zipf }
     ensures json { result.json ≡ json }
     ensures device { result.device ≡ device }
 {
@@ -84,8 +87,10 @@ pub fn served_with(
         ttl: numbers[16],
         shards: numbers[17],
         leases: numbers[18],
+        seconds: numbers[19],
         size,
         memory_bytes,
+        zipf,
         json,
         device,
     }

@@ -33,10 +33,14 @@ pub struct ServeLoad {
     pub shards: u32,
     /// Slots of each lane for leases; 0 for no leases.
     pub leases: u32,
+    /// Seconds after which no caller begins an operation; 0 for no such limit.
+    pub seconds: u32,
     /// Bytes of flash that the cache is to be made for, of all lanes together; none if its numbers are given.
     pub size: Option<u64>,
     /// Bytes of memory that the cache is to be made for, if a size is given; none for a part of the size.
     pub memory_bytes: Option<u64>,
+    /// Whether keys are drawn by Zipf's law and not alike.
+    pub zipf: bool,
     /// Whether what is reported is a JSON object and not lines.
     pub json: bool,
     /// The folder of the lanes' files; none for devices in memory.
@@ -51,4 +55,5 @@ pub struct ServeLoad {
     ghost ttl_range: { ttl ≤ 1000000000 },
     ghost shards_range: { (1 ≤ shards) × (shards ≤ 1024) },
     ghost leases_range: { leases ≤ 1048576 },
+    ghost seconds_range: { seconds ≤ 2147483648 },
 }

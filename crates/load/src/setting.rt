@@ -55,6 +55,8 @@ pub enum Setting {
     ServedValueBytes,
     /// Operations of its caller after which a put expires; 0 for never.
     ServedTtl,
+    /// Seconds after which no operation is begun; 0 for no such limit.
+    Seconds,
 }
 
 /// The settings of a run in their order.
@@ -79,7 +81,7 @@ pub const SETTINGS: [Setting; 17] = [
 ];
 
 /// The settings of a load of a cache that serves, in their order.
-pub const SERVE_SETTINGS: [Setting; 19] = [
+pub const SERVE_SETTINGS: [Setting; 20] = [
     Setting::Lanes,
     Setting::Sets,
     Setting::Memory,
@@ -99,6 +101,7 @@ pub const SERVE_SETTINGS: [Setting; 19] = [
     Setting::ServedTtl,
     Setting::Shards,
     Setting::Leases,
+    Setting::Seconds,
 ];
 
 /// The settings that the size of a cache determines: with a size none of them may be given.
@@ -137,6 +140,7 @@ impl Setting {
             Setting::Ttl | Setting::ServedTtl => "ttl",
             Setting::Shards => "shards",
             Setting::Leases => "leases",
+            Setting::Seconds => "seconds",
         }
     }
 
@@ -213,6 +217,9 @@ impl Setting {
             Setting::ServedTtl => {
                 "Lifetime of a value, counted in its caller's operations, 0 to\n1000000000; 0 means forever. [default: 0]"
             }
+            Setting::Seconds => {
+                "Seconds after which no caller begins an operation, 0 to 2147483648;\n0 sets no limit. --operations may end it before. [default: 0]"
+            }
         }
     }
 
@@ -261,6 +268,7 @@ impl Setting {
             Setting::ServedKeys => 1..=100000000,
             Setting::ServedValueBytes => 8..=2048,
             Setting::ServedTtl => 0..=1000000000,
+            Setting::Seconds => 0..=2147483648,
         }
     }
 
@@ -297,7 +305,7 @@ impl Setting {
             Setting::Gets => "70",
             Setting::Removes => "5",
             Setting::Seed | Setting::Shards => "1",
-            Setting::Ttl | Setting::ServedTtl | Setting::Leases => "0",
+            Setting::Ttl | Setting::ServedTtl | Setting::Leases | Setting::Seconds => "0",
         }
     }
 

@@ -1,5 +1,5 @@
 -- What a caller of a load makes: its operations in order, each the one that the load's seed and the caller's number determine.
-use Rattle.std.specs.Prelude.{◌≡◌, ◌≢◌, ◌≤◌, ◌<◌, ◌+◌, ◌⊎◌, ℕ, zero, suc, List, [], Bool, true, false, replicate}
+use Rattle.std.specs.Prelude.{◌≡◌, ◌≢◌, ◌≤◌, ◌<◌, ◌+◌, ◌⊎◌, ℕ, zero, suc, List, [], Bool, true, false, Option, Some, None, replicate, slice_index}
 use mathlib.Core.List.{IsPrefix}
 use Rattle.rand_pcg.specs.Lcg.{Lcg, increment_of, started}
 use Rattle.rand_pcg.specs.Pcg.{multiplier_64}
@@ -14,9 +14,14 @@ use Rattle.service_cache.specs.Seated.{put_of}
 use Rattle.service_cache.specs.Calls.{AddsLast}
 use Rattle.serve_load.specs.declared.caller_tally.CallerTally.{CallerTally}
 use Rattle.serve_load.specs.declared.words.CallEnd.{CallEnd}
+use Rattle.serve_load.specs.declared.words.Known.{Known}
 use Rattle.serve_load.specs.declared.words.CallEnd.TheVariants.{Done, Refused, WrongHit}
-use Rattle.serve_load.specs.Objects.{expires_of, key_of, value_of}
-use Rattle.serve_load.specs.Words.{Sets}
+use Rattle.serve_load.specs.declared.caller_stop.CallerStop.{CallerStop}
+use Rattle.serve_load.specs.declared.caller_stop.CallerStop.TheVariants.{AllMade, Halted, TimeOver, Wrong}
+use Rattle.serve_load.specs.declared.told_hit.ToldHit.{ToldHit}
+use Rattle.serve_load.specs.Looking.{IsFound}
+use Rattle.serve_load.specs.Objects.{expires_of, key_of, moment_of, value_of}
+use Rattle.serve_load.specs.Words.{IsRight, Sets}
 
 -- the generator that a caller begins with: its stream is the caller's number
 abbrev pub first_generator : ℕ → ℕ → Lcg
@@ -74,19 +79,19 @@ pub record Forgets (load : ServeLoad) (caller key number : ℕ) (old new : Stand
 abbrev pub Looks : ServeLoad → ℕ → ℕ → ℕ → CallEnd → Standing → Standing → Type 0
 Looks load caller key number Done old new = Keeps old new ⊎ ((load.leases ≢ 0) × Stores load caller key number old new)
 Looks load caller key number Refused old new = Keeps old new
-Looks load caller key number WrongHit old new = Keeps old new
+Looks load caller key number (WrongHit seen) old new = Keeps old new
 
 -- a put went so
 abbrev pub Puts : ServeLoad → ℕ → ℕ → ℕ → CallEnd → Standing → Standing → Type 0
 Puts load caller key number Done old new = Stores load caller key number old new
 Puts load caller key number Refused old new = Forgets load caller key number old new
-Puts load caller key number WrongHit old new = ⊥
+Puts load caller key number (WrongHit seen) old new = ⊥
 
 -- a removal went so; one that is refused is no less done, and nothing more was seen
 abbrev pub Removes : ℕ → ℕ → CallEnd → Standing → Standing → Type 0
 Removes caller key Done old new = Enters key 0 (removal_by caller key) old new
 Removes caller key Refused old new = Sets old.words new.words key 0 × (new.seen ≡ old.seen)
-Removes caller key WrongHit old new = ⊥
+Removes caller key (WrongHit seen) old new = ⊥
 
 -- a caller's operation of this number went so, and left this
 abbrev pub Does : ServeLoad → ℕ → ServeOperation → ℕ → CallEnd → Standing → Standing → Type 0
@@ -98,13 +103,19 @@ Does load caller (Put key) number step old new = Puts load caller key number ste
 abbrev pub is_wrong : CallEnd → Bool
 is_wrong Done = false
 is_wrong Refused = false
-is_wrong WrongHit = true
+is_wrong (WrongHit seen) = true
+
+-- what was known of the key of a wrong hit, if the step is one
+abbrev pub wrong_of : CallEnd → Option Known
+wrong_of Done = None
+wrong_of Refused = None
+wrong_of (WrongHit seen) = Some seen
 
 -- how many operations were refused of one that went so
 abbrev pub refusals_of : CallEnd → ℕ
 refusals_of Done = 0
 refusals_of Refused = 1
-refusals_of WrongHit = 0
+refusals_of (WrongHit seen) = 0
 
 -- an operation of this number was made, of which no hit was wrong; so many of those up to it were refused, and so many before
 pub record Passes (load : ServeLoad) (caller : ℕ) (operation : ServeOperation) (number before refused : ℕ) (old new : Standing) : Type 0 where
@@ -127,28 +138,65 @@ pub record IsAt (load : ServeLoad) (caller : ℕ) (first : Lcg) (number refused 
   pub made : Makes load caller first number refused old now
   pub few : refused ≤ number
 
+-- a caller that made so many operations, of which no hit was wrong, stopped so: after all of them, or as the load has a limit of
+-- time, or since the load was halted
+abbrev pub StopsRight : ServeLoad → ℕ → CallerStop → Type 0
+StopsRight load operations AllMade = operations ≡ load.operations
+StopsRight load operations TimeOver = load.seconds ≢ 0
+StopsRight load operations Halted = Unit {0}
+StopsRight load operations (Wrong hit) = ⊥
+
 -- a caller counted that it made this many operations, of which no hit was wrong
 pub record EndsRight (load : ServeLoad) (caller : ℕ) (first : Lcg) (old : Standing) (counted : CallerTally) : Type 0 where
   pub end : Standing
   pub made : Makes load caller first counted.operations counted.refused old end
-  pub none : counted.wrong_hits ≡ 0
+  pub stopped : StopsRight load counted.operations counted.stop
 
--- a caller counted that it made this many operations, the last of which was a wrong hit
+-- a hit is that of a caller's operation with this number: it has the key that the operation looked up, what the caller knew of that
+-- key then, and the bytes that were hit, which are not right
+pub record IsWrongHit (load : ServeLoad) (caller : ℕ) (operation : ServeOperation) (number : ℕ) (words : List ℕ) (hit : ToldHit) : Type 0 where
+  pub caller_is : hit.caller ≡ caller
+  pub operation_is : hit.operation ≡ number
+  pub looked_up : operation ≡ Get hit.known.key
+  pub known : hit.known.word ≡ slice_index words hit.known.key
+  pub wrong : ¬ IsRight load hit.known.key hit.known.word (moment_of load number) hit.found
+
+-- a caller counted that it made this many operations, the last of which was a wrong hit, and has that hit
 pub record EndsWrong (load : ServeLoad) (caller : ℕ) (first : Lcg) (old : Standing) (counted : CallerTally) : Type 0 where
   pub number : ℕ
   pub before : Standing
   pub end : Standing
+  pub hit : ToldHit
   pub made : Makes load caller first number counted.refused old before
-  pub last : Does load caller (operation_at load first number) number WrongHit before end
+  pub last : Does load caller (operation_at load first number) number (WrongHit hit.known) before end
+  pub is : IsWrongHit load caller (operation_at load first number) number before.words hit
   pub count : counted.operations ≡ number + 1
-  pub one : counted.wrong_hits ≡ 1
+  pub stopped : counted.stop ≡ Wrong hit
 
 -- a caller of a load ended with these counts
 pub record IsEnded (load : ServeLoad) (caller : ℕ) (first : Lcg) (old : Standing) (counted : CallerTally) : Type 0 where
   pub some : counted.operations ≤ load.operations
   pub few_refused : counted.refused ≤ counted.operations
-  pub one_wrong : counted.wrong_hits ≤ 1
   pub ends : EndsRight load caller first old counted ⊎ EndsWrong load caller first old counted
+
+-- of a caller that stopped so, one ended by itself: it made all its operations, or its time was over
+abbrev pub completed : CallerStop → ℕ
+completed AllMade = 1
+completed TimeOver = 1
+completed Halted = 0
+completed (Wrong hit) = 0
+
+-- a caller that ended by itself made all its operations if the load has no limit of time
+abbrev pub IsComplete : ℕ → ℕ → CallerTally → Type 0
+IsComplete seconds operations counted = seconds ≡ 0 → completed counted.stop ≡ 1 → counted.operations ≡ operations
+
+-- the bytes of the hit of a caller that stopped at one are those that the cache gave it
+abbrev pub IsOfCache : (ℕ → Bool) → (List ℕ → ℕ) → ServeLoad → ℕ → CallerStop → Type 0
+IsOfCache said lane_of load caller AllMade = Unit {0}
+IsOfCache said lane_of load caller TimeOver = Unit {0}
+IsOfCache said lane_of load caller Halted = Unit {0}
+IsOfCache said lane_of load caller (Wrong hit) =
+    (seen : List Deed) × IsFound said lane_of seen (key_of caller hit.known.key) (moment_of load hit.operation) hit.found
 
 -- a caller with this number, generator, words and list is one of a load's callers, and begins
 pub record IsOneOf (load : ServeLoad) (number : ℕ) (generator : Lcg) (words : List ℕ) (seen : List Deed) : Type 0 where

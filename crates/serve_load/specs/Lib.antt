@@ -3,6 +3,8 @@ pub mod Words
 pub mod Looking
 pub mod Calls
 pub mod Tallies
+pub mod Limits
+pub mod WrongHits
 pub mod Wanting
 pub mod Shapes
 pub mod Totals

@@ -32,8 +32,10 @@ abbrev pub Finds : (ℕ → Bool) → (List ℕ → ℕ) → ServeLoad → ℕ �
 Finds said lane_of load caller key known number seen found Done =
     (found ≡ []) ⊎ (IsFound said lane_of seen (key_of caller key) (moment_of load number) found × IsRight load key known (moment_of load number) found)
 Finds said lane_of load caller key known number seen found Refused = found ≡ []
-Finds said lane_of load caller key known number seen found WrongHit =
-    IsFound said lane_of seen (key_of caller key) (moment_of load number) found × (¬ IsRight load key known (moment_of load number) found)
+Finds said lane_of load caller key known number seen found (WrongHit of_key) =
+    (of_key ≡ record { key = key; word = known })
+    × IsFound said lane_of seen (key_of caller key) (moment_of load number) found
+    × (¬ IsRight load key known (moment_of load number) found)
 
 -- the same of each operation: only a look-up finds anything
 abbrev pub FindsAll : (ℕ → Bool) → (List ℕ → ℕ) → ServeLoad → ℕ → ServeOperation → List ℕ → ℕ → List Deed → List ℕ → CallEnd → Type 0

@@ -1,21 +1,24 @@
 -- What a load wrote, by how it ended.
-use Rattle.std.specs.Prelude.{◌≡◌, ◌⊎◌, ◌<◌, ◌+◌, ℕ, List, Option, IsNone, IsSome}
+use Rattle.std.specs.Prelude.{◌≡◌, ◌⊎◌, ◌<◌, ◌+◌, ℕ, List, Option, Some, None, IsNone, IsSome, string_bytes}
 use Rattle.std.specs.Io.KnownBytes.{Appends, Keeps}
-use Rattle.figures.specs.declared.form.Form.{Form}
 use Rattle.figures.specs.Figures.{form_of}
 use Rattle.load.specs.declared.serve_load.ServeLoad.{ServeLoad}
 use Rattle.serve_load.specs.declared.report.Report.{Report}
 use Rattle.serve_load.specs.declared.serve_end.ServeEnd.{ServeEnd}
 use Rattle.serve_load.specs.declared.serve_end.ServeEnd.TheVariants as ends
+use Rattle.serve_load.specs.declared.serve_cause.ServeCause.{ServeCause}
+use Rattle.serve_load.specs.declared.serve_cause.ServeCause.TheVariants as causes
+use Rattle.serve_load.specs.declared.told_hit.ToldHit.{ToldHit}
 use Rattle.serve_load.specs.Ends.{end_of_wrong_hits, status_of}
 use Rattle.serve_load.specs.Wanting.{RefusesSize}
-use Rattle.serve_load.specs.Reports.{IsMade, report_of}
+use Rattle.serve_load.specs.Reports.{IsMade, hit_lines, report_of}
 
 -- the text of a report on what the callers made was written, in the form that the load wants, and the load ended as its wrong hits say
 pub record IsTold (load : ServeLoad) (old new : Option (List ℕ)) (end : ServeEnd) : Type 0 where
   pub report : Report
-  pub made : IsMade load report
-  pub wrote : Appends old new (report_of (form_of load.json) report)
+  pub hits : List ToldHit
+  pub made : IsMade load report hits
+  pub wrote : Appends old new (report_of (form_of load.json) report load hits)
   pub ended : end ≡ end_of_wrong_hits report.wrong_hits
 
 -- what was written if a load ended so: a report if its callers ended, else nothing, and if a file, the output or the clock
@@ -30,11 +33,28 @@ WroteReport load old new ends.OutOfMemory = Keeps old new
 WroteReport load old new ends.FileFault = Unit {0}
 
 -- the report was written, or memory was refused and nothing was, or the output failed
-abbrev pub IsSaid : Form → Report → Option (List ℕ) → Option (List ℕ) → ServeEnd → Type 0
-IsSaid form report old new end =
-    (Appends old new (report_of form report) × (end ≡ end_of_wrong_hits report.wrong_hits))
+abbrev pub IsSaid : ServeLoad → Report → List ToldHit → Option (List ℕ) → Option (List ℕ) → ServeEnd → Type 0
+IsSaid load report hits old new end =
+    (Appends old new (report_of (form_of load.json) report load hits) × (end ≡ end_of_wrong_hits report.wrong_hits))
     ⊎ ((end ≡ ends.OutOfMemory) × Keeps old new)
     ⊎ (end ≡ ends.FileFault)
+
+-- the lines of wrong hits that are told with a cause
+abbrev pub lines_of : Option ServeCause → Option (List ℕ)
+lines_of None = None
+lines_of (Some (causes.System fault)) = None
+lines_of (Some (causes.Cache fault)) = None
+lines_of (Some (causes.Hits lines)) = Some (string_bytes lines)
+
+-- at a wrong hit the lines of these hits are told, and at no other end any
+abbrev pub TellsHits : ServeLoad → List ToldHit → ServeEnd → Option ServeCause → Type 0
+TellsHits load hits ends.WrongHit cause = lines_of cause ≡ Some (hit_lines load hits)
+TellsHits load hits ends.Right cause = lines_of cause ≡ None
+TellsHits load hits ends.SharesExceed cause = lines_of cause ≡ None
+TellsHits load hits ends.NoSize cause = lines_of cause ≡ None
+TellsHits load hits (ends.Size fault) cause = lines_of cause ≡ None
+TellsHits load hits ends.OutOfMemory cause = lines_of cause ≡ None
+TellsHits load hits ends.FileFault cause = lines_of cause ≡ None
 
 -- gets and removes exceed 100
 abbrev pub Exceeds : ServeLoad → Type 0

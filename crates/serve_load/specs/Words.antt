@@ -6,6 +6,7 @@ use Rattle.service_lane.specs.declared.filled.Filled.TheVariants.{Stored, Stale}
 use Rattle.service_cache.specs.declared.seat_fault.SeatPutFault.{SeatPutFault}
 use Rattle.load.specs.declared.serve_load.ServeLoad.{ServeLoad}
 use Rattle.serve_load.specs.declared.words.CallEnd.{CallEnd}
+use Rattle.serve_load.specs.declared.words.Known.{Known}
 use Rattle.serve_load.specs.declared.words.CallEnd.TheVariants.{Done, Refused, WrongHit}
 use Rattle.serve_load.specs.Objects.{expires_of, value_of}
 
@@ -15,11 +16,11 @@ pub record IsRight (load : ServeLoad) (key known moment : ℕ) (bytes : List ℕ
   pub bytes_are : bytes ≡ value_of load.value_bytes key (known - 1)
   pub live : moment < expires_of load (known - 1)
 
--- a get that hit these bytes went so: it was done if they are right, and otherwise a wrong hit
+-- a get that hit these bytes went so: it was done if they are right, and otherwise a wrong hit of that key, of which that was known
 abbrev pub JudgesHit : ServeLoad → ℕ → ℕ → ℕ → List ℕ → CallEnd → Type 0
 JudgesHit load key known moment bytes Done = IsRight load key known moment bytes
 JudgesHit load key known moment bytes Refused = ⊥
-JudgesHit load key known moment bytes WrongHit = ¬ IsRight load key known moment bytes
+JudgesHit load key known moment bytes (WrongHit seen) = (seen ≡ record { key = key; word = known }) × (¬ IsRight load key known moment bytes)
 
 -- a fill that was stored is the key's value; one that was stale or refused changes nothing
 abbrev pub word_after_fill : Result Filled SeatPutFault → ℕ → ℕ → ℕ

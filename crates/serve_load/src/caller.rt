@@ -1,24 +1,28 @@
 // A caller of a load.
-ghost use Rattle.std.specs.Prelude.{◌≡◌, ◌≢◌, ◌<◌, ◌≤◌, ◌+◌, ◌%◌, [], false, IfOk, IsSome, length, slice_index};
+ghost use Rattle.std.specs.Prelude.{◌≡◌, ◌≢◌, ◌<◌, ◌≤◌, ◌+◌, ◌%◌, [], false, true, IfOk, IfSome, IsNone, IsSome, length, slice_index};
 ghost use mathlib.Core.List.{IsPrefix};
 ghost use Rattle.load.specs.Operations.{past};
-ghost use Rattle.load.specs.Served.{key_number_of, served_next_of};
-ghost use Rattle.serve_load.specs.Calls.{Does, HasEnded, IsEnded, IsOneOf, IsTally, Looks, Puts, Removes, is_wrong, standing};
+ghost use Rattle.load.specs.Served.{key_number_of, ranks_of, served_next_of};
+ghost use Rattle.serve_load.specs.Calls.{Does, HasEnded, IsEnded, IsOfCache, IsOneOf, IsTally, Looks, Puts, Removes, is_wrong, standing};
 ghost use Rattle.serve_load.specs.declared.caller_tally.CallerTally.{CallerTally};
+ghost use Rattle.serve_load.specs.Limits.{GoesOn, IsFresh, IsTimed, Stops};
 ghost use Rattle.serve_load.specs.Looking.{Finds, FindsAll};
 ghost use Rattle.serve_load.specs.Times.{IsSampled};
 ghost use Rattle.serve_load.specs.declared.call_times.TheConstants.{TIMED};
 ghost use Rattle.serve_load.specs.Objects.{key_of, value_of};
 
 use crate::call_times::{CallTimes, TIMED};
+use crate::caller_stop::CallerStop;
 use crate::caller_tally::CallerTally;
 use crate::objects::{expires_of, key, key_bytes, moment_of};
 use crate::right::judged;
 use crate::room::Room;
 use crate::tally::{Tally, Tallying};
+use crate::time_limit::TimeLimit;
+use crate::told_hit::ToldHit;
 use crate::words::{CallEnd, step_of_fill, word_after_fill};
 use deed_book::{BookName, KeyLanes, Seat};
-use load::{ServeLoad, ServeOperation};
+use load::{Ranks, ServeLoad, ServeOperation};
 use mover::AnswerKind;
 use page_device::PageDevice;
 use policy_laws::EvictionPolicy;
@@ -66,8 +70,8 @@ impl<L: KeyLanes, J: BookName> Caller<L, J> {
         })
     }
 
-    /// Makes its operations as one of the callers of a load, and answers how it ended. It halts the load if memory for its times is
-    /// refused.
+    /// Makes its operations as one of the callers of a load that began at this moment, and answers how it ended. It halts the load if
+    /// memory for its times is refused.
     pub(crate) fn make_all<
         D: PageDevice<PAGE>,
         P: EvictionPolicy + Drop,
@@ -80,13 +84,18 @@ impl<L: KeyLanes, J: BookName> Caller<L, J> {
         alloc: Global,
         cache: &ServiceCache<D, P, PAGE, L, J>,
         load: &ServeLoad,
+        ranks: &Option<Ranks>,
+        start: Instant,
         made: &AtomicU64,
         halted: &AtomicU64,
     ) -> Tally<M>
         requires begun { IsOneOf load.now self.number self.generator self.words.items self.seat }
-        requires most { load.now.operations ≤ M.most }
+        requires ranks { ranks.now ≡ ranks_of load.now }
+        requires most { M.most ≡ load.now.operations }
+        requires seconds { M.seconds ≡ load.now.seconds }
         requires tallies { (counted : CallerTally) → IsTally load.now counted → ∥ M.is_tally counted ∥₁ }
-        ensures { HasEnded load.now self.number result.counted }
+        ensures ended { HasEnded load.now self.number result.counted }
+        ensures found { IsOfCache L.is_honest L.lane_of load.now self.number result.counted.stop }
     {
         let Ok(mut times) = CallTimes::new(alloc) else {
             halted.store(1, Ordering::SeqCst);
@@ -94,13 +103,16 @@ impl<L: KeyLanes, J: BookName> Caller<L, J> {
                 counted: CallerTally {
                     operations: 0,
                     refused: 0,
-                    wrong_hits: 0,
+                    stop: CallerStop::Halted,
                 },
                 times: None,
                 of: PhantomData,
             };
         };
-        let counted = self.make_each(rt, alloc, cache, load, made, halted, &mut times);
+        let mut limit = TimeLimit::new(start, load.seconds);
+        let counted = self.make_each(
+            rt, alloc, cache, load, ranks, &mut limit, made, halted, &mut times,
+        );
         Tally {
             counted,
             times: Some(times),
@@ -108,39 +120,50 @@ impl<L: KeyLanes, J: BookName> Caller<L, J> {
         }
     }
 
-    /// Makes its operations, until all are made, a hit is not right, or the load is halted; and halts the load at such a hit. They
-    /// are counted by the thousand.
+    /// Makes its operations, until all are made, the time is over before the next one, a hit is not right, or the load is halted; and
+    /// halts the load at such a hit. They are counted by the thousand.
     fn make_each<D: PageDevice<PAGE>, P: EvictionPolicy + Drop, const PAGE: usize, R: Wait + Clock>(
         mut self,
         rt: &R,
         alloc: Global,
         cache: &ServiceCache<D, P, PAGE, L, J>,
         load: &ServeLoad,
+        ranks: &Option<Ranks>,
+        limit: &mut TimeLimit,
         made: &AtomicU64,
         halted: &AtomicU64,
         times: &mut CallTimes,
     ) -> CallerTally
-        requires { length self.words.items ≡ load.now.keys }
-        ensures { IsEnded load.now self.number self.generator (standing self.words.items self.seat)
-            result }
+        requires keys { length self.words.items ≡ load.now.keys }
+        requires ranks { ranks.now ≡ ranks_of load.now }
+        requires limit { IsFresh load.now.seconds limit.old }
+        ensures ended { IsEnded load.now self.number self.generator
+            (standing self.words.items self.seat) result }
+        ensures found { IsOfCache L.is_honest L.lane_of load.now self.number result.stop }
+        ensures timed { IsTimed result.operations result.stop limit.new }
     {
         let mut found = ValueBuffer::empty();
         let mut refused = 0;
         for number in 0..load.operations {
-            if halted.load(Ordering::SeqCst) != 0 {
+            if let Some(stop) = stop_of(rt, halted, limit) {
                 return CallerTally {
                     operations: number,
                     refused,
-                    wrong_hits: 0,
+                    stop,
                 };
             }
-            let step = self.make_next(rt, alloc, cache, load, number, times, &mut found);
-            if step.is_wrong() {
+            let step = self.make_next(rt, alloc, cache, load, ranks, number, times, &mut found);
+            if let Some(known) = step.wrong() {
                 halted.store(1, Ordering::SeqCst);
                 return CallerTally {
                     operations: number + 1,
                     refused,
-                    wrong_hits: 1,
+                    stop: CallerStop::Wrong(ToldHit {
+                        caller: self.number,
+                        operation: number,
+                        known,
+                        found,
+                    }),
                 };
             }
             refused += step.refusals();
@@ -149,7 +172,7 @@ impl<L: KeyLanes, J: BookName> Caller<L, J> {
         CallerTally {
             operations: load.operations,
             refused,
-            wrong_hits: 0,
+            stop: CallerStop::AllMade,
         }
     }
 
@@ -160,11 +183,13 @@ impl<L: KeyLanes, J: BookName> Caller<L, J> {
         alloc: Global,
         cache: &ServiceCache<D, P, PAGE, L, J>,
         load: &ServeLoad,
+        ranks: &Option<Ranks>,
         number: u32,
         times: &mut CallTimes,
         found: &mut ValueBuffer,
     ) -> CallEnd
         requires keys { length self.old.words.items ≡ load.now.keys }
+        requires ranks { ranks.now ≡ ranks_of load.now }
         requires number { number < 4294967295 }
         ensures does { Does load.now self.old.number (served_next_of load.now self.old.generator) number
             result (standing self.old.words.items self.old.seat)
@@ -178,7 +203,7 @@ impl<L: KeyLanes, J: BookName> Caller<L, J> {
         ensures times { IsSampled number (served_next_of load.now self.old.generator)
             times.old.gets times.new.gets times.old.puts times.new.puts }
     {
-        let operation = ServeOperation::next(&mut self.generator, load);
+        let operation = ServeOperation::next(&mut self.generator, load, ranks);
         let start = start_of(rt, operation, number);
         let step = self.make(rt, alloc, cache, load, operation, number, found);
         times.note(rt, operation, &start);
@@ -412,6 +437,22 @@ impl<L: KeyLanes, J: BookName> Caller<L, J> {
         let value = self.room.value(alloc, load, number_of_key, number)?;
         Ok((name, value))
     }
+}
+
+/// Why a caller makes no more operations, if the load was halted or its time is over.
+fn stop_of<R: Clock>(rt: &R, halted: &AtomicU64, limit: &mut TimeLimit) -> Option<CallerStop>
+    requires few { limit.old.left < 4294967295 }
+    requires unended { limit.old.is_over ≡ false }
+    ensures stopped { IfSome result (λ stop. Stops limit.old stop limit.new) }
+    ensures goes_on { IsNone result → GoesOn limit.old limit.new }
+{
+    if halted.load(Ordering::SeqCst) != 0 {
+        return Some(CallerStop::Halted);
+    }
+    if limit.tell(rt) {
+        return Some(CallerStop::TimeOver);
+    }
+    None
 }
 
 /// Counts a thousand operations more if the one with this number is the last of a thousand.

@@ -4,8 +4,10 @@ ghost use Rattle.figures.specs.Figures.{with_rows};
 ghost use Rattle.serve_load.specs.Rows.{get_latency_rows, put_latency_rows, rate_of, ratio_of, ratio_rows};
 
 use crate::count_rows::tell_counts;
+use crate::hit_rows::tell_hits;
+use crate::told_hit::ToldHit;
 use figures::{Figure, Form};
-use load::Quantiles;
+use load::{Quantiles, ServeLoad};
 use service_lane::{Counter, Counts};
 use std::alloc::{AllocError, Global};
 
@@ -45,17 +47,23 @@ const LAST: &str =
     "no history was recorded, so nothing was judged beyond each caller's check of the hits of its own keys\n";
 
 impl Report {
-    ghost use Rattle.serve_load.specs.Reports.{call_rows, last_rows, report_of, run_rows};
+    ghost use Rattle.serve_load.specs.Reports.{call_rows, end_rows, last_rows, report_of, run_rows};
 
-    /// Its text: a line for each number, and a last one that says what was judged; or one JSON object with the same names and
-    /// numbers.
-    pub fn text(&self, alloc: Global, form: Form) -> Result<String, AllocError>
-        ensures { IfOk result (λ text. string_bytes text ≡ report_of form self.now) }
+    /// Its text, with the wrong hits of the load: a line for each number and each hit, and a last one that says what was judged; or one
+    /// JSON object with the same names, numbers and texts.
+    pub fn text(
+        &self,
+        alloc: Global,
+        form: Form,
+        load: &ServeLoad,
+        hits: &[ToldHit],
+    ) -> Result<String, AllocError>
+        ensures { IfOk result (λ text. string_bytes text ≡ report_of form self.now load.now hits.now) }
     {
         let mut text = String::new(alloc);
         self.tell_calls(alloc, form, &mut text)?;
         tell_counts(alloc, form, &mut text, &self.counts)?;
-        self.tell_last(alloc, form, &mut text)?;
+        self.tell_end(alloc, form, &mut text, load, hits)?;
         close(form, &mut text)?;
         Ok(text)
     }
@@ -95,6 +103,25 @@ impl Report {
             Figure::Thousandths(self.milliseconds),
         )?;
         form.tell(alloc, text, "operations-a-second", Figure::Count(rate))
+    }
+
+    /// Tells what is left at the end, what the callers found, and which hits were wrong.
+    fn tell_end(
+        &self,
+        alloc: Global,
+        form: Form,
+        text: &mut String,
+        load: &ServeLoad,
+        hits: &[ToldHit],
+    ) -> Result<(), AllocError>
+        ensures { OnOk result (string_bytes text.new
+            ≡ with_rows form (string_bytes text.old) (end_rows self.now load.now hits.now)) }
+    {
+        self.tell_last(alloc, form, text)?;
+        match tell_hits(alloc, form, text, load, hits) {
+            Ok(()) => Ok(()),
+            Err(refused) => Err(refused),
+        }
     }
 
     /// Tells what is left at the end, and what the callers found.

@@ -5,7 +5,7 @@ ghost use Rattle.serve_load.specs.Objects.{repeated, value_of};
 ghost use Rattle.serve_load.specs.Words.{IsRight};
 
 use crate::objects::{expires_of, word};
-use crate::words::CallEnd;
+use crate::words::{CallEnd, Known};
 use load::ServeLoad;
 use mover::AnswerKind;
 use service_cache::SeatFault;
@@ -27,7 +27,7 @@ pub(crate) fn judged(
             if is_right(load, key, known, moment, bytes) {
                 CallEnd::Done
             } else {
-                CallEnd::WrongHit
+                CallEnd::WrongHit(Known { key, word: known })
             }
         }
         Ok(AnswerKind::Miss(_)) => CallEnd::Done,

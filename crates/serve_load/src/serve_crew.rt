@@ -1,5 +1,6 @@
 // What the threads of a load do.
 ghost use Rattle.std.specs.Prelude.{◌≡◌, ◌<◌, ◌*◌};
+ghost use Rattle.load.specs.Served.{ranks_of};
 ghost use Rattle.service_cache.specs.Serving.{lanes_of};
 ghost use Rattle.serve_load.specs.Calls.{IsOneOf, IsTally};
 ghost use Rattle.serve_load.specs.Fitting.{CacheFits};
@@ -8,7 +9,7 @@ ghost use Rattle.serve_load.specs.declared.caller_tally.CallerTally.{CallerTally
 use crate::caller::Caller;
 use crate::tally::{Tally, Tallying};
 use deed_book::{BookName, KeyLanes};
-use load::{Crew, ServeLoad};
+use load::{Crew, Ranks, ServeLoad};
 use page_device::PageDevice;
 use policy_laws::EvictionPolicy;
 use service_cache::ServiceCache;
@@ -17,7 +18,7 @@ use std::alloc::Global;
 use std::marker::PhantomData;
 use std::sync::Wait;
 use std::sync::atomic::{AtomicU64, Ordering};
-use std::time::Clock;
+use std::time::{Clock, Instant};
 
 /// How many steps a worker does in a lane before it goes on to the next.
 const STEPS: u32 = 16;
@@ -40,9 +41,13 @@ pub(crate) struct ServeCrew<
     pub(crate) alloc: Global,
     pub(crate) cache: &'a ServiceCache<D, P, PAGE, L, J>,
     pub(crate) load: &'a ServeLoad,
+    pub(crate) ranks: &'a Option<Ranks>,
+    pub(crate) start: Instant,
     pub(crate) halted: AtomicU64,
     pub(crate) of: PhantomData<M>,
+    ghost drawn: { ranks.now ≡ ranks_of load.now },
     ghost most: { M.most ≡ load.now.operations },
+    ghost seconds: { M.seconds ≡ load.now.seconds },
     ghost tallies: { (counted : CallerTally) → IsTally load.now counted → ∥ M.is_tally counted ∥₁ },
 }
 
@@ -76,6 +81,8 @@ impl<
             self.alloc,
             self.cache,
             self.load,
+            self.ranks,
+            self.start,
             made,
             &self.halted,
         )

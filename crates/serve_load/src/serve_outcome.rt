@@ -1,5 +1,5 @@
 // How a load ended, with what failed.
-ghost use Rattle.std.specs.Prelude.{◌≡◌};
+ghost use Rattle.std.specs.Prelude.{◌≡◌, None, Some};
 
 use crate::advice::advise;
 use crate::serve_cause::ServeCause;
@@ -17,25 +17,39 @@ pub(crate) struct ServeOutcome {
 impl ServeOutcome {
     /// A load that ended so, with nothing more to tell.
     pub(crate) fn plain(end: ServeEnd) -> ServeOutcome
-        ensures { result.end ≡ end }
+        ensures end { result.end ≡ end }
+        ensures cause { result.cause ≡ None }
     {
         ServeOutcome { end, cause: None }
     }
 
     /// A load under which this of the system failed.
     pub(crate) fn system(fault: SystemFault) -> ServeOutcome
-        ensures { result.end ≡ ServeEnd.FileFault }
+        ensures end { result.end ≡ ServeEnd.FileFault }
+        ensures cause { result.cause ≡ Some (ServeCause.System fault) }
     {
         ServeOutcome::failed(ServeCause::System(fault))
     }
 
     /// A load of which this failed.
     pub(crate) fn failed(cause: ServeCause) -> ServeOutcome
-        ensures { result.end ≡ ServeEnd.FileFault }
+        ensures end { result.end ≡ ServeEnd.FileFault }
+        ensures cause { result.cause ≡ Some cause }
     {
         ServeOutcome {
             end: ServeEnd::FileFault,
             cause: Some(cause),
+        }
+    }
+
+    /// A load in which hits were wrong, of which these lines tell.
+    pub(crate) fn wrong(lines: String) -> ServeOutcome
+        ensures end { result.end ≡ ServeEnd.WrongHit }
+        ensures cause { result.cause ≡ Some (ServeCause.Hits lines) }
+    {
+        ServeOutcome {
+            end: ServeEnd::WrongHit,
+            cause: Some(ServeCause::Hits(lines)),
         }
     }
 

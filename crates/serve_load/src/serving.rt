@@ -6,12 +6,11 @@ ghost use Rattle.serve_load.specs.declared.caller_tally.CallerTally.{CallerTally
 ghost use Rattle.serve_load.specs.Calls.{IsTally};
 ghost use Rattle.serve_load.specs.Reports.{IsMade};
 ghost use Rattle.serve_load.specs.Ends.{IsFailure, status_of};
-ghost use Rattle.figures.specs.Figures.{form_of};
-ghost use Rattle.serve_load.specs.Serving.{IsServed, IsServedOver, IsSaid, IsRefusedFirst, WroteReport};
+ghost use Rattle.serve_load.specs.Serving.{IsServed, IsServedOver, IsSaid, IsRefusedFirst, TellsHits, WroteReport};
 
 use crate::cache_shape::CacheShape;
-use crate::made::make;
-use crate::report::Report;
+use crate::hit_rows::hit_lines;
+use crate::made::{Reported, make};
 use crate::serve_cause::ServeCause;
 use crate::serve_end::ServeEnd;
 use crate::serve_outcome::ServeOutcome;
@@ -48,7 +47,8 @@ type LoadCache<D, L, J> = ServiceCache<D, Rriparoo, PAGE, L, J>;
 ///
 /// Each caller has a thread, a generator and keys of its own, and knows what each of its keys has; a hit of anything else is
 /// wrong, and ends it and the load. The workers do the upkeep beside them. Then the report is written to `out`. What went wrong
-/// is reported to `err`, in a line, and if the system failed, in a second one, with its cause. If `err` is a terminal,
+/// is reported to `err`, in a line, and if the system failed, in a second one, with its cause. Each wrong hit is told in a line more,
+/// and in the report, with its key, its operation, and the bytes that were expected and found. If `err` is a terminal,
 /// it also shows how many operations were made, at most twice a second while they are. No history is recorded, so
 /// memory does not grow by the operations.
 pub fn serve_load<
@@ -150,7 +150,7 @@ fn over<
         Err(error) => return ServeOutcome::system(SystemFault::Random(error)),
     };
     match sorted::<Brand, D, R, E>(rt, load, shape, devices, seed, err) {
-        Ok(report) => write_report(rt.alloc(), load, &report, out),
+        Ok(made) => write_report(rt.alloc(), load, &made, out),
         Err(ended) => ended,
     }
 }
@@ -168,15 +168,15 @@ fn sorted<
     devices: Vec<D>,
     seed: RandomSeed,
     err: &mut E,
-) -> Result<Report, ServeOutcome>
+) -> Result<Reported, ServeOutcome>
     requires sorted { SortsBy L.lanes L.lane_of seed (length devices.items) }
     requires honest { AreAsSaid L.is_honest D.honest devices.items }
-    ensures made { IfOk result (λ report. IsMade load.now report) }
+    ensures made { IfOk result (λ made. IsMade load.now made.report made.hits.items) }
     ensures refused { IfErr result (λ ended. IsFailure ended.end) }
 {
     let book = UnnamedBook::<L>::open(devices.len());
     match booked::<L, Brand, Brand, D, R, E>(rt, load, shape, devices, seed, book, err) {
-        Ok(report) => Ok(report),
+        Ok(made) => Ok(made),
         Err(ended) => Err(ended),
     }
 }
@@ -197,19 +197,20 @@ fn booked<
     seed: RandomSeed,
     book: UnnamedBook<L>,
     err: &mut E,
-) -> Result<Report, ServeOutcome>
+) -> Result<Reported, ServeOutcome>
     requires sorted { SortsBy L.lanes L.lane_of seed (length devices.items) }
     requires honest { AreAsSaid L.is_honest D.honest devices.items }
     requires book { book ≡ J.book }
     requires most { M.most ≡ load.now.operations }
+    requires seconds { M.seconds ≡ load.now.seconds }
     requires tallies { (counted : CallerTally) → IsTally load.now counted → M.is_tally counted }
     requires only { (counted : CallerTally) → M.is_tally counted → IsTally load.now counted }
-    ensures made { IfOk result (λ report. IsMade load.now report) }
+    ensures made { IfOk result (λ made. IsMade load.now made.report made.hits.items) }
     ensures refused { IfErr result (λ ended. IsFailure ended.end) }
 {
     let cache = open(rt.alloc(), shape, devices, seed, book.with_name::<J>())?;
     match make::<D, Rriparoo, PAGE, L, J, M, R, E>(rt, rt.alloc(), load, &cache, err) {
-        Ok(report) => Ok(report),
+        Ok(made) => Ok(made),
         Err(ended) => Err(ended),
     }
 }
@@ -250,13 +251,18 @@ fn open<D: PageDevice<PAGE>, L: KeyLanes, J: BookName>(
 fn write_report<O: Write>(
     alloc: Global,
     load: &ServeLoad,
-    report: &Report,
+    made: &Reported,
     out: &mut O,
 ) -> ServeOutcome
-    ensures { IsSaid (form_of load.now.json) report.now
+    ensures said { IsSaid load.now made.now.report made.now.hits.items
         (O.contents out.old) (O.contents out.new) result.end }
+    ensures told { TellsHits load.now made.now.hits.items result.end result.cause }
 {
-    let Ok(text) = report.text(alloc, Form::of(load.json)) else {
+    let form = Form::of(load.json);
+    let Ok(text) = made.report.text(alloc, form, load, &made.hits) else {
+        return ServeOutcome::plain(ServeEnd::OutOfMemory);
+    };
+    let Ok(lines) = hit_lines(alloc, load, &made.hits) else {
         return ServeOutcome::plain(ServeEnd::OutOfMemory);
     };
     if out.write_all(text.as_bytes()).is_err() {
@@ -265,5 +271,8 @@ fn write_report<O: Write>(
     if out.flush().is_err() {
         return ServeOutcome::system(SystemFault::Output);
     }
-    ServeOutcome::plain(ServeEnd::of_wrong_hits(report.wrong_hits))
+    match ServeEnd::of_wrong_hits(made.report.wrong_hits) {
+        ServeEnd::WrongHit => ServeOutcome::wrong(lines),
+        end => ServeOutcome::plain(end),
+    }
 }

@@ -5,6 +5,15 @@ ghost use Rattle.serve_load.specs.Words.{step_of_fill, word_after_fill};
 use service_cache::SeatPutFault;
 use service_lane::Filled;
 
+/// What a caller knows of a key of its own.
+#[derive(Clone, Copy, Debug, PartialEq, Eq)]
+pub struct Known {
+    /// The number of the key.
+    pub key: u32,
+    /// 0 if the key has no value, and otherwise 1 more than the number of the operation that put it.
+    pub word: u32,
+}
+
 /// How a call of a caller went.
 #[derive(Clone, Copy, Debug, PartialEq, Eq)]
 pub(crate) enum CallEnd {
@@ -12,20 +21,20 @@ pub(crate) enum CallEnd {
     Done,
     /// Memory was refused, and nothing was stored.
     Refused,
-    /// A hit was not right.
-    WrongHit,
+    /// A hit was not right, of a key of which this was known.
+    WrongHit(Known),
 }
 
 impl CallEnd {
-    ghost use Rattle.serve_load.specs.Calls.{is_wrong, refusals_of};
+    ghost use Rattle.serve_load.specs.Calls.{refusals_of, wrong_of};
 
-    /// Whether a hit was not right.
-    pub(crate) fn is_wrong(self) -> bool
-        ensures { result ≡ is_wrong self }
+    /// What was known of the key of a hit that was not right; none if there was no such hit.
+    pub(crate) fn wrong(self) -> Option<Known>
+        ensures { result ≡ wrong_of self }
     {
         match self {
-            CallEnd::Done | CallEnd::Refused => false,
-            CallEnd::WrongHit => true,
+            CallEnd::Done | CallEnd::Refused => None,
+            CallEnd::WrongHit(known) => Some(known),
         }
     }
 
@@ -34,15 +43,13 @@ impl CallEnd {
         ensures { result ≡ refusals_of self }
     {
         match self {
-            CallEnd::Done | CallEnd::WrongHit => 0,
+            CallEnd::Done | CallEnd::WrongHit(_) => 0,
             CallEnd::Refused => 1,
         }
     }
 }
 
-/// What a caller knows of a key after its fill in the operation with this number, if it knew this before.
-///
-/// A word of a key is 0 if the key has no value, and otherwise 1 more than the number of the operation that put it.
+/// The word that a caller knows of a key after its fill in the operation with this number, if it knew this one before.
 pub(crate) fn word_after_fill(filled: Result<Filled, SeatPutFault>, known: u32, number: u32) -> u32
     requires { number < 4294967295 }
     ensures { result ≡ word_after_fill filled known number }

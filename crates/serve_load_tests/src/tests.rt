@@ -1,11 +1,15 @@
 //! Loads of a cache that serves.
 mod ends;
+mod limits;
 mod loads;
 mod numbers;
 mod operations;
 mod options;
+mod ranks;
 mod reports;
 mod screen;
 mod seeds;
+mod stepping;
 mod times;
 mod told;
+mod wrong;

@@ -1,5 +1,9 @@
 mod answers;
 mod items;
+mod meta_gets;
+mod meta_run;
+mod meta_stores;
 mod refusals;
 mod requests;
+mod sessions;
 mod streams;

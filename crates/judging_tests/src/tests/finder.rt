@@ -1,1 +1,2 @@
+mod by_rules;
 mod telling;

@@ -19,6 +19,8 @@ enum Asked {
     CheckJson,
     /// The history of standard input judged.
     Judge,
+    /// The same, if an accepted history has to have 1,000 calls.
+    JudgeAtLeast,
     /// That of `a.txt` judged, explained, drawn to `a.svg` and written to `b.trace`.
     JudgeAll,
     /// That of standard input judged and told as JSON.
@@ -69,6 +71,12 @@ fn check_asked(request: &CheckRequest) -> Asked {
 fn judge_asked(request: &JudgeRequest) -> Asked {
     let has_all = is_named(&request.picture, "a.svg") && is_named(&request.trace, "b.trace");
     let has_none = is_named(&request.picture, "") && is_named(&request.trace, "");
+    if request.file.as_str() == "-" && !request.explain && has_none && request.at_least == 1000 {
+        return Asked::JudgeAtLeast;
+    }
+    if request.at_least != 0 {
+        return Asked::Other;
+    }
     if request.file.as_str() == "-" && !request.explain && has_none {
         return if request.json {
             Asked::JudgeJson
@@ -146,6 +154,15 @@ const JUDGE_ALL: [&str; 7] = [
     "a.txt",
 ];
 
+/// The words of `judge` for an accepted history that has to have 1,000 calls.
+const AT_LEAST: [&str; 5] = ["kangaroo", "judge", "--at-least", "1000", "-"];
+
+/// The same with one call more than a history may have.
+const TOO_MANY: [&str; 4] = ["kangaroo", "judge", "--at-least=268435457", "-"];
+
+/// The same with a word that is no number.
+const NO_NUMBER: [&str; 4] = ["kangaroo", "judge", "--at-least=1K", "-"];
+
 #[test]
 fn judging_and_showing_are_asked_for(rt: HostRuntime) {
     let alloc = rt.alloc();
@@ -161,6 +178,9 @@ fn judging_and_showing_are_asked_for(rt: HostRuntime) {
         )
     );
     assert!(rt; ask_for(alloc, &["kangaroo", "judge", "--explain"], Asked::Usage));
+    assert!(rt; ask_for(alloc, &AT_LEAST, Asked::JudgeAtLeast));
+    assert!(rt; ask_for(alloc, &TOO_MANY, Asked::Usage));
+    assert!(rt; ask_for(alloc, &NO_NUMBER, Asked::Usage));
     assert!(rt;
         ask_for(
             alloc,

@@ -40,7 +40,7 @@ pub fn run_of<
 }
 
 /// Runs a load over these devices.
-fn run_over<
+pub fn run_over<
     D: PageDevice<4096> + Send,
     R: Threads + Wait + Sync + AllocGlobal + Clock + RandomSource,
 >(rt: &R, load: &ServeLoad, shape: &CacheShape, devices: Vec<D>) -> Ran {
@@ -69,9 +69,8 @@ pub fn load_of<'a>(alloc: Global, words: &'a [&'a str]) -> Option<ServeLoad> {
 const RIGHT: &[u8] =
     b"\nrefused 0\nwrong-hits 0\nno history was recorded, so nothing was judged beyond each caller's check of the hits of its own keys\n";
 
-/// Those of one that met a wrong hit.
-const WRONG: &[u8] =
-    b"\nrefused 0\nwrong-hits 1\nno history was recorded, so nothing was judged beyond each caller's check of the hits of its own keys\n";
+/// Those of one that met a wrong hit, before that hit.
+const WRONG: &str = "\nrefused 0\nwrong-hits 1\nwrong-hit-of-caller-0 key 0000";
 
 /// Whether a load made so many operations and met no wrong hit: its report says so, and nothing went to the other output.
 fn is_right(ran: &Ran, operations: &[u8]) -> bool {
@@ -232,12 +231,46 @@ fn stale_devices(alloc: Global, shape: &CacheShape) -> Result<Vec<StaleDevice<40
     Ok(devices)
 }
 
-/// Whether a load over a device that goes back ended with a wrong hit, which its report counts.
+/// The line of the wrong hit of the first caller, without its name; none if there is none.
+fn hit_told(text: &str) -> Option<&str> {
+    for line in text.lines() {
+        if let Some(told) = line.strip_prefix("wrong-hit-of-caller-0 ") {
+            return Some(told);
+        }
+    }
+    None
+}
+
+/// The word that stands at a place of a text.
+fn word_at(text: &str, place: usize) -> &str {
+    text.split(' ').nth(place).unwrap_or("")
+}
+
+/// Whether a page that goes back gave an older value of the key than the one that was expected: key, operation, expected and found
+/// are told so. Each value begins with its key's number and that of the operation that put it, of four bytes each.
+fn is_older(told: &str) -> bool {
+    let (key, expected, found) = (word_at(told, 1), word_at(told, 5), word_at(told, 7));
+    let (Some(number), Some(front)) = (key.get(4..12), found.get(..16)) else {
+        return false;
+    };
+    key.len() == 20
+        && word_at(told, 3).parse::<u32>().is_ok()
+        && front.starts_with(number)
+        && (expected == "none" || expected.starts_with(number) && front < expected)
+}
+
+/// Whether a load over a device that goes back ended with a wrong hit, which its report counts and tells, and the other output too.
 fn is_caught(ran: &Ran) -> bool {
+    let (Ok(out), Ok(err)) = (str::from_utf8(&ran.out), str::from_utf8(&ran.err)) else {
+        return false;
+    };
+    let told = hit_told(out);
     ran.status == 1
-        && ran.err.as_slice().starts_with(b"a hit was wrong\n")
-        && ran.out.as_slice().starts_with(b"operations ")
-        && ran.out.as_slice().ends_with(WRONG)
+        && err.starts_with("a hit was wrong\nwrong-hit-of-caller-0 key ")
+        && out.starts_with("operations ")
+        && out.contains(WRONG)
+        && told == hit_told(err)
+        && told.is_some_and(is_older)
 }
 
 /// Runs the load that words ask for over a device whose first page goes back.

@@ -26,6 +26,7 @@ fn number_of(load: &ServeLoad, setting: Setting) -> u32 {
         Setting::ServedTtl => load.ttl,
         Setting::Shards => load.shards,
         Setting::Leases => load.leases,
+        Setting::Seconds => load.seconds,
         // Those of a run.
         _ => 0,
     }
@@ -84,14 +85,14 @@ fn each_setting_takes_the_numbers_of_its_range(rt: HostRuntime) -> Result<(), Fa
 }
 
 /// The default of each setting, in their order.
-const DEFAULTS: [u32; 19] = [
-    4, 64, 64, 8, 4, 4096, 2, 65536, 4, 1000000, 1000, 100, 70, 5, 2, 1, 0, 1, 0,
+const DEFAULTS: [u32; 20] = [
+    4, 64, 64, 8, 4, 4096, 2, 65536, 4, 1000000, 1000, 100, 70, 5, 2, 1, 0, 1, 0, 0,
 ];
 
 #[test]
 fn a_setting_that_is_not_given_is_its_default(rt: HostRuntime) {
     let line = parse_line(rt.alloc(), &["k", "serve-load"]);
-    for place in 0..19usize {
+    for place in 0..20usize {
         assert!(rt; gives(&line, SERVE_SETTINGS[place], DEFAULTS[place]));
     }
 }
@@ -130,6 +131,34 @@ fn sizes_are_those_of_their_options(rt: HostRuntime) -> Result<(), Fail> {
     assert!(rt; refuses(alloc, "size", 1125899906842625)?);
     assert!(rt; refuses(alloc, "memory-bytes", 1125899906842625)?);
     Ok(())
+}
+
+/// Whether words give a load that draws its keys by Zipf's law, or alike.
+fn draws(alloc: Global, words: &[&str], zipf: bool) -> bool {
+    match parse_line(alloc, words) {
+        Ok(Line::Serve(load)) => load.zipf == zipf,
+        _ => false,
+    }
+}
+
+#[test]
+fn keys_are_drawn_by_zipfs_law_if_the_flag_is_given(rt: HostRuntime) {
+    let alloc = rt.alloc();
+    assert!(rt; draws(alloc, &["k", "serve-load"], false));
+    assert!(rt; draws(alloc, &["k", "serve-load", "--json"], false));
+    assert!(rt; draws(alloc, &["k", "serve-load", "--zipf"], true));
+    let valued = parse_line(alloc, &["k", "serve-load", "--zipf=1"]);
+    assert!(rt; is_refused(&valued, "error: unexpected value '1' for '--zipf' found"));
+    let followed = parse_line(alloc, &["k", "serve-load", "--zipf", "1"]);
+    assert!(rt; is_refused(&followed, "error: unexpected argument '1' found"));
+}
+
+#[test]
+fn a_limit_that_is_no_number_is_refused_by_name(rt: HostRuntime) {
+    for text in ["x", "", "1.5", "1K", "2147483649"] {
+        let line = parse_line(rt.alloc(), &["k", "serve-load", "--seconds", text]);
+        assert!(rt; is_refused(&line, "--seconds"));
+    }
 }
 
 /// A text of a size, and its bytes.

@@ -1,4 +1,5 @@
 //! The report of a load.
+use super::loads::load_of;
 use figures::Form;
 use load::Quantiles;
 use serve_load::{Report, Timed};
@@ -43,7 +44,7 @@ const NUMBERS: [(Counter, u64); 33] = [
 ];
 
 /// A report with these counts.
-fn report_with(counts: Counts) -> Report {
+pub fn report_with(counts: Counts) -> Report {
     Report {
         operations: 4500,
         refused: 44,
@@ -135,13 +136,21 @@ const OBJECT: &str =
 
 #[test]
 fn a_report_has_a_line_for_each_number(rt: HostRuntime) -> Result<(), Fail> {
-    assert_eq!(rt; report().text(rt.alloc(), Form::Lines)?.as_str(), TEXT);
+    let load = load_of(rt.alloc(), &["k", "serve-load"]).ok_or("a load")?;
+    assert_eq!(rt;
+        report().text(rt.alloc(), Form::Lines, &load, &[])?.as_str(),
+        TEXT
+    );
     Ok(())
 }
 
 #[test]
 fn a_report_has_a_member_for_each_number(rt: HostRuntime) -> Result<(), Fail> {
-    assert_eq!(rt; report().text(rt.alloc(), Form::Json)?.as_str(), OBJECT);
+    let load = load_of(rt.alloc(), &["k", "serve-load"]).ok_or("a load")?;
+    assert_eq!(rt;
+        report().text(rt.alloc(), Form::Json, &load, &[])?.as_str(),
+        OBJECT
+    );
     Ok(())
 }
 
@@ -183,6 +192,7 @@ const RATIOS: [Ratio; 5] = [
 
 #[test]
 fn a_ratio_is_rounded_down_to_three_places(rt: HostRuntime) -> Result<(), Fail> {
+    let load = load_of(rt.alloc(), &["k", "serve-load"]).ok_or("a load")?;
     for ratio in &RATIOS {
         let mut counts = Counts::none();
         counts.add(Counter::LogHits, ratio.hits);
@@ -190,7 +200,7 @@ fn a_ratio_is_rounded_down_to_three_places(rt: HostRuntime) -> Result<(), Fail> 
         let report = report_with(counts);
         assert!(rt;
             report
-                .text(rt.alloc(), Form::Lines)?
+                .text(rt.alloc(), Form::Lines, &load, &[])?
                 .as_str()
                 .contains(ratio.row)
         );

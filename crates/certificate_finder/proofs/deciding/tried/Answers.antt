@@ -1,10 +1,15 @@
-use Rattle.std.proofs.Common.{arith}
-use Rattle.std.proofs.lemmas.Option.{slice_get_within}
-use Rattle.certificate_finder.specs.Choosing.{all_rules}
-use Rattle.certificate_finder.specs.Deciding.{FailsBy}
+use Rattle.std.proofs.Common.{◌≡◌, true, false, refl, sym, subst}
 use Rattle.certificate_finder.specs.Lining.{positions_in}
-use Rattle.certificate_finder.proofs.Listing.{all_from_at}
+use Rattle.certificate_finder.specs.Owning.{AreOwners}
+use Rattle.certificate_finder.specs.Zones.{AreZones}
+use Rattle.certificate_finder.proofs.MixLemmas.{mix_fails, mix_follows, mix_owners}
 use Rattle.certificate_finder.proofs.deciding.tried.Goals as goal
 
-pub returns : goal.returns
-returns c = all_from_at (FailsBy c.args.steps.now c.args.owners.now (positions_in c.args.hits.now)) all_rules (λ k rule at. let within = slice_get_within all_rules k rule at in c.loop-index.invariant k rule (omega arith) at)
+pub returns-then-is_stuck : goal.returns-then-is_stuck
+returns-then-is_stuck c = mix_fails c.args.steps.now c.args.owners.now (positions_in c.args.hits.now) c.in_ok-mix.mix c.in_ok-mix.ensures (c.if-is_stuck.ensures.0 refl)
+
+pub certificate_by_owners-requires-clause-owners : goal.certificate_by_owners-requires-clause-owners
+certificate_by_owners-requires-clause-owners c = subst (λ os. AreOwners c.args.steps.now os) (sym c.as_slice.ensures.value) (mix_owners c.args.steps.now c.args.owners.now c.args.puts.now c.args.links.now c.args.hits.now c.requires.ready 5 c.in_ok-mix.mix c.in_ok-mix.ensures (λ some. let h : false ≡ true = c.if-is_stuck.ensures.1 some in cc))
+
+pub certificate_by_owners-requires-clause-follow : goal.certificate_by_owners-requires-clause-follow
+certificate_by_owners-requires-clause-follow c = λ zones are. mix_follows c.args.steps.now c.args.owners.now c.args.puts.now c.args.links.now c.args.hits.now c.requires.ready 5 c.in_ok-mix.mix c.in_ok-mix.ensures (λ some. let h : false ≡ true = c.if-is_stuck.ensures.1 some in cc) zones (subst (λ os. AreZones c.args.steps.now os zones) c.as_slice.ensures.value are)

@@ -6,11 +6,11 @@ use Rattle.history_picture.proofs.PictureLaws.{pictured}
 use Rattle.history_picture.proofs.picturing.picture.Goals as goal
 
 pub shown-requires : goal.shown-requires
-shown-requires c = room_for_marks c.args.reason.now c.as_slice-marks.result.now 50 (c.as_slice-marks.ensures.value ∙ c.in_ok-matter.ensures) (omega arith)
+shown-requires c = room_for_marks c.args.reason.now c.as_slice-marks.result.now 24 (c.as_slice-marks.ensures.value ∙ c.in_ok-matter.ensures) (omega arith)
 
 pub returns : goal.returns
 returns c =
     pictured c.args.scene.now.history.now c.args.scene.now.lines.now (names_of c.args.scene.now.callers.now) c.args.reason.now
-    c.as_str.result.now c.as_slice-marks.result.now c.as_slice-shown.result.now c.in_ok-chosen.chosen.items c.as_slice-arrows.result.now c.in_ok-drawing.drawing
+    c.as_str.result.now c.as_slice-marks.result.now c.as_slice-shown.result.now c.in_ok-chosen.chosen.items
     (string_bytes c.in_ok-text.text) (c.as_str.ensures.value ∙ c.in_ok-sentence.ensures) (c.as_slice-marks.ensures.value ∙ c.in_ok-matter.ensures)
-    c.as_slice-shown.ensures.value (c.as_slice-arrows.ensures.value ∙ c.in_ok-known.ensures) c.in_ok-chosen.ensures c.in_ok-drawing.ensures c.in_ok-text.ensures
+    c.as_slice-shown.ensures.value c.in_ok-chosen.ensures c.in_ok-text.ensures

@@ -23,6 +23,8 @@ enum Step {
     Show(&'static str, &'static str, u8),
     /// A standard input of these bytes is judged.
     JudgeInput(&'static [u8], u8),
+    /// The same, if an accepted history has to have so many calls.
+    JudgeAtLeast(&'static [u8], u32, u8),
     /// It is checked.
     CheckInput(&'static [u8], u8),
     /// Its calls that are of a key are shown.
@@ -43,7 +45,7 @@ const TRACE: &[u8] =
 const TURNED: &[u8] =
     b"KGTRACE1\0\0\0\x02\x01\0\0\0\0\0\0\0\0\0\x01\0\0\0\0\0\0\0\x04\x01k\0\x01v\x03\0\x01\0\0\0\0\0\0\0\x02\0\0\0\0\0\0\0\x06\x01k\0\x01v\0\0\0\x01\0\0\0\0";
 
-const STEPS: [Step; 32] = [
+const STEPS: [Step; 37] = [
     // what is no file is no trace
     Step::Check("there is no such file", 3),
     Step::Check(".", 2),
@@ -84,6 +86,12 @@ const STEPS: [Step; 32] = [
     Step::JudgeInput(b"", 0),
     Step::CheckInput(b"", 2),
     Step::ShowInput(TRACE, "j", 0),
+    // an accepted history that is too short is bad input, a rejected one is rejected
+    Step::JudgeAtLeast(b"a 1 4 put k v\n", 1, 0),
+    Step::JudgeAtLeast(b"a 1 4 put k v\n", 2, 2),
+    Step::JudgeAtLeast(b"", 1, 2),
+    Step::JudgeAtLeast(b"a 1 4 hit k w\n", 2, 1),
+    Step::Picture,
     Step::Remove("judged.txt"),
     Step::Remove("judged.trace"),
 ];
@@ -106,6 +114,10 @@ c1 5 6 put j w
 accepted 0 calls
 bad trace Truncated at 0
 c1 5 6 put j w
+accepted 1 calls
+accepted 1 calls
+accepted 0 calls
+rejected hit key k lines 1
 ";
 
 /// What they tell of failures.
@@ -116,6 +128,9 @@ check the name of the file and its permissions
 --key: bad percent-encoding in the key: % must be followed by two hexadecimal digits
 standard input: warning: the input has no calls
 standard input: at offset 0: the input ends before the trace does: write or copy the whole trace again
+standard input: 1 calls, and --at-least asks for 2: see whether the recorder wrote all of them
+standard input: warning: the input has no calls
+standard input: 0 calls, and --at-least asks for 1: see whether the recorder wrote all of them
 ";
 
 /// Judging a file, with a picture and a trace.
@@ -126,6 +141,7 @@ fn judge_of(alloc: Global, file: &str) -> Result<JudgeRequest, AllocError> {
         json: false,
         picture: Some(FileName::new(alloc, "judged.svg")?),
         trace: Some(FileName::new(alloc, "judged.trace")?),
+        at_least: 0,
     })
 }
 
@@ -166,6 +182,19 @@ pub fn judged_input<R: AllocGlobal + Files + RandomSource>(
     err: &mut Vec<u8>,
 ) -> Result<u8, AllocError> {
     let request = judge_of(rt.alloc(), "-")?;
+    Ok(judge_with(rt, &mut bytes, &request, out, err))
+}
+
+/// The same, if an accepted history has to have so many calls.
+fn judged_at_least<R: AllocGlobal + Files + RandomSource>(
+    rt: &R,
+    mut bytes: &[u8],
+    at_least: u32,
+    out: &mut Vec<u8>,
+    err: &mut Vec<u8>,
+) -> Result<u8, AllocError> {
+    let mut request = judge_of(rt.alloc(), "-")?;
+    request.at_least = at_least;
     Ok(judge_with(rt, &mut bytes, &request, out, err))
 }
 
@@ -234,6 +263,9 @@ fn is_met<R: AllocGlobal + Files + Input + RandomSource>(
         Step::Check(file, status) => Ok(checked(rt, file, out, err)? == status),
         Step::Show(file, key, status) => Ok(shown(rt, file, key, out, err)? == status),
         Step::JudgeInput(bytes, status) => Ok(judged_input(rt, bytes, out, err)? == status),
+        Step::JudgeAtLeast(bytes, at_least, status) => {
+            Ok(judged_at_least(rt, bytes, at_least, out, err)? == status)
+        }
         Step::CheckInput(bytes, status) => Ok(checked_input(rt, bytes, out, err)? == status),
         Step::ShowInput(bytes, key, status) => {
             Ok(shown_input(rt, bytes, key, out, err)? == status)

@@ -23,51 +23,51 @@ const CASES: [Case; 10] = [
     Case {
         text: "",
         explain: true,
-        told: "{\"calls\":0,\"verdict\":\"accepted\"}\n",
+        told: "{\"calls\":0,\"puts\":0,\"removals\":0,\"hits\":0,\"misses\":0,\"verdict\":\"accepted\"}\n",
         end: JudgeEnd::Done,
     },
     Case {
         text: "a 1 4 put k v\nb 2 6 hit k v\na 5 8 remove k\n",
         explain: true,
-        told: "{\"calls\":3,\"verdict\":\"accepted\"}\n",
+        told: "{\"calls\":3,\"puts\":1,\"removals\":1,\"hits\":1,\"misses\":0,\"verdict\":\"accepted\"}\n",
         end: JudgeEnd::Done,
     },
     Case {
         text: STALE,
         explain: false,
-        told: "{\"calls\":3,\"verdict\":\"rejected\",\"kind\":\"hit\",\"key\":\"color\",\"lines\":[1,2,3]}\n",
+        told: "{\"calls\":3,\"puts\":2,\"removals\":0,\"hits\":1,\"misses\":0,\"verdict\":\"rejected\",\"kind\":\"hit\",\"key\":\"color\",\"lines\":[1,2,3]}\n",
         end: JudgeEnd::Rejected,
     },
     // with its explanation, the line feeds of which are escaped
     Case {
         text: STALE,
         explain: true,
-        told: "{\"calls\":3,\"verdict\":\"rejected\",\"kind\":\"hit\",\"key\":\"color\",\"lines\":[1,2,3],\"explanation\":\"the hit of red (line 3) is stale: put red (line 1) ended at 14, before put blue (line 2) started at 16, which ended at 21, before the hit started at 25\\n* 1  alice  10  14  put    red   []\\n* 2  bob    16  21  put    blue    []\\n* 3  carol  25  30  hit    red       []\\n\"}\n",
+        told: "{\"calls\":3,\"puts\":2,\"removals\":0,\"hits\":1,\"misses\":0,\"verdict\":\"rejected\",\"kind\":\"hit\",\"key\":\"color\",\"lines\":[1,2,3],\"explanation\":\"the hit of red (line 3) is stale: put red (line 1) ended at 14, before put blue (line 2) started at 16, which ended at 21, before the hit started at 25\\n* 1  alice  10  14  put    red   []\\n* 2  bob    16  21  put    blue    []\\n* 3  carol  25  30  hit    red       []\\n\"}\n",
         end: JudgeEnd::Rejected,
     },
     // a quotation mark and a backslash stand in a word as they are, and are escaped in the object
     Case {
         text: "# the clock ran back\na 9 3 put q\"\\%20 v\n",
         explain: false,
-        told: "{\"calls\":1,\"verdict\":\"rejected\",\"kind\":\"interval\",\"key\":\"q\\\"\\\\%20\",\"lines\":[2]}\n",
+        told: "{\"calls\":1,\"puts\":1,\"removals\":0,\"hits\":0,\"misses\":0,\"verdict\":\"rejected\",\"kind\":\"interval\",\"key\":\"q\\\"\\\\%20\",\"lines\":[2]}\n",
         end: JudgeEnd::Rejected,
     },
     Case {
         text: "a 1 10 put k x\nb 1 10 put k y\nc 11 12 hit k x\nc 13 14 hit k y\nc 15 16 hit k x\n",
         explain: false,
-        told: "{\"calls\":5,\"verdict\":\"rejected\",\"kind\":\"crossed\",\"key\":\"k\",\"lines\":[1,2,4,5]}\n",
+        told: "{\"calls\":5,\"puts\":2,\"removals\":0,\"hits\":3,\"misses\":0,\"verdict\":\"rejected\",\"kind\":\"crossed\",\"key\":\"k\",\"lines\":[1,2,4,5]}\n",
         end: JudgeEnd::Rejected,
     },
     Case {
         text: "a 1 9 put k v\nb 2 8 put k v\nc 3 4 hit k v\n",
         explain: true,
-        told: "{\"calls\":3,\"verdict\":\"accepted\"}\n",
+        told: "{\"calls\":3,\"puts\":2,\"removals\":0,\"hits\":1,\"misses\":0,\"verdict\":\"accepted\"}\n",
         end: JudgeEnd::Done,
     },
     Case {
         text: "a 0 9 put k v\nb 0 9 put k v\nc 0 9 put k w\nd 1 2 hit k w\ne 3 4 hit k v\nd 5 6 hit k w\n",
         explain: true,
-        told: "{\"calls\":6,\"verdict\":\"undecided\",\"hits\":1}\n",
+        told: "{\"calls\":6,\"puts\":3,\"removals\":0,\"hits\":3,\"misses\":0,\"verdict\":\"undecided\",\"undecided-hits\":1}\n",
         end: JudgeEnd::Undecided,
     },
     Case {

@@ -10,7 +10,7 @@ use std::alloc::Global;
 use std::hash::BuildHasher;
 use std::io::Read;
 
-/// The object of a text that is accepted has the number of its own calls, and nothing but that and the verdict.
+/// The object of a text that is accepted has the number of its own calls, of those of each kind, and nothing but that and the verdict.
 pub fn an_accepted_text_has_its_own_calls<S: BuildHasher + Copy + Drop, R: Read>(
     alloc: Global,
     hash_builder: S,

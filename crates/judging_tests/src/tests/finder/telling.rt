@@ -8,7 +8,7 @@ use trace_file::{Act, Call, Certificate, History};
 
 /// What a call of a table does, with values of one byte, which never expire but where an expiry stands, and are asked for at moment 0 but where a moment stands.
 #[derive(Clone, Copy)]
-enum Did {
+pub(super) enum Did {
     Put(u8),
     Expiring(u8, u64),
     Remove,
@@ -19,7 +19,7 @@ enum Did {
 
 /// What is to be found.
 #[derive(Clone, Copy, Debug, PartialEq, Eq)]
-enum Want {
+pub(super) enum Want {
     Accepted,
     Interval,
     Hit,
@@ -28,9 +28,9 @@ enum Want {
 }
 
 /// A call of a table: its key, its stamps, and what it does.
-type Row = (u8, u64, u64, Did);
+pub(super) type Row = (u8, u64, u64, Did);
 
-fn call(alloc: Global, row: Row) -> Result<Call, Fail> {
+pub(super) fn call(alloc: Global, row: Row) -> Result<Call, Fail> {
     let (key, start, end, did) = row;
     let act = match did {
         Did::Put(byte) => Act::Put(Value::new(alloc, &[byte])?, NEVER),
@@ -49,7 +49,7 @@ fn call(alloc: Global, row: Row) -> Result<Call, Fail> {
     })
 }
 
-fn history_of(alloc: Global, rows: &[Row]) -> Result<History, Fail> {
+pub(super) fn history_of(alloc: Global, rows: &[Row]) -> Result<History, Fail> {
     let mut history = History::new(alloc);
     for row in rows {
         history.push(call(alloc, *row)?)?;
@@ -79,7 +79,7 @@ fn kind_of(witness: &Witness) -> Want {
 }
 
 /// What is found, or nothing if a certificate was found that the checker rejects.
-fn found(alloc: Global, history: &History) -> Result<Option<Want>, Fail> {
+pub(super) fn found(alloc: Global, history: &History) -> Result<Option<Want>, Fail> {
     match find(alloc, history)? {
         Found::Accepted(certificate) => shown(alloc, history, &certificate),
         Found::Rejected(witness) => Ok(Some(kind_of(&witness))),
@@ -525,68 +525,6 @@ fn what_is_found_where_values_repeat(rt: HostRuntime) -> Result<(), Fail> {
                 (1, 5, 6, Did::Hit(1)),
             ],
             Want::Undecided,
-        ),
-    ];
-    find_each(rt.alloc(), &table)
-}
-
-/// Histories each of which has a certificate by one of the five rules and by none of the others.
-#[test]
-fn each_rule_finds_what_no_other_does(rt: HostRuntime) -> Result<(), Fail> {
-    let table: [(&[Row], Want); 5] = [
-        // By the least growth of the zone.
-        (
-            &[
-                (1, 1, 2, Did::Expiring(2, 3)),
-                (1, 1, 3, Did::Expiring(2, 2)),
-                (1, 5, 5, Did::HitAt(2, 2)),
-                (1, 5, 5, Did::HitAt(2, 0)),
-            ],
-            Want::Accepted,
-        ),
-        // By the latest start.
-        (
-            &[
-                (1, 1, 5, Did::Expiring(1, 2)),
-                (1, 2, 5, Did::Expiring(1, 2)),
-                (1, 0, 2, Did::Put(1)),
-                (1, 7, 7, Did::HitAt(1, 2)),
-                (1, 0, 1, Did::HitAt(1, 0)),
-            ],
-            Want::Accepted,
-        ),
-        // By the earliest start.
-        (
-            &[
-                (1, 0, 7, Did::Put(2)),
-                (1, 4, 6, Did::Put(1)),
-                (1, 3, 3, Did::Put(2)),
-                (1, 6, 6, Did::HitAt(2, 0)),
-                (1, 1, 4, Did::HitAt(1, 0)),
-            ],
-            Want::Accepted,
-        ),
-        // By the latest start at or before the hit's.
-        (
-            &[
-                (1, 2, 4, Did::Put(1)),
-                (1, 3, 3, Did::Expiring(2, 2)),
-                (1, 1, 6, Did::Put(1)),
-                (1, 0, 2, Did::HitAt(1, 0)),
-                (1, 4, 7, Did::HitAt(1, 0)),
-            ],
-            Want::Accepted,
-        ),
-        // By the latest start of those that ended before the hit.
-        (
-            &[
-                (1, 6, 6, Did::Expiring(2, 2)),
-                (1, 0, 8, Did::Expiring(1, 2)),
-                (1, 1, 6, Did::Put(1)),
-                (1, 2, 4, Did::HitAt(1, 1)),
-                (1, 7, 8, Did::HitAt(1, 1)),
-            ],
-            Want::Accepted,
         ),
     ];
     find_each(rt.alloc(), &table)

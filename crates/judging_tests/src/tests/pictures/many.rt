@@ -1,7 +1,7 @@
 // Very many calls of one key, with bytes that no terminal should see.
 use super::texts::hit;
 use certificate_finder::Witness;
-use history_picture::{Reason, Scene, explanation};
+use history_picture::{Reason, Scene, explanation, picture};
 use std::alloc::{AllocError, Global};
 use std::test::Fail;
 use trace_file::History;
@@ -30,8 +30,8 @@ fn names(alloc: Global) -> Result<Vec<Vec<u8>>, AllocError> {
     Ok(names)
 }
 
-/// What is said of the one in the middle.
-fn said(alloc: Global) -> Result<String, AllocError> {
+/// What is said of the one in the middle, or its picture.
+fn said(alloc: Global, drawn: bool) -> Result<String, AllocError> {
     let history = thousand(alloc)?;
     let names = names(alloc)?;
     let scene = Scene {
@@ -40,6 +40,9 @@ fn said(alloc: Global) -> Result<String, AllocError> {
         callers: names.as_slice(),
     };
     let reason = Reason::of_witness(Witness::Hit(500, Vec::new(alloc)));
+    if drawn {
+        return picture(alloc, &scene, &reason);
+    }
     explanation(alloc, &scene, &reason)
 }
 
@@ -50,7 +53,7 @@ fn is_shown(byte: u8) -> bool {
 
 #[test]
 fn the_nearest_of_a_thousand_are_shown(rt: HostRuntime) -> Result<(), Fail> {
-    let text = said(rt.alloc())?;
+    let text = said(rt.alloc(), false)?;
     let lines = text
         .as_bytes()
         .iter()
@@ -63,5 +66,15 @@ fn the_nearest_of_a_thousand_are_shown(rt: HostRuntime) -> Result<(), Fail> {
     assert!(rt; !text.as_str().contains("\n  487  "));
     assert!(rt; !text.as_str().contains("\n  513  "));
     assert!(rt; text.as_bytes().iter().all(|byte| is_shown(*byte)));
+    Ok(())
+}
+
+#[test]
+fn a_picture_has_the_same_calls(rt: HostRuntime) -> Result<(), Fail> {
+    let text = said(rt.alloc(), true)?;
+    assert!(rt; text.as_str().contains("<title>position 489: "));
+    assert!(rt; text.as_str().contains("<title>position 511: "));
+    assert!(rt; !text.as_str().contains("<title>position 487: "));
+    assert!(rt; !text.as_str().contains("<title>position 513: "));
     Ok(())
 }

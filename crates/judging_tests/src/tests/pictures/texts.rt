@@ -12,6 +12,16 @@ use trace_file::{Act, Call, History};
 const STALE: &str =
     "the hit of %1B%25 (line 6) is stale: put %1B%25 (line 4) ended at 14, before put v2 (line 5) started at 16, which ended at 21, before the hit started at 25\n* 4  alice   0  14  put    %1B%25  []\n* 5  1      16  21  put    v2        []\n* 6  alice  25   -  hit    %1B%25      [=>\n";
 
+/// Parts of its picture: where the sentence is broken, the label of each of the three calls, and the first and the last time.
+const PARTS: [&str; 6] = [
+    "before put v2 </tspan>\n<tspan x=\"16\" dy=\"18\">(position 1) started",
+    "<text x=\"40\" y=\"64\">position 0: put %1B%25</text>",
+    "<text x=\"88\" y=\"82\">position 1: put v2</text>",
+    "<text x=\"136\" y=\"100\">position 2: the hit of %1B%25</text>",
+    "<text transform=\"translate(36 212) rotate(90)\">0</text>",
+    "<text transform=\"translate(132 212) rotate(90)\">25</text>",
+];
+
 /// A writer that fails.
 #[derive(Drop)]
 struct Failing;
@@ -162,7 +172,7 @@ fn a_picture_is_one_element_and_escaped(rt: HostRuntime) -> Result<(), Fail> {
     let text = drawn(rt.alloc())?;
     assert!(rt;
         text.as_str()
-            .starts_with("<svg xmlns=\"http://www.w3.org/2000/svg\" width=\"640\"")
+            .starts_with("<svg xmlns=\"http://www.w3.org/2000/svg\" width=\"800\"")
     );
     assert!(rt; text.as_str().ends_with("</svg>\n"));
     assert!(rt;
@@ -176,12 +186,22 @@ fn arrows_lead_from_the_earlier_call_to_the_later(rt: HostRuntime) -> Result<(),
     let text = drawn(rt.alloc())?;
     assert!(rt;
         text.as_str()
-            .contains("<path d=\"M 64 108 C 88 108 64 154 88 154\"")
+            .contains("<path d=\"M 64 136 C 88 136 64 182 88 182\"")
     );
     assert!(rt;
         text.as_str()
-            .contains("<path d=\"M 112 154 C 136 154 112 108 136 108\"")
+            .contains("<path d=\"M 112 182 C 136 182 112 136 136 136\"")
     );
+    Ok(())
+}
+
+#[test]
+fn a_picture_is_of_text_that_any_viewer_shows(rt: HostRuntime) -> Result<(), Fail> {
+    let text = drawn(rt.alloc())?;
+    for part in &PARTS {
+        assert!(rt; text.as_str().contains(*part));
+    }
+    assert!(rt; !text.as_str().contains("foreignObject"));
     Ok(())
 }
 

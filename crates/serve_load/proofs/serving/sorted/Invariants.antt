@@ -7,4 +7,4 @@ ghosts-booked-J-BookName g a = record { book = a.book }
 
 -- the tallies are those of the load's callers
 abbrev pub ghosts-booked-M-Tallying : goal.ghosts-booked-M-Tallying
-ghosts-booked-M-Tallying g a = record { most = a.load.now.operations; is_tally = IsTally a.load.now }
+ghosts-booked-M-Tallying g a = record { most = a.load.now.operations; seconds = a.load.now.seconds; is_tally = IsTally a.load.now }

@@ -11,5 +11,5 @@ returns c =
     let item = c.in-Some.item in
     let yes : c.agrees.result ≡ true = search rules in
     let short : length item.bytes.now ≤ 2048 = subst (λ (o : Option CacheItem). IfSome o (λ i. length i.bytes.now ≤ 2048)) c.in-Some.is c.requires.short in
-    number_put a.self a.live item c.in-Some.is (sym c.agrees.ensures ∙ yes) c.in-Some-number_in.old (sym c.number_in.ensures ∙ c.in-Some-number_in.is) c.renewed.result c.of-number.result c.as_bytes-text.result.now a.spaces.now c.saturating_sub.result 2048
-    c.renewed.ensures c.of-number.ensures (c.as_bytes-text.ensures.value ∙ c.format.ensures.text) c.requires.spaces c.saturating_sub.ensures short
+    number_put a.self a.live item c.in-Some.is (sym c.agrees.ensures ∙ yes) c.in-Some-number_in.old (sym c.number_in.ensures ∙ c.in-Some-number_in.is) c.counted.result c.of-number.result c.as_bytes-text.result.now a.spaces.now c.saturating_sub.result 2048
+    c.counted.ensures c.of-number.ensures (c.as_bytes-text.ensures.value ∙ c.format.ensures.text) c.requires.spaces c.saturating_sub.ensures short

@@ -1,0 +1,237 @@
+/* A connection, and what is done for it: all by its worker, so it has no lock.
+ *
+ * A turn is one read, the steps of what was read, and one send. What a client leaves half sent is kept for it, and so is what
+ * it does not take; while it has not taken its answers it is not read. So a slow client costs at most READ_BYTES and
+ * KS_MOST_KEPT bytes that wait, and the answers of one turn, ANSWERS_ENOUGH and one more. An idle one costs its struct. */
+#define _GNU_SOURCE
+#include "server.h"
+#include <netinet/in.h>
+#include <netinet/tcp.h>
+#include <stdlib.h>
+#include <string.h>
+#include <sys/epoll.h>
+#include <sys/socket.h>
+#include <unistd.h>
+
+enum { DRAINED_BYTES = 65536 };
+
+/* ------------------------------------------------------------------------------------------------------- open and close */
+
+static void link_conn(worker *by, conn *of) {
+    of->after = by->conns;
+    if (by->conns != NULL) by->conns->before = of;
+    by->conns = of;
+}
+
+static void unlink_conn(worker *by, conn *of) {
+    if (of->before != NULL) of->before->after = of->after;
+    else by->conns = of->after;
+    if (of->after != NULL) of->after->before = of->before;
+}
+
+/* Gives a connection to its worker, which may serve and close it before this returns: so under the lock. False: the system
+ * refused, and the worker does not know of it. */
+static bool enter(worker *by, conn *of) {
+    struct epoll_event event = {.events = EPOLLIN, .data.ptr = of};
+    pthread_mutex_lock(&by->list_lock);
+    link_conn(by, of);
+    bool is_watched = epoll_ctl(by->poll, EPOLL_CTL_ADD, of->fd, &event) == 0;
+    if (!is_watched) unlink_conn(by, of);
+    pthread_mutex_unlock(&by->list_lock);
+    return is_watched;
+}
+
+/* Takes a connection off the list, and closes its descriptor: stats conns looks at both under the lock. */
+static void leave(worker *by, conn *of) {
+    pthread_mutex_lock(&by->list_lock);
+    unlink_conn(by, of);
+    close(of->fd);
+    pthread_mutex_unlock(&by->list_lock);
+}
+
+void conn_close(worker *by, conn *of) {
+    tell(TELL_ALL, "<%d connection closed.", of->fd);
+    leave(by, of);
+    free_buffer(&of->unread);
+    free_buffer(&of->unsent);
+    free(of);
+    atomic_fetch_sub(&by->of->curr_conns, 1);
+}
+
+/* Answers go out at once, and a client whose machine is gone is found out. A Unix socket refuses both, and needs neither. */
+static void tune_socket(int fd) {
+    int one = 1;
+    setsockopt(fd, IPPROTO_TCP, TCP_NODELAY, &one, sizeof one);
+    setsockopt(fd, SOL_SOCKET, SO_KEEPALIVE, &one, sizeof one);
+}
+
+bool conn_open(worker *by, int fd) {
+    conn *of = calloc(1, sizeof *of);
+    if (of == NULL) {
+        close(fd);
+        return false;
+    }
+    tune_socket(fd);
+    of->fd = fd;
+    atomic_init(&of->last_moment, moment_now());
+    atomic_fetch_add(&by->of->curr_conns, 1);
+    tell(TELL_ALL, "<%d new client connection", fd);
+    if (enter(by, of)) {
+        atomic_fetch_add(&by->of->total_conns, 1);
+        return true;
+    }
+    int cause = errno;
+    atomic_fetch_sub(&by->of->curr_conns, 1);
+    free(of);
+    close(fd);
+    errno = cause;
+    return false;
+}
+
+/* --------------------------------------------------------------------------------------------------------------- sending */
+
+/* Sends what the client takes at once, and drops it. False: the connection is done for. */
+static bool send_some(worker *by, int fd, buffer *of) {
+    size_t sent = 0;
+    bool is_well = true;
+    while (is_well && sent < of->length) {
+        ssize_t more = send(fd, of->at + sent, of->length - sent, MSG_NOSIGNAL);
+        if (more >= 0) sent += (size_t)more;
+        else if (errno == EAGAIN || errno == EWOULDBLOCK) break;
+        else if (errno != EINTR) is_well = false;
+    }
+    count_up(by, COUNT_bytes_written, sent);
+    drop_bytes(of, sent);
+    return is_well;
+}
+
+/* Makes a buffer that grew small again. If that is refused, it stays as it is. */
+static void shrink(buffer *of) {
+    if (of->room <= ANSWERS_KEPT || of->length != 0) return;
+    uint8_t *less = realloc(of->at, ANSWERS_ENOUGH + KS_MOST_ANSWER);
+    if (less == NULL) return;
+    of->at = less;
+    of->room = ANSWERS_ENOUGH + KS_MOST_ANSWER;
+}
+
+/* Sends the answers of a turn; what is not taken waits. False: the connection is done for. */
+static bool send_answers(worker *by, conn *of) {
+    buffer *answers = &by->answers;
+    bool is_well = send_some(by, of->fd, answers);
+    if (is_well) is_well = append_bytes(&of->unsent, answers->at, answers->length);
+    answers->length = 0;
+    shrink(answers);
+    return is_well;
+}
+
+/* Sends what waits. False: the connection is done for. */
+static bool send_unsent(worker *by, conn *of) {
+    if (!send_some(by, of->fd, &of->unsent)) return false;
+    if (of->unsent.length == 0) free_buffer(&of->unsent);
+    return true;
+}
+
+void conn_send_last(worker *by, conn *of) {
+    if (of->unsent.length != 0) send_unsent(by, of);
+}
+
+/* --------------------------------------------------------------------------------------------------------------- reading */
+
+/* Makes steps until no whole request is left, or the answers are enough for one send. Gives how many bytes were taken. */
+static size_t make_steps(worker *by, conn *of, const uint8_t *bytes, size_t length) {
+    size_t all = 0;
+    while (by->answers.length < ANSWERS_ENOUGH) {
+        size_t taken;
+        step_end end = make_step(by, of, bytes + all, length - all, &taken);
+        all += taken;
+        if (end == STEP_ENDS) of->is_ending = true;
+        if (end != STEP_WENT_ON) break;
+    }
+    return all;
+}
+
+/* Keeps what was not taken, for the next turn. False: memory was refused. */
+static bool keep_unread(conn *of, const uint8_t *bytes, size_t length) {
+    of->unread.length = 0;
+    if (length != 0) return append_bytes(&of->unread, bytes, length);
+    free_buffer(&of->unread);
+    return true;
+}
+
+/* Answers bytes, as far as their answers are taken. False: the connection is done for. */
+static bool answer(worker *by, conn *of, const uint8_t *bytes, size_t length) {
+    for (;;) {
+        size_t taken = make_steps(by, of, bytes, length);
+        bool is_enough = by->answers.length >= ANSWERS_ENOUGH;
+        bytes += taken;
+        length -= taken;
+        if (!send_answers(by, of)) return false;
+        if (of->is_ending) return of->unsent.length != 0;
+        if (of->unsent.length != 0 || !is_enough) return keep_unread(of, bytes, length);
+    }
+}
+
+/* Puts what the client left at the front of the worker's room for reading. Gives its length. */
+static size_t take_unread(worker *by, conn *of) {
+    size_t length = of->unread.length;
+    if (length != 0) memcpy(by->in, of->unread.at, length);
+    return length;
+}
+
+/* Reads once, and answers. False: the connection is done for. */
+static bool read_and_answer(worker *by, conn *of) {
+    size_t before = take_unread(by, of);
+    if (before > KS_MOST_KEPT) return false; /* session.h says that this does not happen: there would be no room */
+    ssize_t more = recv(of->fd, by->in + before, READ_BYTES, 0);
+    if (more == 0) return false;
+    if (more < 0) return errno == EAGAIN || errno == EWOULDBLOCK || errno == EINTR;
+    count_up(by, COUNT_bytes_read, (uint64_t)more);
+    if (more == READ_BYTES) count_up(by, COUNT_conn_yields, 1); /* there may be more: the others have their turn first */
+    return answer(by, of, by->in, before + (size_t)more);
+}
+
+/* ----------------------------------------------------------------------------------------------------------------- turns */
+
+/* A turn of a client that has not taken all answers: what it sent before is gone on with only once it has. */
+static bool turn_to_send(worker *by, conn *of) {
+    if (!send_unsent(by, of)) return false;
+    if (of->unsent.length != 0) return true;
+    if (of->is_ending) return false;
+    size_t length = take_unread(by, of);
+    return length == 0 || answer(by, of, by->in, length);
+}
+
+static bool turn(worker *by, conn *of, uint32_t events) {
+    if ((events & EPOLLERR) != 0) return false;
+    atomic_store_explicit(&of->state, CONN_SERVED, memory_order_relaxed);
+    atomic_store_explicit(&of->last_moment, moment_now(), memory_order_relaxed);
+    return of->unsent.length != 0 ? turn_to_send(by, of) : read_and_answer(by, of);
+}
+
+/* Has the worker woken when there is something to do. False: the system refused. */
+static bool wait_for_right_event(worker *by, conn *of) {
+    bool waits = of->unsent.length != 0;
+    conn_state state = waits ? CONN_SENDS : of->unread.length != 0 ? CONN_HALF : CONN_WAITS;
+    atomic_store_explicit(&of->state, state, memory_order_relaxed);
+    if (waits == of->is_woken_to_send) return true;
+    of->is_woken_to_send = waits;
+    struct epoll_event event = {.events = waits ? EPOLLOUT : EPOLLIN, .data.ptr = of};
+    return epoll_ctl(by->poll, EPOLL_CTL_MOD, of->fd, &event) == 0;
+}
+
+/* Ends a connection so that its last answer arrives: a close with bytes unread would have the system drop what it has not
+ * sent yet. A client that goes on sending is not waited for. */
+static void end_gently(worker *by, conn *of) {
+    size_t drained = 0;
+    ssize_t more = 1;
+    if (of->is_ending) shutdown(of->fd, SHUT_WR);
+    while (of->is_ending && more > 0 && drained < DRAINED_BYTES) {
+        more = recv(of->fd, by->in, READ_BYTES, 0);
+        drained += more > 0 ? (size_t)more : 0;
+    }
+    conn_close(by, of);
+}
+
+void conn_serve(worker *by, conn *of, uint32_t events) {
+    if (!turn(by, of, events) || !wait_for_right_event(by, of)) end_gently(by, of);
+}

@@ -1,0 +1,205 @@
+/* Sockets that listen: those of the settings, or those that systemd handed over. And the accepting of connections, by the
+ * main thread, which deals them out to the workers in turn. */
+#define _GNU_SOURCE
+#include "server.h"
+#include <fcntl.h>
+#include <netdb.h>
+#include <netinet/in.h>
+#include <stdio.h>
+#include <stdlib.h>
+#include <string.h>
+#include <sys/socket.h>
+#include <sys/stat.h>
+#include <sys/un.h>
+#include <unistd.h>
+
+enum { FIRST_HANDED_OVER = 3, HOST_BYTES = 256, PORT_BYTES = 16, REFUSED_PAUSE_US = 10000 };
+
+/* --------------------------------------------------------------------------------------------------------- by systemd */
+
+/* How many sockets systemd handed over to this process. */
+static int handed_over(void) {
+    const char *pid = getenv("LISTEN_PID"), *count = getenv("LISTEN_FDS");
+    int number = pid != NULL && count != NULL && atol(pid) == (long)getpid() ? atoi(count) : 0;
+    unsetenv("LISTEN_PID");
+    unsetenv("LISTEN_FDS");
+    unsetenv("LISTEN_FDNAMES");
+    return number;
+}
+
+static bool is_listening_stream(int fd) {
+    int type = 0, listens = 0;
+    socklen_t bytes = sizeof type;
+    if (getsockopt(fd, SOL_SOCKET, SO_TYPE, &type, &bytes) != 0 || type != SOCK_STREAM) return false;
+    bytes = sizeof listens;
+    return getsockopt(fd, SOL_SOCKET, SO_ACCEPTCONN, &listens, &bytes) == 0 && listens != 0;
+}
+
+static bool take_over(server *of, int count) {
+    if (count > MOST_LISTENERS) {
+        tell(TELL_ALWAYS, "kangarood: systemd handed %d sockets over; at most %d are served", count, MOST_LISTENERS);
+        return false;
+    }
+    for (int fd = FIRST_HANDED_OVER; fd < FIRST_HANDED_OVER + count; fd++) {
+        if (!is_listening_stream(fd)) {
+            tell(TELL_ALWAYS, "kangarood: descriptor %d that systemd handed over is no listening stream socket: use "
+                              "ListenStream= and Accept=no", fd);
+            return false;
+        }
+        fcntl(fd, F_SETFD, FD_CLOEXEC);
+        fcntl(fd, F_SETFL, fcntl(fd, F_GETFL) | O_NONBLOCK);
+        of->listeners[of->listener_count++] = fd;
+    }
+    return true;
+}
+
+/* ----------------------------------------------------------------------------------------------------------- by words */
+
+/* Has a socket listen at an address. False: errno says why not. */
+static bool add_listener(server *of, int fd, const struct sockaddr *address, socklen_t length) {
+    if (fd < 0) return false;
+    bool has_room = of->listener_count < MOST_LISTENERS;
+    if (!has_room) errno = EMFILE;
+    if (has_room && bind(fd, address, length) == 0 && listen(fd, (int)of->settings.backlog) == 0) {
+        of->listeners[of->listener_count++] = fd;
+        return true;
+    }
+    int cause = errno;
+    close(fd);
+    errno = cause;
+    return false;
+}
+
+static bool listen_on_file(server *of) {
+    const char *path = of->settings.socket_path;
+    struct sockaddr_un address = {.sun_family = AF_UNIX};
+    struct stat is;
+    if (strlen(path) >= sizeof address.sun_path) {
+        tell(TELL_ALWAYS, "kangarood: -s %s: the path has more than %zu bytes", path, sizeof address.sun_path - 1);
+        return false;
+    }
+    strcpy(address.sun_path, path);
+    if (lstat(path, &is) == 0 && S_ISSOCK(is.st_mode)) unlink(path); /* one that a server of before left */
+    mode_t before = umask((mode_t)~of->settings.socket_mode & 0777);
+    int fd = socket(AF_UNIX, SOCK_STREAM | SOCK_NONBLOCK | SOCK_CLOEXEC, 0);
+    of->made_socket_file = add_listener(of, fd, (struct sockaddr *)&address, sizeof address);
+    umask(before);
+    if (!of->made_socket_file) tell(TELL_ALWAYS, "kangarood: -s %s: %s", path, strerror(errno));
+    return of->made_socket_file;
+}
+
+/* Parts HOST, HOST:PORT, [HOST] or [HOST]:PORT. A HOST with more than one colon and no brackets is an IPv6 one. */
+static bool part_address(const settings *of, const char *word, char host[HOST_BYTES], char port[PORT_BYTES]) {
+    const char *end = word + strlen(word), *colon = strrchr(word, ':');
+    bool is_bracketed = word[0] == '[';
+    const char *closing = is_bracketed ? strchr(word, ']') : NULL;
+    if (is_bracketed && closing == NULL) return false;
+    if (is_bracketed) colon = closing[1] == ':' ? closing + 1 : NULL;
+    else if (colon != NULL && strchr(word, ':') != colon) colon = NULL;
+    if (is_bracketed && colon == NULL && closing[1] != 0) return false;
+    const char *from = is_bracketed ? word + 1 : word, *past = is_bracketed ? closing : colon != NULL ? colon : end;
+    if (past == from || past - from >= HOST_BYTES || (colon != NULL && strlen(colon + 1) >= PORT_BYTES)) return false;
+    snprintf(host, HOST_BYTES, "%.*s", (int)(past - from), from);
+    if (colon != NULL) snprintf(port, PORT_BYTES, "%s", colon + 1);
+    else snprintf(port, PORT_BYTES, "%u", (unsigned)of->port);
+    return true;
+}
+
+static bool listen_on_address(server *of, const struct addrinfo *at) {
+    int one = 1;
+    int fd = socket(at->ai_family, SOCK_STREAM | SOCK_NONBLOCK | SOCK_CLOEXEC, 0);
+    if (fd < 0) return false;
+    setsockopt(fd, SOL_SOCKET, SO_REUSEADDR, &one, sizeof one);
+    if (at->ai_family == AF_INET6) setsockopt(fd, IPPROTO_IPV6, IPV6_V6ONLY, &one, sizeof one);
+    return add_listener(of, fd, at->ai_addr, at->ai_addrlen);
+}
+
+/* Listens at each address of a host. One that the system does not know, such as IPv6 without IPv6, is passed over if another
+ * serves. */
+static bool listen_on_host(server *of, const char *word) {
+    struct addrinfo hints = {.ai_flags = AI_PASSIVE | AI_NUMERICSERV, .ai_socktype = SOCK_STREAM}, *list = NULL;
+    char host[HOST_BYTES], port[PORT_BYTES];
+    if (!part_address(&of->settings, word, host, port)) {
+        tell(TELL_ALWAYS, "kangarood: -l %s: give HOST, HOST:PORT or [HOST]:PORT", word);
+        return false;
+    }
+    int cause = getaddrinfo(host, port, &hints, &list);
+    if (cause != 0) {
+        tell(TELL_ALWAYS, "kangarood: -l %s: %s", word, gai_strerror(cause));
+        return false;
+    }
+    int before = of->listener_count, refused = 0;
+    for (struct addrinfo *at = list; at != NULL; at = at->ai_next)
+        if (!listen_on_address(of, at)) refused = errno;
+    freeaddrinfo(list);
+    if (of->listener_count > before && refused != EADDRINUSE) return true;
+    tell(TELL_ALWAYS, "kangarood: -l %s, port %s: %s", host, port, strerror(refused));
+    return false;
+}
+
+static bool listen_on_hosts(server *of) {
+    char *words = strdup(of->settings.listen), *rest = words;
+    bool is_well = words != NULL;
+    for (char *word; is_well && (word = strsep(&rest, ",")) != NULL;) is_well = listen_on_host(of, word);
+    free(words);
+    return is_well;
+}
+
+bool open_listeners(server *of) {
+    int count = handed_over();
+    if (count > 0) return take_over(of, count);
+    return of->settings.socket_path != NULL ? listen_on_file(of) : listen_on_hosts(of);
+}
+
+void close_listeners(server *of) {
+    for (int i = 0; i < of->listener_count; i++) close(of->listeners[i]);
+    of->listener_count = 0;
+    if (of->made_socket_file) unlink(of->settings.socket_path);
+    of->made_socket_file = false;
+}
+
+/* ----------------------------------------------------------------------------------------------------------- accepting */
+
+static void refuse_client(server *of, int fd) {
+    static const char text[] = "ERROR Too many open connections\r\n";
+    atomic_fetch_add(&of->rejected_conns, 1);
+    tell(TELL_FAULTS, "kangarood: a client was refused: %llu are connected (-c)", (unsigned long long)of->settings.conns);
+    (void)!send(fd, text, sizeof text - 1, MSG_NOSIGNAL | MSG_DONTWAIT);
+    close(fd);
+}
+
+static void take_client(server *of, int fd) {
+    worker *by = &of->workers[of->next_worker++ % of->settings.threads];
+    if (atomic_load(&of->curr_conns) >= of->settings.conns) refuse_client(of, fd);
+    else if (!conn_open(by, fd)) {
+        atomic_fetch_add(&of->rejected_conns, 1);
+        tell(TELL_FAULTS, "kangarood: a client was refused: %s", strerror(errno));
+    }
+}
+
+/* Without descriptors a client would wait for ever, and wake us for ever: one that was kept aside is given up for it. */
+static void refuse_by_spare(server *of, int listener) {
+    close(of->spare);
+    int fd = accept4(listener, NULL, NULL, SOCK_NONBLOCK | SOCK_CLOEXEC);
+    if (fd >= 0) refuse_client(of, fd);
+    of->spare = open("/dev/null", O_RDONLY | O_CLOEXEC);
+}
+
+/* Whether accepting is to be gone on with after a refusal. */
+static bool goes_on_after(server *of, int listener, int cause) {
+    if (cause == EAGAIN || cause == EWOULDBLOCK) return false;
+    if (cause == EINTR || cause == ECONNABORTED || cause == EPROTO || cause == EPERM) return true;
+    tell(TELL_FAULTS, "kangarood: accept: %s", strerror(cause));
+    if (cause == EMFILE || cause == ENFILE) refuse_by_spare(of, listener);
+    usleep(REFUSED_PAUSE_US); /* the next look at the socket tries again */
+    return false;
+}
+
+void accept_all(server *of, int listener) {
+    bool goes_on = true;
+    while (goes_on && !atomic_load(&of->is_stopping)) {
+        int fd = accept4(listener, NULL, NULL, SOCK_NONBLOCK | SOCK_CLOEXEC);
+        if (fd >= 0) take_client(of, fd);
+        else goes_on = goes_on_after(of, listener, errno);
+    }
+}

@@ -1,0 +1,237 @@
+/* Start and stop. */
+#define _GNU_SOURCE
+#include "server.h"
+#include <fcntl.h>
+#include <grp.h>
+#include <pwd.h>
+#include <signal.h>
+#include <stdio.h>
+#include <stdlib.h>
+#include <string.h>
+#include <sys/epoll.h>
+#include <sys/resource.h>
+#include <sys/signalfd.h>
+#include <sys/wait.h>
+#include <unistd.h>
+
+enum { OTHER_DESCRIPTORS = 128, EVENTS_AT_ONCE = 16 };
+
+/* What main has beside the server. */
+typedef struct run {
+    server server;
+    int signals, poll;
+    int ready;    /* the pipe to the process that waits for a daemon to be ready, or NO_FILE */
+    int pid_file; /* or NO_FILE */
+    uid_t user;   /* whom root is to become */
+    gid_t group;
+} run;
+
+/* ------------------------------------------------------------------------------------------------------------ the process */
+
+/* Has the system give this process enough descriptors. */
+static bool raise_limit(const settings *of) {
+    struct rlimit limit;
+    rlim_t wanted = of->conns + of->threads * 2 + OTHER_DESCRIPTORS;
+    if (getrlimit(RLIMIT_NOFILE, &limit) != 0 || limit.rlim_cur >= wanted) return true;
+    limit.rlim_cur = wanted;
+    if (limit.rlim_max < wanted) limit.rlim_max = wanted; /* root may */
+    if (setrlimit(RLIMIT_NOFILE, &limit) == 0) return true;
+    tell(TELL_ALWAYS, "kangarood: -c %llu: the system gives fewer descriptors than %llu: give a smaller -c, or raise the limit "
+                      "(ulimit -n, or LimitNOFILE= of systemd)", (unsigned long long)of->conns, (unsigned long long)wanted);
+    return false;
+}
+
+/* Goes on as a process of its own. The one that was started waits until clients are served, and ends with the status of
+ * that. */
+static bool become_daemon(run *of) {
+    int ends[2];
+    if (pipe2(ends, O_CLOEXEC) != 0) return false;
+    pid_t child = fork();
+    if (child < 0) return false;
+    if (child > 0) {
+        unsigned char status = ENDS_BY_SYSTEM;
+        close(ends[1]);
+        while (read(ends[0], &status, 1) < 0 && errno == EINTR) continue;
+        _exit(status);
+    }
+    close(ends[0]);
+    of->ready = ends[1];
+    return setsid() >= 0;
+}
+
+/* Tells the process that waits how the start went. A daemon that serves lets go of the terminal, unless it is to tell. */
+static void tell_ready(run *of, unsigned char status) {
+    if (of->ready == NO_FILE) return;
+    if (status == ENDS_WELL && verbosity() == 0) {
+        int null = open("/dev/null", O_RDWR | O_CLOEXEC);
+        for (int fd = 0; null >= 0 && fd <= 2; fd++) dup2(null, fd);
+        if (null > 2) close(null);
+    }
+    (void)!write(of->ready, &status, 1);
+    close(of->ready);
+    of->ready = NO_FILE;
+}
+
+/* Has signals that end the server come by a descriptor. They are blocked before the first thread starts, so in all. */
+static bool open_signals(run *of) {
+    sigset_t set;
+    sigemptyset(&set);
+    sigaddset(&set, SIGINT);
+    sigaddset(&set, SIGTERM);
+    sigaddset(&set, SIGUSR1);
+    pthread_sigmask(SIG_BLOCK, &set, NULL);
+    signal(SIGPIPE, SIG_IGN);
+    signal(SIGHUP, SIG_IGN);
+    of->signals = signalfd(-1, &set, SFD_CLOEXEC | SFD_NONBLOCK);
+    return of->signals >= 0;
+}
+
+/* Whether the system knows no such user, and does not only fail to tell. */
+static bool is_unknown(int cause) {
+    return cause == 0 || cause == ENOENT || cause == ESRCH || cause == EBADF || cause == EPERM;
+}
+
+/* Root serves nobody without being told whom to become, as with memcached. */
+static int find_user(run *of) {
+    const char *name = of->server.settings.user;
+    if (geteuid() != 0) return ENDS_WELL;
+    if (name == NULL) {
+        tell(TELL_ALWAYS, "kangarood: -u: started by root, it has to be told whom to become: give -u NAME");
+        return ENDS_BY_WORDS;
+    }
+    errno = 0;
+    struct passwd *user = getpwnam(name);
+    if (user == NULL) {
+        tell(TELL_ALWAYS, "kangarood: -u %s: %s", name, is_unknown(errno) ? "there is no such user" : strerror(errno));
+        return ENDS_BY_USER;
+    }
+    of->user = user->pw_uid;
+    of->group = user->pw_gid;
+    return ENDS_WELL;
+}
+
+static bool become_user(const run *of) {
+    if (geteuid() != 0 || of->user == 0) return true;
+    return setgroups(0, NULL) == 0 && setgid(of->group) == 0 && setuid(of->user) == 0;
+}
+
+/* --------------------------------------------------------------------------------------------------------- the pid file */
+
+/* Opens it while we may still be root. */
+static bool open_pid_file(run *of) {
+    const char *path = of->server.settings.pid_file;
+    if (path == NULL) return true;
+    of->pid_file = open(path, O_WRONLY | O_CREAT | O_TRUNC | O_CLOEXEC, 0644);
+    if (of->pid_file >= 0) return true;
+    tell(TELL_ALWAYS, "kangarood: -P %s: %s", path, strerror(errno));
+    return false;
+}
+
+static void write_pid(run *of) {
+    if (of->pid_file == NO_FILE) return;
+    if (dprintf(of->pid_file, "%ld\n", (long)getpid()) < 0)
+        tell(TELL_FAULTS, "kangarood: -P %s: %s", of->server.settings.pid_file, strerror(errno));
+}
+
+static void remove_pid_file(run *of) {
+    if (of->pid_file == NO_FILE) return;
+    close(of->pid_file);
+    if (unlink(of->server.settings.pid_file) != 0) tell(TELL_FAULTS, "kangarood: -P %s: %s", of->server.settings.pid_file, strerror(errno));
+}
+
+/* ---------------------------------------------------------------------------------------------------------------- start */
+
+static bool open_cache(server *of) {
+    int cause = 0;
+    kangaroo_status status = kangaroo_open(&of->options, of->settings.folder, &of->cache, &cause);
+    if (status == KANGAROO_OK) return true;
+    const char *remedy = status == KANGAROO_IN_USE    ? "; give each server a --folder of its own"
+                         : cause == ENOSPC            ? "; give less --flash"
+                         : cause == EOPNOTSUPP        ? "; this file system reserves no blocks: give --sparse"
+                         : status == KANGAROO_NO_MEMORY ? "; give less -m and --flash"
+                                                      : "";
+    tell(TELL_ALWAYS, "kangarood: --folder %s: %s%s", of->settings.folder,
+         cause != 0 ? strerror(cause) : kangaroo_strerror(status), remedy);
+    return false;
+}
+
+static bool told(bool is_well, const char *what) {
+    if (!is_well) tell(TELL_ALWAYS, "kangarood: %s: %s", what, strerror(errno));
+    return is_well;
+}
+
+static bool watch(run *of, int fd) {
+    struct epoll_event event = {.events = EPOLLIN, .data.fd = fd};
+    return epoll_ctl(of->poll, EPOLL_CTL_ADD, fd, &event) == 0;
+}
+
+static bool watch_all(run *of) {
+    of->poll = epoll_create1(EPOLL_CLOEXEC);
+    of->server.spare = open("/dev/null", O_RDONLY | O_CLOEXEC);
+    bool is_well = of->poll >= 0 && of->server.spare >= 0 && watch(of, of->signals);
+    for (int i = 0; is_well && i < of->server.listener_count; i++) is_well = watch(of, of->server.listeners[i]);
+    return is_well;
+}
+
+/* All that has to go well before clients are served, in order. What went wrong was told. */
+static bool start(run *of) {
+    server *it = &of->server;
+    start_numbers(&it->numbers);
+    it->started = moment_now();
+    return raise_limit(&it->settings) && open_listeners(it) &&
+           (it->settings.is_daemon == 0 || told(become_daemon(of), "-d")) && told(open_signals(of), "signals") &&
+           open_pid_file(of) && told(become_user(of), "-u") && open_cache(it) &&
+           told(start_workers(it), "-t") && told(watch_all(of), "epoll");
+}
+
+/* ----------------------------------------------------------------------------------------------------------------- stop */
+
+static void stop(run *of) {
+    server *it = &of->server;
+    atomic_store(&it->is_stopping, true);
+    stop_workers(it);
+    close_listeners(it);
+    kangaroo_close(it->cache);
+    remove_pid_file(of);
+}
+
+/* Takes a signal. True: the server is to end. */
+static bool take_signal(run *of) {
+    struct signalfd_siginfo is;
+    if (read(of->signals, &is, sizeof is) != (ssize_t)sizeof is) return false;
+    tell(TELL_FAULTS, "kangarood: ends by %s", strsignal((int)is.ssi_signo));
+    return true;
+}
+
+/* Accepts clients until a signal comes. */
+static void serve(run *of) {
+    struct epoll_event events[EVENTS_AT_ONCE];
+    bool ends = false;
+    while (!ends) {
+        int count = epoll_wait(of->poll, events, EVENTS_AT_ONCE, -1);
+        if (count < 0 && errno != EINTR) usleep(1000); /* refused: not to be had at once */
+        for (int i = 0; i < count && !ends; i++) {
+            if (events[i].data.fd == of->signals) ends = take_signal(of);
+            else accept_all(&of->server, events[i].data.fd);
+        }
+    }
+}
+
+int main(int count, char **words) {
+    static run all = {.signals = NO_FILE, .poll = NO_FILE, .ready = NO_FILE, .pid_file = NO_FILE};
+    read_words(count, words, &all.server.settings);
+    options_of_cache(&all.server.settings, &all.server.options);
+    int status = find_user(&all);
+    if (status != ENDS_WELL) return status;
+    bool is_started = start(&all);
+    if (is_started) write_pid(&all);
+    tell_ready(&all, is_started ? ENDS_WELL : ENDS_BY_SYSTEM);
+    if (is_started) {
+        tell_systemd("READY=1");
+        tell(TELL_FAULTS, "kangarood: serves");
+        serve(&all);
+        tell_systemd("STOPPING=1");
+    }
+    stop(&all);
+    return is_started ? ENDS_WELL : ENDS_BY_SYSTEM;
+}

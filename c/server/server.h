@@ -1,0 +1,204 @@
+/* server.h: what the files of kangarood share. kangarood serves a cache by memcached's text protocol. What a client's bytes
+ * ask for, what that does to a lane, and what is answered, is decided by the proved part (session.h). Here are sockets,
+ * threads, locks, options and counts. Each file uses only those above it in this list:
+ *   telling.c    messages, and what systemd is told
+ *   options.c    the command line
+ *   buffers.c    bytes that wait
+ *   steps.c      one step of a session, in a hold of its key's lane; cas numbers, and flush_all
+ *   stats.c      counts, and the lines of stats
+ *   conns.c      a connection: reading, answering, waiting
+ *   workers.c    the threads that serve connections
+ *   listening.c  sockets that listen, the program's own or systemd's, and the accepting of connections
+ *   main.c       start and stop */
+#ifndef KANGAROO_SERVER_H
+#define KANGAROO_SERVER_H
+
+#include "../inside.h"
+#include "../session.h"
+
+#define SERVED_VERSION "1.6.18-kangaroo" /* in stats, and as the sessions answer version */
+
+enum {
+    READ_BYTES = 16384,      /* read at once from a client */
+    ANSWERS_ENOUGH = 65536,  /* with so many bytes to send no further step is made */
+    ANSWERS_KEPT = 1 << 20,  /* a buffer that grew over this is made small again */
+    MOST_LISTENERS = 64,
+    ITEM_HEAD_BYTES = 9,     /* what an item takes beside its key and data, if it has no flags and no expiry */
+    ITEM_HEAD_BYTES_MAX = 17
+};
+
+/* Statuses of the program: those of sysexits.h, as memcached has them. */
+enum { ENDS_WELL = 0, ENDS_BY_WORDS = 64, ENDS_BY_SYSTEM = 71, ENDS_BY_USER = 77 };
+
+typedef struct server server;
+typedef struct worker worker;
+typedef struct conn conn;
+
+/* -------------------------------------------------------------------------------------------------------- telling.c */
+
+/* How much is told: 0 what ends the program, 1 what went wrong, 2 each connection and step. */
+enum { TELL_ALWAYS = 0, TELL_FAULTS = 1, TELL_ALL = 2 };
+
+void set_verbosity(unsigned level);
+unsigned verbosity(void);
+/* Writes a line to standard error, in one write, if so much is to be told. */
+void tell(unsigned level, const char *format, ...) __attribute__((format(printf, 2, 3)));
+/* Tells the first line of some bytes of a client, with what cannot be printed as dots. */
+void tell_bytes(unsigned level, int fd, char arrow, const void *bytes, size_t length);
+/* Tells systemd, if it started the program and wants to know. */
+void tell_systemd(const char *state);
+
+/* -------------------------------------------------------------------------------------------------------- options.c */
+
+typedef struct settings {
+    const char *listen, *socket_path, *folder, *pid_file, *user;
+    uint64_t port, socket_mode, backlog, threads, conns, memory_mib, idle_seconds;
+    uint64_t flash_bytes, object_bytes, admit, threshold, upkeep_threads;
+    uint64_t verbosity, is_daemon, is_sparse, no_flush, may_shut_down; /* flags: how often they were given */
+} settings;
+
+/* Reads the command line. Ends the program if it is wrong, or asks for help or the version. */
+void read_words(int count, char **words, settings *to);
+/* The options of the cache, resolved. Ends the program if there are none. */
+void options_of_cache(const settings *from, kangaroo_options *to);
+
+/* -------------------------------------------------------------------------------------------------------- buffers.c */
+
+/* Bytes that wait: the first `length` of `room`. */
+typedef struct buffer {
+    uint8_t *at;
+    size_t length, room;
+} buffer;
+
+/* Makes room for so many bytes more. False: memory was refused, and nothing has changed. */
+bool make_room(buffer *of, size_t bytes);
+/* Puts bytes after those that wait. False: memory was refused, and nothing has changed. */
+bool append_bytes(buffer *to, const void *bytes, size_t length);
+/* Lets the first bytes go. */
+void drop_bytes(buffer *of, size_t bytes);
+/* Gives the memory of a buffer back. */
+void free_buffer(buffer *of);
+
+/* ---------------------------------------------------------------------------------------------------------- steps.c */
+
+/* Numbers of items. An item is flushed if its number is below the one of the last flush. */
+typedef struct numbers {
+    alignas(LANE_ALIGNMENT) atomic_uint_least64_t next;
+    alignas(LANE_ALIGNMENT) atomic_uint_least64_t flushed;
+    atomic_uint_least64_t flush_moment; /* of a flush that is to come; 0: none does */
+    pthread_mutex_t flush_lock;
+} numbers;
+
+void start_numbers(numbers *of);
+/* Seconds since 1970. */
+uint64_t moment_now(void);
+
+typedef enum step_end {
+    STEP_WENT_ON,   /* there may be more to do */
+    STEP_NEEDS_MORE, /* nothing was taken */
+    STEP_ENDS       /* the client is closed after its answers */
+} step_end;
+
+/* Makes the next step of a client: takes bytes, and answers into by->answers. */
+step_end make_step(worker *by, conn *of, const uint8_t *bytes, size_t length, size_t *taken);
+
+/* ---------------------------------------------------------------------------------------------------------- stats.c */
+
+/* What the server counts, by memcached's names. */
+#define COUNTS(EACH) \
+    EACH(cmd_get) EACH(cmd_set) EACH(cmd_flush) EACH(cmd_touch) EACH(cmd_meta) EACH(get_hits) EACH(get_misses) \
+    EACH(delete_misses) EACH(delete_hits) EACH(incr_misses) EACH(incr_hits) EACH(decr_misses) EACH(decr_hits) \
+    EACH(cas_misses) EACH(cas_hits) EACH(cas_badval) EACH(touch_hits) EACH(touch_misses) EACH(store_too_large) \
+    EACH(store_no_memory) EACH(total_items) EACH(idle_kicks) EACH(bytes_read) EACH(bytes_written) EACH(conn_yields)
+
+#define NUMBER_OF(name) COUNT_##name,
+typedef enum count_number { COUNTS(NUMBER_OF) COUNT_NUMBERS } count_number;
+#undef NUMBER_OF
+
+/* Counted by one worker, read by any. */
+typedef struct counts {
+    atomic_uint_least64_t of[COUNT_NUMBERS];
+} counts;
+
+void count_up(worker *by, count_number which, uint64_t more);
+/* Counts what a step did. */
+void count_step(worker *by, const ks_done *done);
+/* Writes the lines that are asked for into by->answers, without what ends them. False: memory was refused. */
+bool write_stats(worker *by, ks_stats which);
+
+/* ---------------------------------------------------------------------------------------------------------- conns.c */
+
+/* What a connection is at, for stats conns. */
+typedef enum conn_state {
+    CONN_WAITS,  /* for a request */
+    CONN_HALF,   /* for the rest of a request */
+    CONN_SENDS,  /* for its client to take answers */
+    CONN_SERVED  /* it has its turn */
+} conn_state;
+
+struct conn {
+    int fd;
+    bool is_ending;        /* it is closed once its answers are sent */
+    bool is_woken_to_send; /* by its worker's epoll, and not to read */
+    atomic_uint state;     /* a conn_state */
+    atomic_uint_least64_t last_moment;
+    ks_session session;
+    buffer unread;   /* what was read and not taken */
+    buffer unsent;   /* what was answered and not sent */
+    conn *before, *after;
+};
+
+/* Takes a client on. False: the system refused, and the descriptor is closed. */
+bool conn_open(worker *by, int fd);
+void conn_close(worker *by, conn *of);
+/* Does what can be done for a client now; closes it if it is done for. */
+void conn_serve(worker *by, conn *of, uint32_t events);
+/* Sends what still waits, as far as the client takes it at once. */
+void conn_send_last(worker *by, conn *of);
+
+/* -------------------------------------------------------------------------------------------------------- workers.c */
+
+struct worker {
+    alignas(LANE_ALIGNMENT) server *of;
+    pthread_t thread;
+    bool has_thread;
+    int poll, wake;
+    pthread_mutex_t list_lock; /* of conns, and of which descriptors they have */
+    conn *conns;
+    uint8_t *in;    /* room for what a client left and one read more */
+    buffer answers;
+    counts counts;
+};
+
+/* Starts all workers. False: the system refused; errno says why. */
+bool start_workers(server *of);
+/* Ends all workers, and their connections. */
+void stop_workers(server *of);
+
+/* ------------------------------------------------------------------------------------------------------ listening.c */
+
+/* Opens the sockets that the settings name, or takes those that systemd handed over. False: it was told why not. */
+bool open_listeners(server *of);
+void close_listeners(server *of);
+/* Accepts what waits at a socket. */
+void accept_all(server *of, int listener);
+
+/* The whole server. */
+struct server {
+    settings settings;
+    kangaroo_cache *cache;
+    kangaroo_options options; /* of the cache, resolved */
+    numbers numbers;
+    worker *workers;
+    uint64_t started; /* seconds since 1970 */
+    counts at_reset;  /* what was counted when stats reset was last asked for */
+    atomic_bool is_stopping;
+    atomic_uint_least64_t curr_conns, total_conns, rejected_conns;
+    int listeners[MOST_LISTENERS];
+    int listener_count;
+    int spare; /* a descriptor that is given up to accept and refuse a client if there are no more */
+    bool made_socket_file;
+    unsigned next_worker;
+};
+
+#endif

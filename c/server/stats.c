@@ -1,0 +1,289 @@
+/* Counts, and the lines of stats. Names are memcached's where they mean the same; the cache's own come after them, as
+ * kangaroo_ and the name that kangaroo.h has. */
+#define _GNU_SOURCE
+#include "server.h"
+#include <arpa/inet.h>
+#include <stdarg.h>
+#include <stdio.h>
+#include <string.h>
+#include <sys/resource.h>
+#include <sys/socket.h>
+#include <sys/un.h>
+#include <unistd.h>
+
+enum { STAT_BYTES = 512, ADDRESS_BYTES = 160, ROOM_AT_ONCE = 65536 };
+
+/* ---------------------------------------------------------------------------------------------------------------- counts */
+
+/* Only the worker itself writes its counts. */
+void count_up(worker *by, count_number which, uint64_t more) {
+    atomic_uint_least64_t *of = &by->counts.of[which];
+    atomic_store_explicit(of, atomic_load_explicit(of, memory_order_relaxed) + more, memory_order_relaxed);
+}
+
+#define OF(name) ((uint32_t)1 << COUNT_##name)
+_Static_assert(COUNT_NUMBERS <= 32, "a set of counts has a bit for each");
+#define ALL_STORES OF(cmd_set)
+#define STORES \
+    { \
+        [KS_STORED] = ALL_STORES | OF(total_items), [KS_NOT_STORED] = ALL_STORES, [KS_EXISTS] = ALL_STORES, \
+        [KS_MISS] = ALL_STORES, [KS_TOO_LARGE] = OF(store_too_large), [KS_NO_MEMORY] = ALL_STORES | OF(store_no_memory) \
+    }
+enum { COMMANDS = KS_META_DEBUG + 1, OUTCOMES = KS_LOST + 1 };
+static const uint32_t counted[COMMANDS][OUTCOMES] = {
+    [KS_GET] = {[KS_HIT] = OF(cmd_get) | OF(get_hits), [KS_MISS] = OF(cmd_get) | OF(get_misses)},
+    [KS_GAT] = {[KS_HIT] = OF(cmd_get) | OF(get_hits) | OF(cmd_touch) | OF(touch_hits),
+                [KS_TOUCHED] = OF(cmd_get) | OF(get_hits) | OF(cmd_touch) | OF(touch_hits),
+                [KS_MISS] = OF(cmd_get) | OF(get_misses) | OF(cmd_touch) | OF(touch_misses),
+                [KS_NO_MEMORY] = OF(cmd_get) | OF(cmd_touch) | OF(store_no_memory)},
+    [KS_SET] = STORES,
+    [KS_ADD] = STORES,
+    [KS_REPLACE] = STORES,
+    [KS_APPEND] = STORES,
+    [KS_PREPEND] = STORES,
+    [KS_CAS] = {[KS_STORED] = OF(cmd_set) | OF(cas_hits) | OF(total_items),
+                [KS_EXISTS] = OF(cmd_set) | OF(cas_badval),
+                [KS_MISS] = OF(cmd_set) | OF(cas_misses),
+                [KS_TOO_LARGE] = OF(store_too_large),
+                [KS_NO_MEMORY] = OF(cmd_set) | OF(store_no_memory)},
+    [KS_DELETE] = {[KS_DELETED] = OF(delete_hits), [KS_MISS] = OF(delete_misses)},
+    [KS_INCR] = {[KS_COUNTED] = OF(incr_hits), [KS_MISS] = OF(incr_misses), [KS_NO_MEMORY] = OF(store_no_memory)},
+    [KS_DECR] = {[KS_COUNTED] = OF(decr_hits), [KS_MISS] = OF(decr_misses), [KS_NO_MEMORY] = OF(store_no_memory)},
+    [KS_TOUCH] = {[KS_TOUCHED] = OF(cmd_touch) | OF(touch_hits),
+                  [KS_MISS] = OF(cmd_touch) | OF(touch_misses),
+                  [KS_NO_MEMORY] = OF(cmd_touch) | OF(store_no_memory)},
+    [KS_FLUSH_ALL] = {[KS_NOTHING] = OF(cmd_flush), [KS_REFUSED] = OF(cmd_flush)},
+    [KS_META_GET] = {[KS_HIT] = OF(cmd_meta) | OF(cmd_get) | OF(get_hits),
+                     [KS_MISS] = OF(cmd_meta) | OF(cmd_get) | OF(get_misses)},
+    [KS_META_SET] = {[KS_STORED] = OF(cmd_meta) | OF(cmd_set) | OF(total_items),
+                     [KS_NOT_STORED] = OF(cmd_meta) | OF(cmd_set),
+                     [KS_EXISTS] = OF(cmd_meta) | OF(cmd_set) | OF(cas_badval),
+                     [KS_MISS] = OF(cmd_meta) | OF(cmd_set) | OF(cas_misses),
+                     [KS_TOO_LARGE] = OF(cmd_meta) | OF(store_too_large),
+                     [KS_NO_MEMORY] = OF(cmd_meta) | OF(cmd_set) | OF(store_no_memory)},
+    [KS_META_DELETE] = {[KS_DELETED] = OF(cmd_meta) | OF(delete_hits),
+                        [KS_MISS] = OF(cmd_meta) | OF(delete_misses),
+                        [KS_EXISTS] = OF(cmd_meta) | OF(delete_misses)},
+    [KS_META_ARITHMETIC] = {[KS_COUNTED] = OF(cmd_meta), [KS_MISS] = OF(cmd_meta), [KS_STORED] = OF(cmd_meta),
+                            [KS_EXISTS] = OF(cmd_meta), [KS_NOT_NUMBER] = OF(cmd_meta)},
+    [KS_META_DEBUG] = {[KS_HIT] = OF(cmd_meta), [KS_MISS] = OF(cmd_meta)},
+};
+
+void count_step(worker *by, const ks_done *done) {
+    if (done->command >= COMMANDS || done->outcome >= OUTCOMES) return;
+    for (uint32_t set = counted[done->command][done->outcome]; set != 0; set &= set - 1)
+        count_up(by, (count_number)__builtin_ctz(set), 1);
+}
+
+static uint64_t sum_of(server *of, size_t which) {
+    uint64_t sum = 0;
+    for (uint64_t i = 0; i < of->settings.threads; i++)
+        sum += atomic_load_explicit(&of->workers[i].counts.of[which], memory_order_relaxed);
+    return sum;
+}
+
+static void reset(server *of) {
+    for (size_t i = 0; i < COUNT_NUMBERS; i++) atomic_store(&of->at_reset.of[i], sum_of(of, i));
+    atomic_store(&of->total_conns, 0);
+    atomic_store(&of->rejected_conns, 0);
+}
+
+/* ----------------------------------------------------------------------------------------------------------------- lines */
+
+/* Where lines are written: once memory was refused, no more are. */
+typedef struct lines {
+    buffer *to;
+    bool is_refused;
+} lines;
+
+static void line(lines *of, const char *name, const char *format, ...) __attribute__((format(printf, 3, 4)));
+static void line(lines *of, const char *name, const char *format, ...) {
+    char text[STAT_BYTES];
+    va_list rest;
+    int before = snprintf(text, sizeof text, "STAT %s ", name);
+    va_start(rest, format);
+    int after = vsnprintf(text + before, sizeof text - 2 - (size_t)before, format, rest);
+    va_end(rest);
+    size_t length = (size_t)(before + after);
+    if (length > sizeof text - 3) length = sizeof text - 3;
+    memcpy(text + length, "\r\n", 2);
+    if (of->to->room - of->to->length < sizeof text && !make_room(of->to, ROOM_AT_ONCE)) of->is_refused = true;
+    if (!of->is_refused) append_bytes(of->to, text, length + 2);
+}
+
+static void number_line(lines *of, const char *name, uint64_t number) {
+    line(of, name, "%llu", (unsigned long long)number);
+}
+
+static void time_line(lines *of, const char *name, struct timeval it) {
+    line(of, name, "%ld.%06ld", (long)it.tv_sec, (long)it.tv_usec);
+}
+
+/* --------------------------------------------------------------------------------------------------------------- general */
+
+static void lines_of_process(lines *to, server *of) {
+    struct rusage use;
+    uint64_t now = moment_now();
+    getrusage(RUSAGE_SELF, &use);
+    number_line(to, "pid", (uint64_t)getpid());
+    number_line(to, "uptime", now - of->started);
+    number_line(to, "time", now);
+    line(to, "version", SERVED_VERSION);
+    number_line(to, "pointer_size", 8 * sizeof(void *));
+    time_line(to, "rusage_user", use.ru_utime);
+    time_line(to, "rusage_system", use.ru_stime);
+}
+
+static void lines_of_counts(lines *to, server *of) {
+#define NAME_OF(name) #name,
+    static const char *const names[] = {COUNTS(NAME_OF)};
+#undef NAME_OF
+    for (size_t i = 0; i < COUNT_NUMBERS; i++) number_line(to, names[i], sum_of(of, i) - atomic_load(&of->at_reset.of[i]));
+}
+
+static void lines_of_clients(lines *to, server *of) {
+    number_line(to, "max_connections", of->settings.conns);
+    number_line(to, "curr_connections", atomic_load(&of->curr_conns));
+    number_line(to, "total_connections", atomic_load(&of->total_conns));
+    number_line(to, "rejected_connections", atomic_load(&of->rejected_conns));
+}
+
+static void lines_of_cache(lines *to, server *of) {
+    kangaroo_counters all;
+    uint64_t each[sizeof all / sizeof(uint64_t)];
+    if (kangaroo_counters_read(of->cache, &all, sizeof all) != KANGAROO_OK) return;
+    memcpy(each, &all, sizeof all);
+    for (size_t i = 0; i < sizeof each / sizeof *each; i++) {
+        char name[64];
+        snprintf(name, sizeof name, "kangaroo_%s", kangaroo_counter_name(i));
+        number_line(to, name, each[i]);
+    }
+}
+
+static void general(lines *to, server *of) {
+    lines_of_process(to, of);
+    lines_of_clients(to, of);
+    lines_of_counts(to, of);
+    number_line(to, "limit_maxbytes", of->settings.memory_mib << 20);
+    number_line(to, "accepting_conns", 1);
+    number_line(to, "threads", of->settings.threads);
+    lines_of_cache(to, of);
+}
+
+/* -------------------------------------------------------------------------------------------------------------- settings */
+
+static const char *yes_or_no(uint64_t is_so) {
+    return is_so != 0 ? "yes" : "no";
+}
+
+static void of_network(lines *to, const settings *of) {
+    bool is_unix = of->socket_path != NULL;
+    number_line(to, "tcpport", is_unix ? 0 : of->port);
+    number_line(to, "udpport", 0);
+    line(to, "inter", "%s", is_unix ? "NULL" : of->listen);
+    line(to, "domain_socket", "%s", is_unix ? of->socket_path : "NULL");
+    line(to, "umask", "%llo", (unsigned long long)of->socket_mode);
+    number_line(to, "tcp_backlog", of->backlog);
+    number_line(to, "maxconns", of->conns);
+    line(to, "maxconns_fast", "yes");
+    number_line(to, "idle_timeout", of->idle_seconds);
+    line(to, "binding_protocol", "ascii");
+    line(to, "auth_enabled_sasl", "no");
+    line(to, "auth_enabled_ascii", "no");
+}
+
+static void of_settings(lines *to, const server *of) {
+    const settings *is = &of->settings;
+    number_line(to, "maxbytes", is->memory_mib << 20);
+    of_network(to, is);
+    number_line(to, "verbosity", verbosity());
+    line(to, "evictions", "on");
+    line(to, "shutdown_command", "%s", yes_or_no(is->may_shut_down));
+    line(to, "flush_enabled", "%s", yes_or_no(is->no_flush == 0));
+    line(to, "dump_enabled", "no");
+    line(to, "cas_enabled", "yes");
+    number_line(to, "num_threads", is->threads);
+    number_line(to, "item_size_max", KANGAROO_VALUE_MAX - ITEM_HEAD_BYTES);
+    line(to, "folder", "%s", is->folder);
+    number_line(to, "flash_bytes", is->flash_bytes);
+    number_line(to, "object_bytes", is->object_bytes);
+    number_line(to, "admit", of->options.admit);
+    number_line(to, "threshold", of->options.threshold);
+    number_line(to, "upkeep_threads", is->upkeep_threads);
+    number_line(to, "lanes", (uint64_t)of->options.shards * of->options.lanes);
+}
+
+/* ----------------------------------------------------------------------------------------------------------------- conns */
+
+typedef int name_of_end(int, struct sockaddr *restrict, socklen_t *restrict);
+
+/* The address of one end of a connection, as memcached spells it. */
+static void spell_address(int fd, name_of_end *ask, const settings *of, char to[ADDRESS_BYTES]) {
+    struct sockaddr_storage at = {0};
+    socklen_t length = sizeof at;
+    char host[INET6_ADDRSTRLEN] = "?";
+    const struct sockaddr_in *four = (struct sockaddr_in *)&at;
+    const struct sockaddr_in6 *six = (struct sockaddr_in6 *)&at;
+    if (ask(fd, (struct sockaddr *)&at, &length) != 0) at.ss_family = AF_UNSPEC;
+    if (at.ss_family == AF_INET) {
+        inet_ntop(AF_INET, &four->sin_addr, host, sizeof host);
+        snprintf(to, ADDRESS_BYTES, "tcp:%s:%u", host, (unsigned)ntohs(four->sin_port));
+    } else if (at.ss_family == AF_INET6) {
+        inet_ntop(AF_INET6, &six->sin6_addr, host, sizeof host);
+        snprintf(to, ADDRESS_BYTES, "tcp6:[%s]:%u", host, (unsigned)ntohs(six->sin6_port));
+    } else if (at.ss_family == AF_UNIX) {
+        snprintf(to, ADDRESS_BYTES, "unix:%s", of->socket_path != NULL ? of->socket_path : "?");
+    } else snprintf(to, ADDRESS_BYTES, "?");
+}
+
+/* The lines of a socket; `since` is the moment when its client last asked. */
+static void lines_of_socket(lines *to, const settings *by, int fd, const char *state, uint64_t since) {
+    char name[48], address[ADDRESS_BYTES];
+    snprintf(name, sizeof name, "%d:state", fd);
+    line(to, name, "%s", state);
+    snprintf(name, sizeof name, "%d:secs_since_last_cmd", fd);
+    number_line(to, name, moment_now() - since);
+    spell_address(fd, getsockname, by, address);
+    snprintf(name, sizeof name, "%d:listen_addr", fd);
+    line(to, name, "%s", address);
+}
+
+static void address_line(lines *to, const settings *by, int fd, name_of_end *ask) {
+    char name[48], address[ADDRESS_BYTES];
+    snprintf(name, sizeof name, "%d:addr", fd);
+    spell_address(fd, ask, by, address);
+    line(to, name, "%s", address);
+}
+
+static void lines_of_worker(lines *to, server *of, worker *by) {
+    static const char *const states[] = {
+        [CONN_WAITS] = "conn_read", [CONN_HALF] = "conn_nread", [CONN_SENDS] = "conn_mwrite", [CONN_SERVED] = "conn_parse_cmd"};
+    pthread_mutex_lock(&by->list_lock);
+    for (conn *it = by->conns; it != NULL; it = it->after) {
+        unsigned state = atomic_load_explicit(&it->state, memory_order_relaxed);
+        address_line(to, &of->settings, it->fd, getpeername);
+        lines_of_socket(to, &of->settings, it->fd, states[state],
+                        atomic_load_explicit(&it->last_moment, memory_order_relaxed));
+    }
+    pthread_mutex_unlock(&by->list_lock);
+}
+
+static void conns(lines *to, server *of) {
+    for (int i = 0; i < of->listener_count; i++) {
+        address_line(to, &of->settings, of->listeners[i], getsockname);
+        lines_of_socket(to, &of->settings, of->listeners[i], "conn_listening", of->started);
+    }
+    for (uint64_t i = 0; i < of->settings.threads; i++) lines_of_worker(to, of, &of->workers[i]);
+}
+
+bool write_stats(worker *by, ks_stats which) {
+    lines to = {.to = &by->answers};
+    switch (which) {
+    case KS_STATS_GENERAL: general(&to, by->of); break;
+    case KS_STATS_SETTINGS: of_settings(&to, by->of); break;
+    case KS_STATS_CONNS: conns(&to, by->of); break;
+    case KS_STATS_RESET: reset(by->of); break;
+    case KS_STATS_ITEMS: case KS_STATS_SLABS: case KS_STATS_SIZES: case KS_STATS_UNKNOWN: default: break;
+    }
+    return !to.is_refused;
+}

@@ -1,0 +1,128 @@
+/* session.h: sessions of memcached's text protocol, exports of libkangaroo_c.a beside those of lane.h. Not installed.
+ *
+ * A session is one client's stream of requests. No socket is here. C keeps the bytes that are not taken yet, draws numbers, has
+ * the locks, and sends what is answered; it parses nothing, and has no state of the protocol.
+ *
+ * A turn of a client, as long as there are bytes: ks_want says what the next step needs; the server has it ready; ks_step or
+ * ks_lane_step takes the bytes of one request, or of one key of a get, and writes its answer. As in lane.h, a pointer to bytes is
+ * never NULL, and no two things that are handed to one call overlap where one of them is written. layout.c compares the structs. */
+#ifndef KANGAROO_SESSION_H
+#define KANGAROO_SESSION_H
+
+#include "lane.h"
+
+enum {
+    KS_MOST_KEPT = 4090,  /* KS_MORE never comes if so many bytes, or more, are at hand */
+    KS_MOST_ANSWER = 4096 /* room for the answer of any one step */
+};
+
+/* Where a session stands between two steps. All zeros: a new one. Any other bytes are safe too: what is no state is a session that
+ * is to be closed. */
+typedef struct ks_session {
+    uint64_t skipped;
+    uint32_t place, expiry, seconds, with_cas;
+} ks_session;
+
+/* What the next step needs. */
+typedef enum ks_wants {
+    KS_MORE = 0,     /* more bytes: a step would take nothing */
+    KS_STEP = 1,     /* nothing: ks_step */
+    KS_LANE = 2,     /* the lane of ks_wanted.place: ks_lane_step, in one hold of its lock */
+    KS_FLUSH = 3,    /* that all items be flushed after argument seconds, 0 for at once; more than 30 days are seconds since 1970.
+                      * Then ks_step, whose answer is OK */
+    KS_STATS = 4,    /* lines of stats: argument is one of ks_stats. The server writes its lines `STAT name value`; then ks_step,
+                      * whose answer ends them */
+    KS_VERBOSE = 5,  /* that the server says more or less: argument is the level. Then ks_step */
+    KS_SHUTDOWN = 6, /* that the server ends after what was answered; argument is 1 if it is to end gracefully. Then ks_step */
+    KS_CLOSE = 7     /* nothing more: what was answered is sent, and the client is closed */
+} ks_wants;
+
+/* Which stats a client asks for. */
+typedef enum ks_stats {
+    KS_STATS_GENERAL = 0,  /* stats */
+    KS_STATS_SETTINGS = 1, /* stats settings */
+    KS_STATS_CONNS = 2,    /* stats conns */
+    KS_STATS_ITEMS = 3,    /* stats items */
+    KS_STATS_SLABS = 4,    /* stats slabs */
+    KS_STATS_SIZES = 5,    /* stats sizes */
+    KS_STATS_RESET = 6,    /* stats reset: the server sets its counts to 0, and writes no line */
+    KS_STATS_UNKNOWN = 7   /* any other word: the server writes no line, and the step answers ERROR */
+} ks_stats;
+
+typedef struct ks_wanted {
+    uint32_t wants;    /* one of ks_wants */
+    uint32_t argument; /* see ks_wants; 0 if none is named there */
+    kl_place place;    /* KS_LANE: the place of the key among the lanes; else zeros */
+} ks_wanted;
+
+/* What the server gives a step. */
+typedef struct ks_turn {
+    uint64_t moment;   /* seconds since 1970 */
+    uint64_t flushed;  /* the number that the last flush drew, 0 before the first: an item with a lower one is not live */
+    uint64_t cas;      /* KS_LANE: a number that no earlier item had, drawn in the hold; it is the item's if the step stores one */
+    uint32_t refuses;  /* 1: the server does not do what KS_FLUSH or KS_SHUTDOWN asks for, and the answer says so; else 0 */
+    uint32_t reserved; /* 0 */
+} ks_turn;
+
+/* What a step was, for counters. */
+typedef enum ks_command {
+    KS_NO_COMMAND = 0, /* a part of a request, or none that is counted */
+    KS_GET = 1,        /* one key of get or gets */
+    KS_GAT = 2,        /* one key of gat or gats */
+    KS_SET = 3,
+    KS_ADD = 4,
+    KS_REPLACE = 5,
+    KS_APPEND = 6,
+    KS_PREPEND = 7,
+    KS_CAS = 8,
+    KS_DELETE = 9,
+    KS_INCR = 10,
+    KS_DECR = 11,
+    KS_TOUCH = 12,
+    KS_FLUSH_ALL = 13,
+    KS_META_GET = 14,
+    KS_META_SET = 15,
+    KS_META_DELETE = 16,
+    KS_META_ARITHMETIC = 17,
+    KS_META_DEBUG = 18 /* it is refused by name, as the flags b, h and l are */
+} ks_command;
+
+/* How it went. */
+typedef enum ks_outcome {
+    KS_NOTHING = 0,    /* nothing to be counted */
+    KS_HIT = 1,        /* a value was found */
+    KS_MISS = 2,       /* the key has no value */
+    KS_STORED = 3,
+    KS_NOT_STORED = 4, /* the command's condition does not hold */
+    KS_EXISTS = 5,     /* the item has another cas unique */
+    KS_DELETED = 6,
+    KS_TOUCHED = 7,
+    KS_COUNTED = 8,    /* incr, decr: the number was changed */
+    KS_NOT_NUMBER = 9,
+    KS_TOO_LARGE = 10, /* the object is too large; after set and ms the key has no value, nor after a store that was made and refused */
+    KS_NO_MEMORY = 11, /* memory was refused to the store, and the key has no value */
+    KS_REFUSED = 12,   /* the request is refused by its text, or the server refuses it */
+    KS_LOST = 13       /* the answer was not written, since memory was refused or the room is too short: the session is to be
+                        * closed. What the request asked for may have been done */
+} ks_outcome;
+
+typedef struct ks_done {
+    size_t taken;     /* how many bytes of the front are to be dropped */
+    size_t answered;  /* how many bytes of answer were written, at its front; 0 if none is wanted */
+    uint32_t command; /* one of ks_command */
+    uint32_t outcome; /* one of ks_outcome */
+} ks_done;
+
+/* What the next step of a session needs, by the bytes at hand, which begin after those that were taken. Changes nothing. `seed` and
+ * `lanes`, 1 at least, are those of the cache, as of kl_place_of. */
+void ks_want(const ks_session *session, const kl_seed *seed, uint32_t lanes, const uint8_t *bytes, size_t length, ks_wanted *to);
+
+/* A step that needs no lane. If ks_want says KS_LANE of these bytes, it does nothing: taken is 0. */
+void ks_step(ks_session *session, const ks_turn *turn, const uint8_t *bytes, size_t length, uint8_t *answer, size_t room, ks_done *to);
+
+/* A step with the lane of its key, in one hold of the lane's lock. If ks_want does not say KS_LANE of these bytes, it does nothing:
+ * taken is 0. *is_due becomes 1 if upkeep of the lane is due after it, else 0. */
+void ks_lane_step(ks_session *session, kl_lane *lane, const ks_turn *turn, const uint8_t *bytes, size_t length, uint8_t *answer,
+                  size_t room, ks_done *to, uint32_t *is_due);
+
+#endif

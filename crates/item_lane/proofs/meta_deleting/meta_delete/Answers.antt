@@ -1,0 +1,13 @@
+-- A meta delete.
+use Rattle.item_lane.specs.Meta.{meta_delete_plan}
+use Rattle.item_lane.specs.Plans.{plan_shown}
+use Rattle.item_lane.proofs.DoneLaws.{done}
+use Rattle.item_lane.proofs.meta_deleting.meta_delete.Goals as goal
+
+pub returns : goal.returns
+returns g c =
+    let d = g.D.PageDevice in
+    let a = c.args in
+    let l = c.look-seen in
+    done g.row.PAGE d.honest d.failures d.held a.key.now a.turn (meta_delete_plan a.request) a.lane.now l.new.lane c.follow.new.lane l.result l.new.found c.bytes.result.now c.bytes.ensures.value l.ensures
+    c.live_item-live.result c.live_item-live.ensures.live (plan_shown c.verdict-verdict.result) c.verdict-verdict.ensures c.follow.result c.follow.ensures

@@ -1,0 +1,13 @@
+-- A meta get.
+use Rattle.item_lane.specs.Meta.{meta_get_plan}
+use Rattle.item_lane.specs.Plans.{plan_shown}
+use Rattle.item_lane.proofs.DoneLaws.{done_and_given}
+use Rattle.item_lane.proofs.meta_getting.meta_get.Goals as goal
+
+pub returns : goal.returns
+returns g c =
+    let d = g.D.PageDevice in
+    let a = c.args in
+    let l = c.look-seen in
+    done_and_given g.row.PAGE d.honest d.failures d.held a.key.now a.turn (meta_get_plan a.request) a.lane.now l.new.lane c.follow-reply.new.lane l.result l.new.found c.bytes.result.now c.bytes.ensures.value l.ensures
+    c.live_item-item.result c.live_item-item.ensures.live (plan_shown c.verdict.result) c.verdict.ensures c.follow-reply.result c.follow-reply.ensures

@@ -1,0 +1,44 @@
+-- How many calls of each kind there are.
+use Rattle.std.specs.Prelude.{ℕ, List, [], ◌∷◌, Bool, true, false, codes, count_by}
+use Rattle.trace_file.specs.declared.act.Act.{Act}
+use Rattle.trace_file.specs.declared.act.Act.TheVariants as acts
+use Rattle.trace_file.specs.declared.call.Call.{Call}
+use Rattle.figures.specs.Figures.{Row, number, row}
+use Rattle.judge_run.specs.declared.kinds.CountedKind.{CountedKind}
+use Rattle.judge_run.specs.declared.kinds.CountedKind.TheVariants.{Put, Removal, Hit, Miss}
+
+-- whether an act is of a kind
+abbrev pub is_act_of : CountedKind → Act → Bool
+is_act_of Put (acts.Put value expires) = true
+is_act_of Put acts.Remove = false
+is_act_of Put (acts.Hit value moment) = false
+is_act_of Put acts.Miss = false
+is_act_of Removal (acts.Put value expires) = false
+is_act_of Removal acts.Remove = true
+is_act_of Removal (acts.Hit value moment) = false
+is_act_of Removal acts.Miss = false
+is_act_of Hit (acts.Put value expires) = false
+is_act_of Hit acts.Remove = false
+is_act_of Hit (acts.Hit value moment) = true
+is_act_of Hit acts.Miss = false
+is_act_of Miss (acts.Put value expires) = false
+is_act_of Miss acts.Remove = false
+is_act_of Miss (acts.Hit value moment) = false
+is_act_of Miss acts.Miss = true
+
+-- whether a call is of a kind
+abbrev pub is_of : CountedKind → Call → Bool
+is_of kind call = is_act_of kind call.act
+
+-- how many calls are of a kind
+abbrev pub calls_of : CountedKind → List Call → ℕ
+calls_of kind calls = count_by (is_of kind) calls
+
+-- how many calls of each kind there are
+abbrev pub kind_rows : List Call → List Row
+kind_rows calls =
+    row (codes "puts") (number (calls_of Put calls))
+    ∷ row (codes "removals") (number (calls_of Removal calls))
+    ∷ row (codes "hits") (number (calls_of Hit calls))
+    ∷ row (codes "misses") (number (calls_of Miss calls))
+    ∷ []

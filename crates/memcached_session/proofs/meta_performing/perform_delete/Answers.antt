@@ -1,0 +1,27 @@
+-- md does what its flags ask for, and is answered so.
+use Rattle.std.proofs.Common.{ℕ, List, Option, subst, ◌∙◌}
+use Rattle.std.specs.Option.{option_map}
+use Rattle.item_lane.specs.Cells.{Kept, kept_shown}
+use Rattle.memcached_text.specs.Asked.{meta_shown}
+use Rattle.memcached_session.specs.MetaSaying.{MetaSaid, IsTextOf, delete_said}
+use Rattle.memcached_session.specs.Saying.{said_shown}
+use Rattle.item_lane.specs.declared.meta_deleting.MetaDelete.{MetaDelete}
+use Rattle.item_lane.specs.Doing.{Does}
+use Rattle.item_lane.specs.Meta.{meta_delete_plan}
+use Rattle.memcached_session.proofs.meta_performing.perform_delete.Goals as goal
+
+pub returns : goal.returns
+returns g c =
+    let d = g.D.PageDevice in
+    let a = c.args in
+    let m = c.meta_delete_in-asked in
+    let t = c.meta_delete-reply in
+    record {
+      result = t.result;
+      does_it =
+          subst (λ (q : MetaDelete). Does g.row.PAGE d.honest d.failures d.held a.request.key.now a.turn (meta_delete_plan q) a.lane.now t.result t.new.lane) m.ensures t.ensures;
+      says = record {
+        text = subst (λ (x : MetaSaid). IsTextOf (meta_shown a.request) x ((said_shown c.answered.result).text)) c.to_delete.ensures c.answered.ensures.text;
+        outcome_is = c.answered.ensures.outcome ∙ c.outcome.ensures;
+      };
+    }

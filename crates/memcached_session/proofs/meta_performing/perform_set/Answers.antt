@@ -1,0 +1,34 @@
+-- ms does what its flags ask for, and is answered so.
+use Rattle.std.proofs.Common.{ℕ, List, Option, subst, ◌∙◌}
+use Rattle.std.specs.Option.{option_map}
+use Rattle.item_lane.specs.Cells.{Kept, kept_shown}
+use Rattle.memcached_text.specs.Asked.{meta_shown}
+use Rattle.memcached_session.specs.MetaSaying.{MetaSaid, IsTextOf, set_said}
+use Rattle.memcached_session.specs.Saying.{said_shown}
+use Rattle.item_lane.specs.declared.meta_storing.MetaSet.{MetaSet}
+use Rattle.item_lane.specs.Doing.{SetsAs}
+use Rattle.item_lane.specs.Meta.{condition_of}
+use Rattle.memcached_session.specs.MetaReading.{meta_set_in}
+use Rattle.memcached_session.proofs.meta_performing.perform_set.Goals as goal
+
+pub returns : goal.returns
+returns g c =
+    let d = g.D.PageDevice in
+    let a = c.args in
+    let m = c.meta_set_in-asked in
+    let i = c.meta_item-item in
+    let t = c.meta_set-reply in
+    record {
+      result = t.result;
+      does_it =
+          subst
+          (λ (k : Kept). SetsAs g.row.PAGE d.honest d.failures d.held a.request.key.now a.turn (condition_of (meta_set_in a.request.flags.now).mode (meta_set_in a.request.flags.now).compare (meta_set_in a.request.flags.now).invalidates) k a.lane.now t.result t.new.lane)
+          i.ensures
+          (subst
+          (λ (q : MetaSet). SetsAs g.row.PAGE d.honest d.failures d.held a.request.key.now a.turn (condition_of q.mode q.compare q.invalidates) (kept_shown i.result) a.lane.now t.result t.new.lane)
+          m.ensures t.ensures);
+      says = record {
+        text = subst (λ (x : MetaSaid). IsTextOf (meta_shown a.request) x ((said_shown c.answered.result).text)) c.to_set.ensures c.answered.ensures.text;
+        outcome_is = c.answered.ensures.outcome ∙ c.outcome.ensures;
+      };
+    }

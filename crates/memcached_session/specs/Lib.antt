@@ -1,0 +1,14 @@
+pub mod Standing
+pub mod Counting
+pub mod Expiring
+pub mod MetaReading
+pub mod Unserving
+pub mod Keyed
+pub mod Wanting
+pub mod Saying
+pub mod Alone
+pub mod MetaSaying
+pub mod Framing
+pub mod MetaDoing
+pub mod Doing
+pub mod Stepping

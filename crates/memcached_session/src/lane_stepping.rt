@@ -1,0 +1,57 @@
+// A step with the lane of its key.
+ghost use Rattle.std.specs.Prelude.{◌≤◌, length};
+ghost use Rattle.memcached_session.specs.Stepping.{LaneSteps};
+ghost use Rattle.memcached_session.specs.Framing.{frame_of, turn_of};
+
+use crate::done::SessionDone;
+use crate::keyed::Keyed;
+use crate::performing::perform;
+use crate::session::Session;
+use crate::settling::settle;
+use crate::turn::SessionTurn;
+use itoa::Buffer;
+use page_device::PageDevice;
+use record_pages::ValueBuffer;
+use service_lane::ServiceLane;
+use std::alloc::Global;
+
+/// Takes the next step of a session that asks something of the lane of its key, does that, and writes its answer to the front of the
+/// room. If it asks nothing of a lane, nothing is done. The word of admission decides whether the pair that leaves memory for a
+/// store enters the log.
+///
+/// If memory is refused for the answer, or the room is too short for it, the session is to be closed; 4,096 bytes are enough. What
+/// was asked of the lane is done all the same.
+pub fn lane_step<D: PageDevice<PAGE>, const PAGE: usize>(
+    lane: &mut ServiceLane<D, PAGE>,
+    alloc: Global,
+    session: &mut Session,
+    turn: &SessionTurn,
+    word: u32,
+    bytes: &[u8],
+    found: &mut ValueBuffer,
+    room: &mut [u8],
+) -> SessionDone
+    ensures steps { LaneSteps (frame_of PAGE D.honest D.failures D.held (turn_of turn.now word) turn.now.cas)
+        session.old bytes.now room.old lane.old result session.new room.new lane.new }
+    ensures taken { result.taken ≤ length bytes.now }
+    ensures answered { result.answered ≤ length room.old }
+{
+    let mut reader = session.reader();
+    let step = reader.take(bytes);
+    match Keyed::of(&step.event) {
+        Some(keyed) => {
+            let mut digits = Buffer::new();
+            let answered = perform(
+                lane,
+                alloc,
+                keyed,
+                turn.with_word(word),
+                turn.cas,
+                found,
+                &mut digits,
+            );
+            settle(alloc, &step, reader.state, &answered, session, room)
+        }
+        None => SessionDone::nothing(),
+    }
+}

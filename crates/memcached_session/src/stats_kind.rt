@@ -1,0 +1,65 @@
+// Which stats a client asks for.
+ghost use Rattle.std.specs.Prelude.{◌≡◌};
+ghost use Rattle.memcached_session.specs.Wanting.{kind_of, number_of_kind};
+
+/// Which stats a client asks for.
+#[derive(Clone, Copy, Debug, PartialEq, Eq)]
+pub enum StatsKind {
+    /// `stats`.
+    General,
+    /// `stats settings`.
+    Settings,
+    /// `stats conns`.
+    Conns,
+    /// `stats items`.
+    Items,
+    /// `stats slabs`.
+    Slabs,
+    /// `stats sizes`.
+    Sizes,
+    /// `stats reset`: the counts are set to 0.
+    Reset,
+    /// Any other word.
+    Unknown,
+}
+
+impl StatsKind {
+    /// The kind that an argument of `stats` names.
+    pub fn of(argument: &[u8]) -> StatsKind
+        ensures { result ≡ kind_of argument.now }
+    {
+        if argument.is_empty() {
+            StatsKind::General
+        } else if argument == b"settings".as_slice() {
+            StatsKind::Settings
+        } else if argument == b"conns".as_slice() {
+            StatsKind::Conns
+        } else if argument == b"items".as_slice() {
+            StatsKind::Items
+        } else if argument == b"slabs".as_slice() {
+            StatsKind::Slabs
+        } else if argument == b"sizes".as_slice() {
+            StatsKind::Sizes
+        } else if argument == b"reset".as_slice() {
+            StatsKind::Reset
+        } else {
+            StatsKind::Unknown
+        }
+    }
+
+    /// The number by which C knows it.
+    pub fn number(self) -> u32
+        ensures { result ≡ number_of_kind self }
+    {
+        match self {
+            StatsKind::General => 0,
+            StatsKind::Settings => 1,
+            StatsKind::Conns => 2,
+            StatsKind::Items => 3,
+            StatsKind::Slabs => 4,
+            StatsKind::Sizes => 5,
+            StatsKind::Reset => 6,
+            StatsKind::Unknown => 7,
+        }
+    }
+}

@@ -1,0 +1,35 @@
+// What a server gives a step.
+
+/// What a server gives a step beside the bytes.
+#[repr(C)]
+#[derive(Clone, Copy, Debug, PartialEq, Eq)]
+pub struct SessionTurn {
+    /// The moment, in seconds since 1970. It may go backwards.
+    pub moment: u64,
+    /// The number that the last `flush_all` drew, or 0 before the first: an item whose cas unique is below it is not live.
+    pub flushed: u64,
+    /// A number that no earlier item had: it is the item's if the step stores one.
+    pub cas: u64,
+    /// Not 0 if the server does not do what the step asks of it, a flush or its end; the answer says so then.
+    pub refuses: u32,
+    /// 0.
+    pub reserved: u32,
+}
+
+ghost use Rattle.std.specs.Prelude.{◌≡◌};
+ghost use Rattle.memcached_session.specs.Framing.{turn_of};
+
+use item_lane::CommandTurn;
+
+impl SessionTurn {
+    /// The turn of a command, with its word of admission.
+    pub(crate) fn with_word(&self, word: u32) -> CommandTurn
+        ensures { result ≡ turn_of self.now word }
+    {
+        CommandTurn {
+            moment: self.moment,
+            flushed: self.flushed,
+            word,
+        }
+    }
+}

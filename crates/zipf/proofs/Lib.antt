@@ -1,0 +1,2 @@
+mod WeightLaws
+mod SumLaws
