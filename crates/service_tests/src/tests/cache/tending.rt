@@ -103,13 +103,35 @@ fn a_step_of_upkeep_is_of_its_lane(rt: HostRuntime) -> Result<(), Fail> {
     Ok(())
 }
 
+// Puts 255 new keys that never expire, so that the memory of each of four lanes is full whatever the seed, but for odds of one in
+// 10^30.
+fn fill_memory<D: PageDevice<256>, L: KeyLanes, J: BookName, R: Wait>(
+    rt: &R,
+    alloc: Global,
+    cache: &Cache<D, L, J>,
+) -> Result<(), Fail> {
+    let mut seat = cache.seat();
+    for number in 0..255u8 {
+        let name = [b'k', number];
+        cache.put(
+            rt,
+            &mut seat,
+            key(alloc, &name)?,
+            value(alloc, b"1")?,
+            NEVER,
+        )?;
+    }
+    Ok(())
+}
+
 /// Whether each lane of a cache of small lanes, filled by many calls, has the small lanes' numbers.
 pub fn has_its_numbers<D: PageDevice<256>, L: KeyLanes, J: BookName, R: Wait>(
     rt: &R,
     alloc: Global,
     cache: &Cache<D, L, J>,
-) -> bool {
+) -> Result<bool, Fail> {
     let _tally = calls(rt, alloc, cache, 7, 4 * CALLS);
+    fill_memory(rt, alloc, cache)?;
     for lane in 0..cache.lanes() {
         let usage = cache.log_usage(rt, lane);
         if usage.segments != SMALL.segments
@@ -117,10 +139,10 @@ pub fn has_its_numbers<D: PageDevice<256>, L: KeyLanes, J: BookName, R: Wait>(
             || usage.limit != SMALL.entries
             || cache.memory_len(rt, lane) != SMALL.memory as usize
         {
-            return false;
+            return Ok(false);
         }
     }
-    cache.layout() == SMALL.check().unwrap() && cache.lanes() == 4
+    Ok(cache.layout() == SMALL.check().unwrap() && cache.lanes() == 4)
 }
 
 #[test]

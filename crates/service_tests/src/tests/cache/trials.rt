@@ -158,7 +158,7 @@ fn holds<
         Trial::RemovesAtLargePuts => removes_at_large_puts(rt, alloc, cache),
         Trial::RefusesBytes => Ok(refuses_bytes(rt, cache)),
         Trial::RefusesNone => Ok(no_call_is_refused(rt, alloc, cache)),
-        Trial::HasNumbers => Ok(has_its_numbers(rt, alloc, cache)),
+        Trial::HasNumbers => has_its_numbers(rt, alloc, cache),
         Trial::TendsItsLane => Ok(tends_its_lane(rt, alloc, cache)),
         Trial::OneByOne => Ok(is_right_alone(rt, alloc, cache)),
         Trial::OneByOneTended => Ok(is_right_tended(rt, alloc, cache)),
