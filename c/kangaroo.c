@@ -96,7 +96,7 @@ static void take_buffer(get_call *call, void *buffer, size_t size) {
 
 static void write_hit(kangaroo_hit *to, const kl_hit *from) {
     if (to == NULL) return;
-    *to = (kangaroo_hit){.length = (size_t)from->length, .tier = from->tier};
+    *to = (kangaroo_hit){.length = (size_t)from->length, .expires = from->expires, .tier = from->tier};
 }
 
 static kangaroo_status get_held(kangaroo_cache *cache, const key_copy *key, const get_call *call, kl_hit *hit) {

@@ -264,8 +264,9 @@ KANGAROO_API kangaroo_status kangaroo_close(kangaroo_cache *cache);
 /* What a get found. The struct does not grow. */
 typedef struct kangaroo_hit {
     size_t length;        /* the value's length in bytes */
+    uint64_t expires;     /* as its put gave it: the first moment at which it is not live, or KANGAROO_NEVER */
     uint32_t tier;        /* one of KANGAROO_TIER_.. */
-    uint32_t reserved[5]; /* 0 */
+    uint32_t reserved[3]; /* 0 */
 } kangaroo_hit;
 
 /* Gets the value of a key, if it is live at a moment: moment < expires, or expires is KANGAROO_NEVER.

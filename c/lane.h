@@ -71,9 +71,9 @@ typedef struct kl_sizes {
     uint64_t file_bytes, lane_pages, memory_fixed, memory_full, memory_objects, log_objects, set_objects;
 } kl_sizes;
 
-/* Where a value was found: `tier` is one of KANGAROO_TIER_.., `reserved` is 0. */
+/* Where a value was found, and when it expires: `tier` is one of KANGAROO_TIER_.., `reserved` is 0. */
 typedef struct kl_hit {
-    uint64_t length;
+    uint64_t length, expires;
     uint32_t tier, reserved;
 } kl_hit;
 

@@ -1,7 +1,6 @@
 // Gets of a lane.
 ghost use Rattle.std.specs.Prelude.{◌≡◌, ◌≤◌, length};
 ghost use Rattle.record_pages.specs.Bounded.{IsKey};
-ghost use Rattle.mover.specs.Get.{answer_of};
 ghost use Rattle.c_lane.specs.Lane.{laws_of};
 ghost use Rattle.c_lane.specs.Getting.{Answers, AnswersOrLeases, RefusesGet, TellsAnswer};
 
@@ -16,7 +15,7 @@ use record_pages::ValueBuffer;
 impl<D: PageDevice<4096>> CLane<D> {
     /// Looks a key up. At `Done` its value stands at the front of the buffer, the rest of which is as it was; at any other status
     /// the whole buffer is. A miss is `Absent`, `Expired`, `Unreadable` or `Damaged`; `ShortBuffer` is a hit whose value is longer
-    /// than the buffer. The hit is given at `Done` and `ShortBuffer`, and is all zeros otherwise. `WrongKey` changes
+    /// than the buffer. The hit is given at `Done` and `ShortBuffer`, with when it expires, and is all zeros otherwise. `WrongKey` changes
     /// nothing. No memory is taken.
     ///
     /// The moment is the caller's, in the unit in which puts say when they expire.
@@ -62,11 +61,11 @@ impl<D: PageDevice<4096>> CLane<D> {
 
 // Tells what was seen, the value of a hit being in `found`.
 fn told(seen: AnswerKind, found: &ValueBuffer, into: &mut [u8], hit: &mut Hit) -> Status
-    ensures { TellsAnswer (answer_of seen found.now) into.old result into.new hit.new }
+    ensures { TellsAnswer seen found.now into.old result into.new hit.new }
 {
     match seen {
-        AnswerKind::Hit(tier) => {
-            *hit = Hit::of(found.bytes(), tier);
+        AnswerKind::Hit { tier, expires } => {
+            *hit = Hit::of(found.bytes(), tier, expires);
             copy_front(found.bytes(), into)
         }
         AnswerKind::Miss(cause) => {
