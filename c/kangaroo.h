@@ -355,6 +355,14 @@ KANGAROO_API kangaroo_status kangaroo_get_or_lease(kangaroo_cache *cache, const 
                                                    uint64_t moment, void *buffer, size_t buffer_size,
                                                    kangaroo_hit *hit, kangaroo_lease *lease);
 
+/* Gets a value as kangaroo_get does, and gives a lease of the key at a hit too. With kangaroo_fill it is a compare and
+ * swap without a lock: the fill replaces what was hit, if no put, fill or removal of the key came between. It may be
+ * stale without cause, since another key of its slot was written: then get and try again. *lease is all zeros at
+ * KANGAROO_WRONG_KEY and KANGAROO_FORKED. Statuses and the rest as kangaroo_get_or_lease. */
+KANGAROO_API kangaroo_status kangaroo_get_and_lease(kangaroo_cache *cache, const void *key, size_t key_length,
+                                                    uint64_t moment, void *buffer, size_t buffer_size,
+                                                    kangaroo_hit *hit, kangaroo_lease *lease);
+
 /* Puts a value if its lease still holds. *lease becomes all zeros at KANGAROO_OK and KANGAROO_STALE, and stays at a
  * refusal, so that the fill may be tried again. Blocking, memory and `expires` are as for kangaroo_put.
  *   KANGAROO_OK: stored. No put, fill or removal of the key took effect between the lease's miss and this fill

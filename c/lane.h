@@ -132,6 +132,10 @@ int32_t kl_get(kl_lane *lane, const uint8_t *key, size_t key_length, uint64_t mo
 int32_t kl_get_or_lease(kl_lane *lane, const uint8_t *key, size_t key_length, uint64_t moment, uint8_t *into,
                         size_t into_length, kl_hit *hit, uint64_t *writes);
 
+/* KANGAROO_OK: *writes is the number of a lease of the key, whether it is there or not. KANGAROO_WRONG_KEY: *writes is as
+ * it was. */
+int32_t kl_lease(kl_lane *lane, const uint8_t *key, size_t key_length, uint64_t *writes);
+
 /* KANGAROO_OK: stored. KANGAROO_WRONG_KEY, KANGAROO_TOO_LARGE or KANGAROO_NO_MEMORY: only counters have changed. It does
  * upkeep itself if the log is nearly full. *is_due becomes 1 if upkeep is due after it, else 0, whatever it answers. */
 int32_t kl_put(kl_lane *lane, const uint8_t *key, size_t key_length, const uint8_t *value, size_t value_length,

@@ -88,6 +88,12 @@ pub record AnswersOrLeases {D : Type 0} (laws : Laws D) (key : List ℕ) (moment
   pub words : new.words ≡ old.words
   pub tells : TellsAnswer kind value buffer status into hit
 
+-- a lease of a key: it tells the writes of its slot, and is counted; nothing else changes
+pub record LeasesKey {D : Type 0} (key : List ℕ) (old : LaneState D) (status : Status) (new : LaneState D) (lease : ℕ) : Type 0 where
+  pub done : status ≡ statuses.Done
+  pub writes : lease ≡ writes_for old.serving.slots key
+  pub leaves : new ≡ record old { serving = record old.serving { counts = counts_lease old.serving.counts } }
+
 -- a get of what is no key: nothing changes, and no hit is told
 pub record RefusesGet {D : Type 0} (buffer : List ℕ) (old : LaneState D) (status : Status) (new : LaneState D) (into : List ℕ) (hit : Told) : Type 0 where
   pub status_is : status ≡ statuses.WrongKey

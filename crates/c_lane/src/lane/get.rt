@@ -2,7 +2,7 @@
 ghost use Rattle.std.specs.Prelude.{◌≡◌, ◌≤◌, length};
 ghost use Rattle.record_pages.specs.Bounded.{IsKey};
 ghost use Rattle.c_lane.specs.Lane.{laws_of};
-ghost use Rattle.c_lane.specs.Getting.{Answers, AnswersOrLeases, RefusesGet, TellsAnswer};
+ghost use Rattle.c_lane.specs.Getting.{Answers, AnswersOrLeases, LeasesKey, RefusesGet, TellsAnswer};
 
 use super::CLane;
 use crate::copying::copy_front;
@@ -10,7 +10,7 @@ use crate::hit::Hit;
 use crate::status::Status;
 use mover::AnswerKind;
 use page_device::PageDevice;
-use record_pages::ValueBuffer;
+use record_pages::{Key, ValueBuffer};
 
 impl<D: PageDevice<4096>> CLane<D> {
     /// Looks a key up. At `Done` its value stands at the front of the buffer, the rest of which is as it was; at any other status
@@ -56,6 +56,21 @@ impl<D: PageDevice<4096>> CLane<D> {
             *writes = self.lane.lease(key).writes;
         }
         status
+    }
+
+    /// Leases a key, whether it is there or not: in the same hold as a get that hit it, for a fill in place of what was hit.
+    /// `Done`, and `writes` becomes the number of the lease, which ends as that of `get_or_lease` does; or `WrongKey`, which
+    /// changes nothing. No memory is taken.
+    pub fn lease(&mut self, key: &[u8], writes: &mut u64) -> Status
+        ensures leased { IsKey key.now → LeasesKey key.now self.old result self.new writes.new }
+        ensures wrong_key { (IsKey key.now → ⊥) →
+            (result ≡ Status.WrongKey) × (self.new ≡ self.old) × (writes.new ≡ writes.old) }
+    {
+        if key.is_empty() || key.len() > Key::MAX_LEN {
+            return Status::WrongKey;
+        }
+        *writes = self.lane.lease(key).writes;
+        Status::Done
     }
 }
 
