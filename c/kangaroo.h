@@ -15,6 +15,7 @@
  *   kangaroo_put_or_remove    puts a value; if that is refused, removes the key
  *   kangaroo_remove           removes a key
  *   kangaroo_get_or_lease     gets a value, or gives a lease after a miss
+ *   kangaroo_get_and_lease    gets a value, and gives a lease at a hit too
  *   kangaroo_fill             puts what was read after a miss, if its lease still holds
  *   kangaroo_lease_drop       gives a lease up
  *   kangaroo_upkeep           does steps of upkeep that are due

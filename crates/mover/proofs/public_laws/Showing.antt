@@ -336,6 +336,7 @@ shown_live key moment lane v visible value is =
 pub timed_visible : (key : List ℕ) (lane : LaneState) (v : TimedValue) → first_timed key lane ≡ Some v → IsVisible lane (record { key = key; value = v })
 timed_visible key lane v = by_memory (pair_in key lane.memory.pairs) refl
   where
+    set : ℕ
     set = (place_in lane.log.shape key).set
 
     same : (w : TimedValue) → Some w ≡ Some v → w ≡ v
